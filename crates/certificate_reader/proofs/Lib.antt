@@ -1,2 +1,9 @@
 pub mod Joined
 pub mod Growing
+pub mod WrittenParts
+pub mod NumbersAgain
+pub mod FormsAgain
+pub mod LinesAgain
+pub mod SolidLines
+pub mod StatesAgain
+pub mod CertificateAgain

@@ -8,3 +8,6 @@ pub mod Stages
 pub mod Drafts
 pub mod DraftValues
 pub mod Reading
+pub mod Writing
+pub mod Written
+pub mod Known

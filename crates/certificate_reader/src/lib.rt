@@ -5,6 +5,9 @@
 //! `by_keyword` of `specs/Drafts.antt` what it adds, and `cases_of` of `specs/CaseTexts.antt` how lines stand for a tree, as which
 //! the lines of any tree are read again ([`cases_are_read_again`]). Forms and values are those of `specs/FormTexts.antt`. What
 //! is read of a text is in proportion to its length, by [`limits`].
+//! [`write_certificate`] writes the one canonical text of a certificate (`specs/Writing.antt`), which is read as this certificate again
+//! where its numbers are within the limits (`specs/Written.antt`); [`push_state`] writes the lines of one state, and
+//! [`push_known_at`] what is known where a certificate has a flaw.
 //! This crate opens no file and judges no certificate: what it returns may name states and pcs that aren't there.
 
 #![tactic(auto)]
@@ -12,7 +15,10 @@
 mod cases;
 mod draft;
 pub mod faults;
+mod form_texts;
 mod forms;
+mod known;
+mod known_texts;
 pub mod laws;
 pub mod limits;
 mod lists;
@@ -20,7 +26,10 @@ mod numbers;
 mod parts;
 pub mod reading;
 mod stages;
+pub mod writing;
 
 pub use faults::{CertificateError, CertificateFault};
+pub use known::{push_known_at, push_known_text};
 pub use laws::cases_are_read_again;
 pub use reading::read_certificate;
+pub use writing::{push_state, write_certificate};

@@ -1,5 +1,5 @@
 -- What answers a litmus text and a certificate is one answer, and what it promises holds.
-use Rattle.std.proofs.Common.{arith, ◌≡◌, ℕ, zero, suc, ◌<◌, ◌↔◌, true, List, length, Result, Ok, Err, refl, sym, ap, ◌∙◌}
+use Rattle.std.proofs.Common.{◌≡◌, ℕ, ◌<◌, ◌↔◌, Bool, true, false, List, length, Result, Ok, Err, refl, sym, ap, ◌∙◌}
 use Rattle.std.specs.Prelude.{Option, Some, None, option_map}
 use Rattle.texts.specs.Results.{map_err}
 use Rattle.litmus.specs.LitmusTests.{LitmusTest}
@@ -12,19 +12,22 @@ use Rattle.slot_queue.specs.Ownership.{hart}
 use Rattle.owned_run.specs.Certified.{ReadsOwned}
 use Rattle.queue_certificates.specs.Certificates.{QueueCertificate, queue_at, start_at, accepts, accepts_loads}
 use Rattle.queue_checker.specs.declared.flaws.Flaw.{Flaw}
-use Rattle.queue_checker.specs.Flaws.{first_below, first_flaw, first_of, first_unowned}
+use Rattle.queue_checker.specs.Flaws.{first_flaw, first_of, first_unowned}
 use Rattle.engine_support.specs.declared.fault.Refusal.{Refusal}
 use Rattle.engine_support.specs.Inputs.After.{read}
 use Rattle.engine_support.specs.Tests.{tests}
 use Rattle.engine_support.proofs.InputLaws.{IsOne, alike_after, is_one, one_litmus_text}
-use Rattle.certifying.specs.Answers.{IsCertificateAnswer, IsQueueAnswer, judged, judged_flaw, judged_reads, judged_use}
+use Rattle.certifying.specs.Answers.{IsAnswerTo, IsCertificateAnswer, IsFlawAnswer, IsQueueAnswer, IsTrialAnswer, is_of_queue, judged_reads, judged_use}
 use Rattle.certifying.specs.Inputs.{SaysCertificate, certificate_of, certificates}
 use Rattle.certifying.specs.Kept.{AreJudged, AreQueueAnswers, IsPromised, KeepsProtocol, LoadsOwnedSlots}
+use Rattle.certifying.specs.Trials.{DrawnRuns}
 use Rattle.certifying.specs.Unread.{first_unread, unread_by, unread_of}
 use Rattle.certifying.specs.Unused.{first_unused}
 use Rattle.certifying.specs.declared.judgement.Judgement.{Judgement}
+use Rattle.certifying.specs.declared.judgement.Judgement.TheVariants as judgement
 use Rattle.certifying.specs.declared.unread.Unread.{Unread}
 use Rattle.certifying.specs.declared.unused.Unused.{Unused}
+use Rattle.certifying.proofs.DrawnLaws.{AreAlike, DrawnLaws, SomeSlots, breaks, none-below, one-trial, sized}
 
 -- ---- one answer
 
@@ -38,30 +41,32 @@ read_as text c is = ap (map_err _) is
 one_certificate : IsOne certificates (λ r s. r ≡ s)
 one_certificate = is_one SaysCertificate certificate_of said_once read_as
 
-one_judged : (o : OpeningValue) (c : QueueCertificate) (a b : Result (List ℕ × Judgement) Refusal)
-    → IsCertificateAnswer o c a → IsCertificateAnswer o c b → AreQueueAnswers a b
-one_judged o c (Ok a) (Ok b) is other = is ∙ sym other
-one_judged o c (Ok a) (Err s) is other = other
-one_judged o c (Err r) (Ok b) is other = is
-one_judged o c (Err r) (Err s) is other = ap (λ (x : Refusal). x.number) (is ∙ sym other)
+alike : (a b judged : List ℕ × Judgement) → a ≡ judged → b ≡ judged → AreAlike a b
+alike a b judged is other = let same : a ≡ b = is ∙ sym other in (ap (λ (x : List ℕ × Judgement). x.1) same, λ shows. ap (λ (x : List ℕ × Judgement). x.0) same)
 
-pub one_queue_answer : (file certificate : List ℕ) (a b : Result (List ℕ × Judgement) Refusal) → IsQueueAnswer (Some file) (Some certificate) a
-    → IsQueueAnswer (Some file) (Some certificate) b → AreQueueAnswers a b
-one_queue_answer file certificate = alike_after tests (λ r s. r.number ≡ s.number) one_litmus_text AreQueueAnswers (λ r s e. e) file _
+module _ (laws : DrawnLaws) (d : DrawnRuns) (o : OpeningValue) (c : QueueCertificate) where
+  one_flaw : (f : Flaw) → first_flaw o c ≡ Some f → (of_queue : Bool) → is_of_queue f ≡ of_queue → (a b : List ℕ × Judgement)
+      → IsFlawAnswer d o c f of_queue a → IsFlawAnswer d o c f of_queue b → AreAlike a b
+  one_flaw f first true queue a b is other = alike a b _ is other
+  one_flaw f first false none a b is other = one-trial d o c laws (sized o c f first none) f a b is other
+
+  one_by : (f : Option Flaw) → first_flaw o c ≡ f → (a b : List ℕ × Judgement) → IsAnswerTo d o c f a → IsAnswerTo d o c f b → AreAlike a b
+  one_by None first a b is other = alike a b _ is other
+  one_by (Some f) first a b is other = one_flaw f first (is_of_queue f) refl a b is other
+
+  one_judged : (a b : Result (List ℕ × Judgement) Refusal) → IsCertificateAnswer d o c a → IsCertificateAnswer d o c b → AreQueueAnswers a b
+  one_judged (Ok a) (Ok b) is other = one_by (first_flaw o c) refl a b is other
+  one_judged (Ok a) (Err s) is other = other
+  one_judged (Err r) (Ok b) is other = is
+  one_judged (Err r) (Err s) is other = ap (λ (x : Refusal). x.number) (is ∙ sym other)
+
+pub one_queue_answer : (laws : DrawnLaws) (d : DrawnRuns) (file certificate : List ℕ) (a b : Result (List ℕ × Judgement) Refusal)
+    → IsQueueAnswer d (Some file) (Some certificate) a → IsQueueAnswer d (Some file) (Some certificate) b → AreQueueAnswers a b
+one_queue_answer laws d file certificate = alike_after tests (λ r s. r.number ≡ s.number) one_litmus_text AreQueueAnswers (λ r s e. e) file _
     (λ (q : LitmusTest). alike_after certificates (λ r s. r ≡ s) one_certificate AreQueueAnswers (λ r s e. ap (λ (x : Refusal). x.number) e) certificate
-    (IsCertificateAnswer q.opening) (λ c. one_judged q.opening c))
+    (IsCertificateAnswer d q.opening) (λ c. one_judged laws d q.opening c))
 
 -- ---- what is promised
-
-none_below : {A : Type 0} (f : ℕ → Option A) (n i : ℕ) → first_below n f ≡ None → i < n → f i ≡ None
-none_below f zero i none less = absurd (omega arith)
-none_below f (suc n) i none less = at (first_below n f) (f n) refl refl none (none_below f n i)
-  where
-    at : (before here : Option _) → first_below n f ≡ before → f n ≡ here → first_of before here ≡ None
-        → (first_below n f ≡ None → i < n → f i ≡ None) → f i ≡ None
-    at None None before here e earlier = let rest = earlier before in grind arith
-    at None (Some x) before here e earlier = cc
-    at (Some x) here before is e earlier = cc
 
 no_first : {A : Type 0} (a b : Option A) → first_of a b ≡ None → (a ≡ None) × (b ≡ None)
 no_first None b e = (refl, e)
@@ -71,7 +76,7 @@ unmapped : {A C : Type 0} (f : A → C) (a : Option A) → option_map f a ≡ No
 unmapped f None e = refl
 unmapped f (Some x) e = cc
 
--- what the crates below promise: of the checker and of accepted certificates
+-- what the crates below promise: of the checker, of accepted certificates, and of drawn runs
 pub record Laws : Type 0 where
   pub no_flaw : (o : OpeningValue) (c : QueueCertificate) → (first_flaw o c ≡ None) ↔ (accepts o c ≡ true)
   pub all_owned : (o : OpeningValue) (c : QueueCertificate) (i h : ℕ) → (first_unowned o c i h ≡ None) ↔ (accepts_loads o c i h ≡ true)
@@ -79,13 +84,14 @@ pub record Laws : Type 0 where
   pub reads_owned : (B M : ℕ) (o : OpeningValue) (c : QueueCertificate) → accepts o c ≡ true → (i : ℕ) (p : Party) → i < length c.queues
       → accepts_loads o c i (hart (queue_at c i) p) ≡ true → (es : List Entry) → WellFormed B M (history_of o es)
       → ReadsOwned (queue_at c i) p (all_at (start_at c i)) es
+  pub drawn : DrawnLaws
 
 module _ (laws : Laws) (o : OpeningValue) (c : QueueCertificate) where
   all_read : first_unread o c ≡ None → (i : ℕ) → i < length c.queues → (p : Party) → accepts_loads o c i (hart (queue_at c i) p) ≡ true
   all_read none i less p = at p
     where
       both : (unread_by o c i (queue_at c i).sender ≡ None) × (unread_by o c i (queue_at c i).receiver ≡ None)
-      both = no_first _ _ (none_below (unread_of o c) (length c.queues) i none less)
+      both = no_first _ _ (none-below (unread_of o c) (length c.queues) i none less)
 
       at : (p : Party) → accepts_loads o c i (hart (queue_at c i) p) ≡ true
       at the_sender = (laws.all_owned o c i (queue_at c i).sender).0 (unmapped _ _ both.0)
@@ -105,20 +111,31 @@ module _ (laws : Laws) (o : OpeningValue) (c : QueueCertificate) where
   promised_use none None = promised_reads none (first_unread o c) refl
   promised_use none (Some unused) = tt
 
-  promised_flaw : (f : Option Flaw) → first_flaw o c ≡ f → IsPromised (judged_flaw o c f).1 o c
-  promised_flaw None e = promised_use e (first_unused o c)
-  promised_flaw (Some flaw) e = tt
+  module _ (d : DrawnRuns) where
+    promised_trial : (f : Flaw) → SomeSlots o c → (answer : List ℕ × Judgement) → IsTrialAnswer d o c f answer → IsPromised answer.1 o c
+    promised_trial f some (text, judgement.NotShown) is = tt
+    promised_trial f some (text, judgement.Broken) is = breaks d o c laws.drawn some text is
+    promised_trial f some (text, judgement.Kept) is = absurd is
+    promised_trial f some (text, judgement.ReadsNotShown) is = absurd is
 
-  promised_of : (answer : List ℕ × Judgement) → answer ≡ judged o c → IsPromised answer.1 o c
-  promised_of answer is = rw is (promised_flaw (first_flaw o c) refl)
+    promised_flaw : (f : Flaw) → first_flaw o c ≡ Some f → (of_queue : Bool) → is_of_queue f ≡ of_queue → (answer : List ℕ × Judgement)
+        → IsFlawAnswer d o c f of_queue answer → IsPromised answer.1 o c
+    promised_flaw f first true queue answer is = rw is tt
+    promised_flaw f first false none answer is = promised_trial f (sized o c f first none) answer is
 
-pub promised : (laws : Laws) (file certificate : Option (List ℕ)) (text : List ℕ) (judgement : Judgement)
-    → IsQueueAnswer file certificate (Ok (text, judgement))
-    → AreJudged file certificate (IsPromised judgement)
-promised laws file certificate text judgement (read q _ is_test (read c _ is_certificate is)) = record {
+    promised_by : (f : Option Flaw) → first_flaw o c ≡ f → (answer : List ℕ × Judgement) → IsAnswerTo d o c f answer → IsPromised answer.1 o c
+    promised_by None first answer is = rw is (promised_use first (first_unused o c))
+    promised_by (Some f) first answer is = promised_flaw f first (is_of_queue f) refl answer is
+
+    promised_of : (answer : List ℕ × Judgement) → IsAnswerTo d o c (first_flaw o c) answer → IsPromised answer.1 o c
+    promised_of answer is = promised_by (first_flaw o c) refl answer is
+
+pub promised : (laws : Laws) (d : DrawnRuns) (file certificate : Option (List ℕ)) (text : List ℕ) (judgement : Judgement)
+    → IsQueueAnswer d file certificate (Ok (text, judgement)) → AreJudged file certificate (IsPromised judgement)
+promised laws d file certificate text judgement (read q _ is_test (read c _ is_certificate is)) = record {
   test = q;
   listed = c;
   file_is = is_test;
   certificate_is = is_certificate;
-  holds = promised_of laws q.opening c (text, judgement) is;
+  holds = promised_of laws q.opening c d (text, judgement) is;
 }

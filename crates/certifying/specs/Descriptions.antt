@@ -54,9 +54,12 @@ load_line o i access = if access.loads then use_line o i (codes "loaded from by 
 abbrev pub access_lines : OpeningValue → (i : ℕ) → SlotAccess → List ℕ
 access_lines o i access = store_line o i access ++ load_line o i access
 
+-- what a queue is
+unfoldable pub form_lines : (i : ℕ) → OpenedQueue → List ℕ
+form_lines i opened = parties_line i opened.queue ++ indices_line i opened.queue ++ slots_line i opened.queue ++ count_line i opened
+
 unfoldable pub queue_lines : OpeningValue → QueueCertificate → (i : ℕ) → OpenedQueue → List ℕ
-queue_lines o c i opened = parties_line i opened.queue ++ indices_line i opened.queue ++ slots_line i opened.queue ++ count_line i opened
-    ++ flat_map (access_lines o i) (slot_accesses o c i)
+queue_lines o c i opened = form_lines i opened ++ flat_map (access_lines o i) (slot_accesses o c i)
 
 unfoldable pub all_queue_lines : OpeningValue → QueueCertificate → List ℕ
 all_queue_lines o c = numbered (queue_lines o c) 0 c.queues

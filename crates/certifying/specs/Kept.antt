@@ -1,10 +1,11 @@
--- What a `kept` means: of every legal run from where a litmus text opens.
+-- What a `kept` means, of every legal run from where a litmus text opens, and what a `broken` means, of one.
 use Rattle.std.specs.Prelude.{ℕ, ◌≡◌, ◌<◌, List, [], length, Option, Result, Ok, Err}
 use Rattle.litmus.specs.LitmusTests.{LitmusTest}
 use Rattle.step_machine.specs.declared.events.Entry.{Entry}
 use Rattle.step_machine.specs.History.{OpeningValue, history_of}
 use Rattle.step_machine.specs.Legal.{WellFormed}
 use Rattle.queue_parties.specs.Parties.{Party, all_at}
+use Rattle.slot_queue.specs.Ownership.{KeepsOwnership}
 use Rattle.slot_queue.specs.Laws.{FollowsOwnership}
 use Rattle.owned_run.specs.Certified.{ReadsOwned}
 use Rattle.queue_certificates.specs.Certificates.{QueueCertificate, queue_at, start_at}
@@ -14,7 +15,7 @@ use Rattle.engine_support.specs.Tests.{tests}
 use Rattle.certifying.specs.Answers.{undecided}
 use Rattle.certifying.specs.Inputs.{certificates}
 use Rattle.certifying.specs.declared.judgement.Judgement.{Judgement}
-use Rattle.certifying.specs.declared.judgement.Judgement.TheVariants.{Kept, ReadsNotShown, NotShown}
+use Rattle.certifying.specs.declared.judgement.Judgement.TheVariants.{Kept, ReadsNotShown, NotShown, Broken}
 
 -- each run keeps the protocol of ownership of each queue, with store buffers of any size
 abbrev pub KeepsProtocol : OpeningValue → QueueCertificate → Type 0
@@ -25,6 +26,16 @@ KeepsProtocol o c = (B M : ℕ) (es : List Entry) → WellFormed B M (history_of
 abbrev pub LoadsOwnedSlots : OpeningValue → QueueCertificate → Type 0
 LoadsOwnedSlots o c = (B M : ℕ) (es : List Entry) → WellFormed B M (history_of o es) → (i : ℕ) → i < length c.queues → (p : Party)
     → ReadsOwned (queue_at c i) p (all_at (start_at c i)) es
+
+-- a legal run breaks it for a queue
+pub record BreaksProtocol (o : OpeningValue) (c : QueueCertificate) : Type 0 where
+  pub B : ℕ
+  pub M : ℕ
+  pub entries : List Entry
+  pub legal : WellFormed B M (history_of o entries)
+  pub queue : ℕ
+  pub inside : queue < length c.queues
+  pub breaks : KeepsOwnership (queue_at c queue) (all_at (start_at c queue)) entries → ⊥
 
 -- what the readers tell says a test and a certificate, of which this holds
 pub record AreJudged (file certificate : Option (List ℕ)) (Holds : OpeningValue → QueueCertificate → Type 0) : Type 0 where
@@ -39,10 +50,12 @@ abbrev pub IsPromised : Judgement → OpeningValue → QueueCertificate → Type
 IsPromised Kept o c = KeepsProtocol o c × LoadsOwnedSlots o c
 IsPromised ReadsNotShown o c = KeepsProtocol o c
 IsPromised NotShown o c = Unit {0}
+IsPromised Broken o c = BreaksProtocol o c
 
--- Two answers are one text with one judgement, or refusals of one number, except that a check may be given up undecided.
+-- Two answers have one judgement, and one text unless they show a schedule, or are refusals of one number, except that a check may be given up
+-- undecided.
 abbrev pub AreQueueAnswers : Result (List ℕ × Judgement) Refusal → Result (List ℕ × Judgement) Refusal → Type 0
-AreQueueAnswers (Ok a) (Ok b) = a ≡ b
+AreQueueAnswers (Ok a) (Ok b) = (a.1 ≡ b.1) × ((a.1 ≡ Broken → ⊥) → a.0 ≡ b.0)
 AreQueueAnswers (Ok a) (Err s) = s ≡ undecided
 AreQueueAnswers (Err r) (Ok b) = r ≡ undecided
 AreQueueAnswers (Err r) (Err s) = r.number ≡ s.number

@@ -3,6 +3,8 @@ pub mod Descriptions
 pub mod Unused
 pub mod Unread
 pub mod NotShown
+pub mod Trials
+pub mod Broken
 pub mod Answers
 pub mod Inputs
 pub mod Kept

@@ -1,19 +1,43 @@
 -- Where a certificate isn't accepted, and what is likely.
-use Rattle.std.specs.Prelude.{ℕ, List, [], ◌∷◌, ◌++◌, codes, Option, Some, None}
+use Rattle.std.specs.Prelude.{ℕ, ◌==◌, Bool, true, false, List, [], ◌∷◌, ◌++◌, length, codes, Option, Some, None}
 use Rattle.std.specs.Fmt.{decimal}
 use Rattle.rv_decode.specs.declared.instruction.Instr.{Instr}
 use Rattle.rv_decode.specs.declared.instruction.Instr.TheVariants.{Jalr, Load, Store, Amo}
 use Rattle.step_machine.specs.History.{OpeningValue}
-use Rattle.queue_certificates.specs.Certificates.{QueueCertificate, state_at}
+use Rattle.queue_certificates.specs.Certificates.{QueueCertificate, part_of, state_at}
 use Rattle.queue_certificates.specs.Steps.{instruction_at}
 use Rattle.queue_checker.specs.Flaws.{hart_at}
+use Rattle.queue_checker.specs.declared.flaws.QueueFlaw.{QueueFlaw}
+use Rattle.queue_checker.specs.declared.flaws.QueueFlaw.TheVariants as why
 use Rattle.queue_checker.specs.declared.flaws.Flaw.{Flaw}
 use Rattle.queue_checker.specs.declared.flaws.Flaw.TheVariants.{Queue, Opening, State}
 use Rattle.certifying.specs.Unread.{state_place}
 
+-- the certificate lists no state of hart h
+abbrev pub is_unlisted : QueueCertificate → (h : ℕ) → Bool
+is_unlisted c h = length (part_of c h).states == 0
+
+abbrev pub opening_line : (unlisted : Bool) → (h : ℕ) → List ℕ
+opening_line true h = codes "not shown: the certificate has no state of hart " ++ decimal h ++ 10 ∷ []
+opening_line false h = codes "not shown: hart " ++ decimal h ++ codes " opens in another state than the certificate says" ++ 10 ∷ []
+
+-- what is wrong with a queue
+abbrev pub queue_fault : QueueFlaw → List ℕ
+queue_fault why.OneHart = codes " has one hart as its sender and its receiver"
+queue_fault why.IndicesMeet = codes " has a head and a tail that overlap"
+queue_fault why.IndexMeetsSlots = codes " has an index that overlaps its slots"
+queue_fault why.NoSlot = codes " has no slot"
+queue_fault why.FewSlots = codes " has fewer slots than may be in use"
+queue_fault why.NoCounts = codes " has a modulus or a scale of 0"
+queue_fault why.NoIndex = codes " has indices without a byte"
+queue_fault why.WideIndex = codes " has words that don't fit the bytes of its indices, which are at most 4"
+queue_fault why.FewCounts = codes " has indices that don't tell all slots in use from none"
+queue_fault why.Head = codes " has a head that opens as another word than that of its count"
+queue_fault why.Tail = codes " has a tail that opens as another word than that of its count"
+
 abbrev pub flaw_line : OpeningValue → QueueCertificate → Flaw → List ℕ
-flaw_line o c (Queue i) = codes "not shown: queue " ++ decimal i ++ codes " is none that opens at its count" ++ 10 ∷ []
-flaw_line o c (Opening h) = codes "not shown: hart " ++ decimal h ++ codes " opens in another state than the certificate says" ++ 10 ∷ []
+flaw_line o c (Queue i why) = codes "not shown: queue " ++ decimal i ++ queue_fault why ++ 10 ∷ []
+flaw_line o c (Opening h) = opening_line (is_unlisted c h) h
 flaw_line o c (State h n) = codes "not shown: " ++ state_place o c h n ++ 10 ∷ []
 
 -- what is likely where a hart's state isn't closed under this instruction
@@ -40,8 +64,11 @@ abbrev pub likely_at : Option Instr → List ℕ
 likely_at None = likely_other
 likely_at (Some instr) = likely_of instr
 
+abbrev pub likely_opening : (unlisted : Bool) → List ℕ
+likely_opening true = codes "likely: the search for its states found none, which says nothing of the queue" ++ 10 ∷ []
+likely_opening false = codes "likely: the certificate is of another text, or of another opening of this one" ++ 10 ∷ []
+
 abbrev pub likely_line : OpeningValue → QueueCertificate → Flaw → List ℕ
-likely_line o c (Queue i) =
-    codes "likely: its parts overlap, its index can't count so far, or memory opens with other indices" ++ 10 ∷ []
-likely_line o c (Opening h) = codes "likely: the certificate is of another text, or of another opening of this one" ++ 10 ∷ []
+likely_line o c (Queue i why) = codes "likely: the queue isn't described as the text has it" ++ 10 ∷ []
+likely_line o c (Opening h) = likely_opening (is_unlisted c h)
 likely_line o c (State h n) = likely_at (instruction_at (hart_at o h).code (state_at c h n).known.pc)

@@ -1,32 +1,46 @@
 //! The command `queue`: a litmus text and a certificate in, what is promised of each run out.
 
-ghost use Rattle.std.specs.Prelude.{◌≡◌, ◌++◌, IfOk, OnOk};
+ghost use Rattle.std.specs.Prelude.{◌≡◌, ◌≤◌, ◌<◌, ◌*◌, ◌++◌, ℕ, Some, IfOk, OnOk, length};
 ghost use Rattle.std.specs.String.{string_bytes};
 ghost use Rattle.engine_support.specs.Engines.{Ends};
 ghost use Rattle.engine_support.specs.Faults.{AnswersAs};
 ghost use Rattle.engine_support.specs.Inputs.{IsRefused};
 ghost use Rattle.engine_support.specs.Tests.{tests};
 ghost use Rattle.engine_support.specs.inner.Making.{FindsUpToReads, text_and_value};
-ghost use Rattle.certifying.specs.Answers.{IsCertificateAnswer, IsQueueAnswer, fault_of, flaw_text, judged, judged_reads, judged_use, kept_text};
+ghost use Rattle.engine_support.specs.OpeningTexts.{numbered};
+ghost use Rattle.litmus.specs.declared.litmus_test.TheConstants.{MAX_LOCATIONS};
+ghost use Rattle.recorder.specs.Drawing.{left_after};
+ghost use Rattle.step_machine.specs.History.{FitsIn};
+ghost use Rattle.queue_certificates.specs.Certificates.{queue_at};
+ghost use Rattle.queue_checker.specs.Flaws.{first_flaw};
+ghost use Rattle.certifying.specs.Answers.{IsAnswerTo, IsCertificateAnswer, IsFlawAnswer, IsQueueAnswer, IsTrialAnswer, fault_of, is_of_queue};
+ghost use Rattle.certifying.specs.Answers.{judged_reads, judged_use, kept_text, nothing_line};
+ghost use Rattle.certifying.specs.Broken.{runs_line};
+ghost use Rattle.certifying.specs.NotShown.{flaw_line, likely_line};
+ghost use Rattle.certifying.specs.Trials.{runs_by};
 ghost use Rattle.certifying.specs.Answers.{limit_lines, progress_line, promise_end, protocol_line, protocol_text, reads_line, records_line};
 ghost use Rattle.certifying.specs.Answers.{unread_text, unused_text};
 ghost use Rattle.certifying.specs.Unread.{first_unread};
 ghost use Rattle.certifying.specs.Unused.{first_unused};
 
-use crate::descriptions::push_queues;
+use crate::answer_texts::{flaw_text, kept_text, tried_text, unread_text, unused_text};
+use crate::breaking::broken_text;
 use crate::input::read_certificate;
 use crate::judgement::Judgement;
-use crate::not_shown::{push_flaw, push_likely};
-use crate::unread::{Unread, first_unread, push_unread};
-use crate::unused::{Unused, first_unused, push_unused};
+use crate::trials::{Trial, trial_of};
+use crate::unread::first_unread;
+use crate::unused::first_unused;
 use engine_support::fault::{Fault, Position};
 use engine_support::litmus_text::read_test;
 use engine_support::output::end_with;
+use jumping::progress::Progress;
+use jumping::{Draw, Jump, Runs};
 use known_values::Lack;
 use litmus::Test;
 use queue_checker::{Flaw, QueueCertificate, first_flaw};
-use std::alloc::{AllocError, Global};
+use std::alloc::Global;
 use std::io::{Read, Write};
+use std::thread::Threads;
 use step_machine::Opening;
 
 /// A certificate of whose check some number passes 2^64 - 1.
@@ -40,127 +54,6 @@ fn fault_of(lack: Lack) -> Fault
         Lack::Memory => Fault::NoMemory,
         Lack::TooLarge => Fault::refused(UNDECIDED, Position::Nowhere),
     }
-}
-
-/// What isn't promised of records.
-#[tactic(auto, unfolding(crate::specs::Answers::records_line))]
-fn push_records(out: &mut String) -> Result<(), AllocError>
-    ensures { OnOk result (string_bytes out.new ≡ string_bytes out.old ++ records_line) }
-{
-    writeln!(
-        out,
-        "not promised: that a record was freshly or wholly written, what the code does with it, what memory outside of the queue holds"
-    )
-}
-
-#[tactic(auto, unfolding(crate::specs::Answers::progress_line))]
-fn push_progress(out: &mut String) -> Result<(), AllocError>
-    ensures { OnOk result (string_bytes out.new ≡ string_bytes out.old ++ progress_line) }
-{
-    writeln!(out, "not promised: that anything is ever sent or received")
-}
-
-/// What isn't promised of records and of progress.
-fn push_limits(out: &mut String) -> Result<(), AllocError>
-    ensures { OnOk result (string_bytes out.new ≡ string_bytes out.old ++ limit_lines) }
-{
-    push_records(out)?;
-    push_progress(out)
-}
-
-#[tactic(auto, unfolding(crate::specs::Answers::protocol_text))]
-fn push_protocol(out: &mut String) -> Result<(), AllocError>
-    ensures { OnOk result (string_bytes out.new ≡ string_bytes out.old ++ protocol_text) }
-{
-    write!(
-        out,
-        "promised: in every legal run, of any length and schedule, with store buffers of any size, the protocol of ownership is kept"
-    )
-}
-
-#[tactic(auto, unfolding(crate::specs::Answers::promise_end))]
-fn push_promise_end(out: &mut String) -> Result<(), AllocError>
-    ensures { OnOk result (string_bytes out.new ≡ string_bytes out.old ++ promise_end) }
-{
-    writeln!(
-        out,
-        ", so records arrive in order, each once, with all that was written before"
-    )
-}
-
-fn kept_text(
-    alloc: Global,
-    opening: &Opening,
-    certificate: &QueueCertificate,
-) -> Result<String, Lack>
-    ensures { IfOk result (λ text. string_bytes text ≡ kept_text opening.now certificate.now) }
-{
-    let mut out = String::new(alloc);
-    writeln!(out, "kept in every run")?;
-    push_queues(alloc, &mut out, opening, certificate)?;
-    push_protocol(&mut out)?;
-    push_promise_end(&mut out)?;
-    push_limits(&mut out)?;
-    Ok(out)
-}
-
-#[tactic(auto, unfolding(crate::specs::Answers::protocol_line))]
-fn push_protocol_line(out: &mut String) -> Result<(), AllocError>
-    ensures { OnOk result (string_bytes out.new ≡ string_bytes out.old ++ protocol_line) }
-{
-    push_protocol(out)?;
-    writeln!(out, "")
-}
-
-#[tactic(auto, unfolding(crate::specs::Answers::reads_line))]
-fn push_reads(out: &mut String) -> Result<(), AllocError>
-    ensures { OnOk result (string_bytes out.new ≡ string_bytes out.old ++ reads_line) }
-{
-    writeln!(
-        out,
-        "not promised: that what is loaded from a slot is a record that the hart owns"
-    )
-}
-
-fn unread_text(
-    alloc: Global,
-    opening: &Opening,
-    certificate: &QueueCertificate,
-    unread: Unread,
-) -> Result<String, Lack>
-    ensures { IfOk result (λ text. string_bytes text ≡ unread_text opening.now certificate.now unread) }
-{
-    let mut out = String::new(alloc);
-    push_unread(&mut out, opening, certificate, unread)?;
-    push_queues(alloc, &mut out, opening, certificate)?;
-    push_protocol_line(&mut out)?;
-    push_reads(&mut out)?;
-    push_limits(&mut out)?;
-    Ok(out)
-}
-
-fn unused_text(alloc: Global, unused: Unused) -> Result<String, AllocError>
-    ensures { IfOk result (λ text. string_bytes text ≡ unused_text unused) }
-{
-    let mut out = String::new(alloc);
-    push_unused(&mut out, unused)?;
-    writeln!(out, "nothing is claimed")?;
-    Ok(out)
-}
-
-fn flaw_text(
-    alloc: Global,
-    opening: &Opening,
-    certificate: &QueueCertificate,
-    flaw: Flaw,
-) -> Result<String, AllocError>
-    ensures { IfOk result (λ text. string_bytes text ≡ flaw_text opening.now certificate.now flaw) }
-{
-    let mut out = String::new(alloc);
-    push_flaw(&mut out, opening, certificate, flaw)?;
-    push_likely(&mut out, opening, certificate, flaw)?;
-    writeln!(out, "nothing is claimed")?;
-    Ok(out)
 }
 
 /// What is answered where the certificate is accepted, and its queues are used.
@@ -194,68 +87,274 @@ fn judged_use(
     }
 }
 
-/// The text and the judgement of an opening and a certificate.
-fn judged(
+/// What is answered where a certificate of queues isn't accepted: what drawn runs show.
+fn judged_by_runs<
+    const B: usize,
+    const M: usize,
+    G: Jump + Sync + Drop,
+    T: Threads + Sync,
+    P: Progress,
+>(
+    rt: &T,
     alloc: Global,
     opening: &Opening,
     certificate: &QueueCertificate,
+    flaw: Flaw,
+    draw: Draw,
+    generator: &G,
+    runs: Runs,
+    progress: &mut P,
 ) -> Result<(String, Judgement), Lack>
-    ensures { IfOk result (λ answer. text_and_value answer ≡ judged opening.now certificate.now) }
+    requires some_capacity { 1 ≤ B }
+    requires capacity { B ≤ 64 }
+    requires some_word { 1 ≤ M }
+    requires size { M ≤ 65536 }
+    requires fits { FitsIn M opening.now }
+    requires some_slot { (i : ℕ) → i < length certificate.now.queues → 1 ≤ (queue_at certificate.now i).size }
+    ensures { IfOk result (λ answer. IsTrialAnswer
+        (runs_by B M draw (left_after (runs.skip * runs.length) (G.Rng.stream generator.now)) runs.number runs.length) opening.now certificate.now flaw
+        (text_and_value answer)) }
+{
+    match trial_of::<B, M, G, T, P>(
+        rt,
+        alloc,
+        opening,
+        certificate,
+        draw,
+        generator,
+        runs,
+        progress,
+    )? {
+        Trial::Kept(kept) => Ok((
+            tried_text(alloc, opening, certificate, flaw, runs, &kept)?,
+            Judgement::NotShown,
+        )),
+        Trial::Broken {
+            queue,
+            part,
+            breach,
+            pc,
+        } => {
+            let opened = &certificate.queues[queue as usize];
+            let text = broken_text(alloc, B, opening, queue, opened, &part, breach, pc)?;
+            Ok((text, Judgement::Broken))
+        }
+    }
+}
+
+/// Whether a flaw is that a queue isn't one that opens at its count.
+fn is_of_queue(flaw: Flaw) -> bool
+    ensures { result ≡ is_of_queue flaw }
+{
+    match flaw {
+        Flaw::Queue(..) => true,
+        Flaw::Opening(_) => false,
+        Flaw::State { .. } => false,
+    }
+}
+
+/// What is answered where a certificate isn't accepted.
+fn judged_flaw<
+    const B: usize,
+    const M: usize,
+    G: Jump + Sync + Drop,
+    T: Threads + Sync,
+    P: Progress,
+>(
+    rt: &T,
+    alloc: Global,
+    opening: &Opening,
+    certificate: &QueueCertificate,
+    flaw: Flaw,
+    draw: Draw,
+    generator: &G,
+    runs: Runs,
+    progress: &mut P,
+) -> Result<(String, Judgement), Lack>
+    requires some_capacity { 1 ≤ B }
+    requires capacity { B ≤ 64 }
+    requires some_word { 1 ≤ M }
+    requires size { M ≤ 65536 }
+    requires fits { FitsIn M opening.now }
+    requires first { first_flaw opening.now certificate.now ≡ Some flaw }
+    ensures { IfOk result (λ answer. IsFlawAnswer
+        (runs_by B M draw (left_after (runs.skip * runs.length) (G.Rng.stream generator.now)) runs.number runs.length) opening.now certificate.now flaw
+        (is_of_queue flaw) (text_and_value answer)) }
+{
+    if is_of_queue(flaw) {
+        let text = flaw_text(alloc, opening, certificate, flaw)?;
+        return Ok((text, Judgement::NotShown));
+    }
+    judged_by_runs::<B, M, G, T, P>(
+        rt,
+        alloc,
+        opening,
+        certificate,
+        flaw,
+        draw,
+        generator,
+        runs,
+        progress,
+    )
+}
+
+/// The text and the judgement of an opening and a certificate.
+fn judged<const B: usize, const M: usize, G: Jump + Sync + Drop, T: Threads + Sync, P: Progress>(
+    rt: &T,
+    alloc: Global,
+    opening: &Opening,
+    certificate: &QueueCertificate,
+    draw: Draw,
+    generator: &G,
+    runs: Runs,
+    progress: &mut P,
+) -> Result<(String, Judgement), Lack>
+    requires some_capacity { 1 ≤ B }
+    requires capacity { B ≤ 64 }
+    requires some_word { 1 ≤ M }
+    requires size { M ≤ 65536 }
+    requires fits { FitsIn M opening.now }
+    ensures { IfOk result (λ answer. IsAnswerTo
+        (runs_by B M draw (left_after (runs.skip * runs.length) (G.Rng.stream generator.now)) runs.number runs.length) opening.now certificate.now
+        (first_flaw opening.now certificate.now) (text_and_value answer)) }
 {
     match first_flaw(alloc, opening, certificate)? {
         None => judged_use(alloc, opening, certificate),
-        Some(flaw) => Ok((
-            flaw_text(alloc, opening, certificate, flaw)?,
-            Judgement::NotShown,
-        )),
+        Some(flaw) => judged_flaw::<B, M, G, T, P>(
+            rt,
+            alloc,
+            opening,
+            certificate,
+            flaw,
+            draw,
+            generator,
+            runs,
+            progress,
+        ),
     }
 }
 
 /// The same of a test.
-fn answer(
+fn answer<const B: usize, const M: usize, G: Jump + Sync + Drop, T: Threads + Sync, P: Progress>(
+    rt: &T,
     alloc: Global,
     test: &Test,
     certificate: &QueueCertificate,
+    draw: Draw,
+    generator: &G,
+    runs: Runs,
+    progress: &mut P,
 ) -> Result<(String, Judgement), Fault>
-    ensures { AnswersAs (IsCertificateAnswer test.now.opening certificate.now) text_and_value result }
+    requires some_capacity { 1 ≤ B }
+    requires capacity { B ≤ 64 }
+    requires words { MAX_LOCATIONS ≤ M }
+    requires size { M ≤ 65536 }
+    ensures { AnswersAs
+        (IsCertificateAnswer (runs_by B M draw (left_after (runs.skip * runs.length) (G.Rng.stream generator.now)) runs.number runs.length)
+        test.now.opening certificate.now) text_and_value result }
 {
     let opening = test.opening(alloc)?;
-    match judged(alloc, &opening, certificate) {
+    match judged::<B, M, G, T, P>(
+        rt,
+        alloc,
+        &opening,
+        certificate,
+        draw,
+        generator,
+        runs,
+        progress,
+    ) {
         Ok(answer) => Ok(answer),
         Err(lack) => Err(fault_of(lack)),
     }
 }
 
 /// What is to be written for the inputs that the readers give.
-fn made<F: Read, C: Read>(
+fn made<
+    const B: usize,
+    const M: usize,
+    F: Read,
+    C: Read,
+    G: Jump + Sync + Drop,
+    T: Threads + Sync,
+    P: Progress,
+>(
+    rt: &T,
     alloc: Global,
     file: &mut F,
     certificate: &mut C,
+    draw: Draw,
+    generator: &G,
+    runs: Runs,
+    progress: &mut P,
 ) -> Result<(String, Judgement), Fault>
-    ensures made { FindsUpToReads (IsQueueAnswer (F.remaining file.old) (C.remaining certificate.old)) text_and_value result }
+    requires some_capacity { 1 ≤ B }
+    requires capacity { B ≤ 64 }
+    requires words { MAX_LOCATIONS ≤ M }
+    requires size { M ≤ 65536 }
+    ensures made { FindsUpToReads
+        (IsQueueAnswer (runs_by B M draw (left_after (runs.skip * runs.length) (G.Rng.stream generator.now)) runs.number runs.length)
+        (F.remaining file.old) (C.remaining certificate.old)) text_and_value result }
     ensures unread { IsRefused tests (F.remaining file.old) → certificate.new ≡ certificate.old }
 {
     let test = read_test(alloc, file)?;
     let listed = read_certificate(alloc, certificate)?;
-    answer(alloc, &test, &listed)
+    answer::<B, M, G, T, P>(rt, alloc, &test, &listed, draw, generator, runs, progress)
 }
 
 /// Reads a litmus text and then a certificate, each to its end, and writes whether the certificate shows that every run of the text
-/// keeps the protocol of each of its queues, with what is promised then. It returns the judgement. The capacity of store buffers and
-/// the size of memory are no part of it.
+/// keeps the protocol of each of its queues, with what is promised then. It returns the judgement.
+///
+/// If the certificate isn't accepted, but its queues open at their counts, the text runs `runs.number` times for each queue, with store
+/// buffers of `B` pairs and `M` words of memory, each time by `runs.length` events that the generator draws so, after the events of the
+/// runs that are passed over: then it writes a short schedule of the first run that breaks the protocol of the first such queue, or
+/// that all keep it. That depends neither on the jobs nor on the progress. Where the certificate is accepted neither `B` nor `M` is
+/// part of the answer.
 ///
 /// Each input is refused as too large ([`engine_support::fault::TOO_LARGE`]), else as no text
 /// ([`engine_support::fault::NOT_TEXT`]), else as [`litmus_reader::read`] or [`certificate_reader::read_certificate`] says, at the
 /// line. A check in which a number passes 2^64 - 1 is refused by [`UNDECIDED`]. Then nothing was written. After a refused litmus text
 /// the certificate is not read.
-pub fn queue_engine<F: Read, C: Read, W: Write>(
+pub fn queue_engine<
+    const B: usize,
+    const M: usize,
+    F: Read,
+    C: Read,
+    G: Jump + Sync + Drop,
+    W: Write,
+    T: Threads + Sync,
+    P: Progress,
+>(
+    rt: &T,
     alloc: Global,
     file: &mut F,
     certificate: &mut C,
+    draw: Draw,
+    generator: &G,
+    runs: Runs,
+    progress: &mut P,
     writer: &mut W,
 ) -> Result<Judgement, Fault>
-    ensures ends { Ends (IsQueueAnswer (F.remaining file.old) (C.remaining certificate.old)) result W.contents writer.old writer.new }
+    requires some_capacity { 1 ≤ B }
+    requires capacity { B ≤ 64 }
+    requires words { MAX_LOCATIONS ≤ M }
+    requires size { M ≤ 65536 }
+    ensures ends { Ends
+        (IsQueueAnswer (runs_by B M draw (left_after (runs.skip * runs.length) (G.Rng.stream generator.now)) runs.number runs.length)
+        (F.remaining file.old) (C.remaining certificate.old)) result W.contents writer.old writer.new }
     ensures unread { IsRefused tests (F.remaining file.old) → certificate.new ≡ certificate.old }
 {
-    end_with(made(alloc, file, certificate), writer)
+    end_with(
+        made::<B, M, F, C, G, T, P>(
+            rt,
+            alloc,
+            file,
+            certificate,
+            draw,
+            generator,
+            runs,
+            progress,
+        ),
+        writer,
+    )
 }

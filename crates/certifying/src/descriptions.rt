@@ -3,8 +3,8 @@
 ghost use Rattle.std.specs.Prelude.{◌≡◌, ◌++◌, IfOk, OnOk};
 ghost use Rattle.std.specs.List.{flat_map};
 ghost use Rattle.std.specs.String.{string_bytes};
-ghost use Rattle.certifying.specs.Descriptions.{access_lines, all_queue_lines, count_end, count_front, count_line, indices_line, load_line, parties_line};
-ghost use Rattle.certifying.specs.Descriptions.{queue_lines, slots_end, slots_front, slots_line, store_line};
+ghost use Rattle.certifying.specs.Descriptions.{access_lines, all_queue_lines, count_end, count_front, count_line, form_lines, indices_line};
+ghost use Rattle.certifying.specs.Descriptions.{load_line, parties_line, queue_lines, slots_end, slots_front, slots_line, store_line};
 
 use crate::instructions::push_place;
 use crate::unused::number_of;
@@ -154,6 +154,17 @@ fn push_accesses(
     Ok(())
 }
 
+/// The lines of what a queue is.
+#[tactic(auto, unfolding(crate::specs::Descriptions::form_lines))]
+pub fn push_form(out: &mut String, index: u32, opened: &OpenedQueue) -> Result<(), AllocError>
+    ensures { OnOk result (string_bytes out.new ≡ string_bytes out.old ++ form_lines index opened.now) }
+{
+    push_parties(out, index, &opened.queue)?;
+    push_indices(out, index, &opened.queue)?;
+    push_slots(out, index, &opened.queue)?;
+    push_count(out, index, opened)
+}
+
 /// The lines of a queue.
 #[tactic(auto, unfolding(crate::specs::Descriptions::queue_lines))]
 fn push_queue(
@@ -167,10 +178,7 @@ fn push_queue(
     ensures { OnOk result (string_bytes out.new ≡ string_bytes out.old ++ queue_lines opening.now certificate.now index opened.now) }
 {
     let accesses = slot_accesses(alloc, opening, certificate, index)?;
-    push_parties(out, index, &opened.queue)?;
-    push_indices(out, index, &opened.queue)?;
-    push_slots(out, index, &opened.queue)?;
-    push_count(out, index, opened)?;
+    push_form(out, index, opened)?;
     push_accesses(out, opening, index, &accesses)?;
     Ok(())
 }

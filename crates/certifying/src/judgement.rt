@@ -9,4 +9,6 @@ pub enum Judgement {
     ReadsNotShown,
     /// Nothing is claimed.
     NotShown,
+    /// A run breaks the protocol of a queue.
+    Broken,
 }

@@ -4,8 +4,10 @@ ghost use Rattle.std.specs.Prelude.{ℕ, List, Option, Result, Ok, Some};
 ghost use Rattle.engine_support.specs.declared.fault.Refusal.{Refusal};
 ghost use Rattle.certifying.specs.Answers.{IsQueueAnswer};
 ghost use Rattle.certifying.specs.Kept.{AreJudged, AreQueueAnswers, IsPromised};
+ghost use Rattle.certifying.specs.Trials.{DrawnRuns};
 ghost use Rattle.certifying.specs.declared.judgement.Judgement.{Judgement};
 
+use ownership_runs::laws::{laws_of_breaches, laws_of_judged_runs};
 use queue_certificates::laws_of_queue_certificates;
 use queue_checker::flaws::laws_of_flaws;
 
@@ -13,15 +15,19 @@ use queue_checker::flaws::laws_of_flaws;
 ///
 /// - `promised`: where its answer is that the protocol is kept, every legal run of the text, of any length and schedule and with store
 ///   buffers of any size, keeps the protocol of ownership of each queue, so that all that `slot_queue::laws_of_ownership` promises
-///   holds of it; and where its reads are shown too, no party loads a byte of a slot that it doesn't own.
-/// - `one`: two answers to one input are one text with one judgement, or refusals of one number, except that a check may be given up
-///   where a number in it passes 2^64 - 1. Of a refused litmus text it isn't said on which line its first fault stands.
+///   holds of it; and where its reads are shown too, no party loads a byte of a slot that it doesn't own. Where its answer is that the
+///   protocol is broken, some legal run of the text doesn't keep that of some queue.
+/// - `one`: two answers to one input by the same drawn runs have one judgement, and are one text unless it has a schedule; or they are
+///   refusals of one number, except that a check may be given up where a number in it passes 2^64 - 1. Of a refused litmus text it
+///   isn't said on which line its first fault stands.
 pub fn laws_of_answers()
-    ensures promised { (file certificate : Option (List ℕ)) (text : List ℕ) (judgement : Judgement)
-        → IsQueueAnswer file certificate (Ok (text, judgement)) → AreJudged file certificate (IsPromised judgement) }
-    ensures one { (file certificate : List ℕ) (a b : Result (List ℕ × Judgement) Refusal)
-        → IsQueueAnswer (Some file) (Some certificate) a → IsQueueAnswer (Some file) (Some certificate) b → AreQueueAnswers a b }
+    ensures promised { (d : DrawnRuns) (file certificate : Option (List ℕ)) (text : List ℕ) (judgement : Judgement)
+        → IsQueueAnswer d file certificate (Ok (text, judgement)) → AreJudged file certificate (IsPromised judgement) }
+    ensures one { (d : DrawnRuns) (file certificate : List ℕ) (a b : Result (List ℕ × Judgement) Refusal)
+        → IsQueueAnswer d (Some file) (Some certificate) a → IsQueueAnswer d (Some file) (Some certificate) b → AreQueueAnswers a b }
 {
     laws_of_flaws();
     laws_of_queue_certificates();
+    laws_of_breaches();
+    laws_of_judged_runs();
 }

@@ -1,18 +1,22 @@
-//! The command `queue`: whether a certificate shows that every run of a litmus text keeps the protocol of its queues.
+//! The command `queue`: whether a certificate shows that every run of a litmus text keeps the protocol of its queues, and otherwise
+//! whether a drawn run breaks it.
 //!
 //! The contract: the engine's clause says what it writes for what its readers tell, byte for byte (`IsQueueAnswer`), and
-//! [`laws::laws_of_answers`] what a `kept` means. This crate finds no certificate, knows no command line, opens no file and names
+//! [`laws::laws_of_answers`] what a `kept` and a `broken` mean. This crate finds no certificate, knows no command line, opens no file and names
 //! no standard stream. It has no tests: the cases of the program run the engine.
 
 #![tactic(auto)]
 
+pub mod answer_texts;
 pub mod answering;
+pub mod breaking;
 pub mod descriptions;
 pub mod input;
 pub mod instructions;
 pub mod judgement;
 pub mod laws;
 pub mod not_shown;
+pub mod trials;
 pub mod unread;
 pub mod unused;
 

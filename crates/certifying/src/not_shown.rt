@@ -2,14 +2,84 @@
 
 ghost use Rattle.std.specs.Prelude.{◌≡◌, ◌++◌, IfOk, OnOk};
 ghost use Rattle.std.specs.String.{string_bytes};
-ghost use Rattle.certifying.specs.NotShown.{flaw_line, likely_at, likely_jump, likely_line, likely_load, likely_of, likely_other, likely_store};
+ghost use Rattle.certifying.specs.NotShown.{flaw_line, is_unlisted, likely_opening, opening_line, queue_fault};
+ghost use Rattle.certifying.specs.NotShown.{likely_at, likely_jump, likely_line, likely_load, likely_of, likely_other, likely_store};
 
 use crate::instructions::instruction_of;
 use crate::unread::{pc_of, push_state_place};
-use queue_checker::{Flaw, QueueCertificate};
+use queue_checker::{Flaw, QueueCertificate, QueueFlaw};
 use rv_decode::Instr;
 use std::alloc::AllocError;
 use step_machine::Opening;
+
+/// Whether a certificate lists no state of a hart.
+fn is_unlisted(certificate: &QueueCertificate, hart: u32) -> bool
+    ensures { result ≡ is_unlisted certificate.now hart }
+{
+    match certificate.harts.get(hart as usize) {
+        None => true,
+        Some(part) => part.states.is_empty(),
+    }
+}
+
+fn push_opening(out: &mut String, unlisted: bool, hart: u32) -> Result<(), AllocError>
+    ensures { OnOk result (string_bytes out.new ≡ string_bytes out.old ++ opening_line unlisted hart) }
+{
+    if unlisted {
+        writeln!(
+            out,
+            "not shown: the certificate has no state of hart {hart}"
+        )
+    } else {
+        writeln!(
+            out,
+            "not shown: hart {hart} opens in another state than the certificate says"
+        )
+    }
+}
+
+fn push_likely_opening(out: &mut String, unlisted: bool) -> Result<(), AllocError>
+    ensures { OnOk result (string_bytes out.new ≡ string_bytes out.old ++ likely_opening unlisted) }
+{
+    if unlisted {
+        writeln!(
+            out,
+            "likely: the search for its states found none, which says nothing of the queue"
+        )
+    } else {
+        writeln!(
+            out,
+            "likely: the certificate is of another text, or of another opening of this one"
+        )
+    }
+}
+
+/// What is wrong with a queue.
+fn push_queue_fault(out: &mut String, why: QueueFlaw) -> Result<(), AllocError>
+    ensures { OnOk result (string_bytes out.new ≡ string_bytes out.old ++ queue_fault why) }
+{
+    match why {
+        QueueFlaw::OneHart => out.push_str(" has one hart as its sender and its receiver"),
+        QueueFlaw::IndicesMeet => out.push_str(" has a head and a tail that overlap"),
+        QueueFlaw::IndexMeetsSlots => out.push_str(" has an index that overlaps its slots"),
+        QueueFlaw::NoSlot => out.push_str(" has no slot"),
+        QueueFlaw::FewSlots => out.push_str(" has fewer slots than may be in use"),
+        QueueFlaw::NoCounts => out.push_str(" has a modulus or a scale of 0"),
+        QueueFlaw::NoIndex => out.push_str(" has indices without a byte"),
+        QueueFlaw::WideIndex => out.push_str(
+            " has words that don't fit the bytes of its indices, which are at most 4",
+        ),
+        QueueFlaw::FewCounts => out.push_str(
+            " has indices that don't tell all slots in use from none",
+        ),
+        QueueFlaw::Head => out.push_str(
+            " has a head that opens as another word than that of its count",
+        ),
+        QueueFlaw::Tail => out.push_str(
+            " has a tail that opens as another word than that of its count",
+        ),
+    }
+}
 
 pub fn push_flaw(
     out: &mut String,
@@ -20,16 +90,12 @@ pub fn push_flaw(
     ensures { OnOk result (string_bytes out.new ≡ string_bytes out.old ++ flaw_line opening.now certificate.now flaw) }
 {
     match flaw {
-        Flaw::Queue(queue) => {
-            writeln!(
-                out,
-                "not shown: queue {queue} is none that opens at its count"
-            )
+        Flaw::Queue(queue, why) => {
+            write!(out, "not shown: queue {queue}")?;
+            push_queue_fault(out, why)?;
+            writeln!(out, "")
         }
-        Flaw::Opening(hart) => writeln!(
-            out,
-            "not shown: hart {hart} opens in another state than the certificate says"
-        ),
+        Flaw::Opening(hart) => push_opening(out, is_unlisted(certificate, hart), hart),
         Flaw::State { hart, state } => {
             write!(out, "not shown: ")?;
             push_state_place(out, opening, certificate, hart, state)?;
@@ -120,14 +186,8 @@ pub fn push_likely(
     ensures { OnOk result (string_bytes out.new ≡ string_bytes out.old ++ likely_line opening.now certificate.now flaw) }
 {
     match flaw {
-        Flaw::Queue(_) => writeln!(
-            out,
-            "likely: its parts overlap, its index can't count so far, or memory opens with other indices"
-        ),
-        Flaw::Opening(_) => writeln!(
-            out,
-            "likely: the certificate is of another text, or of another opening of this one"
-        ),
+        Flaw::Queue(..) => writeln!(out, "likely: the queue isn't described as the text has it"),
+        Flaw::Opening(hart) => push_likely_opening(out, is_unlisted(certificate, hart)),
         Flaw::State { hart, state } => {
             push_likely_at(
                 out,

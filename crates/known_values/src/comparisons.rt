@@ -60,12 +60,7 @@ pub fn negated(known: Option<bool>) -> Option<bool>
 }
 
 /// The difference of two forms as a remainder by `modulus`.
-pub(crate) fn difference(
-    alloc: Global,
-    modulus: u64,
-    left: &Form,
-    right: &Form,
-) -> Result<Form, Lack>
+fn difference(alloc: Global, modulus: u64, left: &Form, right: &Form) -> Result<Form, Lack>
     ensures { IfOk result (λ f. f ≡ plus left.now (times (modulus - 1) right.now)) }
 {
     let negative = times(alloc, modulus.saturating_sub(1), right)?;

@@ -12,6 +12,7 @@ pub mod forms;
 pub mod lack;
 pub mod queues;
 pub mod ranges;
+pub mod rests;
 pub mod results;
 pub mod values;
 mod words;

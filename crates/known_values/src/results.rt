@@ -1,20 +1,23 @@
 //! What an instruction leaves in a register, as far as it is known.
 
-ghost use Rattle.std.specs.Prelude.{◌≡◌, ◌+◌, ◌%◌, ◌^◌, ◌<◌, ◌≤◌, ◌==◌, ◌&&◌, count_ones, [], IfOk};
+ghost use Rattle.std.specs.Prelude.{◌≡◌, ◌+◌, ◌%◌, ◌^◌, ◌<◌, ◌≤◌, ◌==◌, ◌&&◌, count_ones, length, [], IfOk};
+ghost use Rattle.queue_certificates.specs.Forms.{remainder_word};
 ghost use Rattle.queue_certificates.specs.States.{any};
-ghost use Rattle.queue_certificates.specs.Results as results;
 ghost use Rattle.queue_certificates.specs.Results.{just, exactly, any_up_to, or_up_to, as_number, flag_of, set_less, shifted_left, shifted_right};
-ghost use Rattle.queue_certificates.specs.Results.{sum_of, bounds, low_bits, masked, masked_by, without, shifted_back};
+ghost use Rattle.queue_certificates.specs.Results.{sum_of, of_rest, rest_of, turned, bounds, counting, rest_counted, remaining, masked, masked_by};
+ghost use Rattle.queue_certificates.specs.Results.{without, shifted_back};
 ghost use Rattle.queue_certificates.specs.Results.{immediate_part, of_immediate, shift_part, of_shift, register_part, of_registers};
 ghost use Rattle.queue_certificates.specs.Results.{branch_part, is_branch_taken};
 ghost use Rattle.known_values.specs.Queues.{queue_in};
 
 use crate::bounds::{Bounds, bounds_of, remainder_word};
-use crate::comparisons::{difference, is_below, is_below_signed, is_equal, negated};
-use crate::forms::{Form, first_variable, is_same, number, plus, times, vanishes};
-use crate::lack::Lack;
-use crate::queues::OpenedQueue;
-use crate::values::{Known, KnownValue, any, lifted_value, linear};
+use crate::comparisons::{is_below, is_below_signed, is_equal, negated};
+use crate::forms::{Form, first_variable, is_same, lifted, number, plus, times, vanishes};
+use crate::lack::{Lack, remainder_by};
+use crate::queues::{OpenedQueue, queue_in};
+use crate::ranges::most;
+use crate::rests::{Rest, counting, negative, rest_of, rests_added, whole};
+use crate::values::{Known, KnownValue, any, index_for, lifted_value, linear, times_value};
 use crate::words::{WORDS, computed, is_taken, shifted, with_immediate};
 use rv_decode::instruction::{BranchOp, ImmediateOp, RegisterOp, ShiftOp};
 use std::alloc::Global;
@@ -117,13 +120,24 @@ pub fn set_less(alloc: Global, bounds: Option<Bounds>, n: i32) -> Result<Outcome
 }
 
 /// The value, shifted left.
-pub fn shifted_left(alloc: Global, value: &KnownValue, amount: u32) -> Result<Outcome, Lack>
+pub fn shifted_left(
+    alloc: Global,
+    queues: &[OpenedQueue],
+    value: &KnownValue,
+    amount: u32,
+) -> Result<Outcome, Lack>
     requires { amount < 32 }
-    ensures { IfOk result (λ r. r ≡ shifted_left value.now amount) }
+    ensures { IfOk result (λ r. r ≡ shifted_left (queue_in queues.now) value.now amount) }
 {
     match &value.known {
         Known::Linear(form) => just(alloc, &linear(times(alloc, 1 << amount, form)?)),
-        _ => just(alloc, &any()),
+        _ => {
+            let all = of_rest(alloc, rest_of(alloc, queues, value)?)?;
+            Ok(Outcome {
+                most: all.most,
+                value: times_value(alloc, 1 << amount, &all.value)?,
+            })
+        }
     }
 }
 
@@ -148,17 +162,34 @@ pub fn sum_of(alloc: Global, left: &KnownValue, right: &KnownValue) -> Result<Kn
     }
 }
 
-/// The difference of two values.
-pub fn difference_of(
-    alloc: Global,
-    left: &KnownValue,
-    right: &KnownValue,
-) -> Result<KnownValue, Lack>
-    ensures { IfOk result (λ v. v ≡ results.difference_of left.now right.now) }
+/// All numbers of which this remainder is known: a multiple of a number that isn't known is added.
+pub fn of_rest(alloc: Global, rest: Option<Rest>) -> Result<Outcome, Lack>
+    ensures { IfOk result (λ r. r ≡ of_rest rest) }
 {
-    match (&left.known, &right.known) {
-        (Known::Linear(f), Known::Linear(g)) => Ok(linear(difference(alloc, WORDS, f, g)?)),
-        _ => Ok(any()),
+    let Some(rest) = rest else {
+        return just(alloc, &any());
+    };
+    let rounds = if rest.by == 0 { 0 } else { WORDS / rest.by };
+    let multiple = times(alloc, rest.by, &first_variable(alloc)?)?;
+    Ok(Outcome {
+        most: rounds.saturating_sub(1),
+        value: linear(plus(alloc, &lifted(alloc, &rest.form)?, &multiple)?),
+    })
+}
+
+/// The value with all its bits turned, where the mask has them all.
+pub fn turned(alloc: Global, value: &KnownValue, mask: u32) -> Result<Outcome, Lack>
+    ensures { IfOk result (λ r. r ≡ turned value.now mask) }
+{
+    match &value.known {
+        Known::Linear(form) if mask == u32::MAX => {
+            let less = times(alloc, WORDS - 1, form)?;
+            just(
+                alloc,
+                &linear(plus(alloc, &number(alloc, WORDS - 1), &less)?),
+            )
+        }
+        _ => just(alloc, &any()),
     }
 }
 
@@ -176,79 +207,122 @@ pub fn bounds(
     }
 }
 
-/// Whether the mask keeps low bits alone.
-fn is_low(mask: u32) -> bool
-    ensures { result ≡ ((mask + 1 == 2 ^ count_ones mask) && (2 ^ 32 % (mask + 1) == 0)) }
+/// Whether the mask keeps low bits alone, and no more of them than make a remainder by `by`.
+fn is_low(by: u64, mask: u32) -> bool
+    ensures { result ≡ ((mask + 1 == 2 ^ count_ones mask) && (by % (mask + 1) == 0)) }
 {
     let above = u64::from(mask) + 1;
-    above == 1 << mask.count_ones() && WORDS % above == 0
+    above == 1 << mask.count_ones() && by % above == 0
 }
 
-fn low_bits(alloc: Global, rest: Option<Form>, mask: u32) -> Result<Outcome, Lack>
-    ensures { IfOk result (λ r. r ≡ low_bits [] rest mask) }
+/// The remainder of a form by `n` as a word of an index that counts on in `n` words, if there is one; or the other.
+fn rest_counted(
+    alloc: Global,
+    queues: &[OpenedQueue],
+    n: u64,
+    form: &Form,
+    other: Outcome,
+) -> Result<Outcome, Lack>
+    ensures { IfOk result (λ r. r ≡ rest_counted (queue_in queues.now) n form.now (counting (queue_in queues.now) (length queues.now) n) other) }
 {
-    match rest {
-        None => any_up_to(alloc, u64::from(mask)),
-        Some(rest) => just(alloc, &linear(rest)),
+    match counting(queues, n)? {
+        None => Ok(other),
+        Some(i) => {
+            let less = remainder_by(queue_in(queues, i).offset, n);
+            let rest = number(alloc, n.saturating_sub(less));
+            just(alloc, &index_for(i, plus(alloc, form, &rest)?))
+        }
     }
 }
 
-/// The low bits of a value that `mask` keeps, or some number up to it.
+/// The remainder of a form by `n`, at most 2^32, as a form or as a word of an index, if it is one; or the other.
+fn remaining(
+    alloc: Global,
+    queues: &[OpenedQueue],
+    ranges: &[Option<u64>],
+    n: u64,
+    form: &Form,
+    other: Outcome,
+) -> Result<Outcome, Lack>
+    ensures { IfOk result (λ r. r ≡ remaining (queue_in queues.now) (length queues.now) ranges.now n form.now (remainder_word ranges.now form.now n) other) }
+{
+    if let Some(rest) = remainder_word(alloc, ranges, form, n)? {
+        return just(alloc, &linear(rest));
+    }
+    match most(ranges, form)? {
+        None => rest_counted(alloc, queues, n, form, other),
+        Some(_) => Ok(other),
+    }
+}
+
+/// The low bits that `mask` keeps, or some number up to it.
 pub fn masked(
     alloc: Global,
+    queues: &[OpenedQueue],
     ranges: &[Option<u64>],
-    value: &KnownValue,
+    rest: Option<Rest>,
     mask: u32,
 ) -> Result<Outcome, Lack>
-    ensures { IfOk result (λ r. r ≡ masked ranges.now value.now mask) }
+    ensures { IfOk result (λ r. r ≡ masked (queue_in queues.now) (length queues.now) ranges.now rest mask) }
 {
-    match &value.known {
-        Known::Linear(form) if is_low(mask) => {
-            let rest = remainder_word(alloc, ranges, form, u64::from(mask) + 1)?;
-            low_bits(alloc, rest, mask)
+    let other = any_up_to(alloc, u64::from(mask))?;
+    match rest {
+        Some(rest) if is_low(rest.by, mask) => {
+            remaining(
+                alloc,
+                queues,
+                ranges,
+                u64::from(mask) + 1,
+                &rest.form,
+                other,
+            )
         }
-        _ => any_up_to(alloc, u64::from(mask)),
+        _ => Ok(other),
     }
 }
 
 fn immediate_part(
     alloc: Global,
+    queues: &[OpenedQueue],
     ranges: &[Option<u64>],
     op: ImmediateOp,
     value: &KnownValue,
     n: i32,
 ) -> Result<Outcome, Lack>
-    ensures { IfOk result (λ r. r ≡ immediate_part ranges.now op value.now n) }
+    ensures { IfOk result (λ r. r ≡ immediate_part (queue_in queues.now) (length queues.now) ranges.now op value.now n) }
 {
     let word = n.cast_unsigned();
     match op {
-        ImmediateOp::Add => just(
-            alloc,
-            &sum_of(alloc, value, &linear(number(alloc, u64::from(word))))?,
-        ),
-        ImmediateOp::And => masked(alloc, ranges, value, word),
+        ImmediateOp::Add => {
+            let rest = rest_of(alloc, queues, value)?;
+            let given = whole(number(alloc, u64::from(word)));
+            of_rest(alloc, rests_added(alloc, rest, given)?)
+        }
+        ImmediateOp::And => masked(alloc, queues, ranges, rest_of(alloc, queues, value)?, word),
         ImmediateOp::SetLess => set_less(alloc, bounds(alloc, ranges, value)?, n),
         ImmediateOp::SetLessUnsigned => {
             let right = bounds(alloc, ranges, &linear(number(alloc, u64::from(word))))?;
             flag_of(alloc, is_below(bounds(alloc, ranges, value)?, right))
         }
-        ImmediateOp::Xor | ImmediateOp::Or => just(alloc, &any()),
+        ImmediateOp::Xor => turned(alloc, value, word),
+        ImmediateOp::Or => just(alloc, &any()),
     }
 }
 
 /// What an operation of a value and an immediate leaves.
 pub fn of_immediate(
     alloc: Global,
+    queues: &[OpenedQueue],
     ranges: &[Option<u64>],
     op: ImmediateOp,
     value: &KnownValue,
     n: i32,
 ) -> Result<Outcome, Lack>
-    ensures { IfOk result (λ r. r ≡ of_immediate ranges.now op value.now n) }
+    ensures { IfOk result (λ r. r ≡ of_immediate (queue_in queues.now) (length queues.now) ranges.now op value.now n) }
 {
     match as_number(value) {
         Some(a) => exactly(alloc, u64::from(with_immediate(op, a, n))),
-        None => immediate_part(alloc, ranges, op, value, n),
+        None => immediate_part(alloc, queues, ranges, op, value, n),
     }
 }
 
@@ -270,40 +344,40 @@ fn without(alloc: Global, n: u64, form: &Form) -> Result<Form, Lack>
 /// The value, shifted right.
 pub fn shifted_back(
     alloc: Global,
+    queues: &[OpenedQueue],
     ranges: &[Option<u64>],
     value: &KnownValue,
     amount: u32,
 ) -> Result<Outcome, Lack>
     requires { amount < 32 }
-    ensures { IfOk result (λ r. r ≡ shifted_back ranges.now value.now amount) }
+    ensures { IfOk result (λ r. r ≡ shifted_back (queue_in queues.now) (length queues.now) ranges.now value.now amount) }
 {
     let Known::Linear(form) = &value.known else {
         return just(alloc, &any());
     };
     let power = 1 << amount;
     let part = without(alloc, power, form)?;
+    let other = shifted_right(alloc, bounds_of(alloc, WORDS, ranges, form)?, amount)?;
     if !is_same(0, form, &times(alloc, power, &part)?) {
-        return shifted_right(alloc, bounds_of(alloc, WORDS, ranges, form)?, amount);
+        return Ok(other);
     }
-    match remainder_word(alloc, ranges, &part, 1 << (32 - amount))? {
-        Some(rest) => just(alloc, &linear(rest)),
-        None => shifted_right(alloc, bounds_of(alloc, WORDS, ranges, form)?, amount),
-    }
+    remaining(alloc, queues, ranges, 1 << (32 - amount), &part, other)
 }
 
 fn shift_part(
     alloc: Global,
+    queues: &[OpenedQueue],
     ranges: &[Option<u64>],
     op: ShiftOp,
     value: &KnownValue,
     amount: u32,
 ) -> Result<Outcome, Lack>
     requires { amount < 32 }
-    ensures { IfOk result (λ r. r ≡ shift_part ranges.now op value.now amount) }
+    ensures { IfOk result (λ r. r ≡ shift_part (queue_in queues.now) (length queues.now) ranges.now op value.now amount) }
 {
     match op {
-        ShiftOp::Left => shifted_left(alloc, value, amount),
-        ShiftOp::Right => shifted_back(alloc, ranges, value, amount),
+        ShiftOp::Left => shifted_left(alloc, queues, value, amount),
+        ShiftOp::Right => shifted_back(alloc, queues, ranges, value, amount),
         ShiftOp::RightArithmetic => just(alloc, &any()),
     }
 }
@@ -311,50 +385,65 @@ fn shift_part(
 /// What a shift of a value by a constant amount leaves.
 pub fn of_shift(
     alloc: Global,
+    queues: &[OpenedQueue],
     ranges: &[Option<u64>],
     op: ShiftOp,
     value: &KnownValue,
     amount: u32,
 ) -> Result<Outcome, Lack>
     requires { amount < 32 }
-    ensures { IfOk result (λ r. r ≡ of_shift ranges.now op value.now amount) }
+    ensures { IfOk result (λ r. r ≡ of_shift (queue_in queues.now) (length queues.now) ranges.now op value.now amount) }
 {
     match as_number(value) {
         Some(a) => exactly(alloc, u64::from(shifted(op, a, amount))),
-        None => shift_part(alloc, ranges, op, value, amount),
+        None => shift_part(alloc, queues, ranges, op, value, amount),
     }
 }
 
 /// Two values of which one may be a mask.
 fn masked_either(
     alloc: Global,
+    queues: &[OpenedQueue],
     ranges: &[Option<u64>],
     left: &KnownValue,
     right: &KnownValue,
 ) -> Result<Outcome, Lack>
-    ensures { IfOk result (λ r. r ≡ masked_by ranges.now left.now (as_number right.now) (masked_by ranges.now right.now (as_number left.now) (just any))) }
+    ensures { IfOk result (λ r. r ≡ masked_by (queue_in queues.now) (length queues.now) ranges.now (rest_of (queue_in queues.now) left.now)
+        (as_number right.now) (masked_by (queue_in queues.now) (length queues.now) ranges.now (rest_of (queue_in queues.now) right.now)
+        (as_number left.now) (just any))) }
 {
     if let Some(mask) = as_number(right) {
-        return masked(alloc, ranges, left, mask);
+        return masked(alloc, queues, ranges, rest_of(alloc, queues, left)?, mask);
     }
     match as_number(left) {
-        Some(mask) => masked(alloc, ranges, right, mask),
+        Some(mask) => masked(alloc, queues, ranges, rest_of(alloc, queues, right)?, mask),
         None => just(alloc, &any()),
     }
 }
 
 fn register_part(
     alloc: Global,
+    queues: &[OpenedQueue],
     ranges: &[Option<u64>],
     op: RegisterOp,
     left: &KnownValue,
     right: &KnownValue,
 ) -> Result<Outcome, Lack>
-    ensures { IfOk result (λ r. r ≡ register_part ranges.now op left.now right.now) }
+    ensures { IfOk result (λ r. r ≡ register_part (queue_in queues.now) (length queues.now) ranges.now op left.now right.now) }
 {
     match op {
-        RegisterOp::Add => just(alloc, &sum_of(alloc, left, right)?),
-        RegisterOp::Sub => just(alloc, &difference_of(alloc, left, right)?),
+        RegisterOp::Add => {
+            let rest = rest_of(alloc, queues, left)?;
+            of_rest(
+                alloc,
+                rests_added(alloc, rest, rest_of(alloc, queues, right)?)?,
+            )
+        }
+        RegisterOp::Sub => {
+            let rest = rest_of(alloc, queues, left)?;
+            let less = negative(alloc, rest_of(alloc, queues, right)?)?;
+            of_rest(alloc, rests_added(alloc, rest, less)?)
+        }
         RegisterOp::SetLess => {
             let low = bounds(alloc, ranges, left)?;
             flag_of(alloc, is_below_signed(low, bounds(alloc, ranges, right)?))
@@ -363,7 +452,7 @@ fn register_part(
             let low = bounds(alloc, ranges, left)?;
             flag_of(alloc, is_below(low, bounds(alloc, ranges, right)?))
         }
-        RegisterOp::And => masked_either(alloc, ranges, left, right),
+        RegisterOp::And => masked_either(alloc, queues, ranges, left, right),
         RegisterOp::ShiftLeft
         | RegisterOp::Xor
         | RegisterOp::ShiftRight
@@ -375,16 +464,17 @@ fn register_part(
 /// What an operation of two values leaves.
 pub fn of_registers(
     alloc: Global,
+    queues: &[OpenedQueue],
     ranges: &[Option<u64>],
     op: RegisterOp,
     left: &KnownValue,
     right: &KnownValue,
 ) -> Result<Outcome, Lack>
-    ensures { IfOk result (λ r. r ≡ of_registers ranges.now op left.now right.now) }
+    ensures { IfOk result (λ r. r ≡ of_registers (queue_in queues.now) (length queues.now) ranges.now op left.now right.now) }
 {
     match (as_number(left), as_number(right)) {
         (Some(a), Some(b)) => exactly(alloc, u64::from(computed(op, a, b))),
-        _ => register_part(alloc, ranges, op, left, right),
+        _ => register_part(alloc, queues, ranges, op, left, right),
     }
 }
 

@@ -2,7 +2,7 @@
 
 ghost use Rattle.std.specs.Prelude.{ℕ, ◌≡◌, List, Option, IfOk};
 ghost use Rattle.queue_certificates.specs.Forms as forms;
-ghost use Rattle.queue_certificates.specs.Forms.{lifted, raised, substituted};
+ghost use Rattle.queue_certificates.specs.Forms.{lifted, raised, substituted, times};
 ghost use Rattle.queue_certificates.specs.States.{any, linear, index_for, value_by, scaled, of_remainder, plain, is_within_plain, is_within};
 ghost use Rattle.known_values.specs.Queues.{queue_in};
 ghost use Rattle.known_values.specs.Values.{known_of};
@@ -103,6 +103,17 @@ pub fn settled_value(
         Known::Any => Ok(any()),
         Known::Linear(form) => Ok(linear(settled(alloc, ranges, form)?)),
         Known::IndexFor(i, form) => Ok(index_for(*i, settled(alloc, ranges, form)?)),
+    }
+}
+
+/// The value with its forms `n` times.
+pub fn times_value(alloc: Global, n: u64, value: &KnownValue) -> Result<KnownValue, Lack>
+    ensures { IfOk result (λ v. v ≡ value_by (times n) value.now) }
+{
+    match &value.known {
+        Known::Any => Ok(any()),
+        Known::Linear(form) => Ok(linear(times(alloc, n, form)?)),
+        Known::IndexFor(i, form) => Ok(index_for(*i, times(alloc, n, form)?)),
     }
 }
 

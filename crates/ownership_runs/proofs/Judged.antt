@@ -9,10 +9,11 @@ use Rattle.queue_parties.specs.Parties.{QueueCounts}
 use Rattle.slot_queue.specs.Queues.{Queue, IsQueue, IsAtRest}
 use Rattle.slot_queue.specs.Ownership.{KeepsOwnership}
 use Rattle.slot_queue.specs.Laws.{FollowsOwnership}
+use Rattle.judged_runs.specs.Histories.{summed}
 use Rattle.judged_runs.specs.Telling.{IsTold}
 use Rattle.judged_runs.specs.declared.telling.Told.{Told}
 use Rattle.judged_runs.specs.declared.telling.Told.TheVariants as told
-use Rattle.judged_runs.proofs.Histories.{runs_both, total_both}
+use Rattle.judged_runs.proofs.Histories.{runs_both, runs_one, total_both}
 use Rattle.ownership_runs.specs.declared.breaches.Breach.{Breach}
 use Rattle.ownership_runs.specs.declared.runs.Moved.{Moved}
 use Rattle.ownership_runs.specs.Breaches.{first_ownership_breach}
@@ -60,6 +61,17 @@ module _ (B M : ℕ) (o : OpeningValue) (q : Queue) (start : QueueCounts) where
 
   pub none-moved : AreMovesOf B M o q start [] (record { published = 0; taken = 0 })
   none-moved = record { histories = []; runs = tt; published = refl; taken = refl }
+
+  -- the same runs moved on by as much
+  pub moves-one : (all : List (List Event)) (a b : Moved) → AreMovesOf B M o q start all a → AreMovesOf B M o q start all b → a ≡ b
+  moves-one all a b one other =
+      let same : one.histories ≡ other.histories = runs_one B M o all one.histories other.histories one.runs other.runs in
+      let published : a.published ≡ b.published = one.published ∙ ap (λ hs. min (summed (published_in q start) hs) MOST_MOVED) same ∙ sym other.published in
+      let taken : a.taken ≡ b.taken = one.taken ∙ ap (λ hs. min (summed (taken_in q start) hs) MOST_MOVED) same ∙ sym other.taken in
+      ap (λ (n : ℕ). moved_by n a.taken) published ∙ ap (λ (n : ℕ). moved_by b.published n) taken
+    where
+      moved_by : (published taken : ℕ) → Moved
+      moved_by published taken = record { published = published; taken = taken }
 
   pub one-moved : (events : List Event) (t : History) (moved : Moved) → HasMoved B M o q start events t moved → AreMovesOf B M o q start (events ∷ []) moved
   one-moved events t moved has = record {

@@ -3,3 +3,4 @@ pub mod Decisions
 pub mod First
 pub mod Judged
 pub mod Noting
+pub mod Ends

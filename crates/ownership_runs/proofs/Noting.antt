@@ -20,7 +20,7 @@ use Rattle.ownership_runs.proofs.First.{one-kept, one-broken}
 
 module _ (q : Queue) (e : Entry) where
   -- entries that break nothing, and then one more
-  more-kept : (place : ℕ) (c : QueueCounts) (es : List Entry) → breach_from q place c es ≡ None
+  pub more-kept : (place : ℕ) (c : QueueCounts) (es : List Entry) → breach_from q place c es ≡ None
       → breach_from q place c (es ++ e ∷ []) ≡ breach_from q (place + length es) (counts_after q c es) (e ∷ [])
   more-kept place c [] none = let same : place ≡ place + 0 = omega arith in ap (λ (n : ℕ). breach_from q n c (e ∷ [])) same
   more-kept place c (d ∷ es) none = by (λ rest. more-kept (place + 1) (counts_next q c d) es rest) (keeps_entry q c d) none
@@ -36,7 +36,8 @@ module _ (q : Queue) (e : Entry) where
       by later false some = cc
 
   -- the first breach stays the first
-  more-broken : (place : ℕ) (c : QueueCounts) (es : List Entry) (b : Breach) → breach_from q place c es ≡ Some b → breach_from q place c (es ++ e ∷ []) ≡ Some b
+  pub more-broken : (place : ℕ) (c : QueueCounts) (es : List Entry) (b : Breach) → breach_from q place c es ≡ Some b
+      → breach_from q place c (es ++ e ∷ []) ≡ Some b
   more-broken place c [] b found = cc
   more-broken place c (d ∷ es) b found = by (λ rest. more-broken (place + 1) (counts_next q c d) es b rest) (keeps_entry q c d) found
     where

@@ -12,7 +12,9 @@ ghost use Rattle.slot_queue.specs.Laws.{FollowsOwnership};
 ghost use Rattle.ownership_runs.specs.declared.breaches.Breach.{Breach};
 ghost use Rattle.ownership_runs.specs.Keeping.{keeps_entry};
 ghost use Rattle.ownership_runs.specs.Breaches.{IsFirstBreach, first_ownership_breach};
-ghost use Rattle.ownership_runs.specs.Runs.{HasKeptRun, HasBrokenRun};
+ghost use Rattle.judged_runs.specs.Telling.{IsFlawTold};
+ghost use Rattle.ownership_runs.specs.Runs.{HasKeptRun, HasBrokenRun, IsOfOneHart};
+ghost use Rattle.ownership_runs.specs.Ends.{EndsInBreach};
 
 /// Of a queue with a slot. It does nothing.
 ///
@@ -34,9 +36,12 @@ pub fn laws_of_breaches()
 /// - `follows`: one that keeps a queue's protocol from where the queue is at rest is one of which `slot_queue::laws_of_ownership`
 ///   speaks.
 /// - `apart`: none both keeps it and breaks it.
+/// - `ends`: the part of a run's events that is told of a breach ends with the event that makes it.
 pub fn laws_of_judged_runs()
     ensures follows { (B M : ℕ) (o : OpeningValue) (q : Queue) (start : QueueCounts) (events : List Event) (t : History) → IsQueue q
         → IsAtRest q o [] start → HasKeptRun B M o q start events → Run B M o events t → FollowsOwnership B q start o [] t.entries }
     ensures apart { (B M : ℕ) (o : OpeningValue) (q : Queue) (start : QueueCounts) (events : List Event) (b : Breach) → 1 ≤ q.size
         → HasKeptRun B M o q start events → HasBrokenRun B M o q start events b → ⊥ }
+    ensures ends { (B M : ℕ) (o : OpeningValue) (q : Queue) (start : QueueCounts) (schedule : ℕ → List Event) (runs : ℕ) (part : List Event) (b : Breach)
+        → IsFlawTold (HasKeptRun B M o q start) (HasBrokenRun B M o q start) IsOfOneHart schedule runs part b → EndsInBreach B M o q start part b }
 {}

@@ -13,7 +13,7 @@ use Rattle.queue_certificates.proofs.Bounds.{IsBetween, value-between, value-bel
 use Rattle.queue_certificates.proofs.Values.{value-scaled, value-offset}
 
 -- a + (n - 1) * b is a multiple of n where a and b have the same remainder, and only there
-taken-away : (n a b : ℕ) → 1 ≤ n → ((a + (n - 1) * b) % n ≡ 0 → a % n ≡ b % n) × (a % n ≡ b % n → (a + (n - 1) * b) % n ≡ 0)
+pub taken-away : (n a b : ℕ) → 1 ≤ n → ((a + (n - 1) * b) % n ≡ 0 → a % n ≡ b % n) × (a % n ≡ b % n → (a + (n - 1) * b) % n ≡ 0)
 taken-away n a b some = (
   λ none. sym (add-mul-mod_self_left a n b) ∙ ap (λ y. y % n) (sym once)
       ∙ mod-sum (a + (n - 1) * b) b 0 b n (none ∙ sym (mod-eq_of_lt some)) refl

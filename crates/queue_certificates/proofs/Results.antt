@@ -2,11 +2,13 @@
 use Rattle.std.proofs.Common.{ℕ, ℤ, pos, negsuc, zero, suc, ◌+◌, ◌-◌, ◌*◌, ◌/◌, ◌%◌, ◌^◌, ◌<◌, ◌≤◌, ◌≡◌, ◌==◌, ◌&&◌}
 use Rattle.std.proofs.Common.{◌+ℤ◌, inl, inr, if◌then◌else◌, not, Bool, true, false, Option, Some, None, List, ◌∷◌}
 use Rattle.std.proofs.Common.{refl, sym, ◌∙◌, ap, subst, arith}
-use Rattle.std.specs.Prelude.{int_lt, nat_lt, nat_le, ◌-ℤ◌, bit_and, count_ones}
+use Rattle.std.specs.Prelude.{int_lt, nat_lt, nat_le, ◌-ℤ◌, bit_and, bit_xor, count_ones}
+use Rattle.std.specs.Int.Bits.{xor_add_and}
 use Rattle.std.proofs.lemmas.Int.{ints}
 use Rattle.std.proofs.lemmas.Bool.{and_parts, eqb-true, ltb-true, leb-true, lt-ltb, le-ltb, cases_lt}
-use Rattle.std.proofs.lemmas.Nat.{le-div, pow_pos, pow-add, and_mask, and_le_r, and_comm}
-use Rattle.std.proofs.Math.Nat.{mod-eq_of_lt, mod-mod_of_dvd, div-mul-le_self, pow-le-pow_right, mul-div_cancel_left}
+use Rattle.std.proofs.lemmas.Nat.{le-div, pow_pos, pow-add, and_mask, and_le_r, and_comm, mul-le, mul-mod_first}
+use Rattle.std.proofs.Math.Nat.{mod-eq_of_lt, mod-mod_of_dvd, div-mul-le_self, pow-le-pow_right, mul-div_cancel_left, mod-mod, mod-zero, zero-mod}
+use Rattle.std.proofs.Math.Nat.{mod_self, mod-add-div, add-mul, add-mul-mod_self_left, mul_comm}
 use Rattle.std.proofs.lemmas.Nat.Gcd.{dvd_of_mod-eq-zero}
 use Rattle.rv_decode.specs.declared.instruction.BranchOp.{BranchOp}
 use Rattle.rv_decode.specs.declared.instruction.BranchOp.TheVariants as branch
@@ -19,18 +21,22 @@ use Rattle.rv_decode.specs.declared.instruction.RegisterOp.TheVariants as regist
 use Rattle.rv_decode.specs.Word.{signed}
 use Rattle.hart.specs.Effects.{word, computed, with_immediate, shifted, is_taken, flag}
 use Rattle.slot_queue.specs.Queues.{Queue}
-use Rattle.queue_certificates.specs.Forms.{remainder_word, is_same, bounds_of, Form, form_value, number, first_variable, plus, times, InRanges, Bounds}
-use Rattle.queue_certificates.specs.States.{KnownValue, any, linear, index_for, Has}
+use Rattle.queue_certificates.specs.Forms.{remainder_word, is_same, bounds_of, Form, form_value, number, first_variable, plus, times, lifted}
+use Rattle.queue_certificates.specs.Forms.{InRanges, Bounds, most}
+use Rattle.queue_certificates.specs.States.{KnownValue, any, linear, index_for, Has, scaled}
 use Rattle.queue_certificates.specs.Results.{Result, just, exactly, any_up_to, or_up_to, as_number, or_else, both, is_below}
-use Rattle.queue_certificates.specs.Results.{is_below_signed, set_less, negated, flag_of, shifted_left}
-use Rattle.queue_certificates.specs.Results.{shifted_right, sum_of, difference_of, number_and, taken_known}
-use Rattle.queue_certificates.specs.Results.{without, high_bits, shifted_back, low_bits, masked, masked_by, bounds, is_equal, immediate_part}
+use Rattle.queue_certificates.specs.Results.{is_below_signed, set_less, negated, flag_of}
+use Rattle.queue_certificates.specs.Results.{shifted_right, sum_of, number_and, taken_known}
+use Rattle.queue_certificates.specs.Results.{Rest, of_rest, negative, rests_added, whole, rest_of, turned, result_by, shifted_left}
+use Rattle.queue_certificates.specs.Results.{is_count, counting, rest_counted, if_unbounded, remaining}
+use Rattle.queue_certificates.specs.Results.{without, shifted_back, masked, masked_by, bounds, is_equal, immediate_part}
 use Rattle.queue_certificates.specs.Results.{of_immediate, shift_part, of_shift, register_part, of_registers}
 use Rattle.queue_certificates.specs.Results.{branch_part, is_branch_taken}
-use Rattle.queue_certificates.proofs.Forms.{same-exactly, value-times, value-number, value-first, plus-value, times-value}
+use Rattle.queue_certificates.proofs.Forms.{same-exactly, value-plus, value-times, value-number, value-first, value-lifted}
+use Rattle.queue_certificates.proofs.Forms.{mod-sum, mod-product, plus-value, times-value, round-up}
 use Rattle.queue_certificates.proofs.Bounds.{value-word}
-use Rattle.queue_certificates.proofs.Values.{scaled-mod, has-lifted, known-is, has-bounds}
-use Rattle.queue_certificates.proofs.Equals.{equal-is}
+use Rattle.queue_certificates.proofs.Values.{scaled-mod, value-scaled, value-offset, has-lifted, known-is, has-bounds}
+use Rattle.queue_certificates.proofs.Equals.{taken-away, equal-is}
 
 pub word-of-sum : (x : ℕ) (n : ℤ) → word (pos x +ℤ n) ≡ (x + word n) % 2 ^ 32
 word-of-sum x (pos k) = omega arith
@@ -61,13 +67,91 @@ divisor-below n divides = elim (cases_lt (2 ^ 32) n) [
   | inr under ↦ under
 ]
 
+-- remainders by m decide those by what divides m
+coarser : (m n a b : ℕ) → m % n ≡ 0 → a % m ≡ b % m → a % n ≡ b % n
+coarser m n a b divides same = sym (mod-mod_of_dvd n a (dvd_of_mod-eq-zero n divides)) ∙ ap (λ y. y % n) same
+    ∙ mod-mod_of_dvd n b (dvd_of_mod-eq-zero n divides)
+
+some-divisor : (n : ℕ) → 2 ^ 32 % n ≡ 0 → 1 ≤ n
+some-divisor zero divides = absurd (let e : 2 ^ 32 % 0 ≡ 2 ^ 32 = mod-zero (2 ^ 32) in omega (arith, e, divides))
+some-divisor (suc n) divides = omega arith
+
+turned-bits : (x : ℕ) → x < 2 ^ 32 → bit_xor x (2 ^ 32 - 1) ≡ 2 ^ 32 - 1 - x
+turned-bits x small =
+    let low : bit_and x (2 ^ 32 - 1) ≡ x = and_mask x 32 ∙ mod-eq_of_lt small in
+    let both : bit_xor x (2 ^ 32 - 1) + bit_and x (2 ^ 32 - 1) * 2 ≡ x + (2 ^ 32 - 1) = xor_add_and x (2 ^ 32 - 1) in omega (arith, low, both, small)
+
 module _ (queues : ℕ → Queue) (xs : List ℕ) where
-  -- a difference of forms, as a word
-  pub minus-has : (f g : Form) (x y : ℕ) → x ≡ form_value f xs % 2 ^ 32 → y ≡ form_value g xs % 2 ^ 32
-      → (x + y * (2 ^ 32 - 1)) % 2 ^ 32 ≡ form_value (plus f (times (2 ^ 32 - 1) g)) xs % 2 ^ 32
-  minus-has f g x y one two =
-      let low : (x + y * (2 ^ 32 - 1)) % 2 ^ 32 ≡ (x + y * (2 ^ 32 - 1) % 2 ^ 32) % 2 ^ 32 = omega arith in
-      low ∙ plus-value f (times (2 ^ 32 - 1) g) xs x (y * (2 ^ 32 - 1) % 2 ^ 32) (2 ^ 32) one (times-value (2 ^ 32 - 1) g xs y (2 ^ 32) two)
+  -- x has this remainder
+  abbrev IsRest : Rest → ℕ → Type 0
+  IsRest r x = (2 ^ 32 % r.by ≡ 0) × (x % r.by ≡ form_value r.form xs % r.by)
+
+  abbrev HasRest : Option Rest → ℕ → Type 0
+  HasRest o x = (r : Rest) → o ≡ Some r → IsRest r x
+
+  whole-rest : (f : Form) (x : ℕ) → x ≡ form_value f xs % 2 ^ 32 → HasRest (whole f) x
+  whole-rest f x has r is = subst (λ s. IsRest s x) (let e : record { by = 2 ^ 32; form = f } ≡ r = cc in e)
+      (omega arith, ap (λ y. y % 2 ^ 32) has ∙ mod-mod (form_value f xs) (2 ^ 32))
+
+  rest-has : (v : KnownValue) (x : ℕ) → Has queues xs v x → HasRest (rest_of queues v) x
+  rest-has any x has r is = absurd (cc)
+  rest-has (linear f) x has r is = whole-rest f x has r is
+  rest-has (index_for i f) x has r is = by (2 ^ 32 % ((queues i).scale * (queues i).modulus) == 0) refl is
+    where
+      n : ℕ
+      n = (queues i).scale * (queues i).modulus
+
+      g : Form
+      g = scaled (queues i) (plus f (number (queues i).offset))
+
+      at : 2 ^ 32 % n ≡ 0 → x % n ≡ form_value g xs % n
+      at divides =
+          let count = form_value f xs + (queues i).offset in
+          let part : (queues i).scale * (count % (queues i).modulus) ≡ (queues i).scale * count % n =
+          scaled-mod n (queues i).scale (queues i).modulus count (some-divisor n divides) refl in
+          ap (λ y. y % n) has
+          ∙ mod-sum (queues i).base ((queues i).scale * (count % (queues i).modulus)) (queues i).base ((queues i).scale * count) n refl
+          (ap (λ y. y % n) part ∙ mod-mod ((queues i).scale * count) n)
+          ∙ ap (λ y. y % n) (sym (value-scaled (queues i) (plus f (number (queues i).offset)) xs
+          ∙ ap (λ y. (queues i).base + (queues i).scale * y) (value-offset (queues i) f xs)))
+
+      by : (t : Bool) → (2 ^ 32 % n == 0) ≡ t → (if t then Some (record { by = n; form = g }) else None) ≡ Some r → IsRest r x
+      by false other is = absurd (cc)
+      by true ok is =
+          let divides : 2 ^ 32 % n ≡ 0 = eqb-true (2 ^ 32 % n) 0 ok in
+          subst (λ s. IsRest s x) (let e : record { by = n; form = g } ≡ r = cc in e) (divides, at divides)
+
+  negative-has : (o : Option Rest) (x : ℕ) → HasRest o x → HasRest (negative o) (x * (2 ^ 32 - 1))
+  negative-has None x has r is = absurd (cc)
+  negative-has (Some a) x has r is =
+      let rest = has a refl in
+      subst (λ s. IsRest s (x * (2 ^ 32 - 1))) (let e : record { by = a.by; form = times (2 ^ 32 - 1) a.form } ≡ r = cc in e) (
+        rest.0,
+        mod-product x (form_value a.form xs) (2 ^ 32 - 1) a.by rest.1 ∙ ap (λ y. y % a.by)
+            (let turn : form_value a.form xs * (2 ^ 32 - 1) ≡ (2 ^ 32 - 1) * form_value a.form xs = mul_comm (form_value a.form xs) (2 ^ 32 - 1) in
+            turn ∙ sym (value-times (2 ^ 32 - 1) a.form xs)),
+      )
+
+  added-has : (o p : Option Rest) (x y : ℕ) → HasRest o x → HasRest p y → HasRest (rests_added o p) ((x + y) % 2 ^ 32)
+  added-has None p x y one two r is = absurd (cc)
+  added-has (Some a) None x y one two r is = absurd (cc)
+  added-has (Some a) (Some b) x y one two r is = by (a.by % b.by == 0) (b.by % a.by == 0) refl refl is
+    where
+      at : (n : ℕ) → 2 ^ 32 % n ≡ 0 → a.by % n ≡ 0 → b.by % n ≡ 0 → record { by = n; form = plus a.form b.form } ≡ r → IsRest r ((x + y) % 2 ^ 32)
+      at n divides left right same = subst (λ s. IsRest s ((x + y) % 2 ^ 32)) same (
+        divides,
+        mod-mod_of_dvd n (x + y) (dvd_of_mod-eq-zero n divides)
+            ∙ mod-sum x y (form_value a.form xs) (form_value b.form xs) n
+            (coarser a.by n x (form_value a.form xs) left (one a refl).1) (coarser b.by n y (form_value b.form xs) right (two b refl).1)
+            ∙ ap (λ z. z % n) (sym (value-plus a.form b.form xs)),
+      )
+
+      by : (s t : Bool) → (a.by % b.by == 0) ≡ s → (b.by % a.by == 0) ≡ t
+          → (if s then Some (record { by = b.by; form = plus a.form b.form }) else
+          (if t then Some (record { by = a.by; form = plus a.form b.form }) else None)) ≡ Some r → IsRest r ((x + y) % 2 ^ 32)
+      by true t left right is = at b.by (two b refl).0 (eqb-true (a.by % b.by) 0 left) (mod_self b.by) (cc)
+      by false true left right is = at a.by (one a refl).0 (mod_self a.by) (eqb-true (b.by % a.by) 0 right) (cc)
+      by false false left right is = absurd (cc)
 
   -- x is what a result says, where the variable that comes with it is some number
   abbrev pub Gives : Result → ℕ → Type 0
@@ -117,17 +201,118 @@ module _ (queues : ℕ → Queue) (xs : List ℕ) where
   sum-has any w x y one two = tt
   sum-has (index_for i f) w x y one two = tt
 
-  difference-has : (v w : KnownValue) (x y : ℕ) → Has queues xs v x → Has queues xs w y → Has queues xs (difference_of v w) ((x + y * (2 ^ 32 - 1)) % 2 ^ 32)
-  difference-has (linear f) (linear g) x y one two = minus-has f g x y one two
-  difference-has (linear f) any x y one two = tt
-  difference-has (linear f) (index_for i g) x y one two = tt
-  difference-has any w x y one two = tt
-  difference-has (index_for i f) w x y one two = tt
+  rest-gives : (o : Option Rest) (x : ℕ) → x < 2 ^ 32 → HasRest o x → Gives (of_rest o) x
+  rest-gives None x small has = just-gives any x tt
+  rest-gives (Some r) x small has = (d / r.by, below, sym (ap (λ y. y % 2 ^ 32) value ∙ level))
+    where
+      rest : IsRest r x
+      rest = has r refl
 
-  shifted-left : (v : KnownValue) (x amount : ℕ) → Has queues xs v x → Gives (shifted_left v amount) ((x * 2 ^ amount) % 2 ^ 32)
-  shifted-left any x amount has = just-gives any ((x * 2 ^ amount) % 2 ^ 32) tt
-  shifted-left (index_for i f) x amount has = just-gives any ((x * 2 ^ amount) % 2 ^ 32) tt
+      f : ℕ
+      f = form_value r.form xs
+
+      d : ℕ
+      d = (x + (2 ^ 32 - f % 2 ^ 32)) % 2 ^ 32
+
+      level : (f + d) % 2 ^ 32 ≡ x
+      level = omega (arith, small)
+
+      some : 1 ≤ r.by
+      some = some-divisor r.by rest.0
+
+      none : d % r.by ≡ 0
+      none = sym (add-mul-mod_self_left d r.by f)
+          ∙ ap (λ y. y % r.by) (let e : (1 + (r.by - 1)) * f ≡ 1 * f + (r.by - 1) * f = add-mul 1 (r.by - 1) f in
+          let all : r.by * f ≡ (1 + (r.by - 1)) * f = ap (λ y. y * f) (let one : r.by ≡ 1 + (r.by - 1) = omega (arith, some) in one) in
+          let turned : d + r.by * f ≡ f + d + (r.by - 1) * f = omega (arith, e, all) in turned)
+          ∙ (taken-away r.by (f + d) f some).1 (coarser (2 ^ 32) r.by (f + d) x rest.0 (level ∙ sym (mod-eq_of_lt small)) ∙ rest.1)
+
+      times-by : r.by * (d / r.by) ≡ d
+      times-by = let parts : d % r.by + r.by * (d / r.by) ≡ d = mod-add-div d r.by in omega (arith, parts, none)
+
+      below : d / r.by ≤ 2 ^ 32 / r.by - 1
+      below = elim (cases_lt (d / r.by) (2 ^ 32 / r.by)) [
+        | inl less ↦ omega (arith, less)
+        | inr more ↦ absurd (
+            let parts : 2 ^ 32 % r.by + r.by * (2 ^ 32 / r.by) ≡ 2 ^ 32 = mod-add-div (2 ^ 32) r.by in
+            let up : r.by * (2 ^ 32 / r.by) ≤ r.by * (d / r.by) = mul-le r.by (2 ^ 32 / r.by) r.by (d / r.by) (omega arith) more in
+            let under : d < 2 ^ 32 = omega arith in
+            let none : 2 ^ 32 % r.by ≡ 0 = rest.0 in
+            omega (arith, parts, up, under, times-by, none))
+      ]
+
+      value : form_value (plus (lifted r.form) (times r.by first_variable)) (d / r.by ∷ xs) ≡ f + d
+      value = value-plus (lifted r.form) (times r.by first_variable) (d / r.by ∷ xs)
+          ∙ ap (λ y. y + form_value (times r.by first_variable) (d / r.by ∷ xs)) (value-lifted r.form (d / r.by) xs)
+          ∙ ap (λ y. f + y) (value-times r.by first_variable (d / r.by ∷ xs) ∙ ap (λ y. r.by * y) (value-first (d / r.by) xs) ∙ times-by)
+
+  sum-gives : (o p : Option Rest) (x y : ℕ) → HasRest o x → HasRest p y → Gives (of_rest (rests_added o p)) ((x + y) % 2 ^ 32)
+  sum-gives o p x y one two = rest-gives (rests_added o p) ((x + y) % 2 ^ 32) (omega arith) (added-has o p x y one two)
+
+  turned-gives : (v : KnownValue) (x mask : ℕ) → Has queues xs v x → Gives (turned v mask) (bit_xor x mask)
+  turned-gives any x mask has = just-gives any (bit_xor x mask) tt
+  turned-gives (index_for i f) x mask has = just-gives any (bit_xor x mask) tt
+  turned-gives (linear f) x mask has = by (mask == 2 ^ 32 - 1) refl
+    where
+      g : Form
+      g = plus (number (2 ^ 32 - 1)) (times (2 ^ 32 - 1) f)
+
+      by : (t : Bool) → (mask == 2 ^ 32 - 1) ≡ t → Gives (just (if t then linear g else any)) (bit_xor x mask)
+      by false other = just-gives any (bit_xor x mask) tt
+      by true is = just-gives (linear g) (bit_xor x mask) (
+          let small : x < 2 ^ 32 = omega (arith, has) in
+          let value : form_value g xs ≡ 2 ^ 32 - 1 + (2 ^ 32 - 1) * form_value f xs = value-plus (number (2 ^ 32 - 1)) (times (2 ^ 32 - 1) f) xs
+          ∙ ap (λ y. y + form_value (times (2 ^ 32 - 1) f) xs) (value-number (2 ^ 32 - 1) xs)
+          ∙ ap (λ y. 2 ^ 32 - 1 + y) (value-times (2 ^ 32 - 1) f xs) in
+          let bits : bit_xor x mask ≡ 2 ^ 32 - 1 - x = ap (bit_xor x) (eqb-true mask (2 ^ 32 - 1) is) ∙ turned-bits x small in
+          omega (arith, bits, has, value))
+
+  times-gives : (k : ℕ) (o : Option Rest) (x : ℕ) → HasRest o x → Gives (result_by (times k) (of_rest o)) ((x * k) % 2 ^ 32)
+  times-gives k None x has = (0, omega arith, tt)
+  times-gives k (Some r) x has = (
+    gives.0,
+    gives.1,
+    sym (mul-mod_first x k (2 ^ 32)) ∙ times-value k (plus (lifted r.form) (times r.by first_variable)) (gives.0 ∷ xs) (x % 2 ^ 32) (2 ^ 32) gives.2,
+  )
+    where
+      gives : Gives (of_rest (Some r)) (x % 2 ^ 32)
+      gives = rest-gives (Some r) (x % 2 ^ 32) (omega arith) (λ s is. (let rest = has s is in
+          (rest.0, mod-mod_of_dvd s.by x (dvd_of_mod-eq-zero s.by rest.0) ∙ rest.1)))
+
+  shifted-left : (v : KnownValue) (x amount : ℕ) → Has queues xs v x → Gives (shifted_left queues v amount) ((x * 2 ^ amount) % 2 ^ 32)
+  shifted-left any x amount has = times-gives (2 ^ amount) None x (λ r is. absurd (cc))
+  shifted-left (index_for i f) x amount has = times-gives (2 ^ amount) (rest_of queues (index_for i f)) x (rest-has (index_for i f) x has)
   shifted-left (linear f) x amount has = just-gives (linear (times (2 ^ amount) f)) ((x * 2 ^ amount) % 2 ^ 32) (times-value (2 ^ amount) f xs x (2 ^ 32) has)
+
+  counting-is : (N n i : ℕ) → counting queues N n ≡ Some i → is_count (queues i) n ≡ true
+  counting-is zero n i is = absurd (cc)
+  counting-is (suc k) n i is = by (counting-is k n i) (is_count (queues k) n) refl is
+    where
+      by : (counting queues k n ≡ Some i → is_count (queues i) n ≡ true) → (t : Bool) → is_count (queues k) n ≡ t
+          → (if t then Some k else counting queues k n) ≡ Some i → is_count (queues i) n ≡ true
+      by rest true count is = ap (λ j. is_count (queues j) n) (sym (let e : k ≡ i = cc in e)) ∙ count
+      by rest false other is = rest is
+
+  rest_rest-counted-gives : (N n : ℕ) (f : Form) (x : ℕ) (other : Result) → 1 ≤ n → x ≡ form_value f xs % n → Gives other x
+      → (o : Option ℕ) → counting queues N n ≡ o → Gives (rest_counted queues n f o other) x
+  rest_rest-counted-gives N n f x other some is gives None none = gives
+  rest_rest-counted-gives N n f x other some is gives (Some i) at =
+      let p2 = and_parts (((queues i).base == 0) && ((queues i).scale == 1)) ((queues i).modulus == n) (counting-is N n i at) in
+      let p1 = and_parts ((queues i).base == 0) ((queues i).scale == 1) p2.0 in
+      let base : (queues i).base ≡ 0 = eqb-true (queues i).base 0 p1.0 in
+      let scale : (queues i).scale ≡ 1 = eqb-true (queues i).scale 1 p1.1 in
+      let modulus : (queues i).modulus ≡ n = eqb-true (queues i).modulus n p2.1 in
+      let g = plus f (number (n - (queues i).offset % n)) in
+      let value : form_value g xs ≡ form_value f xs + (n - (queues i).offset % n) =
+      value-plus f (number (n - (queues i).offset % n)) xs
+      ∙ ap (λ y. form_value f xs + y) (value-number (n - (queues i).offset % n) xs) in
+      let turned : form_value g xs + (queues i).offset ≡ form_value f xs + (queues i).offset + (n - (queues i).offset % n) = omega (arith, value) in
+      let count : (form_value g xs + (queues i).offset) % (queues i).modulus ≡ x =
+      ap (λ m. (form_value g xs + (queues i).offset) % m) modulus ∙ ap (λ y. y % n) turned
+      ∙ round-up n (form_value f xs) (queues i).offset some ∙ sym is in
+      just-gives (index_for i g) x (sym (ap (λ b. b + (queues i).scale * ((form_value g xs + (queues i).offset) % (queues i).modulus)) base
+      ∙ ap (λ s. 0 + s * ((form_value g xs + (queues i).offset) % (queues i).modulus)) scale
+      ∙ ap (λ y. 0 + 1 * y) count ∙ (let e : 0 + 1 * x ≡ x = omega arith in e)))
 
   shifted-right : (b : Option Bounds) (x amount : ℕ) → ((c : Bounds) → b ≡ Some c → x ≤ c.high) → Gives (shifted_right b amount) (x / 2 ^ amount)
   shifted-right None x amount below = just-gives any (x / 2 ^ amount) tt
@@ -210,110 +395,132 @@ module _ (queues : ℕ → Queue) (xs : List ℕ) where
     pub word-has : (n : ℤ) → Has queues xs (linear (number (word n))) (word n)
     word-has n = sym (ap (λ z. z % 2 ^ 32) (value-number (word n) xs) ∙ mod-eq_of_lt (word-small n))
 
-    masked-gives : (v : KnownValue) (x mask : ℕ) → Has queues xs v x → Gives (masked rs v mask) (bit_and x mask)
-    masked-gives any x mask has = up-to-gives mask (bit_and x mask) (and_le_r x mask)
-    masked-gives (index_for i f) x mask has = up-to-gives mask (bit_and x mask) (and_le_r x mask)
-    masked-gives (linear f) x mask has = by ((mask + 1 == 2 ^ count_ones mask) && (2 ^ 32 % (mask + 1) == 0)) refl
+    remaining-gives : (N n : ℕ) (f : Form) (x : ℕ) (other : Result) → 1 ≤ n → n ≤ 2 ^ 32 → x ≡ form_value f xs % n → Gives other x
+        → (o : Option Form) → remainder_word rs f n ≡ o → Gives (remaining queues N rs n f o other) x
+    remaining-gives N n f x other some small is gives (Some g) word = just-gives (linear g) x (is ∙ value-word rs f n g xs ranges small word)
+    remaining-gives N n f x other some small is gives None word = by (most rs f)
       where
-        at : (mask + 1 == 2 ^ count_ones mask) ≡ true → (2 ^ 32 % (mask + 1) == 0) ≡ true → (o : Option Form) → remainder_word rs f (mask + 1) ≡ o
-            → Gives (low_bits rs o mask) (bit_and x mask)
-        at pow dvd None is = up-to-gives mask (bit_and x mask) (and_le_r x mask)
-        at pow dvd (Some g) is =
+        by : (m : Option ℕ) → Gives (if_unbounded m (rest_counted queues n f (counting queues N n) other) other) x
+        by None = rest_rest-counted-gives N n f x other some is gives (counting queues N n) refl
+        by (Some m) = gives
+
+    masked-gives : (N : ℕ) (o : Option Rest) (x mask : ℕ) → HasRest o x → Gives (masked queues N rs o mask) (bit_and x mask)
+    masked-gives N None x mask has = up-to-gives mask (bit_and x mask) (and_le_r x mask)
+    masked-gives N (Some r) x mask has = by ((mask + 1 == 2 ^ count_ones mask) && (r.by % (mask + 1) == 0)) refl
+      where
+        f : Form
+        f = r.form
+
+        at : (mask + 1 == 2 ^ count_ones mask) ≡ true → (r.by % (mask + 1) == 0) ≡ true
+            → Gives (remaining queues N rs (mask + 1) f (remainder_word rs f (mask + 1)) (any_up_to mask)) (bit_and x mask)
+        at pow dvd =
             let power : mask + 1 ≡ 2 ^ count_ones mask = eqb-true (mask + 1) (2 ^ count_ones mask) pow in
             let ones : mask ≡ 2 ^ count_ones mask - 1 = omega (arith, power) in
-            let divides : 2 ^ 32 % (mask + 1) ≡ 0 = eqb-true (2 ^ 32 % (mask + 1)) 0 dvd in
-            just-gives (linear g) (bit_and x mask) (ap (bit_and x) ones ∙ and_mask x (count_ones mask) ∙ ap (λ m. x % m) (sym power)
-            ∙ ap (λ z. z % (mask + 1)) has ∙ mod-mod_of_dvd (mask + 1) (form_value f xs) (dvd_of_mod-eq-zero (mask + 1) divides)
-            ∙ value-word rs f (mask + 1) g xs ranges (divisor-below (mask + 1) divides) is)
+            let fine : r.by % (mask + 1) ≡ 0 = eqb-true (r.by % (mask + 1)) 0 dvd in
+            let divides : 2 ^ 32 % (mask + 1) ≡ 0 =
+            coarser r.by (mask + 1) (2 ^ 32) 0 fine ((has r refl).0 ∙ sym (zero-mod r.by)) ∙ zero-mod (mask + 1) in
+            remaining-gives N (mask + 1) f (bit_and x mask) (any_up_to mask) (omega arith) (divisor-below (mask + 1) divides)
+            (ap (bit_and x) ones ∙ and_mask x (count_ones mask) ∙ ap (λ m. x % m) (sym power)
+            ∙ coarser r.by (mask + 1) x (form_value f xs) fine (has r refl).1)
+            (up-to-gives mask (bit_and x mask) (and_le_r x mask)) (remainder_word rs f (mask + 1)) refl
 
-        by : (t : Bool) → ((mask + 1 == 2 ^ count_ones mask) && (2 ^ 32 % (mask + 1) == 0)) ≡ t
-            → Gives (if t then low_bits rs (remainder_word rs f (mask + 1)) mask else any_up_to mask) (bit_and x mask)
+        by : (t : Bool) → ((mask + 1 == 2 ^ count_ones mask) && (r.by % (mask + 1) == 0)) ≡ t
+            → Gives (if t then remaining queues N rs (mask + 1) f (remainder_word rs f (mask + 1)) (any_up_to mask) else any_up_to mask) (bit_and x mask)
         by false other = up-to-gives mask (bit_and x mask) (and_le_r x mask)
-        by true ok = let parts = and_parts (mask + 1 == 2 ^ count_ones mask) (2 ^ 32 % (mask + 1) == 0) ok in
-            at parts.0 parts.1 (remainder_word rs f (mask + 1)) refl
+        by true ok = let parts = and_parts (mask + 1 == 2 ^ count_ones mask) (r.by % (mask + 1) == 0) ok in
+            at parts.0 parts.1
 
-    masked-by : (v : KnownValue) (x : ℕ) (b : Option ℕ) (y : ℕ) (r : Result) → Has queues xs v x → ((m : ℕ) → b ≡ Some m → y ≡ m)
-        → Gives r (bit_and x y) → Gives (masked_by rs v b r) (bit_and x y)
-    masked-by v x None y r has is gives = gives
-    masked-by v x (Some m) y r has is gives = subst (λ z. Gives (masked rs v m) (bit_and x z)) (sym (is m refl)) (masked-gives v x m has)
+    masked-by : (N : ℕ) (o : Option Rest) (x : ℕ) (b : Option ℕ) (y : ℕ) (r : Result) → HasRest o x → ((m : ℕ) → b ≡ Some m → y ≡ m)
+        → Gives r (bit_and x y) → Gives (masked_by queues N rs o b r) (bit_and x y)
+    masked-by N o x None y r has is gives = gives
+    masked-by N o x (Some m) y r has is gives = subst (λ z. Gives (masked queues N rs o m) (bit_and x z)) (sym (is m refl)) (masked-gives N o x m has)
 
-    shifted-back : (v : KnownValue) (x amount : ℕ) → Has queues xs v x → Gives (shifted_back rs v amount) (x / 2 ^ amount)
-    shifted-back any x amount has = just-gives any (x / 2 ^ amount) tt
-    shifted-back (index_for i f) x amount has = just-gives any (x / 2 ^ amount) tt
-    shifted-back (linear f) x amount has = by (nat_le amount 32 && is_same 0 f (times (2 ^ amount) (without rs (2 ^ amount) f))) refl
+    shifted-back : (N : ℕ) (v : KnownValue) (x amount : ℕ) → Has queues xs v x → Gives (shifted_back queues N rs v amount) (x / 2 ^ amount)
+    shifted-back N any x amount has = just-gives any (x / 2 ^ amount) tt
+    shifted-back N (index_for i f) x amount has = just-gives any (x / 2 ^ amount) tt
+    shifted-back N (linear f) x amount has = by (nat_le amount 32 && is_same 0 f (times (2 ^ amount) (without rs (2 ^ amount) f))) refl
       where
         bounded : Gives (shifted_right (bounds_of (2 ^ 32) rs f) amount) (x / 2 ^ amount)
         bounded = shifted-right (bounds_of (2 ^ 32) rs f) x amount (λ c is. (in-bounds (linear f) x has c is).1)
 
         at : (g : Form) → amount ≤ 32 → form_value f xs ≡ 2 ^ amount * form_value g xs
-            → (o : Option Form) → remainder_word rs g (2 ^ (32 - amount)) ≡ o
-            → Gives (high_bits rs o (bounds_of (2 ^ 32) rs f) amount) (x / 2 ^ amount)
-        at g low multiple None is = bounded
-        at g low multiple (Some h) is =
+            → Gives (remaining queues N rs (2 ^ (32 - amount)) g (remainder_word rs g (2 ^ (32 - amount)))
+            (shifted_right (bounds_of (2 ^ 32) rs f) amount)) (x / 2 ^ amount)
+        at g low multiple =
             let parts : 2 ^ amount * 2 ^ (32 - amount) ≡ 2 ^ 32 =
             sym (pow-add 2 amount (32 - amount)) ∙ ap (λ n. 2 ^ n) (let e : amount + (32 - amount) ≡ 32 = omega (arith, low) in e) in
             let less : 2 ^ (32 - amount) ≤ 2 ^ 32 = pow-le-pow_right {n = 2} (omega arith) {i = 32 - amount} {j = 32} (omega arith) in
             let word : x ≡ 2 ^ amount * (form_value g xs % 2 ^ (32 - amount)) =
             has ∙ ap (λ n. n % 2 ^ 32) multiple ∙ sym (scaled-mod (2 ^ 32) (2 ^ amount) (2 ^ (32 - amount)) (form_value g xs) (omega arith) parts) in
-            just-gives (linear h) (x / 2 ^ amount) (ap (λ n. n / 2 ^ amount) word
-            ∙ mul-div_cancel_left (form_value g xs % 2 ^ (32 - amount)) (pow_pos amount) ∙ value-word rs g (2 ^ (32 - amount)) h xs ranges less is)
+            remaining-gives N (2 ^ (32 - amount)) g (x / 2 ^ amount) (shifted_right (bounds_of (2 ^ 32) rs f) amount) (pow_pos (32 - amount)) less
+            (ap (λ n. n / 2 ^ amount) word ∙ mul-div_cancel_left (form_value g xs % 2 ^ (32 - amount)) (pow_pos amount))
+            bounded (remainder_word rs g (2 ^ (32 - amount))) refl
 
         by : (t : Bool) → (nat_le amount 32 && is_same 0 f (times (2 ^ amount) (without rs (2 ^ amount) f))) ≡ t
-            → Gives (if t then high_bits rs (remainder_word rs (without rs (2 ^ amount) f) (2 ^ (32 - amount))) (bounds_of (2 ^ 32) rs f) amount
+            → Gives (if t then remaining queues N rs (2 ^ (32 - amount)) (without rs (2 ^ amount) f)
+            (remainder_word rs (without rs (2 ^ amount) f) (2 ^ (32 - amount))) (shifted_right (bounds_of (2 ^ 32) rs f) amount)
             else shifted_right (bounds_of (2 ^ 32) rs f) amount) (x / 2 ^ amount)
         by false other = bounded
         by true ok =
             let p = and_parts (nat_le amount 32) (is_same 0 f (times (2 ^ amount) (without rs (2 ^ amount) f))) ok in
             at (without rs (2 ^ amount) f) (leb-true amount 32 p.0)
             (same-exactly f (times (2 ^ amount) (without rs (2 ^ amount) f)) xs p.1 ∙ value-times (2 ^ amount) (without rs (2 ^ amount) f) xs)
-            (remainder_word rs (without rs (2 ^ amount) f) (2 ^ (32 - amount))) refl
 
-    immediate-part : (op : ImmediateOp) (v : KnownValue) (x : ℕ) (n : ℤ) → Has queues xs v x → Gives (immediate_part rs op v n) (with_immediate op x n)
-    immediate-part immediate.Add v x n has = subst (Gives (just (sum_of v (linear (number (word n)))))) (sym (word-of-sum x n))
-        (just-gives (sum_of v (linear (number (word n)))) ((x + word n) % 2 ^ 32) (sum-has v (linear (number (word n))) x (word n) has (word-has n)))
-    immediate-part immediate.And v x n has = masked-gives v x (word n) has
-    immediate-part immediate.SetLess v x n has = set-less (bounds rs v) x n (in-bounds v x has)
-    immediate-part immediate.SetLessUnsigned v x n has = flag-gives (is_below (bounds rs v) (bounds rs (linear (number (word n))))) (nat_lt x (word n))
+    immediate-part : (N : ℕ) (op : ImmediateOp) (v : KnownValue) (x : ℕ) (n : ℤ) → Has queues xs v x
+        → Gives (immediate_part queues N rs op v n) (with_immediate op x n)
+    immediate-part N immediate.Add v x n has = subst (Gives (of_rest (rests_added (rest_of queues v) (whole (number (word n)))))) (sym (word-of-sum x n))
+        (sum-gives (rest_of queues v) (whole (number (word n))) x (word n) (rest-has v x has) (whole-rest (number (word n)) (word n) (word-has n)))
+    immediate-part N immediate.And v x n has = masked-gives N (rest_of queues v) x (word n) (rest-has v x has)
+    immediate-part N immediate.SetLess v x n has = set-less (bounds rs v) x n (in-bounds v x has)
+    immediate-part N immediate.SetLessUnsigned v x n has = flag-gives (is_below (bounds rs v) (bounds rs (linear (number (word n))))) (nat_lt x (word n))
         (below-is (bounds rs v) (bounds rs (linear (number (word n)))) x (word n) (in-bounds v x has)
         (in-bounds (linear (number (word n))) (word n) (word-has n)))
-    immediate-part immediate.Xor v x n has = just-gives any (with_immediate immediate.Xor x n) tt
-    immediate-part immediate.Or v x n has = just-gives any (with_immediate immediate.Or x n) tt
+    immediate-part N immediate.Xor v x n has = turned-gives v x (word n) has
+    immediate-part N immediate.Or v x n has = just-gives any (with_immediate immediate.Or x n) tt
 
-    pub immediate-gives : (op : ImmediateOp) (v : KnownValue) (x : ℕ) (n : ℤ) → Has queues xs v x → Gives (of_immediate rs op v n) (with_immediate op x n)
-    immediate-gives op v x n has = else-gives (number_and (λ a. with_immediate op a n) (as_number v)) (immediate_part rs op v n) (with_immediate op x n)
-        (number-is (λ a. with_immediate op a n) v x has) (immediate-part op v x n has)
+    pub immediate-gives : (N : ℕ) (op : ImmediateOp) (v : KnownValue) (x : ℕ) (n : ℤ) → Has queues xs v x
+        → Gives (of_immediate queues N rs op v n) (with_immediate op x n)
+    immediate-gives N op v x n has = else-gives (number_and (λ a. with_immediate op a n) (as_number v))
+        (immediate_part queues N rs op v n) (with_immediate op x n)
+        (number-is (λ a. with_immediate op a n) v x has) (immediate-part N op v x n has)
 
-    shift-part : (op : ShiftOp) (v : KnownValue) (x amount : ℕ) → Has queues xs v x → Gives (shift_part rs op v amount) (shifted op x amount)
-    shift-part shift.Left v x amount has = shifted-left v x amount has
-    shift-part shift.Right v x amount has = shifted-back v x amount has
-    shift-part shift.RightArithmetic v x amount has = just-gives any (shifted shift.RightArithmetic x amount) tt
+    shift-part : (N : ℕ) (op : ShiftOp) (v : KnownValue) (x amount : ℕ) → Has queues xs v x → Gives (shift_part queues N rs op v amount) (shifted op x amount)
+    shift-part N shift.Left v x amount has = shifted-left v x amount has
+    shift-part N shift.Right v x amount has = shifted-back N v x amount has
+    shift-part N shift.RightArithmetic v x amount has = just-gives any (shifted shift.RightArithmetic x amount) tt
 
-    pub shift-gives : (op : ShiftOp) (v : KnownValue) (x amount : ℕ) → Has queues xs v x → Gives (of_shift rs op v amount) (shifted op x amount)
-    shift-gives op v x amount has = else-gives (number_and (λ a. shifted op a amount) (as_number v)) (shift_part rs op v amount) (shifted op x amount)
-        (number-is (λ a. shifted op a amount) v x has) (shift-part op v x amount has)
+    pub shift-gives : (N : ℕ) (op : ShiftOp) (v : KnownValue) (x amount : ℕ) → Has queues xs v x
+        → Gives (of_shift queues N rs op v amount) (shifted op x amount)
+    shift-gives N op v x amount has = else-gives (number_and (λ a. shifted op a amount) (as_number v))
+        (shift_part queues N rs op v amount) (shifted op x amount)
+        (number-is (λ a. shifted op a amount) v x has) (shift-part N op v x amount has)
 
-    register-part : (op : RegisterOp) (v w : KnownValue) (x y : ℕ) → Has queues xs v x → Has queues xs w y → Gives (register_part rs op v w) (computed op x y)
-    register-part register.Add v w x y one two = just-gives (sum_of v w) ((x + y) % 2 ^ 32) (sum-has v w x y one two)
-    register-part register.Sub v w x y one two = subst (Gives (just (difference_of v w))) (sym (word-of-difference x y))
-        (just-gives (difference_of v w) ((x + y * (2 ^ 32 - 1)) % 2 ^ 32) (difference-has v w x y one two))
-    register-part register.ShiftLeft v w x y one two = just-gives any (computed register.ShiftLeft x y) tt
-    register-part register.SetLess v w x y one two = flag-gives (is_below_signed (bounds rs v) (bounds rs w)) (int_lt (signed x) (signed y))
+    register-part : (N : ℕ) (op : RegisterOp) (v w : KnownValue) (x y : ℕ) → Has queues xs v x → Has queues xs w y
+        → Gives (register_part queues N rs op v w) (computed op x y)
+    register-part N register.Add v w x y one two = sum-gives (rest_of queues v) (rest_of queues w) x y (rest-has v x one) (rest-has w y two)
+    register-part N register.Sub v w x y one two = subst (Gives (of_rest (rests_added (rest_of queues v) (negative (rest_of queues w)))))
+        (sym (word-of-difference x y)) (sum-gives (rest_of queues v) (negative (rest_of queues w)) x (y * (2 ^ 32 - 1))
+        (rest-has v x one) (negative-has (rest_of queues w) y (rest-has w y two)))
+    register-part N register.ShiftLeft v w x y one two = just-gives any (computed register.ShiftLeft x y) tt
+    register-part N register.SetLess v w x y one two = flag-gives (is_below_signed (bounds rs v) (bounds rs w)) (int_lt (signed x) (signed y))
         (below-signed (bounds rs v) (bounds rs w) x y (in-bounds v x one) (in-bounds w y two))
-    register-part register.SetLessUnsigned v w x y one two = flag-gives (is_below (bounds rs v) (bounds rs w)) (nat_lt x y)
+    register-part N register.SetLessUnsigned v w x y one two = flag-gives (is_below (bounds rs v) (bounds rs w)) (nat_lt x y)
         (below-is (bounds rs v) (bounds rs w) x y (in-bounds v x one) (in-bounds w y two))
-    register-part register.Xor v w x y one two = just-gives any (computed register.Xor x y) tt
-    register-part register.ShiftRight v w x y one two = just-gives any (computed register.ShiftRight x y) tt
-    register-part register.ShiftRightArithmetic v w x y one two = just-gives any (computed register.ShiftRightArithmetic x y) tt
-    register-part register.Or v w x y one two = just-gives any (computed register.Or x y) tt
-    register-part register.And v w x y one two =
-        masked-by v x (as_number w) y (masked_by rs w (as_number v) (just any)) one (λ m is. known-is queues xs w y m is two)
-        (subst (Gives (masked_by rs w (as_number v) (just any))) (and_comm y x)
-        (masked-by w y (as_number v) x (just any) two (λ m is. known-is queues xs v x m is one) (just-gives any (bit_and y x) tt)))
+    register-part N register.Xor v w x y one two = just-gives any (computed register.Xor x y) tt
+    register-part N register.ShiftRight v w x y one two = just-gives any (computed register.ShiftRight x y) tt
+    register-part N register.ShiftRightArithmetic v w x y one two = just-gives any (computed register.ShiftRightArithmetic x y) tt
+    register-part N register.Or v w x y one two = just-gives any (computed register.Or x y) tt
+    register-part N register.And v w x y one two =
+        masked-by N (rest_of queues v) x (as_number w) y (masked_by queues N rs (rest_of queues w) (as_number v) (just any)) (rest-has v x one)
+        (λ m is. known-is queues xs w y m is two)
+        (subst (Gives (masked_by queues N rs (rest_of queues w) (as_number v) (just any))) (and_comm y x)
+        (masked-by N (rest_of queues w) y (as_number v) x (just any) (rest-has w y two) (λ m is. known-is queues xs v x m is one)
+        (just-gives any (bit_and y x) tt)))
 
-    pub register-gives : (op : RegisterOp) (v w : KnownValue) (x y : ℕ) → Has queues xs v x → Has queues xs w y
-        → Gives (of_registers rs op v w) (computed op x y)
-    register-gives op v w x y one two = else-gives (both (computed op) (as_number v) (as_number w)) (register_part rs op v w) (computed op x y)
-        (both-are (computed op) v w x y one two) (register-part op v w x y one two)
+    pub register-gives : (N : ℕ) (op : RegisterOp) (v w : KnownValue) (x y : ℕ) → Has queues xs v x → Has queues xs w y
+        → Gives (of_registers queues N rs op v w) (computed op x y)
+    register-gives N op v w x y one two = else-gives (both (computed op) (as_number v) (as_number w)) (register_part queues N rs op v w) (computed op x y)
+        (both-are (computed op) v w x y one two) (register-part N op v w x y one two)
 
     -- ---- branches
 

@@ -460,8 +460,8 @@ module _ (M : ℕ) (o : OpeningValue) (queues : ℕ → Queue) (N : ℕ) (own_of
   immediate-result op v x n has = by (is_copy op n) refl
     where
       by : (t : Bool) → is_copy op n ≡ t
-          → Gives queues xs (if t then just (storable queues N own_of H h v) else of_immediate k.ranges op v n) (with_immediate op x n)
-      by false other = immediate-gives queues xs k.ranges means.ranges op v x n has
+          → Gives queues xs (if t then just (storable queues N own_of H h v) else of_immediate queues N k.ranges op v n) (with_immediate op x n)
+      by false other = immediate-gives queues xs k.ranges means.ranges N op v x n has
       by true copy = just-gives queues xs (storable queues N own_of H h v) (with_immediate op x n)
           (storable-has (with_immediate op x n) x v has (λ has small. copied op n copy x small))
 
@@ -1247,13 +1247,13 @@ module _ (M : ℕ) (o : OpeningValue) (queues : ℕ → Queue) (N : ℕ) (own_of
       (immediate-result op (operand queues N own_of H h k rs1) (register_value s.registers rs1) n (operand-has rs1)) (ap next_pc means.pc) refl is)
   instruction-goes past d (Shift op rd rs1 amount) ks here is = inner-goes ks (Shift op rd rs1 amount) here (need_at here)
       (exact-goes ks (Shift op rd rs1 amount) rd (next_pc k.pc) (shifted op (register_value s.registers rs1) amount)
-      (of_shift k.ranges op (operand queues N own_of H h k rs1) amount)
-      (shift-gives queues xs k.ranges means.ranges op (operand queues N own_of H h k rs1)
+      (of_shift queues N k.ranges op (operand queues N own_of H h k rs1) amount)
+      (shift-gives queues xs k.ranges means.ranges N op (operand queues N own_of H h k rs1)
       (register_value s.registers rs1) amount (operand-has rs1)) (ap next_pc means.pc) refl is)
   instruction-goes past d (Register op rd rs1 rs2) ks here is = inner-goes ks (Register op rd rs1 rs2) here (need_at here)
       (exact-goes ks (Register op rd rs1 rs2) rd (next_pc k.pc) (computed op (register_value s.registers rs1) (register_value s.registers rs2))
-      (of_registers k.ranges op (operand queues N own_of H h k rs1) (operand queues N own_of H h k rs2))
-      (register-gives queues xs k.ranges means.ranges op (operand queues N own_of H h k rs1)
+      (of_registers queues N k.ranges op (operand queues N own_of H h k rs1) (operand queues N own_of H h k rs2))
+      (register-gives queues xs k.ranges means.ranges N op (operand queues N own_of H h k rs1)
       (operand queues N own_of H h k rs2) (register_value s.registers rs1) (register_value s.registers rs2)
       (operand-has rs1) (operand-has rs2)) (ap next_pc means.pc) refl is)
   instruction-goes past d (Fence pred succ) ks here is = plain-goes ks (Fence pred succ) (need.Fence (is_full pred succ)) here (need_at here) tt tt

@@ -1,5 +1,5 @@
 -- What an instruction leaves in a register, as far as it is known. What isn't treated becomes any number.
-use Rattle.std.specs.Prelude.{ℕ, ℤ, pos, negsuc, ◌+◌, ◌-◌, ◌/◌, ◌%◌, ◌^◌, ◌==◌, ◌&&◌, not, nat_le, nat_lt}
+use Rattle.std.specs.Prelude.{ℕ, ℤ, zero, suc, pos, negsuc, ◌+◌, ◌-◌, ◌*◌, ◌/◌, ◌%◌, ◌^◌, ◌==◌, ◌&&◌, not, nat_le, nat_lt}
 use Rattle.std.specs.Prelude.{if◌then◌else◌, Bool, true, false, Option, None, Some, List, map, count_ones}
 use Rattle.rv_decode.specs.declared.instruction.BranchOp.{BranchOp}
 use Rattle.rv_decode.specs.declared.instruction.BranchOp.TheVariants as branch
@@ -81,10 +81,6 @@ abbrev pub set_less : Option Bounds → ℤ → Result
 set_less b (pos n) = if nat_lt n (2 ^ 31) then flag_of (is_below_signed b (Some (record { low = n; high = n }))) else any_up_to 1
 set_less b (negsuc n) = any_up_to 1
 
-abbrev pub shifted_left : KnownValue → (amount : ℕ) → Result
-shifted_left (linear f) amount = just (linear (times (2 ^ amount) f))
-shifted_left v amount = just any
-
 abbrev pub shifted_right : Option Bounds → (amount : ℕ) → Result
 shifted_right None amount = just any
 shifted_right (Some b) amount = any_up_to (b.high / 2 ^ amount)
@@ -93,9 +89,65 @@ abbrev pub sum_of : KnownValue → KnownValue → KnownValue
 sum_of (linear f) (linear g) = linear (plus f g)
 sum_of v w = any
 
-abbrev pub difference_of : KnownValue → KnownValue → KnownValue
-difference_of (linear f) (linear g) = linear (plus f (times (2 ^ 32 - 1) g))
-difference_of v w = any
+-- a number by its remainder: it is this form's by `by`, which divides 2 ^ 32
+pub record Rest : Type 0 where
+  pub by : ℕ
+  pub form : Form
+
+-- all numbers of which a remainder is known: a multiple of a number that isn't known is added
+abbrev pub of_rest : Option Rest → Result
+of_rest None = just any
+of_rest (Some r) = record { most = 2 ^ 32 / r.by - 1; value = linear (plus (lifted r.form) (times r.by first_variable)) }
+
+abbrev pub negative : Option Rest → Option Rest
+negative None = None
+negative (Some r) = Some (record { by = r.by; form = times (2 ^ 32 - 1) r.form })
+
+-- a sum is known by the lesser of the two that divides the other
+abbrev pub rests_added : Option Rest → Option Rest → Option Rest
+rests_added None b = None
+rests_added (Some a) None = None
+rests_added (Some a) (Some b) = if a.by % b.by == 0 then Some (record { by = b.by; form = plus a.form b.form }) else
+    (if b.by % a.by == 0 then Some (record { by = a.by; form = plus a.form b.form }) else None)
+
+-- a number as its own remainder
+abbrev pub whole : Form → Option Rest
+whole f = Some (record { by = 2 ^ 32; form = f })
+
+abbrev pub result_by : (Form → Form) → Result → Result
+result_by t r = record { most = r.most; value = value_by t r.value }
+
+-- all bits turned, where the mask has them all
+abbrev pub turned : KnownValue → (mask : ℕ) → Result
+turned (linear f) mask = just (if mask == 2 ^ 32 - 1 then linear (plus (number (2 ^ 32 - 1)) (times (2 ^ 32 - 1) f)) else any)
+turned v mask = just any
+
+abbrev pub rest_of : (ℕ → Queue) → KnownValue → Option Rest
+rest_of queues any = None
+rest_of queues (linear f) = whole f
+rest_of queues (index_for i f) = if 2 ^ 32 % ((queues i).scale * (queues i).modulus) == 0
+    then Some (record { by = (queues i).scale * (queues i).modulus; form = scaled (queues i) (plus f (number (queues i).offset)) }) else None
+
+abbrev pub shifted_left : (ℕ → Queue) → KnownValue → (amount : ℕ) → Result
+shifted_left queues (linear f) amount = just (linear (times (2 ^ amount) f))
+shifted_left queues v amount = result_by (times (2 ^ amount)) (of_rest (rest_of queues v))
+
+-- an index that counts on in n words, so that each is a remainder by n
+abbrev pub is_count : Queue → (n : ℕ) → Bool
+is_count q n = (q.base == 0) && (q.scale == 1) && (q.modulus == n)
+
+abbrev pub counting : (ℕ → Queue) → (N n : ℕ) → Option ℕ
+counting queues zero n = None
+counting queues (suc k) n = if is_count (queues k) n then Some k else counting queues k n
+
+-- a remainder by n as a word of such an index
+abbrev pub rest_counted : (ℕ → Queue) → (n : ℕ) → Form → Option ℕ → (other : Result) → Result
+rest_counted queues n f None other = other
+rest_counted queues n f (Some i) other = just (index_for i (plus f (number (n - (queues i).offset % n))))
+
+abbrev pub if_unbounded : (most : Option ℕ) → (r other : Result) → Result
+if_unbounded None r other = r
+if_unbounded (Some n) r other = other
 
 abbrev pub number_and : (ℕ → ℕ) → Option ℕ → Option ℕ
 number_and f None = None
@@ -116,66 +168,66 @@ module _ (ranges : List (Option ℕ)) where
   abbrev pub agrees : (n : ℕ) → Form → Form → Option Bool
   agrees n f g = is_nothing (bounds_of n ranges (plus f (times (n - 1) g)))
 
-  -- the low bits
-  abbrev pub low_bits : Option Form → (mask : ℕ) → Result
-  low_bits None mask = any_up_to mask
-  low_bits (Some f) mask = just (linear f)
-
-  abbrev pub masked : KnownValue → (mask : ℕ) → Result
-  masked (linear f) mask = if (mask + 1 == 2 ^ count_ones mask) && (2 ^ 32 % (mask + 1) == 0)
-      then low_bits (remainder_word ranges f (mask + 1)) mask else any_up_to mask
-  masked v mask = any_up_to mask
-
-  abbrev pub masked_by : KnownValue → Option ℕ → (other : Result) → Result
-  masked_by v None other = other
-  masked_by v (Some mask) other = masked v mask
-
-  -- of a value and an immediate
-  abbrev pub immediate_part : ImmediateOp → KnownValue → ℤ → Result
-  immediate_part immediate.Add v n = just (sum_of v (linear (number (word n))))
-  immediate_part immediate.And v n = masked v (word n)
-  immediate_part immediate.SetLess v n = set_less (bounds v) n
-  immediate_part immediate.SetLessUnsigned v n = flag_of (is_below (bounds v) (bounds (linear (number (word n)))))
-  immediate_part immediate.Xor v n = just any
-  immediate_part immediate.Or v n = just any
-
-  abbrev pub of_immediate : ImmediateOp → KnownValue → ℤ → Result
-  of_immediate op v n = or_else (number_and (λ a. with_immediate op a n) (as_number v)) (immediate_part op v n)
-
   -- a multiple of a power of two, as a shift to the left leaves it, shifted right: the remainder of what it is a multiple of
   abbrev pub without : (n : ℕ) → Form → Form
   without n f = record { constant = f.constant / n; factors = map (λ m. m / n) f.factors }
 
-  abbrev pub high_bits : Option Form → Option Bounds → (amount : ℕ) → Result
-  high_bits None b amount = shifted_right b amount
-  high_bits (Some f) b amount = just (linear f)
+-- where there are N queues
+module _ (queues : ℕ → Queue) (N : ℕ) (ranges : List (Option ℕ)) where
+  -- the remainder by n, as a form or as an index's word
+  abbrev pub remaining : (n : ℕ) → Form → Option Form → (other : Result) → Result
+  remaining n f (Some g) other = just (linear g)
+  remaining n f None other = if_unbounded (most ranges f) (rest_counted queues n f (counting queues N n) other) other
+
+  -- the low bits
+  abbrev pub masked : Option Rest → (mask : ℕ) → Result
+  masked None mask = any_up_to mask
+  masked (Some r) mask = if (mask + 1 == 2 ^ count_ones mask) && (r.by % (mask + 1) == 0)
+      then remaining (mask + 1) r.form (remainder_word ranges r.form (mask + 1)) (any_up_to mask) else any_up_to mask
+
+  abbrev pub masked_by : Option Rest → Option ℕ → (other : Result) → Result
+  masked_by r None other = other
+  masked_by r (Some mask) other = masked r mask
 
   abbrev pub shifted_back : KnownValue → (amount : ℕ) → Result
   shifted_back any amount = just any
   shifted_back (index_for i f) amount = just any
-  shifted_back (linear f) amount = if nat_le amount 32 && is_same 0 f (times (2 ^ amount) (without (2 ^ amount) f))
-      then high_bits (remainder_word ranges (without (2 ^ amount) f) (2 ^ (32 - amount))) (bounds_of (2 ^ 32) ranges f) amount
+  shifted_back (linear f) amount = if nat_le amount 32 && is_same 0 f (times (2 ^ amount) (without ranges (2 ^ amount) f))
+      then remaining (2 ^ (32 - amount)) (without ranges (2 ^ amount) f) (remainder_word ranges (without ranges (2 ^ amount) f) (2 ^ (32 - amount)))
+      (shifted_right (bounds_of (2 ^ 32) ranges f) amount)
       else shifted_right (bounds_of (2 ^ 32) ranges f) amount
 
   abbrev pub shift_part : ShiftOp → KnownValue → (amount : ℕ) → Result
-  shift_part shift.Left v amount = shifted_left v amount
+  shift_part shift.Left v amount = shifted_left queues v amount
   shift_part shift.Right v amount = shifted_back v amount
   shift_part shift.RightArithmetic v amount = just any
 
   abbrev pub of_shift : ShiftOp → KnownValue → (amount : ℕ) → Result
   of_shift op v amount = or_else (number_and (λ a. shifted op a amount) (as_number v)) (shift_part op v amount)
 
+  -- of a value and an immediate
+  abbrev pub immediate_part : ImmediateOp → KnownValue → ℤ → Result
+  immediate_part immediate.Add v n = of_rest (rests_added (rest_of queues v) (whole (number (word n))))
+  immediate_part immediate.And v n = masked (rest_of queues v) (word n)
+  immediate_part immediate.SetLess v n = set_less (bounds ranges v) n
+  immediate_part immediate.SetLessUnsigned v n = flag_of (is_below (bounds ranges v) (bounds ranges (linear (number (word n)))))
+  immediate_part immediate.Xor v n = turned v (word n)
+  immediate_part immediate.Or v n = just any
+
+  abbrev pub of_immediate : ImmediateOp → KnownValue → ℤ → Result
+  of_immediate op v n = or_else (number_and (λ a. with_immediate op a n) (as_number v)) (immediate_part op v n)
+
   abbrev pub register_part : RegisterOp → KnownValue → KnownValue → Result
-  register_part register.Add v w = just (sum_of v w)
-  register_part register.Sub v w = just (difference_of v w)
+  register_part register.Add v w = of_rest (rests_added (rest_of queues v) (rest_of queues w))
+  register_part register.Sub v w = of_rest (rests_added (rest_of queues v) (negative (rest_of queues w)))
   register_part register.ShiftLeft v w = just any
-  register_part register.SetLess v w = flag_of (is_below_signed (bounds v) (bounds w))
-  register_part register.SetLessUnsigned v w = flag_of (is_below (bounds v) (bounds w))
+  register_part register.SetLess v w = flag_of (is_below_signed (bounds ranges v) (bounds ranges w))
+  register_part register.SetLessUnsigned v w = flag_of (is_below (bounds ranges v) (bounds ranges w))
   register_part register.Xor v w = just any
   register_part register.ShiftRight v w = just any
   register_part register.ShiftRightArithmetic v w = just any
   register_part register.Or v w = just any
-  register_part register.And v w = masked_by v (as_number w) (masked_by w (as_number v) (just any))
+  register_part register.And v w = masked_by (rest_of queues v) (as_number w) (masked_by (rest_of queues w) (as_number v) (just any))
 
   abbrev pub of_registers : RegisterOp → KnownValue → KnownValue → Result
   of_registers op v w = or_else (both (computed op) (as_number v) (as_number w)) (register_part op v w)

@@ -186,7 +186,7 @@ module _ (queues : ℕ → Queue) (N : ℕ) (own_of : ℕ → List ℕ) (H h : �
 
   -- a copy keeps what is known
   abbrev pub immediate_result : KnownState → ImmediateOp → KnownValue → ℤ → Result
-  immediate_result k op v n = if is_copy op n then just (storable v) else of_immediate k.ranges op v n
+  immediate_result k op v n = if is_copy op n then just (storable v) else of_immediate queues N k.ranges op v n
 
   -- ---- loads
 
@@ -334,8 +334,9 @@ module _ (queues : ℕ → Queue) (N : ℕ) (own_of : ℕ → List ℕ) (H h : �
   follow k d (Some (Load op rd rs1 offset)) = loading k op rd.number (addresses k rs1 offset)
   follow k d (Some (Store op rs1 rs2 offset)) = storing k d (store_width op) (register_at k rs2) (address_value k rs1 offset) (addresses k rs1 offset)
   follow k d (Some (Immediate op rd rs1 n)) = Some (with_result k rd.number (next_pc k.pc) (immediate_result k op (operand k rs1) n) ∷ [])
-  follow k d (Some (Shift op rd rs1 amount)) = Some (with_result k rd.number (next_pc k.pc) (of_shift k.ranges op (operand k rs1) amount) ∷ [])
-  follow k d (Some (Register op rd rs1 rs2)) = Some (with_result k rd.number (next_pc k.pc) (of_registers k.ranges op (operand k rs1) (operand k rs2)) ∷ [])
+  follow k d (Some (Shift op rd rs1 amount)) = Some (with_result k rd.number (next_pc k.pc) (of_shift queues N k.ranges op (operand k rs1) amount) ∷ [])
+  follow k d (Some (Register op rd rs1 rs2)) = Some (with_result k rd.number (next_pc k.pc)
+      (of_registers queues N k.ranges op (operand k rs1) (operand k rs2)) ∷ [])
   follow k d (Some (Fence pred succ)) = Some (going_to k (next_pc k.pc) ∷ [])
   follow k d (Some FenceTso) = Some (going_to k (next_pc k.pc) ∷ [])
   follow k d (Some Ecall) = Some (called k ∷ [])

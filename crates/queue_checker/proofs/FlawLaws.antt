@@ -1,10 +1,18 @@
 -- Nothing is found exactly where all holds.
-use Rattle.std.specs.Prelude.{ℕ, zero, suc, ◌≡◌, ◌&&◌, ◌↔◌, Bool, true, false, Option, None, Some, length, get_or, refl}
+use Rattle.std.specs.Prelude.{ℕ, zero, suc, ◌≡◌, ◌+◌, ◌-◌, ◌*◌, ◌^◌, ◌==◌, ◌&&◌, ◌↔◌, not, nat_le, nat_lt, Bool, true}
+use Rattle.std.specs.Prelude.{false, Option, None, Some, [], length, get_or, refl}
+use Rattle.std.specs.Option.{option_map}
+use Rattle.std.proofs.Common.{sym, ap, subst, ◌∙◌}
+use Rattle.slot_queue.specs.Queues.{Queue as SlotQueue, index_word}
+use Rattle.store_buffers.specs.StoreBuffers.{memory_number}
 use Rattle.step_machine.specs.History.{OpeningValue}
 use Rattle.queue_certificates.specs.Steps.{all_below}
-use Rattle.queue_certificates.specs.Certificates.{QueueCertificate, part_of, accepts, accepts_loads, accepts_hart, no_hart}
+use Rattle.queue_certificates.specs.Certificates.{QueueCertificate, queue_at, start_at, part_of, accepts, accepts_loads, accepts_hart, no_hart}
+use Rattle.queue_certificates.specs.Certificates.{are_apart, is_queue, opens_empty}
 use Rattle.queue_checker.specs.declared.flaws.Flaw.TheVariants.{Queue, Opening, State}
-use Rattle.queue_checker.specs.Flaws.{queue_holds, opening_holds, state_holds, loads_hold, first_of, first_below, unless, hart_flaw, first_flaw, first_unowned}
+use Rattle.queue_checker.specs.declared.flaws.QueueFlaw.TheVariants as flaw
+use Rattle.queue_checker.specs.Flaws.{opening_holds, state_holds, loads_hold, first_of, first_below, unless, hart_flaw, first_flaw, first_unowned}
+use Rattle.queue_checker.specs.Flaws.{shape_flaw, queue_flaw, flaw_of_queue}
 
 -- x is nothing exactly where b holds
 pub record IsSame {A : Type 0} (b : Bool) (x : Option A) : Type 0 where
@@ -40,9 +48,68 @@ same-hart o c h = same-first_of (opening_holds o c h) (all_below (length (part_o
     (same-unless (opening_holds o c h) (Opening h))
     (same-below _ (state_holds o c h) _ (λ n. same-unless (state_holds o c h n) (State h n)))
 
+-- ---- queues
+
+four : {A : Type 0} (p q r s : Bool) (a b c d : A)
+    → IsSame (p && q && r && s) (first_of (first_of (first_of (unless p a) (unless q b)) (unless r c)) (unless s d))
+four p q r s a b c d = same-first_of (p && q && r) s _ _
+    (same-first_of (p && q) r _ _ (same-first_of p q _ _ (same-unless p a) (same-unless q b)) (same-unless r c)) (same-unless s d)
+
+same-map : {A B : Type 0} (f : A → B) (b : Bool) (x : Option A) → IsSame b x → IsSame b (option_map f x)
+same-map f b None s = record { empty = λ e. s.empty refl; holds = λ e. refl }
+same-map f b (Some x) s = record { empty = λ e. cc; holds = λ e. let none = s.holds e in cc }
+
+regrouped : (x p q r s : Bool) → (x && p && q && r && s) ≡ (x && (p && q && r && s))
+regrouped true p q r s = refl
+regrouped false p q r s = refl
+
+-- the parts of `is_queue`, as flaws are told by them
+abbrev places : SlotQueue → Bool
+places q = not (q.sender == q.receiver) && are_apart q.head q.index_width q.tail q.index_width
+    && are_apart q.head q.index_width q.slots (q.size * q.width) && are_apart q.tail q.index_width q.slots (q.size * q.width)
+
+abbrev numbers : SlotQueue → Bool
+numbers q = nat_le 1 q.size && nat_le q.capacity q.size && nat_le 1 q.modulus && nat_le 1 q.scale
+
+abbrev fits : SlotQueue → Bool
+fits q = nat_lt (q.base + q.scale * (q.modulus - 1)) (256 ^ q.index_width)
+
+abbrev indices : SlotQueue → Bool
+indices q = nat_le 1 q.index_width && fits q && nat_le q.index_width 4 && nat_lt q.capacity q.modulus
+
+is_queue-regrouped : (q : SlotQueue) → is_queue q ≡ (places q && numbers q && indices q)
+is_queue-regrouped q =
+    regrouped (places q && nat_le 1 q.size && nat_le q.capacity q.size && nat_le 1 q.modulus && nat_le 1 q.scale) (nat_le 1 q.index_width) (fits q)
+    (nat_le q.index_width 4) (nat_lt q.capacity q.modulus)
+    ∙ ap (λ (b : Bool). b && indices q) (regrouped (places q) (nat_le 1 q.size) (nat_le q.capacity q.size) (nat_le 1 q.modulus) (nat_le 1 q.scale))
+
+same-shape : (q : SlotQueue) → IsSame (is_queue q) (shape_flaw q)
+same-shape q = subst (λ (b : Bool). IsSame b (shape_flaw q)) (sym (is_queue-regrouped q))
+    (same-first_of (places q && numbers q) (indices q) _ _ (same-first_of (places q) (numbers q) _ _
+    (four (not (q.sender == q.receiver)) (are_apart q.head q.index_width q.tail q.index_width) (are_apart q.head q.index_width q.slots (q.size * q.width))
+    (are_apart q.tail q.index_width q.slots (q.size * q.width)) flaw.OneHart flaw.IndicesMeet flaw.IndexMeetsSlots flaw.IndexMeetsSlots)
+    (four (nat_le 1 q.size) (nat_le q.capacity q.size) (nat_le 1 q.modulus) (nat_le 1 q.scale) flaw.NoSlot flaw.FewSlots flaw.NoCounts flaw.NoCounts))
+    (four (nat_le 1 q.index_width) (fits q) (nat_le q.index_width 4) (nat_lt q.capacity q.modulus) flaw.NoIndex flaw.WideIndex flaw.WideIndex flaw.FewCounts))
+
+same-queue : (o : OpeningValue) (c : QueueCertificate) (i : ℕ)
+    → IsSame (is_queue (queue_at c i) && opens_empty o (queue_at c i) (start_at c i)) (flaw_of_queue o c i)
+same-queue o c i =
+    let q = queue_at c i in
+    let word = index_word q (start_at c i) in
+    same-map (λ why. Queue i why) (is_queue q && opens_empty o q (start_at c i)) (queue_flaw o c i)
+    (same-first_of (is_queue q) (opens_empty o q (start_at c i)) _ _ (same-shape q)
+    (same-first_of (memory_number o [] q.head q.index_width == word) (memory_number o [] q.tail q.index_width == word) _ _
+    (same-unless (memory_number o [] q.head q.index_width == word) flaw.Head) (same-unless (memory_number o [] q.tail q.index_width == word) flaw.Tail)))
+
+pub no_queue_flaw : (o : OpeningValue) (c : QueueCertificate) (i : ℕ) → flaw_of_queue o c i ≡ None
+    → (is_queue (queue_at c i) && opens_empty o (queue_at c i) (start_at c i)) ≡ true
+no_queue_flaw o c i = (same-queue o c i).empty
+
+-- ---- all of it
+
 same-flaw : (o : OpeningValue) (c : QueueCertificate) → IsSame (accepts o c) (first_flaw o c)
-same-flaw o c = same-first_of (all_below (length c.queues) (queue_holds o c)) _ _ _
-    (same-below _ (queue_holds o c) _ (λ i. same-unless (queue_holds o c i) (Queue i)))
+same-flaw o c = same-first_of (all_below (length c.queues) (λ i. is_queue (queue_at c i) && opens_empty o (queue_at c i) (start_at c i))) _ _ _
+    (same-below _ (λ i. is_queue (queue_at c i) && opens_empty o (queue_at c i) (start_at c i)) _ (same-queue o c))
     (same-below _ (λ h. accepts_hart o c h (get_or o.harts h no_hart) (part_of c h)) _ (same-hart o c))
 
 pub no_flaw : (o : OpeningValue) (c : QueueCertificate) → (first_flaw o c ≡ None) ↔ (accepts o c ≡ true)

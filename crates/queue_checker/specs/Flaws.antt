@@ -1,15 +1,17 @@
 -- The first part of a certificate that isn't accepted: of the queues first, and then of each hart its opening and its states.
-use Rattle.std.specs.Prelude.{ℕ, zero, suc, ◌&&◌, nat_le, nat_lt, Bool, true, false, Option, None, Some, length, get_or}
+use Rattle.std.specs.Prelude.{ℕ, zero, suc, ◌+◌, ◌-◌, ◌*◌, ◌^◌, ◌==◌, ◌&&◌, not, nat_le, nat_lt, Bool, true, false, Option, None, Some, [], length, get_or}
+use Rattle.std.specs.Option.{option_map}
 use Rattle.step_machine.specs.History.{HartOpeningValue, OpeningValue}
 use Rattle.queue_certificates.specs.Certificates.{QueueCertificate, queue_at, start_at, part_of, state_at, is_closed, owns_loads, opens_in}
-use Rattle.queue_certificates.specs.Certificates.{is_queue, opens_empty, no_hart}
+use Rattle.queue_certificates.specs.Certificates.{are_apart, no_hart}
+use Rattle.slot_queue.specs.Queues.{Queue as SlotQueue, index_word}
+use Rattle.store_buffers.specs.StoreBuffers.{memory_number}
+use Rattle.queue_checker.specs.declared.flaws.QueueFlaw.{QueueFlaw}
+use Rattle.queue_checker.specs.declared.flaws.QueueFlaw.TheVariants as flaw
 use Rattle.queue_checker.specs.declared.flaws.Flaw.{Flaw}
 use Rattle.queue_checker.specs.declared.flaws.Flaw.TheVariants.{Queue, Opening, State}
 
 -- ---- the parts of `accepts` and of `accepts_loads`
-
-abbrev pub queue_holds : OpeningValue → QueueCertificate → (i : ℕ) → Bool
-queue_holds o c i = is_queue (queue_at c i) && opens_empty o (queue_at c i) (start_at c i)
 
 abbrev pub hart_at : OpeningValue → (h : ℕ) → HartOpeningValue
 hart_at o h = get_or o.harts h no_hart
@@ -40,12 +42,50 @@ abbrev pub unless : {A : Type 0} → Bool → A → Option A
 unless true a = None
 unless false a = Some a
 
+-- the first of two that doesn't hold
+infixl 4 ◌<|>◌
+abbrev pub ◌<|>◌ : {A : Type 0} → Option A → Option A → Option A
+a <|> b = first_of a b
+
+-- what of `is_queue` doesn't hold: of the queue's harts and places, of its numbers, and of its indices
+abbrev pub place_flaw : SlotQueue → Option QueueFlaw
+place_flaw q = unless (not (q.sender == q.receiver)) flaw.OneHart
+    <|> unless (are_apart q.head q.index_width q.tail q.index_width) flaw.IndicesMeet
+    <|> unless (are_apart q.head q.index_width q.slots (q.size * q.width)) flaw.IndexMeetsSlots
+    <|> unless (are_apart q.tail q.index_width q.slots (q.size * q.width)) flaw.IndexMeetsSlots
+
+abbrev pub number_flaw : SlotQueue → Option QueueFlaw
+number_flaw q = unless (nat_le 1 q.size) flaw.NoSlot
+    <|> unless (nat_le q.capacity q.size) flaw.FewSlots
+    <|> unless (nat_le 1 q.modulus) flaw.NoCounts
+    <|> unless (nat_le 1 q.scale) flaw.NoCounts
+
+abbrev pub index_flaw : SlotQueue → Option QueueFlaw
+index_flaw q = unless (nat_le 1 q.index_width) flaw.NoIndex
+    <|> unless (nat_lt (q.base + q.scale * (q.modulus - 1)) (256 ^ q.index_width)) flaw.WideIndex
+    <|> unless (nat_le q.index_width 4) flaw.WideIndex
+    <|> unless (nat_lt q.capacity q.modulus) flaw.FewCounts
+
+abbrev pub shape_flaw : SlotQueue → Option QueueFlaw
+shape_flaw q = place_flaw q <|> number_flaw q <|> index_flaw q
+
+-- and what of `opens_empty`
+abbrev pub opening_flaw : OpeningValue → SlotQueue → (start : ℕ) → Option QueueFlaw
+opening_flaw o q start = unless (memory_number o [] q.head q.index_width == index_word q start) flaw.Head
+    <|> unless (memory_number o [] q.tail q.index_width == index_word q start) flaw.Tail
+
+abbrev pub queue_flaw : OpeningValue → QueueCertificate → (i : ℕ) → Option QueueFlaw
+queue_flaw o c i = shape_flaw (queue_at c i) <|> opening_flaw o (queue_at c i) (start_at c i)
+
+abbrev pub flaw_of_queue : OpeningValue → QueueCertificate → (i : ℕ) → Option Flaw
+flaw_of_queue o c i = option_map (λ why. Queue i why) (queue_flaw o c i)
+
 abbrev pub hart_flaw : OpeningValue → QueueCertificate → (h : ℕ) → Option Flaw
 hart_flaw o c h = first_of (unless (opening_holds o c h) (Opening h))
     (first_below (length (part_of c h).states) (λ n. unless (state_holds o c h n) (State h n)))
 
 abbrev pub first_flaw : OpeningValue → QueueCertificate → Option Flaw
-first_flaw o c = first_of (first_below (length c.queues) (λ i. unless (queue_holds o c i) (Queue i)))
+first_flaw o c = first_of (first_below (length c.queues) (flaw_of_queue o c))
     (first_below (length o.harts) (hart_flaw o c))
 
 -- the first state of hart h with a load of queue i's slots that isn't shown to be of an owned one

@@ -2,46 +2,43 @@
 
 ghost use Rattle.std.specs.Prelude.{◌≡◌, ◌<◌, IfOk, length, get_or};
 ghost use Rattle.queue_certificates.specs.Certificates.{part_of};
-ghost use Rattle.queue_checker.specs.Flaws.{hart_at, queue_holds, state_holds, first_of, first_below, unless, hart_flaw, first_flaw};
+ghost use Rattle.queue_checker.specs.Flaws.{hart_at, flaw_of_queue, state_holds, first_of, first_below, unless, hart_flaw, first_flaw};
 ghost use Rattle.queue_checker.specs.Flaws.{opening_holds};
-ghost use Rattle.queue_checker.specs.declared.flaws.Flaw.TheVariants.{Queue, Opening as Opens, State};
+ghost use Rattle.queue_checker.specs.declared.flaws.Flaw.TheVariants.{State};
 
 use crate::certificate::QueueCertificate;
 use crate::closing::is_closed;
 use crate::flaws::Flaw;
 use crate::opening::opening_holds;
-use crate::queues::queue_holds;
+use crate::queues::queue_flaw;
 use crate::sites::{listed_states, queue_count, small};
 use known_values::Lack;
 use std::alloc::Global;
 use step_machine::{HartOpening, Opening};
 
-fn queue_flaw(
+fn queue_flaw_after(
     opening: &Opening,
     certificate: &QueueCertificate,
     first: Option<Flaw>,
     i: u32,
 ) -> Result<Option<Flaw>, Lack>
-    ensures { IfOk result (λ flaw. flaw ≡ first_of first (unless (queue_holds opening.now certificate.now i) (Queue i))) }
+    ensures { IfOk result (λ flaw. flaw ≡ first_of first (flaw_of_queue opening.now certificate.now i)) }
 {
     match first {
         Some(flaw) => Ok(Some(flaw)),
-        None => {
-            if queue_holds(opening, certificate, i)? {
-                Ok(None)
-            } else {
-                Ok(Some(Flaw::Queue(i)))
-            }
-        }
+        None => match queue_flaw(opening, certificate, i)? {
+            Some(flaw) => Ok(Some(Flaw::Queue(i, flaw))),
+            None => Ok(None),
+        },
     }
 }
 
 fn first_queue_flaw(opening: &Opening, certificate: &QueueCertificate) -> Result<Option<Flaw>, Lack>
-    ensures { IfOk result (λ flaw. flaw ≡ first_below (length certificate.now.queues) (λ i. unless (queue_holds opening.now certificate.now i) (Queue i))) }
+    ensures { IfOk result (λ flaw. flaw ≡ first_below (length certificate.now.queues) (flaw_of_queue opening.now certificate.now)) }
 {
     let mut first = None;
     for i in 0..queue_count(certificate)? {
-        first = queue_flaw(opening, certificate, first, i)?;
+        first = queue_flaw_after(opening, certificate, first, i)?;
     }
     Ok(first)
 }
@@ -165,6 +162,7 @@ pub fn first_flaw(
 mod tests {
     use super::*;
     use crate::certificate::{Arrow, CaseNode, Cases, HartPart, KnownState, ListedState};
+    use crate::flaws::QueueFlaw;
     use known_values::forms::number;
     use known_values::{OpenedQueue, Queue};
     use std::alloc::AllocError;
@@ -268,7 +266,8 @@ mod tests {
             },
             start: 0,
         })?;
-        assert!(rt; first_flaw(rt.alloc(), &opening, &certificate) == Ok(Some(Flaw::Queue(0))));
+        let flaw = Flaw::Queue(0, QueueFlaw::OneHart);
+        assert!(rt; first_flaw(rt.alloc(), &opening, &certificate) == Ok(Some(flaw)));
         Ok(())
     }
 }

@@ -29,5 +29,5 @@ pub use certificate::{
     Arrow, CaseNode, Cases, HartPart, KnownState, ListedState, QueueCertificate, Share,
 };
 pub use checking::first_flaw;
-pub use flaws::{Flaw, laws_of_flaws};
+pub use flaws::{Flaw, QueueFlaw, laws_of_flaws};
 pub use owning::first_unowned;

@@ -1,12 +1,13 @@
-//! Whether what a certificate says of a queue holds.
+//! What of what a certificate says of a queue doesn't hold.
 
 ghost use Rattle.std.specs.Prelude.{◌≡◌, ◌+◌, ◌*◌, ◌-◌, ◌^◌, IfOk, [], nat_lt, nat_le, ◌&&◌, ◌==◌};
 ghost use Rattle.slot_queue.specs.Queues.{index_word};
 ghost use Rattle.store_buffers.specs.StoreBuffers.{memory_number};
-ghost use Rattle.queue_certificates.specs.Certificates.{are_apart, is_queue, opens_empty};
-ghost use Rattle.queue_checker.specs.Flaws.{queue_holds};
+ghost use Rattle.queue_certificates.specs.Certificates.{are_apart};
+ghost use Rattle.queue_checker.specs.Flaws.{place_flaw, number_flaw, index_flaw, shape_flaw, opening_flaw, queue_flaw};
 
 use crate::certificate::QueueCertificate;
+use crate::flaws::QueueFlaw;
 use crate::opening::{index_word, number_at, start_in};
 use crate::places::slot_bytes;
 use known_values::lack::{product, sum};
@@ -40,10 +41,9 @@ fn is_small(queue: Queue) -> Result<bool, Lack>
     })
 }
 
-/// Whether no part of the queue has a byte of another.
-fn are_parts_apart(queue: Queue) -> Result<bool, Lack>
-    ensures { IfOk result (λ apart. apart ≡ (are_apart queue.head queue.index_width queue.tail queue.index_width && are_apart queue.head
-        queue.index_width queue.slots (queue.size * queue.width) && are_apart queue.tail queue.index_width queue.slots (queue.size * queue.width))) }
+/// What is wrong with the queue's harts, or with where its parts lie.
+fn place_flaw(queue: Queue) -> Result<Option<QueueFlaw>, Lack>
+    ensures { IfOk result (λ flaw. flaw ≡ place_flaw queue) }
 {
     let head = u64::from(queue.head);
     let tail = u64::from(queue.tail);
@@ -53,20 +53,48 @@ fn are_parts_apart(queue: Queue) -> Result<bool, Lack>
     let indices = are_apart(head, width, tail, width)?;
     let head_slots = are_apart(head, width, slots, count)?;
     let tail_slots = are_apart(tail, width, slots, count)?;
-    Ok(indices && head_slots && tail_slots)
+    if queue.sender == queue.receiver {
+        return Ok(Some(QueueFlaw::OneHart));
+    }
+    if !indices {
+        return Ok(Some(QueueFlaw::IndicesMeet));
+    }
+    if !(head_slots && tail_slots) {
+        return Ok(Some(QueueFlaw::IndexMeetsSlots));
+    }
+    Ok(None)
 }
 
-/// Whether it is a queue, whose index tells all in use from none and lies in a word.
-fn is_queue(queue: Queue) -> Result<bool, Lack>
-    ensures { IfOk result (λ holds. holds ≡ is_queue queue) }
+/// What is wrong with how many slots there are, or with how counts are told.
+fn number_flaw(queue: Queue) -> Option<QueueFlaw>
+    ensures { result ≡ number_flaw queue }
 {
-    let parties = queue.sender != queue.receiver;
-    let apart = are_parts_apart(queue)?;
-    let some = queue.size >= 1 && queue.capacity <= queue.size;
-    let counts = queue.modulus >= 1 && queue.scale >= 1 && queue.index_width >= 1;
-    let small = is_small(queue)?;
-    let tells = u64::from(queue.capacity) < queue.modulus;
-    Ok(parties && apart && some && counts && small && tells)
+    if queue.size == 0 {
+        return Some(QueueFlaw::NoSlot);
+    }
+    if queue.capacity > queue.size {
+        return Some(QueueFlaw::FewSlots);
+    }
+    if queue.modulus == 0 || queue.scale == 0 {
+        return Some(QueueFlaw::NoCounts);
+    }
+    None
+}
+
+/// What is wrong with the queue's indices.
+fn index_flaw(queue: Queue) -> Result<Option<QueueFlaw>, Lack>
+    ensures { IfOk result (λ flaw. flaw ≡ index_flaw queue) }
+{
+    if queue.index_width == 0 {
+        return Ok(Some(QueueFlaw::NoIndex));
+    }
+    if !is_small(queue)? {
+        return Ok(Some(QueueFlaw::WideIndex));
+    }
+    if u64::from(queue.capacity) >= queue.modulus {
+        return Ok(Some(QueueFlaw::FewCounts));
+    }
+    Ok(None)
 }
 
 /// Whether the index at an address stands for the count, as the machine opens.
@@ -78,27 +106,47 @@ fn opens_at(opening: &Opening, queue: Queue, start: u64, address: u32) -> Result
     Ok(number == word)
 }
 
-/// Whether both indices stand for the count, as the machine opens.
-fn opens_empty(opening: &Opening, queue: Queue, start: u64) -> Result<bool, Lack>
-    ensures { IfOk result (λ empty. empty ≡ opens_empty opening.now queue start) }
+/// Which index doesn't stand for the count, as the machine opens.
+fn opening_flaw(opening: &Opening, queue: Queue, start: u64) -> Result<Option<QueueFlaw>, Lack>
+    ensures { IfOk result (λ flaw. flaw ≡ opening_flaw opening.now queue start) }
 {
-    let head = opens_at(opening, queue, start, queue.head)?;
-    let tail = opens_at(opening, queue, start, queue.tail)?;
-    Ok(head && tail)
+    let head = queue.head;
+    let tail = queue.tail;
+    let head_opens = opens_at(opening, queue, start, head)?;
+    let tail_opens = opens_at(opening, queue, start, tail)?;
+    if !head_opens {
+        return Ok(Some(QueueFlaw::Head));
+    }
+    if !tail_opens {
+        return Ok(Some(QueueFlaw::Tail));
+    }
+    Ok(None)
 }
 
-/// Whether queue `i` is one and opens as the certificate says.
-pub(crate) fn queue_holds(
+/// What is wrong with a queue by itself.
+fn shape_flaw(queue: Queue) -> Result<Option<QueueFlaw>, Lack>
+    ensures { IfOk result (λ flaw. flaw ≡ shape_flaw queue) }
+{
+    if let Some(flaw) = place_flaw(queue)? {
+        return Ok(Some(flaw));
+    }
+    if let Some(flaw) = number_flaw(queue) {
+        return Ok(Some(flaw));
+    }
+    index_flaw(queue)
+}
+
+/// Why queue `i` is none, or opens otherwise than the certificate says.
+pub(crate) fn queue_flaw(
     opening: &Opening,
     certificate: &QueueCertificate,
     i: u32,
-) -> Result<bool, Lack>
-    ensures { IfOk result (λ holds. holds ≡ queue_holds opening.now certificate.now i) }
+) -> Result<Option<QueueFlaw>, Lack>
+    ensures { IfOk result (λ flaw. flaw ≡ queue_flaw opening.now certificate.now i) }
 {
     let queue = queue_in(&certificate.queues, i);
-    if is_queue(queue)? {
-        opens_empty(opening, queue, start_in(&certificate.queues, i))
-    } else {
-        Ok(false)
+    match shape_flaw(queue)? {
+        Some(flaw) => Ok(Some(flaw)),
+        None => opening_flaw(opening, queue, start_in(&certificate.queues, i)),
     }
 }

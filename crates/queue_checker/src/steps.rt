@@ -1,6 +1,6 @@
 //! The states that may follow an instruction.
 
-ghost use Rattle.std.specs.Prelude.{◌≡◌, ◌+◌, ◌/◌, ◌*◌, ◌%◌, ◌^◌, ◌∷◌, [], ℕ, List, Some, None, IfOk, length, Bool};
+ghost use Rattle.std.specs.Prelude.{◌≡◌, ◌+◌, ◌/◌, ◌*◌, ◌%◌, ◌^◌, ◌<◌, ◌∷◌, [], ℕ, List, Some, None, IfOk, length, Bool};
 ghost use Rattle.hart.specs.Effects.{address, next_pc, store_width};
 ghost use Rattle.queue_certificates.specs.Results.{just, as_number, bounds, exactly, is_branch_taken, of_immediate, of_registers, of_shift};
 ghost use Rattle.queue_certificates.specs.Certificates.{queue_at, own_of};
@@ -385,7 +385,28 @@ fn is_copy(op: ImmediateOp, immediate: i32) -> bool
     }
 }
 
-/// What an operation with an immediate leaves of a value. A copy keeps what is known.
+/// What an operation with an immediate leaves of a value.
+fn operation_result(
+    alloc: Global,
+    certificate: &QueueCertificate,
+    state: &KnownState,
+    op: ImmediateOp,
+    value: &KnownValue,
+    immediate: i32,
+) -> Result<Outcome, Lack>
+    ensures { IfOk result (λ r. r ≡ of_immediate (queue_at certificate.now) (length certificate.now.queues) state.now.ranges op value.now immediate) }
+{
+    of_immediate(
+        alloc,
+        &certificate.queues,
+        &state.ranges,
+        op,
+        value,
+        immediate,
+    )
+}
+
+/// The same, except that a copy keeps what is known.
 fn immediate_result(
     alloc: Global,
     certificate: &QueueCertificate,
@@ -402,7 +423,7 @@ fn immediate_result(
         let kept = storable(alloc, certificate, hart, value)?;
         just(alloc, &kept)
     } else {
-        of_immediate(alloc, &state.ranges, op, value, immediate)
+        operation_result(alloc, certificate, state, op, value, immediate)
     }
 }
 
@@ -428,6 +449,21 @@ fn follow_immediate(
     )
 }
 
+/// What a shift of a value leaves.
+fn shift_result(
+    alloc: Global,
+    certificate: &QueueCertificate,
+    state: &KnownState,
+    op: ShiftOp,
+    value: &KnownValue,
+    amount: u32,
+) -> Result<Outcome, Lack>
+    requires { amount < 32 }
+    ensures { IfOk result (λ r. r ≡ of_shift (queue_at certificate.now) (length certificate.now.queues) state.now.ranges op value.now amount) }
+{
+    of_shift(alloc, &certificate.queues, &state.ranges, op, value, amount)
+}
+
 fn follow_shift(
     alloc: Global,
     certificate: &QueueCertificate,
@@ -437,19 +473,33 @@ fn follow_shift(
     rs1: Reg,
     amount: u32,
 ) -> Result<Successors, Lack>
-    ensures { IfOk result (λ next. next ≡ Some (with_result state.now rd.number (next_pc state.now.pc) (of_shift state.now.ranges op (operand_in
-        certificate.now state.now rs1) amount) ∷ [])) }
+    ensures { IfOk result (λ next. next ≡ Some (with_result state.now rd.number (next_pc state.now.pc) (of_shift (queue_at certificate.now)
+        (length certificate.now.queues) state.now.ranges op (operand_in certificate.now state.now rs1) amount) ∷ [])) }
 {
     // An instruction has no such amount.
     if amount >= 32 {
         return Err(Lack::TooLarge);
     }
     let value = operand(alloc, certificate, state, rs1)?;
-    let outcome = of_shift(alloc, &state.ranges, op, &value, amount)?;
+    let outcome = shift_result(alloc, certificate, state, op, &value, amount)?;
     one(
         alloc,
         with_result(alloc, state, rd.number, next_pc(state.pc), outcome)?,
     )
+}
+
+/// What an operation of two values leaves.
+fn register_result(
+    alloc: Global,
+    certificate: &QueueCertificate,
+    state: &KnownState,
+    op: RegisterOp,
+    left: &KnownValue,
+    right: &KnownValue,
+) -> Result<Outcome, Lack>
+    ensures { IfOk result (λ r. r ≡ of_registers (queue_at certificate.now) (length certificate.now.queues) state.now.ranges op left.now right.now) }
+{
+    of_registers(alloc, &certificate.queues, &state.ranges, op, left, right)
 }
 
 fn follow_registers(
@@ -461,12 +511,12 @@ fn follow_registers(
     rs1: Reg,
     rs2: Reg,
 ) -> Result<Successors, Lack>
-    ensures { IfOk result (λ next. next ≡ Some (with_result state.now rd.number (next_pc state.now.pc) (of_registers state.now.ranges op (operand_in
-        certificate.now state.now rs1) (operand_in certificate.now state.now rs2)) ∷ [])) }
+    ensures { IfOk result (λ next. next ≡ Some (with_result state.now rd.number (next_pc state.now.pc) (of_registers (queue_at certificate.now)
+        (length certificate.now.queues) state.now.ranges op (operand_in certificate.now state.now rs1) (operand_in certificate.now state.now rs2)) ∷ [])) }
 {
     let left = operand(alloc, certificate, state, rs1)?;
     let right = operand(alloc, certificate, state, rs2)?;
-    let outcome = of_registers(alloc, &state.ranges, op, &left, &right)?;
+    let outcome = register_result(alloc, certificate, state, op, &left, &right)?;
     one(
         alloc,
         with_result(alloc, state, rd.number, next_pc(state.pc), outcome)?,

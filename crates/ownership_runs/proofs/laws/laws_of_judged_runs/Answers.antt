@@ -1,3 +1,4 @@
+use Rattle.ownership_runs.proofs.Ends.{ends-told}
 use Rattle.ownership_runs.proofs.Judged.{keeps-or-breaks, follows-run}
 use Rattle.ownership_runs.proofs.laws.laws_of_judged_runs.Goals as goal
 
@@ -6,3 +7,6 @@ returns-clause-follows c = λ B M o q start events t queue rest keeps run. follo
 
 pub returns-clause-apart : goal.returns-clause-apart
 returns-clause-apart c = λ B M o q start events b some keeps breaks. keeps-or-breaks B M o q start events b some keeps breaks
+
+pub returns-clause-ends : goal.returns-clause-ends
+returns-clause-ends c = λ B M o q start schedule runs part b told. ends-told B M o q start schedule runs part b told

@@ -1,0 +1,268 @@
+-- Forms and values, as they are written, are read again.
+use Rattle.std.proofs.Common.{◌≡◌, ℕ, ◌+◌, ◌-◌, ◌^◌, ◌<◌, ◌≤◌, ◌&&◌, Bool, true, false, List, [], ◌∷◌, ◌++◌, length, map, replicate}
+use Rattle.std.proofs.Common.{Some, None, Result, Ok, refl, sym, ap, subst, ◌∙◌, append_assoc, length-append, arith}
+use Rattle.std.specs.Prelude.{codes}
+use Rattle.std.specs.List.{AllByRecursion, list_all, slice_split}
+use Rattle.std.specs.Char.{is_digit}
+use Rattle.std.specs.Str.{bytes_eq}
+use Rattle.std.specs.Fmt.{decimal}
+use Rattle.std.proofs.lemmas.Bool.{lt-ltb, le-ltb, le-leb, ne_eqb, eqb-true, or_parts}
+use Rattle.std.proofs.lemmas.List.{append-nil, length-replicate, replicate_more}
+use Rattle.std.proofs.lemmas.Slice.Eq.{bytes_eq-Decides}
+use Rattle.texts.specs.Numbers.{word_of, is_numeral}
+use Rattle.texts.specs.Results.{◌>>=◌}
+use Rattle.texts.specs.Cutting.{before, after, is_byte, NonePass}
+use Rattle.texts.specs.Pieces.{pieces}
+use Rattle.texts.specs.declared.pieces.Separators.TheVariants.{Byte}
+use Rattle.texts.proofs.CuttingLaws.{none-append, before-stop, after-stop, split_none, split_stop, decimal_none, not_byte, not_low_byte}
+use Rattle.texts.proofs.RowLaws.{is_low, Solid}
+use Rattle.queue_certificates.specs.Forms.{Form}
+use Rattle.queue_certificates.specs.States.{linear, index_for}
+use Rattle.certificate_reader.specs.declared.faults.CertificateFault.{CertificateFault}
+use Rattle.certificate_reader.specs.Numbers.{count_of, round_of}
+use Rattle.certificate_reader.specs.FormTexts.{multiple_of, with_factor, factors_after, form_from, form_of, index_of}
+use Rattle.certificate_reader.specs.FormTexts.{linear_of, known_value_in}
+use Rattle.certificate_reader.specs.Lists.{forms_in}
+use Rattle.certificate_reader.specs.Writing.{is_written, first_if, multiple_text, multiples, parts_of, parts_text, form_text}
+use Rattle.certificate_reader.specs.Written.{FitsCount, FitsForm}
+use Rattle.certificate_reader.proofs.NumbersAgain.{word_again, count_again, each_again}
+
+-- ---- bytes
+
+-- a byte that passes is no digit
+abbrev pub NoDigit : (ℕ → Bool) → Type 0
+NoDigit p = (d : ℕ) → d < 10 → p (48 + d) ≡ false
+
+pub decimal_bytes : (p : ℕ → Bool) → NoDigit p → (n : ℕ) → n ≤ 2 ^ 32 → NonePass p (decimal n)
+decimal_bytes p digits n small = decimal_none p digits n (omega arith)
+
+multiple_bytes : (p : ℕ → Bool) → NoDigit p → p 42 ≡ false → (m j : ℕ) → m ≤ 2 ^ 32 → j ≤ 2 ^ 32 → NonePass p (multiple_text m j)
+multiple_bytes p digits star m j m_small j_small =
+    none-append p (decimal m) (42 ∷ decimal j) (decimal_bytes p digits m m_small) (star, decimal_bytes p digits j j_small)
+
+multiples_bytes : (p : ℕ → Bool) → NoDigit p → p 42 ≡ false → (j : ℕ) (ms : List ℕ) → AllByRecursion FitsCount ms → j + length ms ≤ 2 ^ 32
+    → AllByRecursion (NonePass p) (multiples j ms)
+multiples_bytes p digits star j [] all few = tt
+multiples_bytes p digits star j (m ∷ ms) all few = by_test (is_written m (length ms)) (multiples_bytes p digits star (j + 1) ms all.1 (omega arith))
+  where
+    by_test : (b : Bool) → AllByRecursion (NonePass p) (multiples (j + 1) ms)
+        → AllByRecursion (NonePass p) (first_if b (multiple_text m j) (multiples (j + 1) ms))
+    by_test true rest = (multiple_bytes p digits star m j all.0 (omega arith), rest)
+    by_test false rest = rest
+
+pub parts_bytes : (p : ℕ → Bool) → NoDigit p → p 42 ≡ false → (n : ℕ) (f : Form) → n ≤ 2 ^ 32 → FitsForm n f → AllByRecursion (NonePass p) (parts_of f)
+parts_bytes p digits star n f small fits = by_test (is_written f.constant (length f.factors))
+    (multiples_bytes p digits star 0 f.factors fits.factors (omega (arith, fits.few)))
+  where
+    by_test : (b : Bool) → AllByRecursion (NonePass p) (multiples 0 f.factors)
+        → AllByRecursion (NonePass p) (first_if b (decimal f.constant) (multiples 0 f.factors))
+    by_test true rest = (decimal_bytes p digits f.constant fits.constant, rest)
+    by_test false rest = rest
+
+joined_bytes : (p : ℕ → Bool) → p 43 ≡ false → (follows : Bool) (parts : List (List ℕ))
+    → AllByRecursion (NonePass p) parts → NonePass p (parts_text follows parts)
+joined_bytes p plus true [] all = tt
+joined_bytes p plus true (part ∷ parts) all = none-append p (43 ∷ part) (parts_text true parts) (plus, all.0) (joined_bytes p plus true parts all.1)
+joined_bytes p plus false [] all = tt
+joined_bytes p plus false (part ∷ parts) all = none-append p part (parts_text true parts) all.0 (joined_bytes p plus true parts all.1)
+
+pub form_bytes : (p : ℕ → Bool) → NoDigit p → p 42 ≡ false → p 43 ≡ false → (n : ℕ) (f : Form) → n ≤ 2 ^ 32 → FitsForm n f → NonePass p (form_text f)
+form_bytes p digits star plus n f small fits = joined_bytes p plus false (parts_of f) (parts_bytes p digits star n f small fits)
+
+-- ---- multiples
+
+multiple_again : (m j : ℕ) → m ≤ 2 ^ 32 → j < 2 ^ 32 → multiple_of (multiple_text m j) ≡ Some (m, j)
+unfolding multiple_of
+multiple_again m j m_small j_small =
+    let none = decimal_bytes (is_byte 42) (λ d lt. not_low_byte 42 d (omega arith)) m m_small in
+    rw (
+      after-stop (is_byte 42) (decimal m) 42 (decimal j) none refl,
+      before-stop (is_byte 42) (decimal m) 42 (decimal j) none refl,
+      count_again m m_small,
+      word_again j j_small,
+    ) refl
+
+and_false : (b : Bool) → (b && false) ≡ false
+and_false true = refl
+and_false false = refl
+
+star_no_digit : (xs ys : List ℕ) → list_all (λ c. is_digit c 10) (xs ++ 42 ∷ ys) ≡ false
+star_no_digit [] ys = refl
+star_no_digit (x ∷ xs) ys = rw (star_no_digit xs ys) (and_false (is_digit x 10))
+
+star_no_numeral : (xs ys : List ℕ) → is_numeral 10 (xs ++ 42 ∷ ys) ≡ false
+star_no_numeral [] ys = refl
+star_no_numeral (x ∷ xs) ys = star_no_digit (x ∷ xs) ys
+
+star_no_round : (xs ys : List ℕ) → round_of (xs ++ 42 ∷ ys) ≡ None
+star_no_round xs ys = by_test (bytes_eq (xs ++ 42 ∷ ys) (codes "4294967296")) refl
+  where
+    by_test : (b : Bool) → bytes_eq (xs ++ 42 ∷ ys) (codes "4294967296") ≡ b → round_of (xs ++ 42 ∷ ys) ≡ None
+    by_test true is =
+        let same : xs ++ 42 ∷ ys ≡ codes "4294967296" = (bytes_eq-Decides (xs ++ 42 ∷ ys) (codes "4294967296")).0 is in
+        let never : true ≡ false = subst (λ (text : List ℕ). is_numeral 10 text ≡ false) same (star_no_numeral xs ys) in absurd cc
+    by_test false other = rw other refl
+
+-- what has a `*` is no number alone
+star_no_count : (xs ys : List ℕ) → count_of (xs ++ 42 ∷ ys) ≡ None
+unfolding count_of word_of
+star_no_count xs ys = rw (star_no_numeral xs ys, star_no_round xs ys) refl
+
+multiples_no_count : (j : ℕ) (ms : List ℕ) → AllByRecursion (λ part. count_of part ≡ None) (multiples j ms)
+multiples_no_count j [] = tt
+multiples_no_count j (m ∷ ms) = by_test (is_written m (length ms)) (multiples_no_count (j + 1) ms)
+  where
+    by_test : (b : Bool) → AllByRecursion (λ part. count_of part ≡ None) (multiples (j + 1) ms)
+        → AllByRecursion (λ part. count_of part ≡ None) (first_if b (multiple_text m j) (multiples (j + 1) ms))
+    by_test true rest = (star_no_count (decimal m) (decimal j), rest)
+    by_test false rest = rest
+
+-- the last one is always written
+multiples_some : (j : ℕ) (ms : List ℕ) → 0 < length ms → 0 < length (multiples j ms)
+multiples_some j [] some = some
+multiples_some j (m ∷ []) some = rw (last_written m) (omega arith)
+  where
+    last_written : (n : ℕ) → is_written n 0 ≡ true
+    last_written n = grind arith
+multiples_some j (m ∷ k ∷ ms) some = by_test (is_written m (length (k ∷ ms))) (multiples_some (j + 1) (k ∷ ms) (omega arith))
+  where
+    by_test : (b : Bool) → 0 < length (multiples (j + 1) (k ∷ ms)) → 0 < length (first_if b (multiple_text m j) (multiples (j + 1) (k ∷ ms)))
+    by_test true rest = omega arith
+    by_test false rest = rest
+
+factor_again : (n j m : ℕ) (before : List ℕ) → n ≤ 2 ^ 32 → length before ≤ j → j < n → m ≤ 2 ^ 32
+    → with_factor n before (multiple_text m j) ≡ Ok (before ++ replicate (j - length before) 0 ++ m ∷ [])
+unfolding with_factor
+factor_again n j m before small place below count =
+    rw (multiple_again m j count (omega arith), le-leb (length before) j place, lt-ltb j n below) refl
+
+unwritten : (n after : ℕ) → is_written n after ≡ false → (n ≡ 0) × (0 < after)
+unwritten n after e = grind (arith, or_parts, eqb-true, ne_eqb)
+
+-- what the factors so far, a gap and the factors from variable j on are
+abbrev joined_at : (j : ℕ) (before ms : List ℕ) → List ℕ
+joined_at j before ms = before ++ replicate (j - length before) 0 ++ ms
+
+factors_step : (n j m : ℕ) (before ms : List ℕ) → n ≤ 2 ^ 32 → length before ≤ j → j < n → m ≤ 2 ^ 32
+    → ((more : List ℕ) → length more ≤ j + 1 → (length ms ≡ 0 → length more ≡ j + 1)
+    → factors_after n more (multiples (j + 1) ms) ≡ Ok (joined_at (j + 1) more ms))
+    → factors_after n before (multiples j (m ∷ ms)) ≡ Ok (joined_at j before (m ∷ ms))
+unfolding factors_after
+factors_step n j m before ms small place below count rest = by_test (is_written m (length ms)) refl
+  where
+    gap : List ℕ
+    gap = replicate (j - length before) 0
+
+    more : List ℕ
+    more = before ++ gap ++ m ∷ []
+
+    long : length more ≡ j + 1
+    long = omega (arith, length-append (before ++ gap) (m ∷ []), length-append before gap, length-replicate {A = ℕ} (j - length before) 0)
+
+    none : j + 1 - length more ≡ 0
+    none = omega (arith, long)
+
+    joins : more ++ [] ++ ms ≡ before ++ gap ++ m ∷ ms
+    joins = simp (append-nil, append_assoc)
+
+    gap_more : j + 1 - length before ≡ j - length before + 1
+    gap_more = omega arith
+
+    by_test : (b : Bool) → is_written m (length ms) ≡ b
+        → factors_after n before (first_if b (multiple_text m j) (multiples (j + 1) ms)) ≡ Ok (joined_at j before (m ∷ ms))
+    by_test true is = rw (factor_again n j m before small place below count)
+        (rest more (omega (arith, long)) (λ e. long) ∙ ap (λ (xs : List ℕ). Ok xs) (rw none joins))
+    by_test false is =
+        let nothing = unwritten m (length ms) is in
+        let at : m ≡ 0 = nothing.0 in
+        rest before (omega arith) (λ e. absurd (omega (arith, nothing.1)))
+        ∙ ap (λ (xs : List ℕ). Ok xs) (rw (gap_more, ← replicate_more {X = ℕ} (j - length before) 0, at) (simp append_assoc))
+
+factors_again : (n j : ℕ) (before ms : List ℕ) → n ≤ 2 ^ 32 → length before ≤ j → j + length ms ≤ n → (length ms ≡ 0 → length before ≡ j)
+    → AllByRecursion FitsCount ms → factors_after n before (multiples j ms) ≡ Ok (joined_at j before ms)
+unfolding factors_after
+factors_again n j before [] small place few last all =
+    let none : j - length before ≡ 0 = omega (arith, last refl) in rw none (sym (ap (λ (xs : List ℕ). Ok xs) (simp append-nil)))
+factors_again n j before (m ∷ ms) small place few last all = factors_step n j m before ms small place (omega arith) all.0
+    (λ more le end. factors_again n (j + 1) more ms small le (omega arith) end all.1)
+
+-- ---- forms
+
+pieces_again : (first : List ℕ) (parts : List (List ℕ)) → NonePass (is_byte 43) first → AllByRecursion (NonePass (is_byte 43)) parts
+    → slice_split (is_byte 43) (first ++ parts_text true parts) ≡ first ∷ parts
+pieces_again first [] none all = rw (append-nil first) (split_none (is_byte 43) first none)
+pieces_again first (part ∷ parts) none all =
+    split_stop (is_byte 43) first 43 (part ++ parts_text true parts) none refl ∙ ap (λ (ps : List (List ℕ)). first ∷ ps) (pieces_again part parts all.0 all.1)
+
+parts_again : (parts : List (List ℕ)) → 0 < length parts → AllByRecursion (NonePass (is_byte 43)) parts → pieces (Byte 43) (parts_text false parts) ≡ parts
+parts_again [] some all = absurd (omega arith)
+parts_again (part ∷ parts) some all = pieces_again part parts all.0 all.1
+
+abbrev alone : List ℕ → Result Form CertificateFault
+alone factors = Ok (record { constant = 0; factors = factors })
+
+no_constant : (n : ℕ) (parts : List (List ℕ)) → 0 < length parts → AllByRecursion (λ part. count_of part ≡ None) parts
+    → form_from n parts ≡ (factors_after n [] parts >>= alone)
+no_constant n [] some all = absurd (omega arith)
+no_constant n (part ∷ parts) some all = rw all.0 refl
+
+pub form_again : (n : ℕ) (f : Form) → n ≤ 2 ^ 32 → FitsForm n f → form_of n (form_text f) ≡ Ok f
+unfolding form_of
+form_again n f small fits = rw (parts_again (parts_of f) (some (is_written f.constant (length f.factors)) refl)
+    (parts_bytes (is_byte 43) (λ d lt. not_low_byte 43 d (omega arith)) refl n f small fits)) (by_test (is_written f.constant (length f.factors)) refl)
+  where
+    read : factors_after n [] (multiples 0 f.factors) ≡ Ok f.factors
+    read = factors_again n 0 [] f.factors small (omega arith) (omega (arith, fits.few)) (λ e. refl) fits.factors
+
+    some : (b : Bool) → is_written f.constant (length f.factors) ≡ b → 0 < length (first_if b (decimal f.constant) (multiples 0 f.factors))
+    some true is = omega arith
+    some false is = multiples_some 0 f.factors (unwritten f.constant (length f.factors) is).1
+
+    by_test : (b : Bool) → is_written f.constant (length f.factors) ≡ b → form_from n (first_if b (decimal f.constant) (multiples 0 f.factors)) ≡ Ok f
+    by_test true is = rw (count_again f.constant fits.constant, read) refl
+    by_test false is =
+        let nothing = unwritten f.constant (length f.factors) is in
+        no_constant n (multiples 0 f.factors) (multiples_some 0 f.factors nothing.1) (multiples_no_count 0 f.factors)
+        ∙ rw (read, ← nothing.0) refl
+
+pub forms_again : (n : ℕ) (forms : List Form) → n ≤ 2 ^ 32 → AllByRecursion (FitsForm n) forms → forms_in n (map form_text forms) ≡ Ok forms
+unfolding forms_in
+forms_again n forms small all = each_again (form_of n) form_text (FitsForm n) (λ f fits. form_again n f small fits) forms all
+
+some_text : (n : ℕ) (f : Form) (text : List ℕ) → form_of n text ≡ Ok f → 0 < length text
+unfolding form_of factors_after with_factor multiple_of count_of word_of
+some_text n f [] e = absurd cc
+some_text n f (byte ∷ text) e = omega arith
+
+-- a form's text has a byte, and no blank, line end or other low one
+pub form_solid : (n : ℕ) (f : Form) → n ≤ 2 ^ 32 → FitsForm n f → Solid (form_text f)
+form_solid n f small fits = (
+  some_text n f (form_text f) (form_again n f small fits),
+  form_bytes is_low (λ d lt. le-ltb (48 + d) 33 (omega arith)) refl refl n f small fits,
+)
+
+-- ---- values
+
+not_index : (N n : ℕ) (text : List ℕ) → 0 < length text → NonePass (is_byte 64) text → known_value_in N n text ≡ linear_of n text
+unfolding known_value_in
+not_index N n [] some none = absurd (omega arith)
+not_index N n (byte ∷ text) some none = rw none.0 refl
+
+pub linear_again : (N n : ℕ) (f : Form) → n ≤ 2 ^ 32 → FitsForm n f → known_value_in N n (form_text f) ≡ Ok (linear f)
+unfolding linear_of
+linear_again N n f small fits =
+    not_index N n (form_text f) (form_solid n f small fits).0 (form_bytes (is_byte 64) (λ d lt. not_byte 64 d (omega arith) lt) refl refl n f small fits)
+    ∙ rw (form_again n f small fits) refl
+
+pub index_again : (N n i : ℕ) (f : Form) → n ≤ 2 ^ 32 → N ≤ 2 ^ 32 → i < N → FitsForm n f
+    → known_value_in N n (64 ∷ decimal i ++ 58 ∷ form_text f) ≡ Ok (index_for i f)
+unfolding known_value_in index_of
+index_again N n i f small few below fits =
+    let none = decimal_bytes (is_byte 58) (λ d lt. not_byte 58 d (omega arith) lt) i (omega arith) in
+    rw (
+      before-stop (is_byte 58) (decimal i) 58 (form_text f) none refl,
+      after-stop (is_byte 58) (decimal i) 58 (form_text f) none refl,
+      word_again i (omega arith),
+      lt-ltb i N below,
+      form_again n f small fits,
+    ) refl

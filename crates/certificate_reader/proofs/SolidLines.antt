@@ -1,0 +1,170 @@
+-- No word of a line that is written has a blank or a line end.
+use Rattle.std.proofs.Common.{ℕ, ◌+◌, ◌^◌, ◌<◌, ◌≤◌, List, [], ◌∷◌, ◌++◌, length, map, Option, Some, None, refl, arith}
+use Rattle.std.specs.Prelude.{codes}
+use Rattle.std.specs.List.{AllByRecursion, flat_map}
+use Rattle.std.specs.Fmt.{decimal}
+use Rattle.std.proofs.lemmas.List.{map-append}
+use Rattle.texts.proofs.CuttingLaws.{none-append}
+use Rattle.texts.proofs.RowLaws.{is_low, Solid, solid_by_test, decimal_solid}
+use Rattle.queue_certificates.specs.States.{KnownValue, any, linear, index_for, Share}
+use Rattle.queue_certificates.specs.Certificates.{OpenedQueue, Arrow, Cases, leaf, split, ListedState, HartPart, QueueCertificate}
+use Rattle.certificate_reader.specs.CaseTexts.{arrow_lines, case_lines}
+use Rattle.certificate_reader.specs.Writing.{LineOfWords, form_text, value_line, value_lines, share_lines, range_text, line_if}
+use Rattle.certificate_reader.specs.Writing.{known_lines, node_line, tree_lines, state_lines}
+use Rattle.certificate_reader.specs.Writing.{part_lines, numbers_of, queue_line, certificate_lines, value_text}
+use Rattle.certificate_reader.specs.Written.{FitsWord, FitsCount, FitsForm, FitsValue, FitsShare, FitsRange, FitsArrow}
+use Rattle.certificate_reader.specs.Written.{FitsCases, FitsState, FitsPart, FitsQueue}
+use Rattle.certificate_reader.specs.Written.{CanBeWritten}
+use Rattle.certificate_reader.proofs.FormsAgain.{form_solid}
+use Rattle.certificate_reader.proofs.LinesAgain.{IsSolidLine}
+
+abbrev pub AreSolid : List LineOfWords → Type 0
+AreSolid ls = AllByRecursion IsSolidLine ls
+
+all_append : {A : Type 0} (P : A → Type 0) (xs ys : List A) → AllByRecursion P xs → AllByRecursion P ys → AllByRecursion P (xs ++ ys)
+all_append P [] ys one other = other
+all_append P (x ∷ xs) ys one other = (one.0, all_append P xs ys one.1 other)
+
+all_map : {A B : Type 0} (P : A → Type 0) (Q : B → Type 0) (f : A → B) → ((a : A) → P a → Q (f a)) → (xs : List A) → AllByRecursion P xs
+    → AllByRecursion Q (map f xs)
+all_map P Q f each [] all = tt
+all_map P Q f each (x ∷ xs) all = (each x all.0, all_map P Q f each xs all.1)
+
+all_flat : {A B : Type 0} (P : A → Type 0) (Q : B → Type 0) (f : A → List B) → ((a : A) → P a → AllByRecursion Q (f a)) → (xs : List A)
+    → AllByRecursion P xs → AllByRecursion Q (flat_map f xs)
+all_flat P Q f each [] all = tt
+all_flat P Q f each (x ∷ xs) all = all_append Q (f x) (flat_map f xs) (each x all.0) (all_flat P Q f each xs all.1)
+
+word_solid : (n : ℕ) → n < 2 ^ 32 → Solid (decimal n)
+word_solid n small = decimal_solid n (omega arith)
+
+count_solid : (n : ℕ) → n ≤ 2 ^ 32 → Solid (decimal n)
+count_solid n small = decimal_solid n (omega arith)
+
+line_solid : (name : List ℕ) (words : List (List ℕ)) → Solid name → AllByRecursion Solid words → IsSolidLine (name, words)
+line_solid name words one all = record { name = one; words = all }
+
+if_solid : (name : List ℕ) (words : List (List ℕ)) → Solid name → AllByRecursion Solid words → AreSolid (line_if name words)
+if_solid name [] one all = tt
+if_solid name (word ∷ words) one all = (line_solid name (word ∷ words) one all, tt)
+
+range_solid : (r : Option ℕ) → FitsRange r → Solid (range_text r)
+range_solid None fits = solid_by_test (codes "-") refl
+range_solid (Some n) fits = count_solid n fits
+
+index_solid : (i : ℕ) (text : List ℕ) → i < 2 ^ 32 → Solid text → Solid (64 ∷ decimal i ++ 58 ∷ text)
+index_solid i text small solid = (omega arith, (refl, none-append is_low (decimal i) (58 ∷ text) (word_solid i small).1 (refl, solid.1)))
+
+value_solid : (N n j : ℕ) (name : List ℕ) (v : KnownValue) → n ≤ 2 ^ 32 → N ≤ 2 ^ 32 → j < 2 ^ 32 → Solid name → FitsValue N n v
+    → AreSolid (value_line name j (value_text v))
+value_solid N n j name any small few place one fits = tt
+value_solid N n j name (linear f) small few place one fits =
+    (line_solid name (decimal j ∷ form_text f ∷ []) one (word_solid j place, (form_solid n f small fits, tt)), tt)
+value_solid N n j name (index_for i f) small few place one fits = (
+  line_solid name (decimal j ∷ (64 ∷ decimal i ++ 58 ∷ form_text f) ∷ []) one
+      (word_solid j place, (index_solid i (form_text f) (omega (arith, fits.0)) (form_solid n f small fits.1), tt)),
+  tt,
+)
+
+values_solid : (N n j : ℕ) (name : List ℕ) (vs : List KnownValue) → n ≤ 2 ^ 32 → N ≤ 2 ^ 32 → j + length vs ≤ 2 ^ 32 → Solid name
+    → AllByRecursion (FitsValue N n) vs → AreSolid (value_lines name j vs)
+values_solid N n j name [] small few place one all = tt
+values_solid N n j name (v ∷ vs) small few place one all =
+    all_append IsSolidLine (value_line name j (value_text v)) (value_lines name (j + 1) vs) (value_solid N n j name v small few (omega arith) one all.0)
+    (values_solid N n (j + 1) name vs small few (omega arith) one all.1)
+
+shares_solid : (n j : ℕ) (ss : List Share) → n ≤ 2 ^ 32 → j + length ss ≤ 2 ^ 32 → AllByRecursion (FitsShare n) ss → AreSolid (share_lines j ss)
+shares_solid n j [] small place all = tt
+shares_solid n j (s ∷ ss) small place all = (
+  line_solid (codes "share") (decimal j ∷ form_text s.own ∷ form_text s.owned ∷ []) (solid_by_test (codes "share") refl)
+      (word_solid j (omega arith), (form_solid n s.own small all.0.own, (form_solid n s.owned small all.0.owned, tt))),
+  shares_solid n (j + 1) ss small (omega arith) all.1,
+)
+
+arrows_solid : (n : ℕ) (arrows : List Arrow) → n + 1 ≤ 2 ^ 32 → AllByRecursion (FitsArrow n) arrows → AreSolid (tree_lines (arrow_lines arrows))
+arrows_solid n [] small all = tt
+arrows_solid n (a ∷ arrows) small all = (
+  line_solid (codes "to") (decimal a.to ∷ map form_text a.forms) (solid_by_test (codes "to") refl)
+      (word_solid a.to all.0.to, all_map (FitsForm (n + 1)) Solid form_text (λ f fits. form_solid (n + 1) f small fits) a.forms all.0.forms),
+  arrows_solid n arrows small all.1,
+)
+
+tree_append : (low high : Cases) → AreSolid (tree_lines (case_lines low)) → AreSolid (tree_lines (case_lines high))
+    → AreSolid (tree_lines (case_lines low ++ case_lines high))
+tree_append low high one other = rw (map-append node_line (case_lines low) (case_lines high))
+    (all_append IsSolidLine (tree_lines (case_lines low)) (tree_lines (case_lines high)) one other)
+
+cases_solid : (n : ℕ) (cases : Cases) → n + 1 ≤ 2 ^ 32 → FitsCases n cases → AreSolid (tree_lines (case_lines cases))
+cases_solid n (leaf handed arrows) small fits = (
+  line_solid (codes "leaf") (form_text handed ∷ []) (solid_by_test (codes "leaf") refl) (form_solid n handed (omega arith) fits.0, tt),
+  arrows_solid n arrows small fits.1,
+)
+cases_solid n (split j v low high) small fits = (
+  line_solid (codes "split") (decimal j ∷ decimal v ∷ []) (solid_by_test (codes "split") refl)
+      (word_solid j (omega (arith, fits.0)), (count_solid v fits.1, tt)),
+  tree_append low high (cases_solid n low small fits.2) (cases_solid n high small fits.3),
+)
+
+state_solid : (N words : ℕ) (s : ListedState) → N ≤ 16 → words ≤ 64 → FitsState N words s → AreSolid (state_lines s)
+state_solid N words s few few_words fits =
+    let n = length s.known.ranges in
+    let small : n + 1 ≤ 2 ^ 32 = omega (arith, fits.variables) in
+    let most = if_solid (codes "most") (map range_text s.known.ranges) (solid_by_test (codes "most") refl)
+    (all_map FitsRange Solid range_text range_solid s.known.ranges fits.ranges) in
+    let registers = values_solid N n 0 (codes "reg") s.known.registers (omega arith) (omega arith) (omega (arith, fits.all_registers))
+    (solid_by_test (codes "reg") refl) fits.registers in
+    let own = values_solid N n 0 (codes "word") s.known.words (omega arith) (omega arith) (omega (arith, fits.all_words))
+    (solid_by_test (codes "word") refl) fits.words in
+    let shares = shares_solid n 0 s.known.shares (omega arith) (omega (arith, fits.all_shares)) fits.shares in (
+      line_solid (codes "state") (decimal s.known.pc ∷ []) (solid_by_test (codes "state") refl) (word_solid s.known.pc fits.pc, tt),
+      all_append IsSolidLine (known_lines s.known) (tree_lines (case_lines s.cases))
+          (all_append IsSolidLine _ (share_lines 0 s.known.shares)
+          (all_append IsSolidLine _ (value_lines (codes "word") 0 s.known.words)
+          (all_append IsSolidLine (line_if (codes "most") (map range_text s.known.ranges)) (value_lines (codes "reg") 0 s.known.registers) most registers) own)
+          shares)
+          (cases_solid n s.cases small fits.cases),
+    )
+
+part_solid : (N : ℕ) (p : HartPart) → N ≤ 16 → FitsPart N p → AreSolid (part_lines p)
+part_solid N p few fits =
+    let own = if_solid (codes "own") (map decimal p.own) (solid_by_test (codes "own") refl) (all_map FitsWord Solid decimal word_solid p.own fits.own) in
+    let numbers : AllByRecursion Solid (map decimal (p.first ∷ p.numbers)) =
+    (word_solid p.first fits.first, all_map FitsCount Solid decimal count_solid p.numbers fits.numbers) in
+    let opening = line_solid (codes "open") (map decimal (p.first ∷ p.numbers)) (solid_by_test (codes "open") refl) numbers in
+    all_append IsSolidLine ((codes "hart", []) ∷ line_if (codes "own") (map decimal p.own) ++ (codes "open", map decimal (p.first ∷ p.numbers)) ∷ [])
+    (flat_map state_lines p.states)
+    (all_append IsSolidLine ((codes "hart", []) ∷ line_if (codes "own") (map decimal p.own)) ((codes "open", map decimal (p.first ∷ p.numbers)) ∷ [])
+    (line_solid (codes "hart") [] (solid_by_test (codes "hart") refl) tt, own) (opening, tt))
+    (all_flat (FitsState N (length p.own)) IsSolidLine state_lines (λ s fits_s. state_solid N (length p.own) s few fits.few_words fits_s) p.states fits.states)
+
+counts_of_queue : (o : OpenedQueue) → FitsQueue o → AllByRecursion FitsCount (numbers_of o)
+counts_of_queue o fits =
+    let w = fits.places in
+    let s = fits.slots in (
+      omega (arith, w.0),
+      (
+        omega (arith, w.1.0),
+        (
+          omega (arith, w.1.1.0),
+          (
+            omega (arith, w.1.1.1.0),
+            (
+              omega (arith, w.1.1.1.1.0),
+              (omega (arith, s.0), (omega (arith, s.1.0), (omega (arith, s.1.1.0), (omega (arith, s.1.1.1.0), (omega (arith, s.1.1.1.1.0), fits.counts))))),
+            ),
+          ),
+        ),
+      ),
+    )
+
+queue_solid : (o : OpenedQueue) → FitsQueue o → IsSolidLine (queue_line o)
+queue_solid o fits = line_solid (codes "queue") (map decimal (numbers_of o)) (solid_by_test (codes "queue") refl)
+    (all_map FitsCount Solid decimal count_solid (numbers_of o) (counts_of_queue o fits))
+
+pub certificate_solid : (c : QueueCertificate) → CanBeWritten c → AreSolid (certificate_lines c)
+certificate_solid c fits =
+    all_append IsSolidLine ((codes "ztso-queues", codes "1" ∷ []) ∷ map queue_line c.queues) (flat_map part_lines c.harts) (
+      line_solid (codes "ztso-queues") (codes "1" ∷ []) (solid_by_test (codes "ztso-queues") refl) (solid_by_test (codes "1") refl, tt),
+      all_map FitsQueue IsSolidLine queue_line queue_solid c.queues fits.queues,
+    )
+    (all_flat (FitsPart (length c.queues)) IsSolidLine part_lines (λ p fits_p. part_solid (length c.queues) p fits.few_queues fits_p) c.harts fits.harts)

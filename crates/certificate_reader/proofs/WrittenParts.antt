@@ -1,0 +1,34 @@
+-- Parts and lines of which some are written.
+use Rattle.std.proofs.Common.{◌≡◌, ℕ, Bool, true, false, List, [], ◌∷◌, ◌++◌, length, map, cond, Result, Ok, Err, refl, ap, ◌∙◌}
+use Rattle.std.specs.Prelude.{is_ok, OnOk}
+use Rattle.std.proofs.lemmas.List.{append-nil}
+use Rattle.std.proofs.lemmas.List.Folds.{flat_map-map}
+use Rattle.certificate_reader.specs.Writing.{spaced, itself, lines_text, line_if, parts_text}
+
+-- a part, and then the others
+pub joined_more : (follows : Bool) (part : List ℕ) (parts : List (List ℕ))
+    → parts_text follows (part ∷ []) ++ parts_text true parts ≡ parts_text follows (part ∷ parts)
+joined_more true part parts = rw (append-nil part) refl
+joined_more false part parts = rw (append-nil part) refl
+
+-- the line of words that are made of elements; and where a word comes before these
+pub line_of : {A : Type 0} (front name : List ℕ) (word : A → List ℕ) (xs : List A)
+    → lines_text front ((name, map word xs) ∷ []) ≡ front ++ name ++ spaced word xs ++ 10 ∷ []
+line_of front name word xs = append-nil (front ++ name ++ spaced itself (map word xs) ++ 10 ∷ [])
+    ∙ ap (λ (words : List ℕ). front ++ name ++ words ++ 10 ∷ []) (flat_map-map (λ w. 32 ∷ itself w) word xs)
+
+pub line_after : {A : Type 0} (front name first : List ℕ) (word : A → List ℕ) (xs : List A)
+    → lines_text front ((name, first ∷ map word xs) ∷ []) ≡ front ++ name ++ (32 ∷ first ++ spaced word xs) ++ 10 ∷ []
+line_after front name first word xs = append-nil (front ++ name ++ (32 ∷ first ++ spaced itself (map word xs)) ++ 10 ∷ [])
+    ∙ ap (λ (words : List ℕ). front ++ name ++ (32 ∷ first ++ words) ++ 10 ∷ []) (flat_map-map (λ w. 32 ∷ itself w) word xs)
+
+pub line_if_some : {A : Type 0} (front name : List ℕ) (word : A → List ℕ) (xs : List A) → (length xs ≡ 0 → ⊥)
+    → lines_text front (line_if name (map word xs)) ≡ front ++ name ++ spaced word xs ++ 10 ∷ []
+line_if_some front name word [] some = absurd (some refl)
+line_if_some front name word (x ∷ xs) some = line_of front name word (x ∷ xs)
+
+-- what a last call, which appends a line end, leaves
+pub ended : {E : Type 0} (result : Result (Unit {0}) E) (old text line new : List ℕ) → new ≡ cond (is_ok result) (text ++ 10 ∷ []) text
+    → text ++ 10 ∷ [] ≡ old ++ line → OnOk result (new ≡ old ++ line)
+ended (Ok x) old text line new is same = is ∙ same
+ended (Err e) old text line new is same = tt

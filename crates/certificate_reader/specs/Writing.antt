@@ -1,0 +1,135 @@
+-- The one text in which a certificate is written: each line's words with one space between them, numbers without leading zeros, what is
+-- known by places in ascending order, and no line that tells nothing.
+use Rattle.std.specs.Prelude.{ℕ, ◌+◌, ◌==◌, ◌||◌, not, Bool, true, false, List, [], ◌∷◌, ◌++◌, length, map, Option, Some, None, codes}
+use Rattle.std.specs.List.{flat_map}
+use Rattle.std.specs.Fmt.{decimal}
+use Rattle.queue_certificates.specs.Forms.{Form}
+use Rattle.queue_certificates.specs.States.{KnownValue, any, linear, index_for, Share, KnownState}
+use Rattle.queue_certificates.specs.Certificates.{OpenedQueue, ListedState, HartPart, QueueCertificate}
+use Rattle.certificate_reader.specs.declared.cases.Node.{Node}
+use Rattle.certificate_reader.specs.declared.cases.Node.TheVariants as node
+use Rattle.certificate_reader.specs.CaseTexts.{case_lines}
+
+-- ---- lines
+
+-- a line's first word, and the words after it
+abbrev pub LineOfWords : Type 0
+LineOfWords = List ℕ × List (List ℕ)
+
+-- what is made of each element, after a space (32)
+abbrev pub spaced : {A : Type 0} → (A → List ℕ) → List A → List ℕ
+spaced word xs = flat_map (λ x. 32 ∷ word x) xs
+
+abbrev pub itself : List ℕ → List ℕ
+itself word = word
+
+-- what stands in front of each line, the line and LF (10)
+abbrev pub line_text : (front : List ℕ) → LineOfWords → List ℕ
+line_text front line = front ++ line.0 ++ spaced itself line.1 ++ 10 ∷ []
+
+abbrev pub lines_text : (front : List ℕ) → List LineOfWords → List ℕ
+lines_text front lines = flat_map (line_text front) lines
+
+-- ---- forms: parts with a `+` (43) between them
+
+-- a number is written where it isn't 0, or where nothing comes after it
+abbrev pub is_written : (n after : ℕ) → Bool
+is_written n after = not (n == 0) || (after == 0)
+
+abbrev pub first_if : Bool → List ℕ → List (List ℕ) → List (List ℕ)
+first_if true part parts = part ∷ parts
+first_if false part parts = parts
+
+-- `m*j` (the `*` is 42)
+abbrev pub multiple_text : (m j : ℕ) → List ℕ
+multiple_text m j = decimal m ++ 42 ∷ decimal j
+
+-- of the variables from j on
+abbrev pub multiples : (j : ℕ) → List ℕ → List (List ℕ)
+multiples j [] = []
+multiples j (m ∷ ms) = first_if (is_written m (length ms)) (multiple_text m j) (multiples (j + 1) ms)
+
+abbrev pub parts_of : Form → List (List ℕ)
+parts_of f = first_if (is_written f.constant (length f.factors)) (decimal f.constant) (multiples 0 f.factors)
+
+-- parts of which something stands before the first, or nothing
+abbrev pub parts_text : (follows : Bool) → List (List ℕ) → List ℕ
+parts_text true parts = flat_map (λ part. 43 ∷ part) parts
+parts_text false [] = []
+parts_text false (part ∷ parts) = part ++ parts_text true parts
+
+abbrev pub form_text : Form → List ℕ
+form_text f = parts_text false (parts_of f)
+
+-- ---- what is known in a state
+
+-- `@i:FORM` for an index's word (the `@` is 64, the `:` 58)
+abbrev pub index_text : (i : ℕ) → Form → List ℕ
+index_text i f = 64 ∷ decimal i ++ 58 ∷ form_text f
+
+abbrev pub value_text : KnownValue → Option (List ℕ)
+value_text any = None
+value_text (linear f) = Some (form_text f)
+value_text (index_for i f) = Some (index_text i f)
+
+abbrev pub value_line : (name : List ℕ) (place : ℕ) → Option (List ℕ) → List LineOfWords
+value_line name place None = []
+value_line name place (Some text) = (name, decimal place ∷ text ∷ []) ∷ []
+
+-- values of the places from this one on
+abbrev pub value_lines : (name : List ℕ) (place : ℕ) → List KnownValue → List LineOfWords
+value_lines name place [] = []
+value_lines name place (value ∷ values) = value_line name place (value_text value) ++ value_lines name (place + 1) values
+
+abbrev pub share_line : (place : ℕ) → Share → LineOfWords
+share_line place share = (codes "share", decimal place ∷ form_text share.own ∷ form_text share.owned ∷ [])
+
+abbrev pub share_lines : (place : ℕ) → List Share → List LineOfWords
+share_lines place [] = []
+share_lines place (share ∷ shares) = share_line place share ∷ share_lines (place + 1) shares
+
+abbrev pub range_text : Option ℕ → List ℕ
+range_text None = codes "-"
+range_text (Some n) = decimal n
+
+-- a line of this name, if it has further words
+abbrev pub line_if : (name : List ℕ) → List (List ℕ) → List LineOfWords
+line_if name [] = []
+line_if name (word ∷ words) = (name, word ∷ words) ∷ []
+
+abbrev pub known_lines : KnownState → List LineOfWords
+known_lines k = line_if (codes "most") (map range_text k.ranges) ++ value_lines (codes "reg") 0 k.registers
+    ++ value_lines (codes "word") 0 k.words ++ share_lines 0 k.shares
+
+-- ---- states, harts and queues
+
+abbrev pub node_line : Node → LineOfWords
+node_line (node.Split j v) = (codes "split", decimal j ∷ decimal v ∷ [])
+node_line (node.Leaf handed) = (codes "leaf", form_text handed ∷ [])
+node_line (node.To arrow) = (codes "to", decimal arrow.to ∷ map form_text arrow.forms)
+
+abbrev pub tree_lines : List Node → List LineOfWords
+tree_lines nodes = map node_line nodes
+
+abbrev pub state_lines : ListedState → List LineOfWords
+state_lines s = (codes "state", decimal s.known.pc ∷ []) ∷ known_lines s.known ++ tree_lines (case_lines s.cases)
+
+abbrev pub part_lines : HartPart → List LineOfWords
+part_lines p = (codes "hart", []) ∷ line_if (codes "own") (map decimal p.own) ++ (codes "open", map decimal (p.first ∷ p.numbers)) ∷ []
+    ++ flat_map state_lines p.states
+
+-- the numbers of a queue's line
+abbrev pub numbers_of : OpenedQueue → List ℕ
+numbers_of o = let q = o.queue in q.sender ∷ q.receiver ∷ q.head ∷ q.tail ∷ q.index_width ∷ q.slots ∷ q.size ∷ q.width ∷ q.capacity ∷ q.base
+    ∷ q.scale ∷ q.offset ∷ q.modulus ∷ o.start ∷ []
+
+abbrev pub queue_line : OpenedQueue → LineOfWords
+queue_line o = (codes "queue", map decimal (numbers_of o))
+
+-- ---- all of it
+
+abbrev pub certificate_lines : QueueCertificate → List LineOfWords
+certificate_lines c = (codes "ztso-queues", codes "1" ∷ []) ∷ map queue_line c.queues ++ flat_map part_lines c.harts
+
+unfoldable pub certificate_text : QueueCertificate → List ℕ
+certificate_text c = lines_text [] (certificate_lines c)

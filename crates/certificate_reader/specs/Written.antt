@@ -1,0 +1,81 @@
+-- Which certificates can be written within the reader's limits: a text of such a one is read as the certificate again.
+use Rattle.std.specs.Prelude.{ℕ, ◌≡◌, ◌+◌, ◌^◌, ◌<◌, ◌≤◌, Option, None, Some, [], ◌∷◌, length, get_or, sum_by}
+use Rattle.std.specs.List.{AllByRecursion}
+use Rattle.queue_certificates.specs.Forms.{Form}
+use Rattle.queue_certificates.specs.States.{KnownValue, any, linear, index_for, Share}
+use Rattle.queue_certificates.specs.Certificates.{OpenedQueue, Arrow, Cases, leaf, split, ListedState, HartPart, QueueCertificate}
+use Rattle.queue_checker.specs.Trees.{height}
+use Rattle.certificate_reader.specs.declared.stages.TheConstants.{MAX_SPLITS}
+use Rattle.certificate_reader.specs.declared.limits.TheConstants.{MAX_QUEUES, MAX_HARTS, MAX_WORDS, MAX_VARIABLES, MAX_STATES}
+
+abbrev pub FitsWord : ℕ → Type 0
+FitsWord n = n < 2 ^ 32
+
+-- a count may also be 2 ^ 32
+abbrev pub FitsCount : ℕ → Type 0
+FitsCount n = n ≤ 2 ^ 32
+
+-- a form of n variables
+pub record FitsForm (n : ℕ) (f : Form) : Type 0 where
+  pub constant : FitsCount f.constant
+  pub factors : AllByRecursion FitsCount f.factors
+  pub few : length f.factors ≤ n
+
+-- where there are N queues
+abbrev pub FitsValue : (N n : ℕ) → KnownValue → Type 0
+FitsValue N n any = Unit {0}
+FitsValue N n (linear f) = FitsForm n f
+FitsValue N n (index_for i f) = (i < N) × FitsForm n f
+
+pub record FitsShare (n : ℕ) (s : Share) : Type 0 where
+  pub own : FitsForm n s.own
+  pub owned : FitsForm n s.owned
+
+abbrev pub FitsRange : Option ℕ → Type 0
+FitsRange None = Unit {0}
+FitsRange (Some most) = FitsCount most
+
+pub record FitsArrow (n : ℕ) (a : Arrow) : Type 0 where
+  pub to : FitsWord a.to
+  pub forms : AllByRecursion (FitsForm (n + 1)) a.forms
+  pub few : length a.forms ≤ MAX_VARIABLES
+
+abbrev pub FitsCases : (n : ℕ) → Cases → Type 0
+FitsCases n (leaf handed arrows) = FitsForm n handed × AllByRecursion (FitsArrow n) arrows
+FitsCases n (split j v low high) = (j < n) × FitsCount v × FitsCases n low × FitsCases n high
+
+-- of a hart with `own` own words: a value or none of each register and own word, and a share or none of each queue
+pub record FitsState (N own : ℕ) (s : ListedState) : Type 0 where
+  pub pc : FitsWord s.known.pc
+  pub variables : length s.known.ranges ≤ MAX_VARIABLES
+  pub ranges : AllByRecursion FitsRange s.known.ranges
+  pub registers : AllByRecursion (FitsValue N (length s.known.ranges)) s.known.registers
+  pub all_registers : length s.known.registers ≡ 32
+  pub zero_register : get_or s.known.registers 0 any ≡ any
+  pub words : AllByRecursion (FitsValue N (length s.known.ranges)) s.known.words
+  pub all_words : length s.known.words ≡ own
+  pub shares : AllByRecursion (FitsShare (length s.known.ranges)) s.known.shares
+  pub all_shares : length s.known.shares ≡ N
+  pub cases : FitsCases (length s.known.ranges) s.cases
+  pub splits : height s.cases ≤ MAX_SPLITS
+
+pub record FitsPart (N : ℕ) (p : HartPart) : Type 0 where
+  pub own : AllByRecursion FitsWord p.own
+  pub few_words : length p.own ≤ MAX_WORDS
+  pub first : FitsWord p.first
+  pub numbers : AllByRecursion FitsCount p.numbers
+  pub few_numbers : length p.numbers ≤ MAX_VARIABLES
+  pub states : AllByRecursion (FitsState N (length p.own)) p.states
+
+pub record FitsQueue (o : OpenedQueue) : Type 0 where
+  pub places : AllByRecursion FitsWord (o.queue.sender ∷ o.queue.receiver ∷ o.queue.head ∷ o.queue.tail ∷ o.queue.index_width ∷ [])
+  pub slots : AllByRecursion FitsWord (o.queue.slots ∷ o.queue.size ∷ o.queue.width ∷ o.queue.capacity ∷ o.queue.base ∷ [])
+  pub counts : AllByRecursion FitsCount (o.queue.scale ∷ o.queue.offset ∷ o.queue.modulus ∷ o.start ∷ [])
+
+pub record CanBeWritten (c : QueueCertificate) : Type 0 where
+  pub queues : AllByRecursion FitsQueue c.queues
+  pub few_queues : length c.queues ≤ MAX_QUEUES
+  pub harts : AllByRecursion (FitsPart (length c.queues)) c.harts
+  pub some_hart : 1 ≤ length c.harts
+  pub few_harts : length c.harts ≤ MAX_HARTS
+  pub few_states : sum_by (λ part. length part.states) c.harts ≤ MAX_STATES

@@ -1,0 +1,126 @@
+//! Writing what is known in a state.
+
+ghost use Rattle.std.specs.Prelude.{◌≡◌, ◌++◌, ◌∷◌, [], codes, map, OnOk};
+ghost use Rattle.std.specs.String.{string_bytes};
+ghost use Rattle.std.specs.Fmt.{decimal};
+ghost use Rattle.certificate_reader.specs.Writing.{lines_text, line_if, range_text, index_text, value_text, value_line, value_lines, share_line};
+ghost use Rattle.certificate_reader.specs.Writing.{share_lines, known_lines};
+
+use crate::form_texts::{push_form, push_ranges};
+use known_values::{Form, Known, KnownValue};
+use queue_checker::{KnownState, Share};
+use std::alloc::AllocError;
+use texts::push_decimal;
+
+/// Appends how a line of a place begins.
+fn push_place(out: &mut String, front: &str, name: &str, place: usize) -> Result<(), AllocError>
+    ensures { OnOk result (string_bytes out.new ≡ string_bytes out.old ++ (front.now ++ name.now ++ 32 ∷ decimal place ++ 32 ∷ [])) }
+{
+    out.push_str(front)?;
+    out.push_str(name)?;
+    out.push_str(" ")?;
+    push_decimal(out, place as u64)?;
+    out.push_str(" ")
+}
+
+/// Appends the word of a queue that stands for a count.
+fn push_index(out: &mut String, queue: u32, form: &Form) -> Result<(), AllocError>
+    ensures { OnOk result (string_bytes out.new ≡ string_bytes out.old ++ index_text queue form.now) }
+{
+    out.push_str("@")?;
+    push_decimal(out, u64::from(queue))?;
+    out.push_str(":")?;
+    push_form(out, form)
+}
+
+/// Appends the line of a value at a place, if anything is known of it.
+fn push_value(
+    out: &mut String,
+    front: &str,
+    name: &str,
+    place: usize,
+    value: &KnownValue,
+) -> Result<(), AllocError>
+    ensures { OnOk result (string_bytes out.new ≡ string_bytes out.old ++ lines_text front.now (value_line name.now place (value_text value.now))) }
+{
+    match &value.known {
+        Known::Any => Ok(()),
+        Known::Linear(form) => {
+            push_place(out, front, name, place)?;
+            push_form(out, form)?;
+            out.push_str("\n")
+        }
+        Known::IndexFor(queue, form) => {
+            push_place(out, front, name, place)?;
+            push_index(out, *queue, form)?;
+            out.push_str("\n")
+        }
+    }
+}
+
+/// Appends the lines of values, whose places count from 0.
+fn push_values(
+    out: &mut String,
+    front: &str,
+    name: &str,
+    values: &[KnownValue],
+) -> Result<(), AllocError>
+    ensures { OnOk result (string_bytes out.new ≡ string_bytes out.old ++ lines_text front.now (value_lines name.now 0 values.now)) }
+{
+    let mut place = 0;
+    let mut rest = values;
+    'values: while let [value, others @ ..] = rest {
+        push_value(out, front, name, place, value)?;
+        place += 1;
+        rest = others;
+    }
+    Ok(())
+}
+
+/// Appends the line of the hart's share of a queue.
+fn push_share(out: &mut String, front: &str, place: usize, share: &Share) -> Result<(), AllocError>
+    ensures { OnOk result (string_bytes out.new ≡ string_bytes out.old ++ lines_text front.now (share_line place share.now ∷ [])) }
+{
+    push_place(out, front, "share", place)?;
+    push_form(out, &share.own)?;
+    out.push_str(" ")?;
+    push_form(out, &share.owned)?;
+    out.push_str("\n")
+}
+
+/// Appends the lines of the hart's shares.
+fn push_shares(out: &mut String, front: &str, shares: &[Share]) -> Result<(), AllocError>
+    ensures { OnOk result (string_bytes out.new ≡ string_bytes out.old ++ lines_text front.now (share_lines 0 shares.now)) }
+{
+    let mut place = 0;
+    let mut rest = shares;
+    'shares: while let [share, others @ ..] = rest {
+        push_share(out, front, place, share)?;
+        place += 1;
+        rest = others;
+    }
+    Ok(())
+}
+
+/// Appends the line of the variables' ranges, if there are variables.
+fn push_most(out: &mut String, front: &str, ranges: &[Option<u64>]) -> Result<(), AllocError>
+    ensures { OnOk result (string_bytes out.new ≡ string_bytes out.old ++ lines_text front.now (line_if (codes "most") (map range_text ranges.now))) }
+{
+    if ranges.is_empty() {
+        return Ok(());
+    }
+    out.push_str(front)?;
+    out.push_str("most")?;
+    push_ranges(out, ranges)?;
+    out.push_str("\n")
+}
+
+/// Appends the lines of what is known in a state, each after `front`.
+pub fn push_known(out: &mut String, front: &str, state: &KnownState) -> Result<(), AllocError>
+    ensures { OnOk result (string_bytes out.new ≡ string_bytes out.old ++ lines_text front.now (known_lines state.now)) }
+{
+    push_most(out, front, &state.ranges)?;
+    push_values(out, front, "reg", &state.registers)?;
+    push_values(out, front, "word", &state.words)?;
+    push_shares(out, front, &state.shares)
+}

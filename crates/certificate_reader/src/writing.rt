@@ -1,0 +1,193 @@
+//! Writing certificates.
+
+ghost use Rattle.std.specs.Prelude.{◌≡◌, ◌++◌, ◌∷◌, [], codes, map, IfOk, OnOk, Ok};
+ghost use Rattle.std.specs.List.{flat_map};
+ghost use Rattle.std.specs.String.{string_bytes};
+ghost use Rattle.std.specs.Fmt.{decimal};
+ghost use Rattle.certificate_reader.specs.CaseTexts.{arrow_lines, case_lines};
+ghost use Rattle.certificate_reader.specs.declared.cases.Node.TheVariants as node;
+ghost use Rattle.certificate_reader.specs.Reading.{certificate_at};
+ghost use Rattle.certificate_reader.specs.Written.{CanBeWritten};
+ghost use Rattle.certificate_reader.specs.Writing.{lines_text, line_if, form_text, node_line, tree_lines, state_lines, part_lines, numbers_of};
+ghost use Rattle.certificate_reader.specs.Writing.{queue_line, certificate_text};
+
+use crate::form_texts::{push_addresses, push_form, push_forms, push_numbers};
+use crate::known_texts::push_known;
+use known_values::{Form, OpenedQueue};
+use queue_checker::{Arrow, CaseNode, Cases, HartPart, ListedState, QueueCertificate};
+use std::alloc::{AllocError, Global};
+use texts::push_decimal;
+
+/// Appends the line of where a leaf leads: to this state, with these forms for its variables.
+fn push_to(out: &mut String, to: u32, forms: &[Form]) -> Result<(), AllocError>
+    ensures { OnOk result (string_bytes out.new ≡ string_bytes out.old ++ lines_text [] ((codes "to", decimal to ∷ map form_text forms.now) ∷ [])) }
+{
+    out.push_str("to ")?;
+    push_decimal(out, u64::from(to))?;
+    push_forms(out, forms)?;
+    out.push_str("\n")
+}
+
+/// Appends the line of a leaf, and those of where it leads.
+fn push_leaf(out: &mut String, handed: &Form, arrows: &[Arrow]) -> Result<(), AllocError>
+    ensures { OnOk result (string_bytes out.new ≡ string_bytes out.old ++ lines_text [] (tree_lines (node.Leaf handed.now ∷ arrow_lines arrows.now))) }
+{
+    out.push_str("leaf ")?;
+    push_form(out, handed)?;
+    out.push_str("\n")?;
+    let mut rest = arrows;
+    'arrows: while let [arrow, others @ ..] = rest {
+        push_to(out, arrow.to, &arrow.forms)?;
+        rest = others;
+    }
+    Ok(())
+}
+
+fn push_split(out: &mut String, variable: u32, most: u64) -> Result<(), AllocError>
+    ensures { OnOk result (string_bytes out.new ≡ string_bytes out.old ++ lines_text [] (node_line (node.Split variable most) ∷ [])) }
+{
+    out.push_str("split ")?;
+    push_decimal(out, u64::from(variable))?;
+    out.push_str(" ")?;
+    push_decimal(out, most)?;
+    out.push_str("\n")
+}
+
+/// Appends the lines of a state's cases, a split before what its two sides have.
+fn push_cases(out: &mut String, cases: &Cases) -> Result<(), AllocError>
+    ensures { OnOk result (string_bytes out.new ≡ string_bytes out.old ++ lines_text [] (tree_lines (case_lines cases.now))) }
+{
+    match &cases.node {
+        CaseNode::Leaf(handed, arrows) => push_leaf(out, handed, arrows),
+        CaseNode::Split(variable, most, low, high) => {
+            push_split(out, *variable, *most)?;
+            push_cases(out, low)?;
+            push_cases(out, high)
+        }
+    }
+}
+
+/// Appends the lines of a state: its pc, what is known, and its cases.
+pub fn push_state(out: &mut String, state: &ListedState) -> Result<(), AllocError>
+    ensures { OnOk result (string_bytes out.new ≡ string_bytes out.old ++ lines_text [] (state_lines state.now)) }
+{
+    out.push_str("state ")?;
+    push_decimal(out, u64::from(state.known.pc))?;
+    out.push_str("\n")?;
+    push_known(out, "", &state.known)?;
+    push_cases(out, &state.cases)
+}
+
+/// Appends the line of a hart's own words, if it has any.
+fn push_own(out: &mut String, own: &[u32]) -> Result<(), AllocError>
+    ensures { OnOk result (string_bytes out.new ≡ string_bytes out.old ++ lines_text [] (line_if (codes "own") (map decimal own.now))) }
+{
+    if own.is_empty() {
+        return Ok(());
+    }
+    out.push_str("own")?;
+    push_addresses(out, own)?;
+    out.push_str("\n")
+}
+
+/// Appends the line of how a hart opens.
+fn push_opening(out: &mut String, first: u32, numbers: &[u64]) -> Result<(), AllocError>
+    ensures { OnOk result (string_bytes out.new ≡ string_bytes out.old ++ lines_text [] ((codes "open", map decimal (first ∷ numbers.now)) ∷ [])) }
+{
+    out.push_str("open ")?;
+    push_decimal(out, u64::from(first))?;
+    push_numbers(out, numbers)?;
+    out.push_str("\n")
+}
+
+fn push_states(out: &mut String, states: &[ListedState]) -> Result<(), AllocError>
+    ensures { OnOk result (string_bytes out.new ≡ string_bytes out.old ++ lines_text [] (flat_map state_lines states.now)) }
+{
+    for state in states {
+        push_state(out, state)?;
+    }
+    Ok(())
+}
+
+/// Appends a hart's part.
+fn push_part(out: &mut String, part: &HartPart) -> Result<(), AllocError>
+    ensures { OnOk result (string_bytes out.new ≡ string_bytes out.old ++ lines_text [] (part_lines part.now)) }
+{
+    out.push_str("hart\n")?;
+    push_own(out, &part.own)?;
+    push_opening(out, part.first, &part.numbers)?;
+    push_states(out, &part.states)
+}
+
+fn push_parts(out: &mut String, parts: &[HartPart]) -> Result<(), AllocError>
+    ensures { OnOk result (string_bytes out.new ≡ string_bytes out.old ++ lines_text [] (flat_map part_lines parts.now)) }
+{
+    for part in parts {
+        push_part(out, part)?;
+    }
+    Ok(())
+}
+
+/// The numbers of a queue's line, in order.
+fn queue_numbers(opened: OpenedQueue) -> [u64; 14]
+    ensures { result ≡ numbers_of opened }
+{
+    let queue = opened.queue;
+    [
+        u64::from(queue.sender),
+        u64::from(queue.receiver),
+        u64::from(queue.head),
+        u64::from(queue.tail),
+        u64::from(queue.index_width),
+        u64::from(queue.slots),
+        u64::from(queue.size),
+        u64::from(queue.width),
+        u64::from(queue.capacity),
+        u64::from(queue.base),
+        queue.scale,
+        queue.offset,
+        queue.modulus,
+        opened.start,
+    ]
+}
+
+fn push_queue(out: &mut String, opened: OpenedQueue) -> Result<(), AllocError>
+    ensures { OnOk result (string_bytes out.new ≡ string_bytes out.old ++ lines_text [] (queue_line opened ∷ [])) }
+{
+    let numbers = queue_numbers(opened);
+    out.push_str("queue")?;
+    push_numbers(out, &numbers)?;
+    out.push_str("\n")
+}
+
+fn push_queues(out: &mut String, queues: &[OpenedQueue]) -> Result<(), AllocError>
+    ensures { OnOk result (string_bytes out.new ≡ string_bytes out.old ++ lines_text [] (map queue_line queues.now)) }
+{
+    for opened in queues {
+        push_queue(out, *opened)?;
+    }
+    Ok(())
+}
+
+#[tactic(auto, unfolding(crate::specs::Writing::certificate_text))]
+fn text_of(alloc: Global, certificate: &QueueCertificate) -> Result<String, AllocError>
+    ensures { IfOk result (λ text. string_bytes text ≡ certificate_text certificate.now) }
+{
+    let mut text = String::from_str(alloc, "ztso-queues 1\n")?;
+    push_queues(&mut text, &certificate.queues)?;
+    push_parts(&mut text, &certificate.harts)?;
+    Ok(text)
+}
+
+/// The text of the certificate, which is read as this certificate again where that is within the limits.
+#[tactic(auto, using(crate::proofs::CertificateAgain::written_again))]
+pub fn write_certificate(
+    alloc: Global,
+    certificate: &QueueCertificate,
+) -> Result<String, AllocError>
+    ensures canonical { IfOk result (λ text. string_bytes text ≡ certificate_text certificate.now) }
+    ensures again { CanBeWritten certificate.now → IfOk result (λ text. certificate_at (string_bytes text) ≡ Ok certificate.now) }
+{
+    let text = text_of(alloc, certificate)?;
+    Ok(text)
+}

@@ -1,0 +1,187 @@
+-- What is answered where drawn runs are judged: it is one answer, and a run that is shown to break the protocol does.
+use Rattle.std.proofs.Common.{arith, ◌≡◌, ℕ, zero, suc, ◌+◌, ◌&&◌, ◌<◌, ◌≤◌, Bool, true, false, List, [], ◌∷◌, ◌++◌, length, Some, None}
+use Rattle.std.proofs.Common.{refl, sym, ap, ap₂, ◌∙◌, subst}
+use Rattle.std.specs.Prelude.{Option}
+use Rattle.std.specs.Option.{option_map}
+use Rattle.std.proofs.lemmas.Bool.{and_parts, leb-true}
+use Rattle.std.proofs.lemmas.List.{length-append}
+use Rattle.step_machine.specs.declared.events.Event.{Event}
+use Rattle.step_machine.specs.History.{OpeningValue, history_of, at_opening}
+use Rattle.step_machine.specs.Legal.{WellFormed}
+use Rattle.step_machine.proofs.Running.{kept-at_opening, kept-run, opening_kept}
+use Rattle.queue_parties.specs.Parties.{QueueCounts, all_at}
+use Rattle.slot_queue.specs.Queues.{Queue}
+use Rattle.slot_queue.specs.Ownership.{KeepsOwnership}
+use Rattle.queue_certificates.specs.Certificates.{QueueCertificate, queue_at, start_at, is_queue, opens_empty}
+use Rattle.queue_checker.specs.declared.flaws.Flaw.{Flaw}
+use Rattle.queue_checker.specs.declared.flaws.Flaw.TheVariants as flaw
+use Rattle.queue_checker.specs.declared.flaws.QueueFlaw.{QueueFlaw}
+use Rattle.queue_checker.specs.Flaws.{first_below, first_flaw, first_of, hart_flaw, queue_flaw, flaw_of_queue}
+use Rattle.queue_checker.proofs.FlawLaws.{no_queue_flaw}
+use Rattle.ownership_runs.specs.declared.breaches.Breach.{Breach}
+use Rattle.ownership_runs.specs.declared.runs.Moved.{Moved}
+use Rattle.ownership_runs.specs.Breaches.{first_ownership_breach}
+use Rattle.ownership_runs.specs.Runs.{HasKeptRun, HasBrokenRun}
+use Rattle.ownership_runs.proofs.Judged.{moves-one}
+use Rattle.certifying.specs.Answers.{IsBrokenText, IsTriedText, IsTrialAnswer, is_of_queue, tried_text}
+use Rattle.certifying.specs.Kept.{BreaksProtocol}
+use Rattle.certifying.specs.Trials.{AllKeep, DrawnRuns, EndsBroken, IsBrokenBy, IsOfTrial, IsTrialBroken, QueuesKeep, schedule_in}
+use Rattle.certifying.specs.declared.trials.Trial.{Trial}
+use Rattle.certifying.specs.declared.trials.Trial.TheVariants as trial
+use Rattle.certifying.specs.declared.judgement.Judgement.{Judgement}
+use Rattle.certifying.specs.declared.judgement.Judgement.TheVariants as judgement
+
+-- what `ownership_runs` promises
+pub record DrawnLaws : Type 0 where
+  pub none : (q : Queue) (c : QueueCounts) (es : List _) → 1 ≤ q.size → KeepsOwnership q c es → first_ownership_breach q c es ≡ None
+  pub apart : (B M : ℕ) (o : OpeningValue) (q : Queue) (start : QueueCounts) (events : List Event) (b : Breach) → 1 ≤ q.size
+      → HasKeptRun B M o q start events → HasBrokenRun B M o q start events b → ⊥
+
+-- ---- queues that open at their counts have slots
+
+pub none-below : {A : Type 0} (f : ℕ → Option A) (n i : ℕ) → first_below n f ≡ None → i < n → f i ≡ None
+none-below f zero i none less = absurd (omega arith)
+none-below f (suc n) i none less = at (first_below n f) (f n) refl refl none (none-below f n i)
+  where
+    at : (before here : Option _) → first_below n f ≡ before → f n ≡ here → first_of before here ≡ None
+        → (first_below n f ≡ None → i < n → f i ≡ None) → f i ≡ None
+    at None None before here e earlier = let rest = earlier before in grind arith
+    at None (Some x) before here e earlier = cc
+    at (Some x) here before is e earlier = cc
+
+module _ (o : OpeningValue) (c : QueueCertificate) where
+  abbrev pub SomeSlots : Type 0
+  SomeSlots = (i : ℕ) → i < length c.queues → 1 ≤ (queue_at c i).size
+
+  one-of-queues : (i : ℕ) (f : Flaw) → flaw_of_queue o c i ≡ Some f → is_of_queue f ≡ true
+  one-of-queues i f is = at (queue_flaw o c i) is
+    where
+      at : (why : Option QueueFlaw) → option_map (λ why. flaw.Queue i why) why ≡ Some f → is_of_queue f ≡ true
+      at None none = cc
+      at (Some why) some = let same : flaw.Queue i why ≡ f = cc in ap is_of_queue (sym same)
+
+  first-of-queues : (n : ℕ) (f : Flaw) → first_below n (flaw_of_queue o c) ≡ Some f → is_of_queue f ≡ true
+  first-of-queues zero f is = cc
+  first-of-queues (suc n) f is = at (first-of-queues n f) (first_below n (flaw_of_queue o c)) refl is
+    where
+      at : (first_below n (flaw_of_queue o c) ≡ Some f → is_of_queue f ≡ true) → (before : Option Flaw) → first_below n (flaw_of_queue o c) ≡ before
+          → first_of before (flaw_of_queue o c n) ≡ Some f → is_of_queue f ≡ true
+      at earlier None before here = one-of-queues n f here
+      at earlier (Some g) before here = earlier (before ∙ here)
+
+  left : (a b : Bool) → (a && b) ≡ true → a ≡ true
+  left a b ok = (and_parts a b ok).0
+
+  some-slot : (i : ℕ) → (is_queue (queue_at c i) && opens_empty o (queue_at c i) (start_at c i)) ≡ true → 1 ≤ (queue_at c i).size
+  some-slot i holds =
+      leb-true 1 (queue_at c i).size
+      ((and_parts _ _ (left _ _ (left _ _ (left _ _ (left _ _ (left _ _ (left _ _ (left _ _ (left _ _ holds))))))))).1)
+
+  pub sized : (f : Flaw) → first_flaw o c ≡ Some f → is_of_queue f ≡ false → SomeSlots
+  sized f first other i less = at (first_below (length c.queues) (flaw_of_queue o c)) refl first
+    where
+      at : (before : Option Flaw) → first_below (length c.queues) (flaw_of_queue o c) ≡ before
+          → first_of before (first_below (length o.harts) (hart_flaw o c)) ≡ Some f → 1 ≤ (queue_at c i).size
+      at None none later = some-slot i (no_queue_flaw o c i (none-below (flaw_of_queue o c) (length c.queues) i none less))
+      at (Some g) some is = let queue = first-of-queues (length c.queues) f (some ∙ is) in absurd (cc)
+
+-- ---- what a trial is, queue by queue
+
+module _ (d : DrawnRuns) (o : OpeningValue) (c : QueueCertificate) where
+  pub keep-more : (first : ℕ) (moved : List Moved) (m : Moved) → QueuesKeep d o c first moved → AllKeep d o c (first + length moved) m
+      → QueuesKeep d o c first (moved ++ m ∷ [])
+  keep-more first [] m kept next = let same : first + 0 ≡ first = omega arith in (subst (λ (j : ℕ). AllKeep d o c j m) same next, tt)
+  keep-more first (n ∷ moved) m kept next =
+      let same : first + length (n ∷ moved) ≡ first + 1 + length moved = omega arith in
+      (kept.0, keep-more (first + 1) moved m kept.1 (subst (λ (j : ℕ). AllKeep d o c j m) same next))
+
+  pub some-event : (i : ℕ) (part : List Event) (b : Breach) → EndsBroken d o c i part b → 1 ≤ length part
+  some-event i part b ends = omega (arith, length-append ends.front (ends.last ∷ []), ap (λ (xs : List Event). length xs) ends.events_are)
+
+  pub is-broken : (i : ℕ) (part : List Event) (b : Breach) (moved : List Moved) (t : Trial) → IsTrialBroken d.B d.M o i part b t → i < length c.queues
+      → length moved ≡ i → QueuesKeep d o c 0 moved → IsBrokenBy d o c i part b → EndsBroken d o c i part b → IsOfTrial d o c t
+  is-broken i part b moved (trial.Kept kept) is inside earlier before told ends = absurd is
+  is-broken i part b moved (trial.Broken j given breach pc) is inside earlier before told ends =
+      rw (is.0, is.1, is.2) (record {
+        inside = inside;
+        moved = moved;
+        earlier = earlier;
+        kept = before;
+        told = told;
+        ends = ends;
+        at_pc = is.3;
+      })
+
+-- ---- one answer
+
+-- the same judgement, and the same text unless it has a schedule
+abbrev pub AreAlike : (a b : List ℕ × Judgement) → Type 0
+AreAlike a b = (a.1 ≡ b.1) × ((a.1 ≡ judgement.Broken → ⊥) → a.0 ≡ b.0)
+
+module _ (d : DrawnRuns) (o : OpeningValue) (c : QueueCertificate) where
+  one-moved : (i : ℕ) (moved others : List Moved) → length moved ≡ length others → QueuesKeep d o c i moved → QueuesKeep d o c i others → moved ≡ others
+  one-moved i [] [] same kept also = refl
+  one-moved i [] (m ∷ others) same kept also = absurd (omega (arith, same))
+  one-moved i (m ∷ moved) [] same kept also = absurd (omega (arith, same))
+  one-moved i (m ∷ moved) (n ∷ others) same kept also =
+      ap₂ (λ (x : Moved) (xs : List Moved). x ∷ xs)
+      (moves-one d.B d.M o (queue_at c i) (all_at (start_at c i)) _ m n kept.0.counted also.0.counted)
+      (one-moved (i + 1) moved others (omega (arith, same)) kept.1 also.1)
+
+  one-tried : (f : Flaw) (text other : List ℕ) → IsTriedText d o c f text → IsTriedText d o c f other → text ≡ other
+  one-tried f text other is also =
+      let same : is.moved ≡ also.moved = one-moved 0 is.moved also.moved (is.count ∙ sym also.count) is.kept also.kept in
+      is.text_is ∙ ap (tried_text d o c f) same ∙ sym also.text_is
+
+  -- what is kept of the queue of a number
+  kept-at : (first : ℕ) (moved : List Moved) (i : ℕ) → i < length moved → QueuesKeep d o c first moved → (m : Moved) × AllKeep d o c (first + i) m
+  kept-at first [] i less kept = absurd (omega (arith, less))
+  kept-at first (m ∷ moved) zero less kept = let same : first ≡ first + 0 = omega arith in (m, subst (λ (j : ℕ). AllKeep d o c j m) same kept.0)
+  kept-at first (m ∷ moved) (suc i) less kept =
+      let rest = kept-at (first + 1) moved i (omega (arith, less)) kept.1 in
+      let same : first + 1 + i ≡ first + suc i = omega arith in (rest.0, subst (λ (j : ℕ). AllKeep d o c j rest.0) same rest.1)
+
+  module _ (laws : DrawnLaws) (some : SomeSlots o c) where
+    never-both : (f : Flaw) (text other : List ℕ) → IsTriedText d o c f text → IsBrokenText d o c other → ⊥
+    never-both f text other is broken =
+        let first = broken.is_first in
+        let flawed = first.told.is_first in
+        let all = kept-at 0 is.moved broken.queue (subst (λ (n : ℕ). broken.queue < n) (sym is.count) first.inside) is.kept in
+        let at : 0 + broken.queue ≡ broken.queue = omega arith in
+        let kept : AllKeep d o c broken.queue all.0 = subst (λ (j : ℕ). AllKeep d o c j all.0) at all.1 in
+        laws.apart d.B d.M o (queue_at c broken.queue) (all_at (start_at c broken.queue)) (schedule_in d o first.told.number) first.told.flaw
+        (some broken.queue first.inside) (kept.good first.told.number (omega arith) flawed.within) flawed.has
+
+    pub one-trial : (f : Flaw) (a b : List ℕ × Judgement) → IsTrialAnswer d o c f a → IsTrialAnswer d o c f b → AreAlike a b
+    one-trial f (text, judgement.NotShown) (other, judgement.NotShown) is also = (refl, λ shows. one-tried f text other is also)
+    one-trial f (text, judgement.NotShown) (other, judgement.Broken) is also = absurd (never-both f text other is also)
+    one-trial f (text, judgement.NotShown) (other, judgement.Kept) is also = absurd also
+    one-trial f (text, judgement.NotShown) (other, judgement.ReadsNotShown) is also = absurd also
+    one-trial f (text, judgement.Broken) (other, judgement.NotShown) is also = absurd (never-both f other text also is)
+    one-trial f (text, judgement.Broken) (other, judgement.Broken) is also = (refl, λ no. absurd (no refl))
+    one-trial f (text, judgement.Broken) (other, judgement.Kept) is also = absurd also
+    one-trial f (text, judgement.Broken) (other, judgement.ReadsNotShown) is also = absurd also
+    one-trial f (text, judgement.Kept) b is also = absurd is
+    one-trial f (text, judgement.ReadsNotShown) b is also = absurd is
+
+    -- ---- a run that breaks the protocol
+
+    pub breaks : (text : List ℕ) → IsBrokenText d o c text → BreaksProtocol o c
+    breaks text is =
+        let first = is.is_first in
+        let has = first.told.shown.has in
+        let q = queue_at c is.queue in
+        let start = all_at (start_at c is.queue) in
+        let formed : WellFormed d.B d.M has.history = kept-run d.B d.M (at_opening o) is.part has.history (kept-at_opening d.B d.M o) has.run in
+        record {
+          B = d.B;
+          M = d.M;
+          entries = has.history.entries;
+          legal = subst (λ (x : OpeningValue). WellFormed d.B d.M (history_of x has.history.entries))
+              (opening_kept d.B d.M o is.part has.history has.run) formed;
+          queue = is.queue;
+          inside = first.inside;
+          breaks = λ keeps. (let none : first_ownership_breach q start has.history.entries ≡ None =
+              laws.none q start has.history.entries (some is.queue first.inside) keeps in
+              let found = has.first in absurd (cc));
+        }

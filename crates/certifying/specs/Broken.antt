@@ -1,0 +1,56 @@
+-- The lines of an answer where drawn runs were judged: of one that breaks a queue's protocol, or of all that keep it.
+use Rattle.std.specs.Prelude.{ℕ, ◌-◌, nat_lt, if◌then◌else◌, List, [], ◌∷◌, ◌++◌, codes, Option, Some, None}
+use Rattle.std.specs.Fmt.{decimal}
+use Rattle.step_machine.specs.declared.events.Event.{Event}
+use Rattle.step_machine.specs.History.{OpeningValue}
+use Rattle.recorder.specs.Writing.{canon}
+use Rattle.queue_certificates.specs.Certificates.{OpenedQueue}
+use Rattle.ownership_runs.specs.declared.breaches.Breach.{Breach}
+use Rattle.ownership_runs.specs.declared.breaches.Owned.{Owned}
+use Rattle.ownership_runs.specs.declared.runs.Moved.{Moved}
+use Rattle.certifying.specs.Descriptions.{form_lines}
+use Rattle.certifying.specs.Instructions.{instruction_place}
+
+-- ---- a breach
+
+abbrev pub broken_line : OpeningValue → (h pc : ℕ) → List ℕ
+broken_line o h pc = codes "broken: " ++ instruction_place o h pc ++ 10 ∷ []
+
+unfoldable pub stored_text : (i : ℕ) → Breach → List ℕ
+stored_text i b = codes "queue " ++ (decimal i ++ (codes ": it stored " ++ (decimal b.value ++ (codes " to the " ++ (decimal b.width
+    ++ (codes " bytes at " ++ decimal b.addr))))))
+
+unfoldable pub positions_text : Owned → List ℕ
+positions_text o = codes ", and owned positions " ++ (decimal o.from ++ (codes " to " ++ decimal (o.end - 1)))
+
+abbrev pub owned_text : Option Owned → List ℕ
+owned_text None = codes ", and is neither party"
+owned_text (Some o) = if nat_lt o.from o.end then positions_text o else codes ", and owned no position"
+
+-- what was stored, and what the hart owned then
+abbrev pub stored_line : (i : ℕ) → Breach → List ℕ
+stored_line i b = stored_text i b ++ owned_text b.owned ++ 10 ∷ []
+
+unfoldable pub other_line : List ℕ
+other_line =
+    codes "another protocol may fit: that of a queue that overwrites, that has several senders or receivers, or whose slots tell whose they are" ++ 10 ∷ []
+
+unfoldable pub shown_line : (B : ℕ) → List ℕ
+shown_line B = codes "shown by this schedule, whose last event it is, with --buffer " ++ (decimal B ++ (codes ":" ++ 10 ∷ []))
+
+abbrev pub broken_text : (B : ℕ) → OpeningValue → (i : ℕ) → OpenedQueue → (part : List Event) → Breach → (pc : ℕ) → List ℕ
+broken_text B o i opened part b pc =
+    broken_line o b.hart pc ++ stored_line i b ++ form_lines i opened ++ other_line ++ shown_line B ++ canon part
+
+-- ---- runs that keep the protocol
+
+unfoldable pub runs_front : (i number size : ℕ) → List ℕ
+runs_front i number size = codes "queue " ++ (decimal i ++ (codes ": kept in " ++ (decimal number ++ (codes " drawn runs of " ++ (decimal size
+    ++ codes " events")))))
+
+unfoldable pub runs_end : Moved → List ℕ
+runs_end moved = codes ", in which " ++ (decimal moved.published ++ (codes " positions were published and " ++ (decimal moved.taken
+    ++ (codes " taken" ++ 10 ∷ []))))
+
+abbrev pub runs_line : (number size i : ℕ) → Moved → List ℕ
+runs_line number size i moved = runs_front i number size ++ runs_end moved

@@ -1,0 +1,90 @@
+-- Drawn runs of a text whose certificate isn't accepted, judged by the protocol of each queue of the certificate.
+use Rattle.std.specs.Prelude.{ℕ, ◌≡◌, ◌+◌, ◌-◌, ◌<◌, List, [], ◌∷◌, length, take}
+use Rattle.rand_core.specs.Stream.{Stream}
+use Rattle.step_machine.specs.declared.events.Event.{Event}
+use Rattle.step_machine.specs.History.{OpeningValue, History}
+use Rattle.step_machine.specs.Paths.{IsPc}
+use Rattle.step_machine.specs.Runs.{Run}
+use Rattle.queue_parties.specs.Parties.{all_at}
+use Rattle.queue_certificates.specs.Certificates.{QueueCertificate, queue_at, start_at}
+use Rattle.jumping.specs.declared.draws.Draw.{Draw}
+use Rattle.jumping.specs.Draws.{schedule_by}
+use Rattle.judged_runs.specs.Finding.{AreAllGood}
+use Rattle.judged_runs.specs.Telling.{IsFlawTold, IsTold}
+use Rattle.judged_runs.specs.declared.telling.Told.{Told}
+use Rattle.ownership_runs.specs.declared.breaches.Breach.{Breach}
+use Rattle.ownership_runs.specs.declared.runs.Moved.{Moved}
+use Rattle.ownership_runs.specs.Ends.{EndsInBreach}
+use Rattle.ownership_runs.specs.Runs.{HasKeptRun, HasBrokenRun, IsOfOneHart, AreMovesOf}
+use Rattle.certifying.specs.declared.trials.Trial.{Trial}
+use Rattle.certifying.specs.declared.trials.Trial.TheVariants.{Kept, Broken}
+
+-- What is drawn: over buffers of B stores and a memory of M words, in which way and by which stream, how many runs, each of how many events.
+pub record DrawnRuns : Type 0 where
+  pub B : ℕ
+  pub M : ℕ
+  pub draw : Draw
+  pub stream : Stream
+  pub number : ℕ
+  pub size : ℕ
+
+abbrev pub runs_by : (B M : ℕ) → Draw → Stream → (number size : ℕ) → DrawnRuns
+runs_by B M draw stream number size = record { B = B; M = M; draw = draw; stream = stream; number = number; size = size }
+
+abbrev pub schedule_in : DrawnRuns → OpeningValue → ℕ → List Event
+schedule_in d o = schedule_by d.draw (length o.harts) d.size d.stream
+
+-- ---- of one queue, which opens empty
+
+module _ (d : DrawnRuns) (o : OpeningValue) (c : QueueCertificate) (i : ℕ) where
+  -- what is stated of all runs
+  abbrev pub IsToldOf : Told Moved Breach → Type 0
+  IsToldOf told = IsTold (HasKeptRun d.B d.M o (queue_at c i) (all_at (start_at c i))) (HasBrokenRun d.B d.M o (queue_at c i) (all_at (start_at c i)))
+      IsOfOneHart (AreMovesOf d.B d.M o (queue_at c i) (all_at (start_at c i))) (schedule_in d o) d.number told
+
+  -- all keep the protocol, and the parties moved on by this much in them
+  abbrev pub AllKeep : Moved → Type 0
+  AllKeep moved = AreAllGood (HasKeptRun d.B d.M o (queue_at c i) (all_at (start_at c i))) (AreMovesOf d.B d.M o (queue_at c i) (all_at (start_at c i)))
+      (schedule_in d o) 0 d.number moved
+
+  -- this is a part of the events of the first run that breaks it, with no event to spare, whose own run has this first breach
+  abbrev pub IsBrokenBy : (part : List Event) → Breach → Type 0
+  IsBrokenBy part breach = IsFlawTold (HasKeptRun d.B d.M o (queue_at c i) (all_at (start_at c i)))
+      (HasBrokenRun d.B d.M o (queue_at c i) (all_at (start_at c i))) IsOfOneHart (schedule_in d o) d.number part breach
+
+  -- the last of these events makes the breach
+  abbrev pub EndsBroken : (part : List Event) → Breach → Type 0
+  EndsBroken part breach = EndsInBreach d.B d.M o (queue_at c i) (all_at (start_at c i)) part breach
+
+-- ---- of all queues
+
+-- from queue i on, one queue for each of these numbers
+abbrev pub QueuesKeep : DrawnRuns → OpeningValue → QueueCertificate → (i : ℕ) → List Moved → Type 0
+QueuesKeep d o c i [] = Unit {0}
+QueuesKeep d o c i (moved ∷ more) = AllKeep d o c i moved × QueuesKeep d o c (i + 1) more
+
+-- the pc of a hart before the last of these events
+pub record IsPcBeforeLast (B M : ℕ) (o : OpeningValue) (events : List Event) (hart pc : ℕ) : Type 0 where
+  pub before : History
+  pub run : Run B M o (take (length events - 1) events) before
+  pub is_pc : IsPc M before hart pc
+
+-- the first queue whose protocol a run breaks, as the last of these events shows, and the pc of that instruction
+pub record IsFirstBroken (d : DrawnRuns) (o : OpeningValue) (c : QueueCertificate) (queue : ℕ) (part : List Event) (breach : Breach) (pc : ℕ) : Type 0 where
+  pub inside : queue < length c.queues
+  pub moved : List Moved
+  pub earlier : length moved ≡ queue
+  pub kept : QueuesKeep d o c 0 moved
+  pub told : IsBrokenBy d o c queue part breach
+  pub ends : EndsBroken d o c queue part breach
+  pub at_pc : IsPcBeforeLast d.B d.M o part breach.hart pc
+
+abbrev pub IsOfTrial : DrawnRuns → OpeningValue → QueueCertificate → Trial → Type 0
+IsOfTrial d o c (Kept moved) = (length moved.items ≡ length c.queues) × QueuesKeep d o c 0 moved.items
+IsOfTrial d o c (Broken queue part breach pc) = IsFirstBroken d o c queue part.items breach pc
+
+-- it has this queue, part and breach, and the pc of the breach's hart
+abbrev pub IsTrialBroken : (B M : ℕ) → OpeningValue → (queue : ℕ) → (part : List Event) → Breach → Trial → Type 0
+IsTrialBroken B M o queue part breach (Kept moved) = ⊥
+IsTrialBroken B M o queue part breach (Broken of_queue of_part of_breach pc) =
+    (of_queue ≡ queue) × (of_part.items ≡ part) × (of_breach ≡ breach) × IsPcBeforeLast B M o part breach.hart pc

@@ -1,0 +1,169 @@
+//! The texts of answers, except those with a schedule.
+
+ghost use Rattle.std.specs.Prelude.{◌≡◌, ◌++◌, IfOk, OnOk};
+ghost use Rattle.std.specs.String.{string_bytes};
+ghost use Rattle.engine_support.specs.OpeningTexts.{numbered};
+ghost use Rattle.certificate_reader.specs.Known.{known_at};
+ghost use Rattle.certifying.specs.Answers.{flaw_text, kept_text, limit_lines, nothing_line, progress_line, promise_end, protocol_line, protocol_text};
+ghost use Rattle.certifying.specs.Answers.{reads_line, records_line, unread_text, unused_text};
+ghost use Rattle.certifying.specs.Broken.{runs_line};
+ghost use Rattle.certifying.specs.NotShown.{flaw_line, likely_line};
+
+use crate::breaking::push_runs;
+use crate::descriptions::push_queues;
+use crate::not_shown::{push_flaw, push_likely};
+use crate::unread::{Unread, push_unread};
+use crate::unused::{Unused, push_unused};
+use certificate_reader::push_known_at;
+use jumping::Runs;
+use known_values::Lack;
+use ownership_runs::Moved;
+use queue_checker::{Flaw, QueueCertificate};
+use std::alloc::{AllocError, Global};
+use step_machine::Opening;
+
+/// What isn't promised of records.
+#[tactic(auto, unfolding(crate::specs::Answers::records_line))]
+fn push_records(out: &mut String) -> Result<(), AllocError>
+    ensures { OnOk result (string_bytes out.new ≡ string_bytes out.old ++ records_line) }
+{
+    writeln!(
+        out,
+        "not promised: that a record was freshly or wholly written, what the code does with it, what memory outside of the queue holds"
+    )
+}
+
+#[tactic(auto, unfolding(crate::specs::Answers::progress_line))]
+fn push_progress(out: &mut String) -> Result<(), AllocError>
+    ensures { OnOk result (string_bytes out.new ≡ string_bytes out.old ++ progress_line) }
+{
+    writeln!(out, "not promised: that anything is ever sent or received")
+}
+
+/// What isn't promised of records and of progress.
+fn push_limits(out: &mut String) -> Result<(), AllocError>
+    ensures { OnOk result (string_bytes out.new ≡ string_bytes out.old ++ limit_lines) }
+{
+    push_records(out)?;
+    push_progress(out)
+}
+
+#[tactic(auto, unfolding(crate::specs::Answers::protocol_text))]
+fn push_protocol(out: &mut String) -> Result<(), AllocError>
+    ensures { OnOk result (string_bytes out.new ≡ string_bytes out.old ++ protocol_text) }
+{
+    write!(
+        out,
+        "promised: in every legal run, of any length and schedule, with store buffers of any size, the protocol of ownership is kept"
+    )
+}
+
+#[tactic(auto, unfolding(crate::specs::Answers::promise_end))]
+fn push_promise_end(out: &mut String) -> Result<(), AllocError>
+    ensures { OnOk result (string_bytes out.new ≡ string_bytes out.old ++ promise_end) }
+{
+    writeln!(
+        out,
+        ", so records arrive in order, each once, with all that was written before"
+    )
+}
+
+/// The text where the protocol is kept and the parties load only slots that they own.
+pub fn kept_text(
+    alloc: Global,
+    opening: &Opening,
+    certificate: &QueueCertificate,
+) -> Result<String, Lack>
+    ensures { IfOk result (λ text. string_bytes text ≡ kept_text opening.now certificate.now) }
+{
+    let mut out = String::new(alloc);
+    writeln!(out, "kept in every run")?;
+    push_queues(alloc, &mut out, opening, certificate)?;
+    push_protocol(&mut out)?;
+    push_promise_end(&mut out)?;
+    push_limits(&mut out)?;
+    Ok(out)
+}
+
+#[tactic(auto, unfolding(crate::specs::Answers::protocol_line))]
+fn push_protocol_line(out: &mut String) -> Result<(), AllocError>
+    ensures { OnOk result (string_bytes out.new ≡ string_bytes out.old ++ protocol_line) }
+{
+    push_protocol(out)?;
+    writeln!(out, "")
+}
+
+#[tactic(auto, unfolding(crate::specs::Answers::reads_line))]
+fn push_reads(out: &mut String) -> Result<(), AllocError>
+    ensures { OnOk result (string_bytes out.new ≡ string_bytes out.old ++ reads_line) }
+{
+    writeln!(
+        out,
+        "not promised: that what is loaded from a slot is a record that the hart owns"
+    )
+}
+
+/// The text where the protocol is kept, and a load of slots isn't shown to be of owned ones.
+pub fn unread_text(
+    alloc: Global,
+    opening: &Opening,
+    certificate: &QueueCertificate,
+    unread: Unread,
+) -> Result<String, Lack>
+    ensures { IfOk result (λ text. string_bytes text ≡ unread_text opening.now certificate.now unread) }
+{
+    let mut out = String::new(alloc);
+    push_unread(&mut out, opening, certificate, unread)?;
+    push_queues(alloc, &mut out, opening, certificate)?;
+    push_protocol_line(&mut out)?;
+    push_reads(&mut out)?;
+    push_limits(&mut out)?;
+    Ok(out)
+}
+
+/// The text of a queue that isn't used.
+pub fn unused_text(alloc: Global, unused: Unused) -> Result<String, AllocError>
+    ensures { IfOk result (λ text. string_bytes text ≡ unused_text unused) }
+{
+    let mut out = String::new(alloc);
+    push_unused(&mut out, unused)?;
+    writeln!(out, "nothing is claimed")?;
+    Ok(out)
+}
+
+/// The text of a flaw.
+pub fn flaw_text(
+    alloc: Global,
+    opening: &Opening,
+    certificate: &QueueCertificate,
+    flaw: Flaw,
+) -> Result<String, AllocError>
+    ensures { IfOk result (λ text. string_bytes text ≡ flaw_text opening.now certificate.now flaw) }
+{
+    let mut out = String::new(alloc);
+    push_flaw(&mut out, opening, certificate, flaw)?;
+    push_likely(&mut out, opening, certificate, flaw)?;
+    writeln!(out, "nothing is claimed")?;
+    Ok(out)
+}
+
+/// The text of runs that keep the protocol of each queue.
+pub fn tried_text(
+    alloc: Global,
+    opening: &Opening,
+    certificate: &QueueCertificate,
+    flaw: Flaw,
+    runs: Runs,
+    kept: &[Moved],
+) -> Result<String, Lack>
+    ensures { IfOk result (λ text. string_bytes text ≡ flaw_line opening.now certificate.now flaw ++ known_at certificate.now flaw
+        ++ likely_line opening.now certificate.now flaw ++ numbered (runs_line runs.number runs.length) 0 kept.now ++ nothing_line) }
+{
+    let mut out = String::new(alloc);
+    push_flaw(&mut out, opening, certificate, flaw)?;
+    push_known_at(&mut out, certificate, flaw)?;
+    push_likely(&mut out, opening, certificate, flaw)?;
+    push_runs(&mut out, runs.number, runs.length, kept)?;
+    writeln!(out, "nothing is claimed")?;
+    Ok(out)
+}

@@ -1,0 +1,150 @@
+//! The lines of what drawn runs show.
+
+ghost use Rattle.std.specs.Prelude.{◌≡◌, ◌<◌, ◌++◌, IfOk, OnOk};
+ghost use Rattle.std.specs.String.{string_bytes};
+ghost use Rattle.engine_support.specs.OpeningTexts.{numbered};
+ghost use Rattle.certifying.specs.Broken.{broken_line, broken_text, other_line, owned_text, positions_text, runs_end, runs_front, runs_line};
+ghost use Rattle.certifying.specs.Broken.{shown_line, stored_line, stored_text};
+
+use crate::descriptions::push_form;
+use crate::instructions::push_place;
+use crate::unused::number_of;
+use known_values::{Lack, OpenedQueue};
+use ownership_runs::{Breach, Moved, Owned};
+use recorder::schedule_text;
+use std::alloc::{AllocError, Global};
+use step_machine::{Event, Opening};
+
+fn push_broken(out: &mut String, opening: &Opening, hart: u32, pc: u32) -> Result<(), AllocError>
+    ensures { OnOk result (string_bytes out.new ≡ string_bytes out.old ++ broken_line opening.now hart pc) }
+{
+    write!(out, "broken: ")?;
+    push_place(out, opening, hart, pc)?;
+    writeln!(out, "")
+}
+
+#[tactic(auto, unfolding(crate::specs::Broken::stored_text))]
+fn push_stored_text(out: &mut String, index: u32, breach: Breach) -> Result<(), AllocError>
+    ensures { OnOk result (string_bytes out.new ≡ string_bytes out.old ++ stored_text index breach) }
+{
+    let Breach {
+        addr,
+        width,
+        value,
+        ..
+    } = breach;
+    write!(
+        out,
+        "queue {index}: it stored {value} to the {width} bytes at {addr}"
+    )
+}
+
+#[tactic(auto, unfolding(crate::specs::Broken::positions_text))]
+fn push_positions(out: &mut String, owned: Owned) -> Result<(), AllocError>
+    requires { owned.from < owned.end }
+    ensures { OnOk result (string_bytes out.new ≡ string_bytes out.old ++ positions_text owned) }
+{
+    let from = owned.from;
+    let last = owned.end - 1;
+    write!(out, ", and owned positions {from} to {last}")
+}
+
+fn push_owned(out: &mut String, owned: Option<Owned>) -> Result<(), AllocError>
+    ensures { OnOk result (string_bytes out.new ≡ string_bytes out.old ++ owned_text owned) }
+{
+    match owned {
+        None => write!(out, ", and is neither party"),
+        Some(owned) => {
+            if owned.from < owned.end {
+                push_positions(out, owned)
+            } else {
+                write!(out, ", and owned no position")
+            }
+        }
+    }
+}
+
+fn push_stored(out: &mut String, index: u32, breach: Breach) -> Result<(), AllocError>
+    ensures { OnOk result (string_bytes out.new ≡ string_bytes out.old ++ stored_line index breach) }
+{
+    push_stored_text(out, index, breach)?;
+    push_owned(out, breach.owned)?;
+    writeln!(out, "")
+}
+
+#[tactic(auto, unfolding(crate::specs::Broken::other_line))]
+fn push_other(out: &mut String) -> Result<(), AllocError>
+    ensures { OnOk result (string_bytes out.new ≡ string_bytes out.old ++ other_line) }
+{
+    writeln!(
+        out,
+        "another protocol may fit: that of a queue that overwrites, that has several senders or receivers, or whose slots tell whose they are"
+    )
+}
+
+#[tactic(auto, unfolding(crate::specs::Broken::shown_line))]
+fn push_shown(out: &mut String, stores: usize) -> Result<(), AllocError>
+    ensures { OnOk result (string_bytes out.new ≡ string_bytes out.old ++ shown_line stores) }
+{
+    writeln!(
+        out,
+        "shown by this schedule, whose last event it is, with --buffer {stores}:"
+    )
+}
+
+/// The text of a run of these events that breaks the protocol of this queue, over buffers of `stores` stores.
+pub fn broken_text(
+    alloc: Global,
+    stores: usize,
+    opening: &Opening,
+    index: u32,
+    opened: &OpenedQueue,
+    part: &[Event],
+    breach: Breach,
+    pc: u32,
+) -> Result<String, AllocError>
+    ensures { IfOk result (λ text. string_bytes text ≡ broken_text stores opening.now index opened.now part.now breach pc) }
+{
+    let mut out = String::new(alloc);
+    push_broken(&mut out, opening, breach.hart, pc)?;
+    push_stored(&mut out, index, breach)?;
+    push_form(&mut out, index, opened)?;
+    push_other(&mut out)?;
+    push_shown(&mut out, stores)?;
+    let schedule = schedule_text(alloc, part)?;
+    out.push_str(&schedule)?;
+    Ok(out)
+}
+
+#[tactic(auto, unfolding(crate::specs::Broken::runs_front))]
+fn push_runs_front(out: &mut String, index: u32, number: u32, length: u32) -> Result<(), AllocError>
+    ensures { OnOk result (string_bytes out.new ≡ string_bytes out.old ++ runs_front index number length) }
+{
+    write!(
+        out,
+        "queue {index}: kept in {number} drawn runs of {length} events"
+    )
+}
+
+#[tactic(auto, unfolding(crate::specs::Broken::runs_end))]
+fn push_runs_end(out: &mut String, moved: Moved) -> Result<(), AllocError>
+    ensures { OnOk result (string_bytes out.new ≡ string_bytes out.old ++ runs_end moved) }
+{
+    let Moved { published, taken } = moved;
+    writeln!(
+        out,
+        ", in which {published} positions were published and {taken} taken"
+    )
+}
+
+/// The lines of runs that keep the protocol of each queue.
+pub fn push_runs(out: &mut String, number: u32, length: u32, kept: &[Moved]) -> Result<(), Lack>
+    ensures { OnOk result (string_bytes out.new ≡ string_bytes out.old ++ numbered (runs_line number length) 0 kept.now) }
+{
+    for (place, moved) in kept.iter().enumerate() {
+        let index = number_of(place)?;
+        push_runs_front(out, index, number, length)?;
+        push_runs_end(out, *moved)?;
+    }
+    Ok(())
+}

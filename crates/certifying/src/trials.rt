@@ -1,0 +1,181 @@
+//! Drawn runs of a text, judged by the protocol of each queue of a certificate that isn't accepted.
+
+ghost use Rattle.std.specs.Prelude.{◌≡◌, ◌≤◌, ◌<◌, ◌-◌, ◌*◌, ℕ, List, IfOk, length, take};
+ghost use Rattle.recorder.specs.Drawing.{left_after};
+ghost use Rattle.step_machine.specs.History.{FitsIn};
+ghost use Rattle.queue_parties.specs.Parties.{all_at};
+ghost use Rattle.queue_certificates.specs.Certificates.{queue_at, start_at};
+ghost use Rattle.certifying.specs.Trials.{IsOfTrial, IsPcBeforeLast, IsToldOf, IsTrialBroken, runs_by};
+
+use crate::unused::number_of;
+use judged_runs::Told;
+use jumping::progress::Progress;
+use jumping::{Draw, Jump, Runs};
+use known_values::{Lack, OpenedQueue};
+use ownership_runs::laws::laws_of_judged_runs;
+use ownership_runs::{Breach, Counts, Moved, check_runs};
+use queue_checker::QueueCertificate;
+use std::alloc::{AllocError, Global};
+use std::thread::Threads;
+use step_machine::{Event, Machine, Opening};
+
+/// What drawn runs show.
+#[derive(Drop)]
+pub enum Trial {
+    /// All keep the protocol of each queue, whose parties moved on by this much in them.
+    Kept(Vec<Moved>),
+    /// One breaks the protocol of this queue, which none does of an earlier one: a part of its events that ends with the breach, and
+    /// the pc at which the hart was then.
+    Broken {
+        queue: u32,
+        part: Vec<Event>,
+        breach: Breach,
+        pc: u32,
+    },
+}
+
+/// The counts of a queue that opens empty.
+fn counts_at(start: u64) -> Counts
+    ensures { result ≡ all_at start }
+{
+    Counts {
+        published: start,
+        taken: start,
+        known_taken: start,
+        known_published: start,
+    }
+}
+
+/// The pc of a hart before the last of these events.
+fn pc_before_last<const B: usize, const M: usize>(
+    alloc: Global,
+    opening: &Opening,
+    events: &[Event],
+    hart: u32,
+) -> Result<u32, AllocError>
+    requires some_capacity { 1 ≤ B }
+    requires capacity { B ≤ 64 }
+    requires some_word { 1 ≤ M }
+    requires size { M ≤ 65536 }
+    requires fits { FitsIn M opening.now }
+    requires some_event { 1 ≤ length events.now }
+    requires of_hart { hart < length opening.now.harts }
+    ensures { IfOk result (IsPcBeforeLast B M opening.now events.now hart) }
+{
+    let mut machine: Machine<B, M> = Machine::open(alloc, opening.copy(alloc)?)?;
+    match machine.run(&events[..events.len() - 1]) {
+        Ok(()) => Ok(machine.pc(hart)),
+        Err((_, error)) => Err(error),
+    }
+}
+
+/// What was told of a run that breaks the protocol of a queue.
+fn broken_by<const B: usize, const M: usize>(
+    alloc: Global,
+    opening: &Opening,
+    queue: u32,
+    part: Vec<Event>,
+    breach: Breach,
+) -> Result<Trial, AllocError>
+    requires some_capacity { 1 ≤ B }
+    requires capacity { B ≤ 64 }
+    requires some_word { 1 ≤ M }
+    requires size { M ≤ 65536 }
+    requires fits { FitsIn M opening.now }
+    requires some_event { 1 ≤ length part.items }
+    requires of_hart { breach.hart < length opening.now.harts }
+    ensures { IfOk result (IsTrialBroken B M opening.now queue part.items breach) }
+{
+    let pc = pc_before_last::<B, M>(alloc, opening, &part, breach.hart)?;
+    Ok(Trial::Broken {
+        queue,
+        part,
+        breach,
+        pc,
+    })
+}
+
+/// What is told of the runs of one queue.
+fn told_of<const B: usize, const M: usize, G: Jump + Sync + Drop, T: Threads + Sync, P: Progress>(
+    rt: &T,
+    alloc: Global,
+    opening: &Opening,
+    certificate: &QueueCertificate,
+    index: u32,
+    draw: Draw,
+    generator: &G,
+    runs: Runs,
+    progress: &mut P,
+) -> Result<Told<Moved, Breach>, AllocError>
+    requires some_capacity { 1 ≤ B }
+    requires capacity { B ≤ 64 }
+    requires some_word { 1 ≤ M }
+    requires size { M ≤ 65536 }
+    requires fits { FitsIn M opening.now }
+    requires inside { index < length certificate.now.queues }
+    requires some_slot { 1 ≤ (queue_at certificate.now index).size }
+    ensures { IfOk result (IsToldOf
+        (runs_by B M draw (left_after (runs.skip * runs.length) (G.Rng.stream generator.now)) runs.number runs.length) opening.now certificate.now index) }
+{
+    let opened = &certificate.queues[index as usize];
+    check_runs::<B, M, G, T, P>(
+        rt,
+        alloc,
+        opening,
+        &opened.queue,
+        counts_at(opened.start),
+        draw,
+        generator,
+        runs,
+        progress,
+    )
+}
+
+/// Runs an opening `runs.number` times, as [`check_runs`] does, for each queue of a certificate: what that shows.
+pub fn trial_of<
+    const B: usize,
+    const M: usize,
+    G: Jump + Sync + Drop,
+    T: Threads + Sync,
+    P: Progress,
+>(
+    rt: &T,
+    alloc: Global,
+    opening: &Opening,
+    certificate: &QueueCertificate,
+    draw: Draw,
+    generator: &G,
+    runs: Runs,
+    progress: &mut P,
+) -> Result<Trial, Lack>
+    requires some_capacity { 1 ≤ B }
+    requires capacity { B ≤ 64 }
+    requires some_word { 1 ≤ M }
+    requires size { M ≤ 65536 }
+    requires fits { FitsIn M opening.now }
+    requires some_slot { (i : ℕ) → i < length certificate.now.queues → 1 ≤ (queue_at certificate.now i).size }
+    ensures { IfOk result (IsOfTrial
+        (runs_by B M draw (left_after (runs.skip * runs.length) (G.Rng.stream generator.now)) runs.number runs.length) opening.now certificate.now) }
+{
+    laws_of_judged_runs();
+    let mut kept = Vec::new(alloc);
+    for index in 0..number_of(certificate.queues.len())? {
+        match told_of::<B, M, G, T, P>(
+            rt,
+            alloc,
+            opening,
+            certificate,
+            index,
+            draw,
+            generator,
+            runs,
+            progress,
+        )? {
+            Told::Good(moved) => kept.push(moved)?,
+            Told::Flawed { part, flaw } => {
+                return Ok(broken_by::<B, M>(alloc, opening, index, part, flaw)?);
+            }
+        }
+    }
+    Ok(Trial::Kept(kept))
+}

@@ -1,0 +1,23 @@
+-- A run whose last event breaks a queue's protocol of ownership.
+use Rattle.std.specs.Prelude.{ℕ, ◌≡◌, ◌<◌, List, [], ◌∷◌, ◌++◌, length, Some}
+use Rattle.step_machine.specs.declared.events.Event.{Event}
+use Rattle.step_machine.specs.declared.events.Entry.{Entry}
+use Rattle.step_machine.specs.History.{OpeningValue, History, with_entry}
+use Rattle.step_machine.specs.Runs.{Adds, Run}
+use Rattle.queue_parties.specs.Parties.{QueueCounts}
+use Rattle.slot_queue.specs.Queues.{Queue}
+use Rattle.ownership_runs.specs.declared.breaches.Breach.{Breach}
+use Rattle.ownership_runs.specs.Breaches.{first_ownership_breach}
+
+-- the last of these events adds an entry that is the first breach of their run
+pub record EndsInBreach (B M : ℕ) (o : OpeningValue) (q : Queue) (start : QueueCounts) (events : List Event) (breach : Breach) : Type 0 where
+  pub front : List Event
+  pub last : Event
+  pub before : History
+  pub entry : Entry
+  pub events_are : events ≡ front ++ last ∷ []
+  pub run : Run B M o front before
+  pub adds : Adds B M before last entry (with_entry before entry)
+  pub first : first_ownership_breach q start (before.entries ++ entry ∷ []) ≡ Some breach
+  pub place : breach.place ≡ length before.entries
+  pub of_hart : breach.hart < length o.harts
