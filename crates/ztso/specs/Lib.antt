@@ -1,3 +1,4 @@
 pub mod Failures
+pub mod Held
 pub mod Inputs
 pub mod Work

@@ -22,12 +22,15 @@ use Rattle.finding.specs.Find.{IsFindAnswer}
 use Rattle.view_engines.specs.Chart.{IsChartAnswer, drawing}
 use Rattle.view_engines.specs.Show.{IsShowAnswer}
 use Rattle.view_engines.specs.Shrink.{IsShrinkAnswer}
+use Rattle.tries.specs.declared.trials.outcomes.Unfinished.{Unfinished}
+use Rattle.tries.specs.declared.trials.outcomes.Unfinished.TheVariants as left
 use Rattle.view_engines.specs.declared.showing.Form.{Form}
 use Rattle.view_engines.specs.declared.showing.Form.TheVariants as form
 use Rattle.run_engines.specs.Replay.{IsReplayAnswer}
 use Rattle.debugger.specs.Transcripts.{EndsInteractive, IsDebugAnswer, IsDebugFront, IsDebugSome, OnStopped, OnUnwritten}
 use Rattle.tries.specs.Outcomes.{IsTryAnswer}
 use Rattle.certifying.specs.Answers.{IsQueueAnswer}
+use Rattle.certifying.specs.Trials.{runs_by}
 use Rattle.callers.specs.Answers.{IsCallersAnswer}
 use Rattle.callers.specs.declared.queue.Queue.{Queue}
 use Rattle.callers.specs.declared.queue.QueueKind.{QueueKind}
@@ -104,6 +107,11 @@ abbrev pub form_of : (steps : Bool) → Form
 form_of true = form.Steps
 form_of false = form.Table
 
+-- what `try` says of the runs that did not finish
+abbrev pub left_of : (unfinished : Bool) → Unfinished
+left_of true = left.Shown
+left_of false = left.Counted
+
 -- ---- how a command ends
 
 -- What the readers of all inputs tell, in the order in which they are read, and what a user's commands tell.
@@ -147,8 +155,8 @@ Does B (Machine Check) result given = DoneAlong good_exit (IsCheckAnswer B WORDS
 Does B (Machine Debug) result given = DoneAlong done_exit (IsDebugAnswer B WORDS given.commands given.first given.second)
     (λ out. IsDebugFront B WORDS given.commands given.first given.second (Ok (out, tt)))
     (λ out. IsDebugSome B WORDS given.commands given.first given.second (Ok (out, tt))) result
-Does B (Machine (Try seed draw runs)) result given = Done good_exit
-    (IsTryAnswer B WORDS draw (left_after (runs.skip * runs.length) (drawn_from seed)) runs.number runs.length given.first) result
+Does B (Machine (Try seed draw runs unfinished)) result given = Done good_exit
+    (IsTryAnswer B WORDS (left_of unfinished) draw (left_after (runs.skip * runs.length) (drawn_from seed)) runs.number runs.length given.first) result
 Does B (Machine (Callers seed draw runs queue)) result given = Done good_exit
     (IsCallersAnswer B WORDS (queue_of queue) draw (left_after (runs.skip * runs.length) (drawn_from seed)) runs.number runs.length given.first) result
 Does B (Machine (Channel ring place finish)) result given =
@@ -159,11 +167,12 @@ Does B (UserChannel place) result given =
     Done done_exit (IsUserAnswer B WORDS (layout_of place []) given.first given.second given.third given.fourth) result
 Does B (Ring seed draw runs place) result given =
     Done good_exit (IsRingAnswer (drawn_runs B seed draw runs place) given.first given.second given.third) result
-Does B OfQueues result given = Done judgement_exit (IsQueueAnswer given.first given.second) result
+Does B (OfQueues seed draw runs) result given = Done judgement_exit (IsQueueAnswer
+    (runs_by B WORDS draw (left_after (runs.skip * runs.length) (drawn_from seed)) runs.number runs.length) given.first given.second) result
 
 -- the greatest exit status of a command that doesn't fail
 abbrev pub greatest_status : Command → ℕ
-greatest_status OfQueues = 7
+greatest_status (OfQueues seed draw runs) = 8
 greatest_status command = 1
 
 -- a command that judges records, one after the other
@@ -185,7 +194,7 @@ abbrev pub refusals : Command → Result ℕ Failure → List (Option (List ℕ)
 refusals (Code command) result = []
 refusals (Machine Steps) result = []
 refusals (Machine (Show steps)) result = []
-refusals (Machine (Try seed draw runs)) result = []
+refusals (Machine (Try seed draw runs unfinished)) result = []
 refusals (Machine (Callers seed draw runs queue)) result = []
 refusals (Machine (Channel ring place finish)) result = IsRefused schedules ∷ []
 refusals (Machine Check) result = (λ first. IsRefusal result × IsRefused tests first) ∷ []
@@ -194,7 +203,7 @@ refusals (Find states) result = []
 refusals (Threads turns) result = []
 refusals (UserChannel place) result = IsRefused (programs Sender) ∷ IsRefused (programs Receiver) ∷ IsRefused schedules ∷ []
 refusals (Ring seed draw runs place) result = IsRefused (programs Sender) ∷ IsRefused (programs Receiver) ∷ []
-refusals OfQueues result = IsRefused tests ∷ []
+refusals (OfQueues seed draw runs) result = IsRefused tests ∷ []
 
 -- The input after these is left unread: the command has none there, or one of these is refused.
 abbrev pub LeavesUnread : List (Option (List ℕ) → Type 0) → (before : List (Option (List ℕ))) → Type 0

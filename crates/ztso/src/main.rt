@@ -12,9 +12,11 @@ ghost use Rattle.std.specs.Prelude.{◌≡◌, ◌≤◌, IfOk};
 ghost use Rattle.ztso.specs.Work.{greatest_status, judges_records};
 
 mod calling;
+mod certified;
 mod clock_line;
 mod failure;
 mod lazy_input;
+mod line_output;
 mod prompt_reader;
 mod reading_line;
 mod shown_input;
@@ -27,6 +29,7 @@ use failure::Failure;
 use finding::SearchProgress;
 use jumping::progress::Progress;
 use lazy_input::LazyInput;
+use line_output::LineOutput;
 use prompt_reader::PromptReader;
 use reading_line::ReadingLine;
 use shown_input::ShownInput;
@@ -73,7 +76,7 @@ fn run<R, P: Progress, Q: SearchProgress>(
 where
     R: Env + Files + Input + Clock + Print + Eprint + AllocGlobal + Threads + Wait + Sync,
     R::Reader: IsTerminal,
-    ensures { IfOk result (λ status. status ≤ 7) }
+    ensures { IfOk result (λ status. status ≤ 8) }
 {
     let arguments = env::args(rt).map_err(CommandLineError::of_arguments)?;
     let words: Vec<String> = arguments.collect(rt.alloc())?;
@@ -94,6 +97,8 @@ where
     R::Reader: IsTerminal,
     ensures { IfOk result (λ status. status ≤ greatest_status job.entry.command) }
 {
+    // engines write a few bytes at a time, and must be read line by line
+    let writer = LineOutput::new(rt.alloc(), io::writer(rt))?;
     let shown = shows_reading && is_check(job.command);
     let line = shown.then_some(ReadingLine::new(rt));
     let mut streams = Streams {
@@ -102,7 +107,7 @@ where
         third: ShownInput::new(LazyInput::new(rt, job.third), None),
         fourth: ShownInput::new(LazyInput::new(rt, job.fourth), None),
         commands: PromptReader::new(rt),
-        writer: io::writer(rt),
+        writer,
     };
     let ended = do_command(
         rt,

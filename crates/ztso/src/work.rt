@@ -4,7 +4,8 @@ ghost use Rattle.std.specs.Prelude.{◌≡◌, ◌⊎◌, ℕ, ◌≤◌, ◌*�
 ghost use Rattle.std.specs.Io.KnownBytes.{Appends};
 ghost use Rattle.ztso.specs.declared.work.TheConstants.{WORDS};
 ghost use Rattle.command_line.specs.declared.job.Command.TheVariants.{Code, Machine};
-ghost use Rattle.ztso.specs.Work.{Does, LeavesCommands, LeavesUnread, drawn_from, drawn_runs, form_of, greatest_status, refusals, stores_of, tables_of};
+ghost use Rattle.ztso.specs.Work.{Does, LeavesCommands, LeavesUnread, drawn_from, drawn_runs, form_of, greatest_status, left_of};
+ghost use Rattle.ztso.specs.Work.{refusals, stores_of, tables_of};
 ghost use Rattle.recorder.specs.Drawing.{left_after};
 ghost use Rattle.poll_close.specs.Places.{layout_of};
 ghost use Rattle.channel_engines.specs.Channels.{IsChannelAnswer};
@@ -21,8 +22,8 @@ ghost use Rattle.channel_engines.specs.Programs.{programs};
 ghost use Rattle.channel_engines.specs.Rings.{IsRingAnswer};
 
 use crate::calling::call_drawn;
+use crate::certified::judge_certificate;
 use crate::failure::{Failure, after, after_judgement, after_run, after_runs, after_search};
-use certifying::queue_engine;
 use channel_engines::channel::channel_engine;
 use channel_engines::ring::ring_engine;
 use channel_engines::user_channel::user_channel_engine;
@@ -50,7 +51,7 @@ use std::io::{BufReader, Read, Write};
 use std::sync::Wait;
 use std::thread::Threads;
 use threading::threads::threads_engine;
-use tries::trials::try_engine;
+use tries::trials::{Unfinished, try_engine};
 use view_engines::charting::chart_engine;
 use view_engines::showing::{Form, show_engine};
 use view_engines::shrinking::shrink_engine;
@@ -129,17 +130,21 @@ fn try_drawn<const B: usize, F: Read, W: Write, T: Threads + Sync, P: Progress>(
     seed: u64,
     draw: Draw,
     runs: Runs,
+    unfinished: bool,
     file: &mut F,
     progress: &mut P,
     writer: &mut W,
 ) -> Result<bool, Fault>
     requires some_capacity { 1 ≤ B }
     requires capacity { B ≤ 64 }
-    ensures { Ends (IsTryAnswer B WORDS draw (left_after (runs.skip * runs.length) (drawn_from seed)) runs.number runs.length
+    ensures { Ends (IsTryAnswer B WORDS (left_of unfinished) draw (left_after (runs.skip * runs.length) (drawn_from seed)) runs.number runs.length
         (F.remaining file.old)) result W.contents writer.old writer.new }
 {
     let generator = Lcg64Xsh32::seed_from_u64(seed);
-    try_engine::<B, WORDS, _, _, _, _, _>(rt, alloc, file, draw, &generator, runs, progress, writer)
+    let left = left_of(unfinished);
+    try_engine::<B, WORDS, _, _, _, _, _>(
+        rt, alloc, file, left, draw, &generator, runs, progress, writer,
+    )
 }
 
 /// Runs a channel over lists of words by a schedule, through rings of this kind at this place, and then by a
@@ -177,6 +182,17 @@ fn form_of(steps: bool) -> Form
     ensures { result ≡ form_of steps }
 {
     if steps { Form::Steps } else { Form::Table }
+}
+
+/// What is said of the runs that did not finish.
+fn left_of(unfinished: bool) -> Unfinished
+    ensures { result ≡ left_of unfinished }
+{
+    if unfinished {
+        Unfinished::Shown
+    } else {
+        Unfinished::Counted
+    }
 }
 
 /// Looks for a schedule that shows what a litmus test asks about, over buffers of `B` stores.
@@ -309,8 +325,13 @@ fn do_machine<const B: usize, T: Threads + Sync, I: Read, C: Read, W: Write, P: 
         MachineCommand::Debug => {
             after(debug::<B, _, _, _, _>(alloc, first, second, commands, writer))
         }
-        MachineCommand::Try { seed, draw, runs } => after_runs(try_drawn::<B, _, _, _, _>(
-            rt, alloc, seed, draw, runs, first, progress, writer,
+        MachineCommand::Try {
+            seed,
+            draw,
+            runs,
+            unfinished,
+        } => after_runs(try_drawn::<B, _, _, _, _>(
+            rt, alloc, seed, draw, runs, unfinished, first, progress, writer,
         )),
         MachineCommand::Callers {
             seed,
@@ -403,12 +424,19 @@ where
             progress,
             &mut streams.writer,
         )),
-        Command::Queue => after_judgement(queue_engine(
-            alloc,
-            &mut streams.first,
-            &mut streams.second,
-            &mut streams.writer,
-        )),
+        Command::Queue { seed, draw, runs } => {
+            after_judgement(judge_certificate::<B, _, _, _, _, _>(
+                rt,
+                alloc,
+                seed,
+                draw,
+                runs,
+                &mut streams.first,
+                &mut streams.second,
+                progress,
+                &mut streams.writer,
+            ))
+        }
     }
 }
 
@@ -416,8 +444,8 @@ where
 /// their order, each after an accepted one before it, and a user's commands, and writes what it answers. It answers the exit
 /// status: 0, but 1 where the verdict is that the test fails or is unfinished, the runs that were tried don't show what the
 /// test asks, a record was refused, callers of a queue owe something, or a run of a channel isn't clean, and of a certificate 6
-/// where only its loads aren't shown, or 7 where nothing is. `progress` gets the reports of runs that are tried, and `search` those
-/// of a search.
+/// where only its loads aren't shown, 7 where nothing is, or 8 where a run breaks the protocol. `progress` gets the reports of runs
+/// that are tried, and `search` those of a search.
 pub fn do_command<R, I: Read, C: Read, W: Write, P: Progress, Q: SearchProgress>(
     rt: &R,
     command: Command,

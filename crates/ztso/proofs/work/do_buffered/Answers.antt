@@ -19,4 +19,4 @@ pub returns-in-Ring-clause-does : goal.returns-in-Ring-clause-does
 returns-in-Ring-clause-does g c = rw c.in-Ring.is (c.run_user_ring.result, c.after_runs.ensures.ended, c.run_user_ring.ensures.ends)
 
 pub returns-in-Queue-clause-does : goal.returns-in-Queue-clause-does
-returns-in-Queue-clause-does g c = rw c.in-Queue.is (c.queue_engine.result, c.after_judgement.ensures.ended, c.queue_engine.ensures.ends)
+returns-in-Queue-clause-does g c = rw c.in-Queue.is (c.judge_certificate.result, c.after_judgement.ensures.ended, c.judge_certificate.ensures.ends)

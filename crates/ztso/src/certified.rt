@@ -1,0 +1,62 @@
+//! What is asked of a certificate of queues.
+
+ghost use Rattle.std.specs.Prelude.{◌≡◌, ◌≤◌, ◌*◌};
+ghost use Rattle.recorder.specs.Drawing.{left_after};
+ghost use Rattle.engine_support.specs.Engines.{Ends};
+ghost use Rattle.engine_support.specs.Inputs.{IsRefused};
+ghost use Rattle.engine_support.specs.Tests.{tests};
+ghost use Rattle.certifying.specs.Answers.{IsQueueAnswer};
+ghost use Rattle.certifying.specs.Trials.{runs_by};
+ghost use Rattle.ztso.specs.Work.{drawn_from};
+ghost use Rattle.ztso.specs.declared.work.TheConstants.{WORDS};
+
+use crate::work::WORDS;
+use certifying::{Judgement, queue_engine};
+use engine_support::fault::Fault;
+use jumping::progress::Progress;
+use jumping::{Draw, Runs};
+use rand_core::SeedableRng;
+use rand_pcg::Lcg64Xsh32;
+use std::alloc::Global;
+use std::io::{Read, Write};
+use std::thread::Threads;
+
+/// Judges a certificate, and where it isn't accepted runs by schedules that are drawn from a generator of this seed.
+pub fn judge_certificate<
+    const B: usize,
+    F: Read,
+    C: Read,
+    W: Write,
+    T: Threads + Sync,
+    P: Progress,
+>(
+    rt: &T,
+    alloc: Global,
+    seed: u64,
+    draw: Draw,
+    runs: Runs,
+    file: &mut F,
+    certificate: &mut C,
+    progress: &mut P,
+    writer: &mut W,
+) -> Result<Judgement, Fault>
+    requires some_capacity { 1 ≤ B }
+    requires capacity { B ≤ 64 }
+    ensures ends { Ends (IsQueueAnswer
+        (runs_by B WORDS draw (left_after (runs.skip * runs.length) (drawn_from seed)) runs.number runs.length)
+        (F.remaining file.old) (C.remaining certificate.old)) result W.contents writer.old writer.new }
+    ensures unread { IsRefused tests (F.remaining file.old) → certificate.new ≡ certificate.old }
+{
+    let generator = Lcg64Xsh32::seed_from_u64(seed);
+    queue_engine::<B, WORDS, _, _, _, _, _, _>(
+        rt,
+        alloc,
+        file,
+        certificate,
+        draw,
+        &generator,
+        runs,
+        progress,
+        writer,
+    )
+}
