@@ -1,7 +1,10 @@
 """What C calls the words of memory, and C's lines beside a picture: by texts that are written by hand, without a
 compiler."""
 
+import re
 import tempfile
+from pathlib import Path
+from xml.dom import minidom
 
 from bring_parts import Refused, dwarf, fields, memory
 from bring_trials.counting import run, write
@@ -116,7 +119,21 @@ def names(count):
         refused = words.named("q.in", "asks for")
     except Refused as error:
         refused = str(error)
-    count.told("what is no word", refused == "asks for q.in, which is no shared word", refused)
+    count.told("what is no word", refused == "asks for q.in, which is no shared word: there are q.head, q.in[0].low, q.m[0][0]", refused)
+    asked = [words.address(text) for text in ("q.head", "q", "q.in", "q.in[1].low", "q.m", "q.m[1][0]", "q+6", "q_m_1_1", "null", "12")]
+    count.told("places that C names", asked == [4, 4, 8, 12, 16, 24, 10, 28, 0, 12], str(asked))
+    for text in ("q.tail", "q+x", "40x"):
+        try:
+            refused = words.address(text)
+        except Refused as error:
+            refused = str(error)
+        wanted = f"{text} is no place of the program: there are q.head, q.in[0].low, q.m[0][0]"
+        count.told(f"what is no place, {text}", refused == wanted, str(refused))
+
+
+# names for which a picture has no room, and what is said of their addresses
+LONG = TEXT.replace("0:x6=x;", "int first; int message_length; 0:x6=message_length;")
+NAMED = "@4 is message_length"
 
 
 def beside(printed):
@@ -124,6 +141,22 @@ def beside(printed):
     rows = printed.split("\n\n")[1].split("\n")[1:]
     notes = [row.partition("   P") for row in rows]
     return [f"P{note}" if mark else None for _, mark, note in notes]
+
+
+def as_svg(count, printed, error):
+    """The picture as SVG has the same beside its rows, and the long names below it, all of it within its size."""
+    picture = minidom.parseString(printed).documentElement
+    texts = [(int(each.getAttribute("x")), int(each.getAttribute("y")), each.firstChild.data, each.getAttribute("id"))
+             for each in picture.getElementsByTagName("text")]
+    rows = {y: name for _, y, _, name in texts if name}
+    notes = {rows.get(y): words for _, y, words, name in texts if re.match(r"P[01] \S", words) and not name}
+    wanted = {f"row-{at}": note for at, note in enumerate(BESIDE[()], 1) if note}
+    count.told("lines beside a picture as SVG", not error and notes == wanted, f"{notes}{error}")
+    width, height = (int(picture.getAttribute(name)) for name in ("width", "height"))
+    back = picture.getElementsByTagName("rect")[0]
+    size = [int(back.getAttribute(name)) for name in ("width", "height")] == [width, height]
+    count.told("what a picture as SVG has room for", size and all(x + 8 * len(words) <= width and y < height for x, y, words, _ in texts)
+               and texts[-1][2] == NAMED and max(y for _, y, _, _ in texts[:-1]) < height, f"{width} {height} {texts[-3:]}")
 
 
 def part(count, program):
@@ -135,6 +168,10 @@ def part(count, program):
             picture = "\n".join(row.rpartition("   P")[0].rstrip() or row for row in printed.split("\n"))
             count.told(f"lines beside a picture {words}", (status, error) == (0, "") and beside(printed) == wanted, printed)
             count.told(f"its rows {words}", "x := 1" in picture and printed.endswith("\nHolds: exists (0:x7=1)\n"), printed)
+        status, printed, error = run("chart-lines", write(folder, "l.litmus", LONG), schedule, "--program", program)
+        count.told("long names", (status, error) == (0, "") and "@4 := 1 " in printed and printed.endswith(f"\n{NAMED}\n"), error + printed)
+        status, printed, error = run("chart-lines", Path(folder, "l.litmus"), schedule, "--svg", "--program", program)
+        as_svg(count, printed, error)
         status, printed, error = run("chart-lines", write(folder, "w.litmus", WIDE), schedule, "--program", program)
         hint = printed.endswith("\nhint: --memory leaves out rows of instructions that only compute or jump\n")
         count.told("rows with only a number", (status, error) == (0, "") and hint, error + printed)

@@ -1,5 +1,7 @@
 """Compilers of Rust by the words of a command line, each by names that texts may have."""
 
+import os
+import shlex
 from pathlib import Path
 
 from bring_parts.making import Way
@@ -8,13 +10,18 @@ VERSIONS = ("1.63", "1.96")
 
 
 def ways(named, folder):
-    """The ways of compiling Rust by words VERSION=RUSTC,CORE, each with commands in this folder that are called rustc and
-    rust-core."""
+    """The ways of compiling Rust by words VERSION=RUSTC,CORE. In this folder, which comes onto the PATH, each has a command
+    rustc-VERSION, and a folder with its rust-core."""
     made = {}
     for version, _, words in (each.partition("=") for each in named):
-        commands = Path(folder, version)
-        commands.mkdir()
-        for name, path in zip(("rustc", "rust-core"), words.split(",")):
-            (commands / name).symlink_to(Path(path).resolve())
-        made[f"rust-{version}"] = Way(rustc=str(commands / "rustc"), rust_core=str(commands / "rust-core"))
+        rustc, core = (Path(path).absolute() for path in words.split(","))
+        command, there = Path(folder, f"rustc-{version}"), Path(folder, version)
+        there.mkdir()
+        (there / "rust-core").symlink_to(core)
+        # no link: rustup's command asks what it is called
+        command.write_text(f'#!/bin/sh\nexec {shlex.quote(str(rustc))} "$@"\n')
+        command.chmod(0o755)
+        made[f"rust-{version}"] = Way(rustc=command.name, rust_core=str(there / "rust-core"))
+    if made:
+        os.environ["PATH"] = f"{folder}{os.pathsep}{os.environ['PATH']}"
     return made

@@ -1,6 +1,7 @@
 """What is read of objects, without a compiler: by listings, debugging information and first bytes that are written by hand."""
 
 import tempfile
+from pathlib import Path
 from types import SimpleNamespace
 
 from bring_parts import Refused, arguments, compressed, dwarf, fields, functions, instructions, memory, questions
@@ -140,6 +141,16 @@ def expansions(count):
         count.told(f"lines of {sources}", made == wanted, str(made))
 
 
+def own_headers(count):
+    """The lines of a header of the author's, and not those of a compiler's library, which may be there too."""
+    with tempfile.TemporaryDirectory() as folder:
+        own, library = write(folder, "ring.hpp", "x\n"), Path(folder, "library/core")
+        library.mkdir(parents=True)
+        chain = f"{write(library, 'lib.rs', 'x')}:1\n inlined by {own}:4 (f)\n inlined by {folder}/a.cpp:5 (P0)\n  100000:\tlui\tx10,0x0\n"
+        made = [(each.where(), each.path) for each in instructions.listed(chain, ["a.cpp"])]
+        count.told("lines of one's own header", made == [("ring.hpp:4", str(own))], str(made))
+
+
 def codes(count):
     """What hart P0 reaches."""
     for name, labels, lines, wanted, sizes in CODES:
@@ -208,6 +219,7 @@ def questions_in(count):
 
 def part(count):
     expansions(count)
+    own_headers(count)
     codes(count)
     information(count)
     questions_in(count)

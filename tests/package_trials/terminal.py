@@ -184,7 +184,8 @@ def after_faults(count, place, folder):
         (("try", "bad.litmus", *DRAWN), "", 2, NO_HEADER, "21"),
         (("debug", "bad.litmus", "none"), "q\n", 2, NO_HEADER, "21"),
         (("find", f"{place.pages}/litmus/message-passing/mp.litmus", "--states", "1"), "", 5, CUT, "cut at states"),
-        (("run", "none", "none"), "", 3, READ_FAILED, "read failed"))
+        (("run", "none", "none"), "", 3, READ_FAILED, "read failed"),
+        (("queue", f"{place.pages}/litmus/message-passing/mp.litmus", "--certificate", "none"), "", 3, READ_FAILED, "read failed"))
     for words, text, status, shown, what in trials:
         count.same(f"{place.name}, {' '.join(words)}", at_terminal([place.wrapper, *words], folder, text),
                    (status, "", f"{shown}  {place.explain} {what}: an example, and what to do\n"))

@@ -156,6 +156,7 @@ def drawn(count, page):
     count.told("drawn runs in parts", good, rows)
     page.click('#drawn tbody tr:nth-child(2) button')
     count.told("a row's schedule, shrunk", "of the drawn run's" in page.note() and page.word() == "Fails", page.note())
+    in_bursts(count, page)
     page.over("runs", "100000")
     page.over("length", "2000")
     page.browser.click("#go")
@@ -173,6 +174,22 @@ def drawn(count, page):
     page.draw()
     count.told("a seed that is none", "A seed is a number" in page.text("#drawn"), page.text("#drawn"))
     page.open()
+
+
+def in_bursts(count, page):
+    """Another draw has other counts, and its first unfinished run can be stepped through."""
+    uniform = page.texts("#drawn td.count")
+    page.run("""document.getElementById("how").value = "bursts";
+        document.getElementById("how").dispatchEvent(new Event("change"))""")
+    page.over("length", "30")
+    page.draw()
+    bursts = page.texts("#drawn td.count")
+    count.told("runs in bursts", len(bursts) == 4 and bursts != uniform[:3] + bursts[3:], bursts)
+    page.click("#drawn tr:last-child button")
+    count.told("the first run that didn't finish", page.word() == "Unfinished" and page.place() == "30 of 30 events"
+               and f"The first of {bursts[-1]} runs" in page.note(), [page.place(), page.note()])
+    page.run("""document.getElementById("how").value = "uniform";
+        document.getElementById("how").dispatchEvent(new Event("change"))""")
 
 
 def long_runs(count, page):

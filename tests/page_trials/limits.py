@@ -29,7 +29,7 @@ COUNTS = """RISCV counts
 exists (0:x5=1 /\\ 1:x5=1)
 """
 NOPS = "RISCV nops\n{ 0:x6=x; }\n P0 ;\n nop ;\n nop ;\n nop ;\n sw x5,0(x6) ;\nexists (x=0)\n"
-LONG = {"text": LOOP, "buffer": 4, "seed": "1", "skip": 0, "runs": 100000, "length": 2000}
+LONG = {"text": LOOP, "buffer": 4, "draw": "uniform", "seed": "1", "skip": 0, "runs": 100000, "length": 2000}
 
 
 def part(count, program):
@@ -86,17 +86,19 @@ def schedules(count, served):
 
 def draws(count, served):
     """Just what may be drawn, and one more; and runs whose outcomes aren't listed."""
-    ask = {**RUN, "seed": "1", "skip": 0, "runs": 3, "length": 20}
+    ask = {**RUN, "draw": "uniform", "seed": "1", "skip": 0, "runs": 3, "length": 20}
     for more, status in (({"skip": 100000}, 200), ({"skip": 100001}, 400), ({"length": 2000}, 200), ({"length": 2001}, 400),
-                         ({"runs": 100001}, 400), ({"runs": 0}, 400), ({"seed": "18446744073709551615"}, 200)):
+                         ({"runs": 100001}, 400), ({"runs": 0}, 400), ({"seed": "18446744073709551615"}, 200),
+                         ({"draw": "bursts", "length": 60}, 200), ({"draw": "burst"}, 400)):
         got, answer = served.ask("draw", **ask | more)
         count.told(f"a draw with {more}", got == status, answer)
         if got == 200:
             wanted = by_reference("try", SB, *(f"--{name}={value}" for name, value in {**ask, **more}.items()
-                                              if name in ("seed", "skip", "runs", "length")))
+                                              if name in ("draw", "seed", "skip", "runs", "length")))
             made = [" ".join([str(row["count"]), *row["values"], ";", row["tokens"]]) for row in answer["rows"]]
-            count.told(f"which are the reference's, {more}", [*made, f"unfinished {answer['unfinished']}"] == wanted.splitlines(), answer)
-    got, answer = served.ask("draw", text=COUNTS, buffer=4, seed="1", skip=0, runs=6000, length=2000)
+            last = f"unfinished {answer['unfinished']}" + ("" if answer["first"] is None else f" ; {answer['first']}")
+            count.told(f"which are the reference's, {more}", [*made, last] == wanted.splitlines(), answer)
+    got, answer = served.ask("draw", text=COUNTS, buffer=4, draw="uniform", seed="1", skip=0, runs=6000, length=2000)
     listed, finished = sum(row["count"] for row in answer["rows"]), 6000 - answer["unfinished"]
     good = len(answer["rows"]) == 1000 and answer["left"] > 0 and listed + answer["left"] == finished
     count.told("runs whose outcomes aren't listed are counted", good, (len(answer["rows"]), listed, answer["left"], finished))

@@ -4,6 +4,7 @@ from page_parts import ROOT
 from page_trials import pngs, texts
 
 SB = "a0", "a0", "a1", "a1", "l0", "l1"
+WIDTHS = 390, 1024, 1280, 1920
 
 
 def of_guide(page, folder):
@@ -33,12 +34,11 @@ def to_look_at(page, folder):
     """What is easily broken: small windows, large type, much of something, faults, what opens over the page."""
     folder.mkdir(parents=True, exist_ok=True)
     for name, shows in LOOKS.items():
+        # a tab of its own, since a tab keeps what was done in it
+        page.browser.open()
         page.open()
         shows(page)
         (folder / f"{name}.png").write_bytes(page.browser.picture(whole=name in WHOLE))
-        page.browser.size(1280, 800)
-        page.browser.dark(False)
-        page.run("sessionStorage.clear(), document.activeElement.blur()")
 
 
 def many_harts(page):
@@ -68,6 +68,24 @@ def not_shown(page):
     page.click("#drawn .source")
 
 
+def four_harts(width):
+    """A picture of four harts in a window of this width."""
+    def shows(page):
+        page.browser.size(width, 900)
+        page.choose("iriw")
+        page.paste("a0 a1*2 a2 a3*2 l0 l2")
+    return shows
+
+
+def unfinished(page):
+    """Runs in bursts, and the first that didn't finish."""
+    page.choose("spinlock")
+    page.run("""document.getElementById("how").value = "bursts";
+        document.getElementById("how").dispatchEvent(new Event("change"))""")
+    page.draw()
+    page.click("#drawn tr:last-child button")
+
+
 def sized(width, height, scale=1):
     def shows(page):
         page.browser.size(width, height, scale)
@@ -80,5 +98,6 @@ LOOKS = {"begin": lambda page: page.choose("sb"), "drawn": drawn, "narrow": size
          "long-names": long_names, "not-shown": not_shown, "fault": lambda page: page.over("text", texts.FAULTY), "compiled": compiled,
          "keys": lambda page: page.press("?"), "menu": menu,
          "many-outcomes": lambda page: (page.choose("iriw"), page.draw()),
+         "unfinished": unfinished, **{f"four-harts-{width}": four_harts(width) for width in WIDTHS},
          "dropping": lambda page: page.run("document.body.classList.add('dropping')")}
-WHOLE = ("narrow", "zoom", "many-outcomes", "not-shown")
+WHOLE = ("narrow", "zoom", "many-outcomes", "not-shown", "unfinished", *(f"four-harts-{width}" for width in WIDTHS))

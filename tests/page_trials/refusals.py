@@ -66,7 +66,7 @@ def kept_out(count, served):
 
 def questions(count, served):
     run = {"text": SB, "buffer": 4, "tokens": ""}
-    draw = {"text": SB, "buffer": 4, "seed": "1", "skip": 0, "runs": 1, "length": 1}
+    draw = {"text": SB, "buffer": 4, "draw": "uniform", "seed": "1", "skip": 0, "runs": 1, "length": 1}
     for name, route, body in (
             ("no JSON", "test", b"{"), ("deep JSON", "test", b"[" * 100000), ("no UTF-8", "test", b'{"text":"\xff"}'),
             ("a number of 5,000 digits", "test", b'{"text":' + b"9" * 5000 + b"}"),
@@ -77,6 +77,7 @@ def questions(count, served):
             ("an option in the tokens", "view", run | {"tokens": "--svg"}),
             ("rows of the browser's", "chart", run | {"rows": "--svg"}),
             ("a hart that is none", "onward", run | {"hart": 64}), ("no runs", "draw", draw | {"runs": 0}),
+            ("a draw that is none", "draw", draw | {"draw": "--jobs"}),
             ("too many runs", "draw", draw | {"runs": 100001}), ("a length too long", "draw", draw | {"length": 2001}),
             ("breaks of text", "seek", run | {"place": 0, "breaks": [["0", "g"]]}),
             ("a compiler of the browser's", "c", {"text": "", "compiler": "sh", "fences": "all", "mapping": ""}),

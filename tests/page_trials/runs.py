@@ -68,7 +68,7 @@ def at_ends(listed, view):
 
 def drawn(count, served):
     def rows(skip, runs):
-        answer = served.ask("draw", **RUN, seed="1", skip=skip, runs=runs, length=60)[1]
+        answer = served.ask("draw", **RUN, draw="uniform", seed="1", skip=skip, runs=runs, length=60)[1]
         return {tuple(row["values"]): row["count"] for row in answer["rows"]}, answer
     whole, answer = rows(0, 300)
     parts = [rows(skip, 100)[0] for skip in (0, 100, 200)]

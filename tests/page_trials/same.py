@@ -126,7 +126,8 @@ def questions(tests, step):
 def about(text, draw):
     """Each question about a text."""
     yield "test", {"text": text}
-    yield "draw", {"text": text, "buffer": 4, "seed": "7", "skip": 3, "runs": 40, "length": 80}
+    for how in ("uniform", "bursts"):
+        yield "draw", {"text": text, "buffer": 4, "draw": how, "seed": "7", "skip": 3, "runs": 40, "length": 80}
     harts = text.split(";\n")[0].count("|") + 1
     tokens = " ".join(f"{draw.choice('aaal')}{draw.randrange(min(harts, 4))}" for _ in range(25))
     run = {"text": text, "buffer": draw.choice((1, 2, 4, 16)), "tokens": tokens}
@@ -155,7 +156,7 @@ def refused():
         for tokens in ("a0 b1", "a0*0", "a99", "a0 a1*2001", "a0 load 0 0 0", "a0 store 0 0 1\n", "l0 l1"):
             yield "read", {"text": SB, "buffer": 4, "schedule": head + tokens}
     for seed in ("-1", "18446744073709551616", "18446744073709551615"):
-        yield "draw", {"text": SB, "buffer": 4, "seed": seed, "skip": 0, "runs": 10, "length": 60}
+        yield "draw", {"text": SB, "buffer": 4, "draw": "uniform", "seed": seed, "skip": 0, "runs": 10, "length": 60}
     yield "view", {"text": SB, "buffer": 4, "tokens": "a0*2000 a1"}
     for address in ("3", "1", "4294967292", "0", "2147483648"):
         yield "view", {"text": SB.replace("0:x6=x;", f"0:x6={address};"), "buffer": 4, "tokens": "a0*3 a1*3 l0 l1"}

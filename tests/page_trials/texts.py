@@ -113,6 +113,12 @@ def links(count, page):
     page.choose("mp")
     page.open(link[link.index("#"):])
     count.told("an address with a link", page.place() == "2 of 3 events" and page.run("location.hash") == "", page.place())
+    page.paste(link_of({"text": SB, "buffer": 2, "draw": "bursts", "tokens": "a0"}))
+    chosen = page.run("[document.getElementById('buffer').value, document.getElementById('how').value]")
+    count.told("a link with its buffer and its draw", chosen == ["2", "bursts"], chosen)
+    page.paste(link_of({"text": SB, "buffer": 4, "tokens": "a0 a1 l0"}))
+    chosen = page.run("document.getElementById('how').value")
+    count.told("a link without a draw is uniform", chosen == "uniform", chosen)
 
 
 def link_of(content):
@@ -131,7 +137,7 @@ def hostile_links(count, page):
     for name, content in (
             ("an event 4,294,967,295 times", run | {"tokens": "a0*4294967295"}), ("2,001 events", run | {"tokens": "a0*2000 a1"}),
             ("many large counts", run | {"tokens": "a0*9999 " * 200}), ("an option as tokens", run | {"tokens": "--svg"}),
-            ("lines as tokens", run | {"tokens": "a0\nl0"}), ("another buffer", run | {"buffer": 3}),
+            ("lines as tokens", run | {"tokens": "a0\nl0"}), ("another buffer", run | {"buffer": 3}), ("another draw", run | {"draw": "burst"}),
             ("a text that is none", run | {"text": {"length": 1}}), ("no run", []), ("nothing", None), ("no JSON", b"RISCV"),
             ("40 MB of one letter", json.dumps(run | {"text": "x" * 40_000_000}).encode())):
         page.paste(link_of(content))

@@ -56,7 +56,6 @@ class Ownership(Run):
         super().__init__(draw)
         # what is read of some bytes, each where nobody else has a pending store over it, and which count its hart's party had there
         self.noted = []
-        self.waiting = {k: self.record(THIRD, k) for k in range(self.counts.count[RECEIVER], self.counts.count[SENDER])}
         self.to_learn, self.learns = self.waiting_records(self.counts.known[RECEIVER]), 0
 
     def opened(self, first):
@@ -69,9 +68,6 @@ class Ownership(Run):
         for x in range(queue.slots, queue.slots + queue.size * queue.width):
             machine.memory.setdefault(x, draw.below(256))
         return counts
-
-    def waiting_records(self, k):
-        return [self.record(SENDER, k) for k in range(k, self.counts.count[SENDER])]
 
     # ---- the protocol
 
@@ -169,8 +165,6 @@ class Ownership(Run):
         super().try_laws(hart, access, old)
         self.try_learning(old)
         self.try_own_index()
-        if self.waiting:
-            self.try_waiting()
         self.try_other_memory()
         if self.draw.random() < 0.5:
             self.note()
@@ -192,14 +186,6 @@ class Ownership(Run):
         queue, p = self.queue, self.draw.below(2)
         if self.machine.read(p, queue.index[p], queue.index_width) != queue.index_word(self.counts.count[p]):
             self.broken.add("own_index")
-
-    def try_waiting(self):
-        """A record that waited at the start is read as it was there, until it is taken, unless the receiver's hart stores there."""
-        offset, reader = self.draw.below(self.queue.width), self.draw.one_of(HARTS)
-        for k in [k for k in self.waiting if k < self.counts.count[RECEIVER]]:
-            del self.waiting[k]
-        for k, record in self.waiting.items():
-            self.try_byte("waiting", self.slot_of(k) + offset, record[offset], reader, RECEIVER, 0)
 
     def note(self):
         """Notes what a party's hart reads somewhere, preferably where it has a store pending."""

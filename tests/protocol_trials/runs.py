@@ -58,6 +58,7 @@ class Run:
         # for a position past which a party moved: the entry, and the bytes of its slot as its hart read them there
         self.passed = [{}, {}]
         self.sent, self.took, self.leaves = self.waiting_records(self.counts.count[RECEIVER]), [], True
+        self.waiting = {k: self.record(THIRD, k) for k in range(self.counts.count[RECEIVER], self.counts.count[SENDER])}
 
     # ---- what a protocol adds
 
@@ -70,7 +71,7 @@ class Run:
         return self.beside
 
     def waiting_records(self, k):
-        return []
+        return [self.record(SENDER, k) for k in range(k, self.counts.count[SENDER])]
 
     def is_whole(self, p, access):
         """Whether a store of the party's hart is one that moves its count."""
@@ -228,6 +229,16 @@ class Run:
             self.try_publication(1 - hart)
         self.try_handed(SENDER, "delivery")
         self.try_handed(RECEIVER, "handing_back")
+        if self.waiting:
+            self.try_waiting()
+
+    def try_waiting(self):
+        """A record that waited at the start is read as it was there, until it is taken, unless the receiver's hart stores there."""
+        offset, reader = self.draw.below(self.queue.width), self.draw.one_of(HARTS)
+        for k in [k for k in self.waiting if k < self.counts.count[RECEIVER]]:
+            del self.waiting[k]
+        for k, record in self.waiting.items():
+            self.try_byte("waiting", self.slot_of(k) + offset, record[offset], reader, RECEIVER, 0)
 
     def is_window(self):
         (published, taken), (known_taken, known_published) = self.counts

@@ -62,7 +62,7 @@ OF_FEW = tuple(queue for queue in QUEUES if queue.size < 3)
 class Telling(Run):
     """the protocol of slots that tell"""
 
-    laws = ("window", "publication", "publication_of_tag", "delivery", "handing_back", "in_order", "look", "zero_tells", "numbers_tell")
+    laws = ("window", "publication", "publication_of_tag", "delivery", "handing_back", "waiting", "in_order", "look", "zero_tells", "numbers_tell")
     queues = QUEUES
     published_with = "publication_of_tag"
     hands_what_stands_after = True
@@ -71,9 +71,11 @@ class Telling(Run):
         queue, machine, draw = self.queue, self.machine, self.draw
         for x in range(queue.slots, queue.slots + queue.size * queue.width):
             machine.put(x, 1, draw.below(256))
-        for k in range(first, first + queue.size):
-            machine.put(queue.tag_of(k), queue.tag_width, queue.word(draw, SENDER, k))
-        return Counts((first, first), (first, first))
+        taken = first + draw.between(0, queue.size)
+        published = draw.between(taken, first + queue.size)
+        for k in range(taken, taken + queue.size):
+            machine.put(queue.tag_of(k), queue.tag_width, queue.word(draw, RECEIVER if k < published else SENDER, k))
+        return Counts((published, taken), (first, draw.between(taken, published)))
 
     # ---- the protocol
 
@@ -241,7 +243,7 @@ class TellsNothing(Telling):
 class ThirdHart(Telling):
     """a third hart stores to slots"""
 
-    breaks = ("delivery", "handing_back", "in_order", "look")
+    breaks = ("delivery", "handing_back", "waiting", "in_order", "look")
     seldom_breaks = ("window", "publication", "publication_of_tag")
 
     def may_third(self, access):

@@ -1,6 +1,6 @@
 /* Wrong: the test for room takes one too many.
    queue: head=q_head,tail=q_tail,slots=q_slot,size=8
-   answer: hart 0 */
+   answer: hart 0, broken */
 #include <stdatomic.h>
 #define N 8
 struct { atomic_uint head, tail; int slot[N]; } q;

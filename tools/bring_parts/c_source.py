@@ -19,6 +19,10 @@ ITEM = re.compile(r"(?:\w[\w ]*[ *])?(?:([0-9]{1,3}) ?: ?)?\[?\*?([A-Za-z_]\w*)\
 KERNEL = re.compile(r"\b(READ_ONCE|WRITE_ONCE|smp_\w+|xchg\w*)\b")
 
 
+class NoCondition(Refused):
+    """A source whose comments ask nothing."""
+
+
 @dataclass
 class Parameter:
     """A parameter's name and type, and how many objects it points to, or None where it is no pointer."""
@@ -122,7 +126,7 @@ def of_comments(text):
         if end is None and any(mark[1] not in ("locations", "filter") for mark in marks):
             end = body[marks[0].start():]
     if end is None:
-        raise Refused("no comment has a condition, such as `// exists (0:a0=0 /\\ 1:a0=0)`")
+        raise NoCondition("no comment has a condition, such as `// exists (0:a0=0 /\\ 1:a0=0)`")
     source = Source(name, "", text, False, conditions.ending(end))
     read_init(";".join(init), source)
     return source

@@ -120,7 +120,7 @@ def statement(instruction):
     name, operands = instruction.name, instruction.operands
     shown = f"{instruction.where()}: `{f'{name} {operands}'.strip()}`"
     if re.search(r"\bx[34]\b", operands):
-        raise Refused(f"{shown}: a thread-local variable")
+        raise Refused(f"{shown}: a thread-local variable: make it a parameter, or a global object for each hart")
     if name not in TAKEN:
         raise Refused(f"{shown}: {reason_of(name)}")
     if name == "lui":

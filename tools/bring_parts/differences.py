@@ -8,7 +8,7 @@ import tempfile
 from dataclasses import dataclass
 from pathlib import Path
 
-from bring_parts import Refused, answer, c_lines, compilers, languages, making, mappings, text_of, typed
+from bring_parts import Refused, c_lines, compilers, languages, making, mappings, text_of, typed
 from bring_parts.making import Way
 from bring_parts.mappings import FULL, KEPT, RVWMO, ZTSO
 
@@ -79,7 +79,7 @@ def pictures(program, difference):
         schedule, test = difference.schedule(), litmus.read(difference.text)
         as_text = c_lines.picture(program, path, test, schedule, 4, ["--memory"])
         try:
-            as_svg = answer(program, "chart", path, "/dev/stdin", "--memory", "--svg", text=schedule)
+            as_svg = c_lines.picture(program, path, test, schedule, 4, ["--memory", "--svg"])
         except Refused:
             as_svg = ""  # tools/reference draws none
     return as_text, as_svg.partition("?>")[2].strip()

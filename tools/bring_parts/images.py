@@ -61,7 +61,7 @@ def linked(modules, folder):
     data_fit(sum(size for _, size, flags, _ in sections if is_data(flags) and "W" in flags))
     if made_before := next((name for name, size, _, _ in sections if size and MADE_BEFORE.fullmatch(name)), None):
         raise Refused(f"{made_before}: an object is made before main begins{by_which(modules)}: give each of its members a constant "
-                      "value, and the object the word `constinit`, by which the compiler says what isn't constant")
+                      "value, arrays too (`T slots[4]{}`), and the object the word `constinit`, by which the compiler says what isn't constant")
     script, image = Path(folder, "script"), Path(folder, "image")
     script.write_text(script_for(sections))
     tool("ld", "-m", "elf32lriscv", "--no-relax", "--emit-relocs", "--unresolved-symbols=ignore-all", "--no-warn-mismatch",

@@ -1,11 +1,13 @@
 """The instructions of a linked image, as objdump lists them: compressed ones by their long forms, calls as one jump, and
 addresses of data as numbers."""
 
+import os
 import re
 from dataclasses import dataclass, replace
+from functools import lru_cache
 from pathlib import Path
 
-from bring_parts import compressed
+from bring_parts import ROOT, compressed
 
 import assembly
 
@@ -15,6 +17,8 @@ JUMPS = ("jal", *assembly.BRANCHES)
 LINE = re.compile(r" *([0-9a-f]+):\t(\S+)(?:\t([^#<]*))?")
 # the place of an instruction in a source, and of the calls that were made part of others
 PLACE = re.compile(r"( *inlined by )?(\S.*?):([0-9]+)(?: \(discriminator [0-9]+\))?(?: \(.*\))?$")
+# files that aren't the author's
+OTHERS, LIBRARY = ("/usr/", f"{ROOT}/tools/", f"{ROOT}/examples/bare-metal/"), re.compile(r"/library/(?:core|alloc|std)/|/rustlib/")
 # the operands of a call's two instructions
 UPPER, LOWER = re.compile(r"(x[0-9]+),0x([0-9a-f]+)"), re.compile(r"(x[01]),(-?[0-9]+)\((x[0-9]+)\)")
 # the low part of an address in an instruction's operands
@@ -29,6 +33,8 @@ class Instruction:
     operands: str
     file: str
     line: int
+    # the file with its folders, if it is one of the author's
+    path: str = ""
 
     def where(self):
         return f"{self.file}:{self.line}" if self.file else f"at {self.at - TEXT:x}"
@@ -61,19 +67,26 @@ class Instruction:
 
 
 def listed(listing, sources=()):
-    """The instructions of a listing of objdump. The line of one is that of these sources if it comes from there, by
-    whatever calls that were made part of others."""
+    """The instructions of a listing of objdump. The line of one is that of these sources or of another file of the author's
+    if it comes from there, by whatever calls that were made part of others."""
     found, own, callers = [], ("", 0), []
     for text in listing.splitlines():
         if row := LINE.match(text):
-            file, line = next((place for place in [own, *callers] if place[0] in sources), own)
-            found.append(Instruction(int(row[1], 16), row[2], (row[3] or "").strip(), file, line))
+            path, line = next((place for place in [own, *callers] if Path(place[0]).name in sources or is_authors(place[0])), own)
+            found.append(Instruction(int(row[1], 16), row[2], (row[3] or "").strip(), Path(path).name, line, path if is_authors(path) else ""))
             callers = []
         elif place := PLACE.match(text):
             # objdump names the callers at each instruction, and its own place only where it is another
-            there = Path(place[2]).name, int(place[3])
+            there = place[2], int(place[3])
             own, callers = (own, [*callers, there]) if place[1] else (there, callers)
     return direct([compressed.expanded(each) for each in found])
+
+
+@lru_cache(maxsize=None)
+def is_authors(path):
+    """Whether a file is there and is no part of a system, of a compiler's library or of these tools."""
+    path = os.path.realpath(path)
+    return not path.startswith(OTHERS) and not LIBRARY.search(path) and os.path.isfile(path)
 
 
 def direct(code):

@@ -103,7 +103,7 @@ class Linked:
 
 
 def litmus_text(modules, question, named, compiler, fences, note, told, sources=()):
-    """The litmus text of modules. `named` are the harts' functions, or none for P0 and on; `compiler` makes what the modules lack.
+    """The litmus text of modules, and its words of memory. `named` are the harts' functions, or none for P0 and on; `compiler` makes what the modules lack.
     `note()` gives what writes the comments beside a hart's instructions, if there are to be any; `told` are the lines that
     say how the text was made, and `sources` the files whose lines the instructions have."""
     with tempfile.TemporaryDirectory() as folder:
@@ -124,7 +124,7 @@ def litmus_text(modules, question, named, compiler, fences, note, told, sources=
     if len(text.encode()) > MOST:
         raise Refused(f"the litmus text has more than {MOST} bytes")
     texts.read(text, "the text that was made")
-    return text
+    return text, words
 
 
 def check_asked(question, linked):

@@ -16,6 +16,8 @@ MAPPINGS, BASE = ROOT / "examples/mappings", "mapping.h"
 # what mapping.h defines
 GUARD = "MAPPING_H"
 LONGEST = 44
+# what a source asks in which nothing is asked: each text has a word of this name
+UNASKED = "\n// exists (null=0)\n"
 
 
 @dataclass(frozen=True)
@@ -30,6 +32,8 @@ class Way:
     ask: str = None
     rustc: str = "rustc"
     rust_core: str = None
+    # whether a source may ask nothing
+    unasked: bool = False
 
     @staticmethod
     def of(asked):
@@ -44,7 +48,7 @@ class Way:
             return name if with_folder else Path(name).name
         words = ["--compiler", self.compiler] if is_compiled else []
         words += ["--mapping", file(self.mapping)] if self.mapping else []
-        words += ["--rustc", file(self.rustc)] if Path(self.rustc).name != "rustc" else []
+        words += ["--rustc", self.rustc] if self.rustc != "rustc" else []
         words += ["--rust-core", file(self.rust_core)] if self.rust_core else []
         words += ["--ask", file(self.ask)] if self.ask else []
         words += ["--harts", ",".join(self.harts)] if self.harts else []
@@ -54,7 +58,21 @@ class Way:
 
 
 def add_options(words):
+    """The options of a tool that writes a text."""
     words.add_argument("-o", dest="output")
+    add_ways(words)
+
+
+def add_ways_of_objects(words):
+    """The options by which objects and sources of all languages are brought."""
+    words.add_argument("--ask")
+    words.add_argument("--harts", default="")
+    words.add_argument("--rustc", default="rustc")
+    words.add_argument("--rust-core")
+
+
+def add_ways(words):
+    """The options by which sources are compiled and brought."""
     words.add_argument("--compiler", default="gcc")
     words.add_argument("--mapping")
     words.add_argument("--fences", choices=columns.FENCES, default="all")
@@ -69,11 +87,16 @@ def put_text(tool, asked, make):
         if asked.output:
             put(asked.output, text)
     except Refused as refused:
-        complain(tool, *([asked.file] if tool == "from-c" else asked.files[:1]), refused, before=refused.before)
+        complain(tool, with_name(asked.file if tool == "from-c" else asked.files[0], refused), before=refused.before)
         return 2
     if not asked.output:
         sys.stdout.write(text)
     return 0
+
+
+def with_name(file, refused):
+    """What is refused, with the name of the first file before it."""
+    return str(refused) if str(refused).startswith(f"{file}: ") else f"{file}: {refused}"
 
 
 def mapping_of(name):
@@ -97,6 +120,11 @@ def of_c(file, way):
 
 def made(files, way, tool="from-object", language=None):
     """The litmus text of files, each of the language that its suffix says, or all of one."""
+    return brought(files, way, tool, language)[0]
+
+
+def brought(files, way, tool="from-object", language=None):
+    """That text, and its words of memory."""
     names = " ".join(shlex.quote(Path(file).name) for file in files)
     with tempfile.TemporaryDirectory() as folder:
         modules, question, (told, sources) = modules_of(files, way, folder, language)
@@ -111,12 +139,7 @@ def modules_of(files, way, folder, language=None):
     names, that of the question first."""
     kinds = {file: language or languages.known(file) for file in files}
     asking = way.ask or next((file for file in files if kinds[file] != OBJECT), None)
-    if asking is None:
-        raise Refused("objects have no comments: --ask FILE names a file whose comments have the question, as "
-                      "`// exists (0:a0=0 /\\ 1:a0=0)`")
-    text = text_of(asking)
-    c = read_c(asking) if kinds.get(asking) == C else None
-    question = of_source(c) if c else questions.of_text(text, asking)
+    text, question, c = asked_in(asking or files[0], kinds.get(asking), way)
     modules, told = [], []
     for at, file in enumerate(files):
         own = way if kinds[file] != RUST or set(kinds.values()) <= {RUST, OBJECT} else replace(way, flags=())
@@ -125,6 +148,28 @@ def modules_of(files, way, folder, language=None):
         told += [line for line in said if line not in told]
     others = {Path(file).name: text_of(file) for file in files if kinds[file] != OBJECT and file != asking}
     return modules, question, (told, {question.file: text, **others})
+
+
+def asked_in(asking, kind, way):
+    """The text of a file, the question in it, and its source if it is C. An object has no text."""
+    if kind is None and not way.ask:
+        if not way.unasked:
+            raise Refused("objects have no comments: --ask FILE names a file whose comments have the question, as "
+                          "`// exists (0:a0=0 /\\ 1:a0=0)`")
+        return "", questions.of_text(UNASKED, asking), None
+    text = text_of(asking)
+    try:
+        return text, *question_in(text, asking, kind)
+    except c_source.NoCondition:
+        if not way.unasked:
+            raise
+    return text, *question_in(text + UNASKED, asking, kind)
+
+
+def question_in(text, path, kind):
+    """The question in a file's text, and its source if it is C."""
+    c = c_source.read(text, Path(path).name) if kind == C else None
+    return (of_source(c), c) if c else (questions.of_text(text, path), None)
 
 
 def of_source(source):
@@ -188,18 +233,23 @@ def missing_rows(compiler, name, folders):
 def noted(sources):
     """What gives for each hart the comments beside its instructions: the number of the line in the first source, and its text
     where it is another than the one before; lines of others have their names. A cell's comment has no `|` and no `;`."""
-    texts, first = {name: text.split("\n") for name, text in sources.items()}, next(iter(sources))
+    first, lines = next(iter(sources)), {name: text.split("\n") for name, text in sources.items()}
+
+    def lines_of(instruction):
+        if instruction.file not in lines:
+            lines[instruction.file] = Path(instruction.path).read_text(errors="replace").split("\n") if instruction.path else ()
+        return lines[instruction.file]
 
     def hart():
         before = None
 
         def note(instruction):
             nonlocal before
-            lines, place = texts.get(instruction.file, ()), (instruction.file, instruction.line)
-            if not 1 <= instruction.line <= len(lines):
+            there, place = lines_of(instruction), (instruction.file, instruction.line)
+            if not 1 <= instruction.line <= len(there):
                 return instruction.where()
             is_same, before = place == before, place
-            text = re.sub(r"[^\x20-\x7e]", " ", lines[instruction.line - 1]).strip(" ;{}")
+            text = re.sub(r"[^\x20-\x7e]", " ", there[instruction.line - 1]).strip(" ;{}")
             text = " ".join(text.replace("|", "¦").replace(";", ",").replace("(*", "( *").replace("*)", "* )").split())
             text = text if len(text) <= LONGEST else text[:LONGEST - 2] + ".."
             number = str(instruction.line) if instruction.file == first else instruction.where()

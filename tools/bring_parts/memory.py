@@ -10,6 +10,8 @@ from bring_parts import Refused
 # the names that ztso has for words
 LOCATIONS = 1024
 WIDTH = 112
+# how many names a refusal has
+SHOWN = 12
 
 
 @dataclass(frozen=True)
@@ -31,6 +33,8 @@ class Memory:
         # the word of an object's name, and of its further words; that of a part by its name; and the names of what has
         # fewer than 4 bytes
         self.places, self.parts, self.small = {}, {}, {each.name for each in objects if each.size < 4}
+        # where objects and parts of them begin, by their names
+        self.begins = {part.name: each.at + part.at for each in objects for part in each.parts} | {each.name: each.at for each in objects}
         called = self.called_by_parts(objects)
         words = [(each.at // 4 + at, each.name, at) for each in objects for at in range((each.size + 3) // 4 or 1)]
         for place, name, at in sorted(words, key=lambda word: word[2]):
@@ -50,7 +54,7 @@ class Memory:
                 place, offset = divmod(each.at + part.at, 4)
                 if offset:
                     continue
-                called.setdefault(place, re.sub(r"\W+", "_", re.sub(r"(?<!\])\[0\]$", "", part.name)).strip("_"))
+                called.setdefault(place, word_name(part.name))
                 if part.size == 4 or alone[part.at // 4] == 1:
                     self.parts.setdefault(part.name, place)
                     self.small |= {part.name} if part.size < 4 else set()
@@ -75,8 +79,27 @@ class Memory:
         shape = re.fullmatch(r"(.+?)(?:\[([0-9]+)\])?", text)
         place = self.parts.get(text, self.places.get((shape[1], int(shape[2] or 0))) if shape else None)
         if place is None and text not in self.names:
-            raise Refused(f"{what} {text}, which is no shared word")
+            raise Refused(f"{what} {text}, which is no shared word: {self.there()}")
         return text if place is None else self.names[place]
+
+    def there(self):
+        """What is said of the names that there are, of an array's elements of the first one."""
+        known = [name for name in self.begins if not re.search(r"\[[1-9]", name)
+                 and not any(other.startswith((f"{name}.", f"{name}[")) for other in self.begins)]
+        return f"there are {', '.join(known[:SHOWN])}" + ", .." * (len(known) > SHOWN) if known else "there are none"
+
+    def address(self, text):
+        """Where an object begins or a part of one, as its author calls it; or what has this name in the text, and `name+4` bytes on."""
+        whole, text = text, self.shorter(text)
+        name, _, bytes_on = text.partition("+")
+        begins = self.begins.get(name, next((at for part, at in self.begins.items() if part.startswith((f"{name}.", f"{name}["))), None))
+        if begins is None and name in self.names:
+            begins = 4 * self.names.index(name)
+        if begins is None and name.isdigit():
+            begins = int(name)
+        if begins is None or bytes_on and not bytes_on.isdigit():
+            raise Refused(f"{whole} is no place of the program: {self.there()}")
+        return begins + int(bytes_on or 0)
 
     def value(self, text, what):
         """A number, or the name of a word."""
@@ -112,6 +135,11 @@ class Memory:
                 lines.append("")
             lines[-1] += f" {item}" if lines[-1] else item
         return lines
+
+
+def word_name(part):
+    """What the word of a part is called: `q_tail` for `q.tail_`."""
+    return re.sub(r"\W+", "_", re.sub(r"(?<!\])\[0\]$", "", part)).strip("_")
 
 
 def short(plain):

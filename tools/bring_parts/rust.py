@@ -32,8 +32,8 @@ def target_words(rustc, core):
     root = Path(compilers.output([rustc, "--print", "sysroot"]).strip(), "lib/rustlib")
     ready = next((name for name in READY if (root / name / "lib").is_dir()), None)
     if not ready:
-        raise Refused(f"rustc has no `core` for RV32: `rustup target add {READY[-1]}` brings one, or tools/make-rust-core FOLDER "
-                      "makes one of Debian's rust-src, for --rust-core FOLDER")
+        raise Refused(f"{rustc} has no `core` for RV32: `rustup target add {READY[-1]}` brings one if it is rustup's; for Debian's rustc "
+                      "tools/make-rust-core FOLDER makes one of rust-src, for --rust-core FOLDER")
     return ["--target", ready, "-C", "target-feature=-m"]
 
 
@@ -43,8 +43,9 @@ def said_otherwise(refused):
     if "can't find crate for `std`" in text:
         return Refused(f"{refused}: there is no operating system: begin the file with #![no_std], and take `core` for `std`",
                        refused.before)
-    if any(each in text for each in ("E0514", "incompatible version of rustc", "Error loading target specification")):
-        return Refused(f"{refused}: --rust-core has a `core` of another rustc: make one by this rustc", refused.before)
+    if any(each in text.lower() for each in ("e0514", "incompatible version of rustc", "error loading target specification")):
+        return Refused(f"{refused}: --rust-core has a `core` of another rustc: name that rustc by --rustc, or make a `core` by this one",
+                       refused.before)
     if "AtomicU64" in text or "AtomicI64" in text:
         return Refused(f"{refused}: RV32 has no atomic object of 64 bits", refused.before)
     return refused

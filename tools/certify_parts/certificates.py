@@ -69,13 +69,16 @@ class Layout:
 
     def value(self, value):
         if isinstance(value, Word):
-            return f"@{value.queue}:{self.form(value.count, self.program.queues[value.queue].modulus)}"
+            # up to the modulus; where that divides 2^32, up to that, so that a sum is the search's
+            modulus = self.program.queues[value.queue].modulus
+            return f"@{value.queue}:{self.form(value.count, modulus if SIZE % modulus else SIZE)}"
         return self.form(value, SIZE)
 
     def lines(self):
         if self.variables:
             yield " ".join(["most", *("-" if self.most[variable] is None else str(self.most[variable]) for variable in self.variables)])
-        for name, values in (("reg", self.state.registers), ("word", self.state.words)):
+        words = [self.state.words[which] for which in sorted(self.program.reads)]
+        for name, values in (("reg", self.state.registers), ("word", words)):
             for which, value in enumerate(values):
                 if value is not None and (which or name == "word"):
                     yield f"{name} {which} {self.value(value)}"
@@ -101,8 +104,8 @@ class Writer:
 
     def lines(self):
         yield "hart"
-        if self.program.kept:
-            yield " ".join(map(str, ("own", *self.program.kept)))
+        if self.program.reads:
+            yield " ".join(map(str, ("own", *(self.program.kept[which] for which in sorted(self.program.reads)))))
         at = self.covering(self.program.start)
         yield " ".join(map(str, ("open", at, *(self.opening(variable, at) for variable in self.layouts[at].variables))))
         for state, layout in zip(self.states, self.layouts):
@@ -149,12 +152,12 @@ class Writer:
         if old is None:
             return written(-begins, {0: 1})
         constant, terms = layout.named((kind, old), 1)
-        return written(constant - following.moved[which] * (kind == "A") - begins, terms)
+        return written(constant - (following.moved[which] if kind == "A" else 0) - begins, terms)
 
 
 def text(queues, found):
-    """The certificate of all queues and harts."""
+    """The certificate of all queues and harts. A hart that isn't covered has no states."""
     lines = ["ztso-queues 1", *(queue.text() for queue in queues)]
     for hart in found:
-        lines += Writer(hart.program, hart.search).lines()
+        lines += ["hart", "open 0"] if hart.refused else Writer(hart.program, hart.search).lines()
     return "\n".join(lines) + "\n"

@@ -7,12 +7,13 @@ from .search import Mode, Search
 from .steps import Program, Refused
 
 # how a hart's states are searched, one way after the other until one succeeds: what is told apart, whether bytes and halves that are loaded
-# count as numbers of a range, and by what values are spelled first. What an earlier search saw of copies of the other's index is taken up,
-# so the first way is gone twice
-WAYS = ((Mode.TOGETHER, False, "npA"), (Mode.TOGETHER, False, "npA"), (Mode.TOGETHER, False, "pnA"), (Mode.TOGETHER, True, "npA"),
-        (Mode.BY_POSITION, False, "npA"), (Mode.BY_OWNED, False, "npA"))
+# count as numbers of a range, by what values are spelled first, and whether sums of an index's words are taken by their remainders. What an
+# earlier search saw of copies of the other's index is taken up, so the first way is gone twice
+WAYS = ((Mode.TOGETHER, False, "npA", True), (Mode.TOGETHER, False, "npA", True), (Mode.TOGETHER, False, "pnA", True),
+        (Mode.TOGETHER, True, "npA", True), (Mode.TOGETHER, False, "npA", False), (Mode.BY_POSITION, False, "npA", False),
+        (Mode.BY_OWNED, False, "npA", False))
 # for how many seconds of the processor each way is gone, first and, if none succeeds, again
-SECONDS = ((0.5, 0.5, 0.5, 0.5, 1, 1), (5, 5, 5, 5, 15, 15))
+SECONDS = ((0.5, 0.5, 0.5, 0.5, 0.5, 1, 1), (5, 5, 5, 5, 5, 15, 15))
 TURNS = [(turn, at) for turn in range(len(SECONDS)) for at in range(len(WAYS))]
 MOST_ROUNDS = 60
 
@@ -49,11 +50,12 @@ class Harts:
         kept = sorted(set(self.test.words) - self.shared - others)
         ended, refused, reads = set(), None, None
         for turn, at in TURNS[self.turns[hart]:]:
-            mode, with_bytes, order = WAYS[at]
+            mode, with_bytes, order, loosens = WAYS[at]
             asked = *WAYS[at], self.copies[hart]
             if asked in ended:
                 continue
-            program = Program(self.test, self.queues, hart, kept, self.live[hart], with_bytes)
+            queues = [queue.counting() for queue in self.queues] if loosens else self.queues
+            program = Program(self.test, queues, hart, kept, self.live[hart], with_bytes, loosens)
             search = Search(program, mode, self.copies[hart], order, SECONDS[turn][at])
             try:
                 search.run()

@@ -36,9 +36,21 @@ class Queue(NamedTuple):
         """Whether the word of a count is a linear form of it modulo 2^32."""
         return self.index_width == 4 and (self.scale * self.modulus) % SIZE == 0
 
+    def is_cut(self):
+        """Whether all numbers of an index's fewer than four bytes are words of it."""
+        return self.index_width < 4 and self.scale * self.modulus == 256 ** self.index_width and self.base < self.scale
+
     def period(self):
         """The positions of a count modulo this are told apart: they say which slot it has, and which word if words aren't linear."""
         return self.size if self.is_linear() else self.size * self.modulus // gcd(self.size, self.modulus)
+
+    def has_known_words(self):
+        """Whether a position, modulo the period, says which word stands for its count."""
+        return self.period() % self.modulus == 0
+
+    def counting(self):
+        """The queue whose positions say no more than slots, if its count is a running one of one or two bytes; else itself."""
+        return Counting(*self) if self.is_cut() and self.modulus % self.size == 0 else self
 
     def party(self, hart):
         """0 of the sender, 1 of the receiver, None of another hart."""
@@ -65,6 +77,10 @@ class Queue(NamedTuple):
     def meets_slots(self, place, width):
         return place < self.slots + self.size * self.width and self.slots < place + width
 
+    def parts(self):
+        """What lies where: the name, the first byte and the number of bytes."""
+        return ("head", self.head, self.index_width), ("tail", self.tail, self.index_width), ("slots", self.slots, self.size * self.width)
+
     def text(self):
         return " ".join(map(str, ("queue", *self)))
 
@@ -75,6 +91,13 @@ class Queue(NamedTuple):
             opens = test.number(place, self.index_width)
             if opens != word:
                 raise Wrong(f"the {name} opens as {opens}, and not as {word}, which stands for {self.start} records")
+
+
+class Counting(Queue):
+    """A queue of which the words aren't told apart."""
+
+    def period(self):
+        return self.size
 
 
 NUMBERS = {"size": None, "width": 4, "bytes": 4, "scale": 1, "base": 0, "offset": 0, "sender": 0, "receiver": 1}
@@ -95,19 +118,47 @@ def described(places, given):
         raise Wrong("index is counting or wrapping")
     numbers = {name: int(given.get(name, value)) for name, value in NUMBERS.items() if name in given or value is not None}
     size, width = numbers["size"], numbers["bytes"]
-    if size < 1 or numbers["width"] < 1 or numbers["scale"] < 1 or width not in (1, 2, 4):
-        raise Wrong("size, width and scale are at least 1, and an index has 1, 2 or 4 bytes")
+    for name in ("size", "width", "scale"):
+        if numbers[name] < 1:
+            raise Wrong(f"{name} is {numbers[name]}, and must be at least 1")
+    if width not in (1, 2, 4):
+        raise Wrong(f"an index has 1, 2 or 4 bytes, and not {width}")
     if given.get("index") == "wrapping":
         modulus = int(given.get("modulus", size))
     else:
         modulus = int(given.get("modulus", 256 ** width // numbers["scale"]))
+    if modulus == size == 1:
+        raise Wrong("with index=wrapping one slot stays free, so size is at least 2")
     if modulus < 2 or numbers["scale"] * modulus > 256 ** width:
         raise Wrong("the words of the index don't fit into its bytes, or there is one of them")
     if numbers["sender"] == numbers["receiver"]:
         raise Wrong("the sender and the receiver are two harts")
     queue = Queue(numbers["sender"], numbers["receiver"], places["head"], places["tail"], width, places["slots"], size, numbers["width"],
                   size - 1 if modulus == size else size, numbers["base"], numbers["scale"], numbers["offset"], modulus, 0)
-    parts = sorted([(queue.head, width), (queue.tail, width), (queue.slots, size * queue.width)])
-    if any(first + length > second for (first, length), (second, _) in zip(parts, parts[1:])):
-        raise Wrong("the head, the tail and the slots meet")
+    for name in ("head", "tail"):
+        if places[name] % width:
+            raise Wrong(f"the {name} lies at {places[name]}, which is no multiple of its {width} bytes")
+    check_apart([queue])
     return queue
+
+
+def given_of(text):
+    """What a --queue gives, by its keys."""
+    given = {}
+    for part in text.split(","):
+        name, equals, value = part.partition("=")
+        if not equals or not value:
+            raise Wrong(f"a queue is KEY=VALUE,.. and not {part!r}")
+        if name in given:
+            raise Wrong(f"{name} is given twice")
+        given[name] = value
+    return given
+
+
+def check_apart(queues):
+    """Wrong, unless no two parts of the queues have a byte in common."""
+    parts = sorted((place, length, name, at) for at, queue in enumerate(queues) for name, place, length in queue.parts())
+    for (first, length, name, one), (second, other_length, other, two) in zip(parts, parts[1:]):
+        if first + length > second:
+            of = [f" of queue {at}" if len(queues) > 1 else "" for at in (one, two)]
+            raise Wrong(f"the {name}{of[0]} and the {other}{of[1]} overlap: bytes {first} to {first + length - 1} and {second} to {second + other_length - 1}")

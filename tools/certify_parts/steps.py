@@ -36,12 +36,13 @@ class Next(NamedTuple):
 class Program(Values):
     """One hart's code with what holds of all its states."""
 
-    def __init__(self, test, queues, hart, kept, live, with_bytes=False):
+    def __init__(self, test, queues, hart, kept, live, with_bytes=False, loosens=True):
         self.hart, self.code = hart, test.harts[hart].code
-        super().__init__(queues, hart)
+        super().__init__(queues, hart, loosens)
         self.kept, self.with_bytes = kept, with_bytes
         self.at = {place: which for which, place in enumerate(kept)}
         self.stored = set()    # words that it may store to, apart from queues
+        self.reads = set()     # which of `kept` it loads: of the others nothing need be known
         self.live, self.edges = live, {}
         self.unowned = {}      # by a queue: the first pc of which a load of its slots isn't shown to be of owned ones
         registers = tuple(number(test.harts[hart].registers.get(which, 0)) if which in live[0] or not which else None for which in range(32))
@@ -56,6 +57,8 @@ class Program(Values):
         queue, share = self.queues[which], state.shares[which]
         if queue.is_linear():
             return variable_of("n", which, queue.scale, queue.base + queue.scale * queue.offset)
+        if not queue.has_known_words():
+            return Word(which, variable_of("n", which))
         turn = (share.first + queue.offset) // queue.modulus
         if turn != (share.last + queue.offset) // queue.modulus:
             raise Split(("p", which), (turn + 1) * queue.modulus - queue.offset - 1)
@@ -153,7 +156,10 @@ class Program(Values):
                 raise Refused(state.pc, "a load that may be of the other's index")
 
     def own_word(self, state, place, width):
-        return state.words[self.at[place]] if width == 4 and place in self.at else None
+        if width != 4 or place not in self.at:
+            return None
+        self.reads.add(self.at[place])
+        return state.words[self.at[place]]
 
     def store(self, state, value_of_place, width, value):
         """The words after a store, and by how much it moves the own count of which queue, or None."""
@@ -195,9 +201,10 @@ class Program(Values):
         queue, share, step = self.queues[which], state.shares[which], None
         if isinstance(value, Word):
             step = self.step_of(value.count.minus(variable_of("n", which)), queue.modulus, state) if value.queue == which else None
-        elif value is not None and (queue.is_linear() or self.is_cut(queue) or self.is_index(value, queue, state)):
-            scaled = value.minus(self.own_index(which, state))
-            if self.is_cut(queue):
+        elif value is not None and (queue.is_linear() or queue.is_cut() or self.is_index(value, queue, state)):
+            own = self.own_index(which, state)
+            scaled = value.minus(self.rest(own)[0] if isinstance(own, Word) else own)
+            if queue.is_cut():
                 # the bytes that are stored are all that counts
                 scaled = form(scaled.constant % 256 ** queue.index_width, {variable: m % 256 ** queue.index_width for variable, m in scaled.terms})
             if all(signed(m) % queue.scale == 0 for m in (scaled.constant, *(m for _, m in scaled.terms))):
@@ -210,11 +217,6 @@ class Program(Values):
         if value is not None and share.first < share.last <= share.first + MOST_TRIED and step is None:
             raise Split(("p", which), share.first)
         raise Refused(state.pc, f"the own index isn't known to move on by at most {share.low}, which are owned there")
-
-    @staticmethod
-    def is_cut(queue):
-        """Whether all numbers of an index's bytes are words of it."""
-        return queue.index_width < 4 and queue.scale * queue.modulus == 256 ** queue.index_width and queue.base < queue.scale
 
     def is_index(self, value, queue, state):
         """Whether a value is below the end of the words of an index; asks for a split where it is for some numbers."""
@@ -324,7 +326,7 @@ class Program(Values):
         others, shares, registers, words = state.others, list(state.shares), list(state.registers), state.words
         kept = list(range(len(others)))
         if fresh:
-            value, others, kept = variable_of("z", len(others)), others + (fresh,), kept + [None]
+            value, others, kept = value or variable_of("z", len(others)), others + (fresh,), kept + [None]
         if looked is not None:
             share = shares[looked]
             old = ("A", looked)

@@ -50,7 +50,9 @@ class State(NamedTuple):
 class Values:
     """What is known of the values of a hart's states."""
 
-    def __init__(self, queues, hart):
+    def __init__(self, queues, hart, loosens=True):
+        # whether sums of words are taken by remainders at once, or only where no split makes a word a form
+        self.loosens = loosens
         self.queues, self.parties = queues, [queue.party(hart) for queue in queues]
 
     def ranges(self, state):
@@ -77,11 +79,15 @@ class Values:
         return self.queues[word.queue].word(found[0]) % SIZE if found and found[0] == found[1] else None
 
     def by_position(self, value, which):
-        """A form in which the position stands for the own count: the same modulo the period."""
+        """A form in which the position stands for the own count, where it is the same modulo the index's modulus."""
+        if not self.queues[which].has_known_words():
+            return value
         return value.put(("n", which), variable_of("p", which)) if dict(value.terms).get(("n", which)) == 1 else value
 
     def split_to_know(self, value, state, most=MOST_TRIED):
         """Asks for the split that makes a value a number, if a few numbers of its variables are all that is open."""
+        if isinstance(value, Word) and not self.queues[value.queue].has_known_words():
+            return
         terms = value.terms if value is not None and not isinstance(value, Word) else value.count.terms if value else ()
         ranges = self.ranges(state)
         open_ones = [(ranges[variable][1] - ranges[variable][0], variable) for variable, _ in terms
@@ -97,6 +103,8 @@ class Values:
         """Whether a compare holds: True, False or None where it isn't known; asks for a split where one would tell."""
         if x is None or y is None:
             return None
+        if kind > 1:
+            x, y = self.as_form(x, state), self.as_form(y, state)
         if isinstance(x, Word) or isinstance(y, Word):
             return self.words_compared(kind, x, y, state)
         ranges, holds = self.ranges(state), COMPARES[kind]
@@ -147,7 +155,7 @@ class Values:
         which = x.queue if isinstance(x, Word) else y.queue
         queue = self.queues[which]
         if kind < 2:
-            counts = [self.count_of(value, queue, which) for value in (x, y)]
+            counts = [self.count_of(value, queue, which, state) for value in (x, y)]
             if None not in counts:
                 difference = counts[0].minus(counts[1])
                 limits = bounds(difference, self.ranges(state), True)
@@ -164,10 +172,13 @@ class Values:
                     self.split_to_know(value, state)
         return None
 
-    def count_of(self, value, queue, which):
+    def count_of(self, value, queue, which, state):
         """A form of a count that a value is the word of, with the position for the own count, or None."""
         if isinstance(value, Word):
             return self.by_position(value.count, which)
+        limits = bounds(value, self.ranges(state))
+        if not queue.has_known_words() and (limits is None or limits[0] < 0 or limits[1] >= queue.base + queue.scale * queue.modulus):
+            return None
         index = value.minus(number(queue.base))
         if any(signed(m) % queue.scale for m in (index.constant, *(m for _, m in index.terms))):
             return None
@@ -203,9 +214,12 @@ class Values:
             return self.masked(x, b, state) if b is not None else self.masked(y, a, state)
         if name == "add" and is_immediate and b == 0:
             return x, None
-        if isinstance(x, Word) or isinstance(y, Word):
-            self.split_to_know(x if isinstance(x, Word) else y, state)
-            return None, None
+        if name not in ("slt", "sltu"):
+            x, y = self.as_form(x, state), self.as_form(y, state)
+            if isinstance(x, Word) or isinstance(y, Word):
+                return self.word_computed(name, x, y, state, b if is_immediate else None)
+        if name == "xor" and is_immediate and b == SIZE - 1 and x is not None:
+            return y.minus(x), None
         if name in ("slt", "sltu"):
             answer = self.compared(4 if name == "slt" else 6, x, y, state)
             return (None, (0, 1)) if answer is None else (number(int(answer)), None)
@@ -227,15 +241,75 @@ class Values:
         """What is a multiple of a power of two, as after a shift to the left, shifted right: a remainder of what it is a multiple of; or None."""
         if any(m % (1 << amount) for m in (value.constant, *(m for _, m in value.terms))):
             return None
-        return self.remainder(form(value.constant >> amount, {variable: m >> amount for variable, m in value.terms}), 1 << 32 - amount, state)
+        value, modulus = form(value.constant >> amount, {variable: m >> amount for variable, m in value.terms}), 1 << 32 - amount
+        return self.remainder(value, modulus, state) or self.counted(value, modulus, state)
+
+    def counted(self, value, modulus, state):
+        """A remainder as the word of an index that counts on in so many words, where the form has own counts of any size; or None."""
+        ranges = self.ranges(state)
+        if all(variable in ranges for variable in value.variables()):
+            return None
+        for which in reversed(range(len(self.queues))):
+            queue = self.queues[which]
+            if (queue.base, queue.scale, queue.modulus) == (0, 1, modulus):
+                return Word(which, form(signed(value.constant - queue.offset), {name: m % modulus for name, m in value.terms}))
+        return None
+
+    # ---- words by their remainders
+
+    def as_form(self, value, state):
+        """A word as a form, as the check takes it where it is one; where the search says so, after splits; else what it was."""
+        if not isinstance(value, Word):
+            return value
+        queue = self.queues[value.queue]
+        count = self.by_position(value.count, value.queue).plus(number(queue.offset))
+        ranges = self.ranges(state)
+        if not all(variable in ranges for variable in count.variables()):
+            return value
+        limits = bounds(count, ranges, True)
+        if limits[0] // queue.modulus != limits[1] // queue.modulus:
+            if self.loosens or not queue.has_known_words():
+                return value
+            count = form(signed(count.constant), dict(count.terms))
+            self.split_where(lambda found: signed(found) // queue.modulus, count, state)
+            return value
+        return count.plus(number(-(limits[0] // queue.modulus) * queue.modulus)).times(queue.scale).plus(number(queue.base))
+
+    def rest(self, value):
+        """The form of which a value is the remainder, and by what, which divides 2^32; or None."""
+        if not isinstance(value, Word):
+            return value and (value, SIZE)
+        queue = self.queues[value.queue]
+        by = queue.scale * queue.modulus
+        return None if SIZE % by else (value.count.plus(number(queue.offset)).times(queue.scale).plus(number(queue.base)), by)
+
+    def word_computed(self, name, x, y, state, given):
+        """What an operation makes of words that are no forms, and the range of a new variable."""
+        if name in ("add", "sub"):
+            return self.by_remainders(x, y, 1 if name == "add" else -1, state)
+        if name == "sll" and given is not None and self.rest(x):
+            value, fresh = self.by_remainders(x, ZERO, 1, state)
+            return value.times(1 << (given & 31)), fresh
+        self.split_to_know(x if isinstance(x, Word) else y, state)
+        return None, None
+
+    def by_remainders(self, x, y, sign, state):
+        """A sum or difference of which the remainder is known: with a multiple of a new variable."""
+        x, y = self.rest(x), self.rest(y)
+        if x is None or y is None:
+            return None, None
+        by = min(x[1], y[1])
+        return x[0].plus(y[0].times(sign)).plus(variable_of("z", len(state.others), by)), (0, SIZE // by - 1)
 
     def masked(self, value, mask, state):
         if mask is None:
             return None, None
-        if value is not None and mask & (mask + 1) == 0 and not isinstance(value, Word):
-            rest = self.remainder(value, mask + 1, state)
-            if rest is not None:
-                return rest, None
+        value = self.as_form(value, state)
+        rest = self.rest(value)
+        if rest is not None and mask & (mask + 1) == 0 and rest[1] % (mask + 1) == 0:
+            low = self.remainder(rest[0], mask + 1, state) or self.counted(rest[0], mask + 1, state)
+            if low is not None:
+                return low, None
         self.split_to_know(value, state, 64)
         return None, (0, mask) if mask < MOST_MASK else None
 

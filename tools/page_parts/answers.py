@@ -163,17 +163,19 @@ def read(calls, asked):
 
 
 def draw(calls, asked):
-    """The outcomes of a part of a seed's runs. `left` runs had outcomes that aren't listed."""
+    """The outcomes of a part of a seed's runs. `left` runs had outcomes that aren't listed; `first` has the tokens of the
+    first run that didn't finish, or nothing."""
     out, status = printed(calls, "try", asked, "--seed", asked["seed"], "--runs", str(asked["runs"]),
-                          "--length", str(asked["length"]), "--skip", str(asked["skip"]))
+                          "--length", str(asked["length"]), "--skip", str(asked["skip"]), "--draw", asked["draw"], "--unfinished")
     *lines, last = out.splitlines()
+    last, semicolon, first = last.partition(" ;")
     rows = []
     for line in lines:
         said, _, tokens = line.partition(" ;")
         count, *values = said.split(" ")
         rows.append({"count": int(count), "values": values, "tokens": tokens.strip()})
     return {"rows": rows[:ROWS], "left": sum(row["count"] for row in rows[ROWS:]),
-            "unfinished": int(last.split(" ")[1]), "shown": status == 0}
+            "unfinished": int(last.split(" ")[1]), "first": first.strip() if semicolon else None, "shown": status == 0}
 
 
 def threads(calls, asked):

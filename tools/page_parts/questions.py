@@ -15,6 +15,7 @@ HARTS, ADDRESSES = 64, 1 << 32
 # digits of a number
 LONGEST = 20
 COMPILERS, FENCES, MAPPINGS = ("gcc", "clang"), ("all", "full", "none"), ("", "rvwmo.h", "ztso.h")
+DRAWS = ("uniform", "bursts")
 TOKENS = re.compile(r"(?:[al][0-9]{1,2}(?:\*[0-9]{1,4})?(?: |\Z))*")
 TEST = {"text": str}
 BUFFERED = {**TEST, "buffer": BUFFERS}
@@ -25,7 +26,7 @@ QUESTIONS = {
     "onward": {**RUN, "hart": range(HARTS)},
     "seek": {**RUN, "place": range(EVENTS + 1), "breaks": list},
     "read": {**BUFFERED, "schedule": str},
-    "draw": {**BUFFERED, "seed": str, "skip": range(RUNS + 1), "runs": range(1, RUNS + 1),
+    "draw": {**BUFFERED, "draw": DRAWS, "seed": str, "skip": range(RUNS + 1), "runs": range(1, RUNS + 1),
              "length": range(EVENTS + 1)},
     "threads": BUFFERED, "find": BUFFERED}
 

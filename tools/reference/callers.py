@@ -148,19 +148,30 @@ class Callers:
         return self.owed_by_words()
 
     def owed_by_words(self):
-        """Both indices are the offset of one slot, a copy of the tail is that of any, and each slot of FastForward's is 0."""
+        """Both indices are offsets of slots, a copy of the tail is an old one, and a slot of FastForward's is 0 just where no word waits."""
         opening = self.machine.opening[1]
         head, copy, tail = (word_at(opening, self.base + offset) for offset in (HEAD, COPY, TAIL))
-        if not self.is_offset(head):
-            return f"the index at {self.base} opens as {head}, not as the offset of a slot"
-        if head != tail:
-            return f"the indices open as {head} and {tail}, not alike"
-        if self.kind == "cached" and not self.is_offset(copy):
-            return f"the copy of the tail at {self.base + COPY} opens as {copy}, not as the offset of a slot"
+        for offset, index in ((HEAD, head), (TAIL, tail)):
+            if not self.is_offset(index):
+                return f"the index at {self.base + offset} opens as {index}, not as the offset of a slot"
+        waiting = (head - tail) // 4 % self.slots
+        if self.kind == "fastforward" and head == tail and word_at(opening, self.base + SLOTS + tail):
+            waiting = self.slots
+        if self.kind == "cached" and copy not in {(tail + 4 * on) % (4 * self.slots) for on in range(waiting + 1, self.slots + 1)}:
+            return f"the copy of the tail at {self.base + COPY} opens as {copy}, not as an offset that the tail can have had"
         if self.kind == "fastforward":
-            for address, word in opening:
-                if self.base + SLOTS <= address < self.end:
-                    return f"the slot at {address} opens as {word} and not as 0"
+            return self.owed_by_slots(opening, tail, waiting)
+        return None
+
+    def owed_by_slots(self, opening, tail, waiting):
+        full = {(tail + 4 * on) % (4 * self.slots) for on in range(waiting)}
+        for offset in range(0, 4 * self.slots, 4):
+            address = self.base + SLOTS + offset
+            word = word_at(opening, address)
+            if offset in full and not word:
+                return f"the slot at {address} opens as 0, where a word waits"
+            if offset not in full and word:
+                return f"the slot at {address} opens as {word} and not as 0"
         return None
 
     def is_offset(self, word):

@@ -388,10 +388,6 @@ def set_less(b, n):
     return flag_of(is_below_signed(b, Bounds(n, n))) if 0 <= n < 1 << 31 else any_up_to(1)
 
 
-def shifted_left(v, amount):
-    return just(Linear(times(1 << amount, v.form))) if isinstance(v, Linear) else just(ANY)
-
-
 def shifted_right(b, amount):
     return just(ANY) if b is None else any_up_to(b.high >> amount)
 
@@ -400,8 +396,46 @@ def sum_of(v, w):
     return Linear(plus(v.form, w.form)) if isinstance(v, Linear) and isinstance(w, Linear) else ANY
 
 
-def difference_of(v, w):
-    return Linear(plus(v.form, times(M32 - 1, w.form))) if isinstance(v, Linear) and isinstance(w, Linear) else ANY
+def turned(v, mask):
+    if not isinstance(v, Linear):
+        return just(ANY)
+    return just(Linear(plus(number(M32 - 1), times(M32 - 1, v.form))) if mask == M32 - 1 else ANY)
+
+
+class Rest(NamedTuple):
+    """A number by its remainder: it is a form's remainder by `by`, which divides 2^32."""
+
+    by: int
+    form: Form
+
+
+def rest_of(queues, v):
+    if v is ANY:
+        return None
+    if isinstance(v, Linear):
+        return Rest(M32, v.form)
+    q = queue_at(queues, v.queue)
+    return Rest(q.scale * q.modulus, scaled(q, plus(v.form, number(q.offset)))) if mod(M32, q.scale * q.modulus) == 0 else None
+
+
+def negative(r):
+    return None if r is None else Rest(r.by, times(M32 - 1, r.form))
+
+
+def rests_added(a, b):
+    if a is None or b is None:
+        return None
+    if mod(a.by, b.by) == 0:
+        return Rest(b.by, plus(a.form, b.form))
+    return Rest(a.by, plus(a.form, b.form)) if mod(b.by, a.by) == 0 else None
+
+
+def result_by(t, result):
+    return Result(result.most, value_by(t, result.value))
+
+
+def of_rest(r):
+    return just(ANY) if r is None else Result(monus(div(M32, r.by), 1), Linear(plus(lifted(r.form), times(r.by, FIRST_VARIABLE))))
 
 
 def bounds(ranges, v):
@@ -412,18 +446,39 @@ def agrees(ranges, n, f, g):
     return is_nothing(bounds_of(n, ranges, plus(f, times(monus(n, 1), g))))
 
 
-def low_bits(f, mask):
-    return any_up_to(mask) if f is None else just(Linear(f))
+def shifted_left(queues, v, amount):
+    if isinstance(v, Linear):
+        return just(Linear(times(1 << amount, v.form)))
+    return result_by(lambda f: times(1 << amount, f), of_rest(rest_of(queues, v)))
 
 
-def masked(ranges, v, mask):
-    if isinstance(v, Linear) and mask + 1 == 1 << mask.bit_count() and M32 % (mask + 1) == 0:
-        return low_bits(remainder_word(ranges, v.form, mask + 1), mask)
+def is_count(q, n):
+    return q.base == 0 and q.scale == 1 and q.modulus == n
+
+
+def counting(queues, n):
+    return next((i for i in reversed(range(len(queues))) if is_count(queues[i], n)), None)
+
+
+def counted(queues, n, f, i, otherwise):
+    return otherwise if i is None else just(IndexFor(i, plus(f, number(n - mod(queues[i].offset, n)))))
+
+
+def remaining(queues, ranges, n, f, otherwise):
+    rest = remainder_word(ranges, f, n)
+    if rest is not None:
+        return just(Linear(rest))
+    return counted(queues, n, f, counting(queues, n), otherwise) if most(ranges, f) is None else otherwise
+
+
+def masked(queues, ranges, r, mask):
+    if r is not None and mask + 1 == 1 << mask.bit_count() and mod(r.by, mask + 1) == 0:
+        return remaining(queues, ranges, mask + 1, r.form, any_up_to(mask))
     return any_up_to(mask)
 
 
-def masked_by(ranges, v, mask, otherwise):
-    return otherwise if mask is None else masked(ranges, v, mask)
+def masked_by(queues, ranges, r, mask, otherwise):
+    return otherwise if mask is None else masked(queues, ranges, r, mask)
 
 
 def signed(n):
@@ -439,11 +494,13 @@ TAKEN = {"beq": lambda a, b: a == b, "bne": lambda a, b: a != b, "blt": lambda a
          "bge": lambda a, b: signed(a) >= signed(b), "bltu": lambda a, b: a < b, "bgeu": lambda a, b: a >= b}
 
 
-def immediate_part(ranges, op, v, n):
+def immediate_part(queues, ranges, op, v, n):
     if op == "addi":
-        return just(sum_of(v, Linear(number(n % M32))))
+        return of_rest(rests_added(rest_of(queues, v), Rest(M32, number(n % M32))))
     if op == "andi":
-        return masked(ranges, v, n % M32)
+        return masked(queues, ranges, rest_of(queues, v), n % M32)
+    if op == "xori":
+        return turned(v, n % M32)
     if op == "slti":
         return set_less(bounds(ranges, v), n)
     if op == "sltiu":
@@ -451,58 +508,54 @@ def immediate_part(ranges, op, v, n):
     return just(ANY)
 
 
-def of_immediate(ranges, op, v, n):
+def of_immediate(queues, ranges, op, v, n):
     a = as_number(v)
-    return or_else(None if a is None else COMPUTED["sltu" if op == "sltiu" else op[:-1]](a, n % M32), immediate_part(ranges, op, v, n))
+    return or_else(None if a is None else COMPUTED["sltu" if op == "sltiu" else op[:-1]](a, n % M32), immediate_part(queues, ranges, op, v, n))
 
 
 def without(n, f):
     return Form(div(f.constant, n), tuple(div(m, n) for m in f.factors))
 
 
-def high_bits(f, b, amount):
-    return shifted_right(b, amount) if f is None else just(Linear(f))
-
-
-def shifted_back(ranges, v, amount):
+def shifted_back(queues, ranges, v, amount):
     if not isinstance(v, Linear):
         return just(ANY)
     f, b = v.form, bounds_of(M32, ranges, v.form)
     if amount <= 32 and is_same(0, f, times(1 << amount, without(1 << amount, f))):
-        return high_bits(remainder_word(ranges, without(1 << amount, f), 1 << 32 - amount), b, amount)
+        return remaining(queues, ranges, 1 << 32 - amount, without(1 << amount, f), shifted_right(b, amount))
     return shifted_right(b, amount)
 
 
-def shift_part(ranges, op, v, amount):
+def shift_part(queues, ranges, op, v, amount):
     if op == "slli":
-        return shifted_left(v, amount)
+        return shifted_left(queues, v, amount)
     if op == "srli":
-        return shifted_back(ranges, v, amount)
+        return shifted_back(queues, ranges, v, amount)
     return just(ANY)
 
 
-def of_shift(ranges, op, v, amount):
+def of_shift(queues, ranges, op, v, amount):
     a = as_number(v)
-    return or_else(None if a is None else COMPUTED[op[:-1]](a, amount), shift_part(ranges, op, v, amount))
+    return or_else(None if a is None else COMPUTED[op[:-1]](a, amount), shift_part(queues, ranges, op, v, amount))
 
 
-def register_part(ranges, op, v, w):
+def register_part(queues, ranges, op, v, w):
     if op == "add":
-        return just(sum_of(v, w))
+        return of_rest(rests_added(rest_of(queues, v), rest_of(queues, w)))
     if op == "sub":
-        return just(difference_of(v, w))
+        return of_rest(rests_added(rest_of(queues, v), negative(rest_of(queues, w))))
     if op == "slt":
         return flag_of(is_below_signed(bounds(ranges, v), bounds(ranges, w)))
     if op == "sltu":
         return flag_of(is_below(bounds(ranges, v), bounds(ranges, w)))
     if op == "and":
-        return masked_by(ranges, v, as_number(w), masked_by(ranges, w, as_number(v), just(ANY)))
+        return masked_by(queues, ranges, rest_of(queues, v), as_number(w), masked_by(queues, ranges, rest_of(queues, w), as_number(v), just(ANY)))
     return just(ANY)
 
 
-def of_registers(ranges, op, v, w):
+def of_registers(queues, ranges, op, v, w):
     a, b = as_number(v), as_number(w)
-    return or_else(None if a is None or b is None else COMPUTED[op](a, b), register_part(ranges, op, v, w))
+    return or_else(None if a is None or b is None else COMPUTED[op](a, b), register_part(queues, ranges, op, v, w))
 
 
 def unscaled(q, f):
@@ -737,7 +790,7 @@ class Steps:
         return ANY if isinstance(v, IndexFor) and v.queue >= len(self.queues) else v
 
     def immediate_result(self, k, op, v, n):
-        return just(self.storable(v)) if is_copy(op, n) else of_immediate(k.ranges, op, v, n)
+        return just(self.storable(v)) if is_copy(op, n) else of_immediate(self.queues, k.ranges, op, v, n)
 
     # loads
 
@@ -893,10 +946,10 @@ class Steps:
             return [with_result(k, rd, next_pc(k.pc), self.immediate_result(k, op, self.operand(k, rs1), n))]
         if op in SHIFTS:
             rd, rs1, amount = parts
-            return [with_result(k, rd, next_pc(k.pc), of_shift(k.ranges, op, self.operand(k, rs1), amount))]
+            return [with_result(k, rd, next_pc(k.pc), of_shift(self.queues, k.ranges, op, self.operand(k, rs1), amount))]
         if op in COMPUTED:
             rd, rs1, rs2 = parts
-            return [with_result(k, rd, next_pc(k.pc), of_registers(k.ranges, op, self.operand(k, rs1), self.operand(k, rs2)))]
+            return [with_result(k, rd, next_pc(k.pc), of_registers(self.queues, k.ranges, op, self.operand(k, rs1), self.operand(k, rs2)))]
         if op == "fence":
             return [going_to(k, next_pc(k.pc))]
         if op == "ecall":

@@ -1,11 +1,13 @@
-"""What a certificate shows of a litmus text's queues, in lines (docs/formats.md): the command `queue`."""
+"""What a certificate shows of a litmus text's queues, or drawn runs where it shows nothing, in lines (docs/formats.md): the command `queue`."""
 
 import certificate_lines
 import certificates
+import ownership
 import programs
+import schedules
 import words
 
-KEPT, READS_NOT_SHOWN, NOT_SHOWN = 0, 6, 7
+KEPT, READS_NOT_SHOWN, NOT_SHOWN, BROKEN = 0, 6, 7, 8
 REGISTERS = 32
 PROTOCOL = "promised: in every legal run, of any length and schedule, with store buffers of any size, the protocol of ownership is kept"
 PROMISE = f"{PROTOCOL}, so records arrive in order, each once, with all that was written before"
@@ -16,6 +18,7 @@ STORES = "likely: it may store to a slot that the hart doesn't own, to another h
 LIKELY = {0x23: STORES, 0x2F: STORES,
           0x03: "likely: it may load a part of the other party's index, or leads to a state that isn't listed",
           0x67: "likely: where it jumps isn't known, or it leads to a state that isn't listed"}
+FIT = "another protocol may fit: that of a queue that overwrites, that has several senders or receivers, or whose slots tell whose they are"
 OTHER = "likely: it leads to a state that isn't listed, as where the certificate is of another text"
 
 
@@ -65,9 +68,56 @@ def read(text):
               for own, (first, numbers), states in harts))
 
 
+# ---- what isn't shown, in lines
+
+def queue_fault(opening, opened):
+    """What is wrong with a queue that isn't accepted."""
+    q, start = opened
+    width, slots = q.index_width, q.size * q.width
+    opens = [certificates.number_seen(opening, place, width) == q.index_word(start) if q.modulus else False for place in (q.head, q.tail)]
+    holds = (
+        (q.sender != q.receiver, "one hart as its sender and its receiver"),
+        (certificates.are_apart(q.head, width, q.tail, width), "a head and a tail that overlap"),
+        (all(certificates.are_apart(place, width, q.slots, slots) for place in (q.head, q.tail)), "an index that overlaps its slots"),
+        (q.size >= 1, "no slot"),
+        (q.capacity <= q.size, "fewer slots than may be in use"),
+        (q.modulus >= 1 and q.scale >= 1, "a modulus or a scale of 0"),
+        (width >= 1, "indices without a byte"),
+        (width <= 4 and q.base + q.scale * (q.modulus - 1) < 256 ** width,
+         "words that don't fit the bytes of its indices, which are at most 4"),
+        (q.capacity < q.modulus, "indices that don't tell all slots in use from none"),
+        (opens[0], "a head that opens as another word than that of its count"),
+        (opens[1], "a tail that opens as another word than that of its count"),
+    )
+    return next(fault for is_so, fault in holds if not is_so)
+
+
+def form_text(form):
+    """A number, and multiples of variables, with `+` in between: of each that is 0 only what comes last."""
+    parts = [str(form.constant)] if form.constant or not form.factors else []
+    last = len(form.factors) - 1
+    return "+".join([*parts, *(f"{times}*{at}" for at, times in enumerate(form.factors) if times or at == last)])
+
+
+def value_text(value):
+    return form_text(value.form) if isinstance(value, certificates.Linear) else f"@{value.queue}:{form_text(value.form)}"
+
+
+def known_lines(known):
+    """A state's lines, as a certificate has them, without its pc and its cases."""
+    if known.ranges:
+        yield " ".join(["most", *("-" if most is None else str(most) for most in known.ranges)])
+    for name, values in (("reg", known.registers), ("word", known.words)):
+        for at, value in enumerate(values):
+            if value is not certificates.ANY:
+                yield f"{name} {at} {value_text(value)}"
+    for at, share in enumerate(known.shares):
+        yield f"share {at} {form_text(share.own)} {form_text(share.owned)}"
+
+
 class Judge:
     def __init__(self, test, text):
-        self.opening, self.listed = opening_of(test), read(text)
+        self.test, self.opening, self.listed = test, opening_of(test), read(text)
 
     # ---- what isn't shown
 
@@ -76,14 +126,20 @@ class Judge:
         found = certificates.first_flaw(self.opening, self.listed)
         if found is None:
             return None
+        self.may_draw = found.kind != "queue"
         if found.kind == "queue":
-            return [f"not shown: queue {found.at} is none that opens at its count",
-                    "likely: its parts overlap, its index can't count so far, or memory opens with other indices"]
+            return [f"not shown: queue {found.at} has {queue_fault(self.opening, self.listed.queues[found.at])}",
+                    "likely: the queue isn't described as the text has it"]
+        if found.kind == "opening" and not (found.at < len(self.listed.harts) and self.listed.harts[found.at].states):
+            return [f"not shown: the certificate has no state of hart {found.at}",
+                    "likely: the search for its states found none, which says nothing of the queue"]
         if found.kind == "opening":
             return [f"not shown: hart {found.at} opens in another state than the certificate says",
                     "likely: the certificate is of another text, or of another opening of this one"]
         word = self.word(found.at, self.pc(found.at, found.state))
-        return [f"not shown: {self.state_place(found.at, found.state)}", LIKELY.get(None if word is None else word & 127, OTHER)]
+        return [f"not shown: {self.state_place(found.at, found.state)}",
+                *(f"known: {line}" for line in known_lines(self.listed.harts[found.at].states[found.state].known)),
+                LIKELY.get(None if word is None else word & 127, OTHER)]
 
     def accesses(self, index):
         return certificates.slot_accesses(self.opening, self.listed, index)
@@ -129,23 +185,52 @@ class Judge:
     def state_place(self, hart, state):
         return f"{self.place(hart, self.pc(hart, state))}, state {state}"
 
+    def form(self, index):
+        queue, start = self.listed.queues[index]
+        front = f"queue {index}:"
+        yield f"{front} hart {queue.sender} sends and hart {queue.receiver} receives"
+        yield f"{front} its head is the {queue.index_width} bytes at {queue.head}, its tail those at {queue.tail}"
+        yield f"{front} it has {queue.size} slots of {queue.width} bytes from {queue.slots} on, of which {queue.capacity} may be in use"
+        yield f"{front} count n is the word {queue.base} + {queue.scale} * ((n + {queue.offset}) mod {queue.modulus}), and it opens at {start}"
+
     def described(self):
-        for index, (queue, start) in enumerate(self.listed.queues):
-            front = f"queue {index}:"
-            yield f"{front} hart {queue.sender} sends and hart {queue.receiver} receives"
-            yield f"{front} its head is the {queue.index_width} bytes at {queue.head}, its tail those at {queue.tail}"
-            yield f"{front} it has {queue.size} slots of {queue.width} bytes from {queue.slots} on, of which {queue.capacity} may be in use"
-            yield f"{front} count n is the word {queue.base} + {queue.scale} * ((n + {queue.offset}) mod {queue.modulus}), and it opens at {start}"
+        for index in range(len(self.listed.queues)):
+            yield from self.form(index)
             for hart, pc, stores, loads in self.accesses(index):
                 if stores:
-                    yield f"{front} stored to by {self.place(hart, pc)}"
+                    yield f"queue {index}: stored to by {self.place(hart, pc)}"
                 if loads:
-                    yield f"{front} loaded from by {self.place(hart, pc)}"
+                    yield f"queue {index}: loaded from by {self.place(hart, pc)}"
 
-    def answer(self):
+    # ---- drawn runs
+
+    def broken(self, index, events, breach, capacity):
+        """The lines of a run that breaks a queue's protocol, of which the schedule is the last."""
+        if breach.owned is None:
+            owned = "and is neither party"
+        elif breach.owned[0] < breach.owned[1]:
+            owned = f"and owned positions {breach.owned[0]} to {breach.owned[1] - 1}"
+        else:
+            owned = "and owned no position"
+        return [f"broken: {self.place(breach.hart, breach.pc)}",
+                f"queue {index}: it stored {breach.value} to the {breach.width} bytes at {breach.address}, {owned}", *self.form(index), FIT,
+                f"shown by this schedule, whose last event it is, with --buffer {capacity}:", *schedules.written(events).splitlines()]
+
+    def tried(self, flaw, capacity, number, drawing):
+        """What drawn runs show where the certificate has this flaw."""
+        lines = []
+        for index, (queue, start) in enumerate(self.listed.queues):
+            shown, moved = ownership.trial(ownership.Runs(self.test, capacity, queue, start), number, drawing)
+            if shown:
+                return self.broken(index, *shown, capacity), BROKEN
+            lines.append(f"queue {index}: kept in {number} drawn runs of {drawing[1]} events, in which {moved[0]} positions were published and"
+                         f" {moved[1]} taken")
+        return [*flaw, *lines, "nothing is claimed"], NOT_SHOWN
+
+    def answer(self, capacity, number, drawing):
         """The lines, and the exit status."""
         if flaw := self.flaw():
-            return [*flaw, "nothing is claimed"], NOT_SHOWN
+            return self.tried(flaw, capacity, number, drawing) if self.may_draw else ([*flaw, "nothing is claimed"], NOT_SHOWN)
         if unused := self.unused():
             return [unused, "nothing is claimed"], NOT_SHOWN
         if unread := self.unread():

@@ -120,6 +120,11 @@ def tokens(events):
                     for (letter, hart), count in runs)
 
 
+def after_semicolon(events):
+    """How a line ends that names a run by its schedule."""
+    return " ;" + (f" {tokens(events)}" if events else "")
+
+
 def written(events):
     return f"{HEAD_LINE}\n" + (f"{tokens(events)}\n" if events else "")
 

@@ -13,11 +13,11 @@ import { many, stores } from "./words.js";
 // the first part's runs, how long a part is to take, and how many outcomes are listed
 const FIRST = 100, MILLISECONDS = 400, LISTED = 200;
 
-const ASKED = "what the condition asks about";
+const ASKED = "what the condition asks about", UNFINISHED = "unfinished";
 
 const RANGES = { runs: [1, () => known.limits.runs], length: [0, () => known.limits.events] };
 
-// what was drawn last, with its rows by their values
+// what was drawn last, with its rows by their values, and the tokens of the first run that didn't finish
 let last = null;
 let drawing = false;
 
@@ -56,7 +56,7 @@ export async function drawRuns() {
   if (runs === null || length === null) return;
   drawing = true;
   by("go").textContent = "Stop";
-  const table = last = { rows: new Map(), done: 0, left: 0, unfinished: 0, shown: known.test.kind !== "exists", runs, length };
+  const table = last = { rows: new Map(), done: 0, left: 0, unfinished: 0, first: null, shown: known.test.kind !== "exists", runs, length };
   try {
     await drawParts(table);
     if (isMostlyUnfinished(table)) table.stops = await stops(table.length);
@@ -85,7 +85,7 @@ function finish(table) {
 }
 
 async function drawParts(table) {
-  const asked = { text: state.text, buffer: state.buffer, seed: by("seed").value.trim(), length: table.length };
+  const asked = { text: state.text, buffer: state.buffer, draw: state.draw, seed: by("seed").value.trim(), length: table.length };
   let size = FIRST;
   by("drawn").replaceChildren(el("p", { class: "quiet" }, `Drawing ${many(table.runs, "run")} ..`));
   do {
@@ -98,7 +98,7 @@ async function drawParts(table) {
   } while (drawing && last === table && table.done < table.runs);
 }
 
-function add(table, { rows, left, unfinished, shown }, runs) {
+function add(table, { rows, left, unfinished, first, shown }, runs) {
   for (const row of rows) {
     const key = row.values.join(" "), before = table.rows.get(key);
     if (before) before.count += row.count;
@@ -106,6 +106,7 @@ function add(table, { rows, left, unfinished, shown }, runs) {
   }
   table.left += left;
   table.unfinished += unfinished;
+  table.first ??= first;
   table.shown = known.test.kind === "exists" ? table.shown || shown : table.shown && shown;
   table.done += runs;
 }
@@ -129,7 +130,7 @@ function answer({ shown }) {
 }
 
 function showTable(table) {
-  const { rows, done, runs, unfinished, left, shown } = table;
+  const { rows, done, runs, unfinished, first, left, shown } = table;
   const sorted = [...rows.values()].sort(ascending), listed = sorted.slice(0, LISTED);
   const most = Math.max(unfinished, ...listed.map(row => row.count), 1);
   const key = document.activeElement?.dataset?.key;
@@ -140,7 +141,7 @@ function showTable(table) {
     el("table", {}, el("thead", {}, el("tr", {}, ...["outcome", "runs"].map(name => el("th", { scope: "col" }, name)),
       el("td"), el("td"))),
     el("tbody", {}, ...listed.map(row => rowOf(row, most)),
-      unfinished || !listed.length ? rowOf({ values: ["unfinished"], count: unfinished }, most) : null)),
+      unfinished || !listed.length ? rowOf({ values: [UNFINISHED], count: unfinished, tokens: first ?? undefined }, most) : null)),
     sorted.length > LISTED ? el("p", { class: "quiet" }, `and ${sorted.length - LISTED} outcomes more`) : "",
     left ? el("p", { class: "quiet" }, `${many(left, "run")} had outcomes that aren't counted here: too many differ.`) : "",
     drawing ? "" : el("p", { class: `word ${word}` }, ...answer(table)),
@@ -152,16 +153,23 @@ function rowOf({ values, count, tokens, wanted }, most) {
   const key = values.join(" ");
   const bar = el("svg", { viewBox: "0 0 64 10", "aria-hidden": "true" },
     el("rect", { x: 0, y: 1, height: 8, rx: 1, width: Math.max(count ? 1 : 0, 64 * count / most) }));
-  return el("tr", { class: tokens === undefined ? "quiet" : wanted ? "wanted" : null },
+  const isFinished = key !== UNFINISHED;
+  return el("tr", { class: !isFinished ? "quiet" : wanted ? "wanted" : null },
     el("td", { class: "values", title: wanted ? ASKED : null },
       wanted ? el("span", { class: "unseen" }, `${ASKED}: `) : "", ...values.flatMap(value => [el("span", {}, value), " "])),
     el("td", { class: "count" }, String(count)), el("td", {}, bar),
     el("td", {}, tokens === undefined ? "" : el("button", { "data-key": `row ${key}`, "aria-label": `Step through ${key}`,
-      title: `Shrink the schedule of this outcome and step through it: ${tokens}` }, "Step")));
+      title: isFinished ? `Shrink the schedule of this outcome and step through it: ${tokens}`
+        : `Step through the first run that didn't finish, to see where each hart stands: ${tokens}` }, "Step")));
 }
 
-// the drawn run of a row, shrunk
+// the drawn run of a row: shrunk if it is finished
 export async function stepRow(key) {
+  if (key === UNFINISHED) {
+    note(`The first of ${many(last.unfinished, "run")} that didn't finish: where each hart stands after its ${many(last.length, "event")}.`);
+    await setEvents(expanded(last.first));
+    return;
+  }
   const { tokens, values } = last.rows.get(key);
   const events = expanded(await shrunk(tokens));
   note(`${values.join(" ")}: ${events.length} of the drawn run's ${expanded(tokens).length} events are needed.`);

@@ -12,8 +12,8 @@ import { onKey } from "./keyboard.js";
 import { find, threads } from "./makers.js";
 import { choose, showKept } from "./own.js";
 import { clearNote, go, happen, move, note, setEvents, shrunk, toBreak, toggleBreak } from "./run.js";
-import { copyLink, copySchedule, isLink, load, loadLink, saveImage, savePicture, saveSchedule, saveTest, showPasting }
-  from "./saving.js";
+import { copyLink, copySchedule, isLink, load, loadLink, saveImage, savePicture, saveSchedule, saveTest, showChoices,
+  showPasting } from "./saving.js";
 import { expanded, tokens } from "./schedules.js";
 import { listShelf, loadWitness } from "./shelf.js";
 import { WORDS, shelf } from "./source.js";
@@ -88,6 +88,10 @@ function onInputs() {
     state.buffer = Number(by("buffer").value);
     known.before = null;
     return move();
+  }));
+  by("how").addEventListener("change", hand(() => {
+    state.draw = by("how").value;
+    keep();
   }));
   by("memory-rows").addEventListener("change", hand(() => {
     state.memory = by("memory-rows").checked;
@@ -172,7 +176,7 @@ async function begin() {
 function restore() {
   Object.assign(state, kept());
   by("text").value = state.text;
-  by("buffer").value = String(state.buffer);
+  showChoices();
   by("memory-rows").checked = state.memory;
   showKept();
 }

@@ -9,7 +9,7 @@ import { replace } from "./own.js";
 import { note, setEvents } from "./run.js";
 import { HEAD, areTokens, counted, expanded, tokens } from "./schedules.js";
 import { WORDS, address } from "./source.js";
-import { known, state } from "./state.js";
+import { DRAWS, known, state } from "./state.js";
 import { sayWhy } from "./why.js";
 
 const MARK = "#run=", LONGEST = 32000, MOST = 2 << 20;
@@ -107,8 +107,8 @@ async function piped(bytes, through) {
 }
 
 async function fragment() {
-  const { text, buffer, events, place } = state;
-  const bytes = new TextEncoder().encode(JSON.stringify({ text, buffer, tokens: tokens(events), place }));
+  const { text, buffer, draw, events, place } = state;
+  const bytes = new TextEncoder().encode(JSON.stringify({ text, buffer, draw, tokens: tokens(events), place }));
   const packed = await piped(bytes, new CompressionStream("deflate-raw"));
   const letters = Array.from(packed, byte => String.fromCharCode(byte)).join("");
   return MARK + btoa(letters).replaceAll("+", "-").replaceAll("/", "_").replaceAll("=", "");
@@ -132,7 +132,8 @@ export async function runOf(link) {
   try {
     const bytes = Uint8Array.from(atob(packed), letter => letter.charCodeAt(0));
     const run = JSON.parse(new TextDecoder().decode(await piped(bytes, new DecompressionStream("deflate-raw"))));
-    const isRun = typeof run.text === "string" && areTokens(run.tokens) && [1, 2, 4, 16].includes(run.buffer);
+    const isRun = typeof run.text === "string" && areTokens(run.tokens) && [1, 2, 4, 16].includes(run.buffer)
+      && DRAWS.includes(run.draw ?? DRAWS[0]);
     return isRun && counted(run.tokens) <= known.limits.events ? run : null;
   } catch {
     return null;
@@ -145,10 +146,18 @@ export async function loadLink(link) {
   if (!run) return false;
   forgetRefused();
   state.buffer = run.buffer;
-  by("buffer").value = String(run.buffer);
+  // links of 1.1 don't say it
+  state.draw = run.draw ?? DRAWS[0];
+  showChoices();
   const events = expanded(run.tokens), isPlace = Number.isInteger(run.place) && run.place >= 0 && run.place <= events.length;
   await replace(run.text, { events, place: isPlace ? run.place : null });
   return true;
+}
+
+// what the state says of the buffer and the draw
+export function showChoices() {
+  by("buffer").value = String(state.buffer);
+  by("how").value = state.draw;
 }
 
 export const isLink = text => text.startsWith(MARK);

@@ -1,7 +1,10 @@
 // What the page is about, which goes with each question: who answers keeps nothing of it. `kept` are one's own texts that
 // another one took the place of, each with its run.
 
-export const state = { text: "", buffer: 4, events: [], place: 0, breaks: [], memory: false, kept: [] };
+export const state = { text: "", buffer: 4, draw: "uniform", events: [], place: 0, breaks: [], memory: false, kept: [] };
+
+// how runs are drawn
+export const DRAWS = ["uniform", "bursts"];
 
 // what was answered: the shelf, what the program can, the test, and the machine before and now
 export const known = { tests: [], sources: {}, limits: { events: 2000, runs: 100000 }, can: { c: [] },

@@ -129,20 +129,21 @@ function read(ztso, asked) {
   return { events };
 }
 
-// the outcomes of a part of a seed's runs. `left` runs had outcomes that aren't listed
+// the outcomes of a part of a seed's runs. `left` runs had outcomes that aren't listed; `first` has the tokens of the first
+// run that didn't finish, or nothing
 function draw(ztso, asked) {
   if (!/^[0-9]{1,20}$/.test(asked.seed) || BigInt(asked.seed) >> 64n) {
     throw new Fault("BadSeed", ["A seed is a number from 0 to 18446744073709551615."]);
   }
   const { out, status } = printed(ztso, "try", asked, ["--seed", asked.seed, "--runs", String(asked.runs),
-    "--length", String(asked.length), "--skip", String(asked.skip)]);
-  const lines = linesOf(out), last = lines.pop();
+    "--length", String(asked.length), "--skip", String(asked.skip), "--draw", asked.draw, "--unfinished"]);
+  const lines = linesOf(out), last = lines.pop(), [count, first] = parted(last, " ;");
   const rows = lines.map(line => {
     const [outcome, tokens = ""] = parted(line, " ;"), [count, ...values] = outcome.split(" ");
     return { count: Number(count), values, tokens: trimmed(tokens) };
   });
   return { rows: rows.slice(0, limits.rows), left: rows.slice(limits.rows).reduce((sum, row) => sum + row.count, 0),
-    unfinished: Number(last.split(" ")[1]), shown: status === 0 };
+    unfinished: Number(count.split(" ")[1]), first: first === undefined ? null : trimmed(first), shown: status === 0 };
 }
 
 // the shortest schedule of what the condition asks about, or how many states were seen without it

@@ -1,0 +1,42 @@
+/* Each party keeps a copy of the other's index, and looks again only where the copy says full or empty.
+   queue: head=q_sent,tail=q_taken,slots=q_word,size=8
+   answer: kept in every run */
+#include <stdatomic.h>
+
+#define SLOTS 8
+
+struct {
+  atomic_uint sent;
+  unsigned taken_seen;
+  atomic_uint taken;
+  unsigned sent_seen;
+  int word[SLOTS];
+} q;
+
+static int send(int word) {
+  unsigned n = atomic_load_explicit(&q.sent, memory_order_relaxed);
+  if (n - q.taken_seen == SLOTS) {
+    q.taken_seen = atomic_load_explicit(&q.taken, memory_order_acquire);
+    if (n - q.taken_seen == SLOTS)
+      return 0;
+  }
+  q.word[n % SLOTS] = word;
+  atomic_store_explicit(&q.sent, n + 1, memory_order_release);
+  return 1;
+}
+
+static int receive(int *word) {
+  unsigned n = atomic_load_explicit(&q.taken, memory_order_relaxed);
+  if (n == q.sent_seen) {
+    q.sent_seen = atomic_load_explicit(&q.sent, memory_order_acquire);
+    if (n == q.sent_seen)
+      return 0;
+  }
+  *word = q.word[n % SLOTS];
+  atomic_store_explicit(&q.taken, n + 1, memory_order_release);
+  return 1;
+}
+
+void P0(void) { for (int i = 0;; i++) while (!send(i)) {} }
+int P1(void) { for (int word, sum = 0;;) if (receive(&word) && (sum += word) < 0) return sum; }
+// exists (1:a0=0)

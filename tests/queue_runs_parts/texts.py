@@ -1,0 +1,154 @@
+"""Texts whose certificates are accepted: what compilers make of queues in C, and the same with one instruction changed."""
+
+import re
+import subprocess
+from pathlib import Path
+from random import Random
+from typing import NamedTuple
+
+import certificates
+import queues as reference
+import words
+from certify_parts import certificates as writer
+from certify_parts import harts
+from certify_parts import queues as descriptions
+from certify_parts import texts
+
+TOP = Path(__file__).resolve().parents[2]
+REGISTERS = 32
+NOP = 0x13
+# each way of the search is gone once; of a changed text the first ways alone, for so many seconds of the processor
+FEW_WAYS, FEW_SECONDS = 2, 0.4
+SAID = re.compile(r"/\* .*?\n((?: +queue: \S+\n)+) +answer: (.*?) \*/", re.S)
+# a count that opens at so much less than 2^32, or at a few less, wraps soon
+BEFORE_THE_WRAP = 4
+
+
+class Source(NamedTuple):
+    """A queue in C: its text, where its parts lie, and which answer it must get."""
+
+    name: str
+    text: str
+    queues: tuple
+    answer: str
+
+    def is_kept(self):
+        """Whether the protocol is kept, if nothing else is."""
+        return self.answer.startswith(("covered", "kept", "reads"))
+
+
+class Accepted(NamedTuple):
+    """A text with a certificate that is accepted, and of which queues and harts the loads are accepted too."""
+
+    test: texts.Test
+    opening: certificates.Opening
+    certificate: certificates.QueueCertificate
+    reads: frozenset
+
+
+def source_of(path):
+    text = path.read_text()
+    queues, answer = SAID.match(text).groups()
+    return Source(path.stem, text, tuple(re.findall(r"queue: (\S+)", queues)), answer)
+
+
+def variants(source):
+    """The source itself, with other numbers of slots, and with counts that open shortly before they wrap."""
+    yield source
+    if re.search(r"#define SLOTS \d+\n", source.text) and len(source.queues) == 1 and "base" not in source.queues[0]:
+        size = int(re.search(r"#define SLOTS (\d+)\n", source.text)[1])
+        for other in {2, 8} - {size}:
+            yield source._replace(text=re.sub(r"#define SLOTS \d+\n", f"#define SLOTS {other}\n", source.text),
+                                  queues=(re.sub(r"\bsize=\d+", f"size={other}", source.queues[0]),))
+
+
+def made(source, compiler, flag, program, folder):
+    """The test that a compiler makes of a source, or None where from-c refuses it."""
+    file, text = Path(folder, "queue.c"), Path(folder, "queue.litmus")
+    file.write_text(source.text)
+    ran = subprocess.run([TOP / "tools/from-c", file, "--compiler", compiler, f"--flag={flag}", "-o", text], stdin=subprocess.DEVNULL,
+                         capture_output=True, text=True, check=False)
+    return None if ran.returncode else texts.read(program, text)
+
+
+def before_the_wrap(test, words_of_queues):
+    """The test and its queues where counts in words open shortly before they wrap, or None if the queues count otherwise."""
+    found, described = dict(test.words), []
+    for text in words_of_queues:
+        if re.search(r"index=wrapping|bytes=|scale=|offset=", text):
+            return None
+        given = dict(part.split("=") for part in text.split(","))
+        size = int(given["size"])
+        start = (2**32 - BEFORE_THE_WRAP) // size * size
+        for name in ("head", "tail"):
+            found[place_of(test, given[name])] = start
+        described.append(f"{text},offset={start}")
+    return test._replace(words=found), tuple(described)
+
+
+def place_of(test, word):
+    name, _, further = word.partition("+")
+    return int(word) if word.isdigit() else test.places[name] + int(further or 0)
+
+
+def described(test, text):
+    given = dict(part.split("=") for part in text.split(","))
+    return descriptions.described({name: place_of(test, given.pop(name)) for name in ("head", "tail", "slots")}, given)
+
+
+def opening_of(test):
+    """What the check asks of a text."""
+    numbers = [0] * (max(test.words, default=-4) // 4 + 1)
+    for place, word in test.words.items():
+        numbers[place // 4] = word
+    return certificates.Opening(tuple((tuple(hart.code), tuple(hart.registers.get(at, 0) for at in range(REGISTERS))) for hart in test.harts),
+                                tuple(numbers))
+
+
+def accepted(test, words_of_queues, is_quick=False):
+    """The text with a certificate that the search finds and the check accepts, or None."""
+    queues = [described(test, text) for text in words_of_queues]
+    found = searched(test, queues, is_quick)
+    if any(hart.refused for hart in found):
+        return None
+    return checked(test, reference.read(writer.text(queues, found)))
+
+
+def searched(test, queues, is_quick):
+    whole = harts.SECONDS, harts.TURNS
+    if is_quick:
+        harts.SECONDS = ((FEW_SECONDS,) * FEW_WAYS,)
+    harts.TURNS = [(0, at) for at in range(len(harts.SECONDS[0]))]
+    try:
+        return harts.Harts(test, queues).found()
+    finally:
+        harts.SECONDS, harts.TURNS = whole
+
+
+def unjudged(test, words_of_queues):
+    """The text with its queues alone, of which nothing is shown."""
+    queues = tuple(certificates.OpenedQueue(certificates.Queue(*queue[:13]), queue.start) for queue in (described(test, text) for text in words_of_queues))
+    return Accepted(test, opening_of(test), certificates.QueueCertificate(queues, ()), frozenset())
+
+
+def checked(test, certificate):
+    opening = opening_of(test)
+    if certificates.first_flaw(opening, certificate):
+        return None
+    return Accepted(test, opening, certificate, frozenset(
+        (i, h) for i, each in enumerate(certificate.queues) for h in (each.queue.sender, each.queue.receiver)
+        if certificates.accepts_loads(opening, certificate, i, h)))
+
+
+def mutants(test, seed):
+    """Texts with one instruction of one hart changed by chance, without an end."""
+    draw = Random(seed)
+    places = [(h, at) for h, hart in enumerate(test.harts) for at in range(len(hart.code))]
+    while True:
+        h, at = draw.choice(places)
+        old = test.harts[h].code[at]
+        new = NOP if draw.random() < 0.15 else old ^ 1 << draw.randrange(7, 32)
+        if new != old and words.decoded(new):
+            code = test.harts[h].code
+            changed = test.harts[h]._replace(code=[*code[:at], new, *code[at + 1:]])
+            yield test._replace(harts=[*test.harts[:h], changed, *test.harts[h + 1:]])

@@ -1,0 +1,200 @@
+"""A walk through a drawn run: the machine of tools/reference makes the entries, the protocol of protocol_trials judges each, and the
+certificate is followed from one listed state to the next, with the numbers that its forms are about."""
+
+import certificates
+import machine
+from protocol_trials import ownership
+from protocol_trials.machine import Access
+from protocol_trials.runs import RECEIVER, SENDER, THIRD, Counts
+
+MASK = machine.MASK
+KINDS = {"load": "load", "store": "store", "amo": "exchange"}
+
+
+class Ownership(ownership.Ownership):  # pylint: disable=super-init-not-called
+    """The protocol of ownership of one queue, of a run that something else makes."""
+
+    def __init__(self, queue, start):
+        self.queue = ownership.Queue(queue.index_width, queue.modulus, queue.size, queue.width, queue.capacity, queue.base, queue.scale,
+                                     queue.offset, (queue.head, queue.tail), queue.slots)
+        self.counts = Counts((start, start), (start, start))
+        self.parties = {queue.sender: SENDER, queue.receiver: RECEIVER}
+        places = (queue.head, queue.tail, queue.slots)
+        self.low, self.high = min(places), max(queue.head + queue.index_width, queue.tail + queue.index_width, queue.slots + queue.size * queue.width)
+
+    def share(self, hart):
+        """The own count of a hart's party, and how many positions it owns."""
+        p = self.parties.get(hart)
+        return None if p is None else (self.counts.count[p], self.end(p, self.counts) - self.counts.count[p])
+
+    def owns_load(self, hart, access):
+        p = self.parties.get(hart)
+        return p is None or all(self.owns_byte(p, self.counts, x) for x in access.bytes() if self.is_slot_byte(x))
+
+
+# ---- certificates as functions
+
+
+def written(form):
+    return " + ".join([str(form.constant), *(f"{m} * n[{j}]" for j, m in enumerate(form.factors) if m)])
+
+
+def function(names, source, **known):
+    return eval(f"lambda {names}: {source}", known)  # pylint: disable=eval-used
+
+
+class Followed:
+    """A certificate: in which listed state of a hart a walk is, and with which numbers."""
+
+    def __init__(self, accepted):
+        self.certificate, self.opening = accepted.certificate, accepted.opening
+        self.index_words = [each.queue.index_word for each in self.certificate.queues]
+        self.inside, self.leaves = {}, {}
+
+    def first(self, h):
+        part = self.certificate.harts[h]
+        return part.first, tuple(part.numbers)
+
+    def is_inside(self, h, at, n, state):
+        """Whether a listed state with these numbers is the hart's state."""
+        if (h, at) not in self.inside:
+            self.inside[h, at] = self.inside_of(h, at)
+        return self.inside[h, at](n, *state)
+
+    def inside_of(self, h, at):
+        known, own = self.certificate.harts[h].states[at].known, self.certificate.harts[h].own
+        terms = [f"pc == {known.pc}", f"len(n) == {len(known.ranges)}"]
+        terms += [f"n[{j}] <= {most}" for j, most in enumerate(known.ranges) if most is not None]
+        terms += [f"r[{j}] == {self.value(v)}" for j, v in enumerate(known.registers) if v is not certificates.ANY]
+        terms += [f"read({a}) == {self.value(v)}" for a, v in zip(own, known.words) if v is not certificates.ANY]
+        terms += [f"s[{i}] == ({written(share.own)}, {written(share.owned)})" for i, share in enumerate(known.shares)
+                  if certificates.party_of(self.certificate.queues[i].queue, h)]
+        return function("n, pc, r, read, s", " and ".join(terms), word=self.index_words)
+
+    @staticmethod
+    def value(v):
+        return f"({written(v.form)}) & {MASK}" if isinstance(v, certificates.Linear) else f"word[{v.queue}]({written(v.form)})"
+
+    def after(self, h, at, n, state):
+        """The listed state that follows, with its numbers, where the hart is in this state after one instruction; or None."""
+        cases = self.certificate.harts[h].states[at].cases
+        while isinstance(cases, certificates.Split):
+            if n[cases.variable] <= cases.limit:
+                cases = cases.low
+            else:
+                j = cases.variable
+                n, cases = (*n[:j], n[j] - cases.limit - 1, *n[j + 1:]), cases.high
+        if (h, at) not in self.leaves:
+            self.leaves[h, at] = dict(self.arrows(h, at))
+        for pc, new, to, numbers in self.leaves[h, at][id(cases)]:
+            if pc == state[0]:
+                following = numbers((new((0, *n), *state), *n))
+                if self.is_inside(h, to, following, state):
+                    return to, following
+        return None
+
+    def arrows(self, h, at):
+        """For each leaf, and each state that follows it: its pc, what finds the new variable, which state is listed, and its numbers."""
+        steps, code = certificates.steps_of(self.certificate, h), self.opening.harts[h][0]
+        known, cases = self.certificate.harts[h].states[at]
+        for k, leaf in certificates.leaves(known, cases):
+            following = steps.follow(k, leaf.handed, certificates.instruction_at(code, k.pc))
+            yield id(leaf), [(each.pc, self.new_variable(each), arrow.to,
+                              function("n", f"({''.join(written(form) + ', ' for form in arrow.forms)})")) for each, arrow in zip(following, leaf.arrows)]
+
+    @staticmethod
+    def new_variable(state):
+        """What finds the number that the step brought: from how much is owned now, or from what is in a register."""
+        if state.ranges[0] != 0:
+            for i, share in enumerate(state.shares):
+                if share.owned.factors[:1] == (1,):
+                    return function("n, pc, r, read, s", f"s[{i}][1] - ({written(share.owned)})")
+            for j, v in enumerate(state.registers):
+                if isinstance(v, certificates.Linear) and v.form.factors[:1] == (1,):
+                    return function("n, pc, r, read, s", f"r[{j}] - ({written(v.form)}) & {MASK}")
+        return function("n, pc, r, read, s", "0")
+
+
+# ---- walks
+
+
+class Test:
+    """What the machine takes: the code and the opening."""
+
+    def __init__(self, test):
+        self.codes = [[certificates.meaning(word) or ("illegal",) for word in hart.code] for hart in test.harts]
+        self.registers = {(h, at): word for h, hart in enumerate(test.harts) for at, word in hart.registers.items()}
+        self.words, self.inboxes = test.words, {}
+
+
+class Walks:
+    """Drawn runs of a text: `breaches` and `outside` name the first of each, and `entries` and `taken` count entries and records. A
+    certificate without harts isn't followed."""
+
+    def __init__(self, accepted):
+        self.accepted, self.test, self.followed = accepted, Test(accepted.test), Followed(accepted)
+        self.harts = range(len(self.test.codes))
+        self.events = [("a", h) for h in self.harts] + [("l", h) for h in self.harts]
+        self.breaches, self.outside, self.entries, self.taken = [], [], 0, 0
+
+    def walk(self, capacity, numbers):
+        """One run, of the events of these numbers, up to the first thing that must not be."""
+        made = machine.Machine(self.test, capacity)
+        state, events, step = made.opening, self.events, made.step
+        self.protocols = [Ownership(each.queue, each.start) for each in self.accepted.certificate.queues]
+        self.shares = [[protocol.share(h) for protocol in self.protocols] for h in self.harts]
+        follows = self.accepted.certificate.harts
+        at = [self.followed.first(h) for h in self.harts] if follows else []
+        for h, first in enumerate(at):
+            if not self.followed.is_inside(h, *first, self.seen(h, state)):
+                self.outside.append(f"hart {h} at its opening")
+                return
+        for event in map(events.__getitem__, numbers):
+            outcome, is_entry, state = step(state, event)
+            if not is_entry:
+                continue
+            self.entries += 1
+            if event[0] == "l":
+                continue
+            h = event[1]
+            kind, *parts = outcome.split()
+            name = kind.rstrip("12")
+            if name in KINDS:
+                self.enter(h, KINDS[name], int(kind[len(name):] or 4), parts)
+                if self.breaches:
+                    return
+            if not follows or name in ("stopped", "ended"):
+                continue
+            following = self.followed.after(h, *at[h], self.seen(h, state))
+            if following is None:
+                self.outside.append(f"hart {h} after {outcome}, from state {at[h][0]}")
+                return
+            at[h] = following
+        self.taken += sum(protocol.counts.count[RECEIVER] for protocol in self.protocols)
+
+    def seen(self, h, state):
+        """What a listed state speaks of: the pc, the registers, words as the hart reads them, and its shares."""
+        pc, registers, _, pending, _ = state[0][h]
+        return pc, registers, lambda a: word_read(pending, state[1], a), self.shares[h]
+
+    def enter(self, h, kind, width, parts):
+        """An access, by each queue's protocol."""
+        address = int(parts[1])
+        for i, protocol in enumerate(self.protocols):
+            if address + width <= protocol.low or protocol.high <= address:
+                continue
+            value = int(parts[-1])
+            access = Access(kind, address, width, int(parts[2]) if kind != "store" else 0, value if kind != "load" else 0)
+            party = protocol.parties.get(h, THIRD)
+            if not protocol.keeps(party, access):
+                self.breaches.append(f"queue {i}, hart {h}: {access}")
+            if kind != "store" and (i, h) in self.accepted.reads and not protocol.owns_load(h, access):
+                self.breaches.append(f"queue {i}, hart {h} loads what it doesn't own: {access}")
+            protocol.counts = protocol.counts_next(party, access)
+            self.shares[h][i] = protocol.share(h)
+
+
+def word_read(pending, memory, a):
+    if any(place < a + 4 and a < place + width for place, width, _ in pending):
+        return machine.number(machine.byte_read(pending, memory, a + i) for i in range(4))
+    return machine.word_at(memory, a)

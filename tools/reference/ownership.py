@@ -1,0 +1,152 @@
+"""Drawn runs of a litmus test, each held against a queue's protocol of ownership (docs/queues.md), for the command `queue`."""
+
+from collections import namedtuple
+
+from draws import event_of, runs_of
+from machine import Machine
+
+LOADS, STORES = {"load": 4, "load2": 2, "load1": 1}, {"store": 4, "store2": 2, "store1": 1}
+MOST = 2**64 - 1
+
+Breach = namedtuple("Breach", "hart pc address width value owned")
+
+
+class Counts:
+    """How far the parties of a queue have come, and what each knows of the other."""
+
+    def __init__(self, queue, start):
+        self.queue = queue
+        self.own = {queue.sender: start, queue.receiver: start}
+        self.known = dict(self.own)
+
+    def index(self, hart):
+        return self.queue.head if hart == self.queue.sender else self.queue.tail
+
+    def other_index(self, hart):
+        return self.queue.tail if hart == self.queue.sender else self.queue.head
+
+    def word(self, count):
+        return self.queue.base + self.queue.scale * ((count + self.queue.offset) % self.queue.modulus)
+
+    def least(self, count, word):
+        """The least count from this one on that the word stands for."""
+        turned = max(word - self.queue.base, 0) // self.queue.scale
+        return count + (turned + self.queue.modulus - (count + self.queue.offset) % self.queue.modulus) % self.queue.modulus
+
+    def owned(self, hart):
+        """The first position that a hart owns, and the first after it that it doesn't; of a third hart nothing."""
+        if hart not in self.own:
+            return None
+        return self.own[hart], self.known[hart] + (self.queue.capacity if hart == self.queue.sender else 0)
+
+    def loaded(self, hart, address, width, value):
+        if hart in self.own and (address, width) == (self.other_index(hart), self.queue.index_width):
+            self.known[hart] = self.least(self.known[hart], value)
+
+    def is_index(self, hart, address, width):
+        return hart in self.own and (address, width) == (self.index(hart), self.queue.index_width)
+
+    def may_store(self, hart, address, width, value):
+        owned = self.owned(hart)
+        if self.is_index(hart, address, width):
+            count = self.least(owned[0], value)
+            if self.word(count) == value and count <= owned[1]:
+                return True
+        return all(self.may_fill(owned, byte) for byte in range(address, address + width))
+
+    def may_fill(self, owned, byte):
+        q = self.queue
+        if q.slots <= byte < q.slots + q.size * q.width:
+            slot = (byte - q.slots) // q.width
+            return owned is not None and owned[0] + (slot - owned[0]) % q.size < owned[1]
+        return not any(place <= byte < place + q.index_width for place in (q.head, q.tail))
+
+    def stored(self, hart, address, width, value):
+        if self.is_index(hart, address, width):
+            self.own[hart] = self.least(self.own[hart], value)
+
+
+class Runs:
+    """A test's runs, judged by one queue. What an event makes of a state is kept."""
+
+    def __init__(self, test, capacity, queue, start):
+        self.harts, self.machine, self.queue, self.start = len(test.codes), Machine(test, capacity), queue, start
+        self.known = {}
+
+    def step(self, state, event):
+        if (state, event) not in self.known:
+            self.known[state, event] = self.machine.step(state, event)
+        return self.known[state, event]
+
+    def judged(self, events):
+        """The first breach of a run, or None, and the counts."""
+        state, counts = self.machine.opening, Counts(self.queue, self.start)
+        for event in events:
+            outcome, is_entry, after = self.step(state, event)
+            if is_entry and event[0] == "a":
+                breach = self.breach(outcome, state, counts)
+                if breach:
+                    return breach, counts
+            state = after
+        return None, counts
+
+    @staticmethod
+    def breach(outcome, state, counts):
+        """What an entry of a hart breaks, or None; the counts take it in."""
+        name, *numbers = outcome.split()
+        if name not in (*LOADS, *STORES, "amo"):
+            return None
+        hart, *numbers = map(int, numbers)
+        if name in LOADS:
+            counts.loaded(hart, numbers[0], LOADS[name], numbers[1])
+            return None
+        if name == "amo":
+            address, old, value = numbers
+            counts.loaded(hart, address, 4, old)
+            width, is_free = 4, value == old
+        else:
+            (address, value), width, is_free = numbers, STORES[name], False
+        if not is_free and not counts.may_store(hart, address, width, value):
+            return Breach(hart, state[0][hart][0], address, width, value, counts.owned(hart))
+        counts.stored(hart, address, width, value)
+        return None
+
+    def breaks(self, events, hart):
+        breach, _ = self.judged(events)
+        return breach is not None and breach.hart == hart
+
+    def shortened(self, events, hart):
+        """A part of these events that this hart breaks the protocol in first, and doesn't without any one of them. docs/looking.md
+        has the order in which pieces are tried."""
+        size = len(events) // 2
+        while size > 1:
+            events = self.without_pieces(events, size, hart)
+            size //= 2
+        while (left := self.without_pieces(events, 1, hart)) != events:
+            events = left
+        return events
+
+    def without_pieces(self, events, size, hart):
+        at = 0
+        while at < len(events):
+            left = events[:at] + events[at + size:]
+            if self.breaks(left, hart):
+                events = left
+            else:
+                at += size
+        return events
+
+
+def trial(runs, number, drawing):
+    """The events of the first run that breaks the protocol, made short, and its breach; or None, and how many positions the parties
+    published and took in all of them."""
+    published = taken = 0
+    for numbers in runs_of(runs.harts, number, *drawing):
+        events = [event_of(k, runs.harts) for k in numbers]
+        breach, counts = runs.judged(events)
+        if breach:
+            events = runs.shortened(events, breach.hart)
+            return (events, runs.judged(events)[0]), None
+        published += counts.own[runs.queue.sender] - runs.start
+        taken += counts.own[runs.queue.receiver] - runs.start
+    return None, (min(published, MOST), min(taken, MOST))
