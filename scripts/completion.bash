@@ -4,7 +4,7 @@ _ztso() {
     local at position=0 options='' words='' inputs=()
     for ((at = 2; at < COMP_CWORD; at++)); do
         case ${COMP_WORDS[at]} in
-        --svg | --memory | --steps | --finish) ;;
+        --svg | --memory | --steps | --unfinished | --finish) ;;
         --*) ((++at)) ;;
         *) ((++position)) ;;
         esac
@@ -19,12 +19,12 @@ _ztso() {
     debug) inputs=(files files) options='--buffer' ;;
     check) inputs=(files) options='--buffer' ;;
     find) inputs=(files) options='--buffer --states' ;;
-    try) inputs=(files) options='--buffer --seed --runs --length --skip --draw --jobs' ;;
+    try) inputs=(files) options='--buffer --seed --runs --length --skip --draw --unfinished --jobs' ;;
     threads) inputs=(files) options='--buffer --turns' ;;
     channel) inputs=('lamport fastforward cached own' '' files) options='--buffer --base --stride --finish --sender --receiver' ;;
     ring) inputs=(files files '') options='--buffer --seed --runs --length --skip --draw --jobs --base --stride' ;;
     callers) inputs=(files) options='--buffer --seed --runs --length --skip --draw --jobs --slots --base --sender --receiver --kind' ;;
-    queue) inputs=(files) options='--certificate' ;;
+    queue) inputs=(files) options='--buffer --seed --runs --length --skip --draw --jobs --certificate' ;;
     steps) inputs=() options='--buffer' ;;
     asm) inputs=() options='' ;;
     dis) inputs=() options='' ;;
@@ -34,6 +34,7 @@ _ztso() {
     elif ((at > COMP_CWORD)); then
         case $last in
         --buffer) words='1 2 4 16' ;;
+        --draw) words='uniform bursts' ;;
         --draw) words='uniform bursts' ;;
         --kind) words='lamport cached fastforward' ;;
         --sender) [[ ' channel ' != *" $command "* ]] || compopt -o default ;;

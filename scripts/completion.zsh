@@ -91,6 +91,7 @@ _ztso() {
             '--length[how many events each schedule has, 0 to 1048576]:L:()' \
             '--skip[the first K runs of the seed are passed over, 0 to 18446744073709551615; 0 if it is left out]:K:()' \
             '--draw[schedules are drawn so: each event by itself, or in bursts of one hart: uniform or bursts; uniform if it is left out]:DRAW:(uniform bursts)' \
+            '--unfinished[the last line ends with the schedule of the first run that didn'\''t finish]' \
             '--jobs[J threads share the runs, with the same output, 1 to 64; 1 if it is left out]:J:()' \
             '1:FILE:_files'
         ;;
@@ -145,6 +146,13 @@ _ztso() {
         ;;
     queue)
         _arguments \
+            '--buffer[a hart'\''s store buffer holds N stores: 1, 2, 4 or 16; 4 if it is left out]:N:(1 2 4 16)' \
+            '--seed[the generator'\''s seed, 0 to 18446744073709551615; 1 if it is left out]:S:()' \
+            '--runs[how many schedules are drawn, 1 to 100000; 1000 if it is left out]:N:()' \
+            '--length[how many events each schedule has, 0 to 1048576; 1000 if it is left out]:L:()' \
+            '--skip[the first K runs of the seed are passed over, 0 to 18446744073709551615; 0 if it is left out]:K:()' \
+            '--draw[schedules are drawn so: uniform or bursts; bursts if it is left out]:DRAW:(uniform bursts)' \
+            '--jobs[J threads share the runs, with the same output, 1 to 64; 1 if it is left out]:J:()' \
             '--certificate[the certificate of the text'\''s queues]:C:_files' \
             '1:FILE:_files'
         ;;

@@ -114,6 +114,8 @@ function print_files() {
         print word["FILE"]
     if ("SCHEDULE" in word)
         print word["SCHEDULE"]
+    if ("--certificate" in given)
+        print given["--certificate"]
 }
 
 BEGIN {

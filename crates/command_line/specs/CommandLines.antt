@@ -54,6 +54,10 @@ found_by matches = λ id. first_of id (rows_of (found_of matches))
 abbrev pub number_at : Found → (name : Text) → (least most : ℕ) → Option ℕ
 number_at options name least most = options name >>= number_within least most
 
+-- whether a flag with this value is given
+abbrev pub flag_given : Text → Bool
+flag_given text = bytes_eq text (codes "true")
+
 -- the seed of the generator that draws schedules
 abbrev pub seed_in : Found → Option ℕ
 seed_in options = number_at options (codes "seed") 0 18446744073709551615
@@ -80,7 +84,8 @@ try_in options = do
   seed ← seed_in options
   draw ← draw_in options
   runs ← runs_in options
-  Some (Machine (Try seed draw runs))
+  unfinished ← options (codes "unfinished")
+  Some (Machine (Try seed draw runs (flag_given unfinished)))
 
 abbrev pub queue_kind_given : Text → Option QueueKind
 queue_kind_given text =
@@ -106,14 +111,18 @@ callers_in options = do
   queue ← queue_in options
   Some (Machine (Callers seed draw runs queue))
 
+-- the runs of `queue`, from its options
+abbrev pub certified_in : Found → Option Command
+certified_in options = do
+  seed ← seed_in options
+  draw ← draw_in options
+  runs ← runs_in options
+  Some (Queue seed draw runs)
+
 abbrev pub ring_given : Text → Option Ring
 ring_given text =
     if bytes_eq text (codes "lamport") then Some Lamport
     else (if bytes_eq text (codes "fastforward") then Some FastForward else (if bytes_eq text (codes "cached") then Some LamportCached else None))
-
--- whether a flag with this value is given
-abbrev pub flag_given : Text → Bool
-flag_given text = bytes_eq text (codes "true")
 
 -- a number of 32 bits, if one is said; none where that is no such number
 abbrev pub number_if_given : Option Text → Option (Option ℕ)
@@ -298,7 +307,7 @@ job_by name options =
     else (if bytes_eq name (codes "channel") then on_channel options
     else (if bytes_eq name (codes "threads") then on_file options (threads_in options)
     else (if bytes_eq name (codes "ring") then on_programs_and_standard options (ring_in options)
-    else (if bytes_eq name (codes "queue") then on_file_and_certificate options (Some Queue)
+    else (if bytes_eq name (codes "queue") then on_file_and_certificate options (certified_in options)
     else on_file_and_schedule options (scheduled_in name options))))))))))))
 
 -- the same, by what clap found

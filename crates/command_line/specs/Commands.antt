@@ -50,7 +50,7 @@ commands =
     ∷ row (codes "debug") (file ∷ schedule ∷ buffer ∷ [])
     ∷ row (codes "check") (file ∷ buffer ∷ [])
     ∷ row (codes "find") (file ∷ buffer ∷ defaulted (codes "states") (codes "1000000") ∷ [])
-    ∷ row (codes "try") (file ∷ buffer ∷ seed ∷ runs ∷ length ∷ skip ∷ draw ∷ jobs ∷ [])
+    ∷ row (codes "try") (file ∷ buffer ∷ seed ∷ runs ∷ length ∷ skip ∷ draw ∷ flag (codes "unfinished") ∷ jobs ∷ [])
     ∷ row (codes "threads") (file ∷ buffer ∷ defaulted (codes "turns") (codes "100000") ∷ [])
     ∷ row (codes "channel") (positional (codes "kind") ∷ ring ∷ schedule ∷ buffer ∷ base ∷ stride ∷ flag (codes "finish") ∷ optional (codes "sender")
     ∷ optional (codes "receiver") ∷ [])
@@ -58,7 +58,8 @@ commands =
     ∷ stride ∷ [])
     ∷ row (codes "callers") (file ∷ buffer ∷ seed ∷ runs ∷ length ∷ skip ∷ draw ∷ jobs ∷ required (codes "slots") ∷ base
     ∷ defaulted (codes "sender") (codes "0") ∷ defaulted (codes "receiver") (codes "1") ∷ defaulted (codes "kind") (codes "lamport") ∷ [])
-    ∷ row (codes "queue") (file ∷ required (codes "certificate") ∷ [])
+    ∷ row (codes "queue") (file ∷ buffer ∷ defaulted (codes "seed") (codes "1") ∷ defaulted (codes "runs") (codes "1000")
+    ∷ defaulted (codes "length") (codes "1000") ∷ skip ∷ defaulted (codes "draw") (codes "bursts") ∷ jobs ∷ required (codes "certificate") ∷ [])
     ∷ row (codes "steps") (buffer ∷ [])
     ∷ row (codes "asm") []
     ∷ row (codes "dis") []

@@ -76,11 +76,13 @@ pub enum MachineCommand {
     Check,
     /// To walk along a schedule's run of a litmus test, at the commands on standard input.
     Debug,
-    /// To make these runs of a litmus test, by schedules that are drawn from a generator of this seed.
+    /// To make these runs of a litmus test, by schedules that are drawn from a generator of this seed, and to write the
+    /// schedule of the first that is `unfinished`, if that is asked.
     Try {
         seed: u64,
         draw: Draw,
         runs: Runs,
+        unfinished: bool,
     },
     /// To make these runs of a litmus test whose harts call this queue's functions, by schedules that are drawn from a
     /// generator of this seed, and to tell what its callers owe.
@@ -134,8 +136,13 @@ pub enum Command {
         runs: Runs,
         place: BlockPlace,
     },
-    /// To tell whether a certificate shows that every run of a litmus text keeps the protocol of the certificate's queues.
-    Queue,
+    /// To tell whether a certificate shows that every run of a litmus text keeps the protocol of the certificate's queues, and otherwise
+    /// whether one of these runs breaks it, by schedules that are drawn from a generator of this seed.
+    Queue {
+        seed: u64,
+        draw: Draw,
+        runs: Runs,
+    },
 }
 
 /// What a command line asks for: a command, the buffers of its machine, and its inputs in the order in which they are

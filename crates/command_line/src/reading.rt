@@ -3,7 +3,7 @@
 ghost use Rattle.std.specs.Prelude.{◌≡◌, ◌∷◌, ℕ, List, IfOk, map, option_and_then, option_map, Some};
 ghost use Rattle.clap.specs.Words.{FailsBy, fault_of, subcommand_of, subcommand_rows_of};
 ghost use Rattle.command_line.specs.CommandLines.{GivesJob, found_by, job_by, capacity_given, capacity_in, job_at, channel_in, chart_in, find_in, flag_given};
-ghost use Rattle.command_line.specs.CommandLines.{callers_in, draw_given, queue_in, queue_kind_given};
+ghost use Rattle.command_line.specs.CommandLines.{callers_in, certified_in, draw_given, queue_in, queue_kind_given};
 ghost use Rattle.command_line.specs.CommandLines.{show_in, style_given, selection_given, job_given, number_if_given};
 ghost use Rattle.command_line.specs.CommandLines.{number_at, own_in, on_file, on_file_and_schedule, on_channel};
 ghost use Rattle.command_line.specs.CommandLines.{on_file_and_certificate, on_file_and_standard, on_own_channel, on_programs_and_standard};
@@ -90,7 +90,7 @@ fn job_by<'a>(name: &str, options: &ArgMatches<'a>) -> Option<Job<'a>>
         "channel" => on_channel(options),
         "threads" => on_file(options, threads_in(options)),
         "ring" => on_programs_and_standard(options, ring_in(options)),
-        "queue" => on_file_and_certificate(options, Some(Command::Queue)),
+        "queue" => on_file_and_certificate(options, certified_in(options)),
         _ => { on_file_and_schedule(options, scheduled_in(name, options)) }
     }
 }
@@ -325,7 +325,13 @@ fn try_in(options: &ArgMatches<'_>) -> Option<Command>
     let seed = seed_in(options)?;
     let draw = draw_of(word_in(options, "draw")?)?;
     let runs = runs_in(options)?;
-    Some(Command::Machine(MachineCommand::Try { seed, draw, runs }))
+    let unfinished = flag_of(word_in(options, "unfinished")?);
+    Some(Command::Machine(MachineCommand::Try {
+        seed,
+        draw,
+        runs,
+        unfinished,
+    }))
 }
 
 /// The queue whose functions code calls.
@@ -361,6 +367,16 @@ fn callers_in(options: &ArgMatches<'_>) -> Option<Command>
         runs,
         queue,
     }))
+}
+
+/// The runs that `queue` is to make where a certificate isn't accepted.
+fn certified_in(options: &ArgMatches<'_>) -> Option<Command>
+    ensures { result ≡ certified_in (found_by options.now) }
+{
+    let seed = seed_in(options)?;
+    let draw = draw_of(word_in(options, "draw")?)?;
+    let runs = runs_in(options)?;
+    Some(Command::Queue { seed, draw, runs })
 }
 
 /// The runs that `ring` is to make, and of which channel.

@@ -25,7 +25,7 @@ use std::io::BufReader;
 use std::sync::Wait;
 use std::thread::Threads;
 use threading::threads::threads_engine;
-use tries::trials::{Runs, try_engine};
+use tries::trials::{Runs, Unfinished, try_engine};
 use view_engines::charting::{Selection, Style, chart_engine};
 use view_engines::showing::{Form, show_engine};
 use view_engines::shrinking::shrink_engine;
@@ -210,6 +210,7 @@ pub fn answer(
                 rt,
                 alloc,
                 first,
+                Unfinished::Counted,
                 Draw::Uniform,
                 &generator,
                 runs,

@@ -206,7 +206,7 @@ fn right_callers_of_fastforwards_are_kept_and_each_debt_is_named(rt: HostRuntime
         ),
         (
             "[p0]=0; ",
-            "ztso-schedule 1\nthe indices open as 0 and 4, not alike\n",
+            "ztso-schedule 1\nthe slot at 132 opens as 0, where a word waits\n",
         ),
         (
             "[p32]=9; ",
@@ -243,17 +243,17 @@ fn right_callers_with_a_cached_tail_are_kept_and_each_debt_is_named(rt: HostRunt
         (
             "[p1]=2; ",
             1,
-            "ztso-schedule 1\nthe copy of the tail at 4 opens as 2, not as the offset of a slot\n",
+            "ztso-schedule 1\nthe copy of the tail at 4 opens as 2, not as an offset that the tail can have had\n",
         ),
         (
             "[p1]=8; ",
             1,
-            "ztso-schedule 1\nthe copy of the tail at 4 opens as 8, not as the offset of a slot\n",
+            "ztso-schedule 1\nthe copy of the tail at 4 opens as 8, not as an offset that the tail can have had\n",
         ),
         (
             "[p0]=0; [p1]=8; ",
             1,
-            "ztso-schedule 1\nthe indices open as 0 and 4, not alike\n",
+            "ztso-schedule 1\nthe copy of the tail at 4 opens as 8, not as an offset that the tail can have had\n",
         ),
         (
             "",
