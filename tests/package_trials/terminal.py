@@ -33,7 +33,7 @@ ztso: read failed
 """
 CUT = """\
 ztso: cut at 1 states
-  `find` stopped when it had seen this number of distinct states, and none of them is the end of a finished run with the outcome that the test asks about. The exit status is 5.
+  `find` stopped at this number of distinct states, and none of them shows the outcome.
 """
 # words that ask for no job, and what is wrong with them
 WRONG = ((("run",), "FILE is missing"), (("run", "a", "b", "c"), "`c` is one word too many"), (("no-command",), "`no-command` is no command"),

@@ -93,8 +93,8 @@ def draws(count, served):
         got, answer = served.ask("draw", **ask | more)
         count.told(f"a draw with {more}", got == status, answer)
         if got == 200:
-            wanted = by_reference("try", SB, *(f"--{name}={value}" for name, value in {**ask, **more}.items()
-                                              if name in ("draw", "seed", "skip", "runs", "length")))
+            wanted = by_reference("try", SB, "--unfinished", *(f"--{name}={value}" for name, value in {**ask, **more}.items()
+                                                              if name in ("draw", "seed", "skip", "runs", "length")))
             made = [" ".join([str(row["count"]), *row["values"], ";", row["tokens"]]) for row in answer["rows"]]
             last = f"unfinished {answer['unfinished']}" + ("" if answer["first"] is None else f" ; {answer['first']}")
             count.told(f"which are the reference's, {more}", [*made, last] == wanted.splitlines(), answer)

@@ -17,6 +17,8 @@
 //! [`write_instr`] appends the text of `Writing`; [`laws::read_again`]: that text is a program of the
 //! instruction again, and the code of the word that [`rv_decode::encode`] gives it.
 //! This crate reads no file, relaxes no jump, and knows no section, directive or macro.
+//!
+//! Called by `litmus_reader`, `code_engines`, `view_engines`, `channel_engines` and `certifying`.
 
 #![tactic(auto)]
 

@@ -4,6 +4,8 @@
 //! The contract: [`check_callers`] states what it answers of the runs that the generator's words draw (`specs/Answers.antt`): that
 //! the queue's theorem holds of each, or the first debt (`specs/Debts.antt`) with a short schedule of a run that has it.
 //! This crate judges nothing that callers receive, and claims nothing of other runs.
+//!
+//! Called by `ztso`.
 
 #![tactic(auto)]
 

@@ -9,6 +9,8 @@
 //! where its numbers are within the limits (`specs/Written.antt`); [`push_state`] writes the lines of one state, and
 //! [`push_known_at`] what is known where a certificate has a flaw.
 //! This crate opens no file and judges no certificate: what it returns may name states and pcs that aren't there.
+//!
+//! Called by `certifying`.
 
 #![tactic(auto)]
 

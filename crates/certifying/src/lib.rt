@@ -4,6 +4,8 @@
 //! The contract: the engine's clause says what it writes for what its readers tell, byte for byte (`IsQueueAnswer`), and
 //! [`laws::laws_of_answers`] what a `kept` and a `broken` mean. This crate finds no certificate, knows no command line, opens no file and names
 //! no standard stream. It has no tests: the cases of the program run the engine.
+//!
+//! Called by `ztso`.
 
 #![tactic(auto)]
 

@@ -15,6 +15,8 @@
 //! text or on a line, for at most 255 harts and fewer than 10^7 entries. [`laws_of_columns`] states that columns
 //! stand still while a run grows, where no row needs more than the test's least widths (`FitsColumns`).
 //! This crate runs no machine: it reads entries alone.
+//!
+//! Called by `command_line` and `view_engines`.
 
 #![tactic(auto)]
 

@@ -6,6 +6,8 @@
 //! of the outcomes. It has no tests: the cases of the program run it.
 //! This crate names no file, keeps no record longer than it takes to judge it, and never says that no run has
 //! some outcomes: it judges one order of events.
+//!
+//! Called by `ztso`.
 
 #![tactic(auto)]
 

@@ -4,6 +4,8 @@
 //! spelling that `specs/Uses.antt` defines. The table `specs/Commands.antt` has each command's words and options; clap's
 //! description is built of it (`specs/Descriptions.antt`).
 //! This crate does no job: it opens no file, and knows of an engine only the options that its command has.
+//!
+//! Called by `ztso`.
 
 #![tactic(auto)]
 

@@ -1,6 +1,8 @@
 //! FastForward: the sender stores a word into a slot that holds 0, the receiver takes it and stores 0
 //! there again. Neither looks at the other's index. The crate's contract is its instance of
 //! `RingKind`: the laws by which a channel over this ring delivers.
+//!
+//! Called by `ztso`.
 
 #![tactic(auto)]
 

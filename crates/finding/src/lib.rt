@@ -6,6 +6,8 @@
 //! Both are checked before anything is written: the machine runs the events, and `fewest` goes over the states that the
 //! survey met. So of the survey nothing is owed but how many states it saw. That there is no way where none was found, no
 //! clause says. It has no tests: the cases of the program run it.
+//!
+//! Called by `ztso`.
 
 #![tactic(auto)]
 

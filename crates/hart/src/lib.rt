@@ -3,6 +3,8 @@
 //! The contract: [`Hart::next_need`] is `need_of` and [`Hart::advance`] is `advanced` of
 //! `specs/Steps.antt`, which say by the manual's words what an instruction does to registers and pc.
 //! This crate knows no memory word, no store buffer and no other hart.
+//!
+//! Called by 12 crates, from `step_machine` to `ztso`.
 
 #![tactic(auto)]
 

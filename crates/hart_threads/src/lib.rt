@@ -12,6 +12,8 @@
 //! A call that may wait for a lock or a thread asks for `Wait`; of those nothing says that they return.
 //! Nothing is claimed of fairness, of the order in which threads get the lock, or of time. This crate
 //! reads and prints no text, and no crate below it asks for `Wait` or `Threads`.
+//!
+//! Called by `threading`.
 
 #![tactic(auto)]
 

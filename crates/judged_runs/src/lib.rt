@@ -4,6 +4,8 @@
 //! [`JudgedRuns`] are drawn runs that [`jumping::parallel::in_rounds`] spreads over jobs, and of what it finds
 //! [`told_of_runs`] tells that all are good and what they count to, or a short schedule that has a flaw like that of the first
 //! other one (`specs/Telling.antt`). This crate writes no text, and knows neither queue nor ring.
+//!
+//! Called by `ring_trials`, `ownership_runs`, `callers` and `certifying`.
 
 #![tactic(auto)]
 

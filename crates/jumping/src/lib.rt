@@ -5,6 +5,8 @@
 //! [`spreading::Trials`] knows of runs, however they were spread over rounds and jobs. [`draw_by`] draws the events of a run,
 //! each by itself or in bursts of one hart. What is reported through [`progress::Progress`] no clause says. This crate
 //! reads and writes no schedule.
+//!
+//! Called by 9 crates, from `judged_runs` to `ztso`.
 
 #![tactic(auto)]
 

@@ -3,6 +3,8 @@
 //!
 //! The contract: each function returns what the definition of its name in `queue_certificates` is of its arguments, or a [`Lack`],
 //! which decides nothing. Numbers never wrap. This crate knows no certificate, no state and no memory.
+//!
+//! Called by `queue_checker`, `certificate_reader` and `certifying`.
 
 #![tactic(auto)]
 

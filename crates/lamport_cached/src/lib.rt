@@ -1,6 +1,8 @@
 //! Lamport's ring whose sender keeps the tail that it read last in a register, and reads it anew only where the ring
 //! looks full by it, as MCRingBuffer does with the indices of both sides. The receiver is Lamport's. The crate's
 //! contract is its instance of `RingKind`: the laws by which a channel over this ring delivers.
+//!
+//! Called by `ztso`.
 
 #![tactic(auto)]
 

@@ -1,6 +1,8 @@
 //! Lamport's ring: the sender stores a word into its slot and then the head, the receiver takes it and
 //! stores the tail; equal head and tail mean empty, and one slot stays free. The crate's contract is
 //! its instance of `RingKind`: the laws by which a channel over this ring delivers.
+//!
+//! Called by `lamport_cached` and `ztso`.
 
 #![tactic(auto)]
 

@@ -5,6 +5,8 @@
 //! which no condition begins. [`Test::verdict`] and [`Test::values`] answer by the last registers and
 //! words of a machine's history (`specs/Verdicts.antt`).
 //! This crate runs no machine, and nothing in it recurses: a condition may be as deep as memory allows.
+//!
+//! Called by 13 crates, from `shrink` to `ztso`.
 
 #![tactic(auto)]
 

@@ -13,6 +13,8 @@
 //! of `Lines`; which place a fault is met at is shown by tests and cases alone.
 //! This crate opens no file, runs no test, and knows no other form of litmus texts than its own:
 //! a header line, an init part, a table of assembly statements and a condition.
+//!
+//! Called by `engine_support` and `view_engines`.
 
 #![tactic(auto)]
 

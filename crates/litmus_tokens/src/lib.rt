@@ -7,6 +7,8 @@
 //! the list of its tokens (`specs/Tokens.antt`), in time linear in the text.
 //! This crate knows no part of a litmus text but these tokens: it gives no location an address, asks no
 //! hart to be there, and joins no tokens to an expression.
+//!
+//! Called by `litmus_reader`.
 
 #![tactic(auto)]
 

@@ -6,6 +6,8 @@
 //!
 //! This crate knows no certificate. It judges queues of two indices alone: one whose slots tell whose they are breaks this protocol, and
 //! may keep that of `slots_that_tell`.
+//!
+//! Called by `certifying`.
 
 #![tactic(auto)]
 

@@ -6,6 +6,8 @@
 //! [`opening_at`]. The program opens by [`opening_at`], runs the events or the record itself, and takes the reports from
 //! [`reports_of`] and [`whole_reports_of`], which promise the same of them. This crate never looks into a machine: it
 //! stands on its histories.
+//!
+//! Called by 8 crates, from `hart_threads` to `ztso`.
 
 #![tactic(auto)]
 

@@ -4,6 +4,8 @@
 //! over a few numbers in ranges, and for each queue how many positions the hart has handed over and how many it owns. It is accepted
 //! where each instruction leads from each state into another of them and stores to the queues only what its hart may. The states may
 //! come from anywhere: nothing is assumed of how they were found. This crate runs nothing.
+//!
+//! Called by `certifying`.
 
 #![tactic(auto)]
 

@@ -3,6 +3,8 @@
 //! The contract: [`first_flaw`] returns the first part of a certificate that isn't accepted, and none exactly where `accepts` holds
 //! ([`laws_of_flaws`]); [`first_unowned`] does the same for the loads of one hart. A [`Lack`](known_values::Lack) decides nothing. This
 //! crate finds no certificate, reads no text and runs no machine.
+//!
+//! Called by `certificate_reader` and `certifying`.
 
 #![tactic(auto)]
 

@@ -2,6 +2,8 @@
 //! of them too.
 //!
 //! The contract is that of [`laws_of_instances`]. This crate runs nothing.
+//!
+//! Called by none: its laws are what it is for.
 
 #![tactic(auto)]
 

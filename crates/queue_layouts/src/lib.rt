@@ -2,6 +2,8 @@
 //!
 //! The contract: a [`Queue`] is seen as the record of `slot_queue` with the same fields. This crate defines the type alone, so that
 //! what decides of a run and what decides of a program speak of one.
+//!
+//! Called by `known_values` and `ownership_runs`.
 
 #![tactic(auto)]
 

@@ -2,6 +2,8 @@
 //! and the slots in which they lie, and records in the order of their positions.
 //!
 //! The contract is that of [`laws_of_positions`]. This crate runs nothing, and knows neither an index nor a tag.
+//!
+//! Called by none, and cited by 10 crates, from `slot_queue` to `certifying`.
 
 #![tactic(auto)]
 

@@ -6,6 +6,8 @@
 //! one ([`laws::one_plain_word`]).
 //! [`register_named`] answers the register of a name, by the table of `specs/Registers.antt`.
 //! This crate executes nothing, keeps no state and takes no memory.
+//!
+//! Called by 10 crates, from `hart` to `certifying`.
 
 #![tactic(auto)]
 

@@ -5,6 +5,8 @@
 //! (`IsShrunk` of `specs/Shrinking.antt`); a run that isn't finished is refused. [`shrink_run`] does so
 //! for a machine at the end of its run. [`leave_out`] makes lists short by any [`Question`] about them.
 //! This crate reads and writes no text, and promises no shortest list: only that each event is needed.
+//!
+//! Called by `judged_runs` and `view_engines`.
 
 #![tactic(auto)]
 

@@ -4,6 +4,8 @@
 //! Each slot has a tag. A party owns the positions from its own count up to what the tags that it loaded told it. It stores what it
 //! likes into the rest of slots that it owns, and hands its own position over by a store to the tag. The contract is that of
 //! [`laws_of_telling`]. This crate runs nothing.
+//!
+//! Called by none, and cited by `queue_instances`.
 
 #![tactic(auto)]
 

@@ -6,6 +6,8 @@
 //! [`Trees`] numbers lists of words that differ in few, which share what they have in common.
 //! [`Keys`] numbers states that are known by the numbers of their parts, each in the bits of a key that a [`Layout`] gives it.
 //! This crate knows no schedule and no way from one state to the next.
+//!
+//! Called by `finding` and `tries`.
 
 #![tactic(auto)]
 

@@ -5,6 +5,8 @@
 //! (`Happens` of `specs/Runs.antt`); registers, pending stores and memory words are read off that
 //! history by definitions that know no machine. This crate reads and prints no text, and nothing above
 //! it names how the history is kept.
+//!
+//! Called by 28 crates, from `ztso_axioms` to `certifying`.
 
 #![tactic(auto)]
 

@@ -2,6 +2,8 @@
 //! who reads it there, and when every hart reads what one hart reads.
 //!
 //! The contract is that of [`laws_of_store_buffers`]. This crate runs nothing.
+//!
+//! Called by none, and cited by 10 crates, from `slot_queue` to `certifying`.
 
 #![tactic(auto)]
 

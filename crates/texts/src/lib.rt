@@ -6,6 +6,8 @@
 //! spell a number. [`TextError`] is why a text has no value, for the faults of any grammar.
 //! `proofs/` has the laws that the grammars above share.
 //! This crate knows no grammar, names no fault and keeps nothing; only [`push_decimal`] takes memory.
+//!
+//! Called by 11 crates, from `assembler` to `channel_engines`.
 
 #![tactic(auto)]
 

@@ -3,6 +3,8 @@
 //! The contract: what `try_engine` writes is what a relation says of the runs that the generator's words
 //! draw, however they were spread over threads (`IsTryAnswer` of `specs/Outcomes.antt`). What it reports
 //! through [`jumping::progress::Progress`] no clause says. It has no tests: the cases of the program run it.
+//!
+//! Called by `ztso`.
 
 #![tactic(auto)]
 

@@ -6,6 +6,8 @@
 //! [`order_of`] gives the order in which a trace performed its operations, and
 //! [`traces_satisfy_ztso`] says that this order is allowed wherever the trace is one of a machine.
 //! This crate runs no machine and prints nothing; [`check`] takes no memory.
+//!
+//! Called by none: its laws are what it is for.
 
 #![tactic(auto)]
 

@@ -1,0 +1,57 @@
+"""What the first comment of each library's root ends with: which crates call it."""
+
+import re
+import sys
+
+from .links import ROOT
+
+sys.path.insert(0, str(ROOT / "scripts"))
+
+from crates import TOP, Crates  # noqa: E402
+
+NAMED = 6  # at most as many callers are named; of more the first and the last
+BEGINS = "//! Called by "
+
+
+def code(name):
+    """A crate's sources without comments."""
+    lines = (line for path in sorted((TOP / "crates" / name / "src").rglob("*.rt")) for line in path.read_text().split("\n"))
+    return "\n".join(line for line in lines if not line.lstrip().startswith("//"))
+
+
+def callers(crates):
+    """For each crate the crates whose sources name it, lowest first, tests aside."""
+    codes = {name: code(name) for name in crates.names if not name.startswith("tests_")}
+    return {name: [user for user in codes if name in crates.uses[user] and re.search(rf"\b{name}::", codes[user])] for name in codes}
+
+
+def said(name, users, crates):
+    """The line: its callers, or, of a library of definitions and laws that none calls, the crates that cite it."""
+    if not users:
+        citing = [user for user in crates.names if name in crates.uses[user] and not user.startswith("tests_")]
+        return f"{BEGINS}none, and cited by {listed(citing)}." if citing else f"{BEGINS}none: its laws are what it is for."
+    return f"{BEGINS}{listed(users)}."
+
+
+def listed(users):
+    names = [f"`{user}`" for user in users]
+    if len(names) > NAMED:
+        return f"{len(names)} crates, from {names[0]} to {names[-1]}"
+    return " and ".join([", ".join(names[:-1]), names[-1]] if len(names) > 1 else names)
+
+
+def wanted():
+    """Each library's root with the line that it should have."""
+    crates = Crates.read()
+    for name, users in callers(crates).items():
+        root = TOP / "crates" / name / "src/lib.rt"
+        if root.is_file():
+            yield root, said(name, users, crates)
+
+
+def wrong():
+    """A line for each root whose first comment doesn't end with its callers."""
+    for root, line in wanted():
+        comment = [row for row in root.read_text().split("\n\n", maxsplit=1)[0].split("\n") if row.startswith("//!")]
+        if not comment or comment[-1] != line:
+            yield f"{root.relative_to(TOP)}: its first comment should end with the line {line}"
