@@ -142,7 +142,7 @@ LOGS = [
     allowed(SB, 2, "no register or location 0:r9", stdin=LOG.replace("0:x7", "0:r9")),
     allowed(SB, 2, "no location w", stdin=LOG.replace("1:x7=0", "1:x7=w")),
     allowed(SB, 2, "the log's line 3", stdin=LOG.replace("1:x7=0", "~fault(P0)")),
-    allowed(SB, 2, "different left sides", stdin=LOG.replace(STATE, STATE + "\n1 :>0:x7=0;")),
+    allowed(SB, 2, "different observed locations", stdin=LOG.replace(STATE, STATE + "\n1 :>0:x7=0;")),
     allowed("no litmus", 2, "the header is `no`", stdin=LOG),
     allowed(SB, 2, "No such file", words=("no-log",)),
     allowed(SB, 2, "refused 25", stdin=LOG.replace("0:x7", filled("1", 9000) + ":x7")),

@@ -52,7 +52,7 @@ def drawn(program, entry, seed):
         counted, _, tokens = line.partition(" ;")
         equations = counted.split()[1:]
         if [equation.partition("=")[0] for equation in equations] != [left for left, _ in entry.test.lefts]:
-            raise Wrong(f"{entry.name}: the outcome {counted!r} has other left sides")
+            raise Wrong(f"{entry.name}: the outcome {counted!r} has other observed locations")
         values = tuple(int(equation.partition("=")[2]) for equation in equations)
         found[values] = schedules.read(f"{schedules.HEAD_LINE}\n{tokens}")
     return found

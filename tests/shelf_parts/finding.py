@@ -19,7 +19,7 @@ CONDITION = re.compile(r"^\s*(?:~exists|exists|forall)\b", re.MULTILINE)
 
 
 def asking(entry, values):
-    """The test's text, whose condition is that the left sides have these values."""
+    """The test's text, whose condition is that the observed locations have these values."""
     text = entry.path.read_text()
     front = text[:list(CONDITION.finditer(text))[-1].start()]
     equations = (f"{left}={value}" for (left, _), value in zip(entry.test.lefts, values))

@@ -27,7 +27,7 @@ SPELLINGS = {"&&": "/\\", "||": "\\/", "not": "~"}
 
 @dataclass(frozen=True)
 class Equation:
-    """`left=value`, or that it differs. A left side is `H:name`, `name` or `name[i]`."""
+    """`left=value`, or that it differs. An observed location is `H:name`, `name` or `name[i]`."""
     left: str
     value: str
     differs: bool = False
@@ -52,12 +52,12 @@ def pieces_of(text):
 
 
 def lefts_in(pieces):
-    """The left sides, each once, in order of first appearance."""
+    """The observed locations, each once, in order of first appearance."""
     return list(dict.fromkeys(piece.left for piece in pieces if isinstance(piece, Equation)))
 
 
 def always(place):
-    """A part that is always true, and has this left side."""
+    """A part that is always true, and has this observed location."""
     return f"({place}=0 \\/ ~{place}=0)"
 
 
@@ -116,7 +116,7 @@ class Ending:
         return list(dict.fromkeys([*lefts_in(self.pieces), *self.places, *lefts_in(self.filtered)]))
 
     def renamed(self, left_of, value_of):
-        """The same with other left sides and values."""
+        """The same with other observed locations and values."""
         def of(pieces):
             return [replace(piece, left=left_of(piece.left), value=value_of(piece.value))
                     if isinstance(piece, Equation) else piece for piece in pieces]

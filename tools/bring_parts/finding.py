@@ -29,7 +29,7 @@ class Sought:
 
 
 def equation(lefts, values):
-    """The condition that these left sides have these values."""
+    """The condition that these observed locations have these values."""
     return " /\\ ".join(f"{left}={value}" for left, value in zip(lefts, values))
 
 

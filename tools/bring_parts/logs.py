@@ -18,7 +18,7 @@ ASKED = {"exists": "Allowed", "~exists": "Forbidden", "forall": "Required"}
 
 def read(text):
     """For each test's name its states: how often each came, or None where the log doesn't count. A state is a tuple
-    of left sides and values as they stand. Where a log has a test several times, the counts are added."""
+    of observed locations and values as they stand. Where a log has a test several times, the counts are added."""
     results, states, listed = {}, None, 0
     for number, line in enumerate(text.split("\n"), 1):
         line = line.strip()
@@ -62,7 +62,7 @@ def names_in(text):
 
 
 def condition_by(names, condition):
-    """A condition without the parts that stand there for their left sides alone, by these names of registers."""
+    """A condition without the parts that stand there for their observed locations alone, by these names of registers."""
     condition = PARTS_OF_LOCATIONS.sub("", condition)
     condition = re.sub(r"^(\S+) \(\((.*)\)\)$", r"\1 (\2)", condition)
     return re.sub(r"\b[0-9]+:x[0-9]+\b", lambda left: names.get(left[0], left[0]), condition)

@@ -93,7 +93,7 @@ class Comparison:
         return sorted(set(self.ways[name].found.schedules) - set(self.ways[than].found.schedules))
 
     def lefts(self):
-        """The condition's left sides, by the names that C has for them."""
+        """The condition's observed locations, by the names that C has for them."""
         text = next(iter(self.ways.values())).text
         names = logs.names_in(text)
         return [names.get(left, left) for left, _ in litmus.read(text).lefts]

@@ -55,7 +55,7 @@ def row_of(hart, pc, line, word, text):
 
 
 def place_of(left, locations):
-    """What a left side of the condition stands for: a hart's register, or the word at an address."""
+    """What an observed location of the condition stands for: a hart's register, or the word at an address."""
     register = re.fullmatch("([0-9]+):x([0-9]+)", left)
     return ["register", *map(int, register.groups())] if register else ["word", locations[left]]
 

@@ -47,7 +47,7 @@ class Test:
     kind: str = ""
     # the condition in postfix: `("is", place, value)`, "not", "and", "or"
     condition: list = field(default_factory=list)
-    # the condition's left sides in order: the text and the place
+    # the condition's observed locations in order: the text and the place
     lefts: list = field(default_factory=list)
     name: str = ""
     # the condition in one line, without comments

@@ -13,18 +13,18 @@ use Rattle.rv_decode.specs.Listings.{Listed}
 use Rattle.spsc_queue.specs.RingBuffers.{slot_address}
 use Rattle.spsc_queue.specs.Calls.{copy_in, buffer, HasFunction}
 use Rattle.callers.specs.Queues.{kind_of, caches_tail, slots_after, start_in, waiting_in, spsc_of, sends_by, receives_by, HasFirstCopy, IsLocated}
-use Rattle.callers.specs.Debts.{waits_in, IsOldTail, IsOpeningDebt, first_debt}
-use Rattle.jumping.specs.declared.draws.Draw.{Draw}
+use Rattle.callers.specs.Violations.{waits_in, IsOldTail, IsOpeningViolation, first_caller_violation}
+use Rattle.drawn_runs.specs.declared.draws.Draw.{Draw}
 use Rattle.judged_runs.specs.Finding.{AreAllGood}
 use Rattle.judged_runs.specs.Histories.{summed}
 use Rattle.judged_runs.proofs.Histories.{runs_one}
 use Rattle.callers.specs.Counts.{MOST, AreCountsOf, are_none, sends as sends_in, receives as receives_in}
-use Rattle.callers.specs.Runs.{CallSource, call_source, call_schedule, KeepsObligations, HasDebt}
+use Rattle.callers.specs.Runs.{CallSource, call_source, call_schedule, KeepsObligations, HasCallerViolation}
 use Rattle.callers.specs.Answers.{IsCallersOutput, IsOutputOfRuns, kept_text}
 use Rattle.callers.specs.declared.counts.Counts.{Counts}
 use Rattle.callers.specs.declared.judging.Calls.{Calls}
-use Rattle.callers.specs.declared.debts.Debt.{Debt}
-use Rattle.callers.specs.declared.debts.Debt.TheVariants as debt
+use Rattle.callers.specs.declared.violations.CallerViolation.{CallerViolation}
+use Rattle.callers.specs.declared.violations.CallerViolation.TheVariants as violation
 use Rattle.callers.specs.declared.queue.QueueKind.{QueueKind}
 use Rattle.callers.specs.declared.queue.QueueKind.TheVariants as kind
 use Rattle.callers.specs.declared.queue.Queue.{Queue}
@@ -78,45 +78,45 @@ module _ (M : ℕ) (o : OpeningValue) (l : Located) (located : IsLocated M o l.q
     ],
   )
 
-  excluded : (d : Debt) → IsOpeningDebt M o l.queue d → ⊥
-  excluded debt.NoBlock has_debt = has_debt (at_any M l.queue l.start l.waiting 0 0 located.block)
-  excluded (debt.OneParty h) has_debt = located.parties (sym has_debt.0 ∙ has_debt.1)
-  excluded (debt.NoSend k h) has_debt = has_debt.2 l.send_line
-      (subst (λ (x : ℕ). HasFunction o x l.send_line (sends_by k)) (sym has_debt.1)
-      (subst (λ (x : QueueKind). HasFunction o l.queue.sender l.send_line (sends_by x)) (sym has_debt.0) located.sends.here))
-  excluded (debt.NoReceive k h) has_debt = has_debt.2 l.receive_line
-      (subst (λ (x : ℕ). HasFunction o x l.receive_line (receives_by k)) (sym has_debt.1)
-      (subst (λ (x : QueueKind). HasFunction o l.queue.receiver l.receive_line (receives_by x)) (sym has_debt.0) located.receives.here))
-  excluded (debt.NoOffset a w) has_debt = elim has_debt.0 [
+  excluded : (d : CallerViolation) → IsOpeningViolation M o l.queue d → ⊥
+  excluded violation.NoBlock has_violation = has_violation (at_any M l.queue l.start l.waiting 0 0 located.block)
+  excluded (violation.OneParty h) has_violation = located.parties (sym has_violation.0 ∙ has_violation.1)
+  excluded (violation.NoSend k h) has_violation = has_violation.2 l.send_line
+      (subst (λ (x : ℕ). HasFunction o x l.send_line (sends_by k)) (sym has_violation.1)
+      (subst (λ (x : QueueKind). HasFunction o l.queue.sender l.send_line (sends_by x)) (sym has_violation.0) located.sends.here))
+  excluded (violation.NoReceive k h) has_violation = has_violation.2 l.receive_line
+      (subst (λ (x : ℕ). HasFunction o x l.receive_line (receives_by k)) (sym has_violation.1)
+      (subst (λ (x : QueueKind). HasFunction o l.queue.receiver l.receive_line (receives_by x)) (sym has_violation.0) located.receives.here))
+  excluded (violation.NoOffset a w) has_violation = elim has_violation.0 [
     | inl head ↦ (
-        let is : w ≡ 4 * ((l.start + l.waiting) % S) = sym has_debt.1 ∙ ap (memory_word o []) head ∙ located.rest.head in
-        has_debt.2 (offset_is w ((l.start + l.waiting) % S) S is (mod-lt (l.start + l.waiting) (omega (arith, located.start)))))
+        let is : w ≡ 4 * ((l.start + l.waiting) % S) = sym has_violation.1 ∙ ap (memory_word o []) head ∙ located.rest.head in
+        has_violation.2 (offset_is w ((l.start + l.waiting) % S) S is (mod-lt (l.start + l.waiting) (omega (arith, located.start)))))
     | inr tail ↦ (
-        let is : w ≡ 4 * l.start = sym has_debt.1 ∙ ap (memory_word o []) tail ∙ at_start in has_debt.2 (offset_is w l.start S is located.start))
+        let is : w ≡ 4 * l.start = sym has_violation.1 ∙ ap (memory_word o []) tail ∙ at_start in has_violation.2 (offset_is w l.start S is located.start))
   ]
-  excluded (debt.NoCopy a w) has_debt =
-      let opens = located.rest.copy (l.queue.base + 4) (copy_at l.queue.kind l.queue.base has_debt.0) in
-      has_debt.3 (old_tail w opens.0 opens.1 opens.2 (sym has_debt.2 ∙ ap (memory_word o []) has_debt.1 ∙ opens.3))
-  excluded (debt.NotFree a w) has_debt =
-      let j : ℕ = has_debt.1.0 in
-      let free = waits_at j false has_debt.1.3 in
+  excluded (violation.NoCopy a w) has_violation =
+      let opens = located.rest.copy (l.queue.base + 4) (copy_at l.queue.kind l.queue.base has_violation.0) in
+      has_violation.3 (old_tail w opens.0 opens.1 opens.2 (sym has_violation.2 ∙ ap (memory_word o []) has_violation.1 ∙ opens.3))
+  excluded (violation.NotFree a w) has_violation =
+      let j : ℕ = has_violation.1.0 in
+      let free = waits_at j false has_violation.1.3 in
       let least : l.waiting ≤ slots_after S l.start j = grind (arith, nat_tests, free) in
-      has_debt.3 (sym has_debt.2 ∙ ap (memory_word o []) (has_debt.1.2 ∙ slot_at j has_debt.1.1)
-      ∙ located.rest.free has_debt.0 (slots_after S l.start j) least (mod-lt (j + S - l.start) (omega (arith, located.start))))
-  excluded (debt.NoWord a) has_debt =
-      let j : ℕ = has_debt.1.0 in
-      let waits = waits_at j true has_debt.1.3 in
+      has_violation.3 (sym has_violation.2 ∙ ap (memory_word o []) (has_violation.1.2 ∙ slot_at j has_violation.1.1)
+      ∙ located.rest.free has_violation.0 (slots_after S l.start j) least (mod-lt (j + S - l.start) (omega (arith, located.start))))
+  excluded (violation.NoWord a) has_violation =
+      let j : ℕ = has_violation.1.0 in
+      let waits = waits_at j true has_violation.1.3 in
       let most : slots_after S l.start j < l.waiting = grind (arith, nat_tests, waits) in
-      located.rest.words has_debt.0 (slots_after S l.start j) most
-      (sym (ap (memory_word o []) (has_debt.1.2 ∙ slot_at j has_debt.1.1)) ∙ has_debt.2)
-  excluded (debt.Wrote h pc a) has_debt = has_debt
-  excluded (debt.PassedBytes h bytes) has_debt = has_debt
-  excluded (debt.PassedWord h) has_debt = has_debt
-  excluded (debt.PassedReturn h back) has_debt = has_debt
+      located.rest.words has_violation.0 (slots_after S l.start j) most
+      (sym (ap (memory_word o []) (has_violation.1.2 ∙ slot_at j has_violation.1.1)) ∙ has_violation.2)
+  excluded (violation.Wrote h pc a) has_violation = has_violation
+  excluded (violation.PassedBytes h bytes) has_violation = has_violation
+  excluded (violation.PassedWord h) has_violation = has_violation
+  excluded (violation.PassedReturn h back) has_violation = has_violation
 
-pub no_opening_debt : (M : ℕ) (o : OpeningValue) (q : Queue) (l : Located) (d : Debt) → IsLocated M o q l → IsOpeningDebt M o q d → ⊥
-no_opening_debt M o q l d located has_debt = excluded M o l (subst (λ (x : Queue). IsLocated M o x l) (sym located.queue_is) located) d
-    (subst (λ (x : Queue). IsOpeningDebt M o x d) (sym located.queue_is) has_debt)
+pub no_opening_violation : (M : ℕ) (o : OpeningValue) (q : Queue) (l : Located) (d : CallerViolation) → IsLocated M o q l → IsOpeningViolation M o q d → ⊥
+no_opening_violation M o q l d located has_violation = excluded M o l (subst (λ (x : Queue). IsLocated M o x l) (sym located.queue_is) located) d
+    (subst (λ (x : Queue). IsOpeningViolation M o x d) (sym located.queue_is) has_violation)
 
 -- ---- it is used in one way
 
@@ -164,13 +164,13 @@ module _ (M : ℕ) (o : OpeningValue) (l m : Located) (one : IsLocated M o l.que
 
 -- ---- two answers
 
--- a run that keeps all that is owed has no debt
-kept_or_owing : (B M : ℕ) (o : OpeningValue) (l : Located) (events : List Event) (d : Debt) → KeepsObligations B M o l events
-    → HasDebt B M o l events d → ⊥
-kept_or_owing B M o l events d keeps has_debt =
-    let same : keeps.history ≡ has_debt.history = run-one B M (at_opening o) events keeps.history has_debt.history keeps.run has_debt.run in
+-- a run that keeps all that is owed has no violation
+kept_or_owing : (B M : ℕ) (o : OpeningValue) (l : Located) (events : List Event) (d : CallerViolation) → KeepsObligations B M o l events
+    → HasCallerViolation B M o l events d → ⊥
+kept_or_owing B M o l events d keeps has_violation =
+    let same : keeps.history ≡ has_violation.history = run-one B M (at_opening o) events keeps.history has_violation.history keeps.run has_violation.run in
     let none = none_owed B M o (spsc_of l) keeps.history.entries keeps.uses in
-    let some = ap (λ (t : History). first_debt M o (spsc_of l) t.entries) same ∙ has_debt.first in
+    let some = ap (λ (t : History). first_caller_violation M o (spsc_of l) t.entries) same ∙ has_violation.first in
     absurd (cc)
 
 abbrev calls_of : (sent full received empty : ℕ) → Calls
@@ -213,7 +213,7 @@ module _ (B M : ℕ) (o : OpeningValue) (q : Queue) (draw : Draw) (stream : Stre
       (kept.kept.good shown.is_told.number (omega arith) first.within) first.has
 
   never_both : IsCallersOutput B M o q draw stream runs size (text, true) → IsCallersOutput B M o q draw stream runs size (other, false) → ⊥
-  never_both kept (inl there) = no_opening_debt M o q kept.located there.debt kept.usable there.has_debt.0
+  never_both kept (inl there) = no_opening_violation M o q kept.located there.violation kept.usable there.has_violation.0
   never_both kept (inr owing) =
       let l = kept.located in
       let m = owing.located in

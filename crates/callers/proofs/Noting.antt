@@ -25,34 +25,34 @@ use Rattle.spsc_queue.specs.Calls.{Block, SpscQueue, is_in_call_after, is_in_cal
 use Rattle.spsc_queue.proofs.Completed.{is_in_call-last, same_call, own_call}
 use Rattle.spsc_queue.proofs.OwnEntries.{own_is}
 use Rattle.callers.specs.Queues.{spsc_of}
-use Rattle.callers.specs.Debts.{is_in_its_call, idle_debt, debt_of, debt_after, first_debt}
+use Rattle.callers.specs.Violations.{is_in_its_call, idle_violation, violation_of, violation_after, first_caller_violation}
 use Rattle.callers.proofs.Counting.{count_noted, land_counts}
 use Rattle.callers.specs.inner.Noting.{IsCallState, AreCallNotes, noted_call, found_by, notes_by, IsEventNoted}
-use Rattle.callers.specs.declared.debts.Debt.{Debt}
+use Rattle.callers.specs.declared.violations.CallerViolation.{CallerViolation}
 use Rattle.callers.specs.declared.queue.Located.{Located}
 use Rattle.callers.specs.declared.judging.CallState.{CallState}
 use Rattle.callers.specs.declared.judging.Notes.{Notes}
 
--- ---- the first debt among entries and one more
+-- ---- the first violation among entries and one more
 
-or-assoc : (a b c : Option Debt) → option_or (option_or a b) c ≡ option_or a (option_or b c)
+or-assoc : (a b c : Option CallerViolation) → option_or (option_or a b) c ≡ option_or a (option_or b c)
 or-assoc None b c = refl
 or-assoc (Some a) b c = refl
 
-or-none : (a : Option Debt) → option_or a None ≡ a
+or-none : (a : Option CallerViolation) → option_or a None ≡ a
 or-none None = refl
 or-none (Some a) = refl
 
 after_more : (M : ℕ) (o : OpeningValue) (q : SpscQueue) (front es : List Entry) (e : Entry)
-    → debt_after M o q front (es ++ e ∷ []) ≡ option_or (debt_after M o q front es) (debt_of M o q (front ++ es) e)
-after_more M o q front [] e = or-none (debt_of M o q front e) ∙ ap (λ ds. debt_of M o q ds e) (sym (append-nil front))
+    → violation_after M o q front (es ++ e ∷ []) ≡ option_or (violation_after M o q front es) (violation_of M o q (front ++ es) e)
+after_more M o q front [] e = or-none (violation_of M o q front e) ∙ ap (λ ds. violation_of M o q ds e) (sym (append-nil front))
 after_more M o q front (d ∷ es) e =
-    ap (option_or (debt_of M o q front d)) (after_more M o q (front ++ d ∷ []) es e
-    ∙ ap (λ ds. option_or (debt_after M o q (front ++ d ∷ []) es) (debt_of M o q ds e)) (append_assoc front (d ∷ []) es))
-    ∙ sym (or-assoc (debt_of M o q front d) (debt_after M o q (front ++ d ∷ []) es) (debt_of M o q (front ++ d ∷ es) e))
+    ap (option_or (violation_of M o q front d)) (after_more M o q (front ++ d ∷ []) es e
+    ∙ ap (λ ds. option_or (violation_after M o q (front ++ d ∷ []) es) (violation_of M o q ds e)) (append_assoc front (d ∷ []) es))
+    ∙ sym (or-assoc (violation_of M o q front d) (violation_after M o q (front ++ d ∷ []) es) (violation_of M o q (front ++ d ∷ es) e))
 
 first_more : (M : ℕ) (o : OpeningValue) (q : SpscQueue) (es : List Entry) (e : Entry)
-    → first_debt M o q (es ++ e ∷ []) ≡ option_or (first_debt M o q es) (debt_of M o q es e)
+    → first_caller_violation M o q (es ++ e ∷ []) ≡ option_or (first_caller_violation M o q es) (violation_of M o q es e)
 first_more M o q es e = after_more M o q [] es e
 
 -- ---- one entry more
@@ -77,22 +77,23 @@ module _ (M : ℕ) (o : OpeningValue) (es : List Entry) (e : Entry) (act : is_la
 
   found_noted : (q : SpscQueue) (notes : Notes) → AreCallNotes M o q es notes
       → state_of M (history_of o (es ++ e ∷ [])) (hart_of e) ≡ Some (advanced s (number_read e))
-      → found_by q notes e s (advanced s (number_read e)) ≡ first_debt M o q (es ++ e ∷ [])
+      → found_by q notes e s (advanced s (number_read e)) ≡ first_caller_violation M o q (es ++ e ∷ [])
   found_noted q notes are after =
-      ap (λ f. option_or f (if noted_call q notes (hart_of e) then None else idle_debt q e (Some s) (Some (advanced s (number_read e))))) are.found
-      ∙ ap (option_or (first_debt M o q es)) (sym debt_is) ∙ sym (first_more M o q es e)
+      ap (λ f. option_or f (if noted_call q notes (hart_of e) then None else idle_violation q e (Some s) (Some (advanced s (number_read e))))) are.found
+      ∙ ap (option_or (first_caller_violation M o q es)) (sym violation_is) ∙ sym (first_more M o q es e)
     where
       call_is : is_in_its_call M o q es (hart_of e) ≡ noted_call q notes (hart_of e)
       call_is = ap (λ b. if hart_of e == q.sender then b else (if hart_of e == q.receiver then is_receiver_in_call M o q [] es else false)) (sym are.sending)
           ∙ ap (λ b. if hart_of e == q.sender then notes.sending else (if hart_of e == q.receiver then b else false)) (sym are.receiving)
 
-      debt_is : debt_of M o q es e ≡ (if noted_call q notes (hart_of e) then None else idle_debt q e (Some s) (Some (advanced s (number_read e))))
-      debt_is = ap (λ b. if b || is_in_its_call M o q es (hart_of e) then None
-          else idle_debt q e (state_of M (history_of o es) (hart_of e)) (state_of M (history_of o (es ++ e ∷ [])) (hart_of e))) act
-          ∙ ap (λ b. if b then None else idle_debt q e (state_of M (history_of o es) (hart_of e))
+      violation_is : violation_of M o q es e ≡ (if noted_call q notes (hart_of e) then None
+          else idle_violation q e (Some s) (Some (advanced s (number_read e))))
+      violation_is = ap (λ b. if b || is_in_its_call M o q es (hart_of e) then None
+          else idle_violation q e (state_of M (history_of o es) (hart_of e)) (state_of M (history_of o (es ++ e ∷ [])) (hart_of e))) act
+          ∙ ap (λ b. if b then None else idle_violation q e (state_of M (history_of o es) (hart_of e))
           (state_of M (history_of o (es ++ e ∷ [])) (hart_of e))) call_is
-          ∙ ap (λ x. if noted_call q notes (hart_of e) then None else idle_debt q e x (state_of M (history_of o (es ++ e ∷ [])) (hart_of e))) before
-          ∙ ap (λ x. if noted_call q notes (hart_of e) then None else idle_debt q e (Some s) x) after
+          ∙ ap (λ x. if noted_call q notes (hart_of e) then None else idle_violation q e x (state_of M (history_of o (es ++ e ∷ [])) (hart_of e))) before
+          ∙ ap (λ x. if noted_call q notes (hart_of e) then None else idle_violation q e (Some s) x) after
 
   entry_noted : (q : SpscQueue) (notes : Notes) → AreCallNotes M o q es notes
       → state_of M (history_of o (es ++ e ∷ [])) (hart_of e) ≡ Some (advanced s (number_read e))
@@ -164,7 +165,7 @@ land_keeps : (M : ℕ) (o : OpeningValue) (q : SpscQueue) (es : List Entry) (h :
     → AreCallNotes M o q (es ++ entry.Land h ∷ []) notes
 land_keeps M o q es h notes are = record {
   calls = land_counts M o q es h notes.calls are.calls;
-  found = are.found ∙ sym (or-none (first_debt M o q es)) ∙ sym (first_more M o q es (entry.Land h));
+  found = are.found ∙ sym (or-none (first_caller_violation M o q es)) ∙ sym (first_more M o q es (entry.Land h));
   sending = are.sending ∙ same_call M o q.sender q.send_line q.block (is_sender_in_call M o q [] es) es (entry.Land h) (land_other q.sender (entry.Land h) refl)
       ∙ sym (call_more M o q.sender q.send_line q.block es (entry.Land h));
   receiving = are.receiving

@@ -12,7 +12,7 @@ use Rattle.spsc_queue.specs.RingBuffers.{Kind, lamport, fastforward, RingBuffer,
 use Rattle.spsc_queue.specs.Calls.{IsBlock, buffer}
 use Rattle.spsc_queue.proofs.Parts.{copied_in}
 use Rattle.callers.specs.Queues.{kind_of, caches_tail, block_at, slots_after, waiting_between, start_in, waiting_in, spsc_of}
-use Rattle.callers.specs.Debts.{IsOffset, waits_in, IsOldTail, AreAsOwedBelow}
+use Rattle.callers.specs.Violations.{IsOffset, waits_in, IsOldTail, AreAsOwedBelow}
 use Rattle.callers.specs.declared.queue.Queue.{Queue}
 use Rattle.callers.specs.declared.queue.Located.{Located}
 

@@ -1,4 +1,4 @@
--- A run with no debt keeps what callers owe.
+-- A run with no violation keeps what callers owe.
 use Rattle.std.proofs.Common.{ℕ, ◌≡◌, ◌≢◌, ◌==◌, ◌*◌, ◌||◌, Bool, true, false, List, [], ◌∷◌, ◌++◌, Option, Some, None}
 use Rattle.std.proofs.Common.{refl, sym, ap, subst, ◌∙◌, append_assoc, append-nil, eq-eqb}
 use Rattle.std.specs.Prelude.{if◌then◌else◌, option_map, slice_index}
@@ -24,9 +24,9 @@ use Rattle.spsc_queue.proofs.OwnEntries.{land_is}
 use Rattle.callers.specs.Queues.{spsc_of, IsLocated}
 use Rattle.callers.specs.declared.queue.Located.{Located}
 use Rattle.spsc_queue.specs.Obligations.{may_pass, has_arguments}
-use Rattle.callers.specs.Debts.{is_in_its_call, met_by, written_at, arguments_debt, entering_debt, party_debt, pc_in}
-use Rattle.callers.specs.Debts.{idle_debt, debt_of, debt_after, first_debt}
-use Rattle.callers.specs.declared.debts.Debt.TheVariants as debt
+use Rattle.callers.specs.Violations.{is_in_its_call, met_by, written_at, arguments_violation, entering_violation, party_violation, pc_in}
+use Rattle.callers.specs.Violations.{idle_violation, violation_of, violation_after, first_caller_violation}
+use Rattle.callers.specs.declared.violations.CallerViolation.TheVariants as violation
 
 -- ---- what owes nothing
 
@@ -53,40 +53,42 @@ writes_nothing r (load a width v) is = tt
 writes_nothing r (fence full) is = tt
 writes_nothing r land is = tt
 
-arguments_right : (p : Party) (h n : ℕ) (k : Block) (z : HartState) → arguments_debt p h n k z ≡ None → has_arguments p n k z ≡ true
+arguments_right : (p : Party) (h n : ℕ) (k : Block) (z : HartState) → arguments_violation p h n k z ≡ None → has_arguments p n k z ≡ true
 arguments_right p h n k z is =
     by (slice_index z.registers 12 == 4 * k.size) (may_pass p k.kind (slice_index z.registers 11)) (has_arguments p n k z) is
   where
-    by : (a b c : Bool) → (if a then (if b then (if c then None else Some (debt.PassedReturn h (slice_index z.registers 1))) else Some (debt.PassedWord h))
-        else Some (debt.PassedBytes h (slice_index z.registers 12))) ≡ None → c ≡ true
+    by : (a b c : Bool)
+        → (if a then (if b then (if c then None else Some (violation.PassedReturn h (slice_index z.registers 1)))
+        else Some (violation.PassedWord h))
+        else Some (violation.PassedBytes h (slice_index z.registers 12))) ≡ None → c ≡ true
     by true true true free = refl
     by true true false free = absurd (cc)
     by true false c free = absurd (cc)
     by false b c free = absurd (cc)
 
-enters_right : (p : Party) (h n : ℕ) (k : Block) (z : HartState) → entering_debt p h n k (Some z) ≡ None → enters n k z ≡ true → HasArguments p n k z
+enters_right : (p : Party) (h n : ℕ) (k : Block) (z : HartState) → entering_violation p h n k (Some z) ≡ None → enters n k z ≡ true → HasArguments p n k z
 enters_right p h n k z is on = arguments_are p n k z (arguments_right p h n k z
-    (sym (ap (λ b. if b then arguments_debt p h n k z else None) on) ∙ is))
+    (sym (ap (λ b. if b then arguments_violation p h n k z else None) on) ∙ is))
 
--- ---- an entry without a debt keeps what is owed
+-- ---- an entry without a violation keeps what is owed
 
-module _ (M : ℕ) (o : OpeningValue) (q : SpscQueue) (done : List Entry) (e : Entry) (free : debt_of M o q done e ≡ None) where
+module _ (M : ℕ) (o : OpeningValue) (q : SpscQueue) (done : List Entry) (e : Entry) (free : violation_of M o q done e ≡ None) where
   -- what an entry of a hart that is in no call owes, which is nothing
   idle_free : is_land e ≡ false → is_in_its_call M o q done (hart_of e) ≡ false
-      → idle_debt q e (state_of M (history_of o done) (hart_of e)) (state_of M (history_of o (done ++ e ∷ [])) (hart_of e)) ≡ None
+      → idle_violation q e (state_of M (history_of o done) (hart_of e)) (state_of M (history_of o (done ++ e ∷ [])) (hart_of e)) ≡ None
   idle_free act idle =
       sym (ap (λ b. if b || is_in_its_call M o q done (hart_of e) then None
-      else idle_debt q e (state_of M (history_of o done) (hart_of e)) (state_of M (history_of o (done ++ e ∷ [])) (hart_of e))) act
+      else idle_violation q e (state_of M (history_of o done) (hart_of e)) (state_of M (history_of o (done ++ e ∷ [])) (hart_of e))) act
       ∙ ap (λ b. if b then None
-      else idle_debt q e (state_of M (history_of o done) (hart_of e)) (state_of M (history_of o (done ++ e ∷ [])) (hart_of e))) idle) ∙ free
+      else idle_violation q e (state_of M (history_of o done) (hart_of e)) (state_of M (history_of o (done ++ e ∷ [])) (hart_of e))) idle) ∙ free
 
   parts : is_land e ≡ false → is_in_its_call M o q done (hart_of e) ≡ false
-      → WritesNothingTo (buffer q) (access_of e) × (party_debt q (hart_of e) (state_of M (history_of o (done ++ e ∷ [])) (hart_of e)) ≡ None)
+      → WritesNothingTo (buffer q) (access_of e) × (party_violation q (hart_of e) (state_of M (history_of o (done ++ e ∷ [])) (hart_of e)) ≡ None)
   parts act idle =
-      let both = neither (option_map (debt.Wrote (hart_of e) (pc_in (state_of M (history_of o done) (hart_of e)))) (written_at (buffer q) (access_of e)))
-      (party_debt q (hart_of e) (state_of M (history_of o (done ++ e ∷ [])) (hart_of e))) (idle_free act idle) in (
+      let both = neither (option_map (violation.Wrote (hart_of e) (pc_in (state_of M (history_of o done) (hart_of e)))) (written_at (buffer q) (access_of e)))
+      (party_violation q (hart_of e) (state_of M (history_of o (done ++ e ∷ [])) (hart_of e))) (idle_free act idle) in (
         writes_nothing (buffer q) (access_of e)
-            (unmapped (debt.Wrote (hart_of e) (pc_in (state_of M (history_of o done) (hart_of e)))) (written_at (buffer q) (access_of e)) both.0),
+            (unmapped (violation.Wrote (hart_of e) (pc_in (state_of M (history_of o done) (hart_of e)))) (written_at (buffer q) (access_of e)) both.0),
         both.1,
       )
 
@@ -100,11 +102,11 @@ module _ (M : ℕ) (o : OpeningValue) (q : SpscQueue) (done : List Entry) (e : E
       ap (λ b. if b then is_sender_in_call M o q [] done else (if hart_of e == q.receiver then is_receiver_in_call M o q [] done else false))
       (eq-eqb (hart_of e) q.sender mine) ∙ idle in
       let one = parts act call in
-      let entering : entering_debt the_sender (hart_of e) q.send_line q.block (Some (advanced s (number_read e))) ≡ None =
-      sym (ap (λ z. entering_debt the_sender (hart_of e) q.send_line q.block z)
+      let entering : entering_violation the_sender (hart_of e) q.send_line q.block (Some (advanced s (number_read e))) ≡ None =
+      sym (ap (λ z. entering_violation the_sender (hart_of e) q.send_line q.block z)
       (next_is s act (subst (λ (h : ℕ). state_of M (history_of o done) h ≡ Some s) (sym mine) at)))
-      ∙ sym (ap (λ b. if b then entering_debt the_sender (hart_of e) q.send_line q.block (state_of M (history_of o (done ++ e ∷ [])) (hart_of e))
-      else (if hart_of e == q.receiver then entering_debt the_receiver (hart_of e) q.receive_line q.block
+      ∙ sym (ap (λ b. if b then entering_violation the_sender (hart_of e) q.send_line q.block (state_of M (history_of o (done ++ e ∷ [])) (hart_of e))
+      else (if hart_of e == q.receiver then entering_violation the_receiver (hart_of e) q.receive_line q.block
       (state_of M (history_of o (done ++ e ∷ []))
       (hart_of e)) else None))
       (eq-eqb (hart_of e) q.sender mine)) ∙ one.1 in
@@ -117,15 +119,16 @@ module _ (M : ℕ) (o : OpeningValue) (q : SpscQueue) (done : List Entry) (e : E
       ap (λ b. if b then is_sender_in_call M o q [] done else (if hart_of e == q.receiver then is_receiver_in_call M o q [] done else false)) no_sender
       ∙ ap (λ b. if b then is_receiver_in_call M o q [] done else false) (eq-eqb (hart_of e) q.receiver mine) ∙ idle in
       let one = parts act call in
-      let entering : entering_debt the_receiver (hart_of e) q.receive_line q.block (Some (advanced s (number_read e))) ≡ None =
-      sym (ap (λ z. entering_debt the_receiver (hart_of e) q.receive_line q.block z)
+      let entering : entering_violation the_receiver (hart_of e) q.receive_line q.block (Some (advanced s (number_read e))) ≡ None =
+      sym (ap (λ z. entering_violation the_receiver (hart_of e) q.receive_line q.block z)
       (next_is s act (subst (λ (h : ℕ). state_of M (history_of o done) h ≡ Some s) (sym mine) at)))
-      ∙ sym (ap (λ b. if b then entering_debt the_sender (hart_of e) q.send_line q.block (state_of M (history_of o (done ++ e ∷ [])) (hart_of e))
-      else (if hart_of e == q.receiver then entering_debt the_receiver (hart_of e) q.receive_line q.block
+      ∙ sym (ap (λ b. if b then entering_violation the_sender (hart_of e) q.send_line q.block (state_of M (history_of o (done ++ e ∷ [])) (hart_of e))
+      else (if hart_of e == q.receiver then entering_violation the_receiver (hart_of e) q.receive_line q.block
       (state_of M (history_of o (done ++ e ∷ []))
       (hart_of e)) else None))
       no_sender
-      ∙ ap (λ b. if b then entering_debt the_receiver (hart_of e) q.receive_line q.block (state_of M (history_of o (done ++ e ∷ [])) (hart_of e)) else None)
+      ∙ ap (λ b. if b then entering_violation the_receiver (hart_of e) q.receive_line q.block
+      (state_of M (history_of o (done ++ e ∷ [])) (hart_of e)) else None)
       (eq-eqb (hart_of e) q.receiver mine)) ∙ one.1 in
       (one.0, enters_right the_receiver (hart_of e) q.receive_line q.block (advanced s (number_read e)) entering)
 
@@ -147,16 +150,16 @@ module _ (M : ℕ) (o : OpeningValue) (q : SpscQueue) (done : List Entry) (e : E
 -- ---- and so does each entry of a run without one
 
 one_free : (M : ℕ) (o : OpeningValue) (q : SpscQueue) (front done : List Entry) (e : Entry) (more : List Entry)
-    → debt_after M o q front (done ++ e ∷ more) ≡ None → debt_of M o q (front ++ done) e ≡ None
+    → violation_after M o q front (done ++ e ∷ more) ≡ None → violation_of M o q (front ++ done) e ≡ None
 one_free M o q front [] e more free =
-    ap (λ ds. debt_of M o q ds e) (append-nil front) ∙ (neither (debt_of M o q front e) (debt_after M o q (front ++ e ∷ []) more) free).0
+    ap (λ ds. violation_of M o q ds e) (append-nil front) ∙ (neither (violation_of M o q front e) (violation_after M o q (front ++ e ∷ []) more) free).0
 one_free M o q front (d ∷ done) e more free =
-    ap (λ ds. debt_of M o q ds e) (sym (append_assoc front (d ∷ []) done))
-    ∙ one_free M o q (front ++ d ∷ []) done e more (neither (debt_of M o q front d) (debt_after M o q (front ++ d ∷ []) (done ++ e ∷ more)) free).1
+    ap (λ ds. violation_of M o q ds e) (sym (append_assoc front (d ∷ []) done))
+    ∙ one_free M o q (front ++ d ∷ []) done e more (neither (violation_of M o q front d) (violation_after M o q (front ++ d ∷ []) (done ++ e ∷ more)) free).1
 
--- a run from an opening at which the queue can be used keeps all if it has no debt
+-- a run from an opening at which the queue can be used keeps all if it has no violation
 pub keeps_all : (B M : ℕ) (o : OpeningValue) (l : Located) (es : List Entry) → IsLocated M o l.queue l → WellFormed B M (history_of o es)
-    → first_debt M o (spsc_of l) es ≡ None → UsesAsSpscQueue B M o (spsc_of l) [] es
+    → first_caller_violation M o (spsc_of l) es ≡ None → UsesAsSpscQueue B M o (spsc_of l) [] es
 keeps_all B M o l es located run free = record {
   shares = record {
     block = located.block;
@@ -167,5 +170,5 @@ keeps_all B M o l es located run free = record {
     receives = located.receives.here;
   };
   owed = λ done e more is. keeps_obligations M o (spsc_of l) done e
-      (one_free M o (spsc_of l) [] done e more (ap (first_debt M o (spsc_of l)) (sym is) ∙ free)) located.parties;
+      (one_free M o (spsc_of l) [] done e more (ap (first_caller_violation M o (spsc_of l)) (sym is) ∙ free)) located.parties;
 }

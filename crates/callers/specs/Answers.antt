@@ -1,4 +1,4 @@
--- The answer of many runs: that all keep what callers owe and what they count to, or a debt and a short schedule of a run that has it.
+-- The answer of many runs: that all keep what callers owe and what they count to, or a violation and a short schedule of a run that has it.
 use Rattle.std.specs.Prelude.{ℕ, ◌≡◌, ◌⊎◌, Bool, true, false, not, List, [], ◌∷◌, ◌++◌, Option, Result, Ok, Err, codes}
 use Rattle.std.specs.Fmt.{decimal}
 use Rattle.rand_core.specs.Stream.{Stream}
@@ -6,20 +6,20 @@ use Rattle.step_machine.specs.declared.events.Event.{Event}
 use Rattle.step_machine.specs.History.{OpeningValue}
 use Rattle.litmus.specs.LitmusTests.{LitmusTest}
 use Rattle.recorder.specs.Writing.{canon}
-use Rattle.jumping.specs.declared.draws.Draw.{Draw}
+use Rattle.drawn_runs.specs.declared.draws.Draw.{Draw}
 use Rattle.judged_runs.specs.Finding.{AreAllGood}
 use Rattle.judged_runs.specs.Telling.{IsFlawTold}
 use Rattle.engine_support.specs.declared.fault.Refusal.{Refusal}
 use Rattle.engine_support.specs.Inputs.{After}
 use Rattle.engine_support.specs.Tests.{tests}
 use Rattle.callers.specs.Queues.{IsLocated}
-use Rattle.callers.specs.Debts.{IsFirstOpeningDebt}
+use Rattle.callers.specs.Violations.{IsFirstOpeningViolation}
 use Rattle.callers.specs.Counts.{AreCountsOf, are_none}
-use Rattle.callers.specs.Runs.{CallSource, call_source, call_schedule, KeepsObligations, HasDebt}
+use Rattle.callers.specs.Runs.{CallSource, call_source, call_schedule, KeepsObligations, HasCallerViolation}
 use Rattle.callers.specs.declared.counts.Counts.{Counts}
 use Rattle.callers.specs.declared.judging.Calls.{Calls}
-use Rattle.callers.specs.declared.debts.Debt.{Debt}
-use Rattle.callers.specs.declared.debts.Debt.TheVariants as debt
+use Rattle.callers.specs.declared.violations.CallerViolation.{CallerViolation}
+use Rattle.callers.specs.declared.violations.CallerViolation.TheVariants as violation
 use Rattle.callers.specs.declared.queue.QueueKind.{QueueKind}
 use Rattle.callers.specs.declared.queue.QueueKind.TheVariants as kind
 use Rattle.callers.specs.declared.queue.Queue.{Queue}
@@ -36,25 +36,26 @@ receive_name kind.Lamport = codes "lamport_try_receive"
 receive_name kind.Cached = codes "lamport_try_receive"
 receive_name kind.FastForward = codes "fastforward_try_receive"
 
--- the debt in words
-abbrev pub debt_text : Debt → List ℕ
-debt_text debt.NoBlock = codes "the block isn't aligned to 4 bytes, has no slot, or ends past the memory"
-debt_text (debt.OneParty h) = codes "hart " ++ decimal h ++ codes " both sends and receives"
-debt_text (debt.NoSend k h) = codes "hart " ++ decimal h ++ codes " has no " ++ send_name k ++ codes " in its code"
-debt_text (debt.NoReceive k h) = codes "hart " ++ decimal h ++ codes " has no " ++ receive_name k ++ codes " in its code"
-debt_text (debt.NoOffset a w) = codes "the index at " ++ decimal a ++ codes " opens as " ++ decimal w ++ codes ", not as the offset of a slot"
-debt_text (debt.NoCopy a w) =
+-- the violation in words
+abbrev pub violation_text : CallerViolation → List ℕ
+violation_text violation.NoBlock = codes "the block isn't aligned to 4 bytes, has no slot, or ends past the memory"
+violation_text (violation.OneParty h) = codes "hart " ++ decimal h ++ codes " both sends and receives"
+violation_text (violation.NoSend k h) = codes "hart " ++ decimal h ++ codes " has no " ++ send_name k ++ codes " in its code"
+violation_text (violation.NoReceive k h) = codes "hart " ++ decimal h ++ codes " has no " ++ receive_name k ++ codes " in its code"
+violation_text (violation.NoOffset a w) = codes "the index at " ++ decimal a ++ codes " opens as " ++ decimal w ++ codes ", not as the offset of a slot"
+violation_text (violation.NoCopy a w) =
     codes "the copy of the tail at " ++ decimal a ++ codes " opens as " ++ decimal w ++ codes ", not as an offset that the tail can have had"
-debt_text (debt.NotFree a w) = codes "the slot at " ++ decimal a ++ codes " opens as " ++ decimal w ++ codes " and not as 0"
-debt_text (debt.NoWord a) = codes "the slot at " ++ decimal a ++ codes " opens as 0, where a word waits"
-debt_text (debt.Wrote h pc a) =
+violation_text (violation.NotFree a w) = codes "the slot at " ++ decimal a ++ codes " opens as " ++ decimal w ++ codes " and not as 0"
+violation_text (violation.NoWord a) = codes "the slot at " ++ decimal a ++ codes " opens as 0, where a word waits"
+violation_text (violation.Wrote h pc a) =
     codes "hart " ++ decimal h ++ codes " wrote to the block at " ++ decimal a ++ codes " outside of a call, at pc " ++ decimal pc
-debt_text (debt.PassedBytes h bytes) = codes "hart " ++ decimal h ++ codes " called with a2 = " ++ decimal bytes ++ codes ", not the bytes of the slots"
-debt_text (debt.PassedWord h) = codes "hart " ++ decimal h ++ codes " called with a1 = 0, which is no word"
-debt_text (debt.PassedReturn h back) = codes "hart " ++ decimal h ++ codes " called with ra = " ++ decimal back ++ codes ", no place to return to"
+violation_text (violation.PassedBytes h bytes) =
+    codes "hart " ++ decimal h ++ codes " called with a2 = " ++ decimal bytes ++ codes ", not the bytes of the slots"
+violation_text (violation.PassedWord h) = codes "hart " ++ decimal h ++ codes " called with a1 = 0, which is no word"
+violation_text (violation.PassedReturn h back) = codes "hart " ++ decimal h ++ codes " called with ra = " ++ decimal back ++ codes ", no place to return to"
 
-abbrev pub debt_line : Debt → List ℕ
-debt_line d = debt_text d ++ 10 ∷ []
+abbrev pub violation_line : CallerViolation → List ℕ
+violation_line d = violation_text d ++ 10 ∷ []
 
 -- how many runs keep what callers owe, or that no call returned in them
 abbrev pub head_words : (none : Bool) → List ℕ
@@ -85,23 +86,23 @@ pub record IsKeptOutput (s : CallSource) (runs : ℕ) (text : List ℕ) (called 
   pub text_is : text ≡ kept_text s.located.queue runs counts
 
 -- the first run that owes something, made short, and what it owes first
-pub record IsDebtOutput (s : CallSource) (runs : ℕ) (text : List ℕ) : Type 0 where
+pub record IsViolationOutput (s : CallSource) (runs : ℕ) (text : List ℕ) : Type 0 where
   pub part : List Event
-  pub debt : Debt
-  pub is_told : IsFlawTold (KeepsObligations s.B s.M s.opening s.located) (HasDebt s.B s.M s.opening s.located) (λ found other. found ≡ other)
-      (call_schedule s) runs part debt
-  pub text_is : text ≡ canon part ++ debt_line debt
+  pub violation : CallerViolation
+  pub is_told : IsFlawTold (KeepsObligations s.B s.M s.opening s.located) (HasCallerViolation s.B s.M s.opening s.located) (λ found other. found ≡ other)
+      (call_schedule s) runs part violation
+  pub text_is : text ≡ canon part ++ violation_line violation
 
 -- something is owed at the opening already, which a schedule of no events shows: the first of it
-pub record IsOpeningDebtOutput (M : ℕ) (o : OpeningValue) (queue : Queue) (text : List ℕ) : Type 0 where
-  pub debt : Debt
-  pub has_debt : IsFirstOpeningDebt M o queue debt
-  pub text_is : text ≡ canon [] ++ debt_line debt
+pub record IsOpeningViolationOutput (M : ℕ) (o : OpeningValue) (queue : Queue) (text : List ℕ) : Type 0 where
+  pub violation : CallerViolation
+  pub has_violation : IsFirstOpeningViolation M o queue violation
+  pub text_is : text ≡ canon [] ++ violation_line violation
 
 -- the text for this number of runs, and whether all keep what callers owe and some call returned
 abbrev pub IsOutputOfRuns : CallSource → (runs : ℕ) → List ℕ × Bool → Type 0
 IsOutputOfRuns s runs (text, true) = IsKeptOutput s runs text true
-IsOutputOfRuns s runs (text, false) = IsKeptOutput s runs text false ⊎ IsDebtOutput s runs text
+IsOutputOfRuns s runs (text, false) = IsKeptOutput s runs text false ⊎ IsViolationOutput s runs text
 
 -- the same of a queue whose functions were found
 pub record IsLocatedOutput (B M : ℕ) (o : OpeningValue) (queue : Queue) (draw : Draw) (stream : Stream) (runs size : ℕ) (answer : List ℕ × Bool) : Type 0 where
@@ -114,7 +115,7 @@ pub record IsLocatedOutput (B M : ℕ) (o : OpeningValue) (queue : Queue) (draw 
 abbrev pub IsCallersOutput : (B M : ℕ) → OpeningValue → Queue → Draw → Stream → (runs size : ℕ) → List ℕ × Bool → Type 0
 IsCallersOutput B M o queue draw stream runs size (text, true) = IsLocatedOutput B M o queue draw stream runs size (text, true)
 IsCallersOutput B M o queue draw stream runs size (text, false) =
-    IsOpeningDebtOutput M o queue text ⊎ IsLocatedOutput B M o queue draw stream runs size (text, false)
+    IsOpeningViolationOutput M o queue text ⊎ IsLocatedOutput B M o queue draw stream runs size (text, false)
 
 -- what answers a test; none is refused
 abbrev pub IsCallersGiven : (B M : ℕ) → Queue → Draw → Stream → (runs size : ℕ) → LitmusTest → Result (List ℕ × Bool) Refusal → Type 0

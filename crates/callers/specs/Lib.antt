@@ -1,5 +1,5 @@
 pub mod Queues
-pub mod Debts
+pub mod Violations
 pub mod Counts
 pub mod Runs
 pub mod Answers

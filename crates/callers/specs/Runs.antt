@@ -4,12 +4,12 @@ use Rattle.rand_core.specs.Stream.{Stream}
 use Rattle.step_machine.specs.declared.events.Event.{Event}
 use Rattle.step_machine.specs.History.{OpeningValue, History}
 use Rattle.step_machine.specs.Runs.{Run}
-use Rattle.jumping.specs.declared.draws.Draw.{Draw}
-use Rattle.jumping.specs.Draws.{schedule_by}
+use Rattle.drawn_runs.specs.declared.draws.Draw.{Draw}
+use Rattle.drawn_runs.specs.Draws.{schedule_by}
 use Rattle.spsc_queue.specs.Calls.{UsesAsSpscQueue}
 use Rattle.callers.specs.Queues.{spsc_of}
-use Rattle.callers.specs.Debts.{first_debt}
-use Rattle.callers.specs.declared.debts.Debt.{Debt}
+use Rattle.callers.specs.Violations.{first_caller_violation}
+use Rattle.callers.specs.declared.violations.CallerViolation.{CallerViolation}
 use Rattle.callers.specs.declared.queue.Located.{Located}
 
 -- Where runs come from: buffers of B stores and a memory of M words, the opening, the queue, how the schedules are drawn and by which
@@ -37,13 +37,13 @@ pub record KeepsObligations (B M : ℕ) (o : OpeningValue) (l : Located) (events
   pub uses : UsesAsSpscQueue B M o (spsc_of l) [] history.entries
 
 -- a run of these events that owes nothing
-pub record HasNoDebt (B M : ℕ) (o : OpeningValue) (l : Located) (events : List Event) : Type 0 where
+pub record HasNoCallerViolation (B M : ℕ) (o : OpeningValue) (l : Located) (events : List Event) : Type 0 where
   pub history : History
   pub run : Run B M o events history
-  pub none : first_debt M o (spsc_of l) history.entries ≡ None
+  pub none : first_caller_violation M o (spsc_of l) history.entries ≡ None
 
--- the first debt of a run of these events is this one
-pub record HasDebt (B M : ℕ) (o : OpeningValue) (l : Located) (events : List Event) (debt : Debt) : Type 0 where
+-- the first violation of a run of these events is this one
+pub record HasCallerViolation (B M : ℕ) (o : OpeningValue) (l : Located) (events : List Event) (violation : CallerViolation) : Type 0 where
   pub history : History
   pub run : Run B M o events history
-  pub first : first_debt M o (spsc_of l) history.entries ≡ Some debt
+  pub first : first_caller_violation M o (spsc_of l) history.entries ≡ Some violation

@@ -3,12 +3,13 @@
 ghost use Rattle.std.specs.Prelude.{◌≡◌, ◌++◌, IfOk, OnOk};
 ghost use Rattle.std.specs.String.{string_bytes};
 ghost use Rattle.recorder.specs.Writing.{canon};
-ghost use Rattle.callers.specs.Answers.{calls_line, debt_text, debt_line, head_line, head_words, kept_text, receive_name, send_name, runs_unfinished_line};
+ghost use Rattle.callers.specs.Answers.{calls_line, violation_text, violation_line, head_line, head_words, kept_text, receive_name, send_name};
+ghost use Rattle.callers.specs.Answers.{runs_unfinished_line};
 
 use crate::counts::{Counts, are_none};
-use crate::debts::Debt;
 use crate::judging::Calls;
 use crate::queue::{Queue, QueueKind};
+use crate::violations::CallerViolation;
 use recorder::schedule_text;
 use std::alloc::{AllocError, Global};
 use step_machine::Event;
@@ -34,46 +35,46 @@ fn receive_name(kind: QueueKind) -> &'static str
     }
 }
 
-fn push_debt(out: &mut String, debt: Debt) -> Result<(), AllocError>
-    ensures { OnOk result (string_bytes out.new ≡ string_bytes out.old ++ debt_text debt) }
+fn push_violation(out: &mut String, violation: CallerViolation) -> Result<(), AllocError>
+    ensures { OnOk result (string_bytes out.new ≡ string_bytes out.old ++ violation_text violation) }
 {
-    match debt {
-        Debt::NoBlock => out.push_str(
+    match violation {
+        CallerViolation::NoBlock => out.push_str(
             "the block isn't aligned to 4 bytes, has no slot, or ends past the memory",
         ),
-        Debt::OneParty { hart } => write!(out, "hart {hart} both sends and receives"),
-        Debt::NoSend { kind, hart } => {
+        CallerViolation::OneParty { hart } => write!(out, "hart {hart} both sends and receives"),
+        CallerViolation::NoSend { kind, hart } => {
             write!(out, "hart {hart} has no {} in its code", send_name(kind))
         }
-        Debt::NoReceive { kind, hart } => {
+        CallerViolation::NoReceive { kind, hart } => {
             write!(out, "hart {hart} has no {} in its code", receive_name(kind))
         }
-        Debt::NoOffset { address, word } => write!(
+        CallerViolation::NoOffset { address, word } => write!(
             out,
             "the index at {address} opens as {word}, not as the offset of a slot"
         ),
-        Debt::NoCopy { address, word } => write!(
+        CallerViolation::NoCopy { address, word } => write!(
             out,
             "the copy of the tail at {address} opens as {word}, not as an offset that the tail can have had"
         ),
-        Debt::NotFree { address, word } => {
+        CallerViolation::NotFree { address, word } => {
             write!(out, "the slot at {address} opens as {word} and not as 0")
         }
-        Debt::NoWord { address } => {
+        CallerViolation::NoWord { address } => {
             write!(out, "the slot at {address} opens as 0, where a word waits")
         }
-        Debt::Wrote { hart, pc, address } => write!(
+        CallerViolation::Wrote { hart, pc, address } => write!(
             out,
             "hart {hart} wrote to the block at {address} outside of a call, at pc {pc}"
         ),
-        Debt::PassedBytes { hart, bytes } => write!(
+        CallerViolation::PassedBytes { hart, bytes } => write!(
             out,
             "hart {hart} called with a2 = {bytes}, not the bytes of the slots"
         ),
-        Debt::PassedWord { hart } => {
+        CallerViolation::PassedWord { hart } => {
             write!(out, "hart {hart} called with a1 = 0, which is no word")
         }
-        Debt::PassedReturn { hart, back } => {
+        CallerViolation::PassedReturn { hart, back } => {
             write!(
                 out,
                 "hart {hart} called with ra = {back}, no place to return to"
@@ -82,19 +83,23 @@ fn push_debt(out: &mut String, debt: Debt) -> Result<(), AllocError>
     }
 }
 
-fn push_debt_line(out: &mut String, debt: Debt) -> Result<(), AllocError>
-    ensures { OnOk result (string_bytes out.new ≡ string_bytes out.old ++ debt_line debt) }
+fn push_violation_line(out: &mut String, violation: CallerViolation) -> Result<(), AllocError>
+    ensures { OnOk result (string_bytes out.new ≡ string_bytes out.old ++ violation_line violation) }
 {
-    push_debt(out, debt)?;
+    push_violation(out, violation)?;
     out.push_str("\n")
 }
 
 /// The text of these events as a schedule, and of what their run owes.
-pub(crate) fn owing_text(alloc: Global, events: &[Event], debt: Debt) -> Result<String, AllocError>
-    ensures { IfOk result (λ text. string_bytes text ≡ canon events.now ++ debt_line debt) }
+pub(crate) fn owing_text(
+    alloc: Global,
+    events: &[Event],
+    violation: CallerViolation,
+) -> Result<String, AllocError>
+    ensures { IfOk result (λ text. string_bytes text ≡ canon events.now ++ violation_line violation) }
 {
     let mut text = schedule_text(alloc, events)?;
-    push_debt_line(&mut text, debt)?;
+    push_violation_line(&mut text, violation)?;
     Ok(text)
 }
 

@@ -10,11 +10,11 @@ ghost use Rattle.callers.specs.Answers.{IsCallersAnswer, IsCallersGiven};
 
 use crate::queue::Queue;
 use crate::run_output::check_callers;
+use drawn_runs::progress::Progress;
+use drawn_runs::{Draw, Jump, Runs};
 use engine_support::fault::Fault;
 use engine_support::litmus_text::read_test;
 use engine_support::output::end_with;
-use jumping::progress::Progress;
-use jumping::{Draw, Jump, Runs};
 use litmus::Test;
 use std::alloc::Global;
 use std::io::{Read, Write};

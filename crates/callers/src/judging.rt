@@ -10,11 +10,11 @@ ghost use Rattle.step_machine.specs.Runs.{Run};
 ghost use Rattle.spsc_queue.specs.Calls.{Party, buffer, enters, is_in_call_after};
 ghost use Rattle.spsc_queue.specs.Obligations.{is_sendable, may_pass};
 ghost use Rattle.callers.specs.Queues.{kind_of, block_of, spsc_of};
-ghost use Rattle.callers.specs.Debts.{idle_debt, met_by, party_debt, written_at, arguments_debt, entering_debt};
+ghost use Rattle.callers.specs.Violations.{idle_violation, met_by, party_violation, written_at, arguments_violation, entering_violation};
 ghost use Rattle.callers.specs.inner.Noting.{AreCallNotes, IsCallState, IsEventNoted, calls_by, counted_by, found_by, notes_by, noted_call};
 
-use crate::debts::Debt;
 use crate::queue::{Located, QueueKind};
+use crate::violations::CallerViolation;
 use std::alloc::AllocError;
 use step_machine::{Entry, Event, Machine, Outcome};
 
@@ -49,10 +49,10 @@ pub const NO_CALLS: Calls = Calls {
     empty: 0,
 };
 
-/// What is noted of a run: its first debt, if there is one, whether each party is in a call, and how many calls returned.
+/// What is noted of a run: its first violation, if there is one, whether each party is in a call, and how many calls returned.
 #[derive(Clone, Copy)]
 pub struct Notes {
-    pub found: Option<Debt>,
+    pub found: Option<CallerViolation>,
     pub sending: bool,
     pub receiving: bool,
     pub calls: Calls,
@@ -135,30 +135,30 @@ fn is_sendable(kind: QueueKind, word: u32) -> bool
 }
 
 /// What a hart owes that enters its function at this line so, where the word that it passes is right or not.
-fn arguments_debt(
+fn arguments_violation(
     located: Located,
     hart: u32,
     line: u32,
     at: CallState,
     is_right: bool,
-) -> Option<Debt>
+) -> Option<CallerViolation>
     ensures { (p : Party) (s : HartState) → IsCallState s at → is_right ≡ may_pass p (kind_of located.queue.kind) at.word
-        → result ≡ arguments_debt p hart line (block_of located) s }
+        → result ≡ arguments_violation p hart line (block_of located) s }
 {
     if u64::from(at.bytes) != 4 * u64::from(located.queue.slots) {
-        return Some(Debt::PassedBytes {
+        return Some(CallerViolation::PassedBytes {
             hart,
             bytes: at.bytes,
         });
     }
     if !is_right {
-        return Some(Debt::PassedWord { hart });
+        return Some(CallerViolation::PassedWord { hart });
     }
     let target = at.back / 2 * 2;
     if u64::from(target) != 4 * u64::from(line) && target % 4 == 0 {
         None
     } else {
-        Some(Debt::PassedReturn {
+        Some(CallerViolation::PassedReturn {
             hart,
             back: at.back,
         })
@@ -166,26 +166,26 @@ fn arguments_debt(
 }
 
 /// What it owes if it enters.
-fn entering_debt(
+fn entering_violation(
     located: Located,
     hart: u32,
     line: u32,
     at: CallState,
     is_right: bool,
-) -> Option<Debt>
+) -> Option<CallerViolation>
     ensures { (p : Party) (s : HartState) → IsCallState s at → is_right ≡ may_pass p (kind_of located.queue.kind) at.word
-        → result ≡ entering_debt p hart line (block_of located) (Some s) }
+        → result ≡ entering_violation p hart line (block_of located) (Some s) }
 {
     if enters(located, line, at) {
-        arguments_debt(located, hart, line, at, is_right)
+        arguments_violation(located, hart, line, at, is_right)
     } else {
         None
     }
 }
 
 /// What a hart owes that stands so, whichever party it is.
-fn party_debt(located: Located, hart: u32, at: CallState) -> Option<Debt>
-    ensures { (s : HartState) → IsCallState s at → result ≡ party_debt (spsc_of located) hart (Some s) }
+fn party_violation(located: Located, hart: u32, at: CallState) -> Option<CallerViolation>
+    ensures { (s : HartState) → IsCallState s at → result ≡ party_violation (spsc_of located) hart (Some s) }
 {
     let Located {
         queue,
@@ -194,7 +194,7 @@ fn party_debt(located: Located, hart: u32, at: CallState) -> Option<Debt>
         ..
     } = located;
     if hart == queue.sender {
-        entering_debt(
+        entering_violation(
             located,
             hart,
             send_line,
@@ -202,20 +202,25 @@ fn party_debt(located: Located, hart: u32, at: CallState) -> Option<Debt>
             is_sendable(queue.kind, at.word),
         )
     } else if hart == queue.receiver {
-        entering_debt(located, hart, receive_line, at, true)
+        entering_violation(located, hart, receive_line, at, true)
     } else {
         None
     }
 }
 
 /// What a hart owes by an entry of its own, where it is in no call: it was at `pc`, and stands so after it.
-fn idle_debt(located: Located, pc: u32, after: CallState, entry: Entry) -> Option<Debt>
-    ensures { (s z : HartState) → s.pc ≡ pc → IsCallState z after → result ≡ idle_debt (spsc_of located) entry (Some s) (Some z) }
+fn idle_violation(
+    located: Located,
+    pc: u32,
+    after: CallState,
+    entry: Entry,
+) -> Option<CallerViolation>
+    ensures { (s z : HartState) → s.pc ≡ pc → IsCallState z after → result ≡ idle_violation (spsc_of located) entry (Some s) (Some z) }
 {
     let hart = entry.hart();
     match written_at(located, entry) {
-        Some(address) => Some(Debt::Wrote { hart, pc, address }),
-        None => party_debt(located, hart, after),
+        Some(address) => Some(CallerViolation::Wrote { hart, pc, address }),
+        None => party_violation(located, hart, after),
     }
 }
 
@@ -239,7 +244,7 @@ fn found_after(
     pc: u32,
     after: CallState,
     entry: Entry,
-) -> Option<Debt>
+) -> Option<CallerViolation>
     ensures { (s z : HartState) → s.pc ≡ pc → IsCallState z after → result ≡ found_by (spsc_of located) notes entry s z }
 {
     if notes.found.is_some() {
@@ -248,7 +253,7 @@ fn found_after(
     if is_in_its_call(located, notes, entry.hart()) {
         None
     } else {
-        idle_debt(located, pc, after, entry)
+        idle_violation(located, pc, after, entry)
     }
 }
 

@@ -8,11 +8,11 @@ ghost use Rattle.rv_decode.specs.Listings.{words_of, Listed};
 ghost use Rattle.spsc_queue.specs.Calls.{IsBlock};
 ghost use Rattle.callers.specs.Queues.{kind_of, caches_tail, block_at, slots_after, waiting_between, sends_by, receives_by, HasNoCopy, HasFirstCopy};
 ghost use Rattle.callers.specs.Queues.{IsLocated};
-ghost use Rattle.callers.specs.Debts.{IsOffset, waits_in, IsOldTail, AreAsOwedBelow, IsOpeningDebt, IsFirstOpeningDebt};
+ghost use Rattle.callers.specs.Violations.{IsOffset, waits_in, IsOldTail, AreAsOwedBelow, IsOpeningViolation, IsFirstOpeningViolation};
 ghost use Rattle.callers.specs.inner.Locating.{StandsAt, IsFirstOfIndices, IsFirstOfRest, IsWaiting};
 
-use crate::debts::Debt;
 use crate::queue::{Located, Queue, QueueKind};
+use crate::violations::CallerViolation;
 use spsc_queue::{
     cached_send_words, fastforward_receive_words, fastforward_send_words, try_receive_words,
     try_send_words,
@@ -143,16 +143,16 @@ fn count_waiting<const B: usize, const M: usize>(
 fn waiting_of<const B: usize, const M: usize>(
     machine: &Machine<B, M>,
     queue: Queue,
-) -> Result<Waiting, Debt>
+) -> Result<Waiting, CallerViolation>
     requires opens { machine.now.history ≡ at_opening machine.now.history.opening }
     requires block { IsBlock M (block_at queue 0 0) }
     ensures waiting { IfOk result (IsWaiting machine.now.history.opening queue) }
-    ensures has_debt { IfErr result (λ debt. IsOpeningDebt M machine.now.history.opening queue debt) }
-    ensures first { IfErr result (λ debt. IsFirstOfIndices machine.now.history.opening queue debt) }
+    ensures has_violation { IfErr result (λ violation. IsOpeningViolation M machine.now.history.opening queue violation) }
+    ensures first { IfErr result (λ violation. IsFirstOfIndices machine.now.history.opening queue violation) }
 {
     let head = machine.word(queue.base);
     if !is_offset(queue, head) {
-        return Err(Debt::NoOffset {
+        return Err(CallerViolation::NoOffset {
             address: queue.base,
             word: head,
         });
@@ -160,7 +160,7 @@ fn waiting_of<const B: usize, const M: usize>(
     let address = queue.base + 64;
     let tail = machine.word(address);
     if !is_offset(queue, tail) {
-        return Err(Debt::NoOffset {
+        return Err(CallerViolation::NoOffset {
             address,
             word: tail,
         });
@@ -175,14 +175,14 @@ fn has_tail_copy<const B: usize, const M: usize>(
     machine: &Machine<B, M>,
     queue: Queue,
     waiting: Waiting,
-) -> Result<(), Debt>
+) -> Result<(), CallerViolation>
     requires opens { machine.now.history ≡ at_opening machine.now.history.opening }
     requires block { IsBlock M (block_at queue 0 0) }
     requires waiting { IsWaiting machine.now.history.opening queue waiting }
     requires kind { caches_tail queue.kind ≡ true }
     ensures copy { OnOk result (IsOldTail machine.now.history.opening queue (memory_word machine.now.history.opening [] (queue.base + 4))) }
-    ensures has_debt { IfErr result (λ debt. IsOpeningDebt M machine.now.history.opening queue debt) }
-    ensures first { IfErr result (λ debt. IsFirstOfRest machine.now.history.opening queue debt) }
+    ensures has_violation { IfErr result (λ violation. IsOpeningViolation M machine.now.history.opening queue violation) }
+    ensures first { IfErr result (λ violation. IsFirstOfRest machine.now.history.opening queue violation) }
 {
     let address = queue.base + 4;
     let word = machine.word(address);
@@ -192,7 +192,7 @@ fn has_tail_copy<const B: usize, const M: usize>(
     {
         Ok(())
     } else {
-        Err(Debt::NoCopy { address, word })
+        Err(CallerViolation::NoCopy { address, word })
     }
 }
 
@@ -202,7 +202,7 @@ fn is_slot_as_owed<const B: usize, const M: usize>(
     queue: Queue,
     waiting: Waiting,
     slot: u32,
-) -> Result<(), Debt>
+) -> Result<(), CallerViolation>
     requires opens { machine.now.history ≡ at_opening machine.now.history.opening }
     requires block { IsBlock M (block_at queue 0 0) }
     requires waiting { IsWaiting machine.now.history.opening queue waiting }
@@ -211,15 +211,15 @@ fn is_slot_as_owed<const B: usize, const M: usize>(
     requires below { AreAsOwedBelow machine.now.history.opening queue (queue.base + 128 + 4 * slot) }
     ensures slot { OnOk result ((memory_word machine.now.history.opening [] (queue.base + 128 + 4 * slot) == 0)
         ≡ not (waits_in machine.now.history.opening queue slot)) }
-    ensures has_debt { IfErr result (λ debt. IsOpeningDebt M machine.now.history.opening queue debt) }
-    ensures first { IfErr result (λ debt. IsFirstOfRest machine.now.history.opening queue debt) }
+    ensures has_violation { IfErr result (λ violation. IsOpeningViolation M machine.now.history.opening queue violation) }
+    ensures first { IfErr result (λ violation. IsFirstOfRest machine.now.history.opening queue violation) }
 {
     let address = queue.base + 128 + 4 * slot;
     let word = machine.word(address);
     let waits = slots_after(queue, waiting.start, slot) < waiting.count;
     match (waits, word == 0) {
-        (true, true) => Err(Debt::NoWord { address }),
-        (false, false) => Err(Debt::NotFree { address, word }),
+        (true, true) => Err(CallerViolation::NoWord { address }),
+        (false, false) => Err(CallerViolation::NotFree { address, word }),
         _ => Ok(()),
     }
 }
@@ -229,14 +229,14 @@ fn are_as_owed<const B: usize, const M: usize>(
     machine: &Machine<B, M>,
     queue: Queue,
     waiting: Waiting,
-) -> Result<(), Debt>
+) -> Result<(), CallerViolation>
     requires opens { machine.now.history ≡ at_opening machine.now.history.opening }
     requires block { IsBlock M (block_at queue 0 0) }
     requires waiting { IsWaiting machine.now.history.opening queue waiting }
     requires kind { kind_of queue.kind ≡ fastforward }
     ensures slots { OnOk result (AreAsOwedBelow machine.now.history.opening queue (queue.base + 128 + 4 * queue.slots)) }
-    ensures has_debt { IfErr result (λ debt. IsOpeningDebt M machine.now.history.opening queue debt) }
-    ensures first { IfErr result (λ debt. IsFirstOfRest machine.now.history.opening queue debt) }
+    ensures has_violation { IfErr result (λ violation. IsOpeningViolation M machine.now.history.opening queue violation) }
+    ensures first { IfErr result (λ violation. IsFirstOfRest machine.now.history.opening queue violation) }
 {
     for slot in 0..queue.slots {
         is_slot_as_owed(machine, queue, waiting, slot)?;
@@ -249,7 +249,7 @@ fn opens_as_owed<const B: usize, const M: usize>(
     machine: &Machine<B, M>,
     queue: Queue,
     waiting: Waiting,
-) -> Result<(), Debt>
+) -> Result<(), CallerViolation>
     requires opens { machine.now.history ≡ at_opening machine.now.history.opening }
     requires block { IsBlock M (block_at queue 0 0) }
     requires waiting { IsWaiting machine.now.history.opening queue waiting }
@@ -257,8 +257,8 @@ fn opens_as_owed<const B: usize, const M: usize>(
         → IsOldTail machine.now.history.opening queue (memory_word machine.now.history.opening [] (queue.base + 4))) }
     ensures slots { OnOk result (kind_of queue.kind ≡ fastforward
         → AreAsOwedBelow machine.now.history.opening queue (queue.base + 128 + 4 * queue.slots)) }
-    ensures has_debt { IfErr result (λ debt. IsOpeningDebt M machine.now.history.opening queue debt) }
-    ensures first { IfErr result (λ debt. IsFirstOfRest machine.now.history.opening queue debt) }
+    ensures has_violation { IfErr result (λ violation. IsOpeningViolation M machine.now.history.opening queue violation) }
+    ensures first { IfErr result (λ violation. IsFirstOfRest machine.now.history.opening queue violation) }
 {
     match queue.kind {
         QueueKind::Lamport => Ok(()),
@@ -272,11 +272,11 @@ fn opens_as_owed<const B: usize, const M: usize>(
 pub(crate) fn locate<const B: usize, const M: usize>(
     machine: &Machine<B, M>,
     queue: Queue,
-) -> Result<Located, Debt>
+) -> Result<Located, CallerViolation>
     requires opens { machine.now.history ≡ at_opening machine.now.history.opening }
     requires size { M ≤ 65536 }
     ensures located { IfOk result (λ located. IsLocated M machine.now.history.opening queue located) }
-    ensures has_debt { IfErr result (λ debt. IsFirstOpeningDebt M machine.now.history.opening queue debt) }
+    ensures has_violation { IfErr result (λ violation. IsFirstOpeningViolation M machine.now.history.opening queue violation) }
 {
     let Queue {
         kind,
@@ -285,17 +285,17 @@ pub(crate) fn locate<const B: usize, const M: usize>(
         ..
     } = queue;
     if !is_block::<M>(queue) {
-        return Err(Debt::NoBlock);
+        return Err(CallerViolation::NoBlock);
     }
     if sender == receiver {
-        return Err(Debt::OneParty { hart: sender });
+        return Err(CallerViolation::OneParty { hart: sender });
     }
     let opening = machine.opening();
     let Some(send_line) = function_of(opening, sender, send_words(kind)) else {
-        return Err(Debt::NoSend { kind, hart: sender });
+        return Err(CallerViolation::NoSend { kind, hart: sender });
     };
     let Some(receive_line) = function_of(opening, receiver, receive_words(kind)) else {
-        return Err(Debt::NoReceive {
+        return Err(CallerViolation::NoReceive {
             kind,
             hart: receiver,
         });

@@ -1,4 +1,4 @@
-//! The answer of many runs: that all keep what callers owe and what they count to, or a debt and a short schedule of a run
+//! The answer of many runs: that all keep what callers owe and what they count to, or a violation and a short schedule of a run
 //! that has it.
 
 ghost use Rattle.std.specs.Prelude.{◌≡◌, ◌≤◌, ◌*◌, IfOk};
@@ -14,10 +14,10 @@ use crate::counts::are_none;
 use crate::locating::locate;
 use crate::queue::{Located, Queue};
 use crate::runs::CallersJudge;
+use drawn_runs::parallel::in_rounds;
+use drawn_runs::progress::Progress;
+use drawn_runs::{Draw, Jump, Runs};
 use judged_runs::{JudgedRuns, Told, told_of_runs};
-use jumping::parallel::in_rounds;
-use jumping::progress::Progress;
-use jumping::{Draw, Jump, Runs};
 use litmus::Test;
 use std::alloc::{AllocError, Global};
 use std::thread::Threads;
@@ -74,8 +74,8 @@ fn output_of_runs<
 /// some call returned.
 ///
 /// If all do, that is their number, or that no call returned, and what they count to: the calls that returned 1 or 0, and
-/// the runs that weren't finished. Otherwise it is a schedule and the line of a debt: one at the opening, with no events,
-/// or the first debt of the first run that has one, from which events were left out until none could go. The text depends
+/// the runs that weren't finished. Otherwise it is a schedule and the line of a violation: one at the opening, with no events,
+/// or the first violation of the first run that has one, from which events were left out until none could go. The text depends
 /// neither on the jobs nor on the progress, which learns how far the runs are, and that they ended.
 pub fn check_callers<
     const B: usize,
@@ -108,6 +108,6 @@ pub fn check_callers<
                 rt, alloc, test, located, draw, generator, runs, progress,
             )
         }
-        Err(debt) => Ok((owing_text(alloc, &[], debt)?, false)),
+        Err(violation) => Ok((owing_text(alloc, &[], violation)?, false)),
     }
 }

@@ -3,13 +3,13 @@
 ghost use Rattle.std.specs.Prelude.{◌≡◌, ◌≤◌};
 ghost use Rattle.litmus.specs.declared.litmus_test.TheConstants.{MAX_LOCATIONS};
 ghost use Rattle.litmus.specs.LitmusTests.{IsTest};
-ghost use Rattle.callers.specs.Runs.{HasNoDebt, HasDebt};
+ghost use Rattle.callers.specs.Runs.{HasNoCallerViolation, HasCallerViolation};
 ghost use Rattle.callers.specs.Counts.{AreCountsOf, HasCalls};
 
 use crate::counts::{Counts, both, unfinished_by};
-use crate::debts::Debt;
 use crate::judging::{Calls, NO_CALLS, judge};
 use crate::queue::Located;
+use crate::violations::CallerViolation;
 use judged_runs::Judge;
 use litmus::Test;
 use std::alloc::{AllocError, Global};
@@ -36,7 +36,7 @@ impl<'a, const B: usize, const M: usize> Judge for CallersJudge<'a, B, M> {
 
     type Bench = CallersBench<B, M>;
 
-    type Flaw = Debt;
+    type Flaw = CallerViolation;
 
     type Tally = Counts;
 
@@ -46,11 +46,11 @@ impl<'a, const B: usize, const M: usize> Judge for CallersJudge<'a, B, M> {
 
     ghost noted = { λ it events bench. HasCalls B M it.test.now.opening it.located events bench.machine.history bench.calls };
 
-    ghost is_good = { λ it events. HasNoDebt B M it.test.now.opening it.located events };
+    ghost is_good = { λ it events. HasNoCallerViolation B M it.test.now.opening it.located events };
 
-    ghost has = { λ it events debt. HasDebt B M it.test.now.opening it.located events debt };
+    ghost has = { λ it events violation. HasCallerViolation B M it.test.now.opening it.located events violation };
 
-    ghost alike = { λ it debt other. debt ≡ other };
+    ghost alike = { λ it violation other. violation ≡ other };
 
     ghost counts = { λ it all counts. AreCountsOf B M it.test.now.opening it.located all counts };
 
@@ -71,15 +71,15 @@ impl<'a, const B: usize, const M: usize> Judge for CallersJudge<'a, B, M> {
         &self,
         bench: &mut CallersBench<B, M>,
         events: &[Event],
-    ) -> Result<Option<Debt>, AllocError> {
+    ) -> Result<Option<CallerViolation>, AllocError> {
         laws_of_runs();
         let notes = judge(self.located, &mut bench.machine, events)?;
         bench.calls = notes.calls;
         Ok(notes.found)
     }
 
-    fn is_alike(&self, debt: Debt, other: Debt) -> bool {
-        debt == other
+    fn is_alike(&self, violation: CallerViolation, other: CallerViolation) -> bool {
+        violation == other
     }
 
     fn none(&self, _alloc: Global) -> Result<Counts, AllocError> {
@@ -99,5 +99,5 @@ impl<'a, const B: usize, const M: usize> Judge for CallersJudge<'a, B, M> {
         counts.unfinished += later.unfinished;
     }
 
-    ghost same = { λ it debt. refl };
+    ghost same = { λ it violation. refl };
 }

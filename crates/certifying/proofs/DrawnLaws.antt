@@ -18,9 +18,9 @@ use Rattle.queue_checker.specs.declared.flaws.Flaw.TheVariants as flaw
 use Rattle.queue_checker.specs.declared.flaws.QueueFlaw.{QueueFlaw}
 use Rattle.queue_checker.specs.Flaws.{first_below, first_flaw, first_of, hart_flaw, queue_flaw, flaw_of_queue}
 use Rattle.queue_checker.proofs.FlawLaws.{no_queue_flaw}
-use Rattle.ownership_runs.specs.declared.breaches.Breach.{Breach}
+use Rattle.ownership_runs.specs.declared.violations.Violation.{Violation}
 use Rattle.ownership_runs.specs.declared.runs.Moved.{Moved}
-use Rattle.ownership_runs.specs.Breaches.{first_ownership_breach}
+use Rattle.ownership_runs.specs.Violations.{first_ownership_violation}
 use Rattle.ownership_runs.specs.Runs.{HasKeptRun, HasBrokenRun}
 use Rattle.ownership_runs.proofs.Judged.{moves-one}
 use Rattle.certifying.specs.Answers.{IsBrokenText, IsTriedText, IsTrialAnswer, is_of_queue, tried_text}
@@ -33,8 +33,8 @@ use Rattle.certifying.specs.declared.judgement.Judgement.TheVariants as judgemen
 
 -- what `ownership_runs` promises
 pub record DrawnLaws : Type 0 where
-  pub none : (q : Queue) (c : QueueCounts) (es : List _) → 1 ≤ q.size → KeepsOwnership q c es → first_ownership_breach q c es ≡ None
-  pub apart : (B M : ℕ) (o : OpeningValue) (q : Queue) (start : QueueCounts) (events : List Event) (b : Breach) → 1 ≤ q.size
+  pub none : (q : Queue) (c : QueueCounts) (es : List _) → 1 ≤ q.size → KeepsOwnership q c es → first_ownership_violation q c es ≡ None
+  pub apart : (B M : ℕ) (o : OpeningValue) (q : Queue) (start : QueueCounts) (events : List Event) (b : Violation) → 1 ≤ q.size
       → HasKeptRun B M o q start events → HasBrokenRun B M o q start events b → ⊥
 
 -- ---- queues that open at their counts have slots
@@ -95,13 +95,13 @@ module _ (d : DrawnRuns) (o : OpeningValue) (c : QueueCertificate) where
       let same : first + length (n ∷ moved) ≡ first + 1 + length moved = omega arith in
       (kept.0, keep-more (first + 1) moved m kept.1 (subst (λ (j : ℕ). AllKeep d o c j m) same next))
 
-  pub some-event : (i : ℕ) (part : List Event) (b : Breach) → EndsBroken d o c i part b → 1 ≤ length part
+  pub some-event : (i : ℕ) (part : List Event) (b : Violation) → EndsBroken d o c i part b → 1 ≤ length part
   some-event i part b ends = omega (arith, length-append ends.front (ends.last ∷ []), ap (λ (xs : List Event). length xs) ends.events_are)
 
-  pub is-broken : (i : ℕ) (part : List Event) (b : Breach) (moved : List Moved) (t : Trial) → IsTrialBroken d.B d.M o i part b t → i < length c.queues
+  pub is-broken : (i : ℕ) (part : List Event) (b : Violation) (moved : List Moved) (t : Trial) → IsTrialBroken d.B d.M o i part b t → i < length c.queues
       → length moved ≡ i → QueuesKeep d o c 0 moved → IsBrokenBy d o c i part b → EndsBroken d o c i part b → IsOfTrial d o c t
   is-broken i part b moved (trial.Kept kept) is inside earlier before told ends = absurd is
-  is-broken i part b moved (trial.Broken j given breach pc) is inside earlier before told ends =
+  is-broken i part b moved (trial.Broken j given violation pc) is inside earlier before told ends =
       rw (is.0, is.1, is.2) (record {
         inside = inside;
         moved = moved;
@@ -181,7 +181,7 @@ module _ (d : DrawnRuns) (o : OpeningValue) (c : QueueCertificate) where
               (opening_kept d.B d.M o is.part has.history has.run) formed;
           queue = is.queue;
           inside = first.inside;
-          breaks = λ keeps. (let none : first_ownership_breach q start has.history.entries ≡ None =
+          breaks = λ keeps. (let none : first_ownership_violation q start has.history.entries ≡ None =
               laws.none q start has.history.entries (some is.queue first.inside) keeps in
               let found = has.first in absurd (cc));
         }

@@ -3,7 +3,7 @@ use Rattle.std.specs.Prelude.{ℕ, ◌≡◌, Bool, true, false, List, [], ◌�
 use Rattle.step_machine.specs.History.{OpeningValue}
 use Rattle.step_machine.specs.declared.events.Event.{Event}
 use Rattle.queue_certificates.specs.Certificates.{QueueCertificate, no_queue}
-use Rattle.ownership_runs.specs.declared.breaches.Breach.{Breach}
+use Rattle.ownership_runs.specs.declared.violations.Violation.{Violation}
 use Rattle.ownership_runs.specs.declared.runs.Moved.{Moved}
 use Rattle.queue_checker.specs.Flaws.{first_flaw}
 use Rattle.queue_checker.specs.declared.flaws.Flaw.{Flaw}
@@ -104,10 +104,10 @@ pub record IsTriedText (d : DrawnRuns) (o : OpeningValue) (c : QueueCertificate)
 pub record IsBrokenText (d : DrawnRuns) (o : OpeningValue) (c : QueueCertificate) (text : List ℕ) : Type 0 where
   pub queue : ℕ
   pub part : List Event
-  pub breach : Breach
+  pub violation : Violation
   pub pc : ℕ
-  pub is_first : IsFirstBroken d o c queue part breach pc
-  pub text_is : text ≡ broken_text d.B o queue (get_or c.queues queue no_queue) part breach pc
+  pub is_first : IsFirstBroken d o c queue part violation pc
+  pub text_is : text ≡ broken_text d.B o queue (get_or c.queues queue no_queue) part violation pc
 
 abbrev pub IsTrialAnswer : DrawnRuns → OpeningValue → QueueCertificate → Flaw → List ℕ × Judgement → Type 0
 IsTrialAnswer d o c flaw (text, NotShown) = IsTriedText d o c flaw text

@@ -5,18 +5,18 @@ use Rattle.step_machine.specs.declared.events.Event.{Event}
 use Rattle.step_machine.specs.History.{OpeningValue}
 use Rattle.recorder.specs.Writing.{canon}
 use Rattle.queue_certificates.specs.Certificates.{OpenedQueue}
-use Rattle.ownership_runs.specs.declared.breaches.Breach.{Breach}
-use Rattle.ownership_runs.specs.declared.breaches.Owned.{Owned}
+use Rattle.ownership_runs.specs.declared.violations.Violation.{Violation}
+use Rattle.ownership_runs.specs.declared.violations.Owned.{Owned}
 use Rattle.ownership_runs.specs.declared.runs.Moved.{Moved}
 use Rattle.certifying.specs.Descriptions.{form_lines}
 use Rattle.certifying.specs.Instructions.{instruction_place}
 
--- ---- a breach
+-- ---- a violation
 
 abbrev pub broken_line : OpeningValue → (h pc : ℕ) → List ℕ
 broken_line o h pc = codes "broken: " ++ instruction_place o h pc ++ 10 ∷ []
 
-unfoldable pub stored_text : (i : ℕ) → Breach → List ℕ
+unfoldable pub stored_text : (i : ℕ) → Violation → List ℕ
 stored_text i b = codes "queue " ++ (decimal i ++ (codes ": it stored " ++ (decimal b.value ++ (codes " to the " ++ (decimal b.width
     ++ (codes " bytes at " ++ decimal b.addr))))))
 
@@ -28,7 +28,7 @@ owned_text None = codes ", and is neither party"
 owned_text (Some o) = if nat_lt o.from o.end then positions_text o else codes ", and owned no position"
 
 -- what was stored, and what the hart owned then
-abbrev pub stored_line : (i : ℕ) → Breach → List ℕ
+abbrev pub stored_line : (i : ℕ) → Violation → List ℕ
 stored_line i b = stored_text i b ++ owned_text b.owned ++ 10 ∷ []
 
 unfoldable pub other_line : List ℕ
@@ -38,7 +38,7 @@ other_line =
 unfoldable pub shown_line : (B : ℕ) → List ℕ
 shown_line B = codes "shown by this schedule, whose last event it is, with --buffer " ++ (decimal B ++ (codes ":" ++ 10 ∷ []))
 
-abbrev pub broken_text : (B : ℕ) → OpeningValue → (i : ℕ) → OpenedQueue → (part : List Event) → Breach → (pc : ℕ) → List ℕ
+abbrev pub broken_text : (B : ℕ) → OpeningValue → (i : ℕ) → OpenedQueue → (part : List Event) → Violation → (pc : ℕ) → List ℕ
 broken_text B o i opened part b pc =
     broken_line o b.hart pc ++ stored_line i b ++ form_lines i opened ++ other_line ++ shown_line B ++ canon part
 

@@ -7,14 +7,14 @@ use Rattle.step_machine.specs.Paths.{IsPc}
 use Rattle.step_machine.specs.Runs.{Run}
 use Rattle.queue_parties.specs.Parties.{all_at}
 use Rattle.queue_certificates.specs.Certificates.{QueueCertificate, queue_at, start_at}
-use Rattle.jumping.specs.declared.draws.Draw.{Draw}
-use Rattle.jumping.specs.Draws.{schedule_by}
+use Rattle.drawn_runs.specs.declared.draws.Draw.{Draw}
+use Rattle.drawn_runs.specs.Draws.{schedule_by}
 use Rattle.judged_runs.specs.Finding.{AreAllGood}
 use Rattle.judged_runs.specs.Telling.{IsFlawTold, IsTold}
 use Rattle.judged_runs.specs.declared.telling.Told.{Told}
-use Rattle.ownership_runs.specs.declared.breaches.Breach.{Breach}
+use Rattle.ownership_runs.specs.declared.violations.Violation.{Violation}
 use Rattle.ownership_runs.specs.declared.runs.Moved.{Moved}
-use Rattle.ownership_runs.specs.Ends.{EndsInBreach}
+use Rattle.ownership_runs.specs.Ends.{EndsInViolation}
 use Rattle.ownership_runs.specs.Runs.{HasKeptRun, HasBrokenRun, IsOfOneHart, AreMovesOf}
 use Rattle.certifying.specs.declared.trials.Trial.{Trial}
 use Rattle.certifying.specs.declared.trials.Trial.TheVariants.{Kept, Broken}
@@ -38,7 +38,7 @@ schedule_in d o = schedule_by d.draw (length o.harts) d.size d.stream
 
 module _ (d : DrawnRuns) (o : OpeningValue) (c : QueueCertificate) (i : ℕ) where
   -- what is stated of all runs
-  abbrev pub IsToldOf : Told Moved Breach → Type 0
+  abbrev pub IsToldOf : Told Moved Violation → Type 0
   IsToldOf told = IsTold (HasKeptRun d.B d.M o (queue_at c i) (all_at (start_at c i))) (HasBrokenRun d.B d.M o (queue_at c i) (all_at (start_at c i)))
       IsOfOneHart (AreMovesOf d.B d.M o (queue_at c i) (all_at (start_at c i))) (schedule_in d o) d.number told
 
@@ -47,14 +47,14 @@ module _ (d : DrawnRuns) (o : OpeningValue) (c : QueueCertificate) (i : ℕ) whe
   AllKeep moved = AreAllGood (HasKeptRun d.B d.M o (queue_at c i) (all_at (start_at c i))) (AreMovesOf d.B d.M o (queue_at c i) (all_at (start_at c i)))
       (schedule_in d o) 0 d.number moved
 
-  -- this is a part of the events of the first run that breaks it, with no event to spare, whose own run has this first breach
-  abbrev pub IsBrokenBy : (part : List Event) → Breach → Type 0
-  IsBrokenBy part breach = IsFlawTold (HasKeptRun d.B d.M o (queue_at c i) (all_at (start_at c i)))
-      (HasBrokenRun d.B d.M o (queue_at c i) (all_at (start_at c i))) IsOfOneHart (schedule_in d o) d.number part breach
+  -- this is a part of the events of the first run that breaks it, with no event to spare, whose own run has this first violation
+  abbrev pub IsBrokenBy : (part : List Event) → Violation → Type 0
+  IsBrokenBy part violation = IsFlawTold (HasKeptRun d.B d.M o (queue_at c i) (all_at (start_at c i)))
+      (HasBrokenRun d.B d.M o (queue_at c i) (all_at (start_at c i))) IsOfOneHart (schedule_in d o) d.number part violation
 
-  -- the last of these events makes the breach
-  abbrev pub EndsBroken : (part : List Event) → Breach → Type 0
-  EndsBroken part breach = EndsInBreach d.B d.M o (queue_at c i) (all_at (start_at c i)) part breach
+  -- the last of these events makes the violation
+  abbrev pub EndsBroken : (part : List Event) → Violation → Type 0
+  EndsBroken part violation = EndsInViolation d.B d.M o (queue_at c i) (all_at (start_at c i)) part violation
 
 -- ---- of all queues
 
@@ -70,21 +70,22 @@ pub record IsPcBeforeLast (B M : ℕ) (o : OpeningValue) (events : List Event) (
   pub is_pc : IsPc M before hart pc
 
 -- the first queue whose protocol a run breaks, as the last of these events shows, and the pc of that instruction
-pub record IsFirstBroken (d : DrawnRuns) (o : OpeningValue) (c : QueueCertificate) (queue : ℕ) (part : List Event) (breach : Breach) (pc : ℕ) : Type 0 where
+pub record IsFirstBroken (d : DrawnRuns) (o : OpeningValue) (c : QueueCertificate) (queue : ℕ) (part : List Event)
+    (violation : Violation) (pc : ℕ) : Type 0 where
   pub inside : queue < length c.queues
   pub moved : List Moved
   pub earlier : length moved ≡ queue
   pub kept : QueuesKeep d o c 0 moved
-  pub told : IsBrokenBy d o c queue part breach
-  pub ends : EndsBroken d o c queue part breach
-  pub at_pc : IsPcBeforeLast d.B d.M o part breach.hart pc
+  pub told : IsBrokenBy d o c queue part violation
+  pub ends : EndsBroken d o c queue part violation
+  pub at_pc : IsPcBeforeLast d.B d.M o part violation.hart pc
 
 abbrev pub IsOfTrial : DrawnRuns → OpeningValue → QueueCertificate → Trial → Type 0
 IsOfTrial d o c (Kept moved) = (length moved.items ≡ length c.queues) × QueuesKeep d o c 0 moved.items
-IsOfTrial d o c (Broken queue part breach pc) = IsFirstBroken d o c queue part.items breach pc
+IsOfTrial d o c (Broken queue part violation pc) = IsFirstBroken d o c queue part.items violation pc
 
--- it has this queue, part and breach, and the pc of the breach's hart
-abbrev pub IsTrialBroken : (B M : ℕ) → OpeningValue → (queue : ℕ) → (part : List Event) → Breach → Trial → Type 0
-IsTrialBroken B M o queue part breach (Kept moved) = ⊥
-IsTrialBroken B M o queue part breach (Broken of_queue of_part of_breach pc) =
-    (of_queue ≡ queue) × (of_part.items ≡ part) × (of_breach ≡ breach) × IsPcBeforeLast B M o part breach.hart pc
+-- it has this queue, part and violation, and the pc of the violation's hart
+abbrev pub IsTrialBroken : (B M : ℕ) → OpeningValue → (queue : ℕ) → (part : List Event) → Violation → Trial → Type 0
+IsTrialBroken B M o queue part violation (Kept moved) = ⊥
+IsTrialBroken B M o queue part violation (Broken of_queue of_part of_violation pc) =
+    (of_queue ≡ queue) × (of_part.items ≡ part) × (of_violation ≡ violation) × IsPcBeforeLast B M o part violation.hart pc

@@ -15,7 +15,7 @@ use crate::not_shown::{push_flaw, push_likely};
 use crate::unread::{Unread, push_unread};
 use crate::unused::{Unused, push_unused};
 use certificate_reader::push_known_at;
-use jumping::Runs;
+use drawn_runs::Runs;
 use known_values::Lack;
 use ownership_runs::Moved;
 use queue_checker::{Flaw, QueueCertificate};

@@ -30,11 +30,11 @@ use crate::judgement::Judgement;
 use crate::trials::{Trial, trial_of};
 use crate::unread::first_unread;
 use crate::unused::first_unused;
+use drawn_runs::progress::Progress;
+use drawn_runs::{Draw, Jump, Runs};
 use engine_support::fault::{Fault, Position};
 use engine_support::litmus_text::read_test;
 use engine_support::output::end_with;
-use jumping::progress::Progress;
-use jumping::{Draw, Jump, Runs};
 use known_values::Lack;
 use litmus::Test;
 use queue_checker::{Flaw, QueueCertificate, first_flaw};
@@ -132,11 +132,11 @@ fn judged_by_runs<
         Trial::Broken {
             queue,
             part,
-            breach,
+            violation,
             pc,
         } => {
             let opened = &certificate.queues[queue as usize];
-            let text = broken_text(alloc, B, opening, queue, opened, &part, breach, pc)?;
+            let text = broken_text(alloc, B, opening, queue, opened, &part, violation, pc)?;
             Ok((text, Judgement::Broken))
         }
     }

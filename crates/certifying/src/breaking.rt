@@ -10,7 +10,7 @@ use crate::descriptions::push_form;
 use crate::instructions::push_place;
 use crate::unused::number_of;
 use known_values::{Lack, OpenedQueue};
-use ownership_runs::{Breach, Moved, Owned};
+use ownership_runs::{Moved, Owned, Violation};
 use recorder::schedule_text;
 use std::alloc::{AllocError, Global};
 use step_machine::{Event, Opening};
@@ -24,15 +24,15 @@ fn push_broken(out: &mut String, opening: &Opening, hart: u32, pc: u32) -> Resul
 }
 
 #[tactic(auto, unfolding(crate::specs::Broken::stored_text))]
-fn push_stored_text(out: &mut String, index: u32, breach: Breach) -> Result<(), AllocError>
-    ensures { OnOk result (string_bytes out.new ≡ string_bytes out.old ++ stored_text index breach) }
+fn push_stored_text(out: &mut String, index: u32, violation: Violation) -> Result<(), AllocError>
+    ensures { OnOk result (string_bytes out.new ≡ string_bytes out.old ++ stored_text index violation) }
 {
-    let Breach {
+    let Violation {
         addr,
         width,
         value,
         ..
-    } = breach;
+    } = violation;
     write!(
         out,
         "queue {index}: it stored {value} to the {width} bytes at {addr}"
@@ -64,11 +64,11 @@ fn push_owned(out: &mut String, owned: Option<Owned>) -> Result<(), AllocError>
     }
 }
 
-fn push_stored(out: &mut String, index: u32, breach: Breach) -> Result<(), AllocError>
-    ensures { OnOk result (string_bytes out.new ≡ string_bytes out.old ++ stored_line index breach) }
+fn push_stored(out: &mut String, index: u32, violation: Violation) -> Result<(), AllocError>
+    ensures { OnOk result (string_bytes out.new ≡ string_bytes out.old ++ stored_line index violation) }
 {
-    push_stored_text(out, index, breach)?;
-    push_owned(out, breach.owned)?;
+    push_stored_text(out, index, violation)?;
+    push_owned(out, violation.owned)?;
     writeln!(out, "")
 }
 
@@ -100,14 +100,14 @@ pub fn broken_text(
     index: u32,
     opened: &OpenedQueue,
     part: &[Event],
-    breach: Breach,
+    violation: Violation,
     pc: u32,
 ) -> Result<String, AllocError>
-    ensures { IfOk result (λ text. string_bytes text ≡ broken_text stores opening.now index opened.now part.now breach pc) }
+    ensures { IfOk result (λ text. string_bytes text ≡ broken_text stores opening.now index opened.now part.now violation pc) }
 {
     let mut out = String::new(alloc);
-    push_broken(&mut out, opening, breach.hart, pc)?;
-    push_stored(&mut out, index, breach)?;
+    push_broken(&mut out, opening, violation.hart, pc)?;
+    push_stored(&mut out, index, violation)?;
     push_form(&mut out, index, opened)?;
     push_other(&mut out)?;
     push_shown(&mut out, stores)?;

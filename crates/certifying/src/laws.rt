@@ -7,7 +7,7 @@ ghost use Rattle.certifying.specs.Kept.{AreJudged, AreQueueAnswers, IsPromised};
 ghost use Rattle.certifying.specs.Trials.{DrawnRuns};
 ghost use Rattle.certifying.specs.declared.judgement.Judgement.{Judgement};
 
-use ownership_runs::laws::{laws_of_breaches, laws_of_judged_runs};
+use ownership_runs::laws::{laws_of_judged_runs, laws_of_violations};
 use queue_certificates::laws_of_queue_certificates;
 use queue_checker::flaws::laws_of_flaws;
 
@@ -28,6 +28,6 @@ pub fn laws_of_answers()
 {
     laws_of_flaws();
     laws_of_queue_certificates();
-    laws_of_breaches();
+    laws_of_violations();
     laws_of_judged_runs();
 }

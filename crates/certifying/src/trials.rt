@@ -8,12 +8,12 @@ ghost use Rattle.queue_certificates.specs.Certificates.{queue_at, start_at};
 ghost use Rattle.certifying.specs.Trials.{IsOfTrial, IsPcBeforeLast, IsToldOf, IsTrialBroken, runs_by};
 
 use crate::unused::number_of;
+use drawn_runs::progress::Progress;
+use drawn_runs::{Draw, Jump, Runs};
 use judged_runs::Told;
-use jumping::progress::Progress;
-use jumping::{Draw, Jump, Runs};
 use known_values::{Lack, OpenedQueue};
 use ownership_runs::laws::laws_of_judged_runs;
-use ownership_runs::{Breach, Counts, Moved, check_runs};
+use ownership_runs::{Counts, Moved, Violation, check_runs};
 use queue_checker::QueueCertificate;
 use std::alloc::{AllocError, Global};
 use std::thread::Threads;
@@ -24,12 +24,12 @@ use step_machine::{Event, Machine, Opening};
 pub enum Trial {
     /// All keep the protocol of each queue, whose parties moved on by this much in them.
     Kept(Vec<Moved>),
-    /// One breaks the protocol of this queue, which none does of an earlier one: a part of its events that ends with the breach, and
+    /// One breaks the protocol of this queue, which none does of an earlier one: a part of its events that ends with the violation, and
     /// the pc at which the hart was then.
     Broken {
         queue: u32,
         part: Vec<Event>,
-        breach: Breach,
+        violation: Violation,
         pc: u32,
     },
 }
@@ -75,7 +75,7 @@ fn broken_by<const B: usize, const M: usize>(
     opening: &Opening,
     queue: u32,
     part: Vec<Event>,
-    breach: Breach,
+    violation: Violation,
 ) -> Result<Trial, AllocError>
     requires some_capacity { 1 ≤ B }
     requires capacity { B ≤ 64 }
@@ -83,14 +83,14 @@ fn broken_by<const B: usize, const M: usize>(
     requires size { M ≤ 65536 }
     requires fits { FitsIn M opening.now }
     requires some_event { 1 ≤ length part.items }
-    requires of_hart { breach.hart < length opening.now.harts }
-    ensures { IfOk result (IsTrialBroken B M opening.now queue part.items breach) }
+    requires of_hart { violation.hart < length opening.now.harts }
+    ensures { IfOk result (IsTrialBroken B M opening.now queue part.items violation) }
 {
-    let pc = pc_before_last::<B, M>(alloc, opening, &part, breach.hart)?;
+    let pc = pc_before_last::<B, M>(alloc, opening, &part, violation.hart)?;
     Ok(Trial::Broken {
         queue,
         part,
-        breach,
+        violation,
         pc,
     })
 }
@@ -106,7 +106,7 @@ fn told_of<const B: usize, const M: usize, G: Jump + Sync + Drop, T: Threads + S
     generator: &G,
     runs: Runs,
     progress: &mut P,
-) -> Result<Told<Moved, Breach>, AllocError>
+) -> Result<Told<Moved, Violation>, AllocError>
     requires some_capacity { 1 ≤ B }
     requires capacity { B ≤ 64 }
     requires some_word { 1 ≤ M }

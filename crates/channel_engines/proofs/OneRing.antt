@@ -7,13 +7,13 @@ use Rattle.std.specs.List.{slice_get}
 use Rattle.step_machine.specs.History.{History, OpeningValue, at_opening}
 use Rattle.step_machine.specs.Runs.{Run}
 use Rattle.step_machine.proofs.Running.{run-one}
-use Rattle.jumping.specs.Draws.{schedule_by}
-use Rattle.poll_close.specs.Breaches.{first_breach}
+use Rattle.drawn_runs.specs.Draws.{schedule_by}
+use Rattle.poll_close.specs.Violations.{first_violation}
 use Rattle.poll_close.specs.Laws.{opening_over}
 use Rattle.poll_close.specs.Layout.{Layout}
 use Rattle.poll_close.specs.Places.{layout_of}
 use Rattle.poll_close.specs.declared.place.BlockPlace.{BlockPlace}
-use Rattle.poll_close.proofs.BreachLaws.{first_law}
+use Rattle.poll_close.proofs.ViolationLaws.{first_law}
 use Rattle.engine_support.specs.declared.fault.Refusal.{Refusal}
 use Rattle.engine_support.specs.declared.fault.Role.TheVariants.{Sender, Receiver}
 use Rattle.engine_support.specs.Inputs.{After, Format}
@@ -81,11 +81,11 @@ module _ (d : Draws) (channel also : UserChannel) (rings : ring_of channel ≡ r
       subst (λ (o : OpeningValue). Run d.B d.M o (schedule_by d.draw (length o.harts) d.size d.stream number) has.history) (sym starts) has.run in
       let same : mine.history ≡ has.history =
       run-one d.B d.M (at_opening (start_of channel)) (schedule_of_run (source_drawn d channel) number) mine.history has.history mine.run run in
-      let none : first_breach (layout_from channel) (lists_of channel) mine.history.entries ≡ None =
+      let none : first_violation (layout_from channel) (lists_of channel) mine.history.entries ≡ None =
       (first_law (layout_from channel) (lists_of channel) mine.history.entries).1 mine.kept in
-      let some : first_breach (layout_from channel) (lists_of channel) mine.history.entries ≡ Some other.is_told.flaw =
-      ap (λ (t : History). first_breach (layout_from channel) (lists_of channel) t.entries) same
-      ∙ ap₂ (λ (l : Layout) (ls : List (List ℕ)). first_breach l ls has.history.entries) layouts lists ∙ has.breaks in absurd cc
+      let some : first_violation (layout_from channel) (lists_of channel) mine.history.entries ≡ Some other.is_told.flaw =
+      ap (λ (t : History). first_violation (layout_from channel) (lists_of channel) t.entries) same
+      ∙ ap₂ (λ (l : Layout) (ls : List (List ℕ)). first_violation l ls has.history.entries) layouts lists ∙ has.breaks in absurd cc
 
   one_clean : (a b : List ℕ) → IsCleanOutput (source_drawn d channel) d.runs a → IsCleanOutput (source_drawn d also) d.runs b → a ≡ b
   one_clean a b is other =

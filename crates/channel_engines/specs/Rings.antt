@@ -1,8 +1,8 @@
 -- The command `ring`: two programs and the senders' lists in, totals of drawn runs or a short unclean one out.
 use Rattle.std.specs.Prelude.{ℕ, ◌≡◌, ◌*◌, Bool, true, false, List, [], Option, Result, Ok, Err}
 use Rattle.rand_core.specs.Stream.{Stream}
-use Rattle.jumping.specs.declared.Runs.{Runs}
-use Rattle.jumping.specs.declared.draws.Draw.{Draw}
+use Rattle.drawn_runs.specs.declared.Runs.{Runs}
+use Rattle.drawn_runs.specs.declared.draws.Draw.{Draw}
 use Rattle.recorder.specs.Drawing.{left_after}
 use Rattle.poll_close.specs.Laws.{AcceptedAt as IsWithin}
 use Rattle.poll_close.specs.Places.{layout_of}

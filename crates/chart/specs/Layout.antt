@@ -17,7 +17,7 @@ use Rattle.chart.specs.Scenes.{SceneOf, is_bare, scene_of, least_label, label_ce
 use Rattle.chart.specs.Scenes.{lanes_in, shape_of, places_of}
 use Rattle.chart.specs.Lines.{row_lines, open_lines, heads_line}
 
--- a left side of the condition, with its last value
+-- an observed location of the condition, with its last value
 pub record LastValueOf : Type 0 where
   pub left : List ℕ
   pub value : ℕ

@@ -23,7 +23,7 @@ use std::alloc::{AllocError, Global};
 use std::marker::Model;
 use step_machine::Entry;
 
-/// A left side of the condition, with its last value.
+/// An observed location of the condition, with its last value.
 #[derive(Drop)]
 pub struct LastValue {
     pub left: String,
@@ -41,7 +41,7 @@ impl Model for LastValue {
 
 /// What is known of a run beside its entries: the test's name, how many harts it has, how wide their
 /// columns are at least, the locations' names in the order of their words, the instruction of each entry
-/// (none where the list has ended), the last values of the condition's left sides, the verdict and the
+/// (none where the list has ended), the last values of the condition's observed locations, the verdict and the
 /// condition's text.
 #[derive(Drop)]
 pub struct About {

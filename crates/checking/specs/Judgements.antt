@@ -21,7 +21,7 @@ pub record Difference : Type 0 where
   pub found : Outcome
 
 pub data Judged : Type 0 where
-  -- a record of a run that finished, with the last values of the condition's left sides
+  -- a record of a run that finished, with the last values of the condition's observed locations
   finished : List ℕ → Judged
   unfinished : Judged
   -- a record whose run has another outcome of this event, and of no event before it

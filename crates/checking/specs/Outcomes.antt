@@ -8,7 +8,7 @@ use Rattle.engine_support.specs.Outcomes.{AreOutcomes, line_of, unfinished_line}
 use Rattle.checking.specs.Judgements.{Judged}
 use Rattle.checking.specs.Judgements.Judged.{finished, unfinished, differing, no_record}
 
--- whether a run finished with this outcome, the list of the left sides' values
+-- whether a run finished with this outcome, the list of the observed locations' values
 abbrev pub finished_with : (outcome : List ℕ) → Judged → Bool
 finished_with outcome (finished values) = are_equal outcome values
 finished_with outcome other = false

@@ -18,9 +18,9 @@ use Rattle.command_line.specs.declared.job.CalledQueue.{CalledQueue}
 use Rattle.command_line.specs.declared.job.CodeCommand.TheVariants.{Asm, Dis}
 use Rattle.command_line.specs.declared.job.Command.{Command}
 use Rattle.command_line.specs.declared.job.Command.TheVariants.{Code, Machine, Find, Threads, UserChannel, Ring as UserRing, Queue}
-use Rattle.jumping.specs.declared.Runs.{Runs}
-use Rattle.jumping.specs.declared.draws.Draw.{Draw}
-use Rattle.jumping.specs.declared.draws.Draw.TheVariants.{Uniform, Bursts}
+use Rattle.drawn_runs.specs.declared.Runs.{Runs}
+use Rattle.drawn_runs.specs.declared.draws.Draw.{Draw}
+use Rattle.drawn_runs.specs.declared.draws.Draw.TheVariants.{Uniform, Bursts}
 use Rattle.poll_close.specs.declared.place.BlockPlace.{BlockPlace}
 use Rattle.chart.specs.declared.scenes.Selection.{Selection}
 use Rattle.chart.specs.declared.scenes.Selection.TheVariants.{EveryRow, MemoryRows}

@@ -2,7 +2,7 @@
 -- by field, so that no two change places unseen.
 use Rattle.std.specs.Prelude.{◌≡◌, Some, codes}
 use Rattle.recorder.specs.declared.reading.TheConstants.{MAX_EVENTS}
-use Rattle.jumping.specs.declared.Runs.{Runs}
+use Rattle.drawn_runs.specs.declared.Runs.{Runs}
 use Rattle.poll_close.specs.declared.place.BlockPlace.{BlockPlace}
 use Rattle.command_line.specs.CommandLines.{Found, number_at, number_if_given, queue_kind_given, ◌>>=◌}
 use Rattle.command_line.specs.declared.job.CalledQueue.{CalledQueue}

@@ -1,7 +1,7 @@
 //! What a command line can ask for.
 
 use chart::charts::{Selection, Style};
-use jumping::{Draw, Runs};
+use drawn_runs::{Draw, Runs};
 use poll_close::BlockPlace;
 
 /// How many stores a hart's buffer holds.

@@ -22,7 +22,7 @@ use crate::job::{
 use crate::numbers::{count_of, number_of};
 use chart::charts::{Selection, Style};
 use clap::ArgMatches;
-use jumping::{Draw, Runs};
+use drawn_runs::{Draw, Runs};
 use poll_close::BlockPlace;
 use recorder::MAX_EVENTS;
 use std::alloc::Global;

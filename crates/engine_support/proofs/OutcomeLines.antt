@@ -1,4 +1,4 @@
--- The lines of outcomes, left side by left side.
+-- The lines of outcomes, observed location by observed location.
 use Rattle.std.proofs.Common.{arith, ◌≡◌, ℕ, List, [], ◌∷◌, ◌++◌, zip, sym, ◌∙◌, subst, append_assoc, inl, inr, ◌⊎◌, refl}
 use Rattle.std.specs.List.{flat_map}
 use Rattle.std.proofs.lemmas.List.{append-nil}

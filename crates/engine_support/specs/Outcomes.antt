@@ -13,7 +13,7 @@ use Rattle.engine_support.specs.Places.{place_text}
 abbrev pub value_text : (names : List (List ℕ)) → Place × ℕ → List ℕ
 value_text names side = codes " " ++ place_text names side.0 ++ codes "=" ++ decimal side.1
 
--- a line: how many runs, the values of the left sides, and what names the first run
+-- a line: how many runs, the values of the observed locations, and what names the first run
 abbrev pub line_of : LitmusTest → (outcome : List ℕ) → (count : ℕ) → (end : List ℕ) → List ℕ
 line_of test outcome count end = decimal count ++ flat_map (value_text test.names) (zip (left_sides test.condition) outcome) ++ codes " ;" ++ end ++ 10 ∷ []
 

@@ -58,7 +58,7 @@ fn write_value<W: Write>(writer: &mut W, test: &Test, place: Place, value: u32) 
     write!(writer, "={value}")
 }
 
-/// Writes the left sides with these values.
+/// Writes the observed locations with these values.
 fn write_values<W: Write>(writer: &mut W, test: &Test, values: &[u32]) -> io::Result<()>
     ensures { OnOk result (Appends (W.contents writer.old) (W.contents writer.new)
         (flat_map (value_text test.now.names) (zip (left_sides test.now.condition) values.now))) }
@@ -138,7 +138,7 @@ impl Outcomes {
     }
 
     /// Writes a line for each outcome, ascending by the values: how many runs gave it, the values of the condition's
-    /// left sides, and what its row ends with. The lines are made as they are written, which takes no memory: a
+    /// observed locations, and what its row ends with. The lines are made as they are written, which takes no memory: a
     /// location's name may be long, and stands in each of them.
     pub fn write_lines<W: Write>(&self, writer: &mut W, test: &Test) -> io::Result<()>
         ensures { OnOk result (Appends (W.contents writer.old) (W.contents writer.new) (lines_in test.now self.now)) }

@@ -30,7 +30,7 @@ pub enum Found {
     Shown,
     /// The search went on from each of this many distinct states, and came to no outcome that is looked for.
     AllSeen { states: u32 },
-    /// It was cut after this many distinct states, since it may see no more or a way has no more events. None of them ends
+    /// It was cut after this many distinct states, since it may see no more or a path has no more events. None of them ends
     /// so.
     Cut { states: u32 },
 }
@@ -93,11 +93,11 @@ fn answer<const B: usize, const M: usize, P: SearchProgress>(
     let Searched {
         states,
         is_cut,
-        way,
+        path,
     } = searched?;
-    if let Some(way) = way {
-        if is_shown_by::<B, M>(alloc, test, &way)? {
-            let text = write_schedule(alloc, &way)?;
+    if let Some(path) = path {
+        if is_shown_by::<B, M>(alloc, test, &path)? {
+            let text = write_schedule(alloc, &path)?;
             if text.len() > INPUT_BYTES {
                 return Err(Fault::refused(TOO_LARGE, Position::Nowhere));
             }

@@ -12,11 +12,11 @@ ghost use Rattle.recorder.specs.declared.reading.TheConstants.{MAX_EVENTS};
 ghost use Rattle.finding.specs.inner.Surveys.{BeginsAt, IsAnswer, IsShortest, IsWalkedWithin, IsWithin};
 
 use crate::finds::ends_as_wanted;
+use crate::paths::path_of;
 use crate::progress::SearchProgress;
 use crate::reports::Reports;
 use crate::steps::Stepper;
 use crate::walk::{Walk, Went};
-use crate::ways::way_of;
 use litmus::Test;
 use recorder::MAX_EVENTS;
 use std::alloc::{AllocError, Global};
@@ -27,10 +27,10 @@ use step_machine::{Event, MachineState};
 pub struct Searched {
     /// How many distinct states it saw.
     pub states: u32,
-    /// Whether it may see no more, or ways have no more events.
+    /// Whether it may see no more, or paths have no more events.
     pub is_cut: bool,
     /// The events by which it came to an outcome that is looked for, if it did.
-    pub way: Option<Vec<Event>>,
+    pub path: Option<Vec<Event>>,
 }
 
 /// What a walk by keys of some words came to.
@@ -45,31 +45,31 @@ enum Walked {
 }
 
 /// What a search came to that saw this many states and may see `limit` of them.
-fn searched_of(states: usize, limit: u32, way: Option<Vec<Event>>) -> Searched
+fn searched_of(states: usize, limit: u32, path: Option<Vec<Event>>) -> Searched
     requires few { states ≤ limit }
     ensures states { result.states ≡ states }
     ensures cut { IsTrue result.is_cut ↔ (limit ≤ states) }
-    ensures way { result.way ≡ way }
+    ensures path { result.path ≡ path }
 {
     let states = states as u32;
     Searched {
         states,
         is_cut: states >= limit,
-        way,
+        path,
     }
 }
 
-/// What it came to where ways have no more events.
+/// What it came to where paths have no more events.
 fn cut_at(states: usize, limit: u32) -> Searched
     requires few { states ≤ limit }
     ensures states { result.states ≡ states }
     ensures cut { result.is_cut ≡ true }
-    ensures way { result.way ≡ None }
+    ensures path { result.path ≡ None }
 {
     Searched {
         states: states as u32,
         is_cut: true,
-        way: None,
+        path: None,
     }
 }
 
@@ -166,12 +166,12 @@ fn walk<const B: usize, const M: usize, const N: usize, P: SearchProgress>(
         Walked::ToEnd(searched) => Ok(Some(searched)),
         Walked::ToOne => {
             let seen = states.len();
-            let met = states.into_met();
-            let Some(way) = way_of::<B, M, N>(alloc, test, stepper, &met, &ends)? else {
+            let visited = states.into_visited();
+            let Some(path) = path_of::<B, M, N>(alloc, test, stepper, &visited, &ends)? else {
                 // not reached by a survey that is right: there is something, so "nothing found" would be wrong
                 return Err(AllocError);
             };
-            Ok(Some(searched_of(seen, limit, Some(way))))
+            Ok(Some(searched_of(seen, limit, Some(path))))
         }
         Walked::NoRoom => Ok(None),
     }

@@ -3,11 +3,11 @@
 ghost use Rattle.std.specs.Prelude.{◌≡◌, ◌≤◌, ◌+◌, length, IfOk, IfSome};
 
 use crate::finds::ends_as_wanted;
-use crate::met::Met;
 use crate::moves::{Move, Moves};
 use crate::progress::SearchProgress;
 use crate::reports::Reports;
 use crate::steps::Stepper;
+use crate::visited::Visited;
 use litmus::Test;
 use states::{Draft, Keys, Layout};
 use std::alloc::{AllocError, Global};
@@ -75,15 +75,15 @@ impl<const N: usize> Walk<N> {
         }))
     }
 
-    /// The states that were met.
-    pub fn into_met(self) -> Met<N>
+    /// The states that were visited.
+    pub fn into_visited(self) -> Visited<N>
         requires { N ≤ 64 }
     {
         let Walk { keys, layout, .. } = self;
-        Met::new(keys, layout)
+        Visited::new(keys, layout)
     }
 
-    /// How many states were met.
+    /// How many states were visited.
     pub fn len(&self) -> usize
         ensures { result ≡ length self.now }
     {
@@ -99,7 +99,7 @@ impl<const N: usize> Walk<N> {
         end.min(from.saturating_add(BLOCK))
     }
 
-    /// Goes on from the states from `from` to before `end`, until `limit` are met.
+    /// Goes on from the states from `from` to before `end`, until `limit` are visited.
     pub fn go_on<const B: usize, const M: usize, P: SearchProgress>(
         &mut self,
         alloc: Global,

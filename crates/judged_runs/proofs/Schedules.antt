@@ -5,8 +5,8 @@ use Rattle.std.proofs.lemmas.Bool.{cases_lt}
 use Rattle.rand_core.specs.Stream.{Stream}
 use Rattle.step_machine.specs.declared.events.Event.{Event}
 use Rattle.recorder.specs.Drawing.{drawn_words, left_after}
-use Rattle.jumping.specs.Draws.{events_by, schedule_by}
-use Rattle.jumping.specs.declared.draws.Draw.{Draw}
+use Rattle.drawn_runs.specs.Draws.{events_by, schedule_by}
+use Rattle.drawn_runs.specs.declared.draws.Draw.{Draw}
 use Rattle.judged_runs.specs.Finding.{schedules_from, AreGood, AreAllGood, IsFirstFlawed}
 
 -- what was drawn is the schedule of this number

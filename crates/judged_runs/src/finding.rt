@@ -1,12 +1,12 @@
 //! The runs that a judge judges, which are spread over rounds and jobs.
 
 ghost use Rattle.std.specs.Prelude.{◌≡◌, None};
-ghost use Rattle.jumping.specs.Draws.{schedule_by};
+ghost use Rattle.drawn_runs.specs.Draws.{schedule_by};
 ghost use Rattle.judged_runs.specs.Finding.{IsFoundFrom};
 
 use crate::judge::Judge;
-use jumping::parallel::Trials;
-use jumping::{Draw, Jump, draw_by};
+use drawn_runs::parallel::Trials;
+use drawn_runs::{Draw, Jump, draw_by};
 use std::alloc::{AllocError, Global};
 
 /// What is found of runs.

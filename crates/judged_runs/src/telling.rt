@@ -1,13 +1,13 @@
 //! Makes the answer of many runs.
 
 ghost use Rattle.std.specs.Prelude.{IfOk};
-ghost use Rattle.jumping.specs.Draws.{schedule_by};
+ghost use Rattle.drawn_runs.specs.Draws.{schedule_by};
 ghost use Rattle.judged_runs.specs.Finding.{IsFoundFrom};
 ghost use Rattle.judged_runs.specs.Telling.{ShowsFlaw, IsShownFlaw, IsTold};
 
 use crate::finding::{Found, JudgedRuns};
 use crate::judge::Judge;
-use jumping::{Jump, draw_by};
+use drawn_runs::{Jump, draw_by};
 use shrink::{Question, leave_out};
 use std::alloc::{AllocError, Global};
 use step_machine::Event;

@@ -37,7 +37,7 @@ abbrev pub firsts : List Place → List Place
 firsts [] = []
 firsts (p ∷ others) = p ∷ filter (λ q. not (is_same p q)) (firsts others)
 
--- a condition's left sides, each once, in order of first appearance
+-- a condition's observed locations, each once, in order of first appearance
 abbrev pub left_sides : Formula → List Place
 left_sides f = firsts (places f)
 

@@ -94,7 +94,7 @@ impl Test {
         matches!(self.quantifier, Quantifier::Exists)
     }
 
-    /// The condition's left sides, each once, in order of first appearance.
+    /// The condition's observed locations, each once, in order of first appearance.
     pub fn lefts(&self) -> &[Place]
         ensures value { result.now ≡ left_sides self.now.condition }
         ensures there { All (IsThere (length self.now.opening.harts) (length self.now.names)) result.now }
@@ -110,7 +110,7 @@ impl Test {
         self.names[address as usize / 4].as_str()
     }
 
-    /// The last values of the left sides, in their order.
+    /// The last values of the observed locations, in their order.
     pub fn values<const B: usize, const M: usize>(
         &self,
         alloc: Global,

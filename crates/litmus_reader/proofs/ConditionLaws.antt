@@ -20,7 +20,7 @@ use Rattle.litmus.specs.Drafting.{Stage, stage_after, with_symbol, or_misplaced,
 use Rattle.litmus.proofs.GrammarLaws.{finished_only}
 use Rattle.litmus.proofs.FrontLaws.{finished-found}
 use Rattle.litmus.proofs.BeginLaws.{refused_begins}
-use Rattle.litmus_tokens.specs.Settings as setting
+use Rattle.litmus_tokens.specs.Assignments as assigned
 use Rattle.litmus_tokens.specs.Tokens as token
 use Rattle.litmus_tokens.specs.Tokens.{Tokens, tokens_of, AreTokens, listed}
 use Rattle.litmus_tokens.proofs.Spelling.{tokens_are, are_tokens}
@@ -34,10 +34,11 @@ use Rattle.litmus_reader.specs.Condition.{place_resolved, atom_resolved, token_r
 use Rattle.litmus_reader.specs.Condition.{none_unread, after_quantifier, condition_in}
 use Rattle.litmus_reader.specs.Shapes.{NoneBegins}
 use Rattle.litmus_reader.specs.Layout.{BeginsUnread}
-use Rattle.litmus_reader.specs.Openings.{names_in, name_of_place, name_of_value, each_once, IsWorth}
+use Rattle.litmus_reader.specs.Openings.{names_in, name_of_place, name_of_value, each_once, IsNamedValue}
 use Rattle.litmus_reader.specs.ConditionGrammar.{token_for, IsFinalCondition, atoms_in, IsPlaceOf, IsKnown, AreKnown}
 use Rattle.litmus_reader.proofs.ShapeLaws.{unread_matches, nowhere_found, nowhere_only, token_cut}
-use Rattle.litmus_reader.proofs.FirstAppearances.{fewer, at_later, one_index, resolved-found, resolved-only, value_found, value_only, worth_later, one_worth}
+use Rattle.litmus_reader.proofs.FirstAppearances.{fewer, at_later, one_index, resolved-found, resolved-only}
+use Rattle.litmus_reader.proofs.FirstAppearances.{value_found, value_only, named_value_later, one_named_value}
 use Rattle.texts.specs.Pieces.{is_blank}
 
 -- ---- the quantifier
@@ -92,41 +93,41 @@ finished-ok words formula e = grind arith
 abbrev names_of : token.Token → Names
 names_of first = names_in (atoms_in (first ∷ []))
 
-record PlaceFound (harts : ℕ) (ms : Names) (spot : setting.NamedPlace) (found : Place × Names) : Type 0 where
-  names : found.1 ≡ each_once (ms ++ name_of_place spot)
+record PlaceFound (harts : ℕ) (ms : Names) (location : assigned.NamedLocation) (found : Place × Names) : Type 0 where
+  names : found.1 ≡ each_once (ms ++ name_of_place location)
   few : length found.1 ≤ 1024
-  at : IsPlaceOf harts found.1 spot found.0
+  at : IsPlaceOf harts found.1 location found.0
 
 register_found : (harts hart : ℕ) (ms : Names) (register : Reg) (b : Bool) (found : Place × Names)
     → nat_lt hart harts ≡ b → length (each_once ms) ≤ 1024
     → (if b then Ok (place.Register hart register.number, each_once ms) else Err BadCondition) ≡ Ok found
-    → PlaceFound harts ms (setting.NamedPlace.in_register hart register) found
+    → PlaceFound harts ms (assigned.NamedLocation.in_register hart register) found
 register_found harts hart ms register b found within few e = grind (arith, ok_is, append-nil, ltb-true)
 
-place_found : (harts : ℕ) (ms : Names) (spot : setting.NamedPlace) (found : Place × Names)
-    → length (each_once ms) ≤ 1024 → place_resolved harts (each_once ms) spot ≡ Ok found
-    → PlaceFound harts ms spot found
+place_found : (harts : ℕ) (ms : Names) (location : assigned.NamedLocation) (found : Place × Names)
+    → length (each_once ms) ≤ 1024 → place_resolved harts (each_once ms) location ≡ Ok found
+    → PlaceFound harts ms location found
 unfolding place_resolved
-place_found harts ms (setting.NamedPlace.in_register hart register) found few e = register_found harts hart ms register (nat_lt hart harts) found refl few e
-place_found harts ms (setting.NamedPlace.at_location name) found few e =
+place_found harts ms (assigned.NamedLocation.in_register hart register) found few e = register_found harts hart ms register (nat_lt hart harts) found refl few e
+place_found harts ms (assigned.NamedLocation.at_location name) found few e =
     let first = bind_ok (resolved (each_once ms) name) (λ one. Ok (place.Word (4 * one.0), one.1)) found e in
     let shown = resolved-found ms name first.0 first.1 in
-    subst (PlaceFound harts ms (setting.NamedPlace.at_location name)) (ok_is LitmusFault (place.Word (4 * first.0.0), first.0.1) found first.2)
+    subst (PlaceFound harts ms (assigned.NamedLocation.at_location name)) (ok_is LitmusFault (place.Word (4 * first.0.0), first.0.1) found first.2)
     (record { names = shown.0; few = shown.2 few; at = (first.0.0, shown.1, refl) })
 
-place_later : (harts : ℕ) (ms more : Names) (spot : setting.NamedPlace) (at : Place)
-    → IsPlaceOf harts (each_once ms) spot at → IsPlaceOf harts (each_once (ms ++ more)) spot at
-place_later harts ms more spot at is = grind (arith, at_later)
+place_later : (harts : ℕ) (ms more : Names) (location : assigned.NamedLocation) (at : Place)
+    → IsPlaceOf harts (each_once ms) location at → IsPlaceOf harts (each_once (ms ++ more)) location at
+place_later harts ms more location at is = grind (arith, at_later)
 
 -- the names may be followed by others, of what comes later
-place_only : (harts : ℕ) (ms more : Names) (spot : setting.NamedPlace) (at : Place)
-    → length (each_once (ms ++ name_of_place spot)) ≤ 1024
-    → IsPlaceOf harts (each_once ((ms ++ name_of_place spot) ++ more)) spot at
-    → place_resolved harts (each_once ms) spot ≡ Ok (at, each_once (ms ++ name_of_place spot))
+place_only : (harts : ℕ) (ms more : Names) (location : assigned.NamedLocation) (at : Place)
+    → length (each_once (ms ++ name_of_place location)) ≤ 1024
+    → IsPlaceOf harts (each_once ((ms ++ name_of_place location) ++ more)) location at
+    → place_resolved harts (each_once ms) location ≡ Ok (at, each_once (ms ++ name_of_place location))
 unfolding place_resolved
-place_only harts ms more (setting.NamedPlace.in_register hart register) at few is =
+place_only harts ms more (assigned.NamedLocation.in_register hart register) at few is =
     rw (lt-ltb hart harts is.0, append-nil ms) (ap (λ (p : Place). Ok (p, each_once ms)) (sym is.1))
-place_only harts ms more (setting.NamedPlace.at_location name) at few is =
+place_only harts ms more (assigned.NamedLocation.at_location name) at few is =
     let shown = resolved-only ms name few in
     let same : shown.0 ≡ is.0 = one_index ((ms ++ name ∷ []) ++ more) name shown.0 is.0 (at_later (ms ++ name ∷ []) more name shown.0 shown.2) is.1 in
     rw shown.1 (ap (λ (p : Place). Ok (p, each_once (ms ++ name ∷ []))) (ap (λ (index : ℕ). place.Word (4 * index)) same ∙ sym is.2))
@@ -138,31 +139,32 @@ record TokenFound (harts : ℕ) (ms : Names) (first : token.Token) (found : Symb
   few : length found.1 ≤ 1024
   known : IsKnown harts found.1 first found.0
 
-both_names : (ms : Names) (equation : setting.Equation)
-    → (ms ++ name_of_place equation.0) ++ name_of_value equation.1 ≡ ms ++ names_of (token.Token.atom equation)
-both_names ms equation = append_assoc ms (name_of_place equation.0) (name_of_value equation.1)
-    ∙ ap (λ (ns : Names). ms ++ (name_of_place equation.0 ++ ns)) (sym (append-nil (name_of_value equation.1)))
+both_names : (ms : Names) (assignment : assigned.AssignmentValue)
+    → (ms ++ name_of_place assignment.0) ++ name_of_value assignment.1 ≡ ms ++ names_of (token.Token.atom assignment)
+both_names ms assignment = append_assoc ms (name_of_place assignment.0) (name_of_value assignment.1)
+    ∙ ap (λ (ns : Names). ms ++ (name_of_place assignment.0 ++ ns)) (sym (append-nil (name_of_value assignment.1)))
 
-atom_found : (harts : ℕ) (ms : Names) (equation : setting.Equation) (found : Symbol × Names)
-    → length (each_once ms) ≤ 1024 → atom_resolved harts (each_once ms) equation ≡ Ok found
-    → TokenFound harts ms (token.Token.atom equation) found
+atom_found : (harts : ℕ) (ms : Names) (assignment : assigned.AssignmentValue) (found : Symbol × Names)
+    → length (each_once ms) ≤ 1024 → atom_resolved harts (each_once ms) assignment ≡ Ok found
+    → TokenFound harts ms (token.Token.atom assignment) found
 unfolding atom_resolved
-atom_found harts ms equation found few e =
-    let here = ms ++ name_of_place equation.0 in
-    let spot = bind_ok (place_resolved harts (each_once ms) equation.0)
-    (λ spot. value_resolved spot.1 equation.1 >>= λ value. Ok (symbol.Is spot.0 value.0, value.1)) found e in
-    let at = place_found harts ms equation.0 spot.0 few spot.1 in
-    let value = bind_ok (value_resolved spot.0.1 equation.1) (λ value. Ok (symbol.Is spot.0.0 value.0, value.1)) found spot.2 in
-    let worth = value_found here equation.1 value.0 (subst (λ (names : Names). value_resolved names equation.1 ≡ Ok value.0) at.names value.1) in
-    let at_here : IsPlaceOf harts (each_once here) equation.0 spot.0.0 = subst (λ (names : Names). IsPlaceOf harts names equation.0 spot.0.0) at.names at.at in
-    let at_end : IsPlaceOf harts value.0.1 equation.0 spot.0.0 =
-    subst (λ (names : Names). IsPlaceOf harts names equation.0 spot.0.0) (sym worth.0)
-    (place_later harts here (name_of_value equation.1) equation.0 spot.0.0 at_here) in
-    subst (TokenFound harts ms (token.Token.atom equation)) (ok_is LitmusFault (symbol.Is spot.0.0 value.0.0, value.0.1) found value.2)
+atom_found harts ms assignment found few e =
+    let here = ms ++ name_of_place assignment.0 in
+    let location = bind_ok (place_resolved harts (each_once ms) assignment.0)
+    (λ location. value_resolved location.1 assignment.1 >>= λ value. Ok (symbol.Is location.0 value.0, value.1)) found e in
+    let at = place_found harts ms assignment.0 location.0 few location.1 in
+    let value = bind_ok (value_resolved location.0.1 assignment.1) (λ value. Ok (symbol.Is location.0.0 value.0, value.1)) found location.2 in
+    let value = value_found here assignment.1 value.0 (subst (λ (names : Names). value_resolved names assignment.1 ≡ Ok value.0) at.names value.1) in
+    let at_here : IsPlaceOf harts (each_once here) assignment.0 location.0.0 =
+    subst (λ (names : Names). IsPlaceOf harts names assignment.0 location.0.0) at.names at.at in
+    let at_end : IsPlaceOf harts value.0.1 assignment.0 location.0.0 =
+    subst (λ (names : Names). IsPlaceOf harts names assignment.0 location.0.0) (sym value.0)
+    (place_later harts here (name_of_value assignment.1) assignment.0 location.0.0 at_here) in
+    subst (TokenFound harts ms (token.Token.atom assignment)) (ok_is LitmusFault (symbol.Is location.0.0 value.0.0, value.0.1) found value.2)
     (record {
-      names = worth.0 ∙ ap each_once (both_names ms equation);
-      few = worth.2 (subst (λ (names : Names). length names ≤ 1024) at.names at.few);
-      known = (spot.0.0, value.0.0, at_end, worth.1, refl);
+      names = value.0 ∙ ap each_once (both_names ms assignment);
+      few = value.2 (subst (λ (names : Names). length names ≤ 1024) at.names at.few);
+      known = (location.0.0, value.0.0, at_end, value.1, refl);
     })
 
 abbrev answered : Symbol → Names → Result (Symbol × Names) LitmusFault
@@ -176,7 +178,7 @@ plain_found harts ms first known found none is few e = grind (arith, ok_is, appe
 token_found : (harts : ℕ) (ms : Names) (first : token.Token) (found : Symbol × Names) → length (each_once ms) ≤ 1024
     → token_resolved harts (each_once ms) first ≡ Ok found → TokenFound harts ms first found
 unfolding token_resolved
-token_found harts ms (token.Token.atom equation) found few e = atom_found harts ms equation found few e
+token_found harts ms (token.Token.atom assignment) found few e = atom_found harts ms assignment found few e
 token_found harts ms token.Token.negation found few e = plain_found harts ms token.Token.negation symbol.Not found refl (λ names. refl) few e
 token_found harts ms token.Token.conjunction found few e = plain_found harts ms token.Token.conjunction symbol.And found refl (λ names. refl) few e
 token_found harts ms token.Token.disjunction found few e = plain_found harts ms token.Token.disjunction symbol.Or found refl (λ names. refl) few e
@@ -185,31 +187,31 @@ token_found harts ms token.Token.closing found few e = plain_found harts ms toke
 
 known_later : (harts : ℕ) (ms more : Names) (first : token.Token) (known : Symbol)
     → IsKnown harts (each_once ms) first known → IsKnown harts (each_once (ms ++ more)) first known
-known_later harts ms more first known is = grind (arith, place_later, worth_later)
+known_later harts ms more first known is = grind (arith, place_later, named_value_later)
 
-atom_only : (harts : ℕ) (ms more : Names) (equation : setting.Equation) (at : Place) (value : ℕ)
-    → length (each_once (ms ++ names_of (token.Token.atom equation))) ≤ 1024
-    → IsPlaceOf harts (each_once ((ms ++ names_of (token.Token.atom equation)) ++ more)) equation.0 at
-    → IsWorth (each_once ((ms ++ names_of (token.Token.atom equation)) ++ more)) equation.1 value
-    → atom_resolved harts (each_once ms) equation
-    ≡ Ok (symbol.Is at value, each_once (ms ++ names_of (token.Token.atom equation)))
+atom_only : (harts : ℕ) (ms more : Names) (assignment : assigned.AssignmentValue) (at : Place) (value : ℕ)
+    → length (each_once (ms ++ names_of (token.Token.atom assignment))) ≤ 1024
+    → IsPlaceOf harts (each_once ((ms ++ names_of (token.Token.atom assignment)) ++ more)) assignment.0 at
+    → IsNamedValue (each_once ((ms ++ names_of (token.Token.atom assignment)) ++ more)) assignment.1 value
+    → atom_resolved harts (each_once ms) assignment
+    ≡ Ok (symbol.Is at value, each_once (ms ++ names_of (token.Token.atom assignment)))
 unfolding atom_resolved
-atom_only harts ms more equation at value few is worth =
-    let here = ms ++ name_of_place equation.0 in
-    let split = both_names ms equation in
-    let few_here : length (each_once (here ++ name_of_value equation.1)) ≤ 1024 = rw split few in
-    let following : (ms ++ names_of (token.Token.atom equation)) ++ more ≡ here
-    ++ (name_of_value equation.1 ++ more) =
-    ap (λ (ns : Names). ns ++ more) (sym split) ∙ append_assoc here (name_of_value equation.1) more in
-    let placed = place_only harts ms (name_of_value equation.1 ++ more) equation.0 at
-    (omega (arith, fewer here (name_of_value equation.1), few_here))
-    (subst (λ (ns : Names). IsPlaceOf harts (each_once ns) equation.0 at) following is) in
-    let shown = value_only here equation.1 few_here in
-    let same : shown.0 ≡ value = one_worth ((here ++ name_of_value equation.1) ++ more) equation.1 shown.0 value
-    (worth_later (here ++ name_of_value equation.1) more equation.1 shown.0 shown.2)
-    (subst (λ (ns : Names). IsWorth (each_once (ns ++ more)) equation.1 value) (sym split) worth) in
+atom_only harts ms more assignment at value few is value =
+    let here = ms ++ name_of_place assignment.0 in
+    let split = both_names ms assignment in
+    let few_here : length (each_once (here ++ name_of_value assignment.1)) ≤ 1024 = rw split few in
+    let following : (ms ++ names_of (token.Token.atom assignment)) ++ more ≡ here
+    ++ (name_of_value assignment.1 ++ more) =
+    ap (λ (ns : Names). ns ++ more) (sym split) ∙ append_assoc here (name_of_value assignment.1) more in
+    let placed = place_only harts ms (name_of_value assignment.1 ++ more) assignment.0 at
+    (omega (arith, fewer here (name_of_value assignment.1), few_here))
+    (subst (λ (ns : Names). IsPlaceOf harts (each_once ns) assignment.0 at) following is) in
+    let shown = value_only here assignment.1 few_here in
+    let same : shown.0 ≡ value = one_named_value ((here ++ name_of_value assignment.1) ++ more) assignment.1 shown.0 value
+    (named_value_later (here ++ name_of_value assignment.1) more assignment.1 shown.0 shown.2)
+    (subst (λ (ns : Names). IsNamedValue (each_once (ns ++ more)) assignment.1 value) (sym split) value) in
     rw (placed, shown.1) (ap (λ (ns : Names). Ok (symbol.Is at shown.0, each_once ns)) split
-    ∙ ap (λ (w : ℕ). Ok (symbol.Is at w, each_once (ms ++ names_of (token.Token.atom equation)))) same)
+    ∙ ap (λ (w : ℕ). Ok (symbol.Is at w, each_once (ms ++ names_of (token.Token.atom assignment)))) same)
 
 plain_only : (ms : Names) (known : Symbol) (is : Symbol) → is ≡ known → answered known (each_once ms) ≡ answered is (each_once (ms ++ []))
 plain_only ms known is same = rw (append-nil ms) (ap (λ (t : Symbol). Ok (t, each_once ms)) (sym same))
@@ -219,8 +221,8 @@ token_only : (harts : ℕ) (ms more : Names) (first : token.Token) (known : Symb
     → IsKnown harts (each_once ((ms ++ names_of first) ++ more)) first known
     → token_resolved harts (each_once ms) first ≡ Ok (known, each_once (ms ++ names_of first))
 unfolding token_resolved
-token_only harts ms more (token.Token.atom equation) known few is = atom_only harts ms more equation is.0 is.1 few
-    is.2 is.3 ∙ ap (λ (t : Symbol). Ok (t, each_once (ms ++ names_of (token.Token.atom equation)))) (sym is.4)
+token_only harts ms more (token.Token.atom assignment) known few is = atom_only harts ms more assignment is.0 is.1 few
+    is.2 is.3 ∙ ap (λ (t : Symbol). Ok (t, each_once (ms ++ names_of (token.Token.atom assignment)))) (sym is.4)
 token_only harts ms more token.Token.negation known few is = plain_only ms symbol.Not known is
 token_only harts ms more token.Token.conjunction known few is = plain_only ms symbol.And known is
 token_only harts ms more token.Token.disjunction known few is = plain_only ms symbol.Or known is

@@ -5,7 +5,7 @@ use Rattle.std.proofs.lemmas.List.{length-map}
 use Rattle.texts.specs.Cutting.{before, after, is_byte}
 use Rattle.texts.proofs.ResultLaws.{bind_ok, ok_is}
 use Rattle.litmus_tokens.specs.Cleaning.{cleaned_text}
-use Rattle.litmus_tokens.specs.Settings.{Equation}
+use Rattle.litmus_tokens.specs.Assignments.{AssignmentValue}
 use Rattle.litmus_tokens.proofs.CommentLaws.{is_cleaned, only_cleaned}
 use Rattle.litmus_reader.specs.declared.marks.Mark.TheVariants as mark
 use Rattle.litmus_reader.specs.Marks.{before_line, from_line}
@@ -34,37 +34,37 @@ use Rattle.texts.specs.declared.pieces.Separators.TheVariants.{Byte}
 -- ---- harts: their code beside their registers
 
 -- the registers of all harts from this one on
-abbrev AreAllRegisters : Names → List Equation → (hart : ℕ) → List (List ℕ) → Type 0
-AreAllRegisters names equations hart [] = Unit {0}
-AreAllRegisters names equations hart (first ∷ others) = AreRegisters names equations hart first × AreAllRegisters names equations (hart + 1) others
+abbrev AreAllRegisters : Names → List AssignmentValue → (hart : ℕ) → List (List ℕ) → Type 0
+AreAllRegisters names assignments hart [] = Unit {0}
+AreAllRegisters names assignments hart (first ∷ others) = AreRegisters names assignments hart first × AreAllRegisters names assignments (hart + 1) others
 
-all_registers : (names : Names) (equations : List Equation) (hart : ℕ) (registers : List (List ℕ))
-    → ((i : ℕ) → i < length registers → AreRegisters names equations (hart + i) (slice_index_or registers i []))
-    → AreAllRegisters names equations hart registers
-all_registers names equations hart [] each = tt
-all_registers names equations hart (first ∷ others) each =
+all_registers : (names : Names) (assignments : List AssignmentValue) (hart : ℕ) (registers : List (List ℕ))
+    → ((i : ℕ) → i < length registers → AreRegisters names assignments (hart + i) (slice_index_or registers i []))
+    → AreAllRegisters names assignments hart registers
+all_registers names assignments hart [] each = tt
+all_registers names assignments hart (first ∷ others) each =
     let here : hart + 0 ≡ hart = omega arith in
-    let P : ℕ → ℕ → Type 0 = λ h i. AreRegisters names equations h (slice_index_or (first ∷ others) i []) in (
-      subst (λ (h : ℕ). AreRegisters names equations h first) here (each 0 (omega arith)),
-      all_registers names equations (hart + 1) others
+    let P : ℕ → ℕ → Type 0 = λ h i. AreRegisters names assignments h (slice_index_or (first ∷ others) i []) in (
+      subst (λ (h : ℕ). AreRegisters names assignments h first) here (each 0 (omega arith)),
+      all_registers names assignments (hart + 1) others
           (λ i less. let there : hart + suc i ≡ hart + 1 + i = omega arith in
-          subst (λ (h : ℕ). AreRegisters names equations h (slice_index_or others i [])) there
+          subst (λ (h : ℕ). AreRegisters names assignments h (slice_index_or others i [])) there
           (each (suc i) (omega (arith, less)))),
     )
 
-from_first : (names : Names) (equations : List Equation) (registers : List (List ℕ))
-    → ((i : ℕ) → i < length registers → AreRegisters names equations i (slice_index_or registers i []))
-    → AreAllRegisters names equations 0 registers
-from_first names equations registers each =
-    all_registers names equations 0 registers (λ i less. let same : i ≡ 0 + i = omega arith in
-    subst (λ (h : ℕ). AreRegisters names equations h (slice_index_or registers i [])) same (each i less))
+from_first : (names : Names) (assignments : List AssignmentValue) (registers : List (List ℕ))
+    → ((i : ℕ) → i < length registers → AreRegisters names assignments i (slice_index_or registers i []))
+    → AreAllRegisters names assignments 0 registers
+from_first names assignments registers each =
+    all_registers names assignments 0 registers (λ i less. let same : i ≡ 0 + i = omega arith in
+    subst (λ (h : ℕ). AreRegisters names assignments h (slice_index_or registers i [])) same (each i less))
 
-harts_found : (names : Names) (equations : List Equation) (rows : List Cells) (hart : ℕ) (codes : List Code)
-    (registers : List (List ℕ)) → AreCodes rows hart codes → AreAllRegisters names equations hart registers
-    → AreHarts names equations rows hart (with_registers codes registers)
-harts_found names equations rows hart (code ∷ codes) (first ∷ registers) are all =
-    (are.0, all.0, refl, harts_found names equations rows (hart + 1) codes registers are.1 all.1)
-harts_found names equations rows hart x y are all = tt
+harts_found : (names : Names) (assignments : List AssignmentValue) (rows : List Cells) (hart : ℕ) (codes : List Code)
+    (registers : List (List ℕ)) → AreCodes rows hart codes → AreAllRegisters names assignments hart registers
+    → AreHarts names assignments rows hart (with_registers codes registers)
+harts_found names assignments rows hart (code ∷ codes) (first ∷ registers) are all =
+    (are.0, all.0, refl, harts_found names assignments rows (hart + 1) codes registers are.1 all.1)
+harts_found names assignments rows hart x y are all = tt
 
 length-with : (codes : List Code) (registers : List (List ℕ)) → length registers ≡ length codes → length (with_registers codes registers) ≡ length codes
 length-with [] registers same = refl
@@ -74,23 +74,23 @@ length-with (code ∷ codes) (first ∷ registers) same = ap suc (length-with co
 abbrev code_of : HartContent → Code
 code_of hart = hart.code
 
-codes_found : (names : Names) (equations : List Equation) (rows : List Cells) (hart : ℕ) (harts : List HartContent)
-    → AreHarts names equations rows hart harts → AreCodes rows hart (map code_of harts)
-codes_found names equations rows hart [] are = tt
-codes_found names equations rows hart (first ∷ others) are = (are.0, codes_found names equations rows (hart + 1) others are.3)
+codes_found : (names : Names) (assignments : List AssignmentValue) (rows : List Cells) (hart : ℕ) (harts : List HartContent)
+    → AreHarts names assignments rows hart harts → AreCodes rows hart (map code_of harts)
+codes_found names assignments rows hart [] are = tt
+codes_found names assignments rows hart (first ∷ others) are = (are.0, codes_found names assignments rows (hart + 1) others are.3)
 
 one_hart : (first : HartContent) (registers : List ℕ) → first.inbox ≡ [] → first.registers ≡ registers
     → record { code = first.code; registers = registers; inbox = [] } ≡ first
 one_hart first registers empty same = rw (← empty, ← same) refl
 
-harts_only : (ms : Names) (equations : List Equation) (rows : List Cells) (hart : ℕ) (harts : List HartContent)
-    (registers : List (List ℕ)) → length registers ≡ length harts → AreHarts (each_once ms) equations rows hart harts
-    → AreAllRegisters (each_once ms) equations hart registers → with_registers (map code_of harts) registers ≡ harts
-harts_only ms equations rows hart [] registers same are all = refl
-harts_only ms equations rows hart (first ∷ others) [] same are all = absurd (omega (arith, same))
-harts_only ms equations rows hart (first ∷ others) (next ∷ registers) same are all =
-    rw (one_hart first next are.2 (registers_one ms equations hart first.registers next are.1 all.0)) (
-    ap (λ (hs : List HartContent). first ∷ hs) (harts_only ms equations rows (hart + 1) others registers (omega (arith, same)) are.3 all.1))
+harts_only : (ms : Names) (assignments : List AssignmentValue) (rows : List Cells) (hart : ℕ) (harts : List HartContent)
+    (registers : List (List ℕ)) → length registers ≡ length harts → AreHarts (each_once ms) assignments rows hart harts
+    → AreAllRegisters (each_once ms) assignments hart registers → with_registers (map code_of harts) registers ≡ harts
+harts_only ms assignments rows hart [] registers same are all = refl
+harts_only ms assignments rows hart (first ∷ others) [] same are all = absurd (omega (arith, same))
+harts_only ms assignments rows hart (first ∷ others) (next ∷ registers) same are all =
+    rw (one_hart first next are.2 (registers_one ms assignments hart first.registers next are.1 all.0)) (
+    ap (λ (hs : List HartContent). first ∷ hs) (harts_only ms assignments rows (hart + 1) others registers (omega (arith, same)) are.3 all.1))
 
 -- ---- the whole, from its reading
 
@@ -102,39 +102,39 @@ record Asking (harts : ℕ) (names : Names) (o : Option (List ℕ)) (condition :
 asking : (harts : ℕ) (names : Names) (o : Option (List ℕ)) (condition : Condition) → condition_at harts names o ≡ Ok condition → Asking harts names o condition
 asking harts names o condition e = grind arith
 
-record Below (settings : InitItems) (codes : List Code) (o : Option (List ℕ)) (whole : Content) : Type 0 where
+record Below (resolved_items : InitItems) (codes : List Code) (o : Option (List ℕ)) (whole : Content) : Type 0 where
   values : Values
   condition : Condition
-  equation : values_at (length codes) settings ≡ Ok values
-  asks : condition_at (length codes) settings.names o ≡ Ok condition
+  assignment : values_at (length codes) resolved_items ≡ Ok values
+  asks : condition_at (length codes) resolved_items.names o ≡ Ok condition
   is : content codes values condition ≡ whole
 
-below_of : (settings : InitItems) (codes : List Code) (o : Option (List ℕ)) (whole : Content)
-    → content_below settings codes o ≡ Ok whole → Below settings codes o whole
+below_of : (resolved_items : InitItems) (codes : List Code) (o : Option (List ℕ)) (whole : Content)
+    → content_below resolved_items codes o ≡ Ok whole → Below resolved_items codes o whole
 unfolding content_below
-below_of settings codes o whole e = grind (arith, bind_ok, ok_is)
+below_of resolved_items codes o whole e = grind (arith, bind_ok, ok_is)
 
-record Following (settings : InitItems) (text : List ℕ) (whole : Content) : Type 0 where
+record Following (resolved_items : InitItems) (text : List ℕ) (whole : Content) : Type 0 where
   columns : List Column
   codes : List Code
   rows : table_at (before_line mark.Condition text) ≡ Ok columns
   placed : codes_of columns ≡ Ok codes
-  below : Below settings codes (from_line mark.Condition text) whole
+  below : Below resolved_items codes (from_line mark.Condition text) whole
 
-after_of : (settings : InitItems) (text : List ℕ) (whole : Content) → content_after settings text ≡ Ok whole → Following settings text whole
+after_of : (resolved_items : InitItems) (text : List ℕ) (whole : Content) → content_after resolved_items text ≡ Ok whole → Following resolved_items text whole
 unfolding content_after
-after_of settings text whole e = grind (arith, bind_ok, below_of)
+after_of resolved_items text whole e = grind (arith, bind_ok, below_of)
 
 record Read (text : List ℕ) (whole : Content) : Type 0 where
   below : List ℕ
   inner : List ℕ
-  settings : InitItems
+  resolved_items : InitItems
   rest : List ℕ
   headed : after_header text ≡ Ok below
   braced : after_brace below ≡ Ok inner
-  items : pieces_added no_items (pieces (Byte 59) (before (is_byte 125) inner)) ≡ Ok settings
+  items : pieces_added no_items (pieces (Byte 59) (before (is_byte 125) inner)) ≡ Ok resolved_items
   closed : after (is_byte 125) inner ≡ Some rest
-  following : Following settings rest whole
+  following : Following resolved_items rest whole
 
 read_of : (text : List ℕ) (whole : Content) → content_at text ≡ Ok whole → Read text whole
 unfolding content_at items_at
@@ -147,35 +147,35 @@ content_found text whole e =
     let following = read.following in
     let below = following.below in
     let harts = length following.codes in
-    let asking = asking harts read.settings.names (from_line mark.Condition read.rest) below.condition below.asks in
-    let items = items_found (pieces (Byte 59) (before (is_byte 125) read.inner)) read.settings read.items in
-    let equations = items.0 in
-    let few : length (each_once (names_in equations)) ≤ 1024 = subst (λ (names : Names). length names ≤ 1024) items.2 items.3 in
+    let asking = asking harts read.resolved_items.names (from_line mark.Condition read.rest) below.condition below.asks in
+    let items = items_found (pieces (Byte 59) (before (is_byte 125) read.inner)) read.resolved_items read.items in
+    let assignments = items.0 in
+    let few : length (each_once (names_in assignments)) ≤ 1024 = subst (λ (names : Names). length names ≤ 1024) items.2 items.3 in
     let table = table_found (before_line mark.Condition read.rest) following.columns following.codes following.rows following.placed in
-    let first = values_found harts equations read.settings below.values items.2 items.4 below.equation in
-    let condition_text = condition_found harts (names_in equations) asking.text below.condition few
+    let first = values_found harts assignments read.resolved_items below.values items.2 items.4 below.assignment in
+    let condition_text = condition_found harts (names_in assignments) asking.text below.condition few
     (subst (λ (names : Names). condition_in harts names asking.text ≡ Ok below.condition) items.2 asking.reads) in
     let more = names_in (atoms_in condition_text.0) in
-    let names : below.condition.names ≡ each_once (names_in equations ++ more) = condition_text.3 in
+    let names : below.condition.names ≡ each_once (names_in assignments ++ more) = condition_text.3 in
     let count : length (with_registers following.codes below.values.registers) ≡ harts = length-with following.codes below.values.registers first.1 in
-    let registers : AreAllRegisters below.condition.names equations 0 below.values.registers =
-    subst (λ (ns : Names). AreAllRegisters ns equations 0 below.values.registers) (sym names)
-    (from_first (each_once (names_in equations ++ more)) equations below.values.registers
-    (λ i less. registers-later (names_in equations) more equations i (slice_index_or below.values.registers i [])
-    (subst (λ (ns : Names). AreRegisters ns equations i (slice_index_or below.values.registers i [])) items.2
+    let registers : AreAllRegisters below.condition.names assignments 0 below.values.registers =
+    subst (λ (ns : Names). AreAllRegisters ns assignments 0 below.values.registers) (sym names)
+    (from_first (each_once (names_in assignments ++ more)) assignments below.values.registers
+    (λ i less. registers-later (names_in assignments) more assignments i (slice_index_or below.values.registers i [])
+    (subst (λ (ns : Names). AreRegisters ns assignments i (slice_index_or below.values.registers i [])) items.2
     (first.2 i (omega (arith, less, first.1)))))) in
-    let words : AreFirstWords below.condition.names equations
+    let words : AreFirstWords below.condition.names assignments
     (padded (length below.condition.names) below.values.words) =
-    subst (λ (ns : Names). AreFirstWords ns equations (padded (length ns) below.values.words)) (sym names)
-    (words-later equations more below.values.words
-    (subst (λ (ns : Names). AreFirstWords ns equations below.values.words) items.2 first.3)) in
+    subst (λ (ns : Names). AreFirstWords ns assignments (padded (length ns) below.values.words)) (sym names)
+    (words-later assignments more below.values.words
+    (subst (λ (ns : Names). AreFirstWords ns assignments below.values.words) items.2 first.3)) in
     subst (IsContent text) below.is (record {
       clean = cleaned_text text;
       init = before (is_byte 125) read.inner;
       table = before_line mark.Condition read.rest;
       condition_text = asking.text;
       parts = pieces (Byte 59) (before (is_byte 125) read.inner);
-      equations = equations;
+      assignments = assignments;
       rows = table.0;
       tokens = condition_text.0;
       known = condition_text.1;
@@ -184,8 +184,8 @@ content_found text whole e =
       parted = parts_found 59 (before (is_byte 125) read.inner);
       items = items.1;
       tabled = subst (λ (n : ℕ). IsTable (before_line mark.Condition read.rest) n table.0) (sym count) table.1;
-      harts = harts_found below.condition.names equations table.0 0 following.codes below.values.registers table.2 registers;
-      there = subst (λ (n : ℕ). All (IsHartThere n) equations) (sym count) first.0;
+      harts = harts_found below.condition.names assignments table.0 0 following.codes below.values.registers table.2 registers;
+      there = subst (λ (n : ℕ). All (IsHartThere n) assignments) (sym count) first.0;
       quantified = condition_text.2;
       named = names;
       few = condition_text.4;
@@ -201,38 +201,38 @@ unfolding test_at content_at content_after content_below items_at
 content_only text whole is =
     let harts = length whole.harts in
     let more = names_in (atoms_in is.tokens) in
-    let all = names_in is.equations ++ more in
+    let all = names_in is.assignments ++ more in
     let clean : cleaned_text text ≡ is.clean = only_cleaned text is.clean is.cleaned in
     let laying = layout_only is.clean is.init is.table is.condition_text is.laid_out in
     let total : length (each_once all) ≤ 1024 = subst (λ (names : Names). length names ≤ 1024) is.named is.few in
-    let front : length (each_once (names_in is.equations)) ≤ 1024 = omega (arith, total, fewer (names_in is.equations) more) in
-    let items = items_only is.parts is.equations is.items front in
-    let settings = items.0 in
+    let front : length (each_once (names_in is.assignments)) ≤ 1024 = omega (arith, total, fewer (names_in is.assignments) more) in
+    let items = items_only is.parts is.assignments is.items front in
+    let resolved_items = items.0 in
     let codes = map code_of whole.harts in
     let count : length codes ≡ harts = length-map whole.harts code_of in
     let table =
     table_only is.table is.rows codes (subst (λ (n : ℕ). IsTable is.table n is.rows) (sym count) is.tabled)
-    (codes_found whole.names is.equations is.rows 0 whole.harts is.harts) in
-    let equation = values_only harts is.equations settings items.2 items.3 is.there in
-    let values = equation.0 in
-    let first = values_found harts is.equations settings values items.2 items.3 equation.1 in
-    let registers : AreAllRegisters (each_once all) is.equations 0 values.registers =
-    from_first (each_once all) is.equations values.registers
-    (λ i less. registers-later (names_in is.equations) more is.equations i (slice_index_or values.registers i [])
-    (subst (λ (ns : Names). AreRegisters ns is.equations i (slice_index_or values.registers i [])) items.2
+    (codes_found whole.names is.assignments is.rows 0 whole.harts is.harts) in
+    let assignment = values_only harts is.assignments resolved_items items.2 items.3 is.there in
+    let values = assignment.0 in
+    let first = values_found harts is.assignments resolved_items values items.2 items.3 assignment.1 in
+    let registers : AreAllRegisters (each_once all) is.assignments 0 values.registers =
+    from_first (each_once all) is.assignments values.registers
+    (λ i less. registers-later (names_in is.assignments) more is.assignments i (slice_index_or values.registers i [])
+    (subst (λ (ns : Names). AreRegisters ns is.assignments i (slice_index_or values.registers i [])) items.2
     (first.2 i (omega (arith, less, first.1))))) in
     let same_harts : with_registers codes values.registers ≡ whole.harts =
-    harts_only all is.equations is.rows 0 whole.harts values.registers first.1
-    (subst (λ (ns : Names). AreHarts ns is.equations is.rows 0 whole.harts) is.named is.harts) registers in
+    harts_only all is.assignments is.rows 0 whole.harts values.registers first.1
+    (subst (λ (ns : Names). AreHarts ns is.assignments is.rows 0 whole.harts) is.named is.harts) registers in
     let same_words : padded (length (each_once all)) values.words ≡ whole.words =
-    words_one all is.equations _ whole.words (words-later is.equations more values.words
-    (subst (λ (ns : Names). AreFirstWords ns is.equations values.words) items.2 first.3))
-    (subst (λ (ns : Names). AreFirstWords ns is.equations whole.words) is.named is.first_words) in
-    let asks : condition_in harts settings.names is.condition_text
+    words_one all is.assignments _ whole.words (words-later is.assignments more values.words
+    (subst (λ (ns : Names). AreFirstWords ns is.assignments values.words) items.2 first.3))
+    (subst (λ (ns : Names). AreFirstWords ns is.assignments whole.words) is.named is.first_words) in
+    let asks : condition_in harts resolved_items.names is.condition_text
     ≡ Ok (record { quantifier = whole.quantifier; formula = whole.condition; names = each_once all }) =
     subst (λ (ns : Names). condition_in harts ns is.condition_text
     ≡ Ok (record { quantifier = whole.quantifier; formula = whole.condition; names = each_once all })) (sym items.2)
-    (condition_only harts (names_in is.equations) is.condition_text whole.quantifier is.tokens is.known
+    (condition_only harts (names_in is.assignments) is.condition_text whole.quantifier is.tokens is.known
     whole.condition is.quantified total
     (subst (λ (ns : Names). AreKnown harts ns is.tokens is.known) is.named is.all_known) is.condition) in
     rw (
@@ -247,7 +247,7 @@ content_only text whole is =
       table.1,
       table.2,
       count,
-      equation.1,
+      assignment.1,
       laying.asks,
       asks,
       same_harts,

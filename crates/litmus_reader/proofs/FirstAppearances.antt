@@ -9,11 +9,11 @@ use Rattle.std.proofs.lemmas.List.{append-nil}
 use Rattle.std.proofs.lemmas.List.Elements.{filter-append}
 use Rattle.std.proofs.lemmas.Slice.Eq.{bytes_eq-Decides}
 use Rattle.texts.proofs.ResultLaws.{ok_is, bind_ok}
-use Rattle.litmus_tokens.specs.Settings.{Value}
-use Rattle.litmus_tokens.specs.Settings.Value.{number, address_of}
+use Rattle.litmus_tokens.specs.Assignments.{NamedValue}
+use Rattle.litmus_tokens.specs.Assignments.NamedValue.{number, address_of}
 use Rattle.litmus_reader.specs.declared.faults.LitmusFault.{LitmusFault}
 use Rattle.litmus_reader.specs.Locations.{Names, index_from, name_added, resolved, value_resolved}
-use Rattle.litmus_reader.specs.Openings.{each_once, name_of_value, IsAt, IsWorth}
+use Rattle.litmus_reader.specs.Openings.{each_once, name_of_value, IsAt, IsNamedValue}
 
 -- the name is one of these
 abbrev pub has : Names → List ℕ → Bool
@@ -222,8 +222,8 @@ resolved-only ms name few = go (index_from 0 (each_once ms) name) refl
 
 -- ---- values
 
-pub value_found : (ms : Names) (value : Value) (found : ℕ × Names) → value_resolved (each_once ms) value ≡ Ok found
-    → (found.1 ≡ each_once (ms ++ name_of_value value)) × IsWorth found.1 value found.0
+pub value_found : (ms : Names) (value : NamedValue) (found : ℕ × Names) → value_resolved (each_once ms) value ≡ Ok found
+    → (found.1 ≡ each_once (ms ++ name_of_value value)) × IsNamedValue found.1 value found.0
     × (length (each_once ms) ≤ 1024 → length found.1 ≤ 1024)
 unfolding value_resolved
 value_found ms (number n) found e = grind (arith, ok_is, append-nil)
@@ -231,21 +231,23 @@ value_found ms (address_of name) found e =
     let step = bind_ok (resolved (each_once ms) name) (λ found. resolved_as (4 * found.0, found.1)) found e in
     let is = ok_is LitmusFault (4 * step.0.0, step.0.1) found step.2 in
     let resolved = resolved-found ms name step.0 step.1 in
-    subst (λ (f : ℕ × Names). (f.1 ≡ each_once (ms ++ name ∷ [])) × IsWorth f.1 (address_of name) f.0 × (length (each_once ms) ≤ 1024 → length f.1 ≤ 1024)) is
+    subst (λ (f : ℕ × Names). (f.1 ≡ each_once (ms ++ name ∷ [])) × IsNamedValue f.1 (address_of name) f.0
+    × (length (each_once ms) ≤ 1024 → length f.1 ≤ 1024)) is
     (resolved.0, (step.0.0, resolved.1, refl), resolved.2)
 
-pub value_only : (ms : Names) (value : Value) → length (each_once (ms ++ name_of_value value)) ≤ 1024
+pub value_only : (ms : Names) (value : NamedValue) → length (each_once (ms ++ name_of_value value)) ≤ 1024
     → (word : ℕ) × (value_resolved (each_once ms) value ≡ Ok (word, each_once (ms ++ name_of_value value)))
-    × IsWorth (each_once (ms ++ name_of_value value)) value word
+    × IsNamedValue (each_once (ms ++ name_of_value value)) value word
 unfolding value_resolved
 value_only ms (number n) few = (n, ap (λ (names : Names). resolved_as (n, names)) (ap each_once (sym (append-nil ms))), refl)
 value_only ms (address_of name) few =
     let resolved = resolved-only ms name few in
     (4 * resolved.0, (rw resolved.1 refl), (resolved.0, resolved.2, refl))
 
-pub worth_later : (ms more : Names) (value : Value) (word : ℕ) → IsWorth (each_once ms) value word → IsWorth (each_once (ms ++ more)) value word
-worth_later ms more value word worth = grind (arith, at_later)
+pub named_value_later : (ms more : Names) (value : NamedValue) (word : ℕ) → IsNamedValue (each_once ms) value word
+    → IsNamedValue (each_once (ms ++ more)) value word
+named_value_later ms more value word value = grind (arith, at_later)
 
-pub one_worth : (ms : Names) (value : Value) (v w : ℕ) → IsWorth (each_once ms) value v → IsWorth (each_once ms) value w → v ≡ w
-one_worth ms (number n) v w first second = first ∙ sym second
-one_worth ms (address_of name) v w first second = first.2 ∙ ap (λ (i : ℕ). 4 * i) (one_index ms name first.0 second.0 first.1 second.1) ∙ sym second.2
+pub one_named_value : (ms : Names) (value : NamedValue) (v w : ℕ) → IsNamedValue (each_once ms) value v → IsNamedValue (each_once ms) value w → v ≡ w
+one_named_value ms (number n) v w first second = first ∙ sym second
+one_named_value ms (address_of name) v w first second = first.2 ∙ ap (λ (i : ℕ). 4 * i) (one_index ms name first.0 second.0 first.1 second.1) ∙ sym second.2

@@ -10,19 +10,19 @@ use Rattle.std.proofs.lemmas.List.{get_or-replicate, get_or-set_same, get_or-set
 use Rattle.std.proofs.lemmas.List.Elements.{All-cons, All-nil, All-head, All-tail, filter-append}
 use Rattle.texts.proofs.ResultLaws.{bind_ok, ok_is}
 use Rattle.rv_decode.specs.declared.instruction.Reg.{Reg}
-use Rattle.litmus_tokens.specs.Settings.{Value, Equation}
-use Rattle.litmus_tokens.specs.Settings.NamedPlace.{in_register, at_location}
+use Rattle.litmus_tokens.specs.Assignments.{NamedValue, AssignmentValue}
+use Rattle.litmus_tokens.specs.Assignments.NamedLocation.{in_register, at_location}
 use Rattle.litmus_reader.specs.declared.faults.LitmusFault.{LitmusFault}
 use Rattle.litmus_reader.specs.declared.init.Target.{Target}
 use Rattle.litmus_reader.specs.declared.init.Target.TheVariants.{Register, Word}
 use Rattle.litmus_reader.specs.Locations.{Names}
 use Rattle.litmus_reader.specs.Init.{InitItem, InitItems}
 use Rattle.litmus_reader.specs.Values.{Values, zeros, with_register, put_at, item_put, items_put, values_at, padded}
-use Rattle.litmus_reader.specs.Openings.{IsAt, IsWorth, each_once, name_of_place, names_in, or_else, last_put}
+use Rattle.litmus_reader.specs.Openings.{IsAt, IsNamedValue, each_once, name_of_place, names_in, or_else, last_put}
 use Rattle.litmus_reader.specs.Openings.{is_register, is_location, IsFirstValue, AreRegisters, AreFirstWords}
 use Rattle.litmus_reader.specs.Openings.{IsHartThere}
-use Rattle.litmus_reader.proofs.FirstAppearances.{has, at_later, one_index, one_name, fewer, at_some, at_below, worth_later, one_worth}
-use Rattle.litmus_reader.proofs.ItemLaws.{IsSettingOf, AreSettings}
+use Rattle.litmus_reader.proofs.FirstAppearances.{has, at_later, one_index, one_name, fewer, at_some, at_below, named_value_later, one_named_value}
+use Rattle.litmus_reader.proofs.ItemLaws.{IsAssignmentOf, AreAssignments}
 
 -- ---- registers and words of as many harts and locations
 
@@ -66,27 +66,28 @@ each_set : (P : List ℕ → Type 0) (registers : List (List ℕ)) (other : ℕ)
 each_set P registers other changed hart here old new = grind (arith, cases_eq, slice_index_or, slice_set, get_or-set_same, get_or-set_other)
 
 -- what an item puts, and what was there where it puts nothing
-abbrev IsValueOr : Names → Option Value → (start word : ℕ) → Type 0
+abbrev IsValueOr : Names → Option NamedValue → (start word : ℕ) → Type 0
 IsValueOr names None start word = word ≡ start
-IsValueOr names (Some value) start word = IsWorth names value word
+IsValueOr names (Some value) start word = IsNamedValue names value word
 
-later_wins : (names : Names) (later this : Option Value) (start between word : ℕ)
+later_wins : (names : Names) (later this : Option NamedValue) (start between word : ℕ)
     → IsValueOr names later between word → IsValueOr names this start between
     → IsValueOr names (or_else later this) start word
 later_wins names later this start between word same before = grind arith
 
-first_value : (names : Names) (equation : Option Value) (start word : ℕ) → start ≡ 0 → IsValueOr names equation start word → IsFirstValue names equation word
-first_value names equation start word none same = grind arith
+first_value : (names : Names) (assignment : Option NamedValue) (start word : ℕ) → start ≡ 0
+    → IsValueOr names assignment start word → IsFirstValue names assignment word
+first_value names assignment start word none same = grind arith
 
 -- a register after an item for one
-register_put : (names : Names) (equation : Value) (registers : List (List ℕ)) (hart other number value n : ℕ)
-    → IsWorth names equation value → hart < length registers → n < length (slice_index_or registers hart []) → 1 ≤ n
-    → IsValueOr names (if (other == hart) && (number == n) then Some equation else None)
+register_put : (names : Names) (assignment : NamedValue) (registers : List (List ℕ)) (hart other number value n : ℕ)
+    → IsNamedValue names assignment value → hart < length registers → n < length (slice_index_or registers hart []) → 1 ≤ n
+    → IsValueOr names (if (other == hart) && (number == n) then Some assignment else None)
     (slice_index_or (slice_index_or registers hart []) n 0)
     (slice_index_or
     (slice_index_or (slice_set registers other (with_register number value (slice_index_or registers other []))) hart
     []) n 0)
-register_put names equation registers hart other number value n worth here few some = grind (
+register_put names assignment registers hart other number value n value here few some = grind (
   arith,
   cases_eq,
   eq-eqb,
@@ -134,58 +135,59 @@ shaped_left harts locations (Register other register) value values more shaped l
     }
 shaped_left harts locations (Word index) value values more shaped left = grind (arith, slice_index_or, length-set)
 
-register_added : (names : Names) (equation : Equation) (item : InitItem) (values more : Values)
-    (harts locations hart n : ℕ) → IsShaped harts locations values → IsSettingOf names equation item
+register_added : (names : Names) (assignment : AssignmentValue) (item : InitItem) (values more : Values)
+    (harts locations hart n : ℕ) → IsShaped harts locations values → IsAssignmentOf names assignment item
     → Left item.target item.value values more → hart < harts → 1 ≤ n → n < 32
-    → IsValueOr names (if is_register hart n equation.0 then Some equation.1 else None) (at_register values hart n)
+    → IsValueOr names (if is_register hart n assignment.0 then Some assignment.1 else None) (at_register values hart n)
     (at_register more hart n)
-register_added names equation item values more harts locations hart n shaped setting left here some few = grind (arith, slice_index_or, register_put)
+register_added names assignment item values more harts locations hart n shaped resolved_item left here some few = grind (arith, slice_index_or, register_put)
 
-word_added : (ms : Names) (equation : Equation) (item : InitItem) (values more : Values) (index : ℕ) (name : List ℕ)
-    → length values.words ≡ length (each_once ms) → IsSettingOf (each_once ms) equation item
+word_added : (ms : Names) (assignment : AssignmentValue) (item : InitItem) (values more : Values) (index : ℕ) (name : List ℕ)
+    → length values.words ≡ length (each_once ms) → IsAssignmentOf (each_once ms) assignment item
     → Left item.target item.value values more → IsAt (each_once ms) name index
-    → IsValueOr (each_once ms) (if is_location name equation.0 then Some equation.1 else None) (at_word values index)
+    → IsValueOr (each_once ms) (if is_location name assignment.0 then Some assignment.1 else None) (at_word values index)
     (at_word more index)
-word_added ms (in_register other register, value) item values more index name count setting left at = grind (arith, slice_index_or)
-word_added ms (at_location other, value) item values more index name count setting left at = elim (cases_Bool (bytes_eq other name)) [
+word_added ms (in_register other register, value) item values more index name count resolved_item left at = grind (arith, slice_index_or)
+word_added ms (at_location other, value) item values more index name count resolved_item left at = elim (cases_Bool (bytes_eq other name)) [
   | inl same ↦ (
       let named : other ≡ name = (bytes_eq-Decides other name).0 same in
-      let here : setting.0.0 ≡ index = one_index ms name setting.0.0 index (subst (λ (n : List ℕ). IsAt (each_once ms) n setting.0.0) named setting.0.1) at in
+      let here : resolved_item.0.0 ≡ index = one_index ms name resolved_item.0.0 index
+      (subst (λ (n : List ℕ). IsAt (each_once ms) n resolved_item.0.0) named resolved_item.0.1) at in
       let within = at_below (each_once ms) name index at in
-      let equation = ap (λ (words : List ℕ). slice_index_or words index 0) is.1
+      let assignment = ap (λ (words : List ℕ). slice_index_or words index 0) is.1
       ∙ ap (λ (k : ℕ). slice_index_or (slice_set values.words k item.value) index 0) here
       ∙ get_or-set_same values.words index item.value 0 (omega (arith, count, within)) in
-      rw same (subst (IsWorth (each_once ms) value) (sym equation) setting.1))
+      rw same (subst (IsNamedValue (each_once ms) value) (sym assignment) resolved_item.1))
   | inr differs ↦ (
-      let apart : index ≡ setting.0.0 → ⊥ =
+      let apart : index ≡ resolved_item.0.0 → ⊥ =
       λ here. absurd (both_ways (bytes_eq other name) differs ((bytes_eq-Decides other name).1
-      (one_name ms other name index (subst (IsAt (each_once ms) other) (sym here) setting.0.1) at))) in
-      rw differs (ap (λ (words : List ℕ). slice_index_or words index 0) is.1 ∙ get_or-set_other values.words setting.0.0 index item.value 0 apart))
+      (one_name ms other name index (subst (IsAt (each_once ms) other) (sym here) resolved_item.0.1) at))) in
+      rw differs (ap (λ (words : List ℕ). slice_index_or words index 0) is.1 ∙ get_or-set_other values.words resolved_item.0.0 index item.value 0 apart))
 ]
   where
-    is : Left (Word setting.0.0) item.value values more
-    is = subst (λ (target : Target). Left target item.value values more) setting.0.2 left
+    is : Left (Word resolved_item.0.0) item.value values more
+    is = subst (λ (target : Target). Left target item.value values more) resolved_item.0.2 left
 
-hart_there : (names : Names) (equation : Equation) (item : InitItem) (values more : Values) (harts : ℕ)
-    → length values.registers ≡ harts → IsSettingOf names equation item → Left item.target item.value values more
-    → IsHartThere harts equation
-hart_there names equation item values more harts count setting left = grind arith
+hart_there : (names : Names) (assignment : AssignmentValue) (item : InitItem) (values more : Values) (harts : ℕ)
+    → length values.registers ≡ harts → IsAssignmentOf names assignment item → Left item.target item.value values more
+    → IsHartThere harts assignment
+hart_there names assignment item values more harts count resolved_item left = grind arith
 
 -- ---- all items
 
-record AreSet (ms : Names) (equations : List Equation) (harts : ℕ) (values out : Values) : Type 0 where
+record AreSet (ms : Names) (assignments : List AssignmentValue) (harts : ℕ) (values out : Values) : Type 0 where
   shaped : IsShaped harts (length (each_once ms)) out
-  there : All (IsHartThere harts) equations
+  there : All (IsHartThere harts) assignments
   registers : (hart n : ℕ) → hart < harts → 1 ≤ n → n < 32
-      → IsValueOr (each_once ms) (last_put (is_register hart n) equations) (at_register values hart n)
+      → IsValueOr (each_once ms) (last_put (is_register hart n) assignments) (at_register values hart n)
       (at_register out hart n)
   words : (index : ℕ) (name : List ℕ) → IsAt (each_once ms) name index
-      → IsValueOr (each_once ms) (last_put (is_location name) equations) (at_word values index) (at_word out index)
+      → IsValueOr (each_once ms) (last_put (is_location name) assignments) (at_word values index) (at_word out index)
 
-all_put : (ms : Names) (equations : List Equation) (items : List InitItem) (harts : ℕ) (values out : Values)
-    → IsShaped harts (length (each_once ms)) values → AreSettings (each_once ms) equations items
-    → items_put values items ≡ Ok out → AreSet ms equations harts values out
-all_put ms [] [] harts values out shaped settings e =
+all_put : (ms : Names) (assignments : List AssignmentValue) (items : List InitItem) (harts : ℕ) (values out : Values)
+    → IsShaped harts (length (each_once ms)) values → AreAssignments (each_once ms) assignments items
+    → items_put values items ≡ Ok out → AreSet ms assignments harts values out
+all_put ms [] [] harts values out shaped resolved_items e =
     let same : values ≡ out = ok_is LitmusFault values out e in
     subst (AreSet ms [] harts values) same
     (record {
@@ -194,55 +196,56 @@ all_put ms [] [] harts values out shaped settings e =
       registers = λ hart n here some few. refl;
       words = λ index name at. refl;
     })
-all_put ms (equation ∷ equations) (item ∷ items) harts values out shaped settings e =
+all_put ms (assignment ∷ assignments) (item ∷ items) harts values out shaped resolved_items e =
     let step = bind_ok (item_put values item) (λ (more : Values). items_put more items) out e in
     let more = step.0 in
     let left = left_put item values more step.1 in
-    let next = all_put ms equations items harts more out
-    (shaped_left harts (length (each_once ms)) item.target item.value values more shaped left) settings.1 step.2 in
+    let next = all_put ms assignments items harts more out
+    (shaped_left harts (length (each_once ms)) item.target item.value values more shaped left) resolved_items.1 step.2 in
     record {
       shaped = next.shaped;
-      there = All-cons (IsHartThere harts) equation equations (hart_there (each_once ms) equation item values more harts shaped.all settings.0 left) next.there;
+      there = All-cons (IsHartThere harts) assignment assignments
+          (hart_there (each_once ms) assignment item values more harts shaped.all resolved_items.0 left) next.there;
       registers = λ hart n here some few.
-          later_wins (each_once ms) (last_put (is_register hart n) equations) _ (at_register values hart n)
+          later_wins (each_once ms) (last_put (is_register hart n) assignments) _ (at_register values hart n)
           (at_register more hart n) (at_register out hart n) (next.registers hart n here some few)
-          (register_added (each_once ms) equation item values more harts (length (each_once ms)) hart n shaped
-          settings.0 left here some few);
+          (register_added (each_once ms) assignment item values more harts (length (each_once ms)) hart n shaped
+          resolved_items.0 left here some few);
       words = λ index name at.
-          later_wins (each_once ms) (last_put (is_location name) equations) _ (at_word values index)
+          later_wins (each_once ms) (last_put (is_location name) assignments) _ (at_word values index)
           (at_word more index) (at_word out index) (next.words index name at)
-          (word_added ms equation item values more index name shaped.words settings.0 left at);
+          (word_added ms assignment item values more index name shaped.words resolved_items.0 left at);
     }
-all_put ms x y harts values out shaped settings e = absurd settings
+all_put ms x y harts values out shaped resolved_items e = absurd resolved_items
 
-pub values_found : (harts : ℕ) (equations : List Equation) (settings : InitItems) (values : Values)
-    → settings.names ≡ each_once (names_in equations) → AreSettings settings.names equations settings.items
-    → values_at harts settings ≡ Ok values
-    → All (IsHartThere harts) equations × (length values.registers ≡ harts)
-    × ((hart : ℕ) → hart < harts → AreRegisters settings.names equations hart (slice_index_or values.registers hart []))
-    × AreFirstWords settings.names equations values.words
+pub values_found : (harts : ℕ) (assignments : List AssignmentValue) (resolved_items : InitItems) (values : Values)
+    → resolved_items.names ≡ each_once (names_in assignments) → AreAssignments resolved_items.names assignments resolved_items.items
+    → values_at harts resolved_items ≡ Ok values
+    → All (IsHartThere harts) assignments × (length values.registers ≡ harts)
+    × ((hart : ℕ) → hart < harts → AreRegisters resolved_items.names assignments hart (slice_index_or values.registers hart []))
+    × AreFirstWords resolved_items.names assignments values.words
 unfolding values_at
-values_found harts equations settings values same items e =
-    let ms = names_in equations in
-    let here = subst (λ (names : Names). AreSettings names equations settings.items) same items in
-    let begun = subst (λ (names : Names). items_put (zeros harts (length names)) settings.items ≡ Ok values) same e in
+values_found harts assignments resolved_items values same items e =
+    let ms = names_in assignments in
+    let here = subst (λ (names : Names). AreAssignments names assignments resolved_items.items) same items in
+    let begun = subst (λ (names : Names). items_put (zeros harts (length names)) resolved_items.items ≡ Ok values) same e in
     let start = zeros harts (length (each_once ms)) in
-    let equation = all_put ms equations settings.items harts start values (zeros-shaped harts (length (each_once ms))) here begun in (
-      equation.there,
-      equation.shaped.all,
-      λ hart within. subst (λ (names : Names). AreRegisters names equations hart (slice_index_or values.registers hart [])) (sym same) (record {
-        count = equation.shaped.counts hart within;
-        zero = equation.shaped.zeros hart within;
-        others = λ n some few. first_value (each_once ms) (last_put (is_register hart n) equations)
+    let assignment = all_put ms assignments resolved_items.items harts start values (zeros-shaped harts (length (each_once ms))) here begun in (
+      assignment.there,
+      assignment.shaped.all,
+      λ hart within. subst (λ (names : Names). AreRegisters names assignments hart (slice_index_or values.registers hart [])) (sym same) (record {
+        count = assignment.shaped.counts hart within;
+        zero = assignment.shaped.zeros hart within;
+        others = λ n some few. first_value (each_once ms) (last_put (is_register hart n) assignments)
             (at_register start hart n) (at_register values hart n)
-            (zeros-at harts (length (each_once ms)) hart n within few) (equation.registers hart n within some few);
+            (zeros-at harts (length (each_once ms)) hart n within few) (assignment.registers hart n within some few);
       }),
-      subst (λ (names : Names). AreFirstWords names equations values.words) (sym same) (record {
-        count = equation.shaped.words;
-        values = λ index name at. first_value (each_once ms) (last_put (is_location name) equations)
+      subst (λ (names : Names). AreFirstWords names assignments values.words) (sym same) (record {
+        count = assignment.shaped.words;
+        values = λ index name at. first_value (each_once ms) (last_put (is_location name) assignments)
             (at_word start index) (at_word values index)
             (get_or-replicate (length (each_once ms)) index 0 0 (at_below (each_once ms) name index at))
-            (equation.words index name at);
+            (assignment.words index name at);
       }),
     )
 
@@ -258,59 +261,60 @@ put_at-hart hart register value values harts count here =
       length-set values.registers hart changed ∙ count,
     )
 
-item_there : (names : Names) (equation : Equation) (item : InitItem) (values : Values) (harts : ℕ)
-    → length values.registers ≡ harts → IsSettingOf names equation item → IsHartThere harts equation
+item_there : (names : Names) (assignment : AssignmentValue) (item : InitItem) (values : Values) (harts : ℕ)
+    → length values.registers ≡ harts → IsAssignmentOf names assignment item → IsHartThere harts assignment
     → (more : Values) × (item_put values item ≡ Ok more) × (length more.registers ≡ harts)
 unfolding item_put
-item_there names (in_register hart register, value) item values harts count setting there =
+item_there names (in_register hart register, value) item values harts count resolved_item there =
     subst (λ (target : Target).
-    (more : Values) × (put_at target item.value values ≡ Ok more) × (length more.registers ≡ harts)) (sym setting.0)
+    (more : Values) × (put_at target item.value values ≡ Ok more) × (length more.registers ≡ harts)) (sym resolved_item.0)
     (put_at-hart hart register item.value values harts count there)
-item_there names (at_location name, value) item values harts count setting there =
+item_there names (at_location name, value) item values harts count resolved_item there =
     subst (λ (target : Target).
     (more : Values) × (put_at target item.value values ≡ Ok more) × (length more.registers ≡ harts))
-    (sym setting.0.2) (record values { words = slice_set values.words setting.0.0 item.value }, refl, count)
+    (sym resolved_item.0.2) (record values { words = slice_set values.words resolved_item.0.0 item.value }, refl, count)
 
-all_there : (names : Names) (equations : List Equation) (items : List InitItem) (values : Values) (harts : ℕ)
-    → length values.registers ≡ harts → AreSettings names equations items → All (IsHartThere harts) equations
+all_there : (names : Names) (assignments : List AssignmentValue) (items : List InitItem) (values : Values) (harts : ℕ)
+    → length values.registers ≡ harts → AreAssignments names assignments items → All (IsHartThere harts) assignments
     → (out : Values) × (items_put values items ≡ Ok out)
-all_there names [] [] values harts count settings there = (values, refl)
-all_there names (equation ∷ equations) (item ∷ items) values harts count settings there =
-    let first = item_there names equation item values harts count settings.0 (All-head (IsHartThere harts) equation equations there) in
-    let rest = all_there names equations items first.0 harts first.2 settings.1 (All-tail (IsHartThere harts) equation equations there) in
+all_there names [] [] values harts count resolved_items there = (values, refl)
+all_there names (assignment ∷ assignments) (item ∷ items) values harts count resolved_items there =
+    let first = item_there names assignment item values harts count resolved_items.0 (All-head (IsHartThere harts) assignment assignments there) in
+    let rest = all_there names assignments items first.0 harts first.2 resolved_items.1 (All-tail (IsHartThere harts) assignment assignments there) in
     (rest.0, rw first.1 rest.1)
-all_there names x y values harts count settings there = absurd settings
+all_there names x y values harts count resolved_items there = absurd resolved_items
 
-pub values_only : (harts : ℕ) (equations : List Equation) (settings : InitItems)
-    → settings.names ≡ each_once (names_in equations) → AreSettings settings.names equations settings.items
-    → All (IsHartThere harts) equations → (values : Values) × (values_at harts settings ≡ Ok values)
+pub values_only : (harts : ℕ) (assignments : List AssignmentValue) (resolved_items : InitItems)
+    → resolved_items.names ≡ each_once (names_in assignments) → AreAssignments resolved_items.names assignments resolved_items.items
+    → All (IsHartThere harts) assignments → (values : Values) × (values_at harts resolved_items ≡ Ok values)
 unfolding values_at
-values_only harts equations settings same items there = all_there settings.names equations settings.items
-    (zeros harts (length settings.names)) harts (length-replicate harts (replicate {A = ℕ} 32 0)) items there
+values_only harts assignments resolved_items same items there = all_there resolved_items.names assignments resolved_items.items
+    (zeros harts (length resolved_items.names)) harts (length-replicate harts (replicate {A = ℕ} 32 0)) items there
 
 -- ---- more names change nothing
 
-first_later : (ms more : Names) (equation : Option Value) (word : ℕ) → IsFirstValue (each_once ms) equation word
-    → IsFirstValue (each_once (ms ++ more)) equation word
-first_later ms more equation word first = grind (arith, worth_later)
+first_later : (ms more : Names) (assignment : Option NamedValue) (word : ℕ) → IsFirstValue (each_once ms) assignment word
+    → IsFirstValue (each_once (ms ++ more)) assignment word
+first_later ms more assignment word first = grind (arith, named_value_later)
 
-pub registers-later : (ms more : Names) (equations : List Equation) (hart : ℕ) (registers : List ℕ)
-    → AreRegisters (each_once ms) equations hart registers
-    → AreRegisters (each_once (ms ++ more)) equations hart registers
-registers-later ms more equations hart registers are = grind (arith, first_later, slice_index_or)
+pub registers-later : (ms more : Names) (assignments : List AssignmentValue) (hart : ℕ) (registers : List ℕ)
+    → AreRegisters (each_once ms) assignments hart registers
+    → AreRegisters (each_once (ms ++ more)) assignments hart registers
+registers-later ms more assignments hart registers are = grind (arith, first_later, slice_index_or)
 
 has_after : (xs ys : Names) (name : List ℕ) → has ys name ≡ true → has (xs ++ ys) name ≡ true
 has_after [] ys name is = is
 has_after (x ∷ xs) ys name is = or_right (bytes_eq x name) (has (xs ++ ys) name) (has_after xs ys name is)
 
-has_put : (equation : Equation) (others : Names) (name : List ℕ) → is_location name equation.0 ≡ true → has (name_of_place equation.0 ++ others) name ≡ true
-has_put equation others name is = grind (arith, or_left, has)
+has_put : (assignment : AssignmentValue) (others : Names) (name : List ℕ) → is_location name assignment.0 ≡ true
+    → has (name_of_place assignment.0 ++ others) name ≡ true
+has_put assignment others name is = grind (arith, or_left, has)
 
 -- where an item puts a value, its name is one of the items'
-has_last : (equations : List Equation) (name : List ℕ) (value : Value)
-    → last_put (is_location name) equations ≡ Some value → has (names_in equations) name ≡ true
+has_last : (assignments : List AssignmentValue) (name : List ℕ) (value : NamedValue)
+    → last_put (is_location name) assignments ≡ Some value → has (names_in assignments) name ≡ true
 has_last [] name value e = absurd cc
-has_last (equation ∷ equations) name value e = grind (arith, has, has_after, cases_Bool, has_put, has_last equations name)
+has_last (assignment ∷ assignments) name value e = grind (arith, has, has_after, cases_Bool, has_put, has_last assignments name)
 
 -- a name that appeared has an index
 at_resolved : (ms : Names) (name : List ℕ) → has ms name ≡ true → (index : ℕ) × IsAt (each_once ms) name index
@@ -338,14 +342,14 @@ at_resolved (m ∷ ms) name is = elim (cases_Bool (bytes_eq m name)) [
     without : Names
     without = filter (λ other. not (bytes_eq m other)) (each_once ms)
 
-pub words-later : (equations : List Equation) (more : Names) (words : List ℕ)
-    → AreFirstWords (each_once (names_in equations)) equations words
-    → AreFirstWords (each_once (names_in equations ++ more)) equations
-    (padded (length (each_once (names_in equations ++ more))) words)
-words-later equations more words are = record {
+pub words-later : (assignments : List AssignmentValue) (more : Names) (words : List ℕ)
+    → AreFirstWords (each_once (names_in assignments)) assignments words
+    → AreFirstWords (each_once (names_in assignments ++ more)) assignments
+    (padded (length (each_once (names_in assignments ++ more))) words)
+words-later assignments more words are = record {
   count = length-append words (replicate (length all - length words) 0)
       ∙ (rw (length-replicate {A = ℕ} (length all - length words) 0)
-      (omega (arith, are.count, fewer (names_in equations) more)));
+      (omega (arith, are.count, fewer (names_in assignments) more)));
   values = λ index name at. elim (cases_lt index (length words)) [
     | inl within ↦ old index name at within
     | inr following ↦ new index name at following
@@ -353,49 +357,50 @@ words-later equations more words are = record {
 }
   where
     all : Names
-    all = each_once (names_in equations ++ more)
+    all = each_once (names_in assignments ++ more)
 
     old : (index : ℕ) (name : List ℕ) → IsAt all name index → index < length words
-        → IsFirstValue all (last_put (is_location name) equations) (slice_index_or (padded (length all) words) index 0)
+        → IsFirstValue all (last_put (is_location name) assignments) (slice_index_or (padded (length all) words) index 0)
     old index name at within =
-        let small = at_some (names_in equations) index (omega (arith, are.count)) in
-        let same = one_name (names_in equations ++ more) small.0 name index (at_later (names_in equations) more small.0 index small.1) at in
-        let first = are.values index name (subst (λ (n : List ℕ). IsAt (each_once (names_in equations)) n index) same small.1) in
-        subst (IsFirstValue all (last_put (is_location name) equations))
+        let small = at_some (names_in assignments) index (omega (arith, are.count)) in
+        let same = one_name (names_in assignments ++ more) small.0 name index (at_later (names_in assignments) more small.0 index small.1) at in
+        let first = are.values index name (subst (λ (n : List ℕ). IsAt (each_once (names_in assignments)) n index) same small.1) in
+        subst (IsFirstValue all (last_put (is_location name) assignments))
         (sym (get_or_append_left words (replicate (length all - length words) 0) 0 index within))
-        (first_later (names_in equations) more (last_put (is_location name) equations)
+        (first_later (names_in assignments) more (last_put (is_location name) assignments)
         (slice_index_or words index 0) first)
 
     new : (index : ℕ) (name : List ℕ) → IsAt all name index → length words ≤ index
-        → IsFirstValue all (last_put (is_location name) equations) (slice_index_or (padded (length all) words) index 0)
-    new index name at following = go (last_put (is_location name) equations) refl
+        → IsFirstValue all (last_put (is_location name) assignments) (slice_index_or (padded (length all) words) index 0)
+    new index name at following = go (last_put (is_location name) assignments) refl
       where
-        go : (equation : Option Value) → last_put (is_location name) equations ≡ equation
-            → IsFirstValue all equation (slice_index_or (padded (length all) words) index 0)
+        go : (assignment : Option NamedValue) → last_put (is_location name) assignments ≡ assignment
+            → IsFirstValue all assignment (slice_index_or (padded (length all) words) index 0)
         go None is =
             let within = at_below all name index at in
             get_or-append_right words (replicate (length all - length words) 0) (length words) index 0 refl
             following ∙ get_or-replicate (length all - length words) (index - length words) 0 0 (omega arith)
         go (Some value) is =
-            let here = at_resolved (names_in equations) name (has_last equations name value is) in
-            let same = one_index (names_in equations ++ more) name here.0 index (at_later (names_in equations) more name here.0 here.1) at in
-            let within = at_below (each_once (names_in equations)) name here.0 here.1 in
+            let here = at_resolved (names_in assignments) name (has_last assignments name value is) in
+            let same = one_index (names_in assignments ++ more) name here.0 index (at_later (names_in assignments) more name here.0 here.1) at in
+            let within = at_below (each_once (names_in assignments)) name here.0 here.1 in
             absurd (omega (arith, same, within, following, are.count))
 
 -- ---- at most one list of first values
 
-one_first : (ms : Names) (equation : Option Value) (v w : ℕ) → IsFirstValue (each_once ms) equation v → IsFirstValue (each_once ms) equation w → v ≡ w
-one_first ms equation v w one other = grind (arith, one_worth)
+one_first : (ms : Names) (assignment : Option NamedValue) (v w : ℕ) → IsFirstValue (each_once ms) assignment v
+    → IsFirstValue (each_once ms) assignment w → v ≡ w
+one_first ms assignment v w one other = grind (arith, one_named_value)
 
-pub registers_one : (ms : Names) (equations : List Equation) (hart : ℕ) (a b : List ℕ)
-    → AreRegisters (each_once ms) equations hart a → AreRegisters (each_once ms) equations hart b → a ≡ b
-registers_one ms equations hart a b one other = grind (arith, ext_get_or 0 a b (one.count ∙ sym other.count), get_or a, get_or b, one_first ms)
+pub registers_one : (ms : Names) (assignments : List AssignmentValue) (hart : ℕ) (a b : List ℕ)
+    → AreRegisters (each_once ms) assignments hart a → AreRegisters (each_once ms) assignments hart b → a ≡ b
+registers_one ms assignments hart a b one other = grind (arith, ext_get_or 0 a b (one.count ∙ sym other.count), get_or a, get_or b, one_first ms)
 
-pub words_one : (ms : Names) (equations : List Equation) (a b : List ℕ) → AreFirstWords (each_once ms) equations a
-    → AreFirstWords (each_once ms) equations b → a ≡ b
-words_one ms equations a b one other = ext_get_or 0 a b (one.count ∙ sym other.count) go
+pub words_one : (ms : Names) (assignments : List AssignmentValue) (a b : List ℕ) → AreFirstWords (each_once ms) assignments a
+    → AreFirstWords (each_once ms) assignments b → a ≡ b
+words_one ms assignments a b one other = ext_get_or 0 a b (one.count ∙ sym other.count) go
   where
     go : (i : ℕ) → i < length a → get_or a i 0 ≡ get_or b i 0
     go i within =
         let named = at_some ms i (omega (arith, one.count)) in
-        one_first ms (last_put (is_location named.0) equations) (get_or a i 0) (get_or b i 0) (one.values i named.0 named.1) (other.values i named.0 named.1)
+        one_first ms (last_put (is_location named.0) assignments) (get_or a i 0) (get_or b i 0) (one.values i named.0 named.1) (other.values i named.0 named.1)

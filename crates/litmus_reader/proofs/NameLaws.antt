@@ -1,12 +1,12 @@
--- The locations in settings have the shapes of names.
+-- The locations in resolved_items have the shapes of names.
 use Rattle.std.proofs.Common.{arith, ◌≡◌, ℕ, Bool, List, Option, Some, sym, subst, inl, inr}
 use Rattle.std.specs.Prelude.{IsTrue, if◌then◌else◌}
-use Rattle.litmus_tokens.specs.Settings.{NamedPlace, Value, Equation, location, place, value, declared, setting, item_place, item}
+use Rattle.litmus_tokens.specs.Assignments.{NamedLocation, NamedValue, AssignmentValue, location, place, value, declared, an_assignment, item_place, item}
 use Rattle.litmus_tokens.specs.Names.{is_name}
 use Rattle.litmus_tokens.specs.Tokens.{Token, Beginning, nothing, begins, no_token, is_mark, after_not, paired}
 use Rattle.litmus_tokens.specs.Tokens.{atom_from, negation_or, unmarked, begun, beginning_of}
 use Rattle.texts.specs.Cutting.{before, from_first, without_leading}
-use Rattle.litmus_tokens.proofs.SettingLaws.{setting_settles}
+use Rattle.litmus_tokens.proofs.AssignmentLaws.{assignment_settles}
 use Rattle.litmus_reader.specs.Locations.{HasLocation, HasName, HasNames}
 use Rattle.litmus_reader.specs.Condition.{TokenHasNames}
 use Rattle.texts.specs.Pieces.{is_gap}
@@ -15,35 +15,35 @@ location_names : (text name : List ℕ) → location.Says text name → IsTrue (
 location_names text name (inl (rest, whole, (inner, closed, (is, same)))) = rw same at is
 location_names text name (inr (is, same)) = rw same at is
 
-place_names : (text : List ℕ) (at : NamedPlace) → place.Says text at → HasLocation at
+place_names : (text : List ℕ) (at : NamedLocation) → place.Says text at → HasLocation at
 unfolding place
 place_names text at (inl (both, parts, is)) = subst HasLocation is tt
 place_names text at (inr (name, says, is)) = subst HasLocation is (location_names _ name says)
 
-value_names : (text : List ℕ) (v : Value) → value.Says text v → HasName v
+value_names : (text : List ℕ) (v : NamedValue) → value.Says text v → HasName v
 unfolding value
 value_names text v (inl (name, (is, same), made)) = subst HasName made (rw same at is)
 value_names text v (inr (n, says, made)) = subst HasName made tt
 
-declared_names : (text : List ℕ) (at : NamedPlace) → declared.Says text at → HasLocation at
+declared_names : (text : List ℕ) (at : NamedLocation) → declared.Says text at → HasLocation at
 unfolding declared
 declared_names text at (name, (gap, rest, whole, gap_is, is, same), made) = subst HasLocation made (rw same at is)
 
-setting_names : (text : List ℕ) (equation : Equation) → setting.Says text equation → HasNames equation
-unfolding setting
-setting_names text equation (left, right, whole, at, says) = (place_names left equation.0 at, value_names right equation.1 says)
+assignment_names : (text : List ℕ) (assignment : AssignmentValue) → an_assignment.Says text assignment → HasNames assignment
+unfolding an_assignment
+assignment_names text assignment (left, right, whole, at, says) = (place_names left assignment.0 at, value_names right assignment.1 says)
 
-item_names : (text : List ℕ) (equation : Equation) → item.Says text equation → HasNames equation
+item_names : (text : List ℕ) (assignment : AssignmentValue) → item.Says text assignment → HasNames assignment
 unfolding item item_place
-item_names text equation (inl (left, right, whole, inl at, says)) = (declared_names left equation.0 at, value_names right equation.1 says)
-item_names text equation (inl (left, right, whole, inr at, says)) = (place_names left equation.0 at, value_names right equation.1 says)
-item_names text equation (inr (at, says, made)) = subst HasNames made (declared_names text at says, tt)
+item_names text assignment (inl (left, right, whole, inl at, says)) = (declared_names left assignment.0 at, value_names right assignment.1 says)
+item_names text assignment (inl (left, right, whole, inr at, says)) = (place_names left assignment.0 at, value_names right assignment.1 says)
+item_names text assignment (inr (at, says, made)) = subst HasNames made (declared_names text at says, tt)
 
-pub item_location : (text : List ℕ) (equation : Equation) → item.Says text equation → HasLocation equation.0
-item_location text equation is = (item_names text equation is).0
+pub item_location : (text : List ℕ) (assignment : AssignmentValue) → item.Says text assignment → HasLocation assignment.0
+item_location text assignment is = (item_names text assignment is).0
 
-pub item_value : (text : List ℕ) (equation : Equation) → item.Says text equation → HasName equation.1
-item_value text equation is = (item_names text equation is).1
+pub item_value : (text : List ℕ) (assignment : AssignmentValue) → item.Says text assignment → HasName assignment.1
+item_value text assignment is = (item_names text assignment is).1
 
 -- ---- tokens
 
@@ -58,7 +58,8 @@ either_named b x y first second = grind arith
 paired-named : (token : Token) (second : ℕ) (text : List ℕ) → TokenHasNames token → Named (paired token second text)
 paired-named token second text names = grind (arith, either_named)
 
-atom_named : (o : Option Equation) (rest : List ℕ) → ((equation : Equation) → o ≡ Some equation → HasNames equation) → Named (atom_from o rest)
+atom_named : (o : Option AssignmentValue) (rest : List ℕ)
+    → ((assignment : AssignmentValue) → o ≡ Some assignment → HasNames assignment) → Named (atom_from o rest)
 atom_named o rest names = grind arith
 
 not_named : (o : Option (List ℕ)) (other : Beginning) → Named other → Named (negation_or o other)
@@ -67,8 +68,8 @@ not_named o other names = grind arith
 unmarked-named : (text : List ℕ) → Named (unmarked text)
 unfolding unmarked
 unmarked-named text =
-    not_named (after_not text) _ (atom_named (setting.reads (before is_mark text)) (from_first is_mark text)
-    (λ equation is. setting_names (before is_mark text) equation (setting_settles.found (before is_mark text) equation is)))
+    not_named (after_not text) _ (atom_named (an_assignment.reads (before is_mark text)) (from_first is_mark text)
+    (λ assignment is. assignment_names (before is_mark text) assignment (assignment_settles.found (before is_mark text) assignment is)))
 
 begun-named : (text : List ℕ) → Named (begun text)
 unfolding begun

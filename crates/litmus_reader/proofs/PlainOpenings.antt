@@ -14,8 +14,8 @@ use Rattle.assembler.specs.Program.IsPlaced.{nothing, single, double, jumping, b
 use Rattle.step_machine.specs.History.{HartOpeningValue}
 use Rattle.litmus.specs.LitmusTests.{LitmusTest}
 use Rattle.litmus_tokens.specs.Names.{word_from, a_word}
-use Rattle.litmus_tokens.specs.Settings.{NamedPlace, Value, Equation, value, item as an_item}
-use Rattle.litmus_tokens.specs.Settings.Value.{number, address_of}
+use Rattle.litmus_tokens.specs.Assignments.{NamedLocation, NamedValue, AssignmentValue, value, item as an_item}
+use Rattle.litmus_tokens.specs.Assignments.NamedValue.{number, address_of}
 use Rattle.litmus_reader.specs.Locations.{Names}
 use Rattle.litmus_reader.specs.Shapes.{AreParts}
 use Rattle.litmus_reader.specs.Shapes.AreParts.{last, more}
@@ -47,55 +47,55 @@ lines_size all at (line ∷ below) instrs (front, rest, is, here, further) =
 -- ---- values
 
 -- the value is a word, if it is a number
-abbrev IsSmall : Value → Type 0
+abbrev IsSmall : NamedValue → Type 0
 IsSmall (number n) = IsWord n
 IsSmall (address_of name) = Unit {0}
 
 word_small : (z : ℤ) (n : ℕ) → word_from z ≡ Some n → IsWord n
 word_small z n is = grind (arith, ltb-true)
 
-value_small : (text : List ℕ) (v : Value) → value.Says text v → IsSmall v
+value_small : (text : List ℕ) (v : NamedValue) → value.Says text v → IsSmall v
 unfolding value a_word
 value_small text v (inl (name, says, made)) = subst IsSmall made tt
 value_small text v (inr (n, (z, says, is), made)) = subst IsSmall made (word_small z n is)
 
-item_small : (text : List ℕ) (equation : Equation) → an_item.Says text equation → IsSmall equation.1
+item_small : (text : List ℕ) (assignment : AssignmentValue) → an_item.Says text assignment → IsSmall assignment.1
 unfolding an_item
-item_small text equation (inl (left, right, whole, place, says)) = value_small right equation.1 says
-item_small text equation (inr (at, declared, made)) = subst (λ (e : Equation). IsSmall e.1) made (omega arith)
+item_small text assignment (inl (left, right, whole, place, says)) = value_small right assignment.1 says
+item_small text assignment (inr (at, declared, made)) = subst (λ (e : AssignmentValue). IsSmall e.1) made (omega arith)
 
-abbrev AreSmall : List Equation → Type 0
-AreSmall equations = AllByRecursion (λ (equation : Equation). IsSmall equation.1) equations
+abbrev AreSmall : List AssignmentValue → Type 0
+AreSmall assignments = AllByRecursion (λ (assignment : AssignmentValue). IsSmall assignment.1) assignments
 
-items_small : (parts : List (List ℕ)) (equations : List Equation) → AreItems parts equations → AreSmall equations
-items_small parts equations none = tt
-items_small parts equations (empty part others rest blank are) = items_small others rest are
-items_small parts equations (item part others equation rest is are) = (item_small part equation is, items_small others rest are)
+items_small : (parts : List (List ℕ)) (assignments : List AssignmentValue) → AreItems parts assignments → AreSmall assignments
+items_small parts assignments none = tt
+items_small parts assignments (empty part others rest blank are) = items_small others rest are
+items_small parts assignments (item part others assignment rest is are) = (item_small part assignment is, items_small others rest are)
 
-abbrev IfSmall : Option Value → Type 0
+abbrev IfSmall : Option NamedValue → Type 0
 IfSmall None = Unit {0}
 IfSmall (Some v) = IsSmall v
 
-or_small : (a b : Option Value) → IfSmall a → IfSmall b → IfSmall (or_else a b)
+or_small : (a b : Option NamedValue) → IfSmall a → IfSmall b → IfSmall (or_else a b)
 or_small None b p q = q
 or_small (Some v) b p q = p
 
-if_small : (b : Bool) (v : Value) → IsSmall v → IfSmall (cond b (Some v) None)
+if_small : (b : Bool) (v : NamedValue) → IsSmall v → IfSmall (cond b (Some v) None)
 if_small true v p = p
 if_small false v p = tt
 
-put_small : (is_there : NamedPlace → Bool) (equations : List Equation) → AreSmall equations → IfSmall (last_put is_there equations)
+put_small : (is_there : NamedLocation → Bool) (assignments : List AssignmentValue) → AreSmall assignments → IfSmall (last_put is_there assignments)
 put_small is_there [] all = tt
-put_small is_there (equation ∷ equations) all =
-    or_small (last_put is_there equations) (cond (is_there equation.0) (Some equation.1) None)
-    (put_small is_there equations all.1) (if_small (is_there equation.0) equation.1 all.0)
+put_small is_there (assignment ∷ assignments) all =
+    or_small (last_put is_there assignments) (cond (is_there assignment.0) (Some assignment.1) None)
+    (put_small is_there assignments all.1) (if_small (is_there assignment.0) assignment.1 all.0)
 
 address_small : (names : Names) (name : List ℕ) (index word : ℕ) → length names ≤ 1024 → IsAt names name index → word ≡ 4 * index → IsWord word
 address_small names name index word few (above, below, whole, at) is =
     let total : length names ≡ length above + suc (length below) = ap length whole ∙ length-append above (name ∷ below) in
     omega arith
 
-first_small : (names : Names) (put : Option Value) (word : ℕ) → length names ≤ 1024 → IfSmall put → IsFirstValue names put word → IsWord word
+first_small : (names : Names) (put : Option NamedValue) (word : ℕ) → length names ≤ 1024 → IfSmall put → IsFirstValue names put word → IsWord word
 first_small names None word few small is = omega (arith, is)
 first_small names (Some (number n)) word few small is = omega (arith, is, small)
 first_small names (Some (address_of name)) word few small (index, at, is) = address_small names name index word few at is
@@ -106,30 +106,31 @@ all_from : (xs : List ℕ) → ((i : ℕ) → i < length xs → IsWord (get_or x
 all_from [] each = tt
 all_from (x ∷ xs) each = (each 0 (omega arith), all_from xs (λ i less. each (suc i) (omega (arith, less))))
 
-registers-small : (names : Names) (equations : List Equation) (hart : ℕ) (registers : List ℕ) → length names ≤ 1024 → AreSmall equations
-    → AreRegisters names equations hart registers → AllByRecursion IsWord registers
-registers-small names equations hart registers few small are = all_from registers each
+registers-small : (names : Names) (assignments : List AssignmentValue) (hart : ℕ) (registers : List ℕ) → length names ≤ 1024 → AreSmall assignments
+    → AreRegisters names assignments hart registers → AllByRecursion IsWord registers
+registers-small names assignments hart registers few small are = all_from registers each
   where
     each : (i : ℕ) → i < length registers → IsWord (get_or registers i 0)
     each zero less = omega (arith, are.zero)
-    each (suc i) less = first_small names (last_put (is_register hart (suc i)) equations) (get_or registers (suc i) 0) few
-        (put_small (is_register hart (suc i)) equations small) (are.others (suc i) (omega arith) (omega (arith, less, are.count)))
+    each (suc i) less = first_small names (last_put (is_register hart (suc i)) assignments) (get_or registers (suc i) 0) few
+        (put_small (is_register hart (suc i)) assignments small) (are.others (suc i) (omega arith) (omega (arith, less, are.count)))
 
-words-small : (names : Names) (equations : List Equation) (words : List ℕ) → length names ≤ 1024 → AreSmall equations
-    → AreFirstWords names equations words → AllByRecursion IsWord words
-words-small names equations words few small are = all_from words each
+words-small : (names : Names) (assignments : List AssignmentValue) (words : List ℕ) → length names ≤ 1024 → AreSmall assignments
+    → AreFirstWords names assignments words → AllByRecursion IsWord words
+words-small names assignments words few small are = all_from words each
   where
     each : (i : ℕ) → i < length words → IsWord (get_or words i 0)
     each i less =
         let (name, at) = at_any names i (omega (arith, less, are.count)) in
-        first_small names (last_put (is_location name) equations) (get_or words i 0) few (put_small (is_location name) equations small) (are.values i name at)
+        first_small names (last_put (is_location name) assignments) (get_or words i 0) few
+        (put_small (is_location name) assignments small) (are.values i name at)
 
 -- ---- harts
 
-plain_harts : (names : Names) (equations : List Equation) (rows : List Cells) (hart : ℕ) (harts : List HartOpeningValue) → length names ≤ 1024
-    → AreSmall equations → AreHarts names equations rows hart (map hart_content harts) → All HasPlainCode harts → AllByRecursion IsPlainHart harts
-plain_harts names equations rows hart [] few small are are_plain = tt
-plain_harts names equations rows hart (first ∷ others) few small ((all, instrs, lines, made, meant), registers, inbox, further) are_plain =
+plain_harts : (names : Names) (assignments : List AssignmentValue) (rows : List Cells) (hart : ℕ) (harts : List HartOpeningValue) → length names ≤ 1024
+    → AreSmall assignments → AreHarts names assignments rows hart (map hart_content harts) → All HasPlainCode harts → AllByRecursion IsPlainHart harts
+plain_harts names assignments rows hart [] few small are are_plain = tt
+plain_harts names assignments rows hart (first ∷ others) few small ((all, instrs, lines, made, meant), registers, inbox, further) are_plain =
     let long : length instrs ≡ word_count all = lines_size all 0 all instrs made.placed in
     let same : length first.code ≡ length instrs = sym (length-map first.code meaning) ∙ (ap length meant ∙ length-map instrs Some) in (
       record {
@@ -137,10 +138,10 @@ plain_harts names equations rows hart (first ∷ others) few small ((all, instrs
         code = recursion_from_All IsWord first.code (All-head HasPlainCode first others are_plain).1;
         count = registers.count;
         zero = registers.zero;
-        registers = registers-small names equations hart first.registers few small registers;
+        registers = registers-small names assignments hart first.registers few small registers;
         inbox = inbox;
       },
-      plain_harts names equations rows (hart + 1) others few small further (All-tail HasPlainCode first others are_plain),
+      plain_harts names assignments rows (hart + 1) others few small further (All-tail HasPlainCode first others are_plain),
     )
 
 -- ---- a test
@@ -158,12 +159,12 @@ pub plain_opening : (text : List ℕ) (test : LitmusTest) → IsTestOf text test
 unfolding IsTestOf
 plain_opening text test (is, are_plain) =
     let harts : length (map hart_content test.opening.harts) ≡ length test.opening.harts = length-map test.opening.harts hart_content in
-    let small : AreSmall is.equations = items_small is.parts is.equations is.items in
+    let small : AreSmall is.assignments = items_small is.parts is.assignments is.items in
     let few : length test.names ≤ 1024 = is.few in
     record {
       some_hart = omega (arith, harts, some_hart is.table (length (map hart_content test.opening.harts)) is.rows is.tabled);
       few = omega (arith, harts, is.tabled.few);
-      harts = plain_harts test.names is.equations is.rows 0 test.opening.harts few small is.harts are_plain;
+      harts = plain_harts test.names is.assignments is.rows 0 test.opening.harts few small is.harts are_plain;
       locations = omega (arith, few, is.first_words.count);
-      words = words-small test.names is.equations test.opening.words few small is.first_words;
+      words = words-small test.names is.assignments test.opening.words few small is.first_words;
     }

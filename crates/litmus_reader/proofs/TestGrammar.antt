@@ -9,7 +9,7 @@ use Rattle.step_machine.specs.History.{HartOpeningValue}
 use Rattle.litmus.specs.declared.verdict.Quantifier.{Quantifier}
 use Rattle.litmus.specs.Formulas.{Formula}
 use Rattle.litmus.specs.LitmusTests.{LitmusTest, litmus_test_of}
-use Rattle.litmus_tokens.specs.Settings.{Equation}
+use Rattle.litmus_tokens.specs.Assignments.{AssignmentValue}
 use Rattle.litmus_reader.specs.declared.faults.LitmusFault.{LitmusFault}
 use Rattle.texts.specs.declared.errors.AtLine.{AtLine}
 use Rattle.texts.specs.declared.errors.TextError.{TextError}
@@ -31,11 +31,11 @@ same_start : (a b : HartOpeningValue) → a.code ≡ b.code → hart_content a �
 same_start a b code same = grind arith
 
 -- harts of the same instructions have the same words
-same_harts : (names : Names) (equations : List Equation) (rows : List Cells) (hart : ℕ)
-    (xs ys : List HartOpeningValue) → AreHarts names equations rows hart (map hart_content xs) → All HasPlainCode xs
+same_harts : (names : Names) (assignments : List AssignmentValue) (rows : List Cells) (hart : ℕ)
+    (xs ys : List HartOpeningValue) → AreHarts names assignments rows hart (map hart_content xs) → All HasPlainCode xs
     → All HasPlainCode ys → map hart_content xs ≡ map hart_content ys → xs ≡ ys
-same_harts names equations rows hart [] [] are p q same = refl
-same_harts names equations rows hart (x ∷ xs) (y ∷ ys) are p q same =
+same_harts names assignments rows hart [] [] are p q same = refl
+same_harts names assignments rows hart (x ∷ xs) (y ∷ ys) are p q same =
     let first : hart_content x ≡ hart_content y = cc in
     let rest : map hart_content xs ≡ map hart_content ys = cc in
     let instrs = are.0.1 in
@@ -44,10 +44,10 @@ same_harts names equations rows hart (x ∷ xs) (y ∷ ys) are p q same =
     (sym (ap (λ (h : HartContent). h.code) first) ∙ meant) in
     rw (
       same_start x y code first,
-      same_harts names equations rows (hart + 1) xs ys are.3 (All-tail HasPlainCode x xs p)
+      same_harts names assignments rows (hart + 1) xs ys are.3 (All-tail HasPlainCode x xs p)
           (All-tail HasPlainCode y ys q) rest,
     ) refl
-same_harts names equations rows hart z other are p q same = absurd cc
+same_harts names assignments rows hart z other are p q same = absurd cc
 
 same_test : (xs ys : List HartOpeningValue) (words others : List ℕ) (names more : Names) (q r : Quantifier)
     (f g : Formula) → xs ≡ ys → words ≡ others → names ≡ more → q ≡ r → f ≡ g
@@ -59,7 +59,7 @@ unfolding IsTestOf
 one_test text a b first second =
     let same = one_content text (content_of a) (content_of b) first.0 second.0 in
     let is = first.0 in
-    let harts = same_harts a.names is.equations is.rows 0 a.opening.harts b.opening.harts is.harts first.1 second.1 (ap (λ (c : Content). c.harts) same) in
+    let harts = same_harts a.names is.assignments is.rows 0 a.opening.harts b.opening.harts is.harts first.1 second.1 (ap (λ (c : Content). c.harts) same) in
     same_test a.opening.harts b.opening.harts a.opening.words b.opening.words a.names b.names a.quantifier b.quantifier a.condition b.condition harts
     (ap (λ (c : Content). c.words) same) (ap (λ (c : Content). c.names) same) (ap (λ (c : Content). c.quantifier) same) (ap (λ (c : Content). c.condition) same)
 

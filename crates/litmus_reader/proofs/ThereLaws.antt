@@ -16,7 +16,7 @@ use Rattle.litmus.specs.Grammar.Stands.{atom, negated, enclosed, one_operand, jo
 use Rattle.litmus.specs.Drafting.{Stage, stage_after, with_symbol, or_misplaced, symbol_added, formula_of_symbols}
 use Rattle.litmus.specs.LitmusTests.{IsThere}
 use Rattle.litmus.proofs.FrontLaws.{finished-found}
-use Rattle.litmus_tokens.specs.Settings as setting
+use Rattle.litmus_tokens.specs.Assignments as assigned
 use Rattle.litmus_tokens.specs.Tokens as token
 use Rattle.litmus_tokens.specs.Tokens.{Tokens, tokens_of}
 use Rattle.litmus_reader.specs.declared.condition.FinalCondition.{FinalCondition}
@@ -120,10 +120,10 @@ resolved-there names name = joined-resolved names name (index_from 0 names name)
 abbrev Kept : Names → (ℕ × Names) → Type 0
 Kept names found = length names ≤ length found.1
 
-value_kept : (names : Names) (v : setting.Value) → IfOk (value_resolved names v) (Kept names)
+value_kept : (names : Names) (v : assigned.NamedValue) → IfOk (value_resolved names v) (Kept names)
 unfolding value_resolved
-value_kept names (setting.Value.number n) = omega arith
-value_kept names (setting.Value.address_of name) =
+value_kept names (assigned.NamedValue.number n) = omega arith
+value_kept names (assigned.NamedValue.address_of name) =
     after_ok (Resolved names) (Kept names) (resolved names name) _ (resolved-there names name) (λ found there. there.1)
 
 abbrev PlaceResolved : ℕ → Names → (Place × Names) → Type 0
@@ -134,23 +134,23 @@ register_resolved : (harts hart : ℕ) (names : Names) (register : Reg) (b : Boo
     → IfOk (if b then Ok (place.Register hart register.number, names) else Err e) (PlaceResolved harts names)
 register_resolved harts hart names register b e within = grind (arith, ltb-true)
 
-place_there : (harts : ℕ) (names : Names) (p : setting.NamedPlace) → IfOk (place_resolved harts names p) (PlaceResolved harts names)
+place_there : (harts : ℕ) (names : Names) (p : assigned.NamedLocation) → IfOk (place_resolved harts names p) (PlaceResolved harts names)
 unfolding place_resolved
-place_there harts names (setting.NamedPlace.in_register hart register) = register_resolved harts hart names register (nat_lt hart harts) _ refl
-place_there harts names (setting.NamedPlace.at_location name) =
+place_there harts names (assigned.NamedLocation.in_register hart register) = register_resolved harts hart names register (nat_lt hart harts) _ refl
+place_there harts names (assigned.NamedLocation.at_location name) =
     after_ok (Resolved names) (PlaceResolved harts names) (resolved names name) _ (resolved-there names name)
     (λ found there. ((omega arith, omega (arith, there.0)), there.1))
 
 abbrev TokenResolved : ℕ → Names → (Symbol × Names) → Type 0
 TokenResolved harts names found = TokenThere harts (length found.1) found.0 × (length names ≤ length found.1)
 
-atom_there : (harts : ℕ) (names : Names) (equation : setting.Equation) → IfOk (atom_resolved harts names equation) (TokenResolved harts names)
+atom_there : (harts : ℕ) (names : Names) (assignment : assigned.AssignmentValue) → IfOk (atom_resolved harts names assignment) (TokenResolved harts names)
 unfolding atom_resolved
-atom_there harts names equation = after_ok (PlaceResolved harts names) (TokenResolved harts names)
-    (place_resolved harts names equation.0) _ (place_there harts names equation.0)
-    (λ spot here. after_ok (Kept spot.1) (TokenResolved harts names) (value_resolved spot.1 equation.1) _
-    (value_kept spot.1 equation.1)
-    (λ value kept. (place_more harts (length spot.1) (length value.1) spot.0 kept here.0, omega (arith, kept, here.1))))
+atom_there harts names assignment = after_ok (PlaceResolved harts names) (TokenResolved harts names)
+    (place_resolved harts names assignment.0) _ (place_there harts names assignment.0)
+    (λ location here. after_ok (Kept location.1) (TokenResolved harts names) (value_resolved location.1 assignment.1) _
+    (value_kept location.1 assignment.1)
+    (λ value kept. (place_more harts (length location.1) (length value.1) location.0 kept here.0, omega (arith, kept, here.1))))
 
 token_there : (harts : ℕ) (names : Names) (t : token.Token) → IfOk (token_resolved harts names t) (TokenResolved harts names)
 unfolding token_resolved

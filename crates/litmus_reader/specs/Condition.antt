@@ -10,7 +10,7 @@ use Rattle.litmus.specs.declared.symbols.Symbol.{Symbol}
 use Rattle.litmus.specs.declared.symbols.Symbol.TheVariants as symbol
 use Rattle.litmus.specs.Formulas.{Formula}
 use Rattle.litmus.specs.Drafting.{symbol_added, formula_of_symbols}
-use Rattle.litmus_tokens.specs.Settings as setting
+use Rattle.litmus_tokens.specs.Assignments as assigned
 use Rattle.litmus_tokens.specs.Tokens as token
 use Rattle.litmus_tokens.specs.Tokens.{Tokens, tokens_of}
 use Rattle.litmus_reader.specs.declared.condition.Quantified as code
@@ -37,22 +37,22 @@ unfoldable pub quantifier_in : List ℕ → Option Quantified
 quantifier_in text = quantifier_of (without_front text)
 
 -- the place that an atom asks for; its hart has to be there
-unfoldable pub place_resolved : (harts : ℕ) → Names → setting.NamedPlace → Result (Place × Names) LitmusFault
-place_resolved harts names (setting.NamedPlace.in_register hart register) =
+unfoldable pub place_resolved : (harts : ℕ) → Names → assigned.NamedLocation → Result (Place × Names) LitmusFault
+place_resolved harts names (assigned.NamedLocation.in_register hart register) =
     if nat_lt hart harts then Ok (place.Register hart register.number, names) else Err BadCondition
-place_resolved harts names (setting.NamedPlace.at_location name) = do
+place_resolved harts names (assigned.NamedLocation.at_location name) = do
   found ← resolved names name
   Ok (place.Word (4 * found.0), found.1)
 
-unfoldable pub atom_resolved : (harts : ℕ) → Names → setting.Equation → Result (Symbol × Names) LitmusFault
-atom_resolved harts names equation = do
-  spot ← place_resolved harts names equation.0
-  value ← value_resolved spot.1 equation.1
-  Ok (symbol.Is spot.0 value.0, value.1)
+unfoldable pub atom_resolved : (harts : ℕ) → Names → assigned.AssignmentValue → Result (Symbol × Names) LitmusFault
+atom_resolved harts names assignment = do
+  location ← place_resolved harts names assignment.0
+  value ← value_resolved location.1 assignment.1
+  Ok (symbol.Is location.0 value.0, value.1)
 
 -- the token with its place known, a symbol
 unfoldable pub token_resolved : (harts : ℕ) → Names → token.Token → Result (Symbol × Names) LitmusFault
-token_resolved harts names (token.Token.atom equation) = atom_resolved harts names equation
+token_resolved harts names (token.Token.atom assignment) = atom_resolved harts names assignment
 token_resolved harts names token.Token.negation = Ok (symbol.Not, names)
 token_resolved harts names token.Token.conjunction = Ok (symbol.And, names)
 token_resolved harts names token.Token.disjunction = Ok (symbol.Or, names)
@@ -115,5 +115,5 @@ condition_of names final = record { quantifier = final.quantifier; formula = fin
 
 -- the locations in a token have the shapes of names
 abbrev pub TokenHasNames : token.Token → Type 0
-TokenHasNames (token.Token.atom equation) = HasNames equation
+TokenHasNames (token.Token.atom assignment) = HasNames assignment
 TokenHasNames t = Unit {0}

@@ -7,14 +7,14 @@ use Rattle.litmus.specs.declared.symbols.Place.{Place}
 use Rattle.litmus.specs.declared.symbols.Place.TheVariants as place
 use Rattle.litmus.specs.declared.symbols.Symbol.{Symbol}
 use Rattle.litmus.specs.declared.symbols.Symbol.TheVariants as symbol
-use Rattle.litmus_tokens.specs.Settings as setting
-use Rattle.litmus_tokens.specs.Settings.{Equation}
+use Rattle.litmus_tokens.specs.Assignments as assigned
+use Rattle.litmus_tokens.specs.Assignments.{AssignmentValue}
 use Rattle.litmus_tokens.specs.Tokens as token
 use Rattle.litmus_tokens.specs.Tokens.{AreTokens}
 use Rattle.litmus_reader.specs.Locations.{Names}
 use Rattle.litmus_reader.specs.Shapes.{NoneBegins}
 use Rattle.litmus_reader.specs.Layout.{BeginsUnread}
-use Rattle.litmus_reader.specs.Openings.{IsAt, IsWorth}
+use Rattle.litmus_reader.specs.Openings.{IsAt, IsNamedValue}
 
 abbrev pub token_for : Quantifier → List ℕ
 token_for Exists = codes "exists"
@@ -27,9 +27,9 @@ IsFinalCondition text quantifier tokens = (blanks rest : List ℕ) × AreBlanks 
     × (text ≡ blanks ++ (token_for quantifier ++ rest)) × AreTokens rest tokens × NoneBegins BeginsUnread text
 
 -- the atoms among the tokens
-abbrev pub atoms_in : List token.Token → List Equation
+abbrev pub atoms_in : List token.Token → List AssignmentValue
 atoms_in [] = []
-atoms_in (token.Token.atom equation ∷ tokens) = equation ∷ atoms_in tokens
+atoms_in (token.Token.atom assignment ∷ tokens) = assignment ∷ atoms_in tokens
 atoms_in (token.Token.negation ∷ tokens) = atoms_in tokens
 atoms_in (token.Token.conjunction ∷ tokens) = atoms_in tokens
 atoms_in (token.Token.disjunction ∷ tokens) = atoms_in tokens
@@ -37,14 +37,14 @@ atoms_in (token.Token.opening ∷ tokens) = atoms_in tokens
 atoms_in (token.Token.closing ∷ tokens) = atoms_in tokens
 
 -- where an atom looks: a register of a hart of the table, or a location's word
-abbrev pub IsPlaceOf : (harts : ℕ) → Names → setting.NamedPlace → Place → Type 0
-IsPlaceOf harts names (setting.NamedPlace.in_register hart register) at = (hart < harts) × (at ≡ place.Register hart register.number)
-IsPlaceOf harts names (setting.NamedPlace.at_location name) at = (index : ℕ) × IsAt names name index × (at ≡ place.Word (4 * index))
+abbrev pub IsPlaceOf : (harts : ℕ) → Names → assigned.NamedLocation → Place → Type 0
+IsPlaceOf harts names (assigned.NamedLocation.in_register hart register) at = (hart < harts) × (at ≡ place.Register hart register.number)
+IsPlaceOf harts names (assigned.NamedLocation.at_location name) at = (index : ℕ) × IsAt names name index × (at ≡ place.Word (4 * index))
 
 -- the token, with places and numbers for names
 abbrev pub IsKnown : (harts : ℕ) → Names → token.Token → Symbol → Type 0
-IsKnown harts names (token.Token.atom equation) known = (at : Place) × (value : ℕ)
-    × IsPlaceOf harts names equation.0 at × IsWorth names equation.1 value × (known ≡ symbol.Is at value)
+IsKnown harts names (token.Token.atom assignment) known = (at : Place) × (value : ℕ)
+    × IsPlaceOf harts names assignment.0 at × IsNamedValue names assignment.1 value × (known ≡ symbol.Is at value)
 IsKnown harts names token.Token.negation known = known ≡ symbol.Not
 IsKnown harts names token.Token.conjunction known = known ≡ symbol.And
 IsKnown harts names token.Token.disjunction known = known ≡ symbol.Or

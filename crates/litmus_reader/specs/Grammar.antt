@@ -6,7 +6,7 @@ use Rattle.litmus.specs.Grammar.{IsConditionOf}
 use Rattle.litmus.specs.LitmusTests.{LitmusTest}
 use Rattle.litmus.specs.declared.litmus_test.TheConstants.{MAX_LOCATIONS}
 use Rattle.litmus_tokens.specs.Cleaning.{IsCleaned}
-use Rattle.litmus_tokens.specs.Settings.{Equation}
+use Rattle.litmus_tokens.specs.Assignments.{AssignmentValue}
 use Rattle.litmus_tokens.specs.Tokens.{Token}
 use Rattle.litmus_reader.specs.Locations.{Names}
 use Rattle.litmus_reader.specs.Table.{IsPlainCode}
@@ -18,11 +18,11 @@ use Rattle.litmus_reader.specs.ConditionGrammar.{IsFinalCondition, atoms_in, Are
 use Rattle.litmus_reader.specs.Reading.{HartContent, Content, content_of}
 
 -- each hart has its column's code and the registers that the items put; the first one is this hart
-abbrev pub AreHarts : Names → List Equation → List Cells → (hart : ℕ) → List HartContent → Type 0
-AreHarts names equations rows hart [] = Unit {0}
-AreHarts names equations rows hart (first ∷ others) =
-    IsColumnCode (column_of hart rows) first.code × AreRegisters names equations hart first.registers
-    × (first.inbox ≡ []) × AreHarts names equations rows (hart + 1) others
+abbrev pub AreHarts : Names → List AssignmentValue → List Cells → (hart : ℕ) → List HartContent → Type 0
+AreHarts names assignments rows hart [] = Unit {0}
+AreHarts names assignments rows hart (first ∷ others) =
+    IsColumnCode (column_of hart rows) first.code × AreRegisters names assignments hart first.registers
+    × (first.inbox ≡ []) × AreHarts names assignments rows (hart + 1) others
 
 -- A test's locations are those of its init part and its condition, in order of first appearance.
 pub record IsContent (text : List ℕ) (content : Content) : Type 0 where
@@ -31,21 +31,21 @@ pub record IsContent (text : List ℕ) (content : Content) : Type 0 where
   pub table : List ℕ
   pub condition_text : List ℕ
   pub parts : List (List ℕ)
-  pub equations : List Equation
+  pub assignments : List AssignmentValue
   pub rows : List Cells
   pub tokens : List Token
   pub known : List known.Symbol
   pub cleaned : IsCleaned text clean
   pub laid_out : IsLaidOut clean init table condition_text
   pub parted : AreParts 59 init parts
-  pub items : AreItems parts equations
+  pub items : AreItems parts assignments
   pub tabled : IsTable table (length content.harts) rows
-  pub harts : AreHarts content.names equations rows 0 content.harts
-  pub there : All (IsHartThere (length content.harts)) equations
+  pub harts : AreHarts content.names assignments rows 0 content.harts
+  pub there : All (IsHartThere (length content.harts)) assignments
   pub quantified : IsFinalCondition condition_text content.quantifier tokens
-  pub named : content.names ≡ each_once (names_in equations ++ names_in (atoms_in tokens))
+  pub named : content.names ≡ each_once (names_in assignments ++ names_in (atoms_in tokens))
   pub few : length content.names ≤ MAX_LOCATIONS
-  pub first_words : AreFirstWords content.names equations content.words
+  pub first_words : AreFirstWords content.names assignments content.words
   pub all_known : AreKnown (length content.harts) content.names tokens known
   pub condition : IsConditionOf known content.condition
 

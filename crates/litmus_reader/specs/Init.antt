@@ -3,8 +3,8 @@ use Rattle.std.specs.Prelude.{ℕ, List, [], ◌∷◌, ◌++◌, map, Option, N
 use Rattle.std.specs.List.{list_all}
 use Rattle.texts.specs.Results.{◌>>=◌}
 use Rattle.texts.specs.Pieces.{is_gap, pieces}
-use Rattle.litmus_tokens.specs.Settings.{NamedPlace, Equation, item}
-use Rattle.litmus_tokens.specs.Settings.NamedPlace.{in_register, at_location}
+use Rattle.litmus_tokens.specs.Assignments.{NamedLocation, AssignmentValue, item}
+use Rattle.litmus_tokens.specs.Assignments.NamedLocation.{in_register, at_location}
 use Rattle.litmus_reader.specs.declared.faults.LitmusFault.{LitmusFault}
 use Rattle.litmus_reader.specs.declared.faults.LitmusFault.TheVariants.{BadInit}
 use Rattle.litmus_reader.specs.declared.init.Item.{Item}
@@ -35,18 +35,18 @@ abbrev pub items_of : Init → InitItems
 items_of init = record { items = map item_of init.items.items; names = init.locations }
 
 -- where an item puts its value, with a location given by its index
-unfoldable pub target_resolved : Names → NamedPlace → Result (Target × Names) LitmusFault
+unfoldable pub target_resolved : Names → NamedLocation → Result (Target × Names) LitmusFault
 target_resolved names (in_register hart register) = Ok (Register hart register, names)
 target_resolved names (at_location name) = do
   found ← resolved names name
   Ok (Word found.0, found.1)
 
 -- the items with one more; a piece that is no item is `BadInit`
-unfoldable pub item_added : InitItems → Option Equation → Result InitItems LitmusFault
+unfoldable pub item_added : InitItems → Option AssignmentValue → Result InitItems LitmusFault
 item_added so_far None = Err BadInit
-item_added so_far (Some equation) = do
-  target ← target_resolved so_far.names equation.0
-  value ← value_resolved target.1 equation.1
+item_added so_far (Some assignment) = do
+  target ← target_resolved so_far.names assignment.0
+  value ← value_resolved target.1 assignment.1
   Ok (record { items = so_far.items ++ (record { target = target.0; value = value.0 }) ∷ []; names = value.1 })
 
 -- an item, or nothing, between two `;`

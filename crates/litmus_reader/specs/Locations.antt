@@ -3,9 +3,9 @@ use Rattle.std.specs.Prelude.{ℕ, IsTrue, ◌+◌, ◌*◌, nat_lt, List, [], �
 use Rattle.std.specs.Str.{bytes_eq}
 use Rattle.texts.specs.Results.{◌>>=◌}
 use Rattle.litmus_tokens.specs.Names.{is_name}
-use Rattle.litmus_tokens.specs.Settings.{NamedPlace, Value, Equation}
-use Rattle.litmus_tokens.specs.Settings.NamedPlace.{in_register, at_location}
-use Rattle.litmus_tokens.specs.Settings.Value.{number, address_of}
+use Rattle.litmus_tokens.specs.Assignments.{NamedLocation, NamedValue, AssignmentValue}
+use Rattle.litmus_tokens.specs.Assignments.NamedLocation.{in_register, at_location}
+use Rattle.litmus_tokens.specs.Assignments.NamedValue.{number, address_of}
 use Rattle.litmus_reader.specs.declared.faults.LitmusFault.{LitmusFault}
 use Rattle.litmus_reader.specs.declared.faults.LitmusFault.TheVariants.{TooMany}
 use Rattle.litmus.specs.declared.litmus_test.TheConstants.{MAX_LOCATIONS}
@@ -27,19 +27,19 @@ unfoldable pub resolved : Names → List ℕ → Result (ℕ × Names) LitmusFau
 resolved names name = name_added names name (index_from 0 names name)
 
 -- a location in it has the shape of a name
-abbrev pub HasLocation : NamedPlace → Type 0
+abbrev pub HasLocation : NamedLocation → Type 0
 HasLocation (in_register hart register) = Unit {0}
 HasLocation (at_location name) = IsTrue (is_name name)
 
-abbrev pub HasName : Value → Type 0
+abbrev pub HasName : NamedValue → Type 0
 HasName (number n) = Unit {0}
 HasName (address_of name) = IsTrue (is_name name)
 
-abbrev pub HasNames : Equation → Type 0
-HasNames equation = HasLocation equation.0 × HasName equation.1
+abbrev pub HasNames : AssignmentValue → Type 0
+HasNames assignment = HasLocation assignment.0 × HasName assignment.1
 
 -- the value that is put; the word of a location has the address of 4 times its index
-unfoldable pub value_resolved : Names → Value → Result (ℕ × Names) LitmusFault
+unfoldable pub value_resolved : Names → NamedValue → Result (ℕ × Names) LitmusFault
 value_resolved names (number n) = Ok (n, names)
 value_resolved names (address_of name) = do
   found ← resolved names name

@@ -62,26 +62,26 @@ content codes values condition = record {
 
 -- the test whose table has this code, with the condition from its first line on
 unfoldable pub content_below : InitItems → List Code → Option (List ℕ) → Result Content LitmusFault
-content_below settings codes condition = do
-  values ← values_at (length codes) settings
-  condition_text ← condition_at (length codes) settings.names condition
+content_below resolved_items codes condition = do
+  values ← values_at (length codes) resolved_items
+  condition_text ← condition_at (length codes) resolved_items.names condition
   Ok (content codes values condition_text)
 
 -- the test with this init part, with what stands after it: the table and the condition
 unfoldable pub content_after : InitItems → List ℕ → Result Content LitmusFault
-content_after settings text = do
+content_after resolved_items text = do
   columns ← table_at (before_line mark.Condition text)
   codes ← codes_of columns
-  content_below settings codes (from_line mark.Condition text)
+  content_below resolved_items codes (from_line mark.Condition text)
 
 -- the test in a text without comments
 unfoldable pub content_at : List ℕ → Result Content LitmusFault
 content_at text = do
   below ← after_header text
   inner ← after_brace below
-  settings ← items_at (before (is_byte 125) inner)
+  resolved_items ← items_at (before (is_byte 125) inner)
   rest ← after_init (after (is_byte 125) inner)
-  content_after settings rest
+  content_after resolved_items rest
 
 -- the test in a text, or the first fault in reading order
 unfoldable pub test_at : List ℕ → Result Content LitmusFault

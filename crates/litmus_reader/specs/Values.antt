@@ -44,7 +44,7 @@ items_put values (item ∷ items) = do
 
 -- the values of all items, where a later one wins
 unfoldable pub values_at : (harts : ℕ) → InitItems → Result Values LitmusFault
-values_at harts settings = items_put (zeros harts (length settings.names)) settings.items
+values_at harts resolved_items = items_put (zeros harts (length resolved_items.names)) resolved_items.items
 
 -- the words with zeros for the locations that only the condition names
 abbrev pub padded : ℕ → List ℕ → List ℕ

@@ -7,7 +7,7 @@ ghost use Rattle.litmus.specs.Formulas.{Formula, places};
 ghost use Rattle.litmus.specs.LitmusTests.{IsThere};
 ghost use Rattle.litmus.specs.Drafting.{symbol_added, formula_of_symbols};
 ghost use Rattle.litmus.specs.declared.symbols.Symbol.{Symbol};
-ghost use Rattle.litmus_tokens.specs.Settings.{place_of as named_place_of, equation_of};
+ghost use Rattle.litmus_tokens.specs.Assignments.{place_of as named_place_of, assignment_of};
 ghost use Rattle.litmus_tokens.specs.Tokens.{token_of as named_token_of, tokens_of};
 ghost use Rattle.litmus_reader.specs.declared.faults.LitmusFault.TheVariants.{BadCondition};
 ghost use Rattle.texts.specs.declared.errors.TextError.TheVariants.{Refused};
@@ -18,13 +18,13 @@ ghost use Rattle.litmus_reader.specs.Condition.{atom_resolved, token_resolved, T
 ghost use Rattle.litmus_reader.specs.Condition.{tokens_added, condition_in, condition_of};
 ghost use Rattle.step_machine.specs.declared.opening.TheConstants.{MAX_HARTS};
 
+use crate::assignments::{address_of, value_of};
 use crate::faults::LitmusFault;
 use crate::locations::Locations;
 use crate::marks::{Mark, cut_at_line};
 use crate::refusals::{Refusal, left_of};
-use crate::settings::{address_of, value_of};
 use litmus::{Condition, ConditionDraft, ConditionError, Place, Quantifier, Symbol};
-use litmus_tokens::{Front, Setting, Spot, Token, first_token};
+use litmus_tokens::{Assignment, Front, Location, Token, first_token};
 use std::alloc::Global;
 use texts::cutting::without_front;
 
@@ -62,21 +62,21 @@ fn quantifier_in(text: &[u8]) -> Option<Quantified<'_>>
 #[tactic(auto, unfolding(crate::specs::Condition::place_resolved))]
 fn place_of(
     locations: &mut Locations,
-    spot: Spot<'_>,
+    location: Location<'_>,
     harts: usize,
     left: usize,
 ) -> Result<Place, Refusal>
-    requires named { HasLocation (named_place_of spot) }
+    requires named { HasLocation (named_place_of location) }
     requires few { harts ≤ MAX_HARTS }
-    ensures { GivesUpToMemory fault_in (λ place. (place, locations.new)) result (place_resolved harts locations.old (named_place_of spot.entry)) }
+    ensures { GivesUpToMemory fault_in (λ place. (place, locations.new)) result (place_resolved harts locations.old (named_place_of location.entry)) }
 {
-    match spot {
-        Spot::Register { hart, register } if hart < harts as u64 => Ok(Place::Register {
+    match location {
+        Location::Register { hart, register } if hart < harts as u64 => Ok(Place::Register {
             hart: hart as u32,
             number: register.number,
         }),
-        Spot::Register { .. } => Err(LitmusFault::BadCondition.at(left)),
-        Spot::Location(name) => {
+        Location::Register { .. } => Err(LitmusFault::BadCondition.at(left)),
+        Location::Memory(name) => {
             let index = locations.index_of(name, left)?;
             Ok(Place::Word {
                 address: address_of(index),
@@ -89,16 +89,16 @@ fn place_of(
 #[tactic(auto, unfolding(crate::specs::Condition::atom_resolved))]
 fn atom_of(
     locations: &mut Locations,
-    setting: Setting<'_>,
+    assignment: Assignment<'_>,
     harts: usize,
     left: usize,
 ) -> Result<Symbol, Refusal>
-    requires named { HasNames (equation_of setting) }
+    requires named { HasNames (assignment_of assignment) }
     requires few { harts ≤ MAX_HARTS }
-    ensures { GivesUpToMemory fault_in (λ token. (token, locations.new)) result (atom_resolved harts locations.old (equation_of setting.entry)) }
+    ensures { GivesUpToMemory fault_in (λ token. (token, locations.new)) result (atom_resolved harts locations.old (assignment_of assignment.entry)) }
 {
-    let place = place_of(locations, setting.spot, harts, left)?;
-    let value = value_of(locations, setting.worth, left)?;
+    let place = place_of(locations, assignment.location, harts, left)?;
+    let value = value_of(locations, assignment.value, left)?;
     Ok(Symbol::Is { place, value })
 }
 
@@ -115,7 +115,7 @@ fn token_of(
     ensures { GivesUpToMemory fault_in (λ symbol. (symbol, locations.new)) result (token_resolved harts locations.old (named_token_of token.entry)) }
 {
     match token {
-        Token::Is(setting) => atom_of(locations, setting, harts, left),
+        Token::Is(assignment) => atom_of(locations, assignment, harts, left),
         Token::Not => Ok(Symbol::Not),
         Token::And => Ok(Symbol::And),
         Token::Or => Ok(Symbol::Or),

@@ -2,16 +2,16 @@
 
 ghost use Rattle.std.specs.Prelude.{◌≡◌};
 ghost use Rattle.texts.specs.Results.{GivesUpToMemory};
-ghost use Rattle.litmus_tokens.specs.Settings.{place_of};
+ghost use Rattle.litmus_tokens.specs.Assignments.{place_of};
 ghost use Rattle.litmus_reader.specs.Faults.{fault_in};
 ghost use Rattle.litmus_reader.specs.Locations.{HasLocation};
 ghost use Rattle.litmus_reader.specs.Init.{no_items, target_resolved, piece_added, items_at, items_of};
 
+use crate::assignments::value_of;
 use crate::faults::LitmusFault;
 use crate::locations::Locations;
 use crate::refusals::{Refusal, left_of};
-use crate::settings::value_of;
-use litmus_tokens::{Spot, item_in};
+use litmus_tokens::{Location, item_in};
 use rv_decode::Reg;
 use std::alloc::Global;
 use texts::cutting::is_all;
@@ -44,13 +44,17 @@ pub struct Init {
 
 /// Where the item puts its value. A new location joins the others.
 #[tactic(auto, unfolding(crate::specs::Init::target_resolved))]
-fn target_of(locations: &mut Locations, spot: Spot<'_>, left: usize) -> Result<Target, Refusal>
-    requires { HasLocation (place_of spot) }
-    ensures { GivesUpToMemory fault_in (λ target. (target, locations.new)) result (target_resolved locations.old (place_of spot.entry)) }
+fn target_of(
+    locations: &mut Locations,
+    location: Location<'_>,
+    left: usize,
+) -> Result<Target, Refusal>
+    requires { HasLocation (place_of location) }
+    ensures { GivesUpToMemory fault_in (λ target. (target, locations.new)) result (target_resolved locations.old (place_of location.entry)) }
 {
-    match spot {
-        Spot::Register { hart, register } => Ok(Target::Register { hart, register }),
-        Spot::Location(name) => {
+    match location {
+        Location::Register { hart, register } => Ok(Target::Register { hart, register }),
+        Location::Memory(name) => {
             let index = locations.index_of(name, left)?;
             Ok(Target::Word { index })
         }
@@ -75,11 +79,11 @@ impl Init {
         if is_all(Separators::Gaps, piece) {
             return Ok(());
         }
-        let Some(setting) = item_in(piece) else {
+        let Some(assignment) = item_in(piece) else {
             return Err(LitmusFault::BadInit.at(left));
         };
-        let target = target_of(&mut self.locations, setting.spot, left)?;
-        let value = value_of(&mut self.locations, setting.worth, left)?;
+        let target = target_of(&mut self.locations, assignment.location, left)?;
+        let value = value_of(&mut self.locations, assignment.value, left)?;
         self.items.push(Item {
             target,
             value,

@@ -18,6 +18,7 @@
 
 #![tactic(auto)]
 
+mod assignments;
 mod condition;
 pub mod faults;
 mod header;
@@ -31,7 +32,6 @@ mod opening;
 pub mod reading;
 mod refusals;
 mod rows;
-mod settings;
 mod table;
 
 pub use faults::{LitmusError, LitmusFault};

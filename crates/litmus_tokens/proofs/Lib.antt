@@ -3,5 +3,5 @@ pub mod CommentLaws
 pub mod TokenLaws
 pub mod Bytes
 pub mod NumberTexts
-pub mod SettingLaws
+pub mod AssignmentLaws
 pub mod Spelling

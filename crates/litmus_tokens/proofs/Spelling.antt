@@ -7,7 +7,7 @@ use Rattle.std.proofs.lemmas.Slice.Eq.{starts_is}
 use Rattle.texts.specs.Cutting.{before, AllPass, NonePass, from_first, without_leading}
 use Rattle.texts.proofs.TrimLaws.{leading_all, leading_past, leading_split, leading_first, leading_gone}
 use Rattle.texts.specs.Pieces.{is_gap}
-use Rattle.litmus_tokens.specs.Settings.{Equation, setting}
+use Rattle.litmus_tokens.specs.Assignments.{AssignmentValue, an_assignment}
 use Rattle.litmus_tokens.specs.Tokens.{Token, Beginning, Tokens, is_mark, ends_name, after_not, paired, atom_from}
 use Rattle.litmus_tokens.specs.Tokens.{negation_or, unmarked, begun, beginning_of, tokens_from, tokens_of, EndsAtom}
 use Rattle.litmus_tokens.specs.Tokens.{Spells, AreTokens, listed}
@@ -16,7 +16,7 @@ use Rattle.litmus_tokens.specs.Tokens.Beginning.{nothing, begins, no_token}
 use Rattle.litmus_tokens.specs.Tokens.Tokens.{ended, goes_on}
 use Rattle.litmus_tokens.specs.Tokens.Spells.{opens, closes, tilde, named_not, both, either, says}
 use Rattle.litmus_tokens.specs.Tokens.AreTokens.{no_more, one_more}
-use Rattle.litmus_tokens.proofs.SettingLaws.{setting_settles}
+use Rattle.litmus_tokens.proofs.AssignmentLaws.{assignment_settles}
 use Rattle.litmus_tokens.proofs.TokenLaws.{tokens-cut}
 
 -- ---- gaps in front
@@ -80,20 +80,25 @@ begun-plain c rest plain = rw (plain.open_none, plain.close_none, plain.tilde_no
 -- ---- what is spelled is read
 
 -- an atom, where it is known to be one
-atom_read : (first : ℕ) (others rest : List ℕ) (equation : Equation) → NonePass is_mark (first ∷ others)
-    → EndsAtom rest → after_not (first ∷ (others ++ rest)) ≡ None → setting.Says (first ∷ others) equation
-    → unmarked (first ∷ (others ++ rest)) ≡ begins (atom equation) rest
+atom_read : (first : ℕ) (others rest : List ℕ) (assignment : AssignmentValue) → NonePass is_mark (first ∷ others)
+    → EndsAtom rest → after_not (first ∷ (others ++ rest)) ≡ None → an_assignment.Says (first ∷ others) assignment
+    → unmarked (first ∷ (others ++ rest)) ≡ begins (atom assignment) rest
 unfolding unmarked
-atom_read first others rest equation none ends no_name is =
-    rw (no_name, before-mark (first ∷ others) rest none ends, from_mark (first ∷ others) rest none ends, setting_settles.only (first ∷ others) equation is) refl
+atom_read first others rest assignment none ends no_name is =
+    rw (
+      no_name,
+      before-mark (first ∷ others) rest none ends,
+      from_mark (first ∷ others) rest none ends,
+      assignment_settles.only (first ∷ others) assignment is,
+    ) refl
 
 spelled_begun : (token : Token) (bytes rest : List ℕ) → Spells token bytes rest → beginning_of (bytes ++ rest) ≡ begins token rest
 unfolding beginning_of begun unmarked after_not
 spelled_begun token bytes rest (named_not more ends) = rw ends refl
-spelled_begun token bytes rest (says first others more equation solid none ends no_name is) =
+spelled_begun token bytes rest (says first others more assignment solid none ends no_name is) =
     ap begun (at_solid first (others ++ more) solid)
     ∙ begun-plain first (others ++ more) (plain_is first none.0)
-    ∙ atom_read first others more equation none ends no_name is
+    ∙ atom_read first others more assignment none ends no_name is
 spelled_begun token bytes rest x = refl
 
 beginning_after : (gaps text : List ℕ) → AllPass is_gap gaps → beginning_of (gaps ++ text) ≡ beginning_of text
@@ -154,20 +159,21 @@ not_front : (text rest : List ℕ) → after_not text ≡ Some rest → (text �
 unfolding after_not
 not_front text rest e = grind (arith, and_parts, starts_is, Decides-eqb)
 
-atom_found : (c : ℕ) (following : List ℕ) (token : Token) (rest : List ℕ) (equation : Option Equation)
+atom_found : (c : ℕ) (following : List ℕ) (token : Token) (rest : List ℕ) (assignment : Option AssignmentValue)
     → is_gap c ≡ false → is_mark c ≡ false → after_not (c ∷ following) ≡ None
-    → setting.reads (c ∷ before is_mark following) ≡ equation
-    → atom_from equation (from_first is_mark following) ≡ begins token rest → Spelled (c ∷ following) token rest
+    → an_assignment.reads (c ∷ before is_mark following) ≡ assignment
+    → atom_from assignment (from_first is_mark following) ≡ begins token rest → Spelled (c ∷ following) token rest
 atom_found c following token rest None solid plain no_name is e = absurd cc
-atom_found c following token rest (Some equation) solid plain no_name is e =
+atom_found c following token rest (Some assignment) solid plain no_name is e =
     let cut = stretch following in
-    let same = begins-rest (atom equation) token (from_first is_mark following) rest e in
+    let same = begins-rest (atom assignment) token (from_first is_mark following) rest e in
     let whole : c ∷ following ≡ (c ∷ before is_mark following) ++ from_first is_mark following = ap (λ (ys : List ℕ). c ∷ ys) cut.whole in
-    let spells = says c (before is_mark following) (from_first is_mark following) equation solid (plain, cut.none)
+    let spells = says c (before is_mark following) (from_first is_mark following) assignment solid (plain, cut.none)
     cut.ends (subst (λ (ys : List ℕ). after_not (c ∷ ys) ≡ None) cut.whole no_name)
-    (setting_settles.found (c ∷ before is_mark following) equation is) in
+    (assignment_settles.found (c ∷ before is_mark following) assignment is) in
     subst (λ (r : List ℕ). Spelled (c ∷ following) token r) same
-    (subst (λ (t : Token). Spelled (c ∷ following) t (from_first is_mark following)) (begins-token (atom equation) token (from_first is_mark following) rest e)
+    (subst (λ (t : Token). Spelled (c ∷ following) t (from_first is_mark following))
+    (begins-token (atom assignment) token (from_first is_mark following) rest e)
     (record { bytes = c ∷ before is_mark following; whole = whole; spells = spells }))
 
 unmarked-found : (c : ℕ) (following : List ℕ) (token : Token) (rest : List ℕ) → is_gap c ≡ false → is_mark c ≡ false
@@ -176,7 +182,7 @@ unfolding unmarked
 unmarked-found c following token rest solid plain e = go (after_not (c ∷ following)) refl
   where
     go : (o : Option (List ℕ)) → after_not (c ∷ following) ≡ o → Spelled (c ∷ following) token rest
-    go None no_name = atom_found c following token rest (setting.reads (c ∷ before is_mark following)) solid plain no_name refl (rw (no_name, plain) at e)
+    go None no_name = atom_found c following token rest (an_assignment.reads (c ∷ before is_mark following)) solid plain no_name refl (rw (no_name, plain) at e)
     go (Some more) name =
         let shown = rw name at e in
         let front = not_front (c ∷ following) more name in
@@ -223,14 +229,14 @@ paired-some one second (d ∷ more) e = go (d == second) refl
     go true is = (let never = rw is at e in absurd cc)
     go false isnt = (let never = rw isnt at e in absurd cc)
 
-shown_some : (name : Option (List ℕ)) (equation : Option Equation) (rest : List ℕ) → negation_or name (atom_from equation rest) ≡ nothing → ⊥
-shown_some (Some more) equation rest e = absurd cc
+shown_some : (name : Option (List ℕ)) (assignment : Option AssignmentValue) (rest : List ℕ) → negation_or name (atom_from assignment rest) ≡ nothing → ⊥
+shown_some (Some more) assignment rest e = absurd cc
 shown_some None None rest e = absurd cc
-shown_some None (Some equation) rest e = absurd cc
+shown_some None (Some assignment) rest e = absurd cc
 
 unmarked-some : (text : List ℕ) → unmarked text ≡ nothing → ⊥
 unfolding unmarked
-unmarked-some text e = shown_some (after_not text) (setting.reads (before is_mark text)) (from_first is_mark text) e
+unmarked-some text e = shown_some (after_not text) (an_assignment.reads (before is_mark text)) (from_first is_mark text) e
 
 begun-nothing : (solid : List ℕ) → begun solid ≡ nothing → solid ≡ []
 unfolding begun

@@ -1,8 +1,8 @@
 -- The tokens of a text are its first one and those of the rest.
 use Rattle.std.proofs.Common.{◌≡◌, ℕ, suc, ◌<◌, ◌≤◌, false, List, ◌∷◌, length, Option, refl, ap, arith, length-drop}
 use Rattle.texts.specs.Cutting.{before, fails, from_first, without_leading}
-use Rattle.litmus_tokens.specs.Settings.{Equation}
-use Rattle.litmus_tokens.specs.Settings.{setting}
+use Rattle.litmus_tokens.specs.Assignments.{AssignmentValue}
+use Rattle.litmus_tokens.specs.Assignments.{an_assignment}
 use Rattle.litmus_tokens.specs.Tokens.{Token, Beginning, Tokens, is_mark, after_not, paired, atom_from, negation_or}
 use Rattle.litmus_tokens.specs.Tokens.{unmarked, begun, beginning_of, tokens_from, tokens_within, tokens_of, LeavesLess}
 use Rattle.litmus_tokens.specs.Tokens.Beginning.{nothing, begins, no_token}
@@ -16,15 +16,15 @@ not_or_less : (c : ℕ) (rest : List ℕ) (other : Beginning) → LeavesLess (c 
 unfolding after_not
 not_or_less c rest other less = grind (arith, length-drop)
 
-atom_less : (c : ℕ) (rest : List ℕ) (equation : Option Equation) → is_mark c ≡ false
-    → LeavesLess (c ∷ rest) (atom_from equation (from_first is_mark (c ∷ rest)))
-atom_less c rest equation other = grind (arith, length-from_first)
+atom_less : (c : ℕ) (rest : List ℕ) (assignment : Option AssignmentValue) → is_mark c ≡ false
+    → LeavesLess (c ∷ rest) (atom_from assignment (from_first is_mark (c ∷ rest)))
+atom_less c rest assignment other = grind (arith, length-from_first)
 
 unmarked-less : (c : ℕ) (rest : List ℕ) → is_mark c ≡ false → LeavesLess (c ∷ rest) (unmarked (c ∷ rest))
 unfolding unmarked
 unmarked-less c rest other =
-    not_or_less c rest (atom_from (setting.reads (before is_mark (c ∷ rest))) (from_first is_mark (c ∷ rest)))
-    (atom_less c rest (setting.reads (before is_mark (c ∷ rest))) other)
+    not_or_less c rest (atom_from (an_assignment.reads (before is_mark (c ∷ rest))) (from_first is_mark (c ∷ rest)))
+    (atom_less c rest (an_assignment.reads (before is_mark (c ∷ rest))) other)
 
 paired-less : (c : ℕ) (rest : List ℕ) (token : Token) (second : ℕ) → LeavesLess (c ∷ rest) (paired token second rest)
 paired-less c rest token second = grind arith

@@ -1,4 +1,4 @@
 pub mod Cleaning
 pub mod Names
-pub mod Settings
+pub mod Assignments
 pub mod Tokens

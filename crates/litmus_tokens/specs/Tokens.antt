@@ -5,7 +5,7 @@ use Rattle.std.specs.List.{starts_with}
 use Rattle.texts.specs.Cutting.{before, AllPass, NonePass, from_first, without_leading}
 use Rattle.texts.specs.Pieces.{is_gap}
 use Rattle.litmus_tokens.specs.Names.{goes_on_name}
-use Rattle.litmus_tokens.specs.Settings.{Equation, setting, equation_of}
+use Rattle.litmus_tokens.specs.Assignments.{AssignmentValue, an_assignment, assignment_of}
 use Rattle.litmus_tokens.specs.declared.tokens.Token as coded
 use Rattle.litmus_tokens.specs.declared.tokens.Token.TheVariants as code
 use Rattle.litmus_tokens.specs.declared.tokens.Front.{Front}
@@ -13,7 +13,7 @@ use Rattle.litmus_tokens.specs.declared.tokens.Front.TheVariants as front
 
 -- an atom, `~` or `not`, `/\`, `\/`, `(` and `)`
 pub data Token : Type 0 where
-  atom : Equation → Token
+  atom : AssignmentValue → Token
   negation : Token
   conjunction : Token
   disjunction : Token
@@ -49,9 +49,9 @@ abbrev pub paired : Token → ℕ → List ℕ → Beginning
 paired token second [] = no_token
 paired token second (c ∷ rest) = if c == second then begins token rest else no_token
 
-abbrev pub atom_from : Option Equation → List ℕ → Beginning
+abbrev pub atom_from : Option AssignmentValue → List ℕ → Beginning
 atom_from None rest = no_token
-atom_from (Some equation) rest = begins (atom equation) rest
+atom_from (Some assignment) rest = begins (atom assignment) rest
 
 abbrev pub negation_or : Option (List ℕ) → Beginning → Beginning
 negation_or None other = other
@@ -59,7 +59,7 @@ negation_or (Some rest) other = begins negation rest
 
 -- a token that no mark begins: `not`, or the atom that goes on to the next mark
 unfoldable pub unmarked : List ℕ → Beginning
-unmarked text = negation_or (after_not text) (atom_from (setting.reads (before is_mark text)) (from_first is_mark text))
+unmarked text = negation_or (after_not text) (atom_from (an_assignment.reads (before is_mark text)) (from_first is_mark text))
 
 unfoldable pub begun : List ℕ → Beginning
 begun [] = nothing
@@ -98,7 +98,7 @@ LeavesLess text no_token = Unit {0}
 -- ---- what the code's values stand for
 
 abbrev pub token_of : coded.Token → Token
-token_of (code.Is setting) = atom (equation_of setting)
+token_of (code.Is assignment) = atom (assignment_of assignment)
 token_of code.Not = negation
 token_of code.And = conjunction
 token_of code.Or = disjunction
@@ -125,9 +125,9 @@ pub data Spells : Token → (bytes rest : List ℕ) → Type 0 where
   named_not : (rest : List ℕ) → ends_name rest ≡ true → Spells negation (codes "not") rest
   both : (rest : List ℕ) → Spells conjunction (47 ∷ 92 ∷ []) rest
   either : (rest : List ℕ) → Spells disjunction (92 ∷ 47 ∷ []) rest
-  says : (first : ℕ) (others rest : List ℕ) (equation : Equation) → is_gap first ≡ false
+  says : (first : ℕ) (others rest : List ℕ) (assignment : AssignmentValue) → is_gap first ≡ false
       → NonePass is_mark (first ∷ others) → EndsAtom rest → after_not (first ∷ (others ++ rest)) ≡ None
-      → setting.Says (first ∷ others) equation → Spells (atom equation) (first ∷ others) rest
+      → an_assignment.Says (first ∷ others) assignment → Spells (atom assignment) (first ∷ others) rest
 
 -- The text is these tokens, with gaps before, between and after them.
 pub data AreTokens : List ℕ → List Token → Type 0 where

@@ -1,13 +1,13 @@
 //! Laws of the grammars.
 
 ghost use Rattle.std.specs.Prelude.{◌≡◌, ℕ, List};
-ghost use Rattle.litmus_tokens.specs.Settings.{Equation, setting, item};
+ghost use Rattle.litmus_tokens.specs.Assignments.{AssignmentValue, an_assignment, item};
 ghost use Rattle.litmus_tokens.specs.Tokens.{Token, AreTokens, tokens_of, listed};
 
-/// A text says one setting at most, and an item too. It does nothing.
+/// A text says one assignment at most, and an item too. It does nothing.
 pub fn one_value()
-    ensures settings { (text : List ℕ) → (a b : Equation) → setting.Says text a → setting.Says text b → a ≡ b }
-    ensures items { (text : List ℕ) → (a b : Equation) → item.Says text a → item.Says text b → a ≡ b }
+    ensures assignments { (text : List ℕ) → (a b : AssignmentValue) → an_assignment.Says text a → an_assignment.Says text b → a ≡ b }
+    ensures items { (text : List ℕ) → (a b : AssignmentValue) → item.Says text a → item.Says text b → a ≡ b }
 {}
 
 /// The tokens that a text has up to its end are the tokens that it spells. It does nothing.

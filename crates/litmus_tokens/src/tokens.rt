@@ -6,8 +6,8 @@ ghost use Rattle.texts.specs.Cutting.{before, from_first};
 ghost use Rattle.litmus_tokens.specs.Tokens.{is_mark, ends_name, after_not, paired, unmarked, begun, token_of, seen};
 ghost use Rattle.litmus_tokens.specs.Tokens.{beginning_of, tokens_of, tokens_from, LeavesLess};
 
+use crate::assignments::{Assignment, assignment_in};
 use crate::names::goes_on_name;
-use crate::settings::{Setting, setting_in};
 use texts::Separators;
 use texts::cutting::without_leading;
 
@@ -15,7 +15,7 @@ use texts::cutting::without_leading;
 #[derive(Clone, Copy, Debug, PartialEq, Eq)]
 pub enum Token<'a> {
     /// An atom: this holds in the final state.
-    Is(Setting<'a>),
+    Is(Assignment<'a>),
     /// `~` or `not`.
     Not,
     /// `/\`.
@@ -103,8 +103,8 @@ fn unmarked(text: &[u8]) -> Front<'_>
         return Front::Token(Token::Not, rest);
     }
     let (atom, rest) = cut_at_mark(text);
-    match setting_in(atom) {
-        Some(setting) => Front::Token(Token::Is(setting), rest),
+    match assignment_in(atom) {
+        Some(assignment) => Front::Token(Token::Is(assignment), rest),
         None => Front::NoToken,
     }
 }

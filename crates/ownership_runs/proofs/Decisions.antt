@@ -15,7 +15,7 @@ use Rattle.queue_parties.specs.Positions.{IsInBytes}
 use Rattle.queue_parties.proofs.Positions.{slot-within}
 use Rattle.slot_queue.specs.Queues.{Queue, IsOutside, KeepsOff, index_word, least}
 use Rattle.slot_queue.specs.Ownership.{party_of, index, end, OwnsByte, MovesOn, FillsOwned, MayStore, KeepsAccess, KeepsEntry, after_load, is_index_store}
-use Rattle.ownership_runs.specs.declared.breaches.Owned.{Owned}
+use Rattle.ownership_runs.specs.declared.violations.Owned.{Owned}
 use Rattle.ownership_runs.specs.Keeping.{is_in_bytes, is_outside, position_from, is_of_owned, may_fill, owned_by, fills}
 use Rattle.ownership_runs.specs.Keeping.{moves_on, keeps_store, keeps_access, keeps_entry}
 use Rattle.ownership_runs.proofs.Slots.{position-there, position-least}

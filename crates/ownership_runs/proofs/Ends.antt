@@ -1,4 +1,4 @@
--- Where none of a run's events can go without its breach, the last one adds the breach.
+-- Where none of a run's events can go without its violation, the last one adds the violation.
 use Rattle.std.proofs.Common.{ℕ, suc, ◌+◌, ◌<◌, ◌≡◌, ◌⊎◌, Bool, true, false, List, [], ◌∷◌, ◌++◌, length, drop, Some, None}
 use Rattle.std.proofs.Common.{inl, inr, refl, sym, ap, ◌∙◌, subst, arith}
 use Rattle.std.specs.Prelude.{Option, if◌then◌else◌}
@@ -17,11 +17,11 @@ use Rattle.slot_queue.specs.Queues.{Queue}
 use Rattle.slot_queue.specs.Ownership.{counts_after}
 use Rattle.shrink.specs.Shrinking.{without}
 use Rattle.judged_runs.specs.Telling.{IsFlawTold}
-use Rattle.ownership_runs.specs.declared.breaches.Breach.{Breach}
+use Rattle.ownership_runs.specs.declared.violations.Violation.{Violation}
 use Rattle.ownership_runs.specs.Keeping.{keeps_entry}
-use Rattle.ownership_runs.specs.Breaches.{breach_at, first_ownership_breach}
+use Rattle.ownership_runs.specs.Violations.{violation_at, first_ownership_violation}
 use Rattle.ownership_runs.specs.Runs.{HasKeptRun, HasBrokenRun, IsOfOneHart}
-use Rattle.ownership_runs.specs.Ends.{EndsInBreach}
+use Rattle.ownership_runs.specs.Ends.{EndsInViolation}
 use Rattle.ownership_runs.proofs.Noting.{more-kept, more-broken}
 
 -- ---- a list and its last event
@@ -71,36 +71,37 @@ last-happens B M t (e ∷ events) event new run =
     let rest = last-happens B M run.1 events event new run.3 in
     record { before = rest.before; outcome = rest.outcome; ran = (run.0, run.1, run.2, rest.ran); happens = rest.happens }
 
--- ---- the breach of the last entry
+-- ---- the violation of the last entry
 
-module _ (q : Queue) (start : QueueCounts) (es : List Entry) (e : Entry) (b : Breach) (found : first_ownership_breach q start (es ++ e ∷ []) ≡ Some b) where
+module _ (q : Queue) (start : QueueCounts) (es : List Entry) (e : Entry) (b : Violation)
+    (found : first_ownership_violation q start (es ++ e ∷ []) ≡ Some b) where
   -- it is that of the entries before, or the last entry
   abbrev IsLast : Type 0
-  IsLast = b ≡ breach_at q (length es) (counts_after q start es) e
+  IsLast = b ≡ violation_at q (length es) (counts_after q start es) e
 
-  before-or-last : (first_ownership_breach q start es ≡ Some b) ⊎ IsLast
-  before-or-last = by (first_ownership_breach q start es) refl
+  before-or-last : (first_ownership_violation q start es ≡ Some b) ⊎ IsLast
+  before-or-last = by (first_ownership_violation q start es) refl
     where
-      here : (ok : Bool) → (if ok then None else Some (breach_at q (0 + length es) (counts_after q start es) e)) ≡ Some b → IsLast
+      here : (ok : Bool) → (if ok then None else Some (violation_at q (0 + length es) (counts_after q start es) e)) ≡ Some b → IsLast
       here true none = cc
       here false is = let at : 0 + length es ≡ length es = omega arith in
-          let same : breach_at q (0 + length es) (counts_after q start es) e ≡ b = cc in
-          sym same ∙ ap (λ (n : ℕ). breach_at q n (counts_after q start es) e) at
+          let same : violation_at q (0 + length es) (counts_after q start es) e ≡ b = cc in
+          sym same ∙ ap (λ (n : ℕ). violation_at q n (counts_after q start es) e) at
 
-      by : (x : Option Breach) → first_ownership_breach q start es ≡ x → (first_ownership_breach q start es ≡ Some b) ⊎ IsLast
+      by : (x : Option Violation) → first_ownership_violation q start es ≡ x → (first_ownership_violation q start es ≡ Some b) ⊎ IsLast
       by None none = inr (here (keeps_entry q (counts_after q start es) e) (sym (more-kept q e 0 start es none) ∙ found))
       by (Some a) some = inl (some ∙ sym (more-broken q e 0 start es a some) ∙ found)
 
-module _ (B M : ℕ) (o : OpeningValue) (q : Queue) (start : QueueCounts) (part : List Event) (b : Breach) where
+module _ (B M : ℕ) (o : OpeningValue) (q : Queue) (start : QueueCounts) (part : List Event) (b : Violation) where
   -- none of its events can go
   abbrev IsShort : Type 0
   IsShort = (i : ℕ) → i < length part → HasBrokenRun B M o q start (without i 1 part) b → ⊥
 
   module _ (has : HasBrokenRun B M o q start part b) (short : IsShort) where
-    of-none : part ≡ [] → EndsInBreach B M o q start part b
+    of-none : part ≡ [] → EndsInViolation B M o q start part b
     of-none none =
         let run : Run B M o [] has.history = subst (λ xs. Run B M o xs has.history) none has.run in
-        let nothing : first_ownership_breach q start [] ≡ Some b = ap (λ (t : History). first_ownership_breach q start t.entries) (sym run) ∙ has.first in
+        let nothing : first_ownership_violation q start [] ≡ Some b = ap (λ (t : History). first_ownership_violation q start t.entries) (sym run) ∙ has.first in
         cc
 
     module _ (l : HasLast part) where
@@ -108,23 +109,23 @@ module _ (B M : ℕ) (o : OpeningValue) (q : Queue) (start : QueueCounts) (part 
       split = last-happens B M (at_opening o) l.front l.last has.history (subst (λ xs. Run B M o xs has.history) l.is has.run)
 
       -- the events before the last one have no such run
-      not-before : first_ownership_breach q start split.before.entries ≡ Some b → ⊥
+      not-before : first_ownership_violation q start split.before.entries ≡ Some b → ⊥
       not-before first =
           let within : length l.front < length (l.front ++ l.last ∷ []) = omega (arith, length-append l.front (l.last ∷ [])) in
           short (length l.front) (subst (λ xs. length l.front < length xs) (sym l.is) within)
           (subst (λ xs. HasBrokenRun B M o q start xs b) (sym (ap (without (length l.front) 1) l.is ∙ without-last l.front l.last))
           (record { history = split.before; run = split.ran; first = first }))
 
-      of-added : (e : Entry) → Adds B M split.before l.last e has.history → EndsInBreach B M o q start part b
+      of-added : (e : Entry) → Adds B M split.before l.last e has.history → EndsInViolation B M o q start part b
       of-added e adds =
-          let found : first_ownership_breach q start (split.before.entries ++ e ∷ []) ≡ Some b =
-          ap (λ (t : History). first_ownership_breach q start t.entries) (sym adds.after) ∙ has.first in
+          let found : first_ownership_violation q start (split.before.entries ++ e ∷ []) ≡ Some b =
+          ap (λ (t : History). first_ownership_violation q start t.entries) (sym adds.after) ∙ has.first in
           at found (before-or-last q start split.before.entries e b found)
         where
-          at : first_ownership_breach q start (split.before.entries ++ e ∷ []) ≡ Some b
-              → (first_ownership_breach q start split.before.entries ≡ Some b)
-              ⊎ (b ≡ breach_at q (length split.before.entries) (counts_after q start split.before.entries) e)
-              → EndsInBreach B M o q start part b
+          at : first_ownership_violation q start (split.before.entries ++ e ∷ []) ≡ Some b
+              → (first_ownership_violation q start split.before.entries ≡ Some b)
+              ⊎ (b ≡ violation_at q (length split.before.entries) (counts_after q start split.before.entries) e)
+              → EndsInViolation B M o q start part b
           at found (inl first) = absurd (not-before first)
           at found (inr is) = record {
             front = l.front;
@@ -135,28 +136,28 @@ module _ (B M : ℕ) (o : OpeningValue) (q : Queue) (start : QueueCounts) (part 
             run = split.ran;
             adds = subst (λ (t : History). Adds B M split.before l.last e t) adds.after adds;
             first = found;
-            place = ap (λ (x : Breach). x.place) is;
+            place = ap (λ (x : Violation). x.place) is;
             of_hart =
                 let opening : split.before.opening ≡ o = opening_kept B M o l.front split.before split.ran in
-                subst (λ (h : ℕ). h < length o.harts) (sym (ap (λ (x : Breach). x.hart) is))
+                subst (λ (h : ℕ). h < length o.harts) (sym (ap (λ (x : Violation). x.hart) is))
                 (subst (λ (x : OpeningValue). hart_of e < length x.harts) opening (hart_follows B M split.before e adds.follows));
           }
 
-      of-last : EndsInBreach B M o q start part b
+      of-last : EndsInViolation B M o q start part b
       of-last = at (shape_of B M split.before l.last split.outcome has.history split.happens)
         where
           at : ((e : Entry) × (split.outcome ≡ outcome.Did e) × Adds B M split.before l.last e has.history)
-              ⊎ Idles B M split.before l.last split.outcome has.history → EndsInBreach B M o q start part b
+              ⊎ Idles B M split.before l.last split.outcome has.history → EndsInViolation B M o q start part b
           at (inl added) = of-added added.0 added.2
           at (inr idles) =
-              absurd (not-before (ap (λ (t : History). first_ownership_breach q start t.entries) (sym idles.after) ∙ has.first))
+              absurd (not-before (ap (λ (t : History). first_ownership_violation q start t.entries) (sym idles.after) ∙ has.first))
 
-    of-part : (part ≡ []) ⊎ HasLast part → EndsInBreach B M o q start part b
+    of-part : (part ≡ []) ⊎ HasLast part → EndsInViolation B M o q start part b
     of-part (inl none) = of-none none
     of-part (inr l) = of-last l
 
-pub ends-told : (B M : ℕ) (o : OpeningValue) (q : Queue) (start : QueueCounts) (schedule : ℕ → List Event) (runs : ℕ) (part : List Event) (b : Breach)
-    → IsFlawTold (HasKeptRun B M o q start) (HasBrokenRun B M o q start) IsOfOneHart schedule runs part b → EndsInBreach B M o q start part b
+pub ends-told : (B M : ℕ) (o : OpeningValue) (q : Queue) (start : QueueCounts) (schedule : ℕ → List Event) (runs : ℕ) (part : List Event) (b : Violation)
+    → IsFlawTold (HasKeptRun B M o q start) (HasBrokenRun B M o q start) IsOfOneHart schedule runs part b → EndsInViolation B M o q start part b
 ends-told B M o q start schedule runs part b told = of-part B M o q start part b told.shown.has short (none-or-last part)
   where
     short : (i : ℕ) → i < length part → HasBrokenRun B M o q start (without i 1 part) b → ⊥

@@ -1,4 +1,4 @@
--- The first breach of a run: there is none exactly where each entry keeps the protocol of ownership.
+-- The first violation of a run: there is none exactly where each entry keeps the protocol of ownership.
 use Rattle.std.proofs.Common.{ℕ, suc, ◌+◌, ◌≤◌, ◌≡◌, Bool, true, false, ◌<◌, List, [], ◌∷◌, ◌++◌, length, drop, get_or}
 use Rattle.std.proofs.Common.{drop-cons, add-one, Some, None, Ok, Err, refl, sym, ap, ◌∙◌, arith}
 use Rattle.std.specs.Prelude.{if◌then◌else◌}
@@ -7,27 +7,27 @@ use Rattle.queue_parties.specs.Parties.{QueueCounts}
 use Rattle.queue_parties.proofs.Parties.{keeps-at}
 use Rattle.slot_queue.specs.Queues.{Queue}
 use Rattle.slot_queue.specs.Ownership.{counts_next, counts_after, KeepsEntry, KeepsOwnership}
-use Rattle.ownership_runs.specs.declared.breaches.Breach.{Breach}
+use Rattle.ownership_runs.specs.declared.violations.Violation.{Violation}
 use Rattle.ownership_runs.specs.Keeping.{keeps_entry}
-use Rattle.ownership_runs.specs.Breaches.{breach_at, judged_entry, breach_from, first_ownership_breach, IsFirstBreach}
+use Rattle.ownership_runs.specs.Violations.{violation_at, judged_entry, violation_from, first_ownership_violation, IsFirstViolation}
 use Rattle.ownership_runs.proofs.Decisions.{decides-entry}
 
 -- ---- one entry more
 
 module _ (q : Queue) (place : ℕ) (c : QueueCounts) (e : Entry) (rest : List Entry) where
-  pub one-kept : (next : QueueCounts) → judged_entry q place c e ≡ Ok next → breach_from q place c (e ∷ rest) ≡ breach_from q (place + 1) next rest
+  pub one-kept : (next : QueueCounts) → judged_entry q place c e ≡ Ok next → violation_from q place c (e ∷ rest) ≡ violation_from q (place + 1) next rest
   one-kept next is = by (keeps_entry q c e) is
     where
-      by : (ok : Bool) → (if ok then Ok (counts_next q c e) else Err (breach_at q place c e)) ≡ Ok next
-          → (if ok then breach_from q (place + 1) (counts_next q c e) rest else Some (breach_at q place c e)) ≡ breach_from q (place + 1) next rest
-      by true same = let now : counts_next q c e ≡ next = cc in ap (λ (d : QueueCounts). breach_from q (place + 1) d rest) now
+      by : (ok : Bool) → (if ok then Ok (counts_next q c e) else Err (violation_at q place c e)) ≡ Ok next
+          → (if ok then violation_from q (place + 1) (counts_next q c e) rest else Some (violation_at q place c e)) ≡ violation_from q (place + 1) next rest
+      by true same = let now : counts_next q c e ≡ next = cc in ap (λ (d : QueueCounts). violation_from q (place + 1) d rest) now
       by false other = cc
 
-  pub one-broken : (b : Breach) → judged_entry q place c e ≡ Err b → breach_from q place c (e ∷ rest) ≡ Some b
+  pub one-broken : (b : Violation) → judged_entry q place c e ≡ Err b → violation_from q place c (e ∷ rest) ≡ Some b
   one-broken b is = by (keeps_entry q c e) is
     where
-      by : (ok : Bool) → (if ok then Ok (counts_next q c e) else Err (breach_at q place c e)) ≡ Err b
-          → (if ok then breach_from q (place + 1) (counts_next q c e) rest else Some (breach_at q place c e)) ≡ Some b
+      by : (ok : Bool) → (if ok then Ok (counts_next q c e) else Err (violation_at q place c e)) ≡ Err b
+          → (if ok then violation_from q (place + 1) (counts_next q c e) rest else Some (violation_at q place c e)) ≡ Some b
       by true other = cc
       by false same = cc
 
@@ -37,41 +37,41 @@ module _ (q : Queue) (place : ℕ) (c : QueueCounts) (es : List Entry) (d : Entr
   at_place = rw (add-one, drop-cons es place d) refl
 
   pub next-kept : (next : QueueCounts) → judged_entry q place c (get_or es place d) ≡ Ok next
-      → breach_from q place c (drop place es) ≡ breach_from q (place + 1) next (drop (place + 1) es)
-  next-kept next is = ap (breach_from q place c) at_place ∙ one-kept q place c (get_or es place d) (drop (place + 1) es) next is
+      → violation_from q place c (drop place es) ≡ violation_from q (place + 1) next (drop (place + 1) es)
+  next-kept next is = ap (violation_from q place c) at_place ∙ one-kept q place c (get_or es place d) (drop (place + 1) es) next is
 
-  pub next-broken : (b : Breach) → judged_entry q place c (get_or es place d) ≡ Err b → breach_from q place c (drop place es) ≡ Some b
-  next-broken b is = ap (breach_from q place c) at_place ∙ one-broken q place c (get_or es place d) (drop (place + 1) es) b is
+  pub next-broken : (b : Violation) → judged_entry q place c (get_or es place d) ≡ Err b → violation_from q place c (drop place es) ≡ Some b
+  next-broken b is = ap (violation_from q place c) at_place ∙ one-broken q place c (get_or es place d) (drop (place + 1) es) b is
 
--- ---- the first breach
+-- ---- the first violation
 
 module _ (q : Queue) (some : 1 ≤ q.size) where
-  kept-from : (place : ℕ) (c : QueueCounts) (es : List Entry) → breach_from q place c es ≡ None → KeepsOwnership q c es
+  kept-from : (place : ℕ) (c : QueueCounts) (es : List Entry) → violation_from q place c es ≡ None → KeepsOwnership q c es
   kept-from place c [] none = tt
   kept-from place c (e ∷ es) none = by (λ more. kept-from (place + 1) (counts_next q c e) es more) (keeps_entry q c e) refl none
     where
-      by : (breach_from q (place + 1) (counts_next q c e) es ≡ None → KeepsOwnership q (counts_next q c e) es) → (b : Bool) → keeps_entry q c e ≡ b
-          → (if b then breach_from q (place + 1) (counts_next q c e) es else Some (breach_at q place c e)) ≡ None → KeepsOwnership q c (e ∷ es)
+      by : (violation_from q (place + 1) (counts_next q c e) es ≡ None → KeepsOwnership q (counts_next q c e) es) → (b : Bool) → keeps_entry q c e ≡ b
+          → (if b then violation_from q (place + 1) (counts_next q c e) es else Some (violation_at q place c e)) ≡ None → KeepsOwnership q c (e ∷ es)
       by rest true is later = ((decides-entry q some c e).0 is, rest later)
       by rest false is later = cc
 
-  none-from : (place : ℕ) (c : QueueCounts) (es : List Entry) → KeepsOwnership q c es → breach_from q place c es ≡ None
+  none-from : (place : ℕ) (c : QueueCounts) (es : List Entry) → KeepsOwnership q c es → violation_from q place c es ≡ None
   none-from place c [] keeps = refl
   none-from place c (e ∷ es) keeps =
-      ap (λ b. if b then breach_from q (place + 1) (counts_next q c e) es else Some (breach_at q place c e)) ((decides-entry q some c e).1 keeps.0)
+      ap (λ b. if b then violation_from q (place + 1) (counts_next q c e) es else Some (violation_at q place c e)) ((decides-entry q some c e).1 keeps.0)
       ∙ none-from (place + 1) (counts_next q c e) es keeps.1
 
-  -- the breach of entries before which so many come
-  record IsFirstFrom (place : ℕ) (c : QueueCounts) (es : List Entry) (b : Breach) : Type 0 where
+  -- the violation of entries before which so many come
+  record IsFirstFrom (place : ℕ) (c : QueueCounts) (es : List Entry) (b : Violation) : Type 0 where
     front : List Entry
     entry : Entry
     back : List Entry
     is : es ≡ front ++ entry ∷ back
     keeps : KeepsOwnership q c front
     breaks : KeepsEntry q (counts_after q c front) entry → ⊥
-    breach : b ≡ breach_at q (place + length front) (counts_after q c front) entry
+    violation : b ≡ violation_at q (place + length front) (counts_after q c front) entry
 
-  first-from : (place : ℕ) (c : QueueCounts) (es : List Entry) (b : Breach) → breach_from q place c es ≡ Some b → IsFirstFrom place c es b
+  first-from : (place : ℕ) (c : QueueCounts) (es : List Entry) (b : Violation) → violation_from q place c es ≡ Some b → IsFirstFrom place c es b
   first-from place c [] b some = cc
   first-from place c (e ∷ es) b found = by (λ more. first-from (place + 1) (counts_next q c e) es b more) (keeps_entry q c e) refl found
     where
@@ -85,16 +85,16 @@ module _ (q : Queue) (some : 1 ≤ q.size) where
             is = ap (λ xs. e ∷ xs) first.is;
             keeps = ((decides-entry q some c e).0 ok, first.keeps);
             breaks = first.breaks;
-            breach = first.breach ∙ ap (λ (n : ℕ). breach_at q n (counts_after q (counts_next q c e) first.front) first.entry) further;
+            violation = first.violation ∙ ap (λ (n : ℕ). violation_at q n (counts_after q (counts_next q c e) first.front) first.entry) further;
           }
 
-      by : (breach_from q (place + 1) (counts_next q c e) es ≡ Some b → IsFirstFrom (place + 1) (counts_next q c e) es b) → (ok : Bool)
+      by : (violation_from q (place + 1) (counts_next q c e) es ≡ Some b → IsFirstFrom (place + 1) (counts_next q c e) es b) → (ok : Bool)
           → keeps_entry q c e ≡ ok
-          → (if ok then breach_from q (place + 1) (counts_next q c e) es else Some (breach_at q place c e)) ≡ Some b → IsFirstFrom place c (e ∷ es) b
+          → (if ok then violation_from q (place + 1) (counts_next q c e) es else Some (violation_at q place c e)) ≡ Some b → IsFirstFrom place c (e ∷ es) b
       by rest true is more = later is (rest more)
       by rest false is here =
           let at : place ≡ place + 0 = omega arith in
-          let same : breach_at q place c e ≡ b = cc in
+          let same : violation_at q place c e ≡ b = cc in
           record {
             front = [];
             entry = e;
@@ -102,28 +102,28 @@ module _ (q : Queue) (some : 1 ≤ q.size) where
             is = refl;
             keeps = tt;
             breaks = λ keeps. (let ok = (decides-entry q some c e).1 keeps in cc);
-            breach = sym same ∙ ap (λ (n : ℕ). breach_at q n c e) at;
+            violation = sym same ∙ ap (λ (n : ℕ). violation_at q n c e) at;
           }
 
-  pub kept-all : (c : QueueCounts) (es : List Entry) → first_ownership_breach q c es ≡ None → KeepsOwnership q c es
+  pub kept-all : (c : QueueCounts) (es : List Entry) → first_ownership_violation q c es ≡ None → KeepsOwnership q c es
   kept-all c es none = kept-from 0 c es none
 
-  pub none-first : (c : QueueCounts) (es : List Entry) → KeepsOwnership q c es → first_ownership_breach q c es ≡ None
+  pub none-first : (c : QueueCounts) (es : List Entry) → KeepsOwnership q c es → first_ownership_violation q c es ≡ None
   none-first c es keeps = none-from 0 c es keeps
 
-  pub is-first : (c : QueueCounts) (es : List Entry) (b : Breach) → first_ownership_breach q c es ≡ Some b → IsFirstBreach q c es b
+  pub is-first : (c : QueueCounts) (es : List Entry) (b : Violation) → first_ownership_violation q c es ≡ Some b → IsFirstViolation q c es b
   is-first c es b found =
       let first = first-from 0 c es b found in
       let at : 0 + length first.front ≡ length first.front = omega arith in
-      let breach : b ≡ breach_at q (length first.front) (counts_after q c first.front) first.entry =
-      first.breach ∙ ap (λ (n : ℕ). breach_at q n (counts_after q c first.front) first.entry) at in
+      let violation : b ≡ violation_at q (length first.front) (counts_after q c first.front) first.entry =
+      first.violation ∙ ap (λ (n : ℕ). violation_at q n (counts_after q c first.front) first.entry) at in
       record {
         front = first.front;
         entry = first.entry;
         back = first.back;
         is = first.is;
-        place = sym (ap (λ (x : Breach). x.place) breach);
+        place = sym (ap (λ (x : Violation). x.place) violation);
         keeps = first.keeps;
         breaks = λ keeps. first.breaks (keeps-at (counts_next q) (KeepsEntry q) c first.front first.entry [] keeps);
-        breach = breach;
+        violation = violation;
       }

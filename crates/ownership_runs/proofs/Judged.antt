@@ -14,29 +14,29 @@ use Rattle.judged_runs.specs.Telling.{IsTold}
 use Rattle.judged_runs.specs.declared.telling.Told.{Told}
 use Rattle.judged_runs.specs.declared.telling.Told.TheVariants as told
 use Rattle.judged_runs.proofs.Histories.{runs_both, runs_one, total_both}
-use Rattle.ownership_runs.specs.declared.breaches.Breach.{Breach}
+use Rattle.ownership_runs.specs.declared.violations.Violation.{Violation}
 use Rattle.ownership_runs.specs.declared.runs.Moved.{Moved}
-use Rattle.ownership_runs.specs.Breaches.{first_ownership_breach}
+use Rattle.ownership_runs.specs.Violations.{first_ownership_violation}
 use Rattle.ownership_runs.specs.Runs.{MOST_MOVED, HasKeptRun, BreaksNothing, HasBrokenRun, published_in, taken_in, HasMoved, AreMovesOf}
 use Rattle.ownership_runs.proofs.First.{kept-all, none-first}
 
 module _ (B M : ℕ) (o : OpeningValue) (q : Queue) (start : QueueCounts) where
   module _ (events : List Event) where
-    -- a run has one first breach, or none
-    pub one-breach : (b d : Breach) → HasBrokenRun B M o q start events b → HasBrokenRun B M o q start events d → b ≡ d
-    one-breach b d has also =
+    -- a run has one first violation, or none
+    pub one-violation : (b d : Violation) → HasBrokenRun B M o q start events b → HasBrokenRun B M o q start events d → b ≡ d
+    one-violation b d has also =
         let same : has.history ≡ also.history = run-one B M (at_opening o) events has.history also.history has.run also.run in
-        let both : Some b ≡ Some d = sym has.first ∙ ap (λ (t : History). first_ownership_breach q start t.entries) same ∙ also.first in cc
+        let both : Some b ≡ Some d = sym has.first ∙ ap (λ (t : History). first_ownership_violation q start t.entries) same ∙ also.first in cc
 
-    pub none-or-one : (b : Breach) → BreaksNothing B M o q start events → HasBrokenRun B M o q start events b → ⊥
+    pub none-or-one : (b : Violation) → BreaksNothing B M o q start events → HasBrokenRun B M o q start events b → ⊥
     none-or-one b free has =
         let same : free.history ≡ has.history = run-one B M (at_opening o) events free.history has.history free.run has.run in
         let none = free.none in
-        let some = ap (λ (t : History). first_ownership_breach q start t.entries) same ∙ has.first in
+        let some = ap (λ (t : History). first_ownership_violation q start t.entries) same ∙ has.first in
         absurd (cc)
 
     -- one that keeps the protocol has none
-    pub keeps-or-breaks : (b : Breach) → 1 ≤ q.size → HasKeptRun B M o q start events → HasBrokenRun B M o q start events b → ⊥
+    pub keeps-or-breaks : (b : Violation) → 1 ≤ q.size → HasKeptRun B M o q start events → HasBrokenRun B M o q start events b → ⊥
     keeps-or-breaks b some keeps has =
         none-or-one b (record { history = keeps.history; run = keeps.run; none = none-first q some start keeps.history.entries keeps.keeps }) has
 
@@ -53,7 +53,7 @@ module _ (B M : ℕ) (o : OpeningValue) (q : Queue) (start : QueueCounts) where
           keeps = subst (λ (u : History). KeepsOwnership q start u.entries) same keeps.keeps;
         }
 
-    -- one without a breach keeps the protocol
+    -- one without a violation keeps the protocol
     pub kept-run : 1 ≤ q.size → BreaksNothing B M o q start events → HasKeptRun B M o q start events
     kept-run some free = record { history = free.history; run = free.run; keeps = kept-all q some start free.history.entries free.none }
 

@@ -6,11 +6,11 @@ use Rattle.step_machine.specs.History.{OpeningValue, History, with_entry}
 use Rattle.step_machine.specs.Runs.{Adds, Run}
 use Rattle.queue_parties.specs.Parties.{QueueCounts}
 use Rattle.slot_queue.specs.Queues.{Queue}
-use Rattle.ownership_runs.specs.declared.breaches.Breach.{Breach}
-use Rattle.ownership_runs.specs.Breaches.{first_ownership_breach}
+use Rattle.ownership_runs.specs.declared.violations.Violation.{Violation}
+use Rattle.ownership_runs.specs.Violations.{first_ownership_violation}
 
--- the last of these events adds an entry that is the first breach of their run
-pub record EndsInBreach (B M : ℕ) (o : OpeningValue) (q : Queue) (start : QueueCounts) (events : List Event) (breach : Breach) : Type 0 where
+-- the last of these events adds an entry that is the first violation of their run
+pub record EndsInViolation (B M : ℕ) (o : OpeningValue) (q : Queue) (start : QueueCounts) (events : List Event) (violation : Violation) : Type 0 where
   pub front : List Event
   pub last : Event
   pub before : History
@@ -18,6 +18,6 @@ pub record EndsInBreach (B M : ℕ) (o : OpeningValue) (q : Queue) (start : Queu
   pub events_are : events ≡ front ++ last ∷ []
   pub run : Run B M o front before
   pub adds : Adds B M before last entry (with_entry before entry)
-  pub first : first_ownership_breach q start (before.entries ++ entry ∷ []) ≡ Some breach
-  pub place : breach.place ≡ length before.entries
-  pub of_hart : breach.hart < length o.harts
+  pub first : first_ownership_violation q start (before.entries ++ entry ∷ []) ≡ Some violation
+  pub place : violation.place ≡ length before.entries
+  pub of_hart : violation.hart < length o.harts

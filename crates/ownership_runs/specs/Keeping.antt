@@ -8,7 +8,7 @@ use Rattle.step_machine.specs.Entries.{hart_of}
 use Rattle.queue_parties.specs.Parties.{Party, QueueCounts, count}
 use Rattle.slot_queue.specs.Queues.{Queue, index_word, least}
 use Rattle.slot_queue.specs.Ownership.{party_of, end, after_access, is_index_store}
-use Rattle.ownership_runs.specs.declared.breaches.Owned.{Owned}
+use Rattle.ownership_runs.specs.declared.violations.Owned.{Owned}
 
 -- ---- bytes
 

@@ -1,5 +1,5 @@
 pub mod Keeping
-pub mod Breaches
+pub mod Violations
 pub mod Runs
 pub mod Ends
 pub mod inner

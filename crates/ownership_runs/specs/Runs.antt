@@ -7,9 +7,9 @@ use Rattle.queue_parties.specs.Parties.{QueueCounts}
 use Rattle.slot_queue.specs.Queues.{Queue}
 use Rattle.slot_queue.specs.Ownership.{counts_after, KeepsOwnership}
 use Rattle.judged_runs.specs.Histories.{AreRuns, summed}
-use Rattle.ownership_runs.specs.declared.breaches.Breach.{Breach}
+use Rattle.ownership_runs.specs.declared.violations.Violation.{Violation}
 use Rattle.ownership_runs.specs.declared.runs.Moved.{Moved}
-use Rattle.ownership_runs.specs.Breaches.{first_ownership_breach}
+use Rattle.ownership_runs.specs.Violations.{first_ownership_violation}
 
 -- the run of these events keeps the protocol
 pub record HasKeptRun (B M : ℕ) (o : OpeningValue) (q : Queue) (start : QueueCounts) (events : List Event) : Type 0 where
@@ -17,20 +17,20 @@ pub record HasKeptRun (B M : ℕ) (o : OpeningValue) (q : Queue) (start : QueueC
   pub run : Run B M o events history
   pub keeps : KeepsOwnership q start history.entries
 
--- it has no breach
+-- it has no violation
 pub record BreaksNothing (B M : ℕ) (o : OpeningValue) (q : Queue) (start : QueueCounts) (events : List Event) : Type 0 where
   pub history : History
   pub run : Run B M o events history
-  pub none : first_ownership_breach q start history.entries ≡ None
+  pub none : first_ownership_violation q start history.entries ≡ None
 
--- its first breach is this one
-pub record HasBrokenRun (B M : ℕ) (o : OpeningValue) (q : Queue) (start : QueueCounts) (events : List Event) (breach : Breach) : Type 0 where
+-- its first violation is this one
+pub record HasBrokenRun (B M : ℕ) (o : OpeningValue) (q : Queue) (start : QueueCounts) (events : List Event) (violation : Violation) : Type 0 where
   pub history : History
   pub run : Run B M o events history
-  pub first : first_ownership_breach q start history.entries ≡ Some breach
+  pub first : first_ownership_violation q start history.entries ≡ Some violation
 
-abbrev pub IsOfOneHart : (breach other : Breach) → Type 0
-IsOfOneHart breach other = breach.hart ≡ other.hart
+abbrev pub IsOfOneHart : (violation other : Violation) → Type 0
+IsOfOneHart violation other = violation.hart ≡ other.hart
 
 -- ---- by how much the parties moved on
 

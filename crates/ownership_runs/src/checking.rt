@@ -3,17 +3,17 @@
 ghost use Rattle.std.specs.Prelude.{◌≡◌, ◌≤◌, ◌*◌, IfOk, length};
 ghost use Rattle.step_machine.specs.History.{FitsIn};
 ghost use Rattle.recorder.specs.Drawing.{left_after};
-ghost use Rattle.jumping.specs.Draws.{schedule_by};
+ghost use Rattle.drawn_runs.specs.Draws.{schedule_by};
 ghost use Rattle.judged_runs.specs.Telling.{IsTold};
 ghost use Rattle.ownership_runs.specs.Runs.{HasKeptRun, HasBrokenRun, AreMovesOf, IsOfOneHart};
 
-use crate::breaches::Breach;
 use crate::counts::Counts;
 use crate::runs::{Moved, OwnershipJudge};
+use crate::violations::Violation;
+use drawn_runs::parallel::in_rounds;
+use drawn_runs::progress::Progress;
+use drawn_runs::{Draw, Jump, Runs};
 use judged_runs::{JudgedRuns, Told, told_of_runs};
-use jumping::parallel::in_rounds;
-use jumping::progress::Progress;
-use jumping::{Draw, Jump, Runs};
 use queue_layouts::Queue;
 use std::alloc::{AllocError, Global};
 use std::thread::Threads;
@@ -24,8 +24,8 @@ use step_machine::Opening;
 /// queue, whose parties have come as far as `start` there.
 ///
 /// If all keep it, that is by how much the parties moved on in all of them. Otherwise it is a part of the events of the first run
-/// that doesn't, from which events were left out until none could go without its first breach being another hart's or none, and the
-/// breach of the part's run. The answer depends neither on the jobs nor on the progress, which learns how far the runs are, and that
+/// that doesn't, from which events were left out until none could go without its first violation being another hart's or none, and the
+/// violation of the part's run. The answer depends neither on the jobs nor on the progress, which learns how far the runs are, and that
 /// they ended.
 pub fn check_runs<
     const B: usize,
@@ -43,7 +43,7 @@ pub fn check_runs<
     generator: &G,
     runs: Runs,
     progress: &mut P,
-) -> Result<Told<Moved, Breach>, AllocError>
+) -> Result<Told<Moved, Violation>, AllocError>
     requires some_capacity { 1 ≤ B }
     requires capacity { B ≤ 64 }
     requires some_word { 1 ≤ M }

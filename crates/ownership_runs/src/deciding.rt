@@ -1,15 +1,15 @@
 //! Whether the entries of a run keep a queue's protocol of ownership.
 
 ghost use Rattle.std.specs.Prelude.{◌≡◌, ◌≤◌, ◌+◌, ℕ, option_map, Ok, IfOk};
-ghost use Rattle.ownership_runs.specs.Breaches.{judged_store, judged_exchange, judged_entry, first_ownership_breach};
+ghost use Rattle.ownership_runs.specs.Violations.{judged_store, judged_exchange, judged_entry, first_ownership_violation};
 ghost use Rattle.ownership_runs.specs.inner.Bounds.{STEP, ROOM, AreCountsWithin};
 ghost use Rattle.ownership_runs.specs.inner.Sides.{the_party};
 
-use crate::breaches::Breach;
 use crate::counts::{Counts, RunCounts, at_start};
 use crate::moves::{after_load, after_store};
 use crate::parties::{Party, party_of};
 use crate::stores::{keeps_store, owned_by};
+use crate::violations::Violation;
 use memory::writes::Write;
 use queue_layouts::Queue;
 use step_machine::Entry;
@@ -22,7 +22,7 @@ fn note_store(
     party: Option<Party>,
     counts: RunCounts,
     write: Write,
-) -> Result<RunCounts, Breach>
+) -> Result<RunCounts, Violation>
     requires { AreCountsWithin ROOM (ROOM + STEP) counts }
     ensures value { result ≡ judged_store queue.now place hart (option_map the_party party) counts write }
     ensures within { (n m : ℕ) → AreCountsWithin n m counts → IfOk result (AreCountsWithin (n + STEP) m) }
@@ -30,7 +30,7 @@ fn note_store(
     if keeps_store(queue, party, counts, write) {
         Ok(after_store(queue, party, write, counts))
     } else {
-        Err(Breach {
+        Err(Violation {
             place,
             hart,
             addr: write.addr,
@@ -50,7 +50,7 @@ fn note_exchange(
     counts: RunCounts,
     old: u32,
     write: Write,
-) -> Result<RunCounts, Breach>
+) -> Result<RunCounts, Violation>
     requires { AreCountsWithin ROOM (ROOM + STEP) counts }
     ensures value { result ≡ judged_exchange queue.now place hart (option_map the_party party) counts old write }
     ensures within { (n m : ℕ) → AreCountsWithin n m counts → IfOk result (AreCountsWithin (n + STEP) m) }
@@ -68,7 +68,7 @@ pub(crate) fn note_entry(
     place: usize,
     counts: RunCounts,
     entry: Entry,
-) -> Result<RunCounts, Breach>
+) -> Result<RunCounts, Violation>
     requires { AreCountsWithin ROOM ROOM counts }
     ensures value { result ≡ judged_entry queue.now place counts entry }
     ensures within { (n : ℕ) → AreCountsWithin n n counts → IfOk result (AreCountsWithin (n + STEP) (n + STEP)) }
@@ -106,14 +106,14 @@ pub(crate) fn note_entry(
 
 /// The first entry of a run that breaks a queue's protocol of ownership, if there is one. The run begins where the parties have come
 /// as far as `start`. Loads are free.
-pub fn first_breach(queue: &Queue, start: Counts, entries: &[Entry]) -> Option<Breach>
-    ensures { result ≡ first_ownership_breach queue.now start entries.now }
+pub fn first_violation(queue: &Queue, start: Counts, entries: &[Entry]) -> Option<Violation>
+    ensures { result ≡ first_ownership_violation queue.now start entries.now }
 {
     let mut counts = at_start(start);
     for (place, entry) in entries.iter().enumerate() {
         match note_entry(queue, place, counts, *entry) {
             Ok(after) => counts = after,
-            Err(breach) => return Some(breach),
+            Err(violation) => return Some(violation),
         }
     }
     None

@@ -7,17 +7,17 @@ ghost use Rattle.queue_parties.specs.Parties.{QueueCounts};
 ghost use Rattle.ownership_runs.specs.inner.Bounds.{ROOM, AreCountsWithin};
 ghost use Rattle.ownership_runs.specs.inner.Noting.{AreRunNotes, AreNotesWithin, IsEventJudged};
 
-use crate::breaches::Breach;
 use crate::counts::{Counts, RunCounts, at_start};
 use crate::deciding::note_entry;
+use crate::violations::Violation;
 use queue_layouts::Queue;
 use std::alloc::AllocError;
 use step_machine::{Entry, Event, Machine, Outcome};
 
-/// What is noted of a run: its first breach, if there is one. While there is none, the counts, and how many entries there were.
+/// What is noted of a run: its first violation, if there is one. While there is none, the counts, and how many entries there were.
 #[derive(Clone, Copy)]
 pub(crate) struct RunNotes {
-    pub(crate) found: Option<Breach>,
+    pub(crate) found: Option<Violation>,
     pub(crate) counts: RunCounts,
     pub(crate) place: usize,
 }
@@ -37,8 +37,8 @@ fn note_more(queue: &Queue, notes: RunNotes, entry: Entry) -> RunNotes
                 counts: after,
                 place: notes.place + 1,
             },
-            Err(breach) => RunNotes {
-                found: Some(breach),
+            Err(violation) => RunNotes {
+                found: Some(violation),
                 ..notes
             },
         },

@@ -9,26 +9,26 @@ ghost use Rattle.queue_parties.specs.Parties.{QueueCounts};
 ghost use Rattle.slot_queue.specs.Queues.{Queue, IsQueue, IsAtRest};
 ghost use Rattle.slot_queue.specs.Ownership.{KeepsOwnership};
 ghost use Rattle.slot_queue.specs.Laws.{FollowsOwnership};
-ghost use Rattle.ownership_runs.specs.declared.breaches.Breach.{Breach};
+ghost use Rattle.ownership_runs.specs.declared.violations.Violation.{Violation};
 ghost use Rattle.ownership_runs.specs.Keeping.{keeps_entry};
-ghost use Rattle.ownership_runs.specs.Breaches.{IsFirstBreach, first_ownership_breach};
+ghost use Rattle.ownership_runs.specs.Violations.{IsFirstViolation, first_ownership_violation};
 ghost use Rattle.judged_runs.specs.Telling.{IsFlawTold};
 ghost use Rattle.ownership_runs.specs.Runs.{HasKeptRun, HasBrokenRun, IsOfOneHart};
-ghost use Rattle.ownership_runs.specs.Ends.{EndsInBreach};
+ghost use Rattle.ownership_runs.specs.Ends.{EndsInViolation};
 
 /// Of a queue with a slot. It does nothing.
 ///
 /// - `sound` and `complete`: an entry keeps the protocol of ownership exactly where that is decided.
-/// - `kept` and `none`: the entries of a run keep it exactly where there is no first breach.
-/// - `first`: the entries before the first breach keep it, and with the one at its place they don't: the breach has what that one stores
+/// - `kept` and `none`: the entries of a run keep it exactly where there is no first violation.
+/// - `first`: the entries before the first violation keep it, and with the one at its place they don't: the violation has what that one stores
 ///   and what its hart owned.
-pub fn laws_of_breaches()
+pub fn laws_of_violations()
     ensures sound { (q : Queue) (c : QueueCounts) (e : Entry) → 1 ≤ q.size → keeps_entry q c e ≡ true → KeepsOwnership q c (e ∷ []) }
     ensures complete { (q : Queue) (c : QueueCounts) (e : Entry) → 1 ≤ q.size → KeepsOwnership q c (e ∷ []) → keeps_entry q c e ≡ true }
-    ensures kept { (q : Queue) (c : QueueCounts) (es : List Entry) → 1 ≤ q.size → first_ownership_breach q c es ≡ None → KeepsOwnership q c es }
-    ensures none { (q : Queue) (c : QueueCounts) (es : List Entry) → 1 ≤ q.size → KeepsOwnership q c es → first_ownership_breach q c es ≡ None }
-    ensures first { (q : Queue) (c : QueueCounts) (es : List Entry) (b : Breach) → 1 ≤ q.size → first_ownership_breach q c es ≡ Some b
-        → IsFirstBreach q c es b }
+    ensures kept { (q : Queue) (c : QueueCounts) (es : List Entry) → 1 ≤ q.size → first_ownership_violation q c es ≡ None → KeepsOwnership q c es }
+    ensures none { (q : Queue) (c : QueueCounts) (es : List Entry) → 1 ≤ q.size → KeepsOwnership q c es → first_ownership_violation q c es ≡ None }
+    ensures first { (q : Queue) (c : QueueCounts) (es : List Entry) (b : Violation) → 1 ≤ q.size → first_ownership_violation q c es ≡ Some b
+        → IsFirstViolation q c es b }
 {}
 
 /// Of runs of lists of events. It does nothing.
@@ -36,12 +36,12 @@ pub fn laws_of_breaches()
 /// - `follows`: one that keeps a queue's protocol from where the queue is at rest is one of which `slot_queue::laws_of_ownership`
 ///   speaks.
 /// - `apart`: none both keeps it and breaks it.
-/// - `ends`: the part of a run's events that is told of a breach ends with the event that makes it.
+/// - `ends`: the part of a run's events that is told of a violation ends with the event that makes it.
 pub fn laws_of_judged_runs()
     ensures follows { (B M : ℕ) (o : OpeningValue) (q : Queue) (start : QueueCounts) (events : List Event) (t : History) → IsQueue q
         → IsAtRest q o [] start → HasKeptRun B M o q start events → Run B M o events t → FollowsOwnership B q start o [] t.entries }
-    ensures apart { (B M : ℕ) (o : OpeningValue) (q : Queue) (start : QueueCounts) (events : List Event) (b : Breach) → 1 ≤ q.size
+    ensures apart { (B M : ℕ) (o : OpeningValue) (q : Queue) (start : QueueCounts) (events : List Event) (b : Violation) → 1 ≤ q.size
         → HasKeptRun B M o q start events → HasBrokenRun B M o q start events b → ⊥ }
-    ensures ends { (B M : ℕ) (o : OpeningValue) (q : Queue) (start : QueueCounts) (schedule : ℕ → List Event) (runs : ℕ) (part : List Event) (b : Breach)
-        → IsFlawTold (HasKeptRun B M o q start) (HasBrokenRun B M o q start) IsOfOneHart schedule runs part b → EndsInBreach B M o q start part b }
+    ensures ends { (B M : ℕ) (o : OpeningValue) (q : Queue) (start : QueueCounts) (schedule : ℕ → List Event) (runs : ℕ) (part : List Event) (b : Violation)
+        → IsFlawTold (HasKeptRun B M o q start) (HasBrokenRun B M o q start) IsOfOneHart schedule runs part b → EndsInViolation B M o q start part b }
 {}

@@ -1,7 +1,7 @@
 //! Runs and a queue's protocol of ownership: whether the entries of a run keep it, and drawn runs that are asked.
 //!
-//! The contract: [`first_breach`] returns `first_ownership_breach` of `specs/Breaches.antt`, in one pass over the entries.
-//! [`laws_of_breaches`] states that there is none exactly where the entries keep the protocol of `slot_queue`, and that otherwise it is
+//! The contract: [`first_violation`] returns `first_ownership_violation` of `specs/Violations.antt`, in one pass over the entries.
+//! [`laws_of_violations`] states that there is none exactly where the entries keep the protocol of `slot_queue`, and that otherwise it is
 //! the first entry up to which they don't. [`check_runs`] states what it answers of the runs that the generator's words draw.
 //!
 //! This crate knows no certificate. It judges queues of two indices alone: one whose slots tell whose they are breaks this protocol, and
@@ -11,7 +11,6 @@
 
 #![tactic(auto)]
 
-pub mod breaches;
 pub mod checking;
 pub mod counts;
 pub mod deciding;
@@ -21,10 +20,11 @@ mod moves;
 mod parties;
 pub mod runs;
 mod stores;
+pub mod violations;
 
-pub use breaches::{Breach, Owned};
 pub use checking::check_runs;
 pub use counts::Counts;
-pub use deciding::first_breach;
-pub use laws::{laws_of_breaches, laws_of_judged_runs};
+pub use deciding::first_violation;
+pub use laws::{laws_of_judged_runs, laws_of_violations};
 pub use runs::Moved;
+pub use violations::{Owned, Violation};

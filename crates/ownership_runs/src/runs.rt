@@ -1,12 +1,12 @@
-//! The runs of an opening, each judged by its first breach.
+//! The runs of an opening, each judged by its first violation.
 
 ghost use Rattle.std.specs.Prelude.{◌≡◌, ◌≤◌, ◌+◌, ◌-◌, min};
 ghost use Rattle.step_machine.specs.History.{FitsIn};
 ghost use Rattle.ownership_runs.specs.Runs.{MOST_MOVED, IsOfOneHart, BreaksNothing, HasBrokenRun, HasMoved, AreMovesOf};
 
-use crate::breaches::Breach;
 use crate::counts::{Counts, RunCounts};
 use crate::judging::judge;
+use crate::violations::Violation;
 use judged_runs::Judge;
 use queue_layouts::Queue;
 use std::alloc::{AllocError, Global};
@@ -79,7 +79,7 @@ impl<'a, const B: usize, const M: usize> Judge for OwnershipJudge<'a, B, M> {
 
     type Bench = OwnershipBench<B, M>;
 
-    type Flaw = Breach;
+    type Flaw = Violation;
 
     type Tally = Moved;
 
@@ -91,9 +91,9 @@ impl<'a, const B: usize, const M: usize> Judge for OwnershipJudge<'a, B, M> {
 
     ghost is_good = { λ it events. BreaksNothing B M it.opening.now it.queue.now it.start events };
 
-    ghost has = { λ it events breach. HasBrokenRun B M it.opening.now it.queue.now it.start events breach };
+    ghost has = { λ it events violation. HasBrokenRun B M it.opening.now it.queue.now it.start events violation };
 
-    ghost alike = { λ it breach other. IsOfOneHart breach other };
+    ghost alike = { λ it violation other. IsOfOneHart violation other };
 
     ghost counts = { λ it all moved. AreMovesOf B M it.opening.now it.queue.now it.start all moved };
 
@@ -114,15 +114,15 @@ impl<'a, const B: usize, const M: usize> Judge for OwnershipJudge<'a, B, M> {
         &self,
         bench: &mut OwnershipBench<B, M>,
         events: &[Event],
-    ) -> Result<Option<Breach>, AllocError> {
+    ) -> Result<Option<Violation>, AllocError> {
         let notes = judge(self.queue, self.start, &mut bench.machine, events)?;
         bench.moved = moved_by(self.start, notes.counts);
         Ok(notes.found)
     }
 
-    /// A part of a run's events shows its breach if the same hart breaks the protocol first.
-    fn is_alike(&self, breach: Breach, other: Breach) -> bool {
-        breach.hart == other.hart
+    /// A part of a run's events shows its violation if the same hart breaks the protocol first.
+    fn is_alike(&self, violation: Violation, other: Violation) -> bool {
+        violation.hart == other.hart
     }
 
     fn none(&self, _alloc: Global) -> Result<Moved, AllocError> {
@@ -137,5 +137,5 @@ impl<'a, const B: usize, const M: usize> Judge for OwnershipJudge<'a, B, M> {
         *moved = both(*moved, later);
     }
 
-    ghost same = { λ it breach. refl };
+    ghost same = { λ it violation. refl };
 }

@@ -5,10 +5,10 @@ ghost use Rattle.ownership_runs.specs.Keeping.{is_in_bytes, is_outside, position
 ghost use Rattle.ownership_runs.specs.inner.Bounds.{STEP, ROOM, AreCountsWithin};
 ghost use Rattle.ownership_runs.specs.inner.Sides.{the_party};
 
-use crate::breaches::Owned;
 use crate::counts::RunCounts;
 use crate::moves::{is_index_store, is_index_word, least, quotient, remainder};
 use crate::parties::{Party, count, end};
+use crate::violations::Owned;
 use memory::writes::Write;
 use queue_layouts::Queue;
 

@@ -11,7 +11,7 @@ pub mod Outlines
 pub mod ReceiverMoves
 pub mod ReceiverStays
 pub mod CleanReports
-pub mod BreachLaws
+pub mod ViolationLaws
 pub mod Notes
 pub mod Delivering
 pub mod AllBlocks

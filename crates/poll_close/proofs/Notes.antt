@@ -17,11 +17,11 @@ use Rattle.step_machine.proofs.Stays.{slice_get-set_same, slice_get-set_other}
 use Rattle.poll_close.specs.Layout.{block_size, Layout, base_of}
 use Rattle.poll_close.specs.Reports.{taken, Clean}
 use Rattle.poll_close.specs.Plans.{is_closed}
-use Rattle.poll_close.specs.Breaches.{AreNotes, IsNoted, report_breach, is_within}
-use Rattle.poll_close.specs.declared.clean.Breach.{Breach}
+use Rattle.poll_close.specs.Violations.{AreNotes, IsNoted, report_violation, is_within}
+use Rattle.poll_close.specs.declared.clean.Violation.{Violation}
 use Rattle.poll_close.specs.declared.clean.Share.{Share}
 use Rattle.poll_close.proofs.CleanReports.{taken-took, taken-closed, clean-none}
-use Rattle.poll_close.proofs.BreachLaws.{clean_front, next_clean, clean_next}
+use Rattle.poll_close.proofs.ViolationLaws.{clean_front, next_clean, clean_next}
 
 is_closed-took : (rs : List Report) (j w i : ℕ) → is_closed (rs ++ report.Took j w ∷ []) i ≡ is_closed rs i
 is_closed-took [] j w i = refl
@@ -108,21 +108,21 @@ clean_start lists rs [] clean = subst (λ (ps : List Report). Clean ps lists) (a
 clean_start lists rs (r ∷ qs) clean =
     clean_front lists rs r (clean_start lists (rs ++ r ∷ []) qs (subst (λ (ps : List Report). Clean ps lists) (sym (append_assoc rs (r ∷ []) qs)) clean))
 
-pub unclean : (lists : List (List ℕ)) (rs : List Report) (n : ℕ) (r : Report) (breach : Breach) → slice_get rs n ≡ Some r
-    → report_breach lists (take n rs) r ≡ Some breach → Clean rs lists → ⊥
-unclean lists rs n r breach is breaks clean =
+pub unclean : (lists : List (List ℕ)) (rs : List Report) (n : ℕ) (r : Report) (violation : Violation) → slice_get rs n ≡ Some r
+    → report_violation lists (take n rs) r ≡ Some violation → Clean rs lists → ⊥
+unclean lists rs n r violation is breaks clean =
     let next : take (n + 1) rs ≡ take n rs ++ r ∷ [] =
     take_more rs n r (slice_get_within rs n r is) ∙ ap (λ x. take n rs ++ x ∷ []) (get_or_from_slice_get rs n r r is) in
     let front : Clean (take (n + 1) rs) lists =
     clean_start lists (take (n + 1) rs) (drop (n + 1) rs) (subst (λ (ps : List Report). Clean ps lists) (sym (take-append-drop (n + 1) rs)) clean) in
-    let none : report_breach lists (take n rs) r ≡ None = next_clean lists (take n rs) r (subst (λ (ps : List Report). Clean ps lists) next front) in
+    let none : report_violation lists (take n rs) r ≡ None = next_clean lists (take n rs) r (subst (λ (ps : List Report). Clean ps lists) next front) in
     cc
 
 pub noted_none : (lists : List (List ℕ)) (shares : List Share) → AreNotes [] shares → length shares ≡ length lists → IsNoted lists [] shares
 noted_none lists shares notes count = record { clean = clean-none lists; notes = notes; count = count }
 
 pub noted_more : (lists : List (List ℕ)) (rs : List Report) (r : Report) (old new : List Share) → IsNoted lists rs old
-    → report_breach lists rs r ≡ None → AreNotes (rs ++ r ∷ []) new → length new ≡ length old → IsNoted lists (rs ++ r ∷ []) new
+    → report_violation lists rs r ≡ None → AreNotes (rs ++ r ∷ []) new → length new ≡ length old → IsNoted lists (rs ++ r ∷ []) new
 noted_more lists rs r old new noted none notes count = record {
   clean = clean_next lists rs r noted.clean none;
   notes = notes;
@@ -136,18 +136,18 @@ whole_new n new old same whole =
     ap (take n) all ∙ ap (λ k. take k new) (whole ∙ sym same) ∙ take-length new
 
 pub noted_at : (lists : List (List ℕ)) (reports : List Report) (n : ℕ) (r : Report) (old new next : List Share) → n < length reports
-    → IsNoted lists (take n reports) old → report_breach lists (take n reports) (get_or reports n r) ≡ None
+    → IsNoted lists (take n reports) old → report_violation lists (take n reports) (get_or reports n r) ≡ None
     → AreNotes (take n reports ++ get_or reports n r ∷ []) new → length new ≡ length old → next ≡ new → IsNoted lists (take (n + 1) reports) next
 noted_at lists reports n r old new next within noted none notes count is =
     subst (λ (ps : List Report). IsNoted lists ps next) (sym (take_more reports n r within))
     (subst (IsNoted lists (take n reports ++ get_or reports n r ∷ [])) (sym is) (noted_more lists (take n reports)
     (get_or reports n r) old new noted none notes count))
 
-pub unclean_found : (lists : List (List ℕ)) (reports : List Report) (n : ℕ) (r : Report) (breach : Breach) → n < length reports
-    → report_breach lists (take n reports) (get_or reports n r) ≡ Some breach → IsTrue false ↔ Clean reports lists
-unclean_found lists reports n r breach within breaks = (
+pub unclean_found : (lists : List (List ℕ)) (reports : List Report) (n : ℕ) (r : Report) (violation : Violation) → n < length reports
+    → report_violation lists (take n reports) (get_or reports n r) ≡ Some violation → IsTrue false ↔ Clean reports lists
+unclean_found lists reports n r violation within breaks = (
   (λ never. cc),
-  (λ clean. absurd (unclean lists reports n (get_or reports n r) breach (slice_get-get_or reports n r within) breaks clean)),
+  (λ clean. absurd (unclean lists reports n (get_or reports n r) violation (slice_get-get_or reports n r within) breaks clean)),
 )
 
 -- an address that is found in this block

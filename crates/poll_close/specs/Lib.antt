@@ -3,7 +3,7 @@ pub mod Places
 pub mod Reports
 pub mod Going
 pub mod Touching
-pub mod Breaches
+pub mod Violations
 pub mod Laws
 pub mod Means
 pub mod Listing

@@ -8,7 +8,7 @@ ghost use Rattle.step_machine.specs.Entries.{reported};
 ghost use Rattle.poll_close.specs.Layout.{Layout, base_of};
 ghost use Rattle.poll_close.specs.Places.{layout_of};
 ghost use Rattle.poll_close.specs.Reports.{Clean};
-ghost use Rattle.poll_close.specs.Breaches.{AreNotes, breach_of, report_breach, stays_within, first_breach, IsKept};
+ghost use Rattle.poll_close.specs.Violations.{AreNotes, violation_of, report_violation, stays_within, first_violation, IsKept};
 
 use crate::place::BlockPlace;
 use hart::need::Report;
@@ -18,7 +18,7 @@ use step_machine::Entry;
 
 /// What an entry breaks. Harts, senders and words are as in the entry.
 #[derive(Clone, Copy, PartialEq, Eq)]
-pub enum Breach {
+pub enum Violation {
     /// The receiver reports a word where its sender's list has another one next.
     Another {
         sender: u32,
@@ -99,28 +99,28 @@ pub fn no_shares(alloc: Global, senders: usize) -> Result<Vec<Share>, AllocError
 
 /// What the report of a word breaks; where it breaks nothing it is noted.
 #[tactic(auto, using(crate::proofs::Notes::notes_word))]
-fn note_word(shares: &mut [Share], lists: &[Vec<u32>], sender: u32, word: u32) -> Option<Breach>
+fn note_word(shares: &mut [Share], lists: &[Vec<u32>], sender: u32, word: u32) -> Option<Violation>
     requires { length shares.old ≡ length lists.now }
-    ensures breach { (rs : List Report) → AreNotes rs shares.old → result ≡ report_breach (map (λ v. v.items) lists.now) rs (Took sender word) }
+    ensures violation { (rs : List Report) → AreNotes rs shares.old → result ≡ report_violation (map (λ v. v.items) lists.now) rs (Took sender word) }
     ensures notes { (rs : List Report) → AreNotes rs shares.old → result ≡ None → AreNotes (rs ++ Took sender word ∷ []) shares.new }
     ensures kept { IsSome result → shares.new ≡ shares.old }
     ensures count { length shares.new ≡ length shares.old }
 {
     let index = sender as usize;
     if index >= lists.len() {
-        return Some(Breach::TookOfNone { sender, word });
+        return Some(Violation::TookOfNone { sender, word });
     }
     let share = shares[index];
     if share.closed {
-        return Some(Breach::AfterClosed { sender, word });
+        return Some(Violation::AfterClosed { sender, word });
     }
     let list = &lists[index];
     if share.taken >= list.len() {
-        return Some(Breach::AfterWhole { sender, word });
+        return Some(Violation::AfterWhole { sender, word });
     }
     let next = list[share.taken];
     if word != next {
-        return Some(Breach::Another { sender, word, next });
+        return Some(Violation::Another { sender, word, next });
     }
     shares[index] = Share {
         taken: share.taken + 1,
@@ -131,24 +131,24 @@ fn note_word(shares: &mut [Share], lists: &[Vec<u32>], sender: u32, word: u32) -
 
 /// What the report of an end breaks; where it breaks nothing it is noted.
 #[tactic(auto, using(crate::proofs::Notes::notes_end))]
-fn note_end(shares: &mut [Share], lists: &[Vec<u32>], sender: u32) -> Option<Breach>
+fn note_end(shares: &mut [Share], lists: &[Vec<u32>], sender: u32) -> Option<Violation>
     requires { length shares.old ≡ length lists.now }
-    ensures breach { (rs : List Report) → AreNotes rs shares.old → result ≡ report_breach (map (λ v. v.items) lists.now) rs (Closed sender) }
+    ensures violation { (rs : List Report) → AreNotes rs shares.old → result ≡ report_violation (map (λ v. v.items) lists.now) rs (Closed sender) }
     ensures notes { (rs : List Report) → AreNotes rs shares.old → result ≡ None → AreNotes (rs ++ Closed sender ∷ []) shares.new }
     ensures kept { IsSome result → shares.new ≡ shares.old }
     ensures count { length shares.new ≡ length shares.old }
 {
     let index = sender as usize;
     if index >= lists.len() {
-        return Some(Breach::ClosedNone { sender });
+        return Some(Violation::ClosedNone { sender });
     }
     let share = shares[index];
     if share.closed {
-        return Some(Breach::ClosedAgain { sender });
+        return Some(Violation::ClosedAgain { sender });
     }
     let all = lists[index].len();
     if share.taken < all {
-        return Some(Breach::ClosedEarly {
+        return Some(Violation::ClosedEarly {
             sender,
             taken: share.taken,
             all,
@@ -162,9 +162,9 @@ fn note_end(shares: &mut [Share], lists: &[Vec<u32>], sender: u32) -> Option<Bre
 }
 
 /// What a report breaks, given what is noted of the reports before; where it breaks nothing it is noted too.
-pub fn note_report(shares: &mut [Share], lists: &[Vec<u32>], report: Report) -> Option<Breach>
+pub fn note_report(shares: &mut [Share], lists: &[Vec<u32>], report: Report) -> Option<Violation>
     requires { length shares.old ≡ length lists.now }
-    ensures breach { (rs : List Report) → AreNotes rs shares.old → result ≡ report_breach (map (λ v. v.items) lists.now) rs report }
+    ensures violation { (rs : List Report) → AreNotes rs shares.old → result ≡ report_violation (map (λ v. v.items) lists.now) rs report }
     ensures notes { (rs : List Report) → AreNotes rs shares.old → result ≡ None → AreNotes (rs ++ report ∷ []) shares.new }
     ensures kept { IsSome result → shares.new ≡ shares.old }
     ensures count { length shares.new ≡ length shares.old }
@@ -176,7 +176,7 @@ pub fn note_report(shares: &mut [Share], lists: &[Vec<u32>], report: Report) -> 
 }
 
 /// Whether these reports are clean, where the lists are those of senders 0, 1 and on. What comes after the first
-/// breach isn't read.
+/// violation isn't read.
 #[tactic(auto, using(crate::proofs::Notes::unclean, crate::proofs::Notes::noted_more, crate::proofs::Notes::noted_none))]
 pub fn is_clean(alloc: Global, reports: &[Report], lists: &[Vec<u32>]) -> Result<bool, AllocError>
     ensures { IfOk result (λ clean. IsTrue clean ↔ Clean reports.now (map (λ v. v.items) lists.now)) }
@@ -192,7 +192,7 @@ pub fn is_clean(alloc: Global, reports: &[Report], lists: &[Vec<u32>]) -> Result
 }
 
 /// Whether the bytes from an address on are within a block of the hart's.
-#[tactic(auto, using(crate::proofs::Dense::rows_before, crate::proofs::BreachLaws::stays_more))]
+#[tactic(auto, using(crate::proofs::Dense::rows_before, crate::proofs::ViolationLaws::stays_more))]
 fn stays_within(place: BlockPlace, count: usize, hart: u32, addr: u32, width: u32) -> bool
     requires ends { base_of (layout_of place []) count < 2 ^ 32 }
     ensures { result ≡ stays_within (layout_of place []) count hart addr width }
@@ -218,8 +218,8 @@ fn outside(
     hart: u32,
     addr: u32,
     width: u32,
-    found: Breach,
-) -> Option<Breach>
+    found: Violation,
+) -> Option<Violation>
     requires ends { base_of (layout_of place []) count < 2 ^ 32 }
     ensures { result ≡ (if stays_within (layout_of place []) count hart addr width then None else Some found) }
 {
@@ -238,10 +238,10 @@ pub fn note_entry(
     lists: &[Vec<u32>],
     place: BlockPlace,
     entry: Entry,
-) -> Option<Breach>
+) -> Option<Violation>
     requires count { length shares.old ≡ length lists.now }
     requires ends { base_of (layout_of place []) (length lists.now) < 2 ^ 32 }
-    ensures breach { (before : List Entry) → AreNotes (reported 0 before) shares.old → result ≡ breach_of (layout_of place []) (map
+    ensures violation { (before : List Entry) → AreNotes (reported 0 before) shares.old → result ≡ violation_of (layout_of place []) (map
         (λ v. v.items) lists.now) before entry }
     ensures notes { (before : List Entry) → AreNotes (reported 0 before) shares.old → result ≡ None → AreNotes (reported 0 (before ++ entry ∷ [])) shares.new }
     ensures kept { IsSome result → shares.new ≡ shares.old }
@@ -255,7 +255,7 @@ pub fn note_entry(
             word,
         } => note_word(shares, lists, sender, word),
         Entry::Closed { hart: 0, sender } => note_end(shares, lists, sender),
-        Entry::Stopped { hart, why } => Some(Breach::Stopped { hart, why }),
+        Entry::Stopped { hart, why } => Some(Violation::Stopped { hart, why }),
         Entry::Load {
             hart,
             addr,
@@ -267,7 +267,7 @@ pub fn note_entry(
             hart,
             addr,
             width,
-            Breach::LoadedOutside { hart, addr },
+            Violation::LoadedOutside { hart, addr },
         ),
         Entry::Store {
             hart,
@@ -280,7 +280,7 @@ pub fn note_entry(
             hart,
             addr,
             width,
-            Breach::StoredOutside { hart, addr },
+            Violation::StoredOutside { hart, addr },
         ),
         Entry::Amo { hart, addr, .. } => {
             outside(
@@ -289,16 +289,16 @@ pub fn note_entry(
                 hart,
                 addr,
                 4,
-                Breach::ExchangedOutside { hart, addr },
+                Violation::ExchangedOutside { hart, addr },
             )
         }
         _ => None,
     }
 }
 
-/// The law of breaches: a run has none exactly where its reports are clean, no hart is stopped and each touches
+/// The law of violations: a run has none exactly where its reports are clean, no hart is stopped and each touches
 /// its blocks alone. It does nothing.
-#[tactic(auto, using(crate::proofs::BreachLaws::first_law))]
-pub fn laws_of_breaches()
-    ensures { (l : Layout) (lists : List (List ℕ)) (es : List Entry) → (first_breach l lists es ≡ None) ↔ IsKept l lists es }
+#[tactic(auto, using(crate::proofs::ViolationLaws::first_law))]
+pub fn laws_of_violations()
+    ensures { (l : Layout) (lists : List (List ℕ)) (es : List Entry) → (first_violation l lists es ≡ None) ↔ IsKept l lists es }
 {}

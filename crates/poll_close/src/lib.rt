@@ -23,7 +23,7 @@ pub mod plans;
 pub mod waiting;
 
 pub use channel::Channel;
-pub use clean::{Breach, Share, is_clean, laws_of_breaches, no_shares, note_entry};
+pub use clean::{Share, Violation, is_clean, laws_of_violations, no_shares, note_entry};
 pub use delivery::{
     deliver, deliver_at, deliver_whole_at, laws_of_channels, laws_of_plans, reports_of,
 };

@@ -13,54 +13,54 @@ use Rattle.step_machine.specs.Standing.{RepresentsHistory, MovesBy, BeginsAnew, 
 use Rattle.step_machine.specs.inner.Config.{Config}
 use Rattle.step_machine.proofs.Running.{RunFrom-more}
 use Rattle.poll_close.specs.Layout.{Layout}
-use Rattle.poll_close.specs.Breaches.{breach_of, or_later, breach_after, first_breach, AreNotes}
-use Rattle.poll_close.specs.declared.clean.Breach.{Breach}
+use Rattle.poll_close.specs.Violations.{violation_of, or_later, violation_after, first_violation, AreNotes}
+use Rattle.poll_close.specs.declared.clean.Violation.{Violation}
 use Rattle.poll_close.specs.declared.clean.Share.{Share}
 use Rattle.ring_trials.specs.UserChannel.{lists_of, layout_from, start_of}
 use Rattle.ring_trials.specs.Trials.{AreNoted, entries_with, IsChannelJudged, IsChannelJudgedAt}
 use Rattle.ring_trials.specs.declared.user_channel.UserChannel.{UserChannel}
 
-or_later-assoc : (a b c : Option Breach) → or_later (or_later a b) c ≡ or_later a (or_later b c)
+or_later-assoc : (a b c : Option Violation) → or_later (or_later a b) c ≡ or_later a (or_later b c)
 or_later-assoc None b c = refl
 or_later-assoc (Some a) b c = refl
 
-or_later-none : (a : Option Breach) → or_later a None ≡ a
+or_later-none : (a : Option Violation) → or_later a None ≡ a
 or_later-none None = refl
 or_later-none (Some a) = refl
 
 after_more : (l : Layout) (lists : List (List ℕ)) (before es : List Entry) (e : Entry)
-    → breach_after l lists before (es ++ e ∷ []) ≡ or_later (breach_after l lists before es) (breach_of l lists (before ++ es) e)
+    → violation_after l lists before (es ++ e ∷ []) ≡ or_later (violation_after l lists before es) (violation_of l lists (before ++ es) e)
 after_more l lists before [] e =
-    or_later-none (breach_of l lists before e) ∙ ap (λ ds. breach_of l lists ds e) (sym (append-nil before))
+    or_later-none (violation_of l lists before e) ∙ ap (λ ds. violation_of l lists ds e) (sym (append-nil before))
 after_more l lists before (d ∷ es) e =
-    ap (or_later (breach_of l lists before d)) (after_more l lists (before ++ d ∷ []) es e
-    ∙ ap (λ ds. or_later (breach_after l lists (before ++ d ∷ []) es) (breach_of l lists ds e)) (append_assoc before (d ∷ []) es))
-    ∙ sym (or_later-assoc (breach_of l lists before d) (breach_after l lists (before ++ d ∷ []) es) (breach_of l lists (before ++ d ∷ es) e))
+    ap (or_later (violation_of l lists before d)) (after_more l lists (before ++ d ∷ []) es e
+    ∙ ap (λ ds. or_later (violation_after l lists (before ++ d ∷ []) es) (violation_of l lists ds e)) (append_assoc before (d ∷ []) es))
+    ∙ sym (or_later-assoc (violation_of l lists before d) (violation_after l lists (before ++ d ∷ []) es) (violation_of l lists (before ++ d ∷ es) e))
 
 first_more : (l : Layout) (lists : List (List ℕ)) (es : List Entry) (e : Entry)
-    → first_breach l lists (es ++ e ∷ []) ≡ or_later (first_breach l lists es) (breach_of l lists es e)
+    → first_violation l lists (es ++ e ∷ []) ≡ or_later (first_violation l lists es) (violation_of l lists es e)
 first_more l lists es e = after_more l lists [] es e
 
--- an entry was noted where there was no breach yet
-pub noted_entry : (channel : UserChannel) (es : List Entry) (e : Entry) (found new : Option Breach)
+-- an entry was noted where there was no violation yet
+pub noted_entry : (channel : UserChannel) (es : List Entry) (e : Entry) (found new : Option Violation)
     (shares more : List Share) → AreNoted channel es found shares → found ≡ None
-    → (AreNotes (reported 0 es) shares → new ≡ breach_of (layout_from channel) (lists_of channel) es e)
+    → (AreNotes (reported 0 es) shares → new ≡ violation_of (layout_from channel) (lists_of channel) es e)
     → (AreNotes (reported 0 es) shares → new ≡ None → AreNotes (reported 0 (es ++ e ∷ [])) more) → length more ≡ length shares
     → AreNoted channel (es ++ e ∷ []) new more
-noted_entry channel es e found new shares more noted none breach notes count = record {
-  breach = breach (noted.notes none)
-      ∙ ap (λ b. or_later b (breach_of (layout_from channel) (lists_of channel) es e)) (sym none ∙ noted.breach)
+noted_entry channel es e found new shares more noted none violation notes count = record {
+  violation = violation (noted.notes none)
+      ∙ ap (λ b. or_later b (violation_of (layout_from channel) (lists_of channel) es e)) (sym none ∙ noted.violation)
       ∙ sym (first_more (layout_from channel) (lists_of channel) es e);
   notes = notes (noted.notes none);
   count = count ∙ noted.count;
 }
 
 -- and where there was one already
-pub noted_before : (channel : UserChannel) (es : List Entry) (e : Entry) (found : Option Breach) (first : Breach)
+pub noted_before : (channel : UserChannel) (es : List Entry) (e : Entry) (found : Option Violation) (first : Violation)
     (shares : List Share) → AreNoted channel es found shares
     → found ≡ Some first → AreNoted channel (es ++ e ∷ []) found shares
 noted_before channel es e found first shares noted some = record {
-  breach = some ∙ ap (λ b. or_later b (breach_of (layout_from channel) (lists_of channel) es e)) (sym some ∙ noted.breach)
+  violation = some ∙ ap (λ b. or_later b (violation_of (layout_from channel) (lists_of channel) es e)) (sym some ∙ noted.violation)
       ∙ sym (first_more (layout_from channel) (lists_of channel) es e);
   notes = λ none. cc;
   count = noted.count;
@@ -81,7 +81,7 @@ happens_opening B M t u ev outcome.Over happens = ap (λ (h : History). h.openin
 happens_opening B M t u ev outcome.NoHart happens = ap (λ (h : History). h.opening) happens.after
 
 pub judged_more : (B M : ℕ) (channel : UserChannel) (evs : List Event) (ev : Event) (o : Outcome) (c d : Config)
-    (found new : Option Breach) (shares more : List Share)
+    (found new : Option Violation) (shares more : List Share)
     → IsChannelJudgedAt B M channel evs c found shares → MovesBy B M ev o c d
     → ((es : List Entry) → AreNoted channel es found shares → AreNoted channel (entries_with es o) new more)
     → IsChannelJudgedAt B M channel (evs ++ ev ∷ []) d new more
@@ -96,7 +96,7 @@ judged_more B M channel evs ev o c d found new shares more judged moves noted =
     }
 
 -- one event of a list more
-pub judged_next : (B M : ℕ) (channel : UserChannel) (events : List Event) (i : ℕ) (none : Event) (o : Outcome) (c d : Config) (found new : Option Breach)
+pub judged_next : (B M : ℕ) (channel : UserChannel) (events : List Event) (i : ℕ) (none : Event) (o : Outcome) (c d : Config) (found new : Option Violation)
     (shares more : List Share) → i < length events → IsChannelJudgedAt B M channel (take i events) c found shares → MovesBy B M (get_or events i none) o c d
     → ((es : List Entry) → AreNoted channel es found shares → AreNoted channel (entries_with es o) new more)
     → IsChannelJudgedAt B M channel (take (i + 1) events) d new more
@@ -113,10 +113,10 @@ judged_none B M channel c d shares stands anew notes count = record {
   run = refl;
   opening = refl;
   stands = subst (λ (o : OpeningValue). RepresentsHistory B M (at_opening o) d) stands.2 (anew stands.0 stands.1);
-  noted = record { breach = refl; notes = λ none. notes; count = count };
+  noted = record { violation = refl; notes = λ none. notes; count = count };
 }
 
-pub judged_at : (B M : ℕ) (channel : UserChannel) (events : List Event) (c : Config) (found : Option Breach) (shares : List Share)
+pub judged_at : (B M : ℕ) (channel : UserChannel) (events : List Event) (c : Config) (found : Option Violation) (shares : List Share)
     → IsChannelJudgedAt B M channel events c found shares
     → IsChannelJudged B M channel events found shares × RepresentsRunFrom B M (start_of channel) c
 judged_at B M channel events c found shares judged =

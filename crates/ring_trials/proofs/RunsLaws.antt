@@ -15,15 +15,15 @@ use Rattle.step_machine.proofs.Stays.{slice_get-set_same, slice_get-set_other}
 use Rattle.step_machine.specs.declared.events.Event.{Event}
 use Rattle.poll_close.specs.Reports.{taken}
 use Rattle.poll_close.specs.Plans.{is_closed}
-use Rattle.poll_close.specs.Breaches.{first_breach, AreNotes}
-use Rattle.poll_close.specs.declared.clean.Breach.{Breach}
+use Rattle.poll_close.specs.Violations.{first_violation, AreNotes}
+use Rattle.poll_close.specs.declared.clean.Violation.{Violation}
 use Rattle.poll_close.specs.declared.clean.Share.{Share}
-use Rattle.poll_close.proofs.BreachLaws.{first_law}
+use Rattle.poll_close.proofs.ViolationLaws.{first_law}
 use Rattle.judged_runs.proofs.Histories.{runs_both, runs_count}
 use Rattle.ring_trials.specs.UserChannel.{lists_of, layout_from, start_of}
 use Rattle.ring_trials.specs.declared.user_channel.UserChannel.{UserChannel}
 use Rattle.ring_trials.specs.declared.runs.Total.{Total}
-use Rattle.ring_trials.specs.Trials.{most_of, closed_in, AreTotals, AreTotalsOf, IsChannelJudged, IsClean, HasBreach}
+use Rattle.ring_trials.specs.Trials.{most_of, closed_in, AreTotals, AreTotalsOf, IsChannelJudged, IsClean, HasViolation}
 
 most_last : (i : ℕ) (ts : List History) (t : History) → most_of i (ts ++ t ∷ []) ≡ max (most_of i ts) (length (taken (reported 0 t.entries) i))
 most_last i [] t = omega arith
@@ -165,33 +165,34 @@ module _ (B M : ℕ) (channel : UserChannel) where
     few,
   )
 
-  -- a run has one first breach, and a clean one none
-  pub one_breach : (events : List Event) (found other : Breach) → HasBreach B M channel events found → HasBreach B M channel events other → found ≡ other
-  one_breach events found other has also =
+  -- a run has one first violation, and a clean one none
+  pub one_violation : (events : List Event) (found other : Violation) → HasViolation B M channel events found
+      → HasViolation B M channel events other → found ≡ other
+  one_violation events found other has also =
       let same : has.history ≡ also.history = run-one B M (at_opening (start_of channel)) events has.history also.history has.run also.run in
       let both : Some found ≡ Some other =
-      sym has.breaks ∙ ap (λ (t : History). first_breach (layout_from channel) (lists_of channel) t.entries) same ∙ also.breaks in cc
+      sym has.breaks ∙ ap (λ (t : History). first_violation (layout_from channel) (lists_of channel) t.entries) same ∙ also.breaks in cc
 
-  pub clean_has_none : (events : List Event) (found : Breach) → IsClean B M channel events → HasBreach B M channel events found → ⊥
+  pub clean_has_none : (events : List Event) (found : Violation) → IsClean B M channel events → HasViolation B M channel events found → ⊥
   clean_has_none events found clean has =
       let same : clean.history ≡ has.history = run-one B M (at_opening (start_of channel)) events clean.history has.history clean.run has.run in
       let none = (first_law (layout_from channel) (lists_of channel) clean.history.entries).1 clean.kept in
-      let some = ap (λ (t : History). first_breach (layout_from channel) (lists_of channel) t.entries) same ∙ has.breaks in
+      let some = ap (λ (t : History). first_violation (layout_from channel) (lists_of channel) t.entries) same ∙ has.breaks in
       absurd (cc)
 
   -- what was judged of a run
-  pub judged_clean : (events : List Event) (found : Option Breach) (shares : List Share) → IsChannelJudged B M channel events found shares → found ≡ None
+  pub judged_clean : (events : List Event) (found : Option Violation) (shares : List Share) → IsChannelJudged B M channel events found shares → found ≡ None
       → IsClean B M channel events
   judged_clean events found shares judged none = record {
     history = judged.history;
     run = judged.run;
-    kept = (first_law (layout_from channel) (lists_of channel) judged.history.entries).0 (sym judged.noted.breach ∙ none);
+    kept = (first_law (layout_from channel) (lists_of channel) judged.history.entries).0 (sym judged.noted.violation ∙ none);
   }
 
-  pub judged_breach : (events : List Event) (found : Option Breach) (shares : List Share) → IsChannelJudged B M channel events found shares
-      → (breach : Breach) → found ≡ Some breach → HasBreach B M channel events breach
-  judged_breach events found shares judged breach some =
-      record { history = judged.history; run = judged.run; breaks = sym judged.noted.breach ∙ some }
+  pub judged_violation : (events : List Event) (found : Option Violation) (shares : List Share) → IsChannelJudged B M channel events found shares
+      → (violation : Violation) → found ≡ Some violation → HasViolation B M channel events violation
+  judged_violation events found shares judged violation some =
+      record { history = judged.history; run = judged.run; breaks = sym judged.noted.violation ∙ some }
 
 -- a slice that was written over as a whole
 pub whole_again : {X : Type 0} (n : ℕ) (new old : List X) → length new ≡ length old → n ≡ length old → take n (new ++ drop (length new) old) ≡ new

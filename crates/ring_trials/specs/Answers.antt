@@ -1,17 +1,17 @@
 -- The answer of many runs: where all are clean, each sender's totals; otherwise a short schedule that isn't clean, and its
--- first breach.
+-- first violation.
 use Rattle.std.specs.Prelude.{ℕ, ◌≡◌, ◌+◌, ◌<◌, ◌==◌, if◌then◌else◌, Bool, true, false, List, [], ◌∷◌, ◌++◌, length, codes}
 use Rattle.std.specs.Fmt.{decimal}
 use Rattle.hart.specs.Steps.{stop_number}
 use Rattle.step_machine.specs.declared.events.Event.{Event}
 use Rattle.recorder.specs.Writing.{canon}
-use Rattle.poll_close.specs.declared.clean.Breach.{Breach}
-use Rattle.poll_close.specs.declared.clean.Breach.TheVariants as breach
+use Rattle.poll_close.specs.declared.clean.Violation.{Violation}
+use Rattle.poll_close.specs.declared.clean.Violation.TheVariants as violation
 use Rattle.judged_runs.specs.Finding.{AreAllGood}
 use Rattle.judged_runs.specs.Telling.{IsFlawTold}
 use Rattle.ring_trials.specs.UserChannel.{lists_of}
 use Rattle.ring_trials.specs.declared.runs.Total.{Total}
-use Rattle.ring_trials.specs.Trials.{ChannelSource, schedule_of_run, IsClean, HasBreach, AreTotalsOf}
+use Rattle.ring_trials.specs.Trials.{ChannelSource, schedule_of_run, IsClean, HasViolation, AreTotalsOf}
 
 -- which blocks are a hart's: for the receiver all
 abbrev pub blocks_text : (hart : ℕ) → List ℕ
@@ -22,22 +22,23 @@ abbrev pub outside_text : (hart : ℕ) → (did : List ℕ) → (address : ℕ) 
 outside_text h did a = codes "hart " ++ decimal h ++ codes " " ++ did ++ codes " outside " ++ blocks_text h ++ codes " at " ++ decimal a
 
 -- what is broken, in words
-abbrev pub breach_text : Breach → List ℕ
-breach_text (breach.Another i w next) = codes "sender " ++ decimal i ++ codes ": took " ++ decimal w ++ codes " where " ++ decimal next ++ codes " was next"
-breach_text (breach.AfterWhole i w) = codes "sender " ++ decimal i ++ codes ": took " ++ decimal w ++ codes " after its whole list"
-breach_text (breach.AfterClosed i w) = codes "sender " ++ decimal i ++ codes ": took " ++ decimal w ++ codes " after it was closed"
-breach_text (breach.ClosedEarly i took all) =
+abbrev pub violation_text : Violation → List ℕ
+violation_text (violation.Another i w next) =
+    codes "sender " ++ decimal i ++ codes ": took " ++ decimal w ++ codes " where " ++ decimal next ++ codes " was next"
+violation_text (violation.AfterWhole i w) = codes "sender " ++ decimal i ++ codes ": took " ++ decimal w ++ codes " after its whole list"
+violation_text (violation.AfterClosed i w) = codes "sender " ++ decimal i ++ codes ": took " ++ decimal w ++ codes " after it was closed"
+violation_text (violation.ClosedEarly i took all) =
     codes "sender " ++ decimal i ++ codes ": closed after " ++ decimal took ++ codes " of " ++ decimal all ++ codes " words"
-breach_text (breach.ClosedAgain i) = codes "sender " ++ decimal i ++ codes ": closed after it was closed"
-breach_text (breach.TookOfNone i w) = codes "sender " ++ decimal i ++ codes ": took " ++ decimal w ++ codes " but there is no such sender"
-breach_text (breach.ClosedNone i) = codes "sender " ++ decimal i ++ codes ": closed but there is no such sender"
-breach_text (breach.Stopped h why) = codes "hart " ++ decimal h ++ codes " stopped " ++ decimal (stop_number why)
-breach_text (breach.LoadedOutside h a) = outside_text h (codes "loaded") a
-breach_text (breach.StoredOutside h a) = outside_text h (codes "stored") a
-breach_text (breach.ExchangedOutside h a) = outside_text h (codes "exchanged") a
+violation_text (violation.ClosedAgain i) = codes "sender " ++ decimal i ++ codes ": closed after it was closed"
+violation_text (violation.TookOfNone i w) = codes "sender " ++ decimal i ++ codes ": took " ++ decimal w ++ codes " but there is no such sender"
+violation_text (violation.ClosedNone i) = codes "sender " ++ decimal i ++ codes ": closed but there is no such sender"
+violation_text (violation.Stopped h why) = codes "hart " ++ decimal h ++ codes " stopped " ++ decimal (stop_number why)
+violation_text (violation.LoadedOutside h a) = outside_text h (codes "loaded") a
+violation_text (violation.StoredOutside h a) = outside_text h (codes "stored") a
+violation_text (violation.ExchangedOutside h a) = outside_text h (codes "exchanged") a
 
-abbrev pub breach_line : Breach → List ℕ
-breach_line found = breach_text found ++ 10 ∷ []
+abbrev pub violation_line : Violation → List ℕ
+violation_line found = violation_text found ++ 10 ∷ []
 
 abbrev pub sender_line : (sender : ℕ) → Total → (words : ℕ) → List ℕ
 sender_line i total words =
@@ -56,9 +57,9 @@ clean_text runs totals lists = codes "clean " ++ decimal runs ++ codes " runs" +
 -- a short schedule of the first unclean run, and what its own run breaks
 pub record IsUncleanOutput (s : ChannelSource) (runs : ℕ) (text : List ℕ) : Type 0 where
   pub part : List Event
-  pub breach : Breach
-  pub is_told : IsFlawTold (IsClean s.B s.M s.channel) (HasBreach s.B s.M s.channel) (λ found other. Unit {0}) (schedule_of_run s) runs part breach
-  pub text_is : text ≡ canon part ++ breach_line breach
+  pub violation : Violation
+  pub is_told : IsFlawTold (IsClean s.B s.M s.channel) (HasViolation s.B s.M s.channel) (λ found other. Unit {0}) (schedule_of_run s) runs part violation
+  pub text_is : text ≡ canon part ++ violation_line violation
 
 -- all runs are clean, and the text lists each sender's totals
 pub record IsCleanOutput (s : ChannelSource) (runs : ℕ) (text : List ℕ) : Type 0 where

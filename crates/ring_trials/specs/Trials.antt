@@ -11,23 +11,23 @@ use Rattle.step_machine.specs.Entries.{reported}
 use Rattle.step_machine.specs.Runs.{Run}
 use Rattle.step_machine.specs.Standing.{RepresentsHistory, RepresentsRunFrom}
 use Rattle.step_machine.specs.inner.Config.{Config}
-use Rattle.jumping.specs.declared.draws.Draw.{Draw}
-use Rattle.jumping.specs.Draws.{schedule_by}
+use Rattle.drawn_runs.specs.declared.draws.Draw.{Draw}
+use Rattle.drawn_runs.specs.Draws.{schedule_by}
 use Rattle.poll_close.specs.Layout.{base_of}
 use Rattle.poll_close.specs.Reports.{taken}
 use Rattle.poll_close.specs.Plans.{is_closed}
-use Rattle.poll_close.specs.Breaches.{first_breach, AreNotes, IsKept}
-use Rattle.poll_close.specs.declared.clean.Breach.{Breach}
+use Rattle.poll_close.specs.Violations.{first_violation, AreNotes, IsKept}
+use Rattle.poll_close.specs.declared.clean.Violation.{Violation}
 use Rattle.poll_close.specs.declared.clean.Share.{Share}
 use Rattle.judged_runs.specs.Histories.{AreRuns}
 use Rattle.ring_trials.specs.UserChannel.{lists_of, layout_from, start_of}
 use Rattle.ring_trials.specs.declared.user_channel.UserChannel.{UserChannel}
 use Rattle.ring_trials.specs.declared.runs.Total.{Total}
 
--- what is noted of a run after these entries: the first breach, if there is one, and where there is none of each
+-- what is noted of a run after these entries: the first violation, if there is one, and where there is none of each
 -- sender what it takes to find the next
-pub record AreNoted (channel : UserChannel) (es : List Entry) (found : Option Breach) (shares : List Share) : Type 0 where
-  pub breach : found ≡ first_breach (layout_from channel) (lists_of channel) es
+pub record AreNoted (channel : UserChannel) (es : List Entry) (found : Option Violation) (shares : List Share) : Type 0 where
+  pub violation : found ≡ first_violation (layout_from channel) (lists_of channel) es
   pub notes : found ≡ None → AreNotes (reported 0 es) shares
   pub count : length shares ≡ length (lists_of channel)
 
@@ -39,15 +39,16 @@ entries_with es outcome.NothingToLand = es
 entries_with es outcome.Over = es
 entries_with es outcome.NoHart = es
 
--- These events run from the opening of this channel, and their first breach is this one. Where there is none, this
+-- These events run from the opening of this channel, and their first violation is this one. Where there is none, this
 -- is noted of each sender.
-pub record IsChannelJudged (B M : ℕ) (channel : UserChannel) (events : List Event) (found : Option Breach) (shares : List Share) : Type 0 where
+pub record IsChannelJudged (B M : ℕ) (channel : UserChannel) (events : List Event) (found : Option Violation) (shares : List Share) : Type 0 where
   pub history : History
   pub run : Run B M (start_of channel) events history
   pub noted : AreNoted channel history.entries found shares
 
 -- the same where a machine stands after them
-pub record IsChannelJudgedAt (B M : ℕ) (channel : UserChannel) (events : List Event) (c : Config) (found : Option Breach) (shares : List Share) : Type 0 where
+pub record IsChannelJudgedAt (B M : ℕ) (channel : UserChannel) (events : List Event) (c : Config)
+    (found : Option Violation) (shares : List Share) : Type 0 where
   pub history : History
   pub run : Run B M (start_of channel) events history
   pub opening : history.opening ≡ start_of channel
@@ -80,11 +81,11 @@ pub record IsClean (B M : ℕ) (channel : UserChannel) (events : List Event) : T
   pub run : Run B M (start_of channel) events history
   pub kept : KeepsAll channel history
 
--- a run of these events whose first breach is this one
-pub record HasBreach (B M : ℕ) (channel : UserChannel) (events : List Event) (breach : Breach) : Type 0 where
+-- a run of these events whose first violation is this one
+pub record HasViolation (B M : ℕ) (channel : UserChannel) (events : List Event) (violation : Violation) : Type 0 where
   pub history : History
   pub run : Run B M (start_of channel) events history
-  pub breaks : first_breach (layout_from channel) (lists_of channel) history.entries ≡ Some breach
+  pub breaks : first_violation (layout_from channel) (lists_of channel) history.entries ≡ Some violation
 
 -- how many words of sender i were taken at most
 abbrev pub most_of : (i : ℕ) → List History → ℕ

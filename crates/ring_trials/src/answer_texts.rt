@@ -3,10 +3,10 @@
 ghost use Rattle.std.specs.Prelude.{◌≡◌, ◌++◌, ◌∷◌, ◌≤◌, IfOk, OnOk, length, map};
 ghost use Rattle.std.specs.String.{string_bytes};
 ghost use Rattle.recorder.specs.Writing.{canon};
-ghost use Rattle.ring_trials.specs.Answers.{blocks_text, outside_text, breach_text, breach_line, sender_line, sender_lines, clean_text};
+ghost use Rattle.ring_trials.specs.Answers.{blocks_text, outside_text, violation_text, violation_line, sender_line, sender_lines, clean_text};
 
 use crate::runs::Total;
-use poll_close::Breach;
+use poll_close::Violation;
 use recorder::schedule_text;
 use std::alloc::{AllocError, Global};
 use step_machine::Event;
@@ -29,54 +29,58 @@ fn push_outside(out: &mut String, hart: u32, did: &str, addr: u32) -> Result<(),
     )
 }
 
-fn push_breach(out: &mut String, breach: Breach) -> Result<(), AllocError>
-    ensures { OnOk result (string_bytes out.new ≡ string_bytes out.old ++ breach_text breach) }
+fn push_violation(out: &mut String, violation: Violation) -> Result<(), AllocError>
+    ensures { OnOk result (string_bytes out.new ≡ string_bytes out.old ++ violation_text violation) }
 {
-    match breach {
-        Breach::Another { sender, word, next } => {
+    match violation {
+        Violation::Another { sender, word, next } => {
             write!(out, "sender {sender}: took {word} where {next} was next")
         }
-        Breach::AfterWhole { sender, word } => {
+        Violation::AfterWhole { sender, word } => {
             write!(out, "sender {sender}: took {word} after its whole list")
         }
-        Breach::AfterClosed { sender, word } => {
+        Violation::AfterClosed { sender, word } => {
             write!(out, "sender {sender}: took {word} after it was closed")
         }
-        Breach::ClosedEarly { sender, taken, all } => {
+        Violation::ClosedEarly { sender, taken, all } => {
             write!(out, "sender {sender}: closed after {taken} of {all} words")
         }
-        Breach::ClosedAgain { sender } => {
+        Violation::ClosedAgain { sender } => {
             write!(out, "sender {sender}: closed after it was closed")
         }
-        Breach::TookOfNone { sender, word } => {
+        Violation::TookOfNone { sender, word } => {
             write!(
                 out,
                 "sender {sender}: took {word} but there is no such sender"
             )
         }
-        Breach::ClosedNone { sender } => {
+        Violation::ClosedNone { sender } => {
             write!(out, "sender {sender}: closed but there is no such sender")
         }
-        Breach::Stopped { hart, why } => write!(out, "hart {hart} stopped {}", why.number()),
-        Breach::LoadedOutside { hart, addr } => push_outside(out, hart, "loaded", addr),
-        Breach::StoredOutside { hart, addr } => push_outside(out, hart, "stored", addr),
-        Breach::ExchangedOutside { hart, addr } => push_outside(out, hart, "exchanged", addr),
+        Violation::Stopped { hart, why } => write!(out, "hart {hart} stopped {}", why.number()),
+        Violation::LoadedOutside { hart, addr } => push_outside(out, hart, "loaded", addr),
+        Violation::StoredOutside { hart, addr } => push_outside(out, hart, "stored", addr),
+        Violation::ExchangedOutside { hart, addr } => push_outside(out, hart, "exchanged", addr),
     }
 }
 
-fn push_breach_line(out: &mut String, breach: Breach) -> Result<(), AllocError>
-    ensures { OnOk result (string_bytes out.new ≡ string_bytes out.old ++ breach_line breach) }
+fn push_violation_line(out: &mut String, violation: Violation) -> Result<(), AllocError>
+    ensures { OnOk result (string_bytes out.new ≡ string_bytes out.old ++ violation_line violation) }
 {
-    push_breach(out, breach)?;
+    push_violation(out, violation)?;
     out.push_str("\n")
 }
 
 /// The text of these events as a schedule, and of what their run breaks.
-pub fn unclean_text(alloc: Global, events: &[Event], breach: Breach) -> Result<String, AllocError>
-    ensures { IfOk result (λ text. string_bytes text ≡ canon events.now ++ breach_line breach) }
+pub fn unclean_text(
+    alloc: Global,
+    events: &[Event],
+    violation: Violation,
+) -> Result<String, AllocError>
+    ensures { IfOk result (λ text. string_bytes text ≡ canon events.now ++ violation_line violation) }
 {
     let mut out = schedule_text(alloc, events)?;
-    push_breach_line(&mut out, breach)?;
+    push_violation_line(&mut out, violation)?;
     Ok(out)
 }
 

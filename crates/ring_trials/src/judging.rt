@@ -4,12 +4,12 @@ ghost use Rattle.std.specs.Prelude.{◌≡◌, ◌≤◌, ◌<◌, ◌^◌, [], 
 ghost use Rattle.step_machine.specs.declared.events.Entry.{Entry};
 ghost use Rattle.step_machine.specs.Standing.{RepresentsRunFrom};
 ghost use Rattle.poll_close.specs.Layout.{base_of};
-ghost use Rattle.poll_close.specs.Breaches.{AreNotes};
+ghost use Rattle.poll_close.specs.Violations.{AreNotes};
 ghost use Rattle.ring_trials.specs.UserChannel.{lists_of, layout_from, start_of};
 ghost use Rattle.ring_trials.specs.Trials.{AreNoted, entries_with, IsChannelJudged};
 
 use crate::user_channel::UserChannel;
-use poll_close::{Breach, Share, note_entry};
+use poll_close::{Share, Violation, note_entry};
 use std::alloc::AllocError;
 use step_machine::{Event, MachineState, Outcome};
 
@@ -26,13 +26,13 @@ fn begin(shares: &mut [Share])
     }
 }
 
-/// Takes in what an event did, where there was no breach before it; gives the first breach after it.
+/// Takes in what an event did, where there was no violation before it; gives the first violation after it.
 fn note_outcome(
     channel: &UserChannel,
     shares: &mut [Share],
-    found: Option<Breach>,
+    found: Option<Violation>,
     outcome: Outcome,
-) -> Option<Breach>
+) -> Option<Violation>
     requires ends { base_of (layout_from channel.now) (length (lists_of channel.now)) < 2 ^ 32 }
     requires count { length shares.old ≡ length (lists_of channel.now) }
     ensures noted { (es : List Entry) → AreNoted channel.now es found shares.old → AreNoted channel.now (entries_with es outcome) result shares.new }
@@ -50,7 +50,7 @@ fn note_outcome(
     }
 }
 
-/// The first breach in the run of these events, if there is one, on a machine of the channel's opening, whatever
+/// The first violation in the run of these events, if there is one, on a machine of the channel's opening, whatever
 /// it did before. Where there is none, `shares` has what is noted of each sender.
 #[tactic(auto, using(crate::proofs::JudgingLaws::judged_at))]
 pub fn judge<const B: usize, const M: usize>(
@@ -58,7 +58,7 @@ pub fn judge<const B: usize, const M: usize>(
     machine: &mut MachineState<B, M>,
     shares: &mut [Share],
     events: &[Event],
-) -> Result<Option<Breach>, AllocError>
+) -> Result<Option<Violation>, AllocError>
     requires stands { RepresentsRunFrom B M (start_of channel.now) machine.old }
     requires ends { base_of (layout_from channel.now) (length (lists_of channel.now)) < 2 ^ 32 }
     requires count { length shares.old ≡ length (lists_of channel.now) }

@@ -2,7 +2,7 @@
 //! ring's theorem has.
 //!
 //! The contract: [`run_trials`] states what it answers of the runs that the generator's words draw (`specs/Answers.antt`
-//! and `specs/Trials.antt`), each judged as `poll_close` defines a first breach. This crate reads no text and knows no
+//! and `specs/Trials.antt`), each judged as `poll_close` defines a first violation. This crate reads no text and knows no
 //! ring.
 //!
 //! Called by `channel_engines`.

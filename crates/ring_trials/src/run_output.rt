@@ -12,10 +12,10 @@ ghost use Rattle.ring_trials.specs.Answers.{IsTrialsOutput};
 use crate::answer_texts::{clean_text, unclean_text};
 use crate::runs::ChannelJudge;
 use crate::user_channel::{UserChannel, open_channel};
+use drawn_runs::parallel::in_rounds;
+use drawn_runs::progress::Progress;
+use drawn_runs::{Draw, Jump, Runs};
 use judged_runs::{JudgedRuns, Told, told_of_runs};
-use jumping::parallel::in_rounds;
-use jumping::progress::Progress;
-use jumping::{Draw, Jump, Runs};
 use poll_close::RefusedAt;
 use std::alloc::{AllocError, Global};
 use std::thread::Threads;
@@ -63,7 +63,7 @@ fn output_of<const B: usize, const M: usize, G: Jump + Sync + Drop, T: Threads +
 /// are passed over. Gives the text of what is found, and whether all runs are clean.
 ///
 /// If all are clean, that is their number and a line for each sender. Otherwise it is a schedule and the line of the
-/// first breach of its run: of the first run that isn't clean, from which events were left out until none could go.
+/// first violation of its run: of the first run that isn't clean, from which events were left out until none could go.
 /// The text depends neither on the jobs nor on the progress, which learns how far the runs are, and that they ended.
 ///
 /// The channel is refused as [`open_channel`] refuses it.

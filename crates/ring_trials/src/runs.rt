@@ -1,17 +1,17 @@
-//! The runs of a channel, each judged by its first breach, and their totals.
+//! The runs of a channel, each judged by its first violation, and their totals.
 
 ghost use Rattle.std.specs.Prelude.{◌≡◌, ◌≤◌, ◌<◌, ◌+◌, ◌++◌, ◌∷◌, ℕ, [], List, Some, None, IfOk, length};
 ghost use Rattle.std.specs.List.{slice_get};
 ghost use Rattle.step_machine.specs.History.{History};
 ghost use Rattle.step_machine.specs.Entries.{reported};
-ghost use Rattle.poll_close.specs.Breaches.{AreNotes};
+ghost use Rattle.poll_close.specs.Violations.{AreNotes};
 ghost use Rattle.ring_trials.specs.UserChannel.{OpensOver, start_of};
-ghost use Rattle.ring_trials.specs.Trials.{AreTotals, AreTotalsOf, IsBenchOf, IsChannelJudged, IsClean, HasBreach};
+ghost use Rattle.ring_trials.specs.Trials.{AreTotals, AreTotalsOf, IsBenchOf, IsChannelJudged, IsClean, HasViolation};
 
 use crate::judging::judge;
 use crate::user_channel::{UserChannel, senders};
 use judged_runs::Judge;
-use poll_close::{Breach, Share, no_shares};
+use poll_close::{Share, Violation, no_shares};
 use std::alloc::{AllocError, Global};
 use step_machine::{Event, MachineState, Opening};
 
@@ -93,7 +93,7 @@ impl<'a, const B: usize, const M: usize> Judge for ChannelJudge<'a, B, M> {
 
     type Bench = Bench<B, M>;
 
-    type Flaw = Breach;
+    type Flaw = Violation;
 
     type Tally = Vec<Total>;
 
@@ -105,9 +105,9 @@ impl<'a, const B: usize, const M: usize> Judge for ChannelJudge<'a, B, M> {
 
     ghost is_good = { λ it events. IsClean B M it.channel.now events };
 
-    ghost has = { λ it events breach. HasBreach B M it.channel.now events breach };
+    ghost has = { λ it events violation. HasViolation B M it.channel.now events violation };
 
-    ghost alike = { λ it breach other. Unit {0} };
+    ghost alike = { λ it violation other. Unit {0} };
 
     ghost counts = { λ it all totals. AreTotalsOf B M it.channel.now all totals.items };
 
@@ -125,12 +125,12 @@ impl<'a, const B: usize, const M: usize> Judge for ChannelJudge<'a, B, M> {
         &self,
         bench: &mut Bench<B, M>,
         events: &[Event],
-    ) -> Result<Option<Breach>, AllocError> {
+    ) -> Result<Option<Violation>, AllocError> {
         judge(self.channel, &mut bench.machine, &mut bench.shares, events)
     }
 
     /// A part of an unclean run's events is wanted if it is unclean, whatever it breaks.
-    fn is_alike(&self, _breach: Breach, _other: Breach) -> bool {
+    fn is_alike(&self, _violation: Violation, _other: Violation) -> bool {
         true
     }
 
@@ -146,5 +146,5 @@ impl<'a, const B: usize, const M: usize> Judge for ChannelJudge<'a, B, M> {
         join(totals, &later);
     }
 
-    ghost same = { λ it breach. tt };
+    ghost same = { λ it violation. tt };
 }

@@ -14,7 +14,7 @@ pub data IsPartOf : List Event → List Event → Type 0 where
   with_first : (ev : Event) (part whole : List Event) → IsPartOf part whole → IsPartOf (ev ∷ part) (ev ∷ whole)
   without_first : (ev : Event) (part whole : List Event) → IsPartOf part whole → IsPartOf part (ev ∷ whole)
 
--- the run of the events from the test's opening is finished, and leaves the left sides with these values
+-- the run of the events from the test's opening is finished, and leaves the observed locations with these values
 pub record EndsWith (B M : ℕ) (q : LitmusTest) (events : List Event) (last : List ℕ) : Type 0 where
   pub history : History
   pub run : Run B M q.opening events history

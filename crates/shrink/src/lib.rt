@@ -1,7 +1,7 @@
 //! Schedules made short: of a run that is finished, the events that its outcome needs.
 //!
 //! The contract: [`shrink`] answers a part of the given events whose run is finished too, with the same
-//! last values of the test's left sides, and from which no single event can be left out
+//! last values of the test's observed locations, and from which no single event can be left out
 //! (`IsShrunk` of `specs/Shrinking.antt`); a run that isn't finished is refused. [`shrink_run`] does so
 //! for a machine at the end of its run. [`leave_out`] makes lists short by any [`Question`] about them.
 //! This crate reads and writes no text, and promises no shortest list: only that each event is needed.

@@ -38,7 +38,7 @@ fn shrink_from_end<const B: usize, const M: usize>(
 }
 
 /// Leaves events out of a test's run, until each one that is left is needed for the outcome: for a run
-/// that is finished, with the same last values of the left sides. The machine stands at the end of the
+/// that is finished, with the same last values of the observed locations. The machine stands at the end of the
 /// run; it has store buffers of `B` stores and `M` words of memory.
 ///
 /// Events without an entry go first, then pieces of half the length, of half that and so on, then single

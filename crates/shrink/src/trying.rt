@@ -48,7 +48,7 @@ fn are_same(values: &[u32], last: &[u32]) -> bool
     values == last
 }
 
-/// The question whether the run of a list of events is finished and leaves the test's left sides with these values.
+/// The question whether the run of a list of events is finished and leaves the test's observed locations with these values.
 #[derive(Drop)]
 pub(crate) struct SameEnd<'a, const B: usize, const M: usize> {
     pub(crate) test: &'a Test,

@@ -7,7 +7,7 @@
 //! [`Keys`] numbers states that are known by the numbers of their parts, each in the bits of a key that a [`Layout`] gives it.
 //! This crate knows no schedule and no way from one state to the next.
 //!
-//! Called by `finding` and `tries`.
+//! Called by `finding` and `sampling`.
 
 #![tactic(auto)]
 

@@ -1,7 +1,7 @@
 //! Openings, events and entries, and what compares.
 
+use drawn_runs::progress::Progress;
 use hart::Stop;
-use jumping::progress::Progress;
 use std::alloc::{AllocError, Global};
 use step_machine::{Entry, Event, HartOpening, Opening};
 

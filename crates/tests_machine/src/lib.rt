@@ -18,7 +18,7 @@ mod given;
 #[cfg(test)]
 mod of_callers;
 #[cfg(test)]
-mod of_jumping;
+mod of_drawn_runs;
 #[cfg(test)]
 mod of_litmus;
 #[cfg(test)]

@@ -2,7 +2,7 @@
 
 use crate::given::NoProgress;
 use callers::{Queue, QueueKind, check_callers};
-use jumping::{Draw, Runs};
+use drawn_runs::{Draw, Runs};
 use litmus::Test;
 use rand_core::SeedableRng;
 use rand_pcg::Pcg32;

@@ -1,10 +1,10 @@
 //! The crate `ownership_runs`.
 
 use crate::given::{NoProgress, amo, load, store};
+use drawn_runs::{Draw, Runs};
 use judged_runs::Told;
-use jumping::{Draw, Runs};
 use litmus::Test;
-use ownership_runs::{Breach, Counts, Moved, Owned, check_runs, first_breach};
+use ownership_runs::{Counts, Moved, Owned, Violation, check_runs, first_violation};
 use queue_layouts::Queue;
 use rand_core::SeedableRng;
 use rand_pcg::Pcg32;
@@ -47,8 +47,14 @@ fn stored(hart: u32, addr: u32, width: u32, value: u32) -> Entry {
     }
 }
 
-fn breach(place: usize, hart: u32, addr: u32, value: u32, owned: Option<(u128, u128)>) -> Breach {
-    Breach {
+fn violation(
+    place: usize,
+    hart: u32,
+    addr: u32,
+    value: u32,
+    owned: Option<(u128, u128)>,
+) -> Violation {
+    Violation {
         place,
         hart,
         addr,
@@ -59,7 +65,7 @@ fn breach(place: usize, hart: u32, addr: u32, value: u32, owned: Option<(u128, u
 }
 
 #[test]
-fn runs_that_keep_ownership_have_no_breach(rt: HostRuntime) {
+fn runs_that_keep_ownership_have_no_violation(rt: HostRuntime) {
     let sent_and_taken = [
         store(0, 128, 7),
         stored(0, 132, 2, 8),
@@ -78,36 +84,36 @@ fn runs_that_keep_ownership_have_no_breach(rt: HostRuntime) {
         (counts(1, 1), &round as &[Entry]),
         (counts(0, 0), &same_word as &[Entry]),
     ] {
-        assert_same!(rt; first_breach(&RECORDS, start, entries) == None, true);
+        assert_same!(rt; first_violation(&RECORDS, start, entries) == None, true);
     }
 }
 
 #[test]
-fn the_first_breach_says_what_was_owned(rt: HostRuntime) {
+fn the_first_violation_says_what_was_owned(rt: HostRuntime) {
     let rows = [
         (
             [store(0, 128, 7), store(1, 64, 1)],
-            breach(1, 1, 64, 1, Some((0, 0))),
+            violation(1, 1, 64, 1, Some((0, 0))),
         ),
         (
             [store(0, 152, 7), store(0, 152, 8)],
-            breach(0, 0, 152, 7, Some((0, 3))),
+            violation(0, 0, 152, 7, Some((0, 3))),
         ),
         (
             [store(0, 0, 1), store(0, 128, 7)],
-            breach(1, 0, 128, 7, Some((1, 3))),
+            violation(1, 0, 128, 7, Some((1, 3))),
         ),
         (
             [amo(1, 0, 2, 1), store(1, 64, 2)],
-            breach(0, 1, 0, 1, Some((0, 2))),
+            violation(0, 1, 0, 1, Some((0, 2))),
         ),
         (
             [store(2, 200, 1), store(2, 156, 1)],
-            breach(1, 2, 156, 1, None),
+            violation(1, 2, 156, 1, None),
         ),
     ];
     for (entries, wanted) in rows {
-        assert_same!(rt; first_breach(&RECORDS, counts(0, 0), &entries) == Some(wanted), true);
+        assert_same!(rt; first_violation(&RECORDS, counts(0, 0), &entries) == Some(wanted), true);
     }
 }
 
@@ -150,7 +156,7 @@ fn told<T: Threads + Sync>(
     alloc: Global,
     test: &Test,
     draw: Draw,
-) -> Result<Told<Moved, Breach>, AllocError> {
+) -> Result<Told<Moved, Violation>, AllocError> {
     let runs = Runs {
         skip: 3,
         number: 20,
@@ -188,14 +194,14 @@ fn drawn_runs_that_keep_ownership_are_counted(rt: HostRuntime) {
 }
 
 #[test]
-fn a_breach_is_shown_by_the_events_that_it_needs(rt: HostRuntime) {
+fn a_violation_is_shown_by_the_events_that_it_needs(rt: HostRuntime) {
     let test = litmus_reader::read(rt.alloc(), PUBLISHED_FIRST).expect(&rt, "a test");
     for draw in [Draw::Uniform, Draw::Bursts] {
         match told(&rt, rt.alloc(), &test, draw).expect(&rt, "an answer") {
             Told::Good(_) => assert_same!(rt; true, false),
             Told::Flawed { part, flaw } => {
                 assert_same!(rt; part.len(), 3);
-                assert_same!(rt; flaw == breach(2, 0, 12, 1, Some((1, 1))), true);
+                assert_same!(rt; flaw == violation(2, 0, 12, 1, Some((1, 1))), true);
             }
         }
     }

@@ -1,10 +1,12 @@
-use litmus_tokens::{Front, Setting, Spot, Worth, cleaned, first_token, item_in, setting_in};
+use litmus_tokens::{
+    Assignment, Front, Location, Value, assignment_in, cleaned, first_token, item_in,
+};
 
-/// The setting of a number at a location.
-fn at<'a>(name: &'a [u8], number: u32) -> Setting<'a> {
-    Setting {
-        spot: Spot::Location(name),
-        worth: Worth::Number(number),
+/// The assignment of a number at a location.
+fn at<'a>(name: &'a [u8], number: u32) -> Assignment<'a> {
+    Assignment {
+        location: Location::Memory(name),
+        value: Value::Number(number),
     }
 }
 
@@ -17,10 +19,10 @@ fn comments_are_blanks(rt: HostRuntime) {
 }
 
 #[test]
-fn an_item_may_declare_where_a_setting_may_not(rt: HostRuntime) {
+fn an_item_may_declare_where_a_assignment_may_not(rt: HostRuntime) {
     assert_same!(rt; item_in(b" int\tx "), Some(at(b"x", 0)));
-    assert_same!(rt; setting_in(b" int\tx "), None);
-    assert_same!(rt; setting_in(b"\n[ x\t] = -1"), Some(at(b"x", 4294967295)));
+    assert_same!(rt; assignment_in(b" int\tx "), None);
+    assert_same!(rt; assignment_in(b"\n[ x\t] = -1"), Some(at(b"x", 4294967295)));
 }
 
 #[test]

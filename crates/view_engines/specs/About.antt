@@ -62,7 +62,7 @@ row_instructions M t = map (instruction_of_row M t) (range_with_len 0 (length t.
 
 -- ---- what the condition asks for
 
--- a left side with its value after a history
+-- an observed location with its value after a history
 abbrev pub last_value : (M : ℕ) → (names : List (List ℕ)) → History → Place → LastValueOf
 last_value M names t p = record { left = place_text names p; value = final_value M t p }
 

@@ -131,7 +131,7 @@ fn widths_of<const B: usize, const M: usize>(
     least_widths(alloc, names, &machine.opening().harts)
 }
 
-/// A left side of the condition.
+/// An observed location of the condition.
 fn left_of(alloc: Global, test: &Test, place: Place) -> Result<String, AllocError>
     requires { IsThere (length test.now.opening.harts) (length test.now.names) place }
     ensures { IfOk result (λ text. string_bytes text ≡ place_text test.now.names place) }
@@ -152,7 +152,7 @@ fn value_of<const B: usize, const M: usize>(machine: &Machine<B, M>, place: Plac
     }
 }
 
-/// A left side with its last value.
+/// An observed location with its last value.
 fn last_value<const B: usize, const M: usize>(
     alloc: Global,
     test: &Test,
@@ -169,7 +169,7 @@ fn last_value<const B: usize, const M: usize>(
     Ok(LastValue { left, value })
 }
 
-/// The left sides of the condition with their last values.
+/// The observed locations of the condition with their last values.
 fn last_values<const B: usize, const M: usize>(
     alloc: Global,
     test: &Test,

@@ -50,7 +50,7 @@ impl<const B: usize, const M: usize> ScheduleCommand<B, M> for Shrink {
 /// test's opening with store buffers of `B` pairs and `M` words of memory, leaves events out until each
 /// one that is left is needed for the run's outcome, and writes the canonical schedule of these.
 ///
-/// The outcome is that the run is finished and leaves the condition's left sides with their values. Which
+/// The outcome is that the run is finished and leaves the condition's observed locations with their values. Which
 /// events are left depends on the order in which they are tried ([`shrink::shrink_run`]).
 ///
 /// Inputs are refused as too large ([`engine_support::fault::TOO_LARGE`]), else as no text

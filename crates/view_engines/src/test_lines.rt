@@ -196,7 +196,7 @@ fn push_left(out: &mut String, test: &Test, place: Place) -> Result<(), AllocErr
     writeln!(out, "")
 }
 
-/// The lines of the condition's left sides.
+/// The lines of the condition's observed locations.
 fn push_lefts(out: &mut String, test: &Test) -> Result<(), AllocError>
     ensures { OnOk result (string_bytes out.new ≡ string_bytes out.old ++ flat_map (left_line test.now.names) (left_sides test.now.condition)) }
 {

@@ -22,13 +22,13 @@ use Rattle.finding.specs.Find.{IsFindAnswer}
 use Rattle.view_engines.specs.Chart.{IsChartAnswer, drawing}
 use Rattle.view_engines.specs.Show.{IsShowAnswer}
 use Rattle.view_engines.specs.Shrink.{IsShrinkAnswer}
-use Rattle.tries.specs.declared.trials.outcomes.Unfinished.{Unfinished}
-use Rattle.tries.specs.declared.trials.outcomes.Unfinished.TheVariants as left
+use Rattle.sampling.specs.declared.trials.outcomes.Unfinished.{Unfinished}
+use Rattle.sampling.specs.declared.trials.outcomes.Unfinished.TheVariants as left
 use Rattle.view_engines.specs.declared.showing.Form.{Form}
 use Rattle.view_engines.specs.declared.showing.Form.TheVariants as form
 use Rattle.run_engines.specs.Replay.{IsReplayAnswer}
 use Rattle.debugger.specs.Transcripts.{EndsInteractive, IsDebugAnswer, IsDebugFront, IsDebugSome, OnStopped, OnUnwritten}
-use Rattle.tries.specs.Outcomes.{IsTryAnswer}
+use Rattle.sampling.specs.Outcomes.{IsTryAnswer}
 use Rattle.certifying.specs.Answers.{IsQueueAnswer}
 use Rattle.certifying.specs.Trials.{runs_by}
 use Rattle.callers.specs.Answers.{IsCallersAnswer}
@@ -38,8 +38,8 @@ use Rattle.callers.specs.declared.queue.QueueKind.TheVariants as kind
 use Rattle.engine_support.specs.Schedules.{schedules}
 use Rattle.poll_close.specs.Places.{layout_of}
 use Rattle.poll_close.specs.declared.place.BlockPlace.{BlockPlace}
-use Rattle.jumping.specs.declared.Runs.{Runs}
-use Rattle.jumping.specs.declared.draws.Draw.{Draw}
+use Rattle.drawn_runs.specs.declared.Runs.{Runs}
+use Rattle.drawn_runs.specs.declared.draws.Draw.{Draw}
 use Rattle.channel_engines.specs.Channels.{IsChannelAnswer}
 use Rattle.threading.specs.Threads.{IsThreadsAnswer}
 use Rattle.channel_engines.specs.UserChannels.{IsUserAnswer}
@@ -78,8 +78,8 @@ abbrev pub drawn_from : (seed : ℕ) → Stream
 drawn_from seed = stream_of (steps_u32 pcg32) (pcg32_of_seed (pcg32_seed 16 seed))
 
 -- the runs of a channel at this place that the generator of this seed draws, with buffers of B stores
-abbrev pub drawn_runs : (B seed : ℕ) → Draw → Runs → BlockPlace → Draws
-drawn_runs B seed draw runs place = draws B WORDS place draw (drawn_from seed) runs
+abbrev pub ring_draws : (B seed : ℕ) → Draw → Runs → BlockPlace → Draws
+ring_draws B seed draw runs place = draws B WORDS place draw (drawn_from seed) runs
 
 -- the tables and the least size of the rings of a kind
 abbrev pub tables_of : RingKind → RingTables
@@ -166,7 +166,7 @@ Does B (Threads turns) result given = Done verdict_exit (IsThreadsAnswer B WORDS
 Does B (UserChannel place) result given =
     Done done_exit (IsUserAnswer B WORDS (layout_of place []) given.first given.second given.third given.fourth) result
 Does B (Ring seed draw runs place) result given =
-    Done good_exit (IsRingAnswer (drawn_runs B seed draw runs place) given.first given.second given.third) result
+    Done good_exit (IsRingAnswer (ring_draws B seed draw runs place) given.first given.second given.third) result
 Does B (OfQueues seed draw runs) result given = Done judgement_exit (IsQueueAnswer
     (runs_by B WORDS draw (left_after (runs.skip * runs.length) (drawn_from seed)) runs.number runs.length) given.first given.second) result
 

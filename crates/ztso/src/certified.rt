@@ -12,9 +12,9 @@ ghost use Rattle.ztso.specs.declared.work.TheConstants.{WORDS};
 
 use crate::work::WORDS;
 use certifying::{Judgement, queue_engine};
+use drawn_runs::progress::Progress;
+use drawn_runs::{Draw, Runs};
 use engine_support::fault::Fault;
-use jumping::progress::Progress;
-use jumping::{Draw, Runs};
 use rand_core::SeedableRng;
 use rand_pcg::Lcg64Xsh32;
 use std::alloc::Global;

@@ -25,9 +25,9 @@ mod work;
 
 use command_line::job::{Command, Job, MachineCommand};
 use command_line::{CommandLineError, job_of};
+use drawn_runs::progress::Progress;
 use failure::Failure;
 use finding::SearchProgress;
-use jumping::progress::Progress;
 use lazy_input::LazyInput;
 use line_output::LineOutput;
 use prompt_reader::PromptReader;

@@ -1,15 +1,15 @@
 //! A line of a terminal that tells how far `try`, `callers`, `ring` or `find` is, and which harts stopped.
 
 ghost use Rattle.std.specs.Prelude.{◌≡◌, ◌≤◌, ◌*◌, ◌/◌, max, min, None, replicate, true};
-ghost use Rattle.tries.specs.declared.stops.TheConstants.{PLACES};
+ghost use Rattle.sampling.specs.declared.stops.TheConstants.{PLACES};
 ghost use Rattle.ztso.specs.declared.terminal_line.TheConstants.{FIRST_ROUND, MOST_GROWTH};
 
 use crate::clock_line::{ClockLine, WIPE};
+use drawn_runs::progress::Progress;
 use finding::SearchProgress;
 use hart::Stop;
-use jumping::progress::Progress;
+use sampling::stops::{PLACES, Stopped, Stops};
 use std::rt::Clock;
-use tries::stops::{PLACES, Stopped, Stops};
 
 /// How many runs the first round has. How long one takes isn't known before it.
 const FIRST_ROUND: u32 = 1;

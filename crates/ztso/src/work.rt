@@ -4,7 +4,7 @@ ghost use Rattle.std.specs.Prelude.{◌≡◌, ◌⊎◌, ℕ, ◌≤◌, ◌*�
 ghost use Rattle.std.specs.Io.KnownBytes.{Appends};
 ghost use Rattle.ztso.specs.declared.work.TheConstants.{WORDS};
 ghost use Rattle.command_line.specs.declared.job.Command.TheVariants.{Code, Machine};
-ghost use Rattle.ztso.specs.Work.{Does, LeavesCommands, LeavesUnread, drawn_from, drawn_runs, form_of, greatest_status, left_of};
+ghost use Rattle.ztso.specs.Work.{Does, LeavesCommands, LeavesUnread, drawn_from, ring_draws, form_of, greatest_status, left_of};
 ghost use Rattle.ztso.specs.Work.{refusals, stores_of, tables_of};
 ghost use Rattle.recorder.specs.Drawing.{left_after};
 ghost use Rattle.poll_close.specs.Places.{layout_of};
@@ -16,7 +16,7 @@ ghost use Rattle.engine_support.specs.Tests.{tests};
 ghost use Rattle.checking.specs.Checking.{IsCheckAnswer, IsCheckFront};
 ghost use Rattle.finding.specs.Find.{IsFindAnswer};
 ghost use Rattle.debugger.specs.Transcripts.{EndsInteractive, IsDebugAnswer, IsDebugFront, IsDebugSome, OnRefused, OnStopped, OnUnwritten};
-ghost use Rattle.tries.specs.Outcomes.{IsTryAnswer};
+ghost use Rattle.sampling.specs.Outcomes.{IsTryAnswer};
 ghost use Rattle.engine_support.specs.declared.fault.Role.TheVariants.{Sender, Receiver};
 ghost use Rattle.channel_engines.specs.Programs.{programs};
 ghost use Rattle.channel_engines.specs.Rings.{IsRingAnswer};
@@ -33,11 +33,11 @@ use code_engines::dis::dis_engine;
 use code_engines::steps::steps_engine;
 use command_line::job::{Capacity, CodeCommand, Command, MachineCommand, Ring};
 use debugger::debug::debug_engine;
+use drawn_runs::progress::Progress;
+use drawn_runs::{Draw, Runs};
 use engine_support::fault::Fault;
 use fastforward::FastForward;
 use finding::{Found, SearchProgress, find_engine};
-use jumping::progress::Progress;
-use jumping::{Draw, Runs};
 use lamport_cached::LamportCached;
 use lamport_ring::Lamport;
 use poll_close::BlockPlace;
@@ -46,12 +46,12 @@ use rand_pcg::Lcg64Xsh32;
 use run_engines::moving::move_engine;
 use run_engines::replay::replay_engine;
 use run_engines::run::run_engine;
+use sampling::trials::{Unfinished, try_engine};
 use std::alloc::Global;
 use std::io::{BufReader, Read, Write};
 use std::sync::Wait;
 use std::thread::Threads;
 use threading::threads::threads_engine;
-use tries::trials::{Unfinished, try_engine};
 use view_engines::charting::chart_engine;
 use view_engines::showing::{Form, show_engine};
 use view_engines::shrinking::shrink_engine;
@@ -235,7 +235,7 @@ fn run_user_ring<
 ) -> Result<bool, Fault>
     requires some_capacity { 1 ≤ B }
     requires capacity { B ≤ 64 }
-    ensures ends { Ends (IsRingAnswer (drawn_runs B seed draw runs place) (S.remaining sender.old) (R.remaining receiver.old) (L.remaining lists.old))
+    ensures ends { Ends (IsRingAnswer (ring_draws B seed draw runs place) (S.remaining sender.old) (R.remaining receiver.old) (L.remaining lists.old))
         result W.contents writer.old writer.new }
     ensures unread { IsRefused (programs Sender) (S.remaining sender.old) → receiver.new ≡ receiver.old }
     ensures unread_lists { IsRefused (programs Sender) (S.remaining sender.old) ⊎ IsRefused (programs Receiver) (R.remaining receiver.old)

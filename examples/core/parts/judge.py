@@ -43,7 +43,7 @@ def last_state(program, path, record, buffer=4):
 
 
 def outcome(program, entry, record, buffer=4):
-    """The values of the condition's left sides at the end of an accepted record."""
+    """The values of the condition's observed locations at the end of an accepted record."""
     return shown(entry, ask(program, "run", entry.path, record, buffer)[0])
 
 

@@ -23,7 +23,7 @@ export function showShelf() {
   showExcluded(found?.excluded ?? "");
 }
 
-// the outcomes that the shelf has a schedule of, each by the values of the condition's left sides
+// the outcomes that the shelf has a schedule of, each by the values of the condition's observed locations
 export function showWitnesses() {
   const witnesses = onShelf(state.text)?.witnesses ?? [], names = known.test.lefts.map(left => left.name);
   if (!witnesses.length) return;

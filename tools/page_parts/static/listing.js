@@ -74,7 +74,7 @@ function rowOf(pc, line, word, text) {
   return { pc: Number(pc), line: Number(line), word, text, ...jump ? { target: Number(pc) + Number(jump[1]) } : {} };
 }
 
-// what a left side of the condition stands for: a hart's register, or the word at an address
+// what an observed location of the condition stands for: a hart's register, or the word at an address
 function placeOf(left, locations) {
   const register = /^([0-9]+):x([0-9]+)$/.exec(left);
   return register ? ["register", Number(register[1]), Number(register[2])] : ["word", locations.get(left)];

@@ -10,10 +10,10 @@ use Rattle.step_machine.specs.Entries.{hart_of}
 use Rattle.step_machine.specs.Runs.{Happens}
 use Rattle.spsc_queue.specs.Calls.{SpscQueue, is_in_call_after, is_sender_in_call, is_receiver_in_call}
 use Rattle.callers.specs.Queues.{spsc_of}
-use Rattle.callers.specs.Debts.{first_debt, idle_debt}
+use Rattle.callers.specs.Violations.{first_caller_violation, idle_violation}
 use Rattle.callers.specs.Counts.{MOST, AreCalls, returns_now}
 use Rattle.callers.specs.declared.queue.Located.{Located}
-use Rattle.callers.specs.declared.debts.Debt.{Debt}
+use Rattle.callers.specs.declared.violations.CallerViolation.{CallerViolation}
 use Rattle.callers.specs.declared.judging.Calls.{Calls}
 use Rattle.callers.specs.declared.judging.CallState.{CallState}
 use Rattle.callers.specs.declared.judging.Notes.{Notes}
@@ -28,9 +28,9 @@ pub record IsCallState (s : HartState) (c : CallState) : Type 0 where
   pub back_is_word : slice_index s.registers 1 < 2 ^ 32
   pub word_is_word : slice_index s.registers 11 < 2 ^ 32
 
--- what is noted after these entries: the first debt, if there is one, whether each party is in a call, and how many calls returned
+-- what is noted after these entries: the first violation, if there is one, whether each party is in a call, and how many calls returned
 pub record AreCallNotes (M : ℕ) (o : OpeningValue) (q : SpscQueue) (es : List Entry) (notes : Notes) : Type 0 where
-  pub found : notes.found ≡ first_debt M o q es
+  pub found : notes.found ≡ first_caller_violation M o q es
   pub sending : notes.sending ≡ is_sender_in_call M o q [] es
   pub receiving : notes.receiving ≡ is_receiver_in_call M o q [] es
   pub calls : AreCalls M o q es notes.calls
@@ -40,8 +40,8 @@ abbrev pub noted_call : SpscQueue → Notes → (h : ℕ) → Bool
 noted_call q notes h = if h == q.sender then notes.sending else (if h == q.receiver then notes.receiving else false)
 
 -- what is owed first with an entry more, by which its hart goes from state s to state z
-abbrev pub found_by : SpscQueue → Notes → Entry → (s z : HartState) → Option Debt
-found_by q notes e s z = option_or notes.found (if noted_call q notes (hart_of e) then None else idle_debt q e (Some s) (Some z))
+abbrev pub found_by : SpscQueue → Notes → Entry → (s z : HartState) → Option CallerViolation
+found_by q notes e s z = option_or notes.found (if noted_call q notes (hart_of e) then None else idle_violation q e (Some s) (Some z))
 
 -- one more call, if the hart of this party in state s returns from one with this number in a0
 abbrev pub counted_by : (is_party : Bool) → (n number : ℕ) → Bool → HartState → (count : ℕ) → ℕ

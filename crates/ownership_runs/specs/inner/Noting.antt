@@ -8,13 +8,13 @@ use Rattle.step_machine.specs.Runs.{Happens}
 use Rattle.queue_parties.specs.Parties.{QueueCounts}
 use Rattle.slot_queue.specs.Queues.{Queue}
 use Rattle.slot_queue.specs.Ownership.{counts_after}
-use Rattle.ownership_runs.specs.Breaches.{first_ownership_breach}
+use Rattle.ownership_runs.specs.Violations.{first_ownership_violation}
 use Rattle.ownership_runs.specs.inner.Bounds.{STEP, AreCountsWithin}
 use Rattle.ownership_runs.specs.declared.judging.RunNotes.{RunNotes}
 
--- what is noted after these entries: the first breach, if there is one; while there is none, the counts, and how many entries there were
+-- what is noted after these entries: the first violation, if there is one; while there is none, the counts, and how many entries there were
 pub record AreRunNotes (q : Queue) (start : QueueCounts) (es : List Entry) (notes : RunNotes) : Type 0 where
-  pub found : notes.found ≡ first_ownership_breach q start es
+  pub found : notes.found ≡ first_ownership_violation q start es
   pub counts : notes.found ≡ None → notes.counts ≡ counts_after q start es
   pub place : notes.found ≡ None → notes.place ≡ length es
 

@@ -1,6 +1,6 @@
 use Rattle.std.proofs.Common.{ℕ, ◌≡◌, ◌<◌, ◌+◌, ◌*◌, ◌==◌, not, []}
 use Rattle.step_machine.specs.Entries.{memory_word}
-use Rattle.callers.specs.Debts.{waits_in}
+use Rattle.callers.specs.Violations.{waits_in}
 use Rattle.callers.proofs.locating.are_as_owed.Given as goal
 
 abbrev pub invariant-loop-slot : goal.invariant-loop-slot

@@ -5,8 +5,8 @@ use Rattle.callers.specs.Queues.{block_at, sends_by, receives_by, HasNoCopy, Has
 use Rattle.callers.proofs.Rest.{at_any, at_rest}
 use Rattle.callers.proofs.locating.locate.Goals as goal
 
-pub returns-in_default-clause-has_debt : goal.returns-in_default-clause-has_debt
-returns-in_default-clause-has_debt g c = (
+pub returns-in_default-clause-has_violation : goal.returns-in_default-clause-has_violation
+returns-in_default-clause-has_violation g c = (
   (
     refl,
     refl,
@@ -16,8 +16,8 @@ returns-in_default-clause-has_debt g c = (
   (search rules, search rules),
 )
 
-pub returns-in_default-function_of-clause-has_debt : goal.returns-in_default-function_of-clause-has_debt
-returns-in_default-function_of-clause-has_debt g c = (
+pub returns-in_default-function_of-clause-has_violation : goal.returns-in_default-function_of-clause-has_violation
+returns-in_default-function_of-clause-has_violation g c = (
   (
     refl,
     refl,

@@ -7,9 +7,9 @@ returns-clause-promised c = answers.promised (record {
   all_owned = c.laws_of_flaws.ensures.loads;
   every_run = λ o listed accepted B M. c.laws_of_queue_certificates.ensures.every_run B M o listed accepted;
   reads_owned = c.laws_of_queue_certificates.ensures.reads_owned;
-  drawn = record { none = c.laws_of_breaches.ensures.none; apart = c.laws_of_judged_runs.ensures.apart };
+  drawn = record { none = c.laws_of_violations.ensures.none; apart = c.laws_of_judged_runs.ensures.apart };
 })
 
 pub returns-clause-one : goal.returns-clause-one
 returns-clause-one c =
-    answers.one_queue_answer (record { none = c.laws_of_breaches.ensures.none; apart = c.laws_of_judged_runs.ensures.apart })
+    answers.one_queue_answer (record { none = c.laws_of_violations.ensures.none; apart = c.laws_of_judged_runs.ensures.apart })

@@ -7,6 +7,6 @@ use Rattle.finding.proofs.back.event_to.Given as goal
 
 abbrev pub invariant-loop-hart : goal.invariant-loop-hart
 invariant-loop-hart g l = record {
-  right : IsRight g.row.B (tables_of g.row.B g.row.M l.tables) l.book.machine l.book.steps.items;
+  right : IsRight g.row.B (tables_of g.row.B g.row.M l.tables) l.cache.machine l.cache.steps.items;
   landing : IfSome l.landing (λ event. hart_of_event event < MAX_HARTS);
 }

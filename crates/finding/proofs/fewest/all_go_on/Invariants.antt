@@ -8,8 +8,8 @@ use Rattle.finding.proofs.fewest.all_go_on.Given as goal
 
 abbrev pub invariant-loop-number : goal.invariant-loop-number
 invariant-loop-number g l = record {
-  right : IsRight g.row.B (tables_of g.row.B g.row.M l.tables) l.book.machine l.book.steps.items;
+  right : IsRight g.row.B (tables_of g.row.B g.row.M l.tables) l.cache.machine l.cache.steps.items;
   go : (number : ℕ) (position : Position) → l.from ≤ number → number < l.number
-      → slice_get (positions_by (tables_of g.row.B g.row.M l.tables) l.met) number ≡ Some position
-      → IsExpanded (next_position g.row.B) (IsWantedAt l.test) l.count (positions_by (tables_of g.row.B g.row.M l.tables) l.met) position;
+      → slice_get (positions_by (tables_of g.row.B g.row.M l.tables) l.visited) number ≡ Some position
+      → IsExpanded (next_position g.row.B) (IsWantedAt l.test) l.count (positions_by (tables_of g.row.B g.row.M l.tables) l.visited) position;
 }

@@ -16,12 +16,12 @@ loop-hart-preserved g c =
     let landing_there : IsTrue c.in_ok-leads-2.field-0 = search rules in
     record {
       right = c.in_ok-steps.ensures.right;
-      known = each_event_more (IsKnownStep g.row.B tables c.args.count c.args.met.now row) c.loop-hart.hart c.loop-hart.invariant.known
+      known = each_event_more (IsKnownStep g.row.B tables c.args.count c.args.visited.now row) c.loop-hart.hart c.loop-hart.invariant.known
           (record { step = c.in-Some.steps.act; makes = made.acts; there = c.in_ok-leads.ensures act_there })
           (record { step = c.in-Some.steps.landing; makes = made.lands; there = c.in_ok-leads-2.ensures landing_there });
     }
 
 pub returns-clause-leads : goal.returns-clause-leads
 returns-clause-leads g c = λ yes.
-    rows_lead g.row.B (tables_of g.row.B g.row.M c.args.tables.now) c.args.count c.args.met.now c.args.row.now c.requires.here c.requires.row
+    rows_lead g.row.B (tables_of g.row.B g.row.M c.args.tables.now) c.args.count c.args.visited.now c.args.row.now c.requires.here c.requires.row
     (λ ev within. c.loop-hart.invariant.known ev (omega (arith, within, c.loop-hart-test.false, c.harts-hart-end.ensures)))

@@ -7,6 +7,6 @@ use Rattle.finding.proofs.fewest.all_lead.Given as goal
 
 abbrev pub invariant-loop-hart : goal.invariant-loop-hart
 invariant-loop-hart g l = record {
-  right : IsRight g.row.B (tables_of g.row.B g.row.M l.tables) l.book.machine l.book.steps.items;
-  known : (ev : Event) → hart_of_event ev < l.hart → IsKnownStep g.row.B (tables_of g.row.B g.row.M l.tables) l.count l.met l.row ev;
+  right : IsRight g.row.B (tables_of g.row.B g.row.M l.tables) l.cache.machine l.cache.steps.items;
+  known : (ev : Event) → hart_of_event ev < l.hart → IsKnownStep g.row.B (tables_of g.row.B g.row.M l.tables) l.count l.visited l.row ev;
 }

@@ -7,8 +7,8 @@ use Rattle.finding.proofs.fewest.are_fewest.Given as goal
 
 abbrev pub invariant-loop-end : goal.invariant-loop-end
 invariant-loop-end g l = record {
-  right : IsRight g.row.B (tables_of g.row.B g.row.M l.tables) l.book.machine l.book.steps.items;
-  within : l.level ≤ length l.met;
+  right : IsRight g.row.B (tables_of g.row.B g.row.M l.tables) l.cache.machine l.cache.steps.items;
+  within : l.level ≤ length l.visited;
   searched : IsSearched (next_position g.row.B) (IsWantedAt l.test) (position_of l.tables.opening)
-      (positions_by (tables_of g.row.B g.row.M l.tables) l.met) l.from l.level l.end-index;
+      (positions_by (tables_of g.row.B g.row.M l.tables) l.visited) l.from l.level l.end-index;
 }

@@ -19,6 +19,6 @@ returns-clause-goes g c =
     let unwanted = subst (λ (r : List ℕ). IsWantedAt c.args.test.now (position_by_row tables r) → ⊥) (c.deref.ensures.value ∙ sym c.deref-2.ensures.value)
     (c.in_ok-is_unwanted.ensures.unwanted yes) in
     ok_more _ _ c.all_lead.result (λ led leads is.
-    of_number (IsExpanded (next_position g.row.B) (IsWantedAt c.args.test.now) c.args.count (positions_by tables c.args.met.now)) tables c.args.met.now
+    of_number (IsExpanded (next_position g.row.B) (IsWantedAt c.args.test.now) c.args.count (positions_by tables c.args.visited.now)) tables c.args.visited.now
     c.args.number row (c.in_ok-row_into.ensures ∙ ap (λ (r : List ℕ). Some r) (sym c.deref-2.ensures.value))
     (record { leads = leads is; unwanted = unwanted })) c.all_lead.ensures.leads

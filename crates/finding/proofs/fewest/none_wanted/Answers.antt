@@ -13,7 +13,7 @@ loop-number-preserved g c =
     let yes : IsTrue c.in_ok-is_unwanted.field-0 = search rules in
     record {
       right = c.in_ok-is_unwanted.ensures.right;
-      none = each_number_more Unwanted (positions_by tables c.args.met.now) c.args.from c.loop-number.number c.loop-number.invariant.none
-          (of_number Unwanted tables c.args.met.now c.loop-number.number c.deref.result.now
+      none = each_number_more Unwanted (positions_by tables c.args.visited.now) c.args.from c.loop-number.number c.loop-number.invariant.none
+          (of_number Unwanted tables c.args.visited.now c.loop-number.number c.deref.result.now
           (c.in_ok-row_into.ensures ∙ ap (λ (r : List ℕ). Some r) (sym c.deref.ensures.value)) (c.in_ok-is_unwanted.ensures.unwanted yes));
     }

@@ -7,8 +7,8 @@ use Rattle.finding.proofs.fewest.none_wanted.Given as goal
 
 abbrev pub invariant-loop-number : goal.invariant-loop-number
 invariant-loop-number g l = record {
-  right : IsRight g.row.B (tables_of g.row.B g.row.M l.tables) l.book.machine l.book.steps.items;
+  right : IsRight g.row.B (tables_of g.row.B g.row.M l.tables) l.cache.machine l.cache.steps.items;
   none : (number : ℕ) (position : Position) → l.from ≤ number → number < l.number
-      → slice_get (positions_by (tables_of g.row.B g.row.M l.tables) l.met) number ≡ Some position
+      → slice_get (positions_by (tables_of g.row.B g.row.M l.tables) l.visited) number ≡ Some position
       → IsWantedAt l.test position → ⊥;
 }

@@ -8,8 +8,8 @@ use Rattle.finding.proofs.finds.answer.Goals as goal
 
 pub returns-then-len-gt-INPUT_BYTES : goal.returns-then-len-gt-INPUT_BYTES
 returns-then-len-gt-INPUT_BYTES g c =
-    let events = c.in-Some.way.items in
-    let handed : c.in_ok-states.field-0.way ≡ Some c.in-Some.way = cc in
+    let events = c.in-Some.path.items in
+    let handed : c.in_ok-states.field-0.path ≡ Some c.in-Some.path = cc in
     let shown : IsTrue c.in_ok-is_shown_by.field-0 = search rules in
     let shows = subst (λ (es : List Event). Shows g.row.B g.row.M c.args.test.now es) c.deref.ensures.value (c.in_ok-is_shown_by.ensures.0 shown) in
     rw c.refused.ensures (
@@ -23,8 +23,8 @@ returns-then-len-gt-INPUT_BYTES g c =
 
 pub returns-then-branch : goal.returns-then-branch
 returns-then-branch g c =
-    let events = c.in-Some.way.items in
-    let handed : c.in_ok-states.field-0.way ≡ Some c.in-Some.way = cc in
+    let events = c.in-Some.path.items in
+    let handed : c.in_ok-states.field-0.path ≡ Some c.in-Some.path = cc in
     let shown : IsTrue c.in_ok-is_shown_by.field-0 = search rules in
     let shows = subst (λ (es : List Event). Shows g.row.B g.row.M c.args.test.now es) c.deref.ensures.value (c.in_ok-is_shown_by.ensures.0 shown) in (
       events,

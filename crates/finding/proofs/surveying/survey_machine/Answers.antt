@@ -5,8 +5,8 @@ use Rattle.step_machine.specs.declared.events.Event.{Event}
 use Rattle.finding.specs.inner.Surveys.{IsAnswer}
 use Rattle.finding.proofs.surveying.survey_machine.Goals as goal
 
-never_empty : (P : Type 0) (way : Option (Vec Event)) → IfSome way (λ events. 1 ≤ length events.items)
-    → IfSome way (λ events. events.items ≡ [] → P)
+never_empty : (P : Type 0) (path : Option (Vec Event)) → IfSome path (λ events. 1 ≤ length events.items)
+    → IfSome path (λ events. events.items ≡ [] → P)
 never_empty P None some = some
 never_empty P (Some events) some = λ none. absurd (omega (arith, some, ap (λ (es : List Event). length es) none))
 
@@ -15,5 +15,5 @@ returns-in-Some-clause-opening g c = λ t stands.
     let answer : IsAnswer g.row.B g.row.M c.args.limit c.args.test.now c.in-Some.searched = rw c.in-Some.is at c.in_ok-searched.ensures in
     record {
       at_once = λ ends. absurd (let yes = (c.ends_as_wanted.ensures.history t stands).1 ends in let no = c.if-ends_as_wanted.false in cc);
-      only = never_empty _ c.in-Some.searched.way answer.some;
+      only = never_empty _ c.in-Some.searched.path answer.some;
     }

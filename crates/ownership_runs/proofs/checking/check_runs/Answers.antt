@@ -2,7 +2,7 @@ use Rattle.std.proofs.Common.{◌*◌, length, subst}
 use Rattle.std.proofs.lemmas.Result.{IfOk-weaker}
 use Rattle.rand_core.specs.Stream.{Stream}
 use Rattle.recorder.specs.Drawing.{left_after}
-use Rattle.jumping.specs.Draws.{schedule_by}
+use Rattle.drawn_runs.specs.Draws.{schedule_by}
 use Rattle.judged_runs.specs.Telling.{IsTold}
 use Rattle.ownership_runs.specs.Runs.{HasKeptRun, BreaksNothing, HasBrokenRun, IsOfOneHart, AreMovesOf}
 use Rattle.ownership_runs.proofs.Judged.{kept-run, told-better}

@@ -20,5 +20,5 @@ returns-in-Ok-clause-within c i within =
     }
 
 pub returns-in-Err-clause-noted : goal.returns-in-Err-clause-noted
-returns-in-Err-clause-noted c start es are = broken-noted c.args.queue.now c.args.entry start es c.args.notes are c.in-None.is c.in-Err.breach
+returns-in-Err-clause-noted c start es are = broken-noted c.args.queue.now c.args.entry start es c.args.notes are c.in-None.is c.in-Err.violation
     (sym c.note_entry.ensures.value ∙ c.in-Err.is) _ refl

@@ -1,5 +1,5 @@
 use Rattle.std.proofs.Common.{map, take}
-use Rattle.poll_close.specs.Breaches.{IsNoted}
+use Rattle.poll_close.specs.Violations.{IsNoted}
 use Rattle.poll_close.proofs.clean.is_clean.Given as goal
 
 abbrev pub invariant-loop-report : goal.invariant-loop-report

@@ -3,7 +3,7 @@ use Rattle.poll_close.specs.Places.{layout_of}
 use Rattle.poll_close.proofs.clean.stays_within.Goals as goal
 use Rattle.std.proofs.Common.{sym, arith}
 use Rattle.std.proofs.lemmas.Bool.Decides.{nat_tests}
-use Rattle.poll_close.proofs.BreachLaws.{stays_more}
+use Rattle.poll_close.proofs.ViolationLaws.{stays_more}
 use Rattle.poll_close.proofs.Notes.{within_here}
 use Rattle.poll_close.proofs.clean.stays_within.Goals.{then-hart-eq0, else-hart-eq0}
 

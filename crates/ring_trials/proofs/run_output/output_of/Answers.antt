@@ -5,9 +5,9 @@ use Rattle.step_machine.specs.declared.events.Event.{Event}
 use Rattle.recorder.specs.Writing.{canon}
 use Rattle.judged_runs.specs.Finding.{AreAllGood}
 use Rattle.judged_runs.specs.Telling.{IsFlawTold, IsTold}
-use Rattle.poll_close.specs.declared.clean.Breach.{Breach}
-use Rattle.ring_trials.specs.Answers.{breach_line, clean_text}
-use Rattle.ring_trials.specs.Trials.{schedule_of_run, channel_source, IsClean, HasBreach, AreTotalsOf}
+use Rattle.poll_close.specs.declared.clean.Violation.{Violation}
+use Rattle.ring_trials.specs.Answers.{violation_line, clean_text}
+use Rattle.ring_trials.specs.Trials.{schedule_of_run, channel_source, IsClean, HasViolation, AreTotalsOf}
 use Rattle.ring_trials.specs.declared.runs.Total.{Total}
 use Rattle.ring_trials.specs.declared.user_channel.UserChannel.{UserChannel}
 use Rattle.ring_trials.proofs.run_output.output_of.Goals as goal
@@ -19,7 +19,7 @@ returns-in-Good g c =
     let channel : UserChannel = c.args.channel.now in
     let size = c.args.runs.length in
     let Counts : List (List Event) → Vec Total → Type 0 = λ all totals. AreTotalsOf B M channel all totals.items in
-    let told = subst (IsTold (IsClean B M channel) (HasBreach B M channel) (λ found other. Unit {0}) Counts
+    let told = subst (IsTold (IsClean B M channel) (HasViolation B M channel) (λ found other. Unit {0}) Counts
     (schedule_of_run (channel_source B M channel c.args.draw (g.G.Rng.stream c.in_ok-start.start) size))
     c.args.runs.number) c.in-Good.is c.in_ok-totals.ensures in
     let clean = subst (λ (at : Stream).
@@ -40,14 +40,14 @@ returns g c =
     let channel : UserChannel = c.args.channel.now in
     let size = c.args.runs.length in
     let Counts : List (List Event) → Vec Total → Type 0 = λ all totals. AreTotalsOf B M channel all totals.items in
-    let told = subst (IsTold (IsClean B M channel) (HasBreach B M channel) (λ found other. Unit {0}) Counts
+    let told = subst (IsTold (IsClean B M channel) (HasViolation B M channel) (λ found other. Unit {0}) Counts
     (schedule_of_run (channel_source B M channel c.args.draw (g.G.Rng.stream c.in_ok-start.start) size))
     c.args.runs.number) c.in-Flawed.is c.in_ok-totals.ensures in
     record {
       part = c.in-Flawed.part.items;
-      breach = c.in-Flawed.flaw;
-      is_told = subst (λ (at : Stream). IsFlawTold (IsClean B M channel) (HasBreach B M channel) (λ (found other : Breach). Unit {0})
+      violation = c.in-Flawed.flaw;
+      is_told = subst (λ (at : Stream). IsFlawTold (IsClean B M channel) (HasViolation B M channel) (λ (found other : Violation). Unit {0})
           (schedule_of_run (channel_source B M channel c.args.draw at size)) c.args.runs.number c.in-Flawed.part.items c.in-Flawed.flaw)
           c.in_ok-start.ensures told;
-      text_is = c.in_ok-unclean_text-in-Flawed.ensures ∙ ap (λ (es : List Event). canon es ++ breach_line c.in-Flawed.flaw) c.deref-in-Flawed.ensures.value;
+      text_is = c.in_ok-unclean_text-in-Flawed.ensures ∙ ap (λ (es : List Event). canon es ++ violation_line c.in-Flawed.flaw) c.deref-in-Flawed.ensures.value;
     }

@@ -3,7 +3,7 @@ use Rattle.step_machine.specs.History.{OpeningValue}
 use Rattle.step_machine.specs.Runs.{Run}
 use Rattle.callers.specs.Queues.{spsc_of}
 use Rattle.callers.specs.inner.Noting.{AreCallNotes}
-use Rattle.callers.proofs.Judged.{none_or_one, one_debt}
+use Rattle.callers.proofs.Judged.{none_or_one, one_violation}
 use Rattle.callers.proofs.runs.CallersJudgeJudge.judge.Goals as goal
 
 pub returns-clause-good : goal.returns-clause-good
@@ -18,7 +18,7 @@ returns-clause-good g c none =
     }
 
 pub returns-clause-has : goal.returns-clause-has
-returns-clause-has g c debt some =
+returns-clause-has g c violation some =
     let it = c.args.self.now in
     let are = subst (λ (x : OpeningValue). AreCallNotes g.row.M x (spsc_of it.located) c.judge.new.machine.history.entries c.in_ok-notes.notes)
     c.requires.0 c.in_ok-notes.ensures.noted in
@@ -39,7 +39,7 @@ returns-clause-noted g c none =
     }
 
 pub returns-clause-one_flaw : goal.returns-clause-one_flaw
-returns-clause-one_flaw g c = one_debt g.row.B g.row.M c.args.self.now.test.now.opening c.args.self.now.located c.args.events.now
+returns-clause-one_flaw g c = one_violation g.row.B g.row.M c.args.self.now.test.now.opening c.args.self.now.located c.args.events.now
 
 pub returns-clause-no_flaw : goal.returns-clause-no_flaw
 returns-clause-no_flaw g c = none_or_one g.row.B g.row.M c.args.self.now.test.now.opening c.args.self.now.located c.args.events.now

@@ -1,5 +1,5 @@
 use Rattle.std.proofs.Common.{◌-◌, arith, subst}
-use Rattle.jumping.specs.Draws.{schedule_by}
+use Rattle.drawn_runs.specs.Draws.{schedule_by}
 use Rattle.judged_runs.specs.Finding.{IsFoundFrom}
 use Rattle.judged_runs.proofs.Schedules.{all_both, all_count, flawed_later}
 use Rattle.judged_runs.proofs.finding.JudgedRunsTrials.join.Goals as goal

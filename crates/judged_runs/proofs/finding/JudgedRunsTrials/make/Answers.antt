@@ -1,7 +1,7 @@
 use Rattle.std.proofs.Common.{subst, arith, rules, ◌≡◌, List}
 use Rattle.step_machine.specs.declared.events.Event.{Event}
 use Rattle.recorder.proofs.Drawn.{left_after-more}
-use Rattle.jumping.specs.Draws.{schedule_by}
+use Rattle.drawn_runs.specs.Draws.{schedule_by}
 use Rattle.judged_runs.proofs.Schedules.{all_none, all_more, all_count, schedule_is}
 use Rattle.judged_runs.proofs.finding.JudgedRunsTrials.make.Goals as goal
 

@@ -1,6 +1,6 @@
 use Rattle.std.proofs.Common.{◌≡◌, ◌*◌}
 use Rattle.recorder.specs.Drawing.{left_after}
-use Rattle.jumping.specs.Draws.{schedule_by}
+use Rattle.drawn_runs.specs.Draws.{schedule_by}
 use Rattle.judged_runs.specs.Finding.{AreAllGood}
 use Rattle.judged_runs.proofs.finding.JudgedRunsTrials.make.Given as goal
 

@@ -1,4 +1,4 @@
--- The left sides are there, and have in the position the values that they have in each history that ends there.
+-- The observed locations are there, and have in the position the values that they have in each history that ends there.
 use Rattle.std.proofs.Common.{◌≡◌, List, ◌∙◌, lit<, ap, length, All}
 use Rattle.std.proofs.lemmas.Result.{on_ok_weaker}
 use Rattle.step_machine.specs.Positions.{position_of}

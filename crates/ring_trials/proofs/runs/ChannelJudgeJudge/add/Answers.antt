@@ -1,7 +1,7 @@
 use Rattle.std.proofs.Common.{[], ◌∷◌, ◌++◌, length, sym, ap, subst, ◌∙◌, arith}
 use Rattle.std.specs.List.{slice_get}
 use Rattle.step_machine.specs.Entries.{reported}
-use Rattle.poll_close.specs.Breaches.{AreNotes}
+use Rattle.poll_close.specs.Violations.{AreNotes}
 use Rattle.ring_trials.specs.Trials.{AreTotals, AreTotalsOf}
 use Rattle.ring_trials.proofs.RunsLaws.{few_counted, one_counted, whole_again}
 use Rattle.ring_trials.proofs.runs.ChannelJudgeJudge.add.Goals as goal

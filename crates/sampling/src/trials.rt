@@ -1,0 +1,136 @@
+//! The command `try`: runs of a litmus test from schedules that a generator draws, and their outcomes.
+
+ghost use Rattle.std.specs.Prelude.{◌≤◌, ◌*◌, IfOk};
+ghost use Rattle.engine_support.specs.Engines.{Ends};
+ghost use Rattle.sampling.specs.Outcomes.{IsTried, IsTryAnswer};
+ghost use Rattle.sampling.specs.declared.trials.outcomes.Unfinished.{Unfinished};
+ghost use Rattle.engine_support.specs.inner.Making.{FindsUpToReads};
+ghost use Rattle.sampling.specs.inner.Tallies.{text_and_good};
+ghost use Rattle.recorder.specs.Drawing.{left_after};
+ghost use Rattle.litmus.specs.declared.litmus_test.TheConstants.{MAX_LOCATIONS};
+
+pub use crate::trials::outcomes::Unfinished;
+use crate::trials::outcomes::end_with_tally;
+use crate::trials::parallel::tally_in_rounds;
+use crate::trials::tally::Tally;
+pub use drawn_runs::Runs;
+use drawn_runs::progress::Progress;
+use drawn_runs::{Draw, Jump};
+use engine_support::fault::Fault;
+use engine_support::litmus_text::read_test;
+use litmus::Test;
+use std::alloc::{AllocError, Global};
+use std::io::{Read, Write};
+use std::thread::Threads;
+
+mod drawing;
+mod outcomes;
+mod parallel;
+mod tally;
+mod transitions;
+mod walking;
+
+/// The tally of a test's runs.
+fn drawn<const B: usize, const M: usize, G: Jump + Sync + Drop, T: Threads + Sync, P: Progress>(
+    rt: &T,
+    alloc: Global,
+    test: &Test,
+    draw: Draw,
+    generator: &G,
+    runs: Runs,
+    progress: &mut P,
+) -> Result<Tally, AllocError>
+    requires some_capacity { 1 ≤ B }
+    requires capacity { B ≤ 64 }
+    requires words { MAX_LOCATIONS ≤ M }
+    requires size { M ≤ 65536 }
+    ensures { IfOk result
+        (λ tally. (left : Unfinished) → IsTried B M left draw (left_after (runs.skip * runs.length) (G.Rng.stream generator.now)) runs.number
+        runs.length test.now (text_and_good left (test.now, tally))) }
+{
+    let start = generator.ahead(runs.skip, runs.length)?;
+    let Runs {
+        number,
+        length,
+        jobs,
+        ..
+    } = runs;
+    let tally = tally_in_rounds::<B, M, G, T, P>(
+        rt, alloc, test, draw, &start, number, length, jobs, progress,
+    )?;
+    tally.outcomes.has_lines(test);
+    Ok(tally)
+}
+
+/// The test of the input that the reader gives, and the tally of its runs.
+fn made<
+    const B: usize,
+    const M: usize,
+    R: Read,
+    G: Jump + Sync + Drop,
+    T: Threads + Sync,
+    P: Progress,
+>(
+    rt: &T,
+    alloc: Global,
+    file: &mut R,
+    draw: Draw,
+    generator: &G,
+    runs: Runs,
+    progress: &mut P,
+) -> Result<(Test, Tally), Fault>
+    requires some_capacity { 1 ≤ B }
+    requires capacity { B ≤ 64 }
+    requires words { MAX_LOCATIONS ≤ M }
+    requires size { M ≤ 65536 }
+    ensures { (left : Unfinished) → FindsUpToReads (IsTryAnswer B M left draw (left_after (runs.skip * runs.length) (G.Rng.stream generator.now))
+        runs.number runs.length (R.remaining file.old)) (text_and_good left) result }
+{
+    let test = read_test(alloc, file)?;
+    let tally = drawn::<B, M, G, T, P>(rt, alloc, &test, draw, generator, runs, progress)?;
+    Ok((test, tally))
+}
+
+/// Reads a litmus text to its end, and runs the test `runs.number` times from its opening with store
+/// buffers of `B` pairs and `M` words of memory, each time by `runs.length` events that the generator
+/// draws so, after the events of the runs that are passed over.
+///
+/// It writes a line for each outcome of the finished runs, ascending by the values: how many runs gave
+/// it, the values of the condition's observed locations, and the schedule of the first of these runs; and then
+/// how many runs did not finish, if asked with the schedule of the first of these. The lines are made one by one as they are written.
+/// It answers whether the runs show what the test asks: with `exists` a run that holds, else no run that fails. The answer depends
+/// neither on the jobs nor on the progress, which learns how far the runs are, and that they ended.
+///
+/// The input is refused as `run` refuses it, and then nothing was written.
+pub fn try_engine<
+    const B: usize,
+    const M: usize,
+    R: Read,
+    G: Jump + Sync + Drop,
+    W: Write,
+    T: Threads + Sync,
+    P: Progress,
+>(
+    rt: &T,
+    alloc: Global,
+    file: &mut R,
+    left: Unfinished,
+    draw: Draw,
+    generator: &G,
+    runs: Runs,
+    progress: &mut P,
+    writer: &mut W,
+) -> Result<bool, Fault>
+    requires some_capacity { 1 ≤ B }
+    requires capacity { B ≤ 64 }
+    requires words { MAX_LOCATIONS ≤ M }
+    requires size { M ≤ 65536 }
+    ensures { Ends (IsTryAnswer B M left draw (left_after (runs.skip * runs.length) (G.Rng.stream generator.now)) runs.number runs.length
+        (R.remaining file.old)) result W.contents writer.old writer.new }
+{
+    end_with_tally(
+        made::<B, M, R, G, T, P>(rt, alloc, file, draw, generator, runs, progress),
+        left,
+        writer,
+    )
+}

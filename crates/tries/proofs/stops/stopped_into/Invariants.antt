@@ -1,7 +1,0 @@
-use Rattle.std.proofs.Common.{◌≡◌}
-use Rattle.step_machine.specs.Positions.{position_of}
-use Rattle.tries.specs.inner.Stops.{first_stopped}
-use Rattle.tries.proofs.stops.stopped_into.Given as goal
-
-abbrev pub invariant-loop-hart : goal.invariant-loop-hart
-invariant-loop-hart g l = l.stopped.items ≡ first_stopped (position_of l.machine) l.hart

@@ -1,6 +1,0 @@
-use Rattle.std.proofs.Common.{refl}
-use Rattle.tries.proofs.TallyLaws.{nothing_counted}
-use Rattle.tries.proofs.trials.tally.Tally.new.Goals as goal
-
-pub returns : goal.returns
-returns c = nothing_counted _ c.new.ensures refl c.new-2.ensures.bytes refl refl
