@@ -1,4 +1,4 @@
-"""How the crates' sources are laid out: as `rt fmt` writes them, and no line too wide to read side by side."""
+"""How the sources are laid out: the crates' as `rt fmt` writes them, no line too wide to read side by side, and not too many files."""
 
 import shutil
 import subprocess
@@ -7,6 +7,7 @@ from pathlib import Path
 from .links import ROOT
 
 WIDEST = 160
+FILES = 4_090  # that git tracks; lower it when some go
 ADVICE = {".antt": "scripts/fold-lines breaks it", ".rt": "break its clause, its imports or its text"}
 # An attribute of the prover: `rt fmt` writes each on one line.
 ATTRIBUTE = "#[tactic("
@@ -39,7 +40,16 @@ def unformatted():
             yield from (f"{line}: `rt fmt` in its crate mends it" for line in (asked.stdout + asked.stderr).splitlines())
 
 
+def many():
+    """A line if more files are tracked than may be, and none outside of a checkout."""
+    listed = subprocess.run(["git", "ls-files"], capture_output=True, text=True, cwd=ROOT, check=False) if shutil.which("git") else None
+    count = len(listed.stdout.splitlines()) if listed else 0
+    if count > FILES:
+        yield f"git tracks {count} files, and may track {FILES}"
+
+
 def wrong():
     """A line for each fault of the layout."""
     yield from wide()
+    yield from many()
     yield from unformatted()

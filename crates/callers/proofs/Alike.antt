@@ -16,9 +16,9 @@ use Rattle.callers.specs.Queues.{kind_of, caches_tail, slots_after, start_in, wa
 use Rattle.callers.specs.Violations.{waits_in, IsOldTail, IsOpeningViolation, first_caller_violation}
 use Rattle.drawn_runs.specs.declared.draws.Draw.{Draw}
 use Rattle.judged_runs.specs.Finding.{AreAllGood}
-use Rattle.judged_runs.specs.Histories.{summed}
+use Rattle.judged_runs.specs.Histories.{MOST, summed}
 use Rattle.judged_runs.proofs.Histories.{runs_one}
-use Rattle.callers.specs.Counts.{MOST, AreCountsOf, are_none, sends as sends_in, receives as receives_in}
+use Rattle.callers.specs.Counts.{AreCountsOf, are_none, sends as sends_in, receives as receives_in}
 use Rattle.callers.specs.Runs.{CallSource, call_source, call_schedule, KeepsObligations, HasCallerViolation}
 use Rattle.callers.specs.Answers.{IsCallersOutput, IsOutputOfRuns, kept_text}
 use Rattle.callers.specs.declared.counts.Counts.{Counts}

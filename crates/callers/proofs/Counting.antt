@@ -17,9 +17,10 @@ use Rattle.litmus.specs.declared.verdict.Verdict.{Verdict}
 use Rattle.litmus.specs.declared.verdict.Verdict.TheVariants.{Holds, Fails, Unfinished}
 use Rattle.spsc_queue.specs.Calls.{Block, SpscQueue, is_in_call, is_in_call_from, is_in_call_with}
 use Rattle.spsc_queue.proofs.OwnEntries.{own_is}
-use Rattle.judged_runs.proofs.Histories.{runs_both, runs_count, total_both}
+use Rattle.judged_runs.proofs.Histories.{capped_both, runs_both, runs_count, total_both}
 use Rattle.callers.specs.Queues.{spsc_of}
-use Rattle.callers.specs.Counts.{MOST, returns_now, returns_in, returned_by, returned_from, returned, sends, receives, AreCalls, HasCalls, HaveUnfinished}
+use Rattle.judged_runs.specs.Histories.{MOST}
+use Rattle.callers.specs.Counts.{returns_now, returns_in, returned_by, returned_from, returned, sends, receives, AreCalls, HasCalls, HaveUnfinished}
 use Rattle.callers.specs.Counts.{AreTotalCalls, AreCountsOf, calls_both, unfinished_by}
 use Rattle.callers.specs.inner.Noting.{counted_by}
 use Rattle.callers.specs.declared.counts.Counts.{Counts}
@@ -89,9 +90,6 @@ land_counts M o q es h calls are = record {
 }
 
 -- ---- runs
-
-capped_both : (a b x y : ℕ) → a ≡ min x MOST → b ≡ min y MOST → min (a + b) MOST ≡ min (x + y) MOST
-capped_both a b x y one other = omega (arith, one, other)
 
 module _ (M : ℕ) (o : OpeningValue) (q : SpscQueue) where
   calls_of_one : (t : History) (calls : Calls) → AreCalls M o q t.entries calls → AreTotalCalls M o q (t ∷ []) calls

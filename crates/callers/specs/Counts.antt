@@ -11,15 +11,11 @@ use Rattle.litmus.specs.Verdicts.{IsFinished}
 use Rattle.litmus.specs.declared.verdict.Verdict.{Verdict}
 use Rattle.litmus.specs.declared.verdict.Verdict.TheVariants.{Holds, Fails, Unfinished}
 use Rattle.spsc_queue.specs.Calls.{Block, SpscQueue, returns_at, is_in_call_with}
-use Rattle.judged_runs.specs.Histories.{AreRuns, summed}
+use Rattle.judged_runs.specs.Histories.{AreRuns, MOST, summed}
 use Rattle.callers.specs.Queues.{spsc_of}
 use Rattle.callers.specs.declared.counts.Counts.{Counts}
 use Rattle.callers.specs.declared.judging.Calls.{Calls}
 use Rattle.callers.specs.declared.queue.Located.{Located}
-
--- what is counted at most
-abbrev pub MOST : ℕ
-MOST = 18446744073709551615
 
 -- ---- of one run
 

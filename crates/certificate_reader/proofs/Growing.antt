@@ -4,22 +4,23 @@ use Rattle.std.proofs.lemmas.List.{reverse-append}
 use Rattle.queue_certificates.specs.Certificates.{Arrow, Cases, leaf, split}
 use Rattle.certificate_reader.specs.declared.cases.Node.{Node}
 use Rattle.certificate_reader.specs.declared.cases.Node.TheVariants.{Split, Leaf, To}
-use Rattle.certificate_reader.specs.CaseTexts.{Grown, joined_trees, with_node, grown_onto, first_tree, cases_of, arrow_lines, case_lines}
+use Rattle.queue_checker.specs.Codes.{joined_by, first_tree}
+use Rattle.certificate_reader.specs.CaseTexts.{Grown, with_node, grown_onto, cases_of, arrow_lines, case_lines}
 
 pub reverse_pushed : {A : Type 0} (xs : List A) (x : A) → reverse (xs ++ x ∷ []) ≡ x ∷ reverse xs
 reverse_pushed xs x = reverse-append xs (x ∷ [])
 
 -- ---- the last two of the trees
 
-pub joined_last : (xs : List Cases) (low high : Cases) (j v : ℕ) → joined_trees j v (reverse ((xs ++ high ∷ []) ++ low ∷ [])) ≡ split j v low high ∷ reverse xs
+pub joined_last : (xs : List Cases) (low high : Cases) (j v : ℕ) → joined_by j v (reverse ((xs ++ high ∷ []) ++ low ∷ [])) ≡ split j v low high ∷ reverse xs
 joined_last xs low high j v =
-    ap (joined_trees j v) (reverse_pushed (xs ++ high ∷ []) low) ∙ ap (λ trees. joined_trees j v (low ∷ trees)) (reverse_pushed xs high)
+    ap (joined_by j v) (reverse_pushed (xs ++ high ∷ []) low) ∙ ap (λ trees. joined_by j v (low ∷ trees)) (reverse_pushed xs high)
 
-pub joined_one : (xs : List Cases) (low : Cases) (j v : ℕ) → length xs ≡ 0 → joined_trees j v (reverse (xs ++ low ∷ [])) ≡ reverse xs
+pub joined_one : (xs : List Cases) (low : Cases) (j v : ℕ) → length xs ≡ 0 → joined_by j v (reverse (xs ++ low ∷ [])) ≡ reverse xs
 joined_one [] low j v e = refl
 joined_one (x ∷ xs) low j v e = absurd (omega arith)
 
-pub joined_none : (xs : List Cases) (j v : ℕ) → length xs ≡ 0 → joined_trees j v (reverse xs) ≡ reverse xs
+pub joined_none : (xs : List Cases) (j v : ℕ) → length xs ≡ 0 → joined_by j v (reverse xs) ≡ reverse xs
 joined_none [] j v e = refl
 joined_none (x ∷ xs) j v e = absurd (omega arith)
 

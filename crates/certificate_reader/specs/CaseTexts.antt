@@ -1,7 +1,7 @@
 -- Cases of a state, as a text has them: each split before what its two sides have, the low one first, and after a leaf where it leads.
 use Rattle.std.specs.Prelude.{List, [], ◌∷◌, ◌++◌, ℕ}
-use Rattle.queue_certificates.specs.Forms.{number}
 use Rattle.queue_certificates.specs.Certificates.{Arrow, Cases, leaf, split}
+use Rattle.queue_checker.specs.Codes.{joined_by, first_tree}
 use Rattle.certificate_reader.specs.declared.cases.Node.{Node}
 use Rattle.certificate_reader.specs.declared.cases.Node.TheVariants.{Split, Leaf, To}
 
@@ -10,13 +10,8 @@ pub record Grown : Type 0 where
   pub arrows : List Arrow
   pub trees : List Cases
 
-abbrev pub joined_trees : (j v : ℕ) → List Cases → List Cases
-joined_trees j v [] = []
-joined_trees j v (low ∷ []) = []
-joined_trees j v (low ∷ high ∷ trees) = split j v low high ∷ trees
-
 abbrev pub with_node : Node → Grown → Grown
-with_node (Split j v) g = record { arrows = []; trees = joined_trees j v g.trees }
+with_node (Split j v) g = record { arrows = []; trees = joined_by j v g.trees }
 with_node (Leaf d) g = record { arrows = []; trees = leaf d g.arrows ∷ g.trees }
 with_node (To arrow) g = record { arrows = arrow ∷ g.arrows; trees = g.trees }
 
@@ -27,11 +22,6 @@ grown_onto g (node ∷ nodes) = grown_onto (with_node node g) nodes
 
 abbrev pub nothing_grown : Grown
 nothing_grown = record { arrows = []; trees = [] }
-
--- the first of the trees, which is all of them where the lines are of one
-abbrev pub first_tree : List Cases → Cases
-first_tree [] = leaf (number 0) []
-first_tree (tree ∷ trees) = tree
 
 -- the tree of a state's lines, the last one first
 abbrev pub cases_of : List Node → Cases

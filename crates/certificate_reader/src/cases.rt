@@ -1,7 +1,8 @@
 //! Cases of a state, as a text has them.
 
 ghost use Rattle.std.specs.Prelude.{◌≡◌, IfOk, reverse};
-ghost use Rattle.certificate_reader.specs.CaseTexts.{joined_trees, with_node, grown_onto, first_tree, cases_of};
+ghost use Rattle.queue_checker.specs.Codes.{joined_by, first_tree};
+ghost use Rattle.certificate_reader.specs.CaseTexts.{with_node, grown_onto, cases_of};
 
 use known_values::Form;
 use queue_checker::{Arrow, CaseNode, Cases};
@@ -29,7 +30,7 @@ pub struct Growth {
 /// Makes one tree of the last two.
 #[tactic(auto, using(crate::proofs::Growing::joined_last, crate::proofs::Growing::joined_one, crate::proofs::Growing::joined_none, crate::proofs::Growing::reverse_pushed))]
 fn join(alloc: Global, trees: &mut Vec<Cases>, variable: u32, most: u64) -> Result<(), AllocError>
-    ensures { IfOk result (λ x. reverse trees.new.items ≡ joined_trees variable most (reverse trees.old.items)) }
+    ensures { IfOk result (λ x. reverse trees.new.items ≡ joined_by variable most (reverse trees.old.items)) }
 {
     let Some(low) = trees.pop() else {
         return Ok(());

@@ -1,9 +1,9 @@
 -- Runs of two lists of lists of events together, and that there is one run of each.
-use Rattle.std.proofs.Common.{ℕ, suc, ◌≡◌, ◌+◌, List, [], ◌∷◌, ◌++◌, length, refl, ap, ap₂, arith}
+use Rattle.std.proofs.Common.{ℕ, suc, ◌≡◌, ◌+◌, min, List, [], ◌∷◌, ◌++◌, length, refl, ap, ap₂, arith}
 use Rattle.step_machine.specs.declared.events.Event.{Event}
 use Rattle.step_machine.specs.History.{OpeningValue, History, at_opening}
 use Rattle.step_machine.proofs.Running.{run-one}
-use Rattle.judged_runs.specs.Histories.{AreRuns, summed}
+use Rattle.judged_runs.specs.Histories.{AreRuns, MOST, summed}
 
 module _ (B M : ℕ) (o : OpeningValue) where
   pub runs_both : (all more : List (List Event)) (ts us : List History) → AreRuns B M o all ts → AreRuns B M o more us → AreRuns B M o (all ++ more) (ts ++ us)
@@ -30,3 +30,6 @@ module _ (B M : ℕ) (o : OpeningValue) where
 pub total_both : (f : History → ℕ) (ts us : List History) → summed f (ts ++ us) ≡ summed f ts + summed f us
 total_both f [] us = omega arith
 total_both f (t ∷ ts) us = omega (arith, total_both f ts us)
+
+pub capped_both : (a b x y : ℕ) → a ≡ min x MOST → b ≡ min y MOST → min (a + b) MOST ≡ min (x + y) MOST
+capped_both a b x y one other = omega (arith, one, other)

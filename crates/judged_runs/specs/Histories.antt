@@ -15,3 +15,7 @@ AreRuns B M o (events ∷ all) (t ∷ ts) = Run B M o events t × AreRuns B M o 
 abbrev pub summed : (History → ℕ) → List History → ℕ
 summed f [] = 0
 summed f (t ∷ ts) = f t + summed f ts
+
+-- what is counted at most
+abbrev pub MOST : ℕ
+MOST = 18446744073709551615

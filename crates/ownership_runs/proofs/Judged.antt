@@ -9,15 +9,15 @@ use Rattle.queue_parties.specs.Parties.{QueueCounts}
 use Rattle.slot_queue.specs.Queues.{Queue, IsQueue, IsAtRest}
 use Rattle.slot_queue.specs.Ownership.{KeepsOwnership}
 use Rattle.slot_queue.specs.Laws.{FollowsOwnership}
-use Rattle.judged_runs.specs.Histories.{summed}
+use Rattle.judged_runs.specs.Histories.{MOST, summed}
 use Rattle.judged_runs.specs.Telling.{IsTold}
 use Rattle.judged_runs.specs.declared.telling.Told.{Told}
 use Rattle.judged_runs.specs.declared.telling.Told.TheVariants as told
-use Rattle.judged_runs.proofs.Histories.{runs_both, runs_one, total_both}
+use Rattle.judged_runs.proofs.Histories.{capped_both, runs_both, runs_one, total_both}
 use Rattle.ownership_runs.specs.declared.violations.Violation.{Violation}
 use Rattle.ownership_runs.specs.declared.runs.Moved.{Moved}
 use Rattle.ownership_runs.specs.Violations.{first_ownership_violation}
-use Rattle.ownership_runs.specs.Runs.{MOST_MOVED, HasKeptRun, BreaksNothing, HasBrokenRun, published_in, taken_in, HasMoved, AreMovesOf}
+use Rattle.ownership_runs.specs.Runs.{HasKeptRun, BreaksNothing, HasBrokenRun, published_in, taken_in, HasMoved, AreMovesOf}
 use Rattle.ownership_runs.proofs.First.{kept-all, none-first}
 
 module _ (B M : ℕ) (o : OpeningValue) (q : Queue) (start : QueueCounts) where
@@ -66,8 +66,8 @@ module _ (B M : ℕ) (o : OpeningValue) (q : Queue) (start : QueueCounts) where
   pub moves-one : (all : List (List Event)) (a b : Moved) → AreMovesOf B M o q start all a → AreMovesOf B M o q start all b → a ≡ b
   moves-one all a b one other =
       let same : one.histories ≡ other.histories = runs_one B M o all one.histories other.histories one.runs other.runs in
-      let published : a.published ≡ b.published = one.published ∙ ap (λ hs. min (summed (published_in q start) hs) MOST_MOVED) same ∙ sym other.published in
-      let taken : a.taken ≡ b.taken = one.taken ∙ ap (λ hs. min (summed (taken_in q start) hs) MOST_MOVED) same ∙ sym other.taken in
+      let published : a.published ≡ b.published = one.published ∙ ap (λ hs. min (summed (published_in q start) hs) MOST) same ∙ sym other.published in
+      let taken : a.taken ≡ b.taken = one.taken ∙ ap (λ hs. min (summed (taken_in q start) hs) MOST) same ∙ sym other.taken in
       ap (λ (n : ℕ). moved_by n a.taken) published ∙ ap (λ (n : ℕ). moved_by b.published n) taken
     where
       moved_by : (published taken : ℕ) → Moved
@@ -77,27 +77,24 @@ module _ (B M : ℕ) (o : OpeningValue) (q : Queue) (start : QueueCounts) where
   one-moved events t moved has = record {
     histories = t ∷ [];
     runs = (has.run, tt);
-    published = has.published ∙ ap (λ m. min m MOST_MOVED) (alone (published_in q start t));
-    taken = has.taken ∙ ap (λ m. min m MOST_MOVED) (alone (taken_in q start t));
+    published = has.published ∙ ap (λ m. min m MOST) (alone (published_in q start t));
+    taken = has.taken ∙ ap (λ m. min m MOST) (alone (taken_in q start t));
   }
     where
       alone : (n : ℕ) → n ≡ n + 0
       alone n = omega arith
 
   pub both-moved : (all more : List (List Event)) (old later new : Moved) → AreMovesOf B M o q start all old → AreMovesOf B M o q start more later
-      → new.published ≡ min (old.published + later.published) MOST_MOVED
-      → new.taken ≡ min (old.taken + later.taken) MOST_MOVED → AreMovesOf B M o q start (all ++ more) new
+      → new.published ≡ min (old.published + later.published) MOST
+      → new.taken ≡ min (old.taken + later.taken) MOST → AreMovesOf B M o q start (all ++ more) new
   both-moved all more old later new are others published taken = record {
     histories = are.histories ++ others.histories;
     runs = runs_both B M o all more are.histories others.histories are.runs others.runs;
-    published = published ∙ capped old.published later.published _ _ are.published others.published
-        ∙ ap (λ m. min m MOST_MOVED) (sym (total_both (published_in q start) are.histories others.histories));
-    taken = taken ∙ capped old.taken later.taken _ _ are.taken others.taken
-        ∙ ap (λ m. min m MOST_MOVED) (sym (total_both (taken_in q start) are.histories others.histories));
+    published = published ∙ capped_both old.published later.published _ _ are.published others.published
+        ∙ ap (λ m. min m MOST) (sym (total_both (published_in q start) are.histories others.histories));
+    taken = taken ∙ capped_both old.taken later.taken _ _ are.taken others.taken
+        ∙ ap (λ m. min m MOST) (sym (total_both (taken_in q start) are.histories others.histories));
   }
-    where
-      capped : (a b x y : ℕ) → a ≡ min x MOST_MOVED → b ≡ min y MOST_MOVED → min (a + b) MOST_MOVED ≡ min (x + y) MOST_MOVED
-      capped a b x y one other = omega (arith, one, other)
 
 -- what is told of runs, of which the good ones are also good in another way
 pub told-better : {T F : Type 0} (Good Better : List Event → Type 0) (Has : List Event → F → Type 0) (Alike : F → F → Type 0)

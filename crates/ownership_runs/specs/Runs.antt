@@ -6,7 +6,7 @@ use Rattle.step_machine.specs.Runs.{Run}
 use Rattle.queue_parties.specs.Parties.{QueueCounts}
 use Rattle.slot_queue.specs.Queues.{Queue}
 use Rattle.slot_queue.specs.Ownership.{counts_after, KeepsOwnership}
-use Rattle.judged_runs.specs.Histories.{AreRuns, summed}
+use Rattle.judged_runs.specs.Histories.{AreRuns, MOST, summed}
 use Rattle.ownership_runs.specs.declared.violations.Violation.{Violation}
 use Rattle.ownership_runs.specs.declared.runs.Moved.{Moved}
 use Rattle.ownership_runs.specs.Violations.{first_ownership_violation}
@@ -34,10 +34,6 @@ IsOfOneHart violation other = violation.hart ≡ other.hart
 
 -- ---- by how much the parties moved on
 
--- what is counted at most
-abbrev pub MOST_MOVED : ℕ
-MOST_MOVED = 18446744073709551615
-
 abbrev pub published_in : Queue → QueueCounts → History → ℕ
 published_in q start t = (counts_after q start t.entries).published - start.published
 
@@ -47,12 +43,12 @@ taken_in q start t = (counts_after q start t.entries).taken - start.taken
 -- the history is the run of these events, in which they moved on by this much
 pub record HasMoved (B M : ℕ) (o : OpeningValue) (q : Queue) (start : QueueCounts) (events : List Event) (history : History) (moved : Moved) : Type 0 where
   pub run : Run B M o events history
-  pub published : moved.published ≡ min (published_in q start history) MOST_MOVED
-  pub taken : moved.taken ≡ min (taken_in q start history) MOST_MOVED
+  pub published : moved.published ≡ min (published_in q start history) MOST
+  pub taken : moved.taken ≡ min (taken_in q start history) MOST
 
 -- in the runs of these lists of events together
 pub record AreMovesOf (B M : ℕ) (o : OpeningValue) (q : Queue) (start : QueueCounts) (all : List (List Event)) (moved : Moved) : Type 0 where
   pub histories : List History
   pub runs : AreRuns B M o all histories
-  pub published : moved.published ≡ min (summed (published_in q start) histories) MOST_MOVED
-  pub taken : moved.taken ≡ min (summed (taken_in q start) histories) MOST_MOVED
+  pub published : moved.published ≡ min (summed (published_in q start) histories) MOST
+  pub taken : moved.taken ≡ min (summed (taken_in q start) histories) MOST

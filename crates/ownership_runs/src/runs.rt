@@ -2,7 +2,8 @@
 
 ghost use Rattle.std.specs.Prelude.{◌≡◌, ◌≤◌, ◌+◌, ◌-◌, min};
 ghost use Rattle.step_machine.specs.History.{FitsIn};
-ghost use Rattle.ownership_runs.specs.Runs.{MOST_MOVED, IsOfOneHart, BreaksNothing, HasBrokenRun, HasMoved, AreMovesOf};
+ghost use Rattle.judged_runs.specs.Histories.{MOST};
+ghost use Rattle.ownership_runs.specs.Runs.{IsOfOneHart, BreaksNothing, HasBrokenRun, HasMoved, AreMovesOf};
 
 use crate::counts::{Counts, RunCounts};
 use crate::judging::judge;
@@ -28,15 +29,15 @@ const NOTHING_MOVED: Moved = Moved {
 };
 
 fn capped(n: u128) -> u64
-    ensures { result ≡ min n MOST_MOVED }
+    ensures { result ≡ min n MOST }
 {
     n.min(u128::from(u64::MAX)) as u64
 }
 
 /// By how much the parties of one run moved on, from these counts to those.
 fn moved_by(start: Counts, counts: RunCounts) -> Moved
-    ensures published { result.published ≡ min (counts.published - start.published) MOST_MOVED }
-    ensures taken { result.taken ≡ min (counts.taken - start.taken) MOST_MOVED }
+    ensures published { result.published ≡ min (counts.published - start.published) MOST }
+    ensures taken { result.taken ≡ min (counts.taken - start.taken) MOST }
 {
     let published = counts.published.saturating_sub(u128::from(start.published));
     let taken = counts.taken.saturating_sub(u128::from(start.taken));
@@ -48,8 +49,8 @@ fn moved_by(start: Counts, counts: RunCounts) -> Moved
 
 /// By how much those of some runs and of further ones did.
 fn both(moved: Moved, more: Moved) -> Moved
-    ensures published { result.published ≡ min (moved.published + more.published) MOST_MOVED }
-    ensures taken { result.taken ≡ min (moved.taken + more.taken) MOST_MOVED }
+    ensures published { result.published ≡ min (moved.published + more.published) MOST }
+    ensures taken { result.taken ≡ min (moved.taken + more.taken) MOST }
 {
     Moved {
         published: moved.published.saturating_add(more.published),

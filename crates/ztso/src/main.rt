@@ -118,6 +118,10 @@ where
         search,
     );
     streams.second.wipe();
+    if is_check(job.command) && ended.is_ok() && streams.second.is_empty() {
+        // as where the converter before the pipe has failed
+        let _ = eprintln!(rt; "ztso: no record on standard input");
+    }
     ended
 }
 

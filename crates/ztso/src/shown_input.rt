@@ -1,17 +1,18 @@
-//! An input of which a terminal shows how much is read.
+//! An input of which a terminal shows how much is read, and which says whether it gave anything.
 
-ghost use Rattle.std.specs.Prelude.{◌≡◌};
+ghost use Rattle.std.specs.Prelude.{◌≡◌, IsTrue};
 
 use crate::reading_line::ReadingLine;
 use std::io;
 use std::io::Read;
 use std::rt::Clock;
 
-/// A reader, and the line that shows how much it gave, if it is shown.
+/// A reader, the line that shows how much it gave, if it is shown, and whether it has given no byte so far.
 #[derive(Drop)]
 pub struct ShownInput<'a, R: Clock + Eprint, I: Read> {
     input: I,
     line: Option<ReadingLine<'a, R>>,
+    is_empty: bool,
 }
 
 impl<'a, R: Clock + Eprint, I: Read> ShownInput<'a, R, I> {
@@ -19,8 +20,20 @@ impl<'a, R: Clock + Eprint, I: Read> ShownInput<'a, R, I> {
     pub fn new(input: I, line: Option<ReadingLine<'a, R>>) -> ShownInput<'a, R, I>
         ensures input { result.input ≡ input }
         ensures line { result.line ≡ line.entry }
+        ensures empty { IsTrue result.is_empty }
     {
-        ShownInput { input, line }
+        ShownInput {
+            input,
+            line,
+            is_empty: true,
+        }
+    }
+
+    /// Whether it has given no byte so far.
+    pub fn is_empty(&self) -> bool
+        ensures { result ≡ self.now.is_empty }
+    {
+        self.is_empty
     }
 
     /// Leaves nothing of what was shown.
@@ -38,6 +51,9 @@ impl<'a, R: Clock + Eprint, I: Read> Read for ShownInput<'a, R, I> {
         let count = self.input.read(buf)?;
         if let Some(line) = &mut self.line {
             line.note(count);
+        }
+        if count > 0 {
+            self.is_empty = false;
         }
         Ok(count)
     }

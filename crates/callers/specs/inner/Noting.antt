@@ -11,7 +11,8 @@ use Rattle.step_machine.specs.Runs.{Happens}
 use Rattle.spsc_queue.specs.Calls.{SpscQueue, is_in_call_after, is_sender_in_call, is_receiver_in_call}
 use Rattle.callers.specs.Queues.{spsc_of}
 use Rattle.callers.specs.Violations.{first_caller_violation, idle_violation}
-use Rattle.callers.specs.Counts.{MOST, AreCalls, returns_now}
+use Rattle.judged_runs.specs.Histories.{MOST}
+use Rattle.callers.specs.Counts.{AreCalls, returns_now}
 use Rattle.callers.specs.declared.queue.Located.{Located}
 use Rattle.callers.specs.declared.violations.CallerViolation.{CallerViolation}
 use Rattle.callers.specs.declared.judging.Calls.{Calls}

@@ -1,11 +1,55 @@
-use Rattle.run_engines.proofs.OneAnswer as one
+-- What answers `run`, `replay` and `move` is one answer.
+use Rattle.std.proofs.Common.{arith, ◌≡◌, ℕ, List, Some, Result, Ok, Err, sym, ap, ◌∙◌}
+use Rattle.step_machine.specs.History.{History}
+use Rattle.recorder.specs.Records.{record_text}
+use Rattle.recorder.specs.Versions.{ScheduleValue}
+use Rattle.litmus.specs.LitmusTests.{LitmusTest}
+use Rattle.litmus.specs.declared.verdict.Verdict.{Verdict}
+use Rattle.litmus.proofs.VerdictLaws.{one_verdict}
+use Rattle.engine_support.specs.declared.fault.Refusal.{Refusal}
+use Rattle.engine_support.specs.Engines.{Output, AreOneAnswer}
+use Rattle.engine_support.specs.Histories.{AnswersRun}
+use Rattle.engine_support.proofs.InputLaws.{alike_by_schedule}
+use Rattle.engine_support.proofs.OneInput.{equal_alike, one_of_history, same_output}
+use Rattle.engine_support.proofs.RunLaws.{one_record}
+use Rattle.run_engines.specs.Run.{IsJudged, IsRunAnswer}
+use Rattle.run_engines.specs.Move.{IsMoved, IsMoveAnswer}
+use Rattle.run_engines.specs.Replay.{IsReplay, IsReplayAnswer}
 use Rattle.run_engines.proofs.laws.one_answer.Goals as goal
 
+one_judged : (M : ℕ) (q : LitmusTest) (t : History) (a b : List ℕ × Verdict) → IsJudged M q t a → IsJudged M q t b → a ≡ b
+one_judged M q t a b is other = grind (arith, one_verdict)
+
+one_replayed : (q : LitmusTest) (t : History) (a b : Output) → IsReplay q t a → IsReplay q t b → a ≡ b
+one_replayed q t a b is other = same_output a b (is ∙ sym other)
+
+module _ (B M : ℕ) where
+  one_moved : (q : LitmusTest) (parsed : ScheduleValue) (a b : Result Output Refusal) → IsMoved B M q parsed a → IsMoved B M q parsed b → AreOneAnswer a b
+  one_moved q parsed (Ok a) (Ok b) (steps, records, is, read) (others, also, other, again) =
+      let records_same = one_record B M q.opening parsed (Ok steps) (Ok others) records also in
+      let same : steps ≡ others = cc in
+      same_output a b (is ∙ ap record_text same ∙ sym other)
+  one_moved q parsed (Ok a) (Err s) (steps, records, is, read) differs = equal_alike _ _ (one_record B M q.opening parsed (Ok steps) (Err s) records differs)
+  one_moved q parsed (Err r) (Ok b) differs (steps, records, is, read) = equal_alike _ _ (one_record B M q.opening parsed (Err r) (Ok steps) differs records)
+  one_moved q parsed (Err r) (Err s) differs other = equal_alike _ _ (one_record B M q.opening parsed (Err r) (Err s) differs other)
+
+  one_run : (file schedule : List ℕ) (a b : Result (List ℕ × Verdict) Refusal) → IsRunAnswer B M (Some file) (Some schedule) a
+      → IsRunAnswer B M (Some file) (Some schedule) b → AreOneAnswer a b
+  one_run = alike_by_schedule AreOneAnswer (λ r s e. e) (AnswersRun B M (IsJudged M)) (one_of_history B M (IsJudged M) (one_judged M))
+
+  one_replay : (file schedule : List ℕ) (a b : Result Output Refusal) → IsReplayAnswer B M (Some file) (Some schedule) a
+      → IsReplayAnswer B M (Some file) (Some schedule) b → AreOneAnswer a b
+  one_replay = alike_by_schedule AreOneAnswer (λ r s e. e) (AnswersRun B M IsReplay) (one_of_history B M IsReplay one_replayed)
+
+  one_move : (file schedule : List ℕ) (a b : Result Output Refusal)
+      → IsMoveAnswer B M (Some file) (Some schedule) a → IsMoveAnswer B M (Some file) (Some schedule) b → AreOneAnswer a b
+  one_move = alike_by_schedule AreOneAnswer (λ r s e. e) (IsMoved B M) one_moved
+
 pub returns-clause-run : goal.returns-clause-run
-returns-clause-run c = one.one_run
+returns-clause-run c = one_run
 
 pub returns-clause-replay : goal.returns-clause-replay
-returns-clause-replay c = one.one_replay
+returns-clause-replay c = one_replay
 
 pub returns-clause-moved : goal.returns-clause-moved
-returns-clause-moved c = one.one_move
+returns-clause-moved c = one_move
