@@ -11,7 +11,7 @@ import re
 from . import form
 
 PAGES = [form.ROOT / "docs/errors.md"]
-STATUS = {"all": 1, "cut": 5, "refused": 2, "bad": 2, "read": 3, "write": 3, "no": 4}
+STATUS = {"all": 1, "cut": 5, "refused": 2, "bad": 2, "read": 3, "write": 3, "no memory": 4, "no record": 1}
 
 
 def blocks(text):
@@ -54,7 +54,7 @@ def read(path):
             case.shell, case.files = command, dict(files)
             case.stdout.text = text_of(line for line in answer if line not in faults)
             case.stderr = b"".join(content for _, content in text_of(faults))
-            case.status = STATUS[faults[-1].split(" ")[1]] if faults else 0
+            case.status = next(status for line, status in STATUS.items() if faults[-1].startswith(f"ztso: {line}")) if faults else 0
             cases.append(case)
     return cases
 

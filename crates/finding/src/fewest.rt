@@ -148,7 +148,8 @@ fn goes_on<const B: usize, const M: usize, const N: usize>(
     requires right { IsRight B (tables_of B M tables.now) cache.old.machine cache.old.steps.items }
     ensures right { OnOk result (IsRight B (tables_of B M tables.now) cache.new.machine cache.new.steps.items) }
     ensures goes { IfOk result (λ yes. IsTrue yes → (position : Position)
-        → slice_get (positions_by (tables_of B M tables.now) visited.now) number ≡ Some position → IsExpanded (next_position B) (IsWantedAt test.now) count (positions_by (tables_of B M tables.now) visited.now) position) }
+        → slice_get (positions_by (tables_of B M tables.now) visited.now) number ≡ Some position
+        → IsExpanded (next_position B) (IsWantedAt test.now) count (positions_by (tables_of B M tables.now) visited.now) position) }
 {
     visited.row_into(number, row)?;
     if row.len() != tables.harts() as usize + 1 {
