@@ -154,17 +154,17 @@ atom_found harts ms assignment found few e =
     (λ location. value_resolved location.1 assignment.1 >>= λ value. Ok (symbol.Is location.0 value.0, value.1)) found e in
     let at = place_found harts ms assignment.0 location.0 few location.1 in
     let value = bind_ok (value_resolved location.0.1 assignment.1) (λ value. Ok (symbol.Is location.0.0 value.0, value.1)) found location.2 in
-    let value = value_found here assignment.1 value.0 (subst (λ (names : Names). value_resolved names assignment.1 ≡ Ok value.0) at.names value.1) in
+    let shown = value_found here assignment.1 value.0 (subst (λ (names : Names). value_resolved names assignment.1 ≡ Ok value.0) at.names value.1) in
     let at_here : IsPlaceOf harts (each_once here) assignment.0 location.0.0 =
     subst (λ (names : Names). IsPlaceOf harts names assignment.0 location.0.0) at.names at.at in
     let at_end : IsPlaceOf harts value.0.1 assignment.0 location.0.0 =
-    subst (λ (names : Names). IsPlaceOf harts names assignment.0 location.0.0) (sym value.0)
+    subst (λ (names : Names). IsPlaceOf harts names assignment.0 location.0.0) (sym shown.0)
     (place_later harts here (name_of_value assignment.1) assignment.0 location.0.0 at_here) in
     subst (TokenFound harts ms (token.Token.atom assignment)) (ok_is LitmusFault (symbol.Is location.0.0 value.0.0, value.0.1) found value.2)
     (record {
-      names = value.0 ∙ ap each_once (both_names ms assignment);
-      few = value.2 (subst (λ (names : Names). length names ≤ 1024) at.names at.few);
-      known = (location.0.0, value.0.0, at_end, value.1, refl);
+      names = shown.0 ∙ ap each_once (both_names ms assignment);
+      few = shown.2 (subst (λ (names : Names). length names ≤ 1024) at.names at.few);
+      known = (location.0.0, value.0.0, at_end, shown.1, refl);
     })
 
 abbrev answered : Symbol → Names → Result (Symbol × Names) LitmusFault
@@ -196,7 +196,7 @@ atom_only : (harts : ℕ) (ms more : Names) (assignment : assigned.AssignmentVal
     → atom_resolved harts (each_once ms) assignment
     ≡ Ok (symbol.Is at value, each_once (ms ++ names_of (token.Token.atom assignment)))
 unfolding atom_resolved
-atom_only harts ms more assignment at value few is value =
+atom_only harts ms more assignment at value few is put =
     let here = ms ++ name_of_place assignment.0 in
     let split = both_names ms assignment in
     let few_here : length (each_once (here ++ name_of_value assignment.1)) ≤ 1024 = rw split few in
@@ -209,7 +209,7 @@ atom_only harts ms more assignment at value few is value =
     let shown = value_only here assignment.1 few_here in
     let same : shown.0 ≡ value = one_named_value ((here ++ name_of_value assignment.1) ++ more) assignment.1 shown.0 value
     (named_value_later (here ++ name_of_value assignment.1) more assignment.1 shown.0 shown.2)
-    (subst (λ (ns : Names). IsNamedValue (each_once (ns ++ more)) assignment.1 value) (sym split) value) in
+    (subst (λ (ns : Names). IsNamedValue (each_once (ns ++ more)) assignment.1 value) (sym split) put) in
     rw (placed, shown.1) (ap (λ (ns : Names). Ok (symbol.Is at shown.0, each_once ns)) split
     ∙ ap (λ (w : ℕ). Ok (symbol.Is at w, each_once (ms ++ names_of (token.Token.atom assignment)))) same)
 

@@ -246,7 +246,7 @@ value_only ms (address_of name) few =
 
 pub named_value_later : (ms more : Names) (value : NamedValue) (word : ℕ) → IsNamedValue (each_once ms) value word
     → IsNamedValue (each_once (ms ++ more)) value word
-named_value_later ms more value word value = grind (arith, at_later)
+named_value_later ms more value word is = grind (arith, at_later)
 
 pub one_named_value : (ms : Names) (value : NamedValue) (v w : ℕ) → IsNamedValue (each_once ms) value v → IsNamedValue (each_once ms) value w → v ≡ w
 one_named_value ms (number n) v w first second = first ∙ sym second

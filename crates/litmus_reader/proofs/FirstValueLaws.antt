@@ -87,7 +87,7 @@ register_put : (names : Names) (assignment : NamedValue) (registers : List (List
     (slice_index_or
     (slice_index_or (slice_set registers other (with_register number value (slice_index_or registers other []))) hart
     []) n 0)
-register_put names assignment registers hart other number value n value here few some = grind (
+register_put names assignment registers hart other number value n is here few some = grind (
   arith,
   cases_eq,
   eq-eqb,
