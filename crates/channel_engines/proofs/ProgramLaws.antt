@@ -4,7 +4,7 @@ use Rattle.rv_decode.specs.declared.instruction.Instr.{Instr}
 use Rattle.assembler.specs.Drafts.{assembled}
 use Rattle.assembler.specs.Program.{AreWordsOf, IsCode, IsProgram}
 use Rattle.assembler.proofs.OneCode.{one_code, refused_without_program}
-use Rattle.litmus_reader.proofs.PlainOpenings.{lines_size}
+use Rattle.litmus_reader.proofs.TableLaws.{lines_size}
 use Rattle.engine_support.specs.declared.fault.Role.{Role}
 use Rattle.engine_support.proofs.InputLaws.{IsOne, is_one_without}
 use Rattle.channel_engines.specs.Programs.{program_at, programs, refused_in}

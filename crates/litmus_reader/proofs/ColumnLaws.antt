@@ -1,6 +1,6 @@
 -- The columns of a table, and the rows that their cells stand in.
 use Rattle.std.proofs.Common.{◌≡◌, ℕ, suc, zero, ◌+◌, ◌≤◌, List, [], ◌∷◌, ◌++◌, length, replicate, Option, Some, None}
-use Rattle.std.proofs.Common.{Result, Ok, refl, sym, ap, subst, ◌∙◌, inl, inr, ◌⊎◌, arith}
+use Rattle.std.proofs.Common.{Ok, refl, sym, ap, subst, ◌∙◌, inl, inr, ◌⊎◌, arith}
 use Rattle.std.specs.Prelude.{unwrap_or}
 use Rattle.std.specs.List.{slice_index_or, AllByRecursion}
 use Rattle.std.proofs.lemmas.Bool.{cases_Bool, le-ltb, eq-eqb, eqb-true}
@@ -20,14 +20,12 @@ use Rattle.litmus_reader.specs.Rows.{harts_in}
 use Rattle.litmus_reader.specs.Layout.{IsVisible}
 use Rattle.litmus_reader.specs.Columns.{Cells, IsRow, AreRows, IsTable, column_of, IsColumnCode}
 use Rattle.litmus_reader.specs.Columns.AreRows.{none, blank, row}
-use Rattle.litmus_reader.proofs.ShapeLaws.{parts_found, parts_only, cut_found, cut_only, visible_matches, first-found, first_only}
+use Rattle.litmus_reader.proofs.TableLaws.{as_instr-ok}
+use Rattle.litmus_reader.proofs.ShapeLaws.{cut_found, cut_only, visible_matches, line_found, line_only}
 use Rattle.litmus_reader.proofs.RowGrammar.{blank_found, blank_only, row_found, row_only, first_row_found, first_row_only}
 use Rattle.texts.specs.declared.pieces.Separators.TheVariants.{Byte}
 
 -- ---- one column
-
-as_instr-ok : {A : Type 0} (r : Result A Refusal) (x : A) → as_instr r ≡ Ok x → r ≡ Ok x
-as_instr-ok r x e = grind (arith, ok_is)
 
 words_of-append : (above below : List Line) → word_count (above ++ below) ≡ word_count above + word_count below
 words_of-append [] below = omega arith
@@ -58,16 +56,10 @@ AreFew ends = AllByRecursion (λ end. word_count end ≤ 4096) ends
 
 -- the cells from a hart's on
 abbrev AreFrom : ℕ → Cells → Cells → Type 0
-AreFrom hart cells here = (i : ℕ) → slice_index_or cells (hart + i) [] ≡ slice_index_or here i []
-
-from_first : (hart : ℕ) (cells : Cells) (cell : List ℕ) (here : Cells) → AreFrom hart cells (cell ∷ here) → slice_index_or cells hart [] ≡ cell
-from_first hart cells cell here at = let same : hart + 0 ≡ hart = omega arith in rw same at (at 0)
-
-from_next : (hart : ℕ) (cells : Cells) (cell : List ℕ) (here : Cells) → AreFrom hart cells (cell ∷ here) → AreFrom (hart + 1) cells here
-from_next hart cells cell here at i = let same : hart + 1 + i ≡ hart + suc i = omega arith in rw same (at (suc i))
+AreFrom hart cells here = (i j : ℕ) → j ≡ hart + i → slice_index_or cells j [] ≡ slice_index_or here i []
 
 from_start : (cells : Cells) → AreFrom 0 cells cells
-from_start cells i = let same : 0 + i ≡ i = omega arith in rw same refl
+from_start cells i j at = let same : j ≡ i = omega arith in rw same refl
 
 ends_none : (hart : ℕ) (columns : List Column) → AreEnds [] hart columns columns
 ends_none hart [] = refl
@@ -90,8 +82,8 @@ ends_more rows cells hart (column ∷ columns) (cell ∷ here) more ends at coun
       below.0,
       below.1,
       below.2,
-      rw (from_first hart cells cell here at, cell_found column cell step.0 step.1) below.3,
-      ends_more rows cells (hart + 1) columns here rest.0 below.1 (from_next hart cells cell here at) (omega (arith, count)) rest.1 below.4,
+      rw (at 0 hart (omega arith), cell_found column cell step.0 step.1) below.3,
+      ends_more rows cells (hart + 1) columns here rest.0 below.1 (λ i j e. at (suc i) j (omega (arith, e))) (omega (arith, count)) rest.1 below.4,
     )
 
 cells_found : (rows : List Cells) (cells : Cells) (columns more ends : List Column) → length cells ≡ length columns
@@ -106,36 +98,26 @@ cells_count columns cells more count e = ends_count (cells ∷ []) 0 columns mor
 record Fronts (rows : List Cells) (hart : ℕ) (columns : List Column) (here : Cells) (ends : List Column) : Type 0 where
   more : List Column
   shown : cells_added columns here ≡ Ok more
+  count : length more ≡ length columns
   below : AreEnds rows hart more ends
 
 fronts : (rows : List Cells) (cells : Cells) (hart : ℕ) (columns : List Column) (here : Cells) (ends : List Column)
     → AreFrom hart cells here → length here ≡ length columns → AreEnds (cells ∷ rows) hart columns ends → AreFew ends
     → Fronts rows hart columns here ends
-fronts rows cells hart [] here ends at count are few = record { more = []; shown = refl; below = are }
+fronts rows cells hart [] here ends at count are few = record { more = []; shown = refl; count = refl; below = are }
 fronts rows cells hart (column ∷ columns) [] ends at count are few = absurd (omega (arith, count))
 fronts rows cells hart (column ∷ columns) (cell ∷ here) ends at count are few =
     let fewer = subst AreFew are.2 few in
-    let all : all_drafted column (cell ∷ column_of hart rows) ≡ Ok are.0 = rw (← (from_first hart cells cell here at)) are.3 in
+    let all : all_drafted column (cell ∷ column_of hart rows) ≡ Ok are.0 = rw (← (at 0 hart (omega arith))) are.3 in
     let step = bind_ok (drafted column cell) (λ (m : Column). all_drafted m (column_of hart rows)) are.0 all in
     let grow = words_grow step.0 (column_of hart rows) are.0 step.2 in
-    let rest = fronts rows cells (hart + 1) columns here are.1 (from_next hart cells cell here at) (omega (arith, count)) are.4 fewer.1 in
+    let rest = fronts rows cells (hart + 1) columns here are.1 (λ i j e. at (suc i) j (omega (arith, e))) (omega (arith, count)) are.4 fewer.1 in
     record {
       more = step.0 ∷ rest.more;
       shown = rw (cell_only column cell step.0 step.1 (omega (arith, grow, fewer.0)), rest.shown) refl;
+      count = ap suc rest.count;
       below = (are.0, are.1, are.2, step.2, rest.below);
     }
-
-record CellsAdded (rows : List Cells) (cells : Cells) (columns ends : List Column) : Type 0 where
-  more : List Column
-  shown : cells_added columns cells ≡ Ok more
-  count : length more ≡ length columns
-  below : AreEnds rows 0 more ends
-
-cells_only : (rows : List Cells) (cells : Cells) (columns ends : List Column) → length cells ≡ length columns
-    → AreEnds (cells ∷ rows) 0 columns ends → AreFew ends → CellsAdded rows cells columns ends
-cells_only rows cells columns ends count are few =
-    let front = fronts rows cells 0 columns cells ends (from_start cells) count are few in
-    record { more = front.more; shown = front.shown; count = cells_count columns cells front.more count front.shown; below = front.below }
 
 -- ---- instructions
 
@@ -195,6 +177,10 @@ line-only : (columns : List Column) (line : List ℕ) (cells : Cells) → IsRow 
 unfolding line_added
 line-only columns line cells is count = grind (arith, row_only line cells is, eq-eqb (length cells) (length columns) count)
 
+line-blank : (columns : List Column) (line : List ℕ) → AreBlanks line → line_added columns line ≡ Ok columns
+unfolding line_added
+line-blank columns line are = rw (blank_only line are) refl
+
 record Rows (columns : List Column) (lines : List (List ℕ)) (ends : List Column) : Type 0 where
   rows : List Cells
   are : AreRows (length columns) lines rows
@@ -232,20 +218,13 @@ ends_of_none hart (column ∷ columns) ends are = rw (are.2, ok_is Refusal colum
 lines_only : (harts : ℕ) (columns : List Column) (lines : List (List ℕ)) (rows : List Cells) (ends : List Column)
     → length columns ≡ harts → AreRows harts lines rows → AreEnds rows 0 columns ends → AreFew ends
     → lines_added columns lines ≡ Ok ends
-unfolding line_added
 lines_only harts columns lines rows ends count none are few = ap Ok (ends_of_none 0 columns ends are)
 lines_only harts columns lines rows ends count (blank line below others empty written) are few =
-    rw (blank_only line empty) (lines_only harts columns below others ends count written are few)
+    rw (line-blank columns line empty) (lines_only harts columns below others ends count written are few)
 lines_only harts columns lines rows ends count (row line below cells others is full written) are few =
     let same : length cells ≡ length columns = full ∙ sym count in
-    let front = cells_only others cells columns ends same are few in
-    line_first columns front.more line below ends (line-only columns line cells is same ∙ front.shown)
-    (lines_only harts front.more below others ends (front.count ∙ count) written front.below few)
-  where
-    line_first : (columns more : List Column) (line : List ℕ) (below : List (List ℕ)) (ends : List Column)
-        → line_added columns line ≡ Ok more → lines_added more below ≡ Ok ends
-        → lines_added columns (line ∷ below) ≡ Ok ends
-    line_first columns more line below ends first rest = rw first rest
+    let front = fronts others cells 0 columns cells ends (from_start cells) same are few in
+    rw (line-only columns line cells is same, front.shown) (lines_only harts front.more below others ends (front.count ∙ count) written front.below few)
 
 -- ---- the table
 
@@ -278,14 +257,12 @@ table_found table columns codes e done = go (from_line mark.Visible table) refl 
             first = before (is_byte 10) from;
             below = below;
             names = first.names;
-            lines = pieces (Byte 10) below;
-            begins = first-found mark.Visible IsVisible visible_matches table from at;
+            begins = line_found mark.Visible IsVisible visible_matches table (Some from) at;
             cut = cut_found from;
             row = first.row;
             named = first.named;
             counted = first.counted ∙ sym coded.1;
             few = subst (λ (n : ℕ). n ≤ 64) (sym coded.1) first.few;
-            parted = parts_found 10 below;
             written = subst (λ (n : ℕ). AreRows n (pieces (Byte 10) below) lines.rows) (length-replicate step.0 [] ∙ sym coded.1) lines.are;
           },
           coded.0,
@@ -296,11 +273,10 @@ pub table_only : (table : List ℕ) (rows : List Cells) (codes : List Code) → 
 unfolding table_at
 table_only table rows codes is are =
     let coded = codes_only rows 0 codes are in
-    let begun = first_only mark.Visible IsVisible visible_matches table is.blank_lines is.from is.begins in
+    let begun = line_only mark.Visible IsVisible visible_matches is.begins in
     let cut = cut_only is.from is.first is.below is.cut in
     let first = first_row_only is.first (length codes) (record { names = is.names; row = is.row; named = is.named; counted = is.counted; few = is.few }) in
-    let lines = lines_only (length codes) (replicate (length codes) []) is.lines rows coded.ends
+    let lines = lines_only (length codes) (replicate (length codes) []) (pieces (Byte 10) is.below) rows coded.ends
     (length-replicate (length codes) []) is.written coded.are coded.few in
-    let shown : lines_added (replicate (length codes) []) (pieces (Byte 10) is.below) ≡ Ok coded.ends = rw (parts_only 10 is.below is.lines is.parted) lines in
-    let below = sym (below_same (replicate (length codes) []) (after (is_byte 10) is.from)) ∙ rw cut.1 shown in
+    let below = sym (below_same (replicate (length codes) []) (after (is_byte 10) is.from)) ∙ rw cut.1 lines in
     (coded.ends, rw (begun.1, cut.0, first) below, coded.shown)

@@ -1,5 +1,5 @@
 -- The reading of a text answers the test that its grammar says, and no other text has one.
-use Rattle.std.proofs.Common.{◌≡◌, ℕ, suc, ◌+◌, ◌<◌, ◌≤◌, List, [], ◌∷◌, ◌++◌, length, map, All, Option, Some, Ok, refl, sym, ap, subst, arith}
+use Rattle.std.proofs.Common.{◌≡◌, ℕ, suc, ◌+◌, ◌<◌, ◌≤◌, List, [], ◌∷◌, ◌++◌, length, map, All, Option, Some, Ok, refl, sym, ap, subst, ◌∙◌, arith}
 use Rattle.std.specs.List.{slice_index_or}
 use Rattle.std.proofs.lemmas.List.{length-map}
 use Rattle.texts.specs.Cutting.{before, after, is_byte}
@@ -15,20 +15,19 @@ use Rattle.litmus_reader.specs.Locations.{Names}
 use Rattle.litmus_reader.specs.Init.{InitItems, items_at, no_items, pieces_added}
 use Rattle.litmus_reader.specs.Table.{Code, Column, table_at, codes_of}
 use Rattle.litmus_reader.specs.Values.{Values, values_at, padded}
-use Rattle.litmus_reader.specs.Condition.{Condition, condition_in, condition_at}
+use Rattle.litmus_reader.specs.Condition.{Condition, condition_in}
 use Rattle.litmus_reader.specs.Reading.{HartContent, Content, with_registers, content, content_below, content_after, content_at, test_at}
-use Rattle.litmus_reader.specs.Openings.{names_in, each_once, AreRegisters, AreFirstWords, IsHartThere}
+use Rattle.litmus_reader.specs.Openings.{names_in, each_once, AreRegisters, IsHartThere}
 use Rattle.litmus_reader.specs.Columns.{Cells, IsTable}
 use Rattle.litmus_reader.specs.ConditionGrammar.{atoms_in, AreKnown}
 use Rattle.litmus_reader.specs.Grammar.{AreHarts, IsContent}
-use Rattle.litmus_reader.proofs.FirstAppearances.{fewer}
+use Rattle.litmus_reader.proofs.FirstAppearances.{Distinct, once_distinct, met, met-once, fewer}
 use Rattle.litmus_reader.proofs.HeadingLaws.{init-some}
-use Rattle.litmus_reader.proofs.ShapeLaws.{parts_found, parts_only}
 use Rattle.litmus_reader.proofs.LayoutLaws.{layout_found, layout_only}
 use Rattle.litmus_reader.proofs.ItemLaws.{items_found, items_only}
-use Rattle.litmus_reader.proofs.FirstValueLaws.{values_found, values_only, registers-later, words-later, registers_one, words_one}
+use Rattle.litmus_reader.proofs.FirstValueLaws.{AreFirst, values_found, values_only, registers_one, words_one}
 use Rattle.litmus_reader.proofs.ColumnLaws.{AreCodes, table_found, table_only}
-use Rattle.litmus_reader.proofs.ConditionLaws.{condition_found, condition_only}
+use Rattle.litmus_reader.proofs.ConditionLaws.{AskOf, condition_found, condition_only}
 use Rattle.texts.specs.declared.pieces.Separators.TheVariants.{Byte}
 
 -- ---- harts: their code beside their registers
@@ -39,25 +38,18 @@ AreAllRegisters names assignments hart [] = Unit {0}
 AreAllRegisters names assignments hart (first ∷ others) = AreRegisters names assignments hart first × AreAllRegisters names assignments (hart + 1) others
 
 all_registers : (names : Names) (assignments : List AssignmentValue) (hart : ℕ) (registers : List (List ℕ))
-    → ((i : ℕ) → i < length registers → AreRegisters names assignments (hart + i) (slice_index_or registers i []))
+    → ((i j : ℕ) → j ≡ hart + i → i < length registers → AreRegisters names assignments j (slice_index_or registers i []))
     → AreAllRegisters names assignments hart registers
 all_registers names assignments hart [] each = tt
-all_registers names assignments hart (first ∷ others) each =
-    let here : hart + 0 ≡ hart = omega arith in
-    let P : ℕ → ℕ → Type 0 = λ h i. AreRegisters names assignments h (slice_index_or (first ∷ others) i []) in (
-      subst (λ (h : ℕ). AreRegisters names assignments h first) here (each 0 (omega arith)),
-      all_registers names assignments (hart + 1) others
-          (λ i less. let there : hart + suc i ≡ hart + 1 + i = omega arith in
-          subst (λ (h : ℕ). AreRegisters names assignments h (slice_index_or others i [])) there
-          (each (suc i) (omega (arith, less)))),
-    )
+all_registers names assignments hart (first ∷ others) each = (
+  each 0 hart (omega arith) (omega arith),
+  all_registers names assignments (hart + 1) others (λ i j at less. each (suc i) j (omega (arith, at)) (omega (arith, less))),
+)
 
-from_first : (names : Names) (assignments : List AssignmentValue) (registers : List (List ℕ))
-    → ((i : ℕ) → i < length registers → AreRegisters names assignments i (slice_index_or registers i []))
-    → AreAllRegisters names assignments 0 registers
-from_first names assignments registers each =
-    all_registers names assignments 0 registers (λ i less. let same : i ≡ 0 + i = omega arith in
-    subst (λ (h : ℕ). AreRegisters names assignments h (slice_index_or registers i [])) same (each i less))
+first_registers : (harts : ℕ) (names : Names) (assignments : List AssignmentValue) (values : Values) → AreFirst harts assignments names values
+    → AreAllRegisters names assignments 0 values.registers
+first_registers harts names assignments values first = all_registers names assignments 0 values.registers (λ i j at less.
+    let same : j ≡ i = omega (arith, at) in rw same (first.registers i (omega (arith, less, first.count))))
 
 harts_found : (names : Names) (assignments : List AssignmentValue) (rows : List Cells) (hart : ℕ) (codes : List Code)
     (registers : List (List ℕ)) → AreCodes rows hart codes → AreAllRegisters names assignments hart registers
@@ -83,30 +75,24 @@ one_hart : (first : HartContent) (registers : List ℕ) → first.inbox ≡ [] �
     → record { code = first.code; registers = registers; inbox = [] } ≡ first
 one_hart first registers empty same = rw (← empty, ← same) refl
 
-harts_only : (ms : Names) (assignments : List AssignmentValue) (rows : List Cells) (hart : ℕ) (harts : List HartContent)
-    (registers : List (List ℕ)) → length registers ≡ length harts → AreHarts (each_once ms) assignments rows hart harts
-    → AreAllRegisters (each_once ms) assignments hart registers → with_registers (map code_of harts) registers ≡ harts
-harts_only ms assignments rows hart [] registers same are all = refl
-harts_only ms assignments rows hart (first ∷ others) [] same are all = absurd (omega (arith, same))
-harts_only ms assignments rows hart (first ∷ others) (next ∷ registers) same are all =
-    rw (one_hart first next are.2 (registers_one ms assignments hart first.registers next are.1 all.0)) (
-    ap (λ (hs : List HartContent). first ∷ hs) (harts_only ms assignments rows (hart + 1) others registers (omega (arith, same)) are.3 all.1))
+harts_only : (names : Names) (assignments : List AssignmentValue) (rows : List Cells) (hart : ℕ) (harts : List HartContent)
+    (registers : List (List ℕ)) → Distinct names → length registers ≡ length harts → AreHarts names assignments rows hart harts
+    → AreAllRegisters names assignments hart registers → with_registers (map code_of harts) registers ≡ harts
+harts_only names assignments rows hart [] registers distinct same are all = refl
+harts_only names assignments rows hart (first ∷ others) [] distinct same are all = absurd (omega (arith, same))
+harts_only names assignments rows hart (first ∷ others) (next ∷ registers) distinct same are all =
+    rw (one_hart first next are.2 (registers_one names assignments hart first.registers next distinct are.1 all.0)) (
+    ap (λ (hs : List HartContent). first ∷ hs) (harts_only names assignments rows (hart + 1) others registers distinct (omega (arith, same)) are.3 all.1))
 
 -- ---- the whole, from its reading
-
-record Asking (harts : ℕ) (names : Names) (o : Option (List ℕ)) (condition : Condition) : Type 0 where
-  text : List ℕ
-  begins : o ≡ Some text
-  reads : condition_in harts names text ≡ Ok condition
-
-asking : (harts : ℕ) (names : Names) (o : Option (List ℕ)) (condition : Condition) → condition_at harts names o ≡ Ok condition → Asking harts names o condition
-asking harts names o condition e = grind arith
 
 record Below (resolved_items : InitItems) (codes : List Code) (o : Option (List ℕ)) (whole : Content) : Type 0 where
   values : Values
   condition : Condition
+  text : List ℕ
   assignment : values_at (length codes) resolved_items ≡ Ok values
-  asks : condition_at (length codes) resolved_items.names o ≡ Ok condition
+  begins : o ≡ Some text
+  asks : condition_in (length codes) resolved_items.names text ≡ Ok condition
   is : content codes values condition ≡ whole
 
 below_of : (resolved_items : InitItems) (codes : List Code) (o : Option (List ℕ)) (whole : Content)
@@ -147,51 +133,37 @@ content_found text whole e =
     let following = read.following in
     let below = following.below in
     let harts = length following.codes in
-    let asking = asking harts read.resolved_items.names (from_line mark.Condition read.rest) below.condition below.asks in
     let items = items_found (pieces (Byte 59) (before (is_byte 125) read.inner)) read.resolved_items read.items in
-    let assignments = items.0 in
-    let few : length (each_once (names_in assignments)) ≤ 1024 = subst (λ (names : Names). length names ≤ 1024) items.2 items.3 in
     let table = table_found (before_line mark.Condition read.rest) following.columns following.codes following.rows following.placed in
-    let first = values_found harts assignments read.resolved_items below.values items.2 items.4 below.assignment in
-    let condition_text = condition_found harts (names_in assignments) asking.text below.condition few
-    (subst (λ (names : Names). condition_in harts names asking.text ≡ Ok below.condition) items.2 asking.reads) in
-    let more = names_in (atoms_in condition_text.0) in
-    let names : below.condition.names ≡ each_once (names_in assignments ++ more) = condition_text.3 in
-    let count : length (with_registers following.codes below.values.registers) ≡ harts = length-with following.codes below.values.registers first.1 in
-    let registers : AreAllRegisters below.condition.names assignments 0 below.values.registers =
-    subst (λ (ns : Names). AreAllRegisters ns assignments 0 below.values.registers) (sym names)
-    (from_first (each_once (names_in assignments ++ more)) assignments below.values.registers
-    (λ i less. registers-later (names_in assignments) more assignments i (slice_index_or below.values.registers i [])
-    (subst (λ (ns : Names). AreRegisters ns assignments i (slice_index_or below.values.registers i [])) items.2
-    (first.2 i (omega (arith, less, first.1)))))) in
-    let words : AreFirstWords below.condition.names assignments
-    (padded (length below.condition.names) below.values.words) =
-    subst (λ (ns : Names). AreFirstWords ns assignments (padded (length ns) below.values.words)) (sym names)
-    (words-later assignments more below.values.words
-    (subst (λ (ns : Names). AreFirstWords ns assignments below.values.words) items.2 first.3)) in
+    let asks = condition_found harts read.resolved_items.names below.text below.condition below.asks in
+    let more = names_in (atoms_in asks.words) in
+    let names = ap (λ (ns : Names). met ns more) items.2.names ∙ met-once (names_in items.0) more in
+    let first = subst (λ (ns : Names). AreFirst harts items.0 ns below.values) (sym asks.named)
+    (values_found harts items.0 read.resolved_items more below.values items.2
+    (subst Distinct (sym names) (once_distinct (names_in items.0 ++ more))) below.assignment) in
+    let count : length (with_registers following.codes below.values.registers) ≡ harts = length-with following.codes below.values.registers first.count in
     subst (IsContent text) below.is (record {
       clean = cleaned_text text;
       init = before (is_byte 125) read.inner;
       table = before_line mark.Condition read.rest;
-      condition_text = asking.text;
-      parts = pieces (Byte 59) (before (is_byte 125) read.inner);
-      assignments = assignments;
+      condition_text = below.text;
+      assignments = items.0;
       rows = table.0;
-      tokens = condition_text.0;
-      known = condition_text.1;
+      tokens = asks.words;
+      known = asks.known;
       cleaned = is_cleaned text;
-      laid_out = layout_found (cleaned_text text) read.below read.inner read.rest asking.text read.headed read.braced read.closed asking.begins;
-      parted = parts_found 59 (before (is_byte 125) read.inner);
+      laid_out = layout_found (cleaned_text text) read.below read.inner read.rest below.text read.headed read.braced read.closed below.begins;
       items = items.1;
       tabled = subst (λ (n : ℕ). IsTable (before_line mark.Condition read.rest) n table.0) (sym count) table.1;
-      harts = harts_found below.condition.names assignments table.0 0 following.codes below.values.registers table.2 registers;
-      there = subst (λ (n : ℕ). All (IsHartThere n) assignments) (sym count) first.0;
-      quantified = condition_text.2;
-      named = names;
-      few = condition_text.4;
-      first_words = words;
-      all_known = subst (λ (n : ℕ). AreKnown n below.condition.names condition_text.0 condition_text.1) (sym count) condition_text.5;
-      condition = condition_text.6;
+      harts = harts_found below.condition.names items.0 table.0 0 following.codes below.values.registers table.2
+          (first_registers harts below.condition.names items.0 below.values first);
+      there = subst (λ (n : ℕ). All (IsHartThere n) items.0) (sym count) first.there;
+      quantified = asks.asks;
+      named = asks.named ∙ names;
+      few = asks.few items.2.few;
+      first_words = first.words;
+      all_known = subst (λ (n : ℕ). AreKnown n below.condition.names asks.words asks.known) (sym count) asks.all;
+      condition = asks.stands;
     })
 
 -- ---- and back
@@ -201,46 +173,35 @@ unfolding test_at content_at content_after content_below items_at
 content_only text whole is =
     let harts = length whole.harts in
     let more = names_in (atoms_in is.tokens) in
-    let all = names_in is.assignments ++ more in
     let clean : cleaned_text text ≡ is.clean = only_cleaned text is.clean is.cleaned in
     let laying = layout_only is.clean is.init is.table is.condition_text is.laid_out in
-    let total : length (each_once all) ≤ 1024 = subst (λ (names : Names). length names ≤ 1024) is.named is.few in
-    let front : length (each_once (names_in is.assignments)) ≤ 1024 = omega (arith, total, fewer (names_in is.assignments) more) in
-    let items = items_only is.parts is.assignments is.items front in
-    let resolved_items = items.0 in
+    let named : met (each_once (names_in is.assignments)) more ≡ whole.names = met-once (names_in is.assignments) more ∙ sym is.named in
+    let front : length (each_once (names_in is.assignments)) ≤ 1024 =
+    omega (arith, is.few, ap length named, fewer (each_once (names_in is.assignments)) more) in
+    let items = items_only (pieces (Byte 59) is.init) is.assignments is.items front in
+    let names : met items.0.names more ≡ whole.names = ap (λ (ns : Names). met ns more) items.2.names ∙ named in
+    let distinct : Distinct whole.names = subst Distinct (sym is.named) (once_distinct (names_in is.assignments ++ more)) in
     let codes = map code_of whole.harts in
     let count : length codes ≡ harts = length-map whole.harts code_of in
     let table =
     table_only is.table is.rows codes (subst (λ (n : ℕ). IsTable is.table n is.rows) (sym count) is.tabled)
     (codes_found whole.names is.assignments is.rows 0 whole.harts is.harts) in
-    let assignment = values_only harts is.assignments resolved_items items.2 items.3 is.there in
+    let assignment = values_only harts is.assignments items.0 items.2 is.there in
     let values = assignment.0 in
-    let first = values_found harts is.assignments resolved_items values items.2 items.3 assignment.1 in
-    let registers : AreAllRegisters (each_once all) is.assignments 0 values.registers =
-    from_first (each_once all) is.assignments values.registers
-    (λ i less. registers-later (names_in is.assignments) more is.assignments i (slice_index_or values.registers i [])
-    (subst (λ (ns : Names). AreRegisters ns is.assignments i (slice_index_or values.registers i [])) items.2
-    (first.2 i (omega (arith, less, first.1))))) in
+    let first = subst (λ (ns : Names). AreFirst harts is.assignments ns values) names
+    (values_found harts is.assignments items.0 more values items.2 (subst Distinct (sym names) distinct) assignment.1) in
     let same_harts : with_registers codes values.registers ≡ whole.harts =
-    harts_only all is.assignments is.rows 0 whole.harts values.registers first.1
-    (subst (λ (ns : Names). AreHarts ns is.assignments is.rows 0 whole.harts) is.named is.harts) registers in
-    let same_words : padded (length (each_once all)) values.words ≡ whole.words =
-    words_one all is.assignments _ whole.words (words-later is.assignments more values.words
-    (subst (λ (ns : Names). AreFirstWords ns is.assignments values.words) items.2 first.3))
-    (subst (λ (ns : Names). AreFirstWords ns is.assignments whole.words) is.named is.first_words) in
-    let asks : condition_in harts resolved_items.names is.condition_text
-    ≡ Ok (record { quantifier = whole.quantifier; formula = whole.condition; names = each_once all }) =
-    subst (λ (ns : Names). condition_in harts ns is.condition_text
-    ≡ Ok (record { quantifier = whole.quantifier; formula = whole.condition; names = each_once all })) (sym items.2)
-    (condition_only harts (names_in is.assignments) is.condition_text whole.quantifier is.tokens is.known
-    whole.condition is.quantified total
-    (subst (λ (ns : Names). AreKnown harts ns is.tokens is.known) is.named is.all_known) is.condition) in
+    harts_only whole.names is.assignments is.rows 0 whole.harts values.registers distinct first.count is.harts
+    (first_registers harts whole.names is.assignments values first) in
+    let same_words : padded (length whole.names) values.words ≡ whole.words =
+    words_one whole.names is.assignments _ whole.words distinct first.words is.first_words in
+    let asks = condition_only harts items.0.names is.condition_text whole.quantifier is.tokens is.known whole.condition is.quantified
+    (subst (AskOf harts is.tokens is.known) (sym names) (distinct, is.few, is.all_known)) is.condition in
     rw (
       clean,
       laying.headed,
       laying.braced,
       laying.opened,
-      parts_only 59 is.init is.parts is.parted,
       items.1,
       laying.closed,
       laying.above,
@@ -250,7 +211,7 @@ content_only text whole is =
       assignment.1,
       laying.asks,
       asks,
+      names,
       same_harts,
       same_words,
-      ← is.named,
     ) refl

@@ -1,15 +1,14 @@
 -- What is read as a test's heading, and the words of a text in one line.
 use Rattle.std.proofs.Common.{◌≡◌, ◌↔◌, ℕ, List, [], ◌∷◌, ◌++◌, length, Option, Some, Result, Ok, refl, sym, ap, subst, ◌∙◌, append-nil, append_assoc, arith}
-use Rattle.std.specs.Prelude.{IfOk, nat_lt, codes, unwrap_or}
+use Rattle.std.specs.Prelude.{IfOk, nat_lt, codes}
 use Rattle.std.specs.List.{filter, flat_map, join_with_byte}
 use Rattle.std.proofs.lemmas.Bool.{ne_eqb}
 use Rattle.texts.specs.declared.pieces.Separators.TheVariants.{Gaps}
-use Rattle.texts.specs.Pieces.{is_blank, pieces, pieces_after}
-use Rattle.texts.specs.Cutting.{before, after, is_byte, without_front, tokens, NonePass}
+use Rattle.texts.specs.Pieces.{pieces, pieces_after}
+use Rattle.texts.specs.Cutting.{before, after, is_byte, tokens}
 use Rattle.texts.specs.Results.{GivesUpToMemory}
-use Rattle.texts.proofs.CuttingLaws.{before-stop, after-stop}
 use Rattle.texts.proofs.ResultLaws.{bind_ok, ok_is}
-use Rattle.texts.proofs.TokenLaws.{filter_kept, first_is, tokens-cut}
+use Rattle.texts.proofs.TokenLaws.{filter_kept}
 use Rattle.litmus_tokens.specs.Cleaning.{cleaned_text}
 use Rattle.litmus_tokens.proofs.CommentLaws.{is_cleaned, only_cleaned}
 use Rattle.litmus_reader.specs.declared.faults.LitmusFault.{LitmusFault}
@@ -17,11 +16,11 @@ use Rattle.litmus_reader.specs.declared.marks.Mark.TheVariants as mark
 use Rattle.litmus_reader.specs.Marks.{before_line, from_line}
 use Rattle.litmus_reader.specs.Header.{after_header, after_brace}
 use Rattle.litmus_reader.specs.Init.{after_init}
-use Rattle.litmus_reader.specs.Layout.{IsVisible, IsHeader, IsLaidOut}
+use Rattle.litmus_reader.specs.Layout.{IsVisible, IsLaidOut}
 use Rattle.litmus_reader.specs.Reading.{Content}
 use Rattle.litmus_reader.specs.Grammar.{IsContent}
-use Rattle.litmus_reader.specs.Headings.{HeadingOf, in_one_line, with_word, IsHeading, first_line, name_in, condition_of, heading_in, heading_at}
-use Rattle.litmus_reader.proofs.ShapeLaws.{cut_only, front_of, visible_matches, first_only}
+use Rattle.litmus_reader.specs.Headings.{HeadingOf, in_one_line, with_word, IsHeading, name_in, condition_of, heading_in, heading_at}
+use Rattle.litmus_reader.proofs.ShapeLaws.{cut_only, visible_matches, line_only}
 use Rattle.litmus_reader.proofs.LayoutLaws.{layout_found, layout_only}
 
 -- ---- words in one line
@@ -55,35 +54,11 @@ carried_all line = grind (arith, append-nil)
 
 -- ---- the name
 
--- the header line's tokens
-pub header_tokens : (line : List ℕ) → IsHeader line → (name : List ℕ) × (others : List (List ℕ)) × (tokens line ≡ codes "RISCV" ∷ name ∷ others)
-header_tokens line (blanks, gap, rest, b, c, are, apart, solid, whole) =
-    let word : List ℕ = codes "RISCV" ++ b ∷ (gap ++ c ∷ rest) in
-    let plain : NonePass is_blank (codes "RISCV") = (refl, (refl, (refl, (refl, (refl, tt))))) in
-    let front : word ≡ without_front line = sym (ap without_front whole ∙ front_of blanks 82 (codes "ISCV" ++ b ∷ (gap ++ c ∷ rest)) are refl) in
-    let first = first_is line word (codes "RISCV") (Some (gap ++ c ∷ rest)) front (omega arith)
-    (sym (before-stop is_blank (codes "RISCV") b (gap ++ c ∷ rest) plain apart.0))
-    (sym (after-stop is_blank (codes "RISCV") b (gap ++ c ∷ rest) plain apart.0)) in
-    let second = first_is (gap ++ c ∷ rest) (c ∷ rest) (before is_blank (c ∷ rest)) (after is_blank (c ∷ rest))
-    (sym (front_of gap c rest apart.1 solid)) (omega arith) refl refl in
-    let name = before is_blank (c ∷ rest) in
-    let following = unwrap_or (after is_blank (c ∷ rest)) [] in (
-      name,
-      tokens following,
-      tokens-cut line (codes "RISCV") (gap ++ c ∷ rest) first
-          ∙ ap (λ (ts : List (List ℕ)). codes "RISCV" ∷ ts) (tokens-cut (gap ++ c ∷ rest) name following second),
-    )
-
--- the line that is read as the header
-header_read : (text init table condition_text : List ℕ) (laid : IsLaidOut text init table condition_text)
-    → first_line (from_line mark.Visible text) ≡ laid.header
-header_read text init table condition_text laid =
-    let from = first_only mark.Visible IsVisible visible_matches text laid.blank_lines laid.headed laid.begins in
-    rw from.1 (cut_only laid.headed laid.header laid.below laid.first).0
-
 name_read : (text init table condition_text : List ℕ) (laid : IsLaidOut text init table condition_text) (name : List ℕ) (others : List (List ℕ))
     → tokens laid.header ≡ codes "RISCV" ∷ name ∷ others → name_in text ≡ name
-name_read text init table condition_text laid name others e = rw (header_read text init table condition_text laid, e) refl
+name_read text init table condition_text laid name others e =
+    let from = line_only mark.Visible IsVisible visible_matches laid.begins in
+    rw (from.1, (cut_only laid.headed laid.header laid.below laid.first).0, e) refl
 
 -- ---- the heading
 
@@ -112,7 +87,7 @@ heading_found text is e =
     let asks = asking (from_line mark.Condition third.0) fourth.0 fourth.1 in
     let closed = init-some (after (is_byte 125) second.0) third.0 third.1 in
     let laid = layout_found clean first.0 second.0 third.0 asks.condition_text first.1 second.1 closed asks.begins in
-    let named = header_tokens laid.header laid.named in
+    let named = laid.named in
     let same : heading (name_in clean) fourth.0 ≡ is = ok_is LitmusFault (heading (name_in clean) fourth.0) is fourth.2 in
     let name : named.0 ≡ is.name =
     sym (name_read clean _ _ asks.condition_text laid named.0 named.1 named.2) ∙ ap (λ (h : HeadingOf). h.name) same in
@@ -152,7 +127,7 @@ one_heading text a b first second = ok_is LitmusFault a b (sym (heading_only tex
 -- a text with a test has a heading
 pub test_headed : (text : List ℕ) (content : Content) → IsContent text content → (is : HeadingOf) × IsHeading text is
 test_headed text content c =
-    let named = header_tokens c.laid_out.header c.laid_out.named in (
+    let named = c.laid_out.named in (
       heading named.0 (in_one_line c.condition_text),
       record {
         clean = c.clean;

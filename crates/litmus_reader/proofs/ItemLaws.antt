@@ -1,28 +1,29 @@
 -- Items of the init part: what is read stands there, and what stands there is read.
-use Rattle.std.proofs.Common.{◌≡◌, ℕ, ◌≤◌, true, false, List, [], ◌∷◌, ◌++◌, length, Option, Some, None, Result, Ok}
-use Rattle.std.proofs.Common.{refl, sym, ap, subst, ◌⊎◌, inl, inr, append_assoc, arith}
+use Rattle.std.proofs.Common.{◌≡◌, ℕ, ◌≤◌, true, false, List, [], ◌∷◌, ◌++◌, length, Option, Some, None, Ok}
+use Rattle.std.proofs.Common.{refl, sym, ap, subst, ◌∙◌, ◌⊎◌, inl, inr, append_assoc, arith}
 use Rattle.std.specs.List.{list_all}
 use Rattle.std.proofs.lemmas.Bool.{cases_Bool, and_right, false_from_ne_true}
 use Rattle.std.proofs.lemmas.List.{append-nil}
 use Rattle.std.proofs.lemmas.List.Folds.{list_all-append}
-use Rattle.texts.specs.Results.{◌>>=◌}
 use Rattle.texts.proofs.ResultLaws.{bind_ok, ok_is}
 use Rattle.texts.specs.Pieces.{is_gap}
 use Rattle.litmus_tokens.specs.Names.{core}
 use Rattle.texts.specs.Cutting.{AllPass}
 use Rattle.litmus_tokens.specs.Assignments.{NamedLocation, AssignmentValue, declared, item as an_item}
 use Rattle.litmus_tokens.specs.Assignments.NamedLocation.{in_register, at_location}
+use Rattle.litmus_tokens.specs.Assignments.NamedValue.{number, address_of}
 use Rattle.texts.proofs.TrimLaws.{stripped-all}
 use Rattle.litmus_tokens.proofs.AssignmentLaws.{item_settles}
 use Rattle.texts.proofs.GrammarLaws.{all_by_test, test_of_all}
 use Rattle.litmus_reader.specs.declared.faults.LitmusFault.{LitmusFault}
 use Rattle.litmus_reader.specs.declared.init.Target.{Target}
 use Rattle.litmus_reader.specs.declared.init.Target.TheVariants.{Register, Word}
-use Rattle.litmus_reader.specs.Locations.{Names, resolved, value_resolved}
-use Rattle.litmus_reader.specs.Init.{InitItem, InitItems, no_items, target_resolved, item_added, piece_added, pieces_added}
-use Rattle.litmus_reader.specs.Openings.{AreItems, IsAt, IsNamedValue, each_once, name_of_place, name_of_value, names_in}
+use Rattle.litmus_reader.specs.Locations.{Names}
+use Rattle.litmus_reader.specs.Init.{InitItem, InitItems, no_items, target_resolved, item_resolved, item_added, piece_added, pieces_added}
+use Rattle.litmus_reader.specs.Openings.{AreItems, IsAt, IsNamedValue, each_once, name_of_place, names_of, names_in}
 use Rattle.litmus_reader.specs.Openings.AreItems.{none, empty, item}
-use Rattle.litmus_reader.proofs.FirstAppearances.{resolved-found, resolved-only, value_found, value_only, at_later, named_value_later, fewer}
+use Rattle.litmus_reader.proofs.FirstAppearances.{met, met-once, met-append, fewer, IsMet, Resolves, found_by, some_by}
+use Rattle.litmus_reader.proofs.FirstAppearances.{resolves_known, resolves_named, resolves_both, value_resolves}
 
 -- ---- items with indices for names
 
@@ -40,129 +41,73 @@ AreAssignments names (assignment ∷ assignments) [] = ⊥
 AreAssignments names (assignment ∷ assignments) (resolved_item ∷ resolved_items) =
     IsAssignmentOf names assignment resolved_item × AreAssignments names assignments resolved_items
 
-target_later : (ms more : Names) (place : NamedLocation) (target : Target) → IsTarget (each_once ms) place target
-    → IsTarget (each_once (ms ++ more)) place target
-target_later ms more place target is = grind (arith, at_later)
-
-assignments_later : (ms more : Names) (assignments : List AssignmentValue) (items : List InitItem)
-    → AreAssignments (each_once ms) assignments items → AreAssignments (each_once (ms ++ more)) assignments items
-assignments_later ms more [] [] are = tt
-assignments_later ms more (assignment ∷ assignments) (resolved_item ∷ items) are = (
-  (
-    target_later ms more assignment.0 resolved_item.target are.0.0,
-    named_value_later ms more assignment.1 resolved_item.value are.0.1,
-  ),
-  assignments_later ms more assignments items are.1,
-)
-assignments_later ms more x y are = are
-
-assignments_push : (names : Names) (assignments : List AssignmentValue) (items : List InitItem) (assignment : AssignmentValue)
-    (resolved_item : InitItem) → AreAssignments names assignments items → IsAssignmentOf names assignment resolved_item
-    → AreAssignments names (assignments ++ assignment ∷ []) (items ++ resolved_item ∷ [])
-assignments_push names [] [] assignment resolved_item are last = (last, tt)
-assignments_push names (first ∷ assignments) (one ∷ items) assignment resolved_item are last =
-    (are.0, assignments_push names assignments items assignment resolved_item are.1 last)
-assignments_push names x y assignment resolved_item are last = absurd are
-
--- ---- the names in items
-
-names-append : (assignments more : List AssignmentValue) → names_in (assignments ++ more) ≡ names_in assignments ++ names_in more
-names-append [] more = refl
-names-append (assignment ∷ assignments) more = grind (arith, append_assoc, names-append assignments more)
-
-names_push : (assignments : List AssignmentValue) (assignment : AssignmentValue)
-    → names_in (assignments ++ assignment ∷ []) ≡ (names_in assignments ++ name_of_place assignment.0)
-    ++ name_of_value assignment.1
-names_push assignments assignment = grind (arith, names-append, append-nil, append_assoc)
-
--- ---- a target's name
-
-abbrev resolved_as : Target × Names → Result (Target × Names) LitmusFault
-resolved_as found = Ok found
-
-abbrev IsTargetResolved : Names → NamedLocation → Target × Names → Type 0
-IsTargetResolved ms place found = (found.1 ≡ each_once (ms ++ name_of_place place)) × IsTarget found.1 place found.0
-    × (length (each_once ms) ≤ 1024 → length found.1 ≤ 1024)
-
-target_found : (ms : Names) (place : NamedLocation) (found : Target × Names) → target_resolved (each_once ms) place ≡ Ok found → IsTargetResolved ms place found
+pub target_resolves : (place : NamedLocation)
+    → Resolves (λ names. target_resolved names place) (name_of_place place)
+    (λ names target. IsTarget names place target)
 unfolding target_resolved
-target_found ms (in_register hart register) found e = grind (arith, ok_is, append-nil)
-target_found ms (at_location name) found e =
-    let step = bind_ok (resolved (each_once ms) name) (λ found. resolved_as (Word found.0, found.1)) found e in
-    let is = ok_is LitmusFault (Word step.0.0, step.0.1) found step.2 in
-    let resolved = resolved-found ms name step.0 step.1 in
-    subst (IsTargetResolved ms (at_location name)) is (resolved.0, (step.0.0, resolved.1, refl), resolved.2)
+target_resolves (in_register hart register) = resolves_known (Register hart register)
+target_resolves (at_location name) = resolves_named (λ index. Word index) name
 
-target_only : (ms : Names) (place : NamedLocation) → length (each_once (ms ++ name_of_place place)) ≤ 1024
-    → (target : Target) × (target_resolved (each_once ms) place ≡ Ok (target, each_once (ms ++ name_of_place place)))
-    × IsTarget (each_once (ms ++ name_of_place place)) place target
-unfolding target_resolved
-target_only ms (in_register hart register) few = (
-  Register hart register,
-  ap (λ (names : Names). resolved_as (Register hart register, names)) (ap each_once (sym (append-nil ms))),
-  refl,
+abbrev put_there : Target → ℕ → InitItem
+put_there target value = record { target = target; value = value }
+
+-- an item as its two parts
+abbrev IsPut : AssignmentValue → Names → InitItem → Type 0
+IsPut assignment names one = (target : Target) × (value : ℕ) × IsTarget names assignment.0 target
+    × IsNamedValue names assignment.1 value × (one ≡ put_there target value)
+
+item_resolves : (assignment : AssignmentValue)
+    → Resolves (λ names. item_resolved names assignment) (names_of assignment) (λ names one. IsPut assignment names one)
+unfolding item_resolved
+item_resolves assignment = resolves_both (λ target value. put_there target value) (target_resolves assignment.0) (value_resolves assignment.1)
+
+assignment_of : (assignment : AssignmentValue) (names : Names) (one : InitItem) → IsPut assignment names one → IsAssignmentOf names assignment one
+assignment_of assignment names one (target, value, at, is, same) = subst (IsAssignmentOf names assignment) (sym same) (at, is)
+
+pub assignments_later : (names more : Names) (assignments : List AssignmentValue) (items : List InitItem)
+    → AreAssignments names assignments items → AreAssignments (met names more) assignments items
+assignments_later names more [] [] are = tt
+assignments_later names more (assignment ∷ assignments) (one ∷ items) are = (
+  ((target_resolves assignment.0).later names more one.target are.0.0, (value_resolves assignment.1).later names more one.value are.0.1),
+  assignments_later names more assignments items are.1,
 )
-target_only ms (at_location name) few =
-    let resolved = resolved-only ms name few in
-    (Word resolved.0, (rw resolved.1 refl), (resolved.0, resolved.2, refl))
+assignments_later names more x y are = absurd are
 
--- ---- the items so far
+-- each assignment has an item
+some_put : (assignment : AssignmentValue) → (names : Names) × (one : InitItem) × IsPut assignment names one
+some_put (in_register hart register, number n) = ([], _, (Register hart register, n, refl, refl, refl))
+some_put (in_register hart register, address_of name) = (name ∷ [], _, (Register hart register, 0, refl, (0, ([], [], refl, refl), refl), refl))
+some_put (at_location name, number n) = (name ∷ [], _, (Word 0, n, (0, ([], [], refl, refl), refl), refl, refl))
+some_put (at_location name, address_of other) =
+    (name ∷ other ∷ [], _, (Word 0, 4, (0, ([], other ∷ [], refl, refl), refl), (1, (name ∷ [], [], refl, refl), refl), refl))
 
-record AreAdded (assignments : List AssignmentValue) (so_far : InitItems) : Type 0 where
-  names : so_far.names ≡ each_once (names_in assignments)
-  few : length so_far.names ≤ 1024
-  resolved_items : AreAssignments so_far.names assignments so_far.items
+-- ---- the items after those so far
 
-abbrev with_assignment : InitItems → Target → ℕ × Names → InitItems
-with_assignment so_far target value = record { items = so_far.items ++ (record { target = target; value = value.0 }) ∷ []; names = value.1 }
+record AreAdded (assignments : List AssignmentValue) (so_far whole : InitItems) : Type 0 where
+  items : List InitItem
+  all : whole.items ≡ so_far.items ++ items
+  names : whole.names ≡ met so_far.names (names_in assignments)
+  few : length so_far.names ≤ 1024 → length whole.names ≤ 1024
+  resolved_items : AreAssignments whole.names assignments items
 
-abbrev added_as : InitItems → Result InitItems LitmusFault
-added_as resolved_items = Ok resolved_items
+none_added : (so_far : InitItems) → AreAdded [] so_far so_far
+none_added so_far = record { items = []; all = sym (append-nil so_far.items); names = refl; few = λ few. few; resolved_items = tt }
 
--- one item more, where its target and its value are known
-with_put : (assignments : List AssignmentValue) (so_far : InitItems) (assignment : AssignmentValue) (target : Target) (word : ℕ)
-    (names : Names) → AreAdded assignments so_far
-    → names ≡ each_once ((names_in assignments ++ name_of_place assignment.0) ++ name_of_value assignment.1)
-    → length names ≤ 1024 → IsTarget (each_once (names_in assignments ++ name_of_place assignment.0)) assignment.0 target
-    → IsNamedValue names assignment.1 word → AreAdded (assignments ++ assignment ∷ []) (with_assignment so_far target (word, names))
-with_put assignments so_far assignment target word names shown same few is_target is_named_value =
-    grind (arith, assignments_later, target_later, names_push, assignments_push)
-
-item_found_added : (assignments : List AssignmentValue) (so_far more : InitItems) (assignment : AssignmentValue)
-    → AreAdded assignments so_far → item_added so_far (Some assignment) ≡ Ok more
-    → AreAdded (assignments ++ assignment ∷ []) more
-unfolding item_added
-item_found_added assignments so_far more assignment shown e =
-    let ms = names_in assignments in
-    let first = bind_ok (target_resolved so_far.names assignment.0) (λ (target : Target × Names).
-    value_resolved target.1 assignment.1 >>= λ (value : ℕ × Names). added_as (with_assignment so_far target.0 value))
-    more e in
-    let second = bind_ok (value_resolved first.0.1 assignment.1) (λ (value : ℕ × Names). added_as (with_assignment so_far first.0.0 value)) more first.2 in
-    let target = target_found ms assignment.0 first.0 (subst (λ (ns : Names). target_resolved ns assignment.0 ≡ Ok first.0) shown.names first.1) in
-    let value = value_found (ms ++ name_of_place assignment.0) assignment.1 second.0
-    (subst (λ (ns : Names). value_resolved ns assignment.1 ≡ Ok second.0) target.0 second.1) in
-    let short = target.2 (subst (λ (ns : Names). length ns ≤ 1024) shown.names shown.few) in
-    subst (AreAdded (assignments ++ assignment ∷ [])) (ok_is LitmusFault (with_assignment so_far first.0.0 second.0) more second.2)
-    (with_put assignments so_far assignment first.0.0 second.0.0 second.0.1 shown value.0
-    (value.2 (subst (λ (ns : Names). length ns ≤ 1024) target.0 short))
-    (subst (λ (ns : Names). IsTarget ns assignment.0 first.0.0) target.0 target.1) value.1)
-
-item_only_added : (assignments : List AssignmentValue) (so_far : InitItems) (assignment : AssignmentValue) → AreAdded assignments so_far
-    → length (each_once (names_in (assignments ++ assignment ∷ []))) ≤ 1024
-    → (more : InitItems) × (item_added so_far (Some assignment) ≡ Ok more) × AreAdded (assignments ++ assignment ∷ []) more
-unfolding item_added
-item_only_added assignments so_far assignment shown few =
-    let ms = names_in assignments in
-    let short = subst (λ (ns : Names). length (each_once ns) ≤ 1024) (names_push assignments assignment) few in
-    let fewer_first = fewer (ms ++ name_of_place assignment.0) (name_of_value assignment.1) in
-    let target = target_only ms assignment.0 (omega arith) in
-    let value = value_only (ms ++ name_of_place assignment.0) assignment.1 short in (
-      with_assignment so_far target.0
-          (value.0, each_once ((ms ++ name_of_place assignment.0) ++ name_of_value assignment.1)),
-      (rw (shown.names, target.1, value.1) refl),
-      with_put assignments so_far assignment target.0 value.0
-          (each_once ((ms ++ name_of_place assignment.0) ++ name_of_value assignment.1)) shown refl short target.2 value.2,
-    )
+one_added : (so_far more whole : InitItems) (assignment : AssignmentValue) (assignments : List AssignmentValue) (one : InitItem)
+    → IsMet (names_of assignment) (λ names item. IsPut assignment names item) so_far.names (one, more.names)
+    → more.items ≡ so_far.items ++ one ∷ [] → AreAdded assignments more whole → AreAdded (assignment ∷ assignments) so_far whole
+one_added so_far more whole assignment assignments one here joined rest = record {
+  items = one ∷ rest.items;
+  all = rest.all ∙ ap (λ (xs : List InitItem). xs ++ rest.items) joined ∙ append_assoc so_far.items (one ∷ []) rest.items;
+  names = rest.names ∙ ap (λ (ns : Names). met ns (names_in assignments)) here.all
+      ∙ sym (met-append so_far.names (names_of assignment) (names_in assignments));
+  few = λ few. rest.few (here.few few);
+  resolved_items = (
+    assignment_of assignment whole.names one (subst (λ (ns : Names). IsPut assignment ns one) (sym rest.names)
+        ((item_resolves assignment).later more.names (names_in assignments) one here.is)),
+    rest.resolved_items,
+  );
+}
 
 -- ---- gaps, and texts of items
 
@@ -178,85 +123,91 @@ item_solid text assignment (inr (at, (name, (gap, rest, whole, gap_is, is, inner
 
 -- ---- piece by piece
 
-piece_found : (assignments : List AssignmentValue) (so_far more : InitItems) (piece : List ℕ) → AreAdded assignments so_far
-    → piece_added so_far piece ≡ Ok more
-    → (AllPass is_gap piece × AreAdded assignments more)
-    ⊎ ((assignment : AssignmentValue) × an_item.Says piece assignment × AreAdded (assignments ++ assignment ∷ []) more)
+abbrev with_item : InitItems → InitItem × Names → InitItems
+with_item so_far one = record { items = so_far.items ++ one.0 ∷ []; names = one.1 }
+
+piece_found : (so_far more : InitItems) (piece : List ℕ) → piece_added so_far piece ≡ Ok more
+    → (AllPass is_gap piece × (so_far ≡ more))
+    ⊎ ((assignment : AssignmentValue) × an_item.Says piece assignment × (one : InitItem)
+    × (item_resolved so_far.names assignment ≡ Ok (one, more.names)) × (more.items ≡ so_far.items ++ one ∷ []))
 unfolding piece_added item_added
-piece_found assignments so_far more piece shown e = elim (cases_Bool (list_all is_gap piece)) [
-  | inl gaps ↦ inl (all_by_test is_gap piece gaps, subst (AreAdded assignments) (ok_is LitmusFault so_far more (rw gaps at e)) shown)
+piece_found so_far more piece e = elim (cases_Bool (list_all is_gap piece)) [
+  | inl gaps ↦ inl (all_by_test is_gap piece gaps, ok_is LitmusFault so_far more (rw gaps at e))
   | inr solid ↦ inr (go (an_item.reads piece) refl (rw solid at e))
 ]
   where
     go : (o : Option AssignmentValue) → an_item.reads piece ≡ o → item_added so_far o ≡ Ok more
-        → (assignment : AssignmentValue) × an_item.Says piece assignment × AreAdded (assignments ++ assignment ∷ []) more
+        → (assignment : AssignmentValue) × an_item.Says piece assignment × (one : InitItem)
+        × (item_resolved so_far.names assignment ≡ Ok (one, more.names)) × (more.items ≡ so_far.items ++ one ∷ [])
     go None is made = absurd cc
-    go (Some assignment) is made = (assignment, item_settles.found piece assignment is, item_found_added assignments so_far more assignment shown made)
+    go (Some assignment) is made =
+        let step = bind_ok (item_resolved so_far.names assignment) (λ (one : InitItem × Names). Ok (with_item so_far one)) more made in
+        let same : with_item so_far step.0 ≡ more = ok_is LitmusFault (with_item so_far step.0) more step.2 in (
+          assignment,
+          item_settles.found piece assignment is,
+          step.0.0,
+          step.1 ∙ ap (λ (m : InitItems). Ok (step.0.0, m.names)) same,
+          sym (ap (λ (m : InitItems). m.items) same),
+        )
 
-pieces_found : (ps : List (List ℕ)) (assignments : List AssignmentValue) (so_far resolved_items : InitItems)
-    → AreAdded assignments so_far → pieces_added so_far ps ≡ Ok resolved_items
-    → (more : List AssignmentValue) × AreItems ps more × AreAdded (assignments ++ more) resolved_items
-pieces_found [] assignments so_far resolved_items shown e = (
-  [],
-  none,
-  subst (λ (xs : List AssignmentValue). AreAdded xs resolved_items) (sym (append-nil assignments))
-      (subst (AreAdded assignments) (ok_is LitmusFault so_far resolved_items e) shown),
-)
-pieces_found (piece ∷ ps) assignments so_far resolved_items shown e =
-    let step = bind_ok (piece_added so_far piece) (λ (more : InitItems). pieces_added more ps) resolved_items e in
-    elim (piece_found assignments so_far step.0 piece shown step.1) [
-      | inl gaps ↦ (let rest = pieces_found ps assignments step.0 resolved_items gaps.1 step.2 in (rest.0, empty piece ps rest.0 gaps.0 rest.1, rest.2))
+pieces_found : (ps : List (List ℕ)) (so_far whole : InitItems) → pieces_added so_far ps ≡ Ok whole
+    → (assignments : List AssignmentValue) × AreItems ps assignments × AreAdded assignments so_far whole
+pieces_found [] so_far whole e = ([], none, subst (AreAdded [] so_far) (ok_is LitmusFault so_far whole e) (none_added so_far))
+pieces_found (piece ∷ ps) so_far whole e =
+    let step = bind_ok (piece_added so_far piece) (λ (more : InitItems). pieces_added more ps) whole e in
+    let rest = pieces_found ps step.0 whole step.2 in
+    elim (piece_found so_far step.0 piece step.1) [
+      | inl gaps ↦
+          (rest.0, empty piece ps rest.0 gaps.0 rest.1, subst (λ (start : InitItems). AreAdded rest.0 start whole) (sym gaps.1) rest.2)
       | inr one ↦ (
-          let rest = pieces_found ps (assignments ++ one.0 ∷ []) step.0 resolved_items one.2 step.2 in (
-            one.0 ∷ rest.0,
-            item piece ps one.0 rest.0 one.1 rest.1,
-            subst (λ (xs : List AssignmentValue). AreAdded xs
-                resolved_items)
-                (append_assoc assignments (one.0 ∷ [])
-                rest.0) rest.2,
-          ))
+        one.0 ∷ rest.0,
+        item piece ps one.0 rest.0 one.1 rest.1,
+        one_added so_far step.0 whole one.0 rest.0 one.2
+            (found_by (item_resolves one.0) so_far.names (one.2, step.0.names) one.3) one.4 rest.2,
+      )
     ]
 
-piece_empty : (so_far : InitItems) (piece : List ℕ) → AllPass is_gap piece → piece_added so_far piece ≡ Ok so_far
-unfolding piece_added
-piece_empty so_far piece gaps = rw (test_of_all is_gap piece gaps) refl
+pieces_only : (ps : List (List ℕ)) (assignments : List AssignmentValue) (so_far : InitItems) → AreItems ps assignments
+    → length (met so_far.names (names_in assignments)) ≤ 1024
+    → (whole : InitItems) × (pieces_added so_far ps ≡ Ok whole) × AreAdded assignments so_far whole
+unfolding piece_added item_added
+pieces_only ps assignments so_far none few = (so_far, refl, none_added so_far)
+pieces_only ps assignments so_far (empty piece rest others gaps items) few =
+    let next = pieces_only rest others so_far items few in
+    (next.0, (rw (test_of_all is_gap piece gaps) next.1), next.2)
+pieces_only ps assignments so_far (item piece rest assignment others is items) few =
+    let start = met so_far.names (names_of assignment) in
+    let all = subst (λ (ns : Names). length ns ≤ 1024) (met-append so_far.names (names_of assignment) (names_in others)) few in
+    let some = some_put assignment in
+    let one = some_by (item_resolves assignment) so_far.names some.0 some.1 some.2 (omega (arith, all, fewer start (names_in others))) in
+    let more = with_item so_far (one.0, start) in
+    let next = pieces_only rest others more items all in (
+      next.0,
+      (rw (item_solid piece assignment is, item_settles.only piece assignment is, one.1) next.1),
+      one_added so_far more next.0 assignment others one.0 (found_by (item_resolves assignment) so_far.names (one.0, start) one.1) refl next.2,
+    )
 
-piece_item : (so_far : InitItems) (piece : List ℕ) (assignment : AssignmentValue) → an_item.Says piece assignment
-    → piece_added so_far piece ≡ item_added so_far (Some assignment)
-unfolding piece_added
-piece_item so_far piece assignment is = rw (item_solid piece assignment is, item_settles.only piece assignment is) refl
+-- ---- all items
 
-pieces_only : (ps : List (List ℕ)) (more assignments : List AssignmentValue) (so_far : InitItems) → AreItems ps more
-    → AreAdded assignments so_far → length (each_once (names_in (assignments ++ more))) ≤ 1024
-    → (resolved_items : InitItems) × (pieces_added so_far ps ≡ Ok resolved_items) × AreAdded (assignments ++ more) resolved_items
-pieces_only ps more assignments so_far none shown few =
-    (so_far, refl, subst (λ (xs : List AssignmentValue). AreAdded xs so_far) (sym (append-nil assignments)) shown)
-pieces_only ps more assignments so_far (empty piece rest others gaps items) shown few =
-    let next = pieces_only rest others assignments so_far items shown few in
-    (next.0, (rw (piece_empty so_far piece gaps) next.1), next.2)
-pieces_only ps more assignments so_far (item piece rest assignment others is items) shown few =
-    let same = append_assoc assignments (assignment ∷ []) others in
-    let all = subst (λ (xs : List AssignmentValue). length (each_once (names_in xs)) ≤ 1024) (sym same) few in
-    let parted = subst (λ (ns : Names). length (each_once ns) ≤ 1024) (names-append (assignments ++ assignment ∷ []) others) all in
-    let first_fewer = fewer (names_in (assignments ++ assignment ∷ [])) (names_in others) in
-    let one = item_only_added assignments so_far assignment shown (omega arith) in
-    let next = pieces_only rest others (assignments ++ assignment ∷ []) one.0 items one.2 all in
-    (next.0, (rw (piece_item so_far piece assignment is, one.1) next.1), subst (λ (xs : List AssignmentValue). AreAdded xs next.0) same next.2)
+pub record AreRead (assignments : List AssignmentValue) (all : InitItems) : Type 0 where
+  pub names : all.names ≡ each_once (names_in assignments)
+  pub few : length all.names ≤ 1024
+  pub resolved_items : AreAssignments all.names assignments all.items
 
-none_added : AreAdded [] no_items
-none_added = record { names = refl; few = omega arith; resolved_items = tt }
+all_added : (assignments : List AssignmentValue) (all : InitItems) → AreAdded assignments no_items all → AreRead assignments all
+all_added assignments all are = record {
+  names = are.names ∙ met-once [] (names_in assignments);
+  few = are.few (omega arith);
+  resolved_items = subst (AreAssignments all.names assignments) (sym are.all) are.resolved_items;
+}
 
-pub items_found : (ps : List (List ℕ)) (resolved_items : InitItems) → pieces_added no_items ps ≡ Ok resolved_items
-    → (assignments : List AssignmentValue) × AreItems ps assignments × (resolved_items.names ≡ each_once (names_in assignments))
-    × (length resolved_items.names ≤ 1024) × AreAssignments resolved_items.names assignments resolved_items.items
-items_found ps resolved_items e =
-    let found = pieces_found ps [] no_items resolved_items none_added e in
-    (found.0, found.1, found.2.names, found.2.few, found.2.resolved_items)
+pub items_found : (ps : List (List ℕ)) (all : InitItems) → pieces_added no_items ps ≡ Ok all
+    → (assignments : List AssignmentValue) × AreItems ps assignments × AreRead assignments all
+items_found ps all e = let found = pieces_found ps no_items all e in (found.0, found.1, all_added found.0 all found.2)
 
 pub items_only : (ps : List (List ℕ)) (assignments : List AssignmentValue) → AreItems ps assignments
     → length (each_once (names_in assignments)) ≤ 1024
-    → (resolved_items : InitItems) × (pieces_added no_items ps ≡ Ok resolved_items)
-    × (resolved_items.names ≡ each_once (names_in assignments)) × AreAssignments resolved_items.names assignments resolved_items.items
+    → (all : InitItems) × (pieces_added no_items ps ≡ Ok all) × AreRead assignments all
 items_only ps assignments items few =
-    let read = pieces_only ps assignments [] no_items items none_added few in
-    (read.0, read.1, read.2.names, read.2.resolved_items)
+    let read = pieces_only ps assignments no_items items (rw (met-once [] (names_in assignments)) few) in
+    (read.0, read.1, all_added assignments read.0 read.2)

@@ -1,25 +1,23 @@
 -- Each test of a text opens plainly.
-use Rattle.std.proofs.Common.{◌≡◌, ℕ, zero, suc, ◌+◌, ◌*◌, ◌<◌, ◌≤◌, Bool, true, false, cond, List, [], ◌∷◌, length, map, get_or, All, Option, Some, None}
-use Rattle.std.proofs.Common.{refl, sym, ap, subst, ◌∙◌, inl, inr, length-append, arith, ℤ}
-use Rattle.std.proofs.lemmas.Bool.{ltb-true}
+use Rattle.std.proofs.Common.{◌≡◌, ℕ, zero, suc, ◌+◌, ◌*◌, ◌<◌, ◌≤◌, Bool, List, [], ◌∷◌, length, map, get_or, All, Option, Some, None}
+use Rattle.std.proofs.Common.{sym, ap, subst, ◌∙◌, inl, inr, length-append, arith, ℤ}
+use Rattle.std.proofs.lemmas.Bool.{cases_Bool, ltb-true}
 use Rattle.std.specs.List.{AllByRecursion}
 use Rattle.std.proofs.lemmas.List.{length-map}
 use Rattle.std.proofs.lemmas.List.Elements.{recursion_from_All, All-head, All-tail}
 use Rattle.rv_decode.specs.Meaning.{meaning}
-use Rattle.rv_decode.specs.declared.instruction.Instr.{Instr}
-use Rattle.assembler.specs.Drafts.{Line, size_of, word_count}
-use Rattle.assembler.specs.Statements.{Made}
-use Rattle.assembler.specs.Program.{IsPlaced, ArePlaced}
-use Rattle.assembler.specs.Program.IsPlaced.{nothing, single, double, jumping, branching}
+use Rattle.assembler.specs.Drafts.{word_count}
 use Rattle.step_machine.specs.History.{HartOpeningValue}
 use Rattle.litmus.specs.LitmusTests.{LitmusTest}
 use Rattle.litmus_tokens.specs.Names.{word_from, a_word}
 use Rattle.litmus_tokens.specs.Assignments.{NamedLocation, NamedValue, AssignmentValue, value, item as an_item}
 use Rattle.litmus_tokens.specs.Assignments.NamedValue.{number, address_of}
 use Rattle.litmus_reader.specs.Locations.{Names}
-use Rattle.litmus_reader.specs.Shapes.{AreParts}
-use Rattle.litmus_reader.specs.Shapes.AreParts.{last, more}
-use Rattle.litmus_reader.specs.Openings.{AreItems, IsAt, or_else, last_put, is_register, is_location, IsFirstValue, AreRegisters, AreFirstWords}
+use Rattle.std.proofs.lemmas.List.Splits.{length-slice_split}
+use Rattle.texts.specs.Pieces.{pieces}
+use Rattle.texts.specs.Cutting.{is_byte}
+use Rattle.texts.specs.declared.pieces.Separators.TheVariants.{Byte}
+use Rattle.litmus_reader.specs.Openings.{AreItems, IsAt, last_put, is_register, is_location, IsFirstValue, AreRegisters, AreFirstWords}
 use Rattle.litmus_reader.specs.Openings.AreItems.{none, empty, item}
 use Rattle.litmus_reader.specs.Columns.{Cells, IsTable}
 use Rattle.litmus_reader.specs.Reading.{hart_content}
@@ -27,22 +25,7 @@ use Rattle.litmus_reader.specs.Grammar.{AreHarts, HasPlainCode, IsTestOf}
 use Rattle.litmus_reader.specs.PlainOpenings.{IsPlainHart, IsPlainOpening}
 use Rattle.rv_decode.specs.Word.{IsWord}
 use Rattle.litmus_reader.proofs.FirstAppearances.{at_any}
-
--- ---- code
-
-placed_size : (all : List Line) (at : ℕ) (made : Option Made) (instrs : List Instr) → IsPlaced all at made instrs → length instrs ≡ size_of made
-placed_size all at made instrs nothing = refl
-placed_size all at made instrs (single i) = refl
-placed_size all at made instrs (double i j) = refl
-placed_size all at made instrs (jumping rd name place defined reached) = refl
-placed_size all at made instrs (branching op rs1 rs2 name place defined reached) = refl
-
-pub lines_size : (all : List Line) (at : ℕ) (lines : List Line) (instrs : List Instr) → ArePlaced all at lines instrs → length instrs ≡ word_count lines
-lines_size all at [] instrs placed = ap length placed
-lines_size all at (line ∷ below) instrs (front, rest, is, here, further) =
-    let first = placed_size all at line.made front here in
-    let others = lines_size all (at + size_of line.made) below rest further in
-    ap length is ∙ (length-append front rest ∙ omega (arith, first, others))
+use Rattle.litmus_reader.proofs.TableLaws.{lines_size}
 
 -- ---- values
 
@@ -76,19 +59,9 @@ abbrev IfSmall : Option NamedValue → Type 0
 IfSmall None = Unit {0}
 IfSmall (Some v) = IsSmall v
 
-or_small : (a b : Option NamedValue) → IfSmall a → IfSmall b → IfSmall (or_else a b)
-or_small None b p q = q
-or_small (Some v) b p q = p
-
-if_small : (b : Bool) (v : NamedValue) → IsSmall v → IfSmall (cond b (Some v) None)
-if_small true v p = p
-if_small false v p = tt
-
 put_small : (is_there : NamedLocation → Bool) (assignments : List AssignmentValue) → AreSmall assignments → IfSmall (last_put is_there assignments)
 put_small is_there [] all = tt
-put_small is_there (assignment ∷ assignments) all =
-    or_small (last_put is_there assignments) (cond (is_there assignment.0) (Some assignment.1) None)
-    (put_small is_there assignments all.1) (if_small (is_there assignment.0) assignment.1 all.0)
+put_small is_there (assignment ∷ assignments) all = grind (arith, cases_Bool, put_small is_there assignments all.1)
 
 address_small : (names : Names) (name : List ℕ) (index word : ℕ) → length names ≤ 1024 → IsAt names name index → word ≡ 4 * index → IsWord word
 address_small names name index word few (above, below, whole, at) is =
@@ -146,20 +119,15 @@ plain_harts names assignments rows hart (first ∷ others) few small ((all, inst
 
 -- ---- a test
 
-some_part : (byte : ℕ) (text : List ℕ) (cells : List (List ℕ)) → AreParts byte text cells → 1 ≤ length cells
-some_part byte text cells (last part without) = omega arith
-some_part byte text cells (more part rest others without are) = omega arith
-
 some_hart : (table : List ℕ) (harts : ℕ) (rows : List Cells) → IsTable table harts rows → 1 ≤ harts
 some_hart table harts rows is =
-    let some : 1 ≤ length is.names = some_part 124 is.row.0 is.names is.row.5 in
-    omega (arith, some, is.counted)
+    omega (arith, ap length is.row.5, length-slice_split (is_byte 124) is.row.0, is.counted)
 
 pub plain_opening : (text : List ℕ) (test : LitmusTest) → IsTestOf text test → IsPlainOpening test.opening
 unfolding IsTestOf
 plain_opening text test (is, are_plain) =
     let harts : length (map hart_content test.opening.harts) ≡ length test.opening.harts = length-map test.opening.harts hart_content in
-    let small : AreSmall is.assignments = items_small is.parts is.assignments is.items in
+    let small : AreSmall is.assignments = items_small (pieces (Byte 59) is.init) is.assignments is.items in
     let few : length test.names ≤ 1024 = is.few in
     record {
       some_hart = omega (arith, harts, some_hart is.table (length (map hart_content test.opening.harts)) is.rows is.tabled);

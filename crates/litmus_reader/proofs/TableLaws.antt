@@ -1,17 +1,21 @@
 -- The columns' instructions, one column after the other.
-use Rattle.std.proofs.Common.{◌≡◌, ℕ, suc, ltb-false, ◌+◌, ◌≤◌, Bool, List, [], ◌∷◌, ◌++◌, length, Option, Some, None}
+use Rattle.std.proofs.Common.{◌≡◌, ℕ, suc, ◌+◌, ◌≤◌, List, [], ◌∷◌, ◌++◌, length, Option, Some, None}
 use Rattle.std.proofs.Common.{Result, Ok, Err, refl, ap, sym, subst, ◌∙◌, append_assoc, length-append, map, arith}
-use Rattle.std.specs.Prelude.{nat_lt, if◌then◌else◌, IfOk}
+use Rattle.std.specs.Prelude.{IfOk}
 use Rattle.std.proofs.lemmas.List.{map-append, length-map}
 use Rattle.std.proofs.lemmas.List.Elements.{All-append, All-cons, All-nil}
 use Rattle.std.specs.declared.vec.Vec.{Vec}
 use Rattle.std.specs.declared.alloc.Global.{Global}
 use Rattle.texts.specs.Results.{◌>>=◌, GivesUpToMemory}
 use Rattle.rv_decode.specs.Meaning.{meaning}
-use Rattle.assembler.specs.declared.faults.AsmFault.{AsmFault}
 use Rattle.assembler.specs.Faults.{Refusal}
 use Rattle.assembler.specs.Statements.{Made}
-use Rattle.assembler.specs.Drafts.{Line, onto, all_instructions, size_of, word_count, placed_statement, refused_at_line, all_placed, label_place}
+use Rattle.assembler.specs.Drafts.{Line, onto, all_instructions, size_of, word_count}
+use Rattle.assembler.specs.Program.{IsPlaced, ArePlaced}
+use Rattle.assembler.specs.Program.IsPlaced.{nothing}
+use Rattle.assembler.proofs.ProgramGrammar.{some_instr, finished-found}
+use Rattle.rv_decode.specs.declared.instruction.Instr.{Instr}
+use Rattle.texts.proofs.ResultLaws.{ok_is, bind_ok}
 use Rattle.litmus_reader.specs.declared.faults.LitmusFault.{LitmusFault}
 use Rattle.litmus_reader.specs.declared.faults.LitmusFault.TheVariants.{BadInstr}
 use Rattle.texts.specs.declared.errors.TextError.{TextError}
@@ -52,65 +56,33 @@ plain_more words more plain last =
 
 -- ---- how long the answers are
 
-abbrev pub Sized : {X E : Type 0} → ℕ → Result (List X) E → Type 0
-Sized n (Ok list) = length list ≡ n
-Sized n (Err e) = Unit {0}
+placed_size : (all : List Line) (at : ℕ) (made : Option Made) (instrs : List Instr) → IsPlaced all at made instrs → length instrs ≡ size_of made
+placed_size all at made instrs nothing = refl
+placed_size all at made instrs other = refl
 
-after_sized : {A X E : Type 0} (n : ℕ) (r : Result A E) (f : A → Result (List X) E) → ((a : A) → Sized n (f a)) → Sized n (r >>= f)
-after_sized n r f each = grind arith
+pub lines_size : (all : List Line) (at : ℕ) (lines : List Line) (instrs : List Instr) → ArePlaced all at lines instrs → length instrs ≡ word_count lines
+lines_size all at [] instrs placed = ap length placed
+lines_size all at (line ∷ below) instrs (front, rest, is, here, further) =
+    let first = placed_size all at line.made front here in
+    let others = lines_size all (at + size_of line.made) below rest further in
+    ap length is ∙ (length-append front rest ∙ omega (arith, first, others))
 
-at_line-sized : {X : Type 0} (n line : ℕ) (r : Result (List X) AsmFault) → Sized n r → Sized n (refused_at_line line r)
-at_line-sized n line r sized = grind arith
+pub as_instr-ok : {A : Type 0} (r : Result A Refusal) (x : A) → as_instr r ≡ Ok x → r ≡ Ok x
+as_instr-ok r x e = grind (arith, ok_is)
 
-placed-sized : (found : List ℕ → Option ℕ) (at : ℕ) (made : Option Made) → Sized (size_of made) (placed_statement found at made)
-placed-sized found at made = grind (arith, after_sized)
-
-onto-sized : {X E : Type 0} (m n : ℕ) (front : List X) (r : Result (List X) E) → length front ≡ m → Sized n r → Sized (m + n) (onto front r)
-onto-sized m n front r here sized = grind (arith, length-append)
-
-joined_sized : {X E : Type 0} (m n : ℕ) (r : Result (List X) E) (others : Result (List X) E) → Sized m r
-    → Sized n others → Sized (m + n) (r >>= λ front. onto front others)
-joined_sized m n r others here rest = grind (arith, onto-sized)
-
-all_placed-sized : (found : List ℕ → Option ℕ) (at line : ℕ) (lines : List Line) → Sized (word_count lines) (all_placed found at line lines)
-all_placed-sized found at line [] = refl
-all_placed-sized found at line (first ∷ rest) =
-    joined_sized (size_of first.made) (word_count rest) (refused_at_line line (placed_statement found at first.made)) _
-    (at_line-sized (size_of first.made) line (placed_statement found at first.made) (placed-sized found at first.made))
-    (all_placed-sized found (at + size_of first.made) (line + 1) rest)
-
-abbrev Short : {X E : Type 0} → Result (List X) E → Type 0
-Short (Ok list) = length list ≤ 4096
-Short (Err e) = Unit {0}
-
-short_of : {X E : Type 0} (n : ℕ) (r : Result (List X) E) → n ≤ 4096 → Sized n r → Short r
-short_of n r few sized = grind arith
-
-checked_short : {X : Type 0} {E : Type 0} (n : ℕ) (b : Bool) (e : E) (r : Result (List X) E) → nat_lt 4096 n ≡ b → Sized n r → Short (if b then Err e else r)
-checked_short n b e r over sized = grind (arith, short_of, ltb-false)
-
-finished-short : (column : Column) → Short (all_instructions column)
-unfolding all_instructions
-finished-short column = checked_short (word_count column) (nat_lt 4096 (word_count column)) _ _ refl (all_placed-sized (label_place column) 0 1 column)
-
-instr_short : {X : Type 0} (r : Result (List X) Refusal) → Short r → Short (as_instr r)
-instr_short r short = grind arith
-
-abbrev AllShort : ℕ → Result (List Code) LitmusFault → Type 0
-AllShort n (Ok codes) = (length codes ≡ n) × AreShort codes
-AllShort n (Err fault) = Unit {0}
-
-joined_short : (n : ℕ) (r : Result Code LitmusFault) (others : Result (List Code) LitmusFault) → Short r
-    → AllShort n others → AllShort (suc n) (r >>= λ code. others >>= λ codes. Ok (code ∷ codes))
-joined_short n r others here rest = grind arith
-
-codes_short : (columns : List Column) → AllShort (length columns) (codes_of columns)
-codes_short [] = (refl, tt)
-codes_short (column ∷ columns) = joined_short (length columns) (as_instr (all_instructions column)) (codes_of columns)
-    (instr_short (all_instructions column) (finished-short column)) (codes_short columns)
+code_short : (column : Column) (code : Code) → all_instructions column ≡ Ok code → length code ≤ 4096
+code_short column code e =
+    let done = finished-found column code e in
+    omega (arith, lines_size column 0 column done.instrs done.placed, done.few, ap length done.same, length-map done.instrs some_instr)
 
 answer_short : (columns : List Column) (codes : List Code) → codes_of columns ≡ Ok codes → (length codes ≡ length columns) × AreShort codes
-answer_short columns codes shown = let P : Result (List Code) LitmusFault → Type 0 = λ r. AllShort (length columns) r in subst P shown (codes_short columns)
+answer_short [] codes e = subst (λ (cs : List Code). (length cs ≡ 0) × AreShort cs) (ok_is LitmusFault [] codes e) (refl, tt)
+answer_short (column ∷ columns) codes e =
+    let step = bind_ok (as_instr (all_instructions column)) (λ (code : Code). codes_of columns >>= λ (others : List Code). Ok (code ∷ others)) codes e in
+    let rest = bind_ok (codes_of columns) (λ (others : List Code). Ok (step.0 ∷ others)) codes step.2 in
+    let others = answer_short columns rest.0 rest.1 in
+    subst (λ (cs : List Code). (length cs ≡ suc (length columns)) × AreShort cs) (ok_is LitmusFault (step.0 ∷ rest.0) codes rest.2)
+    (ap suc others.0, (code_short column step.0 (as_instr-ok (all_instructions column) step.0 step.1), others.1))
 
 -- what is answered of the harts' words
 pub answered_count : (columns : List Column) (result : Result (Vec (Vec ℕ Global) Global) (TextError AtLeft))

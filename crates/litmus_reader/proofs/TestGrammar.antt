@@ -4,7 +4,7 @@ use Rattle.std.specs.Prelude.{IfOk}
 use Rattle.std.specs.Result.{IsErr}
 use Rattle.std.proofs.lemmas.List.Elements.{All-head, All-tail}
 use Rattle.texts.specs.Results.{GivesUpToMemory}
-use Rattle.texts.proofs.ResultLaws.{ok_is}
+use Rattle.texts.proofs.ResultLaws.{ok_is, refused_without}
 use Rattle.step_machine.specs.History.{HartOpeningValue}
 use Rattle.litmus.specs.declared.verdict.Quantifier.{Quantifier}
 use Rattle.litmus.specs.Formulas.{Formula}
@@ -85,9 +85,6 @@ only_test text whole (Err (Refused refusal)) e plain is = absurd (let read = con
 pub read_exactly : (text : List ℕ) (whole : Content) → (test_at text ≡ Ok whole) ↔ IsContent text whole
 read_exactly text whole = (content_found text whole, content_only text whole)
 
-refused_of : (text : List ℕ) (r : Result Content LitmusFault) → test_at text ≡ r → IsErr r ↔ ((whole : Content) → ¬ IsContent text whole)
-refused_of text (Ok whole) e = (λ refused. absurd cc, λ none. absurd (none whole (content_found text whole e)))
-refused_of text (Err fault) e = (λ refused. λ whole is. let read = content_only text whole is in cc, λ none. refl)
-
 pub refused_exactly : (text : List ℕ) → IsErr (test_at text) ↔ ((whole : Content) → ¬ IsContent text whole)
-refused_exactly text = refused_of text (test_at text) refl
+refused_exactly text = refused_without (test_at text) (IsContent text) (λ whole e. (whole, content_found text whole e))
+    (λ whole is. (whole, content_only text whole is))

@@ -3,11 +3,13 @@ use Rattle.std.specs.Prelude.{◌≡◌, ℕ, ◌+◌, ◌≤◌, List, [], ◌�
 use Rattle.std.specs.List.{slice_index_or}
 use Rattle.std.specs.Fmt.{decimal}
 use Rattle.rv_decode.specs.declared.instruction.Instr.{Instr}
-use Rattle.texts.specs.Cutting.{AreBlanks, IsPadded}
+use Rattle.texts.specs.Cutting.{AreBlanks, trimmed}
 use Rattle.assembler.specs.Drafts.{Line}
 use Rattle.assembler.specs.Program.{AreLines, AreInstrs}
 use Rattle.litmus_reader.specs.Table.{Code}
-use Rattle.litmus_reader.specs.Shapes.{HasNo, AreParts, IsCut, IsFirst}
+use Rattle.texts.specs.Pieces.{pieces}
+use Rattle.texts.specs.declared.pieces.Separators.TheVariants.{Byte}
+use Rattle.litmus_reader.specs.Shapes.{HasNo, IsCut, IsFirst}
 use Rattle.litmus_reader.specs.Layout.{IsVisible}
 use Rattle.step_machine.specs.declared.opening.TheConstants.{MAX_HARTS}
 
@@ -16,12 +18,12 @@ Cells = List (List ℕ)
 
 -- cells, with `|` (124) between them, and one `;` (59) at the end
 abbrev pub IsRow : List ℕ → Cells → Type 0
-IsRow line cells = (row blanks : List ℕ) × HasNo 59 row × AreBlanks blanks × (line ≡ row ++ 59 ∷ blanks) × AreParts 124 row cells
+IsRow line cells = (row blanks : List ℕ) × HasNo 59 row × AreBlanks blanks × (line ≡ row ++ 59 ∷ blanks) × (cells ≡ pieces (Byte 124) row)
 
--- `P` (80) and the harts' numbers in order, from this one on
+-- `P` (80) and the harts' numbers in order, from this one on, with blanks round each or none
 abbrev pub AreNames : ℕ → Cells → Type 0
 AreNames hart [] = Unit {0}
-AreNames hart (cell ∷ cells) = IsPadded (80 ∷ decimal hart) cell × AreNames (hart + 1) cells
+AreNames hart (cell ∷ cells) = (trimmed cell ≡ 80 ∷ decimal hart) × AreNames (hart + 1) cells
 
 -- The rows below, each with a cell for each hart; blank lines say nothing.
 pub data AreRows (harts : ℕ) : List (List ℕ) → List Cells → Type 0 where
@@ -37,15 +39,13 @@ pub record IsTable (table : List ℕ) (harts : ℕ) (rows : List Cells) : Type 0
   pub first : List ℕ
   pub below : List ℕ
   pub names : Cells
-  pub lines : List (List ℕ)
   pub begins : IsFirst IsVisible table blank_lines from
   pub cut : IsCut from first below
   pub row : IsRow first names
   pub named : AreNames 0 names
   pub counted : length names ≡ harts
   pub few : harts ≤ MAX_HARTS
-  pub parted : AreParts 10 below lines
-  pub written : AreRows harts lines rows
+  pub written : AreRows harts (pieces (Byte 10) below) rows
 
 -- the cells of a hart, from the top
 abbrev pub column_of : ℕ → List Cells → List (List ℕ)

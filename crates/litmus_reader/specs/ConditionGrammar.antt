@@ -30,11 +30,7 @@ IsFinalCondition text quantifier tokens = (blanks rest : List ℕ) × AreBlanks 
 abbrev pub atoms_in : List token.Token → List AssignmentValue
 atoms_in [] = []
 atoms_in (token.Token.atom assignment ∷ tokens) = assignment ∷ atoms_in tokens
-atoms_in (token.Token.negation ∷ tokens) = atoms_in tokens
-atoms_in (token.Token.conjunction ∷ tokens) = atoms_in tokens
-atoms_in (token.Token.disjunction ∷ tokens) = atoms_in tokens
-atoms_in (token.Token.opening ∷ tokens) = atoms_in tokens
-atoms_in (token.Token.closing ∷ tokens) = atoms_in tokens
+atoms_in (other ∷ tokens) = atoms_in tokens
 
 -- where an atom looks: a register of a hart of the table, or a location's word
 abbrev pub IsPlaceOf : (harts : ℕ) → Names → assigned.NamedLocation → Place → Type 0

@@ -10,7 +10,8 @@ use Rattle.litmus_tokens.specs.Assignments.{AssignmentValue}
 use Rattle.litmus_tokens.specs.Tokens.{Token}
 use Rattle.litmus_reader.specs.Locations.{Names}
 use Rattle.litmus_reader.specs.Table.{IsPlainCode}
-use Rattle.litmus_reader.specs.Shapes.{AreParts}
+use Rattle.texts.specs.Pieces.{pieces}
+use Rattle.texts.specs.declared.pieces.Separators.TheVariants.{Byte}
 use Rattle.litmus_reader.specs.Layout.{IsLaidOut}
 use Rattle.litmus_reader.specs.Openings.{AreItems, names_in, each_once, AreRegisters, AreFirstWords, IsHartThere}
 use Rattle.litmus_reader.specs.Columns.{Cells, IsTable, column_of, IsColumnCode}
@@ -30,15 +31,13 @@ pub record IsContent (text : List ℕ) (content : Content) : Type 0 where
   pub init : List ℕ
   pub table : List ℕ
   pub condition_text : List ℕ
-  pub parts : List (List ℕ)
   pub assignments : List AssignmentValue
   pub rows : List Cells
   pub tokens : List Token
   pub known : List known.Symbol
   pub cleaned : IsCleaned text clean
   pub laid_out : IsLaidOut clean init table condition_text
-  pub parted : AreParts 59 init parts
-  pub items : AreItems parts assignments
+  pub items : AreItems (pieces (Byte 59) init) assignments
   pub tabled : IsTable table (length content.harts) rows
   pub harts : AreHarts content.names assignments rows 0 content.harts
   pub there : All (IsHartThere (length content.harts)) assignments

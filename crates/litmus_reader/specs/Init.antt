@@ -41,13 +41,19 @@ target_resolved names (at_location name) = do
   found ← resolved names name
   Ok (Word found.0, found.1)
 
+-- the item of an assignment, and the names with those in it
+unfoldable pub item_resolved : Names → AssignmentValue → Result (InitItem × Names) LitmusFault
+item_resolved names assignment = do
+  target ← target_resolved names assignment.0
+  value ← value_resolved target.1 assignment.1
+  Ok (record { target = target.0; value = value.0 }, value.1)
+
 -- the items with one more; a piece that is no item is `BadInit`
 unfoldable pub item_added : InitItems → Option AssignmentValue → Result InitItems LitmusFault
 item_added so_far None = Err BadInit
 item_added so_far (Some assignment) = do
-  target ← target_resolved so_far.names assignment.0
-  value ← value_resolved target.1 assignment.1
-  Ok (record { items = so_far.items ++ (record { target = target.0; value = value.0 }) ∷ []; names = value.1 })
+  one ← item_resolved so_far.names assignment
+  Ok (record { items = so_far.items ++ one.0 ∷ []; names = one.1 })
 
 -- an item, or nothing, between two `;`
 unfoldable pub piece_added : InitItems → List ℕ → Result InitItems LitmusFault

@@ -2,7 +2,7 @@
 -- between braces, the table, and the condition from its first line on.
 use Rattle.std.specs.Prelude.{◌≡◌, ℕ, ◌==◌, false, ◌⊎◌, List, ◌∷◌, ◌++◌, codes}
 use Rattle.texts.specs.Pieces.{is_blank}
-use Rattle.texts.specs.Cutting.{AreBlanks}
+use Rattle.texts.specs.Cutting.{AreBlanks, tokens}
 use Rattle.litmus_reader.specs.Shapes.{HasNo, IsCut, IsFirst}
 
 -- ---- how a line begins, as a fact about the text from that line on
@@ -19,16 +19,19 @@ BeginsWith word text = (blanks rest : List ℕ) × AreBlanks blanks × (text ≡
 abbrev pub BeginsUnread : List ℕ → Type 0
 BeginsUnread text = BeginsWith (codes "locations") text ⊎ BeginsWith (codes "filter") text
 
+-- a quantifier
+abbrev pub BeginsQuantified : List ℕ → Type 0
+BeginsQuantified text = (BeginsWith (codes "exists") text ⊎ BeginsWith (codes "~exists") text) ⊎ BeginsWith (codes "forall") text
+
 -- a condition, or one of those
 abbrev pub BeginsCondition : List ℕ → Type 0
-BeginsCondition text = BeginsWith (codes "exists") text ⊎ (BeginsWith (codes "~exists") text ⊎ (BeginsWith (codes "forall") text ⊎ BeginsUnread text))
+BeginsCondition text = BeginsQuantified text ⊎ BeginsUnread text
 
 -- ---- the layout
 
--- `RISCV`, blanks, and a name of one or more bytes, whatever follows
+-- its first tokens are `RISCV` and a name
 abbrev pub IsHeader : List ℕ → Type 0
-IsHeader line = (blanks gap rest : List ℕ) × (b c : ℕ) × AreBlanks blanks × AreBlanks (b ∷ gap)
-    × (is_blank c ≡ false) × (line ≡ blanks ++ (codes "RISCV" ++ b ∷ (gap ++ c ∷ rest)))
+IsHeader line = (name : List ℕ) × (others : List (List ℕ)) × (tokens line ≡ codes "RISCV" ∷ name ∷ others)
 
 -- `{` is 123 and `}` is 125; what stands after the `}` belongs to the table.
 pub record IsLaidOut (text init table condition_text : List ℕ) : Type 0 where

@@ -1,5 +1,5 @@
 -- Lines, by how they begin.
-use Rattle.std.specs.Prelude.{ℕ, ◌==◌, Bool, false, not, ◌&&◌, ◌||◌, nat_eq, List, [], ◌∷◌, Option, None, Some, if◌then◌else◌, codes}
+use Rattle.std.specs.Prelude.{ℕ, ◌==◌, Bool, false, not, ◌&&◌, ◌||◌, nat_eq, List, [], ◌∷◌, ◌++◌, Option, None, Some, if◌then◌else◌, codes}
 use Rattle.std.specs.List.{starts_with}
 use Rattle.texts.specs.Cutting.{without_front}
 use Rattle.litmus_reader.specs.declared.marks.Mark.{Mark}
@@ -35,20 +35,24 @@ begins Brace text = is_brace (without_front text)
 begins Condition text = is_condition (without_front text) || is_unread (without_front text)
 begins Unread text = is_unread (without_front text)
 
--- what stands before the next line that begins so
-abbrev pub before_next : Mark → List ℕ → List ℕ
-before_next mark [] = []
-before_next mark (c ∷ rest) = c ∷ (if (c == 10) && begins mark rest then [] else before_next mark rest)
+-- A text that is cut before a line: what stands before it, and the text from it on, or nothing where there is no such line.
+abbrev pub Cut : Type 0
+Cut = List ℕ × Option (List ℕ)
 
--- the text from the next line on that begins so
-abbrev pub from_next : Mark → List ℕ → Option (List ℕ)
-from_next mark [] = None
-from_next mark (c ∷ rest) = if (c == 10) && begins mark rest then Some rest else from_next mark rest
+abbrev pub onto_front : List ℕ → Cut → Cut
+onto_front front cut = (front ++ cut.0, cut.1)
 
--- what stands before the first line that begins so, which is all where none does
-unfoldable pub before_line : Mark → List ℕ → List ℕ
-before_line mark text = if begins mark text then [] else before_next mark text
+-- the text cut before the next line that begins so
+abbrev pub next_cut : Mark → List ℕ → Cut
+next_cut mark [] = ([], None)
+next_cut mark (c ∷ rest) = onto_front (c ∷ []) (if (c == 10) && begins mark rest then ([], Some rest) else next_cut mark rest)
 
--- the text from the first line on that begins so
-unfoldable pub from_line : Mark → List ℕ → Option (List ℕ)
-from_line mark text = if begins mark text then Some text else from_next mark text
+-- the text cut before the first line that begins so
+unfoldable pub line_cut : Mark → List ℕ → Cut
+line_cut mark text = if begins mark text then ([], Some text) else next_cut mark text
+
+abbrev pub before_line : Mark → List ℕ → List ℕ
+before_line mark text = (line_cut mark text).0
+
+abbrev pub from_line : Mark → List ℕ → Option (List ℕ)
+from_line mark text = (line_cut mark text).1

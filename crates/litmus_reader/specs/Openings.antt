@@ -27,10 +27,13 @@ abbrev pub name_of_value : NamedValue → Names
 name_of_value (number n) = []
 name_of_value (address_of name) = name ∷ []
 
--- the names that stand in these, from the left
+-- the names that stand in an assignment, and in several, from the left
+abbrev pub names_of : AssignmentValue → Names
+names_of assignment = name_of_place assignment.0 ++ name_of_value assignment.1
+
 abbrev pub names_in : List AssignmentValue → Names
 names_in [] = []
-names_in (assignment ∷ assignments) = name_of_place assignment.0 ++ (name_of_value assignment.1 ++ names_in assignments)
+names_in (assignment ∷ assignments) = names_of assignment ++ names_in assignments
 
 -- each name once, in order of first appearance
 abbrev pub each_once : Names → Names

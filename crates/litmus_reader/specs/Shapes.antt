@@ -1,27 +1,25 @@
--- How a text is put together: parts between bytes of one kind, lines, and the first line that begins so.
-use Rattle.std.specs.Prelude.{◌≡◌, ℕ, ◌==◌, false, ◌⊎◌, List, [], ◌∷◌, ◌++◌}
-use Rattle.std.specs.List.{AllByRecursion}
+-- How a text is put together: its first line, and the first line that begins so.
+use Rattle.std.specs.Prelude.{◌≡◌, ℕ, ◌⊎◌, List, [], ◌∷◌, ◌++◌, Option, Some, None}
+use Rattle.texts.specs.Cutting.{is_byte, NonePass}
 
 -- no such byte stands in the text
 abbrev pub HasNo : ℕ → List ℕ → Type 0
-HasNo byte text = AllByRecursion (λ c. (c == byte) ≡ false) text
-
--- The parts of a text, between such bytes; a part may be empty.
-pub data AreParts (byte : ℕ) : List ℕ → List (List ℕ) → Type 0 where
-  last : (part : List ℕ) → HasNo byte part → AreParts byte part (part ∷ [])
-  more : (part rest : List ℕ) (parts : List (List ℕ)) → HasNo byte part → AreParts byte rest parts → AreParts byte (part ++ byte ∷ rest) (part ∷ parts)
+HasNo byte text = NonePass (is_byte byte) text
 
 -- the first line of a text, and what follows it; an LF is 10
 abbrev pub IsCut : (text line below : List ℕ) → Type 0
 IsCut text line below = HasNo 10 line × ((text ≡ line ++ 10 ∷ below) ⊎ ((text ≡ line) × (below ≡ [])))
 
--- The lines above the first one that begins so, and the text from it on.
-pub data IsFirst (Begins : List ℕ → Type 0) : (text above from : List ℕ) → Type 0 where
-  here : (text : List ℕ) → Begins text → IsFirst Begins text [] text
-  below : (line rest above from : List ℕ) → HasNo 10 line → (Begins (line ++ 10 ∷ rest) → ⊥)
-      → IsFirst Begins rest above from → IsFirst Begins (line ++ 10 ∷ rest) (line ++ 10 ∷ above) from
+-- A text cut before its first line that begins so: the lines above, and the text from it on. Where no line begins so, all is
+-- above and nothing follows.
+pub data IsLineCut (Begins : List ℕ → Type 0) : (text above : List ℕ) → Option (List ℕ) → Type 0 where
+  here : (text : List ℕ) → Begins text → IsLineCut Begins text [] (Some text)
+  below : (line rest above : List ℕ) (from : Option (List ℕ)) → HasNo 10 line → (Begins (line ++ 10 ∷ rest) → ⊥)
+      → IsLineCut Begins rest above from → IsLineCut Begins (line ++ 10 ∷ rest) (line ++ 10 ∷ above) from
+  nowhere : (line : List ℕ) → HasNo 10 line → (Begins line → ⊥) → IsLineCut Begins line line None
 
--- No line of the text begins so.
-pub data NoneBegins (Begins : List ℕ → Type 0) : List ℕ → Type 0 where
-  last : (line : List ℕ) → HasNo 10 line → (Begins line → ⊥) → NoneBegins Begins line
-  more : (line rest : List ℕ) → HasNo 10 line → (Begins (line ++ 10 ∷ rest) → ⊥) → NoneBegins Begins rest → NoneBegins Begins (line ++ 10 ∷ rest)
+abbrev pub IsFirst : (Begins : List ℕ → Type 0) → (text above from : List ℕ) → Type 0
+IsFirst Begins text above from = IsLineCut Begins text above (Some from)
+
+abbrev pub NoneBegins : (Begins : List ℕ → Type 0) → List ℕ → Type 0
+NoneBegins Begins text = IsLineCut Begins text text None

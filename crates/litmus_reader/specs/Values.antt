@@ -1,5 +1,5 @@
 -- The first values of registers and words.
-use Rattle.std.specs.Prelude.{ℕ, ◌-◌, ◌==◌, nat_lt, List, [], ◌∷◌, ◌++◌, length, replicate, slice_set, Result, Ok, Err, if◌then◌else◌}
+use Rattle.std.specs.Prelude.{ℕ, ◌-◌, ◌==◌, Bool, true, nat_lt, List, [], ◌∷◌, ◌++◌, length, replicate, slice_set, Result, Ok, Err, if◌then◌else◌}
 use Rattle.std.specs.List.{slice_index_or}
 use Rattle.std.specs.declared.vec.Vec.{Vec}
 use Rattle.std.specs.declared.alloc.Global.{Global}
@@ -25,16 +25,22 @@ zeros harts locations = record { registers = replicate harts (replicate 32 0); w
 abbrev pub with_register : ℕ → ℕ → List ℕ → List ℕ
 with_register number value registers = if number == 0 then registers else slice_set registers number value
 
-abbrev pub put_at : Target → ℕ → Values → Result Values LitmusFault
-put_at (Register hart register) value values = if nat_lt hart (length values.registers) then Ok (record values {
-  registers =
-      slice_set values.registers hart (with_register register.number value (slice_index_or values.registers hart []));
-}) else Err BadInit
-put_at (Word index) value values = Ok (record values { words = slice_set values.words index value })
+-- the values with this one at a target
+abbrev pub with_value : Target → ℕ → Values → Values
+with_value (Register hart register) value values = record values {
+  registers = slice_set values.registers hart (with_register register.number value (slice_index_or values.registers hart []));
+}
+with_value (Word index) value values = record values { words = slice_set values.words index value }
+
+-- a target's hart, if it names one, is there
+abbrev pub is_there : (harts : ℕ) → Target → Bool
+is_there harts (Register hart register) = nat_lt hart harts
+is_there harts (Word index) = true
 
 -- the values with that of one item more; its hart has to be there
 unfoldable pub item_put : Values → InitItem → Result Values LitmusFault
-item_put values item = put_at item.target item.value values
+item_put values item =
+    if is_there (length values.registers) item.target then Ok (with_value item.target item.value values) else Err BadInit
 
 abbrev pub items_put : Values → List InitItem → Result Values LitmusFault
 items_put values [] = Ok values

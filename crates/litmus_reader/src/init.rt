@@ -72,7 +72,7 @@ impl Init {
     }
 
     /// Reads what stands between two semicolons, which is an item or nothing.
-    #[tactic(auto, using(crate::proofs::NameLaws::item_location, crate::proofs::NameLaws::item_value), unfolding(crate::specs::Init::piece_added, crate::specs::Init::item_added))]
+    #[tactic(auto, using(crate::proofs::NameLaws::item_names), unfolding(crate::specs::Init::piece_added, crate::specs::Init::item_added, crate::specs::Init::item_resolved))]
     fn read(&mut self, piece: &[u8], left: usize) -> Result<(), Refusal>
         ensures { GivesUpToMemory fault_in (λ _. items_of self.new) result (piece_added (items_of self.old) piece.now) }
     {

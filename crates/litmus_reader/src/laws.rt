@@ -37,6 +37,7 @@ pub fn tests_are_listed()
 
 /// Each test of a text keeps the limits of an opening: words of 32 bits, x0 that is 0, and empty inboxes. It
 /// does nothing.
+#[tactic(auto, using(crate::proofs::PlainOpenings::plain_opening))]
 pub fn tests_open_plainly()
     ensures { (text : List ℕ) (test : LitmusTest) → IsTestOf text test → IsPlainOpening test.opening }
 {}

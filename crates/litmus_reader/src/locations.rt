@@ -74,7 +74,7 @@ impl Locations {
 
     /// The index of this location, which joins the others where it is new. `TooMany` is met where so
     /// many bytes of the text are left.
-    #[tactic(auto, unfolding(crate::specs::Locations::resolved))]
+    #[tactic(auto, using(litmus_tokens::proofs::Bytes::name_bytes), unfolding(crate::specs::Locations::resolved))]
     pub fn index_of(&mut self, name: &[u8], left: usize) -> Result<usize, Refusal>
         requires { IsTrue (is_name name.now) }
         ensures exact { GivesUpToMemory fault_in (λ index. (index, self.new)) result (resolved self.old name.now) }

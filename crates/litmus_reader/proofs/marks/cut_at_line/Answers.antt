@@ -1,17 +1,17 @@
-use Rattle.std.proofs.Common.{sym, ◌∙◌}
+use Rattle.std.proofs.Common.{sym, ap, ◌∙◌}
 use Rattle.std.proofs.lemmas.List.{take_rest}
-use Rattle.litmus_reader.proofs.MarkLaws.{found_front, found_back, turn_within, turn_front, turn_back, end_front, end_back}
+use Rattle.litmus_reader.specs.Marks.{Cut}
+use Rattle.litmus_reader.proofs.MarkLaws.{found_cut, turn_within, turn_cut, end_cut}
 use Rattle.litmus_reader.proofs.marks.cut_at_line.Goals as goal
 
-pub returns-then-begins-clause-front : goal.returns-then-begins-clause-front
-returns-then-begins-clause-front c =
+pub returns-then-begins : goal.returns-then-begins
+returns-then-begins c =
     let here = rw (take_rest c.args.text.now c.loop-mark.at) at (sym c.begins.ensures ∙ c.if-begins.true) in
-    found_front c.args.mark c.args.text.now _ c.loop-mark.at here c.loop-mark.invariant.front
-
-pub returns-then-begins-clause-back : goal.returns-then-begins-clause-back
-returns-then-begins-clause-back c =
-    let here = rw (take_rest c.args.text.now c.loop-mark.at) at (sym c.begins.ensures ∙ c.if-begins.true) in
-    rw (take_rest c.args.text.now c.loop-mark.at) (found_back c.args.mark c.args.text.now _ c.loop-mark.at here c.loop-mark.invariant.back)
+    let cut = found_cut c.args.mark c.args.text.now _ c.loop-mark.at here c.loop-mark.invariant.so_far in
+    record {
+      front = ap (λ (p : Cut). p.0) cut;
+      back = rw (take_rest c.args.text.now c.loop-mark.at) (ap (λ (p : Cut). p.1) cut);
+    }
 
 pub loop-mark-preserved : goal.loop-mark-preserved
 loop-mark-preserved c =
@@ -19,18 +19,12 @@ loop-mark-preserved c =
     let ends = rw (take_rest c.args.text.now c.loop-mark.at) at (sym c.in-Some.ensures) in
     record {
       within = turn_within c.args.text.now c.loop-mark.at c.in-Some.end c.loop-mark.invariant.within ends;
-      front = turn_front c.args.mark c.args.text.now _ c.loop-mark.at c.in-Some.end other ends c.loop-mark.invariant.front;
-      back = turn_back c.args.mark c.args.text.now _ c.loop-mark.at c.in-Some.end other ends c.loop-mark.invariant.back;
+      so_far = turn_cut c.args.mark c.args.text.now _ c.loop-mark.at c.in-Some.end other ends c.loop-mark.invariant.so_far;
     }
 
-pub returns-in-None-clause-front : goal.returns-in-None-clause-front
-returns-in-None-clause-front c =
+pub returns-in-None : goal.returns-in-None
+returns-in-None c =
     let other = rw (take_rest c.args.text.now c.loop-mark.at) at (sym c.begins.ensures ∙ c.if-begins.false) in
     let ends = rw (take_rest c.args.text.now c.loop-mark.at) at (sym c.in-None.ensures) in
-    end_front c.args.mark c.args.text.now _ c.loop-mark.at other ends c.loop-mark.invariant.front
-
-pub returns-in-None-clause-back : goal.returns-in-None-clause-back
-returns-in-None-clause-back c =
-    let other = rw (take_rest c.args.text.now c.loop-mark.at) at (sym c.begins.ensures ∙ c.if-begins.false) in
-    let ends = rw (take_rest c.args.text.now c.loop-mark.at) at (sym c.in-None.ensures) in
-    end_back c.args.mark c.args.text.now _ c.loop-mark.at other ends c.loop-mark.invariant.back
+    let cut = end_cut c.args.mark c.args.text.now _ c.loop-mark.at other ends c.loop-mark.invariant.so_far in
+    record { front = ap (λ (p : Cut). p.0) cut; back = ap (λ (p : Cut). p.1) cut }
