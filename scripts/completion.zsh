@@ -56,7 +56,7 @@ _ztso() {
         _arguments \
             '--buffer[a hart'\''s store buffer holds N stores: 1, 2, 4 or 16; 4 if it is left out]:N:(1 2 4 16)' \
             '--svg[the picture is written as SVG, for a browser]' \
-            '--memory[rows of instructions that only compute or jump are left out; the others keep their numbers]' \
+            '--memory[rows of instructions that only compute or jump are left out]' \
             '1:FILE:_files' \
             '2:SCHEDULE:_files'
         ;;
@@ -90,7 +90,7 @@ _ztso() {
             '--runs[how many schedules are drawn, 1 to 100000]:N:()' \
             '--length[how many events each schedule has, 0 to 1048576]:L:()' \
             '--skip[the first K runs of the seed are passed over, 0 to 18446744073709551615; 0 if it is left out]:K:()' \
-            '--draw[schedules are drawn so: each event by itself, or in bursts of one hart: uniform or bursts; uniform if it is left out]:DRAW:(uniform bursts)' \
+            '--draw[how schedules are drawn, each event by itself or in bursts of one hart: uniform or bursts; uniform if it is left out]:DRAW:(uniform bursts)' \
             '--unfinished[the last line ends with the schedule of the first run that didn'\''t finish]' \
             '--jobs[J threads share the runs, with the same output, 1 to 64; 1 if it is left out]:J:()' \
             '1:FILE:_files'
@@ -105,7 +105,7 @@ _ztso() {
         _arguments \
             '--buffer[a hart'\''s store buffer holds N stores: 1, 2, 4 or 16; 4 if it is left out]:N:(1 2 4 16)' \
             '--base[the first block begins at byte A of memory, a multiple of 4, 0 to 4294967295; 0 if it is left out]:A:()' \
-            '--stride[each block begins T bytes after the one before it (a multiple of 4 and at least 16 + 4 RING, which it is if it is left out), 0 to 4294967295]:T:()' \
+            '--stride[each block begins T bytes after the one before it, a multiple of 4 and at least 16 + 4 RING, as it is if it is left out, 0 to 4294967295]:T:()' \
             '--finish[after the schedule a plan runs, until each list is taken and each sender closed; not with own]' \
             '--sender[the program of each sender, as assembly: with own, and only there]:SENDER:_files' \
             '--receiver[the program of the receiver, as assembly: with own, and only there]:RECEIVER:_files' \
@@ -120,10 +120,10 @@ _ztso() {
             '--runs[how many schedules are drawn, 1 to 100000]:N:()' \
             '--length[how many events each schedule has, 0 to 1048576]:L:()' \
             '--skip[the first K runs of the seed are passed over, 0 to 18446744073709551615; 0 if it is left out]:K:()' \
-            '--draw[schedules are drawn so: each event by itself, or in bursts of one hart: uniform or bursts; uniform if it is left out]:DRAW:(uniform bursts)' \
+            '--draw[how schedules are drawn, each event by itself or in bursts of one hart: uniform or bursts; uniform if it is left out]:DRAW:(uniform bursts)' \
             '--jobs[J threads share the runs, with the same output, 1 to 64; 1 if it is left out]:J:()' \
             '--base[the first block begins at byte A of memory, a multiple of 4, 0 to 4294967295; 0 if it is left out]:A:()' \
-            '--stride[each block begins T bytes after the one before it (a multiple of 4 and at least 16 + 4 RING, which it is if it is left out), 0 to 4294967295]:T:()' \
+            '--stride[each block begins T bytes after the one before it, a multiple of 4 and at least 16 + 4 RING, as it is if it is left out, 0 to 4294967295]:T:()' \
             '1:SENDER:_files' \
             '2:RECEIVER:_files' \
             '3:RING:()'
@@ -135,7 +135,7 @@ _ztso() {
             '--runs[how many schedules are drawn, 1 to 100000]:N:()' \
             '--length[how many events each schedule has, 0 to 1048576]:L:()' \
             '--skip[the first K runs of the seed are passed over, 0 to 18446744073709551615; 0 if it is left out]:K:()' \
-            '--draw[schedules are drawn so: each event by itself, or in bursts of one hart: uniform or bursts; uniform if it is left out]:DRAW:(uniform bursts)' \
+            '--draw[how schedules are drawn, each event by itself or in bursts of one hart: uniform or bursts; uniform if it is left out]:DRAW:(uniform bursts)' \
             '--jobs[J threads share the runs, with the same output, 1 to 64; 1 if it is left out]:J:()' \
             '--slots[the queue has S slots, 0 to 4294967295]:S:()' \
             '--base[the queue'\''s block begins at byte B of memory, 0 to 4294967295; 0 if it is left out]:B:()' \
@@ -151,7 +151,7 @@ _ztso() {
             '--runs[how many schedules are drawn, 1 to 100000; 1000 if it is left out]:N:()' \
             '--length[how many events each schedule has, 0 to 1048576; 1000 if it is left out]:L:()' \
             '--skip[the first K runs of the seed are passed over, 0 to 18446744073709551615; 0 if it is left out]:K:()' \
-            '--draw[schedules are drawn so: uniform or bursts; bursts if it is left out]:DRAW:(uniform bursts)' \
+            '--draw[how schedules are drawn, each event by itself or in bursts of one hart: uniform or bursts; bursts if it is left out]:DRAW:(uniform bursts)' \
             '--jobs[J threads share the runs, with the same output, 1 to 64; 1 if it is left out]:J:()' \
             '--certificate[the certificate of the text'\''s queues]:C:_files' \
             '1:FILE:_files'
