@@ -24,7 +24,7 @@ def let_in(count, served):
     count.told("it listens on 127.0.0.1 alone", here in listening and f"00000000:{served.port:04X} 0" not in listening)
     for name in ("page.css", "machine.css", "main.js", "icon.svg"):
         count.told(name, served.request("GET", served.own + name)[0] == 200)
-    for name, wanted in (("guide.html", b'<h2 id="keys">Keys</h2>'), ("project.html", b'<a href="guide.html">')):
+    for name, wanted in (("guide.html", b'<h2 id="limits">Limits</h2>'), ("project.html", b'<a href="guide.html">')):
         status, content, _ = served.request("GET", served.own + name)
         count.told(name, status == 200 and wanted in content and b"<script" not in content, content[:200])
 
