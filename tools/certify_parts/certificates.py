@@ -92,15 +92,12 @@ class Writer:
 
     def __init__(self, program, search):
         self.program, self.search = program, search
-        self.states = search.states()
+        self.states = search.reached()
         self.numbers = {state: at for at, state in enumerate(self.states)}
         self.layouts = [Layout(program, state) for state in self.states]
 
     def covering(self, state):
-        for group in reversed(self.search.groups[self.search.key(state)]):
-            if self.search.covers(group.state, state):
-                return self.numbers[group.state]
-        raise AssertionError(f"no state covers {state}")
+        return self.numbers[self.search.covering(state)]
 
     def lines(self):
         yield "hart"

@@ -2,18 +2,19 @@
 
 from typing import NamedTuple
 
-from .live import live_registers
+from .live import flow_of, live_registers, needed_after_calls
 from .search import Mode, Search
 from .steps import Program, Refused
 
 # how a hart's states are searched, one way after the other until one succeeds: what is told apart, whether bytes and halves that are loaded
 # count as numbers of a range, by what values are spelled first, and whether sums of an index's words are taken by their remainders. What an
 # earlier search saw of copies of the other's index is taken up, so the first way is gone twice
-WAYS = ((Mode.TOGETHER, False, "npA", True), (Mode.TOGETHER, False, "npA", True), (Mode.TOGETHER, False, "pnA", True),
-        (Mode.TOGETHER, True, "npA", True), (Mode.TOGETHER, False, "npA", False), (Mode.BY_POSITION, False, "npA", False),
-        (Mode.BY_OWNED, False, "npA", False))
+WAYS = ((Mode.TOGETHER, False, "npA", True), (Mode.TOGETHER, False, "npA", True), (Mode.BY_PATH, False, "npA", True),
+        (Mode.BY_PATH, False, "npA", False), (Mode.TOGETHER, False, "pnA", True), (Mode.TOGETHER, True, "npA", True),
+        (Mode.TOGETHER, False, "npA", False), (Mode.BY_POSITION, False, "npA", False), (Mode.BY_PATH, True, "npA", True),
+        (Mode.BY_PATH, True, "npA", False), (Mode.BY_OWNED, False, "npA", False))
 # for how many seconds of the processor each way is gone, first and, if none succeeds, again
-SECONDS = ((0.5, 0.5, 0.5, 0.5, 0.5, 1, 1), (5, 5, 5, 5, 5, 15, 15))
+SECONDS = ((2, 1, 4, 3, 0.5, 0.5, 0.5, 1, 1, 1, 1), (5, 5, 15, 15, 5, 5, 5, 10, 10, 10, 15))
 TURNS = [(turn, at) for turn in range(len(SECONDS)) for at in range(len(WAYS))]
 MOST_ROUNDS = 60
 
@@ -26,19 +27,27 @@ class FoundHart(NamedTuple):
     search: Search
     refused: object
 
+    def stands(self, others):
+        """Whether the same is found where other harts store to these words."""
+        return not self.refused and others.isdisjoint(self.program.kept[which] for which in self.program.reads)
+
 
 class Harts:
     def __init__(self, test, queues):
         self.test, self.queues = test, queues
-        self.live = [live_registers(hart.code) for hart in test.harts]
+        live = [live_registers(hart.code) for hart in test.harts]
+        self.live = [(each, needed_after_calls(hart.code, each)) for each, hart in zip(live, test.harts)]
+        self.flows = [flow_of(hart.code) for hart in test.harts]
         self.turns, self.copies = [0] * len(test.harts), [frozenset()] * len(test.harts)
         self.shared = {place for place in test.words if any(queue.meets(place, 4) for queue in queues)}
 
     def found(self):
         """What was found of each hart, where no hart stores to what another one takes for its own."""
         stored = [set() for _ in self.test.harts]
+        found = [None] * len(stored)
         for _ in range(MOST_ROUNDS):
-            found = [self.hart(hart, set().union(*stored[:hart], *stored[hart + 1:])) for hart in range(len(stored))]
+            others = [set().union(*stored[:hart], *stored[hart + 1:]) for hart in range(len(stored))]
+            found = [each if each and each.stands(theirs) else self.hart(hart, theirs) for hart, (each, theirs) in enumerate(zip(found, others))]
             after = [before | each.program.stored for before, each in zip(stored, found)]
             if after == stored:
                 return found
@@ -56,9 +65,9 @@ class Harts:
                 continue
             queues = [queue.counting() for queue in self.queues] if loosens else self.queues
             program = Program(self.test, queues, hart, kept, self.live[hart], with_bytes, loosens)
-            search = Search(program, mode, self.copies[hart], order, SECONDS[turn][at])
+            search = Search(program, mode, self.copies[hart], order, SECONDS[turn][at], self.flows[hart])
             try:
-                search.run()
+                search.run_by_path() if mode == Mode.BY_PATH else search.run()
             except Refused as why:
                 # one that names an instruction is told first
                 if not refused or refused[2].pc is None:

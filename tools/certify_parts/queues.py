@@ -101,7 +101,7 @@ class Counting(Queue):
 
 
 NUMBERS = {"size": None, "width": 4, "bytes": 4, "scale": 1, "base": 0, "offset": 0, "sender": 0, "receiver": 1}
-KEYS = ("head", "tail", "slots", "index", "modulus", *NUMBERS)
+KEYS = ("head", "tail", "slots", "index", "modulus", "capacity", *NUMBERS)
 
 
 def described(places, given):
@@ -112,7 +112,7 @@ def described(places, given):
     for name, value in given.items():
         if name not in KEYS:
             raise Wrong(f"a queue has no {name}: it has {', '.join(KEYS)}")
-        if name != "index" and not value.isdigit():
+        if name != "index" and not value.removeprefix("-" if name == "offset" else "").isdigit():
             raise Wrong(f"{name} takes a number")
     if given.get("index", "counting") not in ("counting", "wrapping"):
         raise Wrong("index is counting or wrapping")
@@ -131,10 +131,14 @@ def described(places, given):
         raise Wrong("with index=wrapping one slot stays free, so size is at least 2")
     if modulus < 2 or numbers["scale"] * modulus > 256 ** width:
         raise Wrong("the words of the index don't fit into its bytes, or there is one of them")
+    capacity = int(given.get("capacity", size - 1 if modulus == size else size))
+    if not 1 <= capacity <= size or capacity >= modulus:
+        raise Wrong(f"of {size} slots {capacity} can't be in use at once, by an index of {modulus} words")
+    numbers["offset"] %= modulus
     if numbers["sender"] == numbers["receiver"]:
         raise Wrong("the sender and the receiver are two harts")
     queue = Queue(numbers["sender"], numbers["receiver"], places["head"], places["tail"], width, places["slots"], size, numbers["width"],
-                  size - 1 if modulus == size else size, numbers["base"], numbers["scale"], numbers["offset"], modulus, 0)
+                  capacity, numbers["base"], numbers["scale"], numbers["offset"], modulus, 0)
     for name in ("head", "tail"):
         if places[name] % width:
             raise Wrong(f"the {name} lies at {places[name]}, which is no multiple of its {width} bytes")

@@ -6,16 +6,22 @@ nothing: what it finds is written as a certificate, and a check of that decides.
 
 import time
 from enum import Enum
+from heapq import heappop, heappush
 
 from .forms import SIZE, Word, bounds, number, signed, variable_of
 from .steps import Refused, leaves
+from .values import Share
 
 # so many states of one kind are told apart where they can't be joined without loss
 APART = 20
+# and so many along paths, where only outermost loops join: so many where these begin, and elsewhere
+APART_BETWEEN_PATHS, APART_BY_PATH = 6, 500
 # of what was joined, so many are kept, to see how a further one is spelled like them
 KEPT = 12
 # so many are joined by their own positions, before all positions are taken
 EARLY = 4
+# so many columns that couldn't be joined are looked at first, at each pc
+FAILED = 3
 MOST_STATES = 150_000
 # the time is looked at once in so many
 LOOKS = 16
@@ -23,11 +29,17 @@ MOST_FACTOR = 1 << 20
 
 
 class Mode(Enum):
-    """What is told apart of states at one pc: nothing; at which position the own count stands; and how much is owned too."""
+    """What is told apart of states at one pc: nothing; at which position the own count stands; and how much is owned too; or nothing, but
+    states are joined only where a loop begins, so that between what a split told is kept."""
 
     TOGETHER = 0
     BY_POSITION = 1
     BY_OWNED = 2
+    BY_PATH = 3
+
+
+# where positions aren't told apart
+TOGETHER = (Mode.TOGETHER, Mode.BY_PATH)
 
 
 class Group:
@@ -38,19 +50,41 @@ class Group:
 
 
 class Search:
-    def __init__(self, program, mode, copies=frozenset(), order="npA", seconds=25):
+    def __init__(self, program, mode, copies=frozenset(), order="npA", seconds=25, flow=None):
         self.program, self.mode, self.order, self.ends = program, mode, order, time.process_time() + seconds
         self.groups, self.number = {}, 0
+        self.flow = flow
+        # whether what was found from there on is left, since there are other states where an outermost loop begins
+        self.begins_anew = False
+        self.failed, self.apart = {}, APART_BETWEEN_PATHS if mode == Mode.BY_PATH else APART
         # at which pcs an earlier search saw what the other's index held in which register or word; and where this one does
         self.copies, self.seen = copies, set()
 
     def states(self):
         return [group.state for groups in self.groups.values() for group in groups]
 
+    def covering(self, state):
+        """The state that was found last of those that cover this one."""
+        for group in reversed(self.groups[self.key(state)]):
+            if self.covers(group.state, state):
+                return group.state
+        raise AssertionError(f"no state covers {state}")
+
+    def reached(self):
+        """The states that a hart may come to from its first one."""
+        todo = [self.covering(self.program.start)]
+        found = dict.fromkeys(todo)
+        while todo:
+            for _, _, after in leaves(self.program.tree(todo.pop())):
+                new = [state for state in (self.covering(following.state) for following in after) if state not in found]
+                found.update(dict.fromkeys(new))
+                todo += new
+        return list(found)
+
     def key(self, state):
         """What is told apart of states."""
         shares = [share for share in state.shares if share]
-        positions = tuple((share.first, share.last) for share in shares) if self.mode != Mode.TOGETHER else ()
+        positions = tuple((share.first, share.last) for share in shares) if self.mode in (Mode.BY_POSITION, Mode.BY_OWNED) else ()
         owned = tuple((share.low, share.high) for share in shares) if self.mode == Mode.BY_OWNED else ()
         return state.pc, positions, owned, state.others
 
@@ -107,15 +141,24 @@ class Search:
                     if 0 < factor < MOST_FACTOR:
                         yield begin.plus(variable_of(*variable, factor, x - factor * first))
 
+    @staticmethod
+    def contradict(known, states):
+        """Whether two of these numbers differ, of states with the same counts: then no form is both."""
+        met = {}
+        return any(value is not None and met.setdefault(state.shares, value) != value for value, state in zip(known, states))
+
     def spelled(self, where, values, states):
         """A value that all of these are, or None where there is none."""
         if None in values:
             return None
-        copies = [self.program.other_index(which) for which, party in enumerate(self.program.parties) if party is not None]
         is_copy = (states[0].pc, where) in self.copies
         if not is_copy and all(value == values[0] for value in values):
             return values[0]
-        for each in (*(copies if is_copy else ()), *self.spellings(values, states)):
+        known = [self.program.known(value, state) for value, state in zip(values, states)]
+        if self.contradict(known, states):
+            return None
+        copies = [self.program.other_index(which) for which, party in enumerate(self.program.parties) if party is not None] if is_copy else ()
+        for each in (*copies, *self.spellings(values, states)):
             if all(self.is_value(value, state, each) for value, state in zip(values, states)):
                 return each
         return None
@@ -124,18 +167,33 @@ class Search:
 
     def is_early(self, state):
         """Whether its counts are among the first, which are told apart to see how values go with them."""
-        return all(share is None or share.count is not None and share.count - queue.start <= (2 if self.mode == Mode.TOGETHER else 2 * queue.size)
+        return all(share is None or share.count is not None and share.count - queue.start <= (2 if self.mode in TOGETHER else 2 * queue.size)
                    for share, queue in zip(state.shares, self.program.queues))
 
-    def joined(self, states):
-        """The states as one, and how many values are lost by it."""
+    def joined(self, states, is_whole=False):
+        """The states as one, and how many values are lost by it; None and 1 as soon as one is, if nothing may be."""
         columns = list(zip(*(state.registers + state.words for state in states)))
-        values = [self.spelled(where, column, states) for where, column in enumerate(columns)]
-        lost = sum(value is None and None not in column for value, column in zip(values, columns))
+        failed = self.failed.setdefault(states[0].pc, [])
+        if is_whole and any(self.is_lost(where, columns[where], states) for where in failed):
+            return None, 1
+        values, lost = [], 0
+        for where, column in enumerate(columns):
+            values.append(self.spelled(where, column, states))
+            if values[-1] is None and None not in column:
+                lost += 1
+                if is_whole:
+                    # where one is lost another one often is too: it is asked for first
+                    failed.insert(0, where)
+                    del failed[FAILED:]
+                    return None, 1
         shares = []
         for which, each in enumerate(zip(*(state.shares for state in states))):
             shares.append(self.joined_share(which, each) if each[0] else None)
         return states[0]._replace(registers=tuple(values[:32]), words=tuple(values[32:]), shares=tuple(shares)), lost
+
+    def is_lost(self, where, column, states):
+        """Whether a join loses the value of a column."""
+        return None not in column and self.spelled(where, column, states) is None
 
     def joined_share(self, which, shares):
         queue, edges = self.program.queues[which], self.program.edges.get(("p", which), ())
@@ -144,11 +202,54 @@ class Search:
         first, last = min(share.first for share in shares), max(share.last for share in shares)
         if len({(share.low, share.high) for share in shares}) > EARLY:
             low, high = min(low, 1), queue.capacity
-        if self.mode == Mode.TOGETHER and len({(share.first, share.last) for share in shares}) > EARLY:
+        if self.mode in TOGETHER and len({(share.first, share.last) for share in shares}) > EARLY:
             # up to where positions were parted
             first = max([0, *(at + 1 for at in edges if at < first)])
             last = min([queue.period() - 1, *(at for at in edges if at >= last)])
         return shares[0]._replace(count=count, first=first, last=last, low=low, high=high)
+
+    def as_one(self, one, other):
+        """Two states as one, if only one range tells them apart and both make one range; or None."""
+        differ = [which for which, (a, b) in enumerate(zip(one.shares, other.shares)) if a != b]
+        if len(differ) > 1:
+            return None
+        shares = one.shares
+        for which in differ:
+            a, b = one.shares[which], other.shares[which]
+            is_one = a.count == b.count and ((a.low, a.high) == (b.low, b.high) and max(a.first, b.first) <= min(a.last, b.last) + 1 or
+                                             (a.first, a.last) == (b.first, b.last) and max(a.low, b.low) <= min(a.high, b.high) + 1)
+            if not is_one:
+                return None
+            share = Share(a.count, min(a.first, b.first), max(a.last, b.last), min(a.low, b.low), max(a.high, b.high))
+            shares = (*shares[:which], share, *shares[which + 1:])
+        values = []
+        for a, b in zip(one.registers + one.words, other.registers + other.words):
+            if not (a == b or self.is_value(b, other, a)):
+                if not self.is_value(a, one, b):
+                    return None
+                a = b
+            values.append(a)
+        return one._replace(registers=tuple(values[:32]), words=tuple(values[32:]), shares=shares)
+
+    def is_within(self, state):
+        """Whether a state is of a place between the outermost joins, where no count goes on in a loop by itself."""
+        return state.pc not in self.flow.outer and all(share is None or share.count is None or share.count - queue.start <= 2 * queue.size
+                                                       for share, queue in zip(state.shares, self.program.queues))
+
+    def told_apart(self, state, groups):
+        """Takes in a state that is joined with others only if nothing else comes in by it."""
+        at = 0
+        while at < len(groups) and state.pc in self.flow.meets:
+            one = self.as_one(groups[at].state, state)
+            if one:
+                del groups[at]
+                state, at = one, 0
+            else:
+                at += 1
+        groups.append(Group([state], state))
+        if len(groups) > APART_BY_PATH:
+            raise Refused(None, "no end was found")
+        return state
 
     def take(self, state):
         """Takes in a state that may be met; returns it, or what it was joined to, if that is new."""
@@ -160,21 +261,26 @@ class Search:
         self.number += 1
         if self.number > MOST_STATES or self.number % LOOKS == 0 and time.process_time() > self.ends:
             raise Refused(None, "no end was found")
-        if len(groups) < APART and self.is_early(state):
+        if self.mode == Mode.BY_PATH and self.is_within(state):
+            return self.told_apart(state, groups)
+        if len(groups) < self.apart and self.is_early(state):
             groups.append(Group([state], state))
             return state
         # the groups that it can be joined with and nothing is lost; if there are many others, the one with which least is lost
         met, whole, least = [state], None, None
         for group in list(groups):
-            found, lost = self.joined(met + group.met)
+            found, lost = self.joined(met + group.met, True)
             if lost == 0:
                 met, whole = met + group.met, found
                 groups.remove(group)
-            elif least is None or lost < least[0]:
-                least = lost, group, found
-        if whole is None and len(groups) >= APART:
+        if whole is None and len(groups) >= self.apart:
+            for group in groups:
+                found, lost = self.joined(met + group.met)
+                if least is None or lost < least[0]:
+                    least = lost, group, found
             groups.remove(least[1])
             met, whole = met + least[1].met, least[2]
+        self.begins_anew |= self.mode == Mode.BY_PATH and whole is not None and state.pc in self.flow.outer
         whole = whole or state
         groups[:] = [group for group in groups if not self.covers(whole, group.state)]
         # what is joined counts too, so that a later join says no more
@@ -192,3 +298,25 @@ class Search:
                     new = self.take(following.state)
                     if new is not None:
                         todo.append(new)
+
+    def run_by_path(self):
+        """As `run`, where what comes first is followed first, so that later on little comes twice."""
+        todo, number = [], 0
+        new = [self.take(self.program.start)]
+        while new or todo:
+            for state in new:
+                number += 1
+                heappush(todo, (self.flow.order.get(state.pc, len(self.flow.order)), number, state))
+            new, state = [], heappop(todo)[2]
+            if not any(group.state is state for group in self.groups.get(self.key(state), ())):
+                continue
+            for _, _, after in leaves(self.program.tree(state)):
+                new += [taken for taken in (self.take(following.state) for following in after) if taken is not None]
+            if self.begins_anew:
+                todo, new = [], self.only_outer()
+
+    def only_outer(self):
+        """Leaves all states but those where an outermost loop begins, and what comes before; returns what to follow."""
+        self.begins_anew = False
+        self.groups = {key: groups for key, groups in self.groups.items() if key[0] in self.flow.outer}
+        return [self.take(self.program.start) or self.program.start, *self.states()]

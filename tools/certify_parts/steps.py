@@ -39,13 +39,14 @@ class Program(Values):
     def __init__(self, test, queues, hart, kept, live, with_bytes=False, loosens=True):
         self.hart, self.code = hart, test.harts[hart].code
         super().__init__(queues, hart, loosens)
+        self.other_indices = [self.looked(which) for which in range(len(queues))]
         self.kept, self.with_bytes = kept, with_bytes
         self.at = {place: which for which, place in enumerate(kept)}
         self.stored = set()    # words that it may store to, apart from queues
         self.reads = set()     # which of `kept` it loads: of the others nothing need be known
-        self.live, self.edges = live, {}
+        (self.live, self.after_calls), self.edges = live, {}
         self.unowned = {}      # by a queue: the first pc of which a load of its slots isn't shown to be of owned ones
-        registers = tuple(number(test.harts[hart].registers.get(which, 0)) if which in live[0] or not which else None for which in range(32))
+        registers = tuple(number(test.harts[hart].registers.get(which, 0)) if which in self.live[0] or not which else None for which in range(32))
         words = tuple(number(test.words.get(place, 0)) for place in kept)
         shares = tuple(None if party is None else Share(queue.start, *[queue.start % queue.period()] * 2, *[queue.first_owned(party)] * 2)
                        for queue, party in zip(queues, self.parties))
@@ -65,6 +66,12 @@ class Program(Values):
         return variable_of("p", which, queue.scale, queue.base + queue.scale * (queue.offset - turn * queue.modulus))
 
     def other_index(self, which):
+        return self.other_indices[which]
+
+    def looked(self, which):
+        """What the other's index holds just after a look, or None of a queue of which the hart is no party."""
+        if self.parties[which] is None:
+            return None
         queue = self.queues[which]
         count = form(-queue.known_less(self.parties[which]), {("n", which): 1, ("A", which): 1})
         return count.times(queue.scale).plus(number(queue.base + queue.scale * queue.offset)) if queue.is_linear() else Word(which, count)
@@ -221,10 +228,12 @@ class Program(Values):
     def is_index(self, value, queue, state):
         """Whether a value is below the end of the words of an index; asks for a split where it is for some numbers."""
         end = queue.base + queue.scale * queue.modulus
-        found = bounds(value, self.ranges(state))
-        if found and found[0] < end <= found[1]:
-            self.split_where(lambda each: each < end, value, state)
-        return found is not None and 0 <= found[0] and found[1] < end
+        found = numbers_of(value, self.ranges(state))
+        if found is None:
+            self.parted(value, state)
+        elif found[0] < end <= found[1]:
+            self.split_where(lambda each: each % SIZE < end, value, state)
+        return found is not None and found[1] < end
 
     def step_of(self, value, modulus, state):
         """A form modulo the words of an index, where it is a number."""
@@ -346,6 +355,8 @@ class Program(Values):
                                   share.low - step, share.high - step)
         pc = (state.pc + 4 if pc is None else pc) % SIZE
         needed = self.live[pc // 4] if pc <= 4 * len(self.code) else ()
+        if state.pc in self.after_calls:
+            needed &= self.after_calls[state.pc]
         registers = (ZERO, *(value if which in needed else None for which, value in enumerate(registers) if which))
         after = State(pc, registers, tuple(words), tuple(shares), others)
         return self.tidied(after, kept, move, looked)

@@ -54,8 +54,17 @@ class Values:
         # whether sums of words are taken by remainders at once, or only where no split makes a word a form
         self.loosens = loosens
         self.queues, self.parties = queues, [queue.party(hart) for queue in queues]
+        self.known_ranges = {}
 
     def ranges(self, state):
+        """The range of each variable that has one; not to be changed."""
+        found = self.known_ranges.get((state.shares, state.others))
+        if found is None:
+            found = self.known_ranges[state.shares, state.others] = self.ranges_anew(state)
+        return found
+
+    @staticmethod
+    def ranges_anew(state):
         found = {("z", which): limits for which, limits in enumerate(state.others)}
         for which, share in enumerate(state.shares):
             if share:
@@ -70,6 +79,8 @@ class Values:
             return self.word_known(value, state)
         if value is None:
             return None
+        if not value.terms:
+            return value.constant
         found = bounds(value, self.ranges(state))
         return found[0] % SIZE if found and found[0] == found[1] else None
 
@@ -146,6 +157,8 @@ class Values:
         for at in range(first + 1, last + 1):
             if holds(at) != answer:
                 raise Split(variable, at - 1)
+        # the same for all, which bounds don't tell
+        raise Split(variable, (first + last) // 2)
 
     def words_compared(self, kind, x, y, state):
         """A compare of what indices hold: of two words of one queue, or a word and a number, by their counts."""
