@@ -33,6 +33,14 @@ def records(count):
                    for order in orders).encode()
 
 
+def racing():
+    """A test of eight harts that count up one word. Each order of them is another outcome."""
+    parts = [(f"{hart}:x5=1", f"P{hart}", "amoadd.w x6,x5,(x0)", f"{hart}:x6=9") for hart in range(8)]
+    items, names, cells, lefts = zip(*parts)
+    condition = " /\\ ".join(lefts)
+    return f"RISCV X\n{{{'; '.join(items)}}}\n {' | '.join(names)} ;\n {' | '.join(cells)} ;\nexists ({condition})\n".encode()
+
+
 def empty_cells():
     row = "|" * 63 + ";\n"
     names = "|".join(f"P{hart}" for hart in range(64))
@@ -44,9 +52,8 @@ def rows(short):
     yield ["find", "text", "--states", "40500"], b"", litmus(
         cells=FILL, items="0:x7=4096; 0:x5=1000000; 0:x9=1", condition="exists (0:x7=1)"), 5, 10, 12
     yield ["check", "text"], records(200), observed(), 0, 2, 16
-    drawn = ["--seed", "1", "--runs", "4" if short else "16", "--length", "1048576"]
-    counting = litmus(cells=["amoadd.w x6,x5,(x0)"], items="0:x5=1", condition="exists (0:x6=0)")
-    yield ["try", "text", *drawn], b"", counting, 0, 30, 32
+    drawn = ["--seed", "1", "--runs", "8" if short else "64", "--length", "1048576"]
+    yield ["try", "text", *drawn], b"", racing(), 1, 60, 16
     yield ["channel", "lamport", "2", "none", "--finish"], b"7 " * 520_000 + b"\n", b"", 0, 10, 256
     yield ["run", "text", "none"], b"", empty_cells(), 0, 2, 72
     stores = litmus(cells=["L: sw x0,0(x0)", "j L"])

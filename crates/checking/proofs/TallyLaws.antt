@@ -10,7 +10,7 @@ use Rattle.engine_support.proofs.OutcomeTables.{count_more, seen_few, seen_more,
 use Rattle.checking.specs.declared.tally.Tally.{Tally}
 use Rattle.checking.specs.Judgements.{Judged}
 use Rattle.checking.specs.Outcomes.{first_record, finished_with, is_refused, is_unfinished, record_end}
-use Rattle.checking.specs.inner.Tallies.{HasRoomForText, IsTallyOfTexts, TalliesText}
+use Rattle.checking.specs.inner.Tallies.{HasRoomForText, IsTallyOfTexts, TalliesText, first_name}
 
 -- ---- the first record with an outcome
 
@@ -66,7 +66,7 @@ has_room answers tally is few = record {
 -- ---- the steps of a tally
 
 -- of no text nothing is counted
-pub nothing_counted : (tally : Tally) → ((outcome : List ℕ) → counted tally.outcomes outcome ≡ None)
+pub nothing_counted : (tally : Tally) → ((outcome : List ℕ) → counted first_name tally.outcomes outcome ≡ None)
     → tally.judged ≡ 0 → tally.unfinished ≡ 0 → tally.refused ≡ 0 → IsTallyOfTexts [] tally
 nothing_counted tally nothing none unfinished refused =
     record {

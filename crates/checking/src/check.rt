@@ -168,7 +168,7 @@ fn check_all<const B: usize, const M: usize, R: BufRead, W: Write>(
     let mut machine = MachineState::<B, M>::open(alloc, &opening)?;
     let tally = judge_all(alloc, test, &mut machine, records, writer)?;
     tally.outcomes.has_lines(test);
-    end_with_table(test, &tally, writer)
+    end_with_table(test, tally, writer)
 }
 
 /// Reads a litmus text to its end, and then records of its runs, one after the other. Each is judged once it

@@ -1,52 +1,56 @@
 //! What is kept of the texts that were judged.
 
-ghost use Rattle.std.specs.Prelude.{◌≡◌, ◌<◌, ℕ, List, [], IfOk, IfSome, OnErr, OnOk};
-ghost use Rattle.std.specs.String.{string_bytes};
+ghost use Rattle.std.specs.Prelude.{◌≡◌, ◌<◌, ℕ, List, [], IfSome, OnErr, OnOk};
 ghost use Rattle.engine_support.specs.Counting.{counted, Counts};
-ghost use Rattle.checking.specs.Outcomes.{record_end as end_of_record};
-ghost use Rattle.checking.specs.inner.Tallies.{CountsAlike, HasRoomForText, IsTallyOfTexts, judged_by, TalliesText};
+ghost use Rattle.checking.specs.Outcomes.{record_end};
+ghost use Rattle.checking.specs.inner.Tallies.{CountsAlike, HasRoomForText, IsTallyOfTexts, first_name, judged_by, TalliesText};
 
 use crate::judging::Judgement;
-use engine_support::outcomes::Outcomes;
+use engine_support::outcomes::{FirstRun, Outcomes};
 use std::alloc::{AllocError, Global};
+use std::io::{self, Write};
+
+/// The first record whose run gave an outcome.
+#[derive(Drop)]
+pub struct FirstRecord {
+    /// Counted from 1.
+    pub number: u64,
+}
+
+impl FirstRun for FirstRecord {
+    ghost name = { first_name };
+
+    fn write_name<W: Write>(self, writer: &mut W) -> io::Result<()> {
+        write!(writer, " record {}", self.number)
+    }
+}
 
 /// The outcomes of the runs, and how many texts were judged, of how many runs that did not finish, and how many
 /// were refused.
 #[derive(Drop)]
 pub struct Tally {
-    /// Each ends with the number of the first run's record.
-    pub outcomes: Outcomes,
+    pub outcomes: Outcomes<FirstRecord>,
     pub judged: u64,
     pub unfinished: u64,
     pub refused: u64,
 }
 
-/// What the row of an outcome ends with that the record of this number showed first.
-fn record_end(alloc: Global, number: u64) -> Result<String, AllocError>
-    ensures { IfOk result (λ text. string_bytes text ≡ end_of_record number) }
-{
-    let mut text = String::new(alloc);
-    write!(text, " record {number}")?;
-    Ok(text)
-}
-
 /// Counts one more run with this outcome, of the record of this number.
 fn count_outcome(
     alloc: Global,
-    outcomes: &mut Outcomes,
+    outcomes: &mut Outcomes<FirstRecord>,
     outcome: &[u32],
     number: u64,
 ) -> Result<(), AllocError>
-    requires { IfSome (counted outcomes.old outcome.now) (λ seen. seen.0 < 18446744073709551615) }
-    ensures counts { OnOk result (Counts outcome.now (1, end_of_record number) (counted outcomes.old) (counted outcomes.new)) }
-    ensures err { OnErr result ((other : List ℕ) → counted outcomes.new other ≡ counted outcomes.old other) }
+    requires { IfSome (counted first_name outcomes.old outcome.now) (λ seen. seen.0 < 18446744073709551615) }
+    ensures counts { OnOk result (Counts outcome.now (1, record_end number) (counted first_name outcomes.old) (counted first_name outcomes.new)) }
+    ensures err { OnErr result ((other : List ℕ) → counted first_name outcomes.new other ≡ counted first_name outcomes.old other) }
 {
     if outcomes.count_again(outcome) {
         return Ok(());
     }
-    let end = record_end(alloc, number)?;
     let outcome = Vec::from_slice(alloc, outcome)?;
-    outcomes.count_first(outcome, end)
+    outcomes.count_first(outcome, FirstRecord { number })
 }
 
 impl Tally {

@@ -38,6 +38,16 @@ burst_events harts b (word ∷ words) = burst_event harts b word ∷ burst_event
 abbrev pub no_burst : Burst
 no_burst = record { hart = 0; left = 0; lands_often = false }
 
+-- the event that the next word draws where events are drawn so, and a burst is under way if they are drawn in bursts
+abbrev pub event_by : Draw → (harts : ℕ) → Burst → (word : ℕ) → Event
+event_by Uniform harts b word = drawn harts word
+event_by Bursts harts b word = burst_event harts b word
+
+-- and the burst after it
+abbrev pub burst_by : Draw → (harts : ℕ) → Burst → (word : ℕ) → Burst
+burst_by Uniform harts b word = b
+burst_by Bursts harts b word = burst_after harts b word
+
 abbrev pub events_by : Draw → (harts : ℕ) → (words : List ℕ) → List Event
 events_by Uniform harts words = map (drawn harts) words
 events_by Bursts harts words = burst_events harts no_burst words

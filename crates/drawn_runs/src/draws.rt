@@ -1,9 +1,9 @@
 //! How the events of runs are drawn: each by itself, or in bursts of one hart.
 
 ghost use Rattle.std.specs.Prelude.{◌≡◌, ◌≤◌, OnOk, OnErr};
-ghost use Rattle.recorder.specs.Drawing.{drawn_words, left_after};
+ghost use Rattle.recorder.specs.Drawing.{drawn, drawn_words, left_after};
 ghost use Rattle.step_machine.specs.declared.opening.TheConstants.{MAX_HARTS};
-ghost use Rattle.drawn_runs.specs.Draws.{acted, burst_event, burst_after, burst_of, events_by};
+ghost use Rattle.drawn_runs.specs.Draws.{acted, burst_event, burst_after, burst_by, burst_of, event_by, events_by};
 
 use rand_core::Rng;
 use recorder::draw;
@@ -32,6 +32,13 @@ pub struct Burst {
     /// Whether one word of 2 draws a landing of the hart in place of an act, or one of 10.
     pub lands_often: bool,
 }
+
+/// The burst before the first word.
+pub const NO_BURST: Burst = Burst {
+    hart: 0,
+    left: 0,
+    lands_often: false,
+};
 
 /// The burst that a word begins.
 fn burst_of(harts: u32, word: u32) -> Burst
@@ -73,6 +80,33 @@ fn next(harts: u32, burst: Burst, word: u32) -> (Event, Burst)
     }
 }
 
+/// The event that a word draws by itself.
+fn event_of(harts: u32, word: u32) -> Event
+    requires some_hart { 1 ≤ harts }
+    requires most_harts { harts ≤ MAX_HARTS }
+    ensures { result ≡ drawn harts word }
+{
+    let number = word % (2 * harts);
+    if number < harts {
+        Event::Act(number)
+    } else {
+        Event::Land(number - harts)
+    }
+}
+
+/// The event that the next word of a run draws, and the burst after it: [`NO_BURST`] comes before the first word, and
+/// stays where each event is drawn by itself.
+pub fn next_by(by: Draw, harts: u32, burst: Burst, word: u32) -> (Event, Burst)
+    requires some_hart { 1 ≤ harts }
+    requires most_harts { harts ≤ MAX_HARTS }
+    ensures { result ≡ (event_by by harts burst word, burst_by by harts burst word) }
+{
+    match by {
+        Draw::Uniform => (event_of(harts, word), burst),
+        Draw::Bursts => next(harts, burst, word),
+    }
+}
+
 /// As [`draw`], in bursts.
 fn draw_bursts<R: Rng>(
     events: &mut Vec<Event>,
@@ -88,11 +122,7 @@ fn draw_bursts<R: Rng>(
 {
     events.clear();
     events.reserve(n as usize)?;
-    let mut burst = Burst {
-        hart: 0,
-        left: 0,
-        lands_often: false,
-    };
+    let mut burst = NO_BURST;
     for _ in 0..n {
         let (event, after) = next(harts, burst, generator.next_u32());
         burst = after;

@@ -97,102 +97,105 @@ by_keys : (key : List ℕ) (later : Counted) (old new : (outcome : List ℕ) →
 by_keys key later old new counts = λ other.
     subst (λ (b : Bool). new other ≡ cond b (counted_both (old other) (Some later)) (old other)) (is_eq-slice_cmp other key) (counts other)
 
--- a row with later runs
-pub row-again : (later : Counted) (old : List (Vec ℕ × Row)) (key : List ℕ) (row : Row) → Some row ≡ lookup (is_key key) old
-    → Counts key later (counted_of old) (counted_of (set_value (is_key key) old (record row { count = row.count + later.0 })))
-unfolding counted_of
-row-again later old key row found = by_keys key later (counted_of old)
-    (counted_of (set_value (is_key key) old (record row { count = row.count + later.0 }))) (λ other.
-    ap (option_map counted_by) (lookup_set key other (record row { count = row.count + later.0 }) old)
-    ∙ by other (is_eq (slice_cmp nat_cmp other key)) refl)
-  where
-    by : (other : List ℕ) (b : Bool) → is_eq (slice_cmp nat_cmp other key) ≡ b
-        → option_map counted_by
-        (cond b (option_map (λ (old : Row). record row { count = row.count + later.0 }) (lookup (is_key key) old))
-        (lookup (is_key other) old))
-        ≡ cond b (counted_both (counted_of old other) (Some later)) (counted_of old other)
-    by other true same =
-        let here : Some row ≡ lookup (is_key other) old = found ∙ ap (λ (k : List ℕ). lookup (is_key k) old) (sym (same_is other key same)) in
-        rw (← found, ← here) refl
-    by other false apart = refl
-
--- a row of an outcome that had none
-pub row-first : (old : List (Vec ℕ × Row)) (key : Vec ℕ) (row : Row) → None ≡ lookup (is_key key.items) old
-    → Counts key.items (counted_by row) (counted_of old) (counted_of (insert_entry order old key row))
-unfolding counted_of
-row-first old key row none = by_keys key.items (counted_by row) (counted_of old) (counted_of (insert_entry order old key row)) (λ other.
-    ap (option_map counted_by) (lookup_inserted key row other old) ∙ by other (is_key other key) refl)
-  where
-    by : (other : List ℕ) (b : Bool) → is_key other key ≡ b
-        → option_map counted_by (cond b (Some row) (lookup (is_key other) old))
-        ≡ cond b (counted_both (counted_of old other) (Some (counted_by row))) (counted_of old other)
-    by other true same =
-        let here : None ≡ lookup (is_key other) old = none ∙ ap (λ (k : List ℕ). lookup (is_key k) old) (sym (same_is other key.items same)) in
-        rw (← here) refl
-    by other false apart = refl
-
--- nothing is counted of an outcome that has no row
-pub none_there : (rows : List (Vec ℕ × Row)) (outcome : List ℕ) → None ≡ lookup (is_key outcome) rows → counted_of rows outcome ≡ None
-unfolding counted_of
-none_there rows outcome none = ap (option_map counted_by) (sym none)
-
--- of no row nothing is counted
-pub nothing_there : (rows : List (Vec ℕ × Row)) (outcome : List ℕ) → rows ≡ [] → counted_of rows outcome ≡ None
-unfolding counted_of
-nothing_there rows outcome none = rw none refl
-
--- the row that is found is one that something is counted of
-pub found-row : (Small : ℕ → Type 0) (rows : List (Vec ℕ × Row)) (outcome : List ℕ) (found : Option Row)
-    → found ≡ lookup (is_key outcome) rows → IfSome (counted_of rows outcome) (λ seen. Small seen.0)
-    → IfSome found (λ row. Small row.count)
-unfolding counted_of
-found-row Small rows outcome found is small = grind arith
-
--- ---- the rows that are left to take in
-
--- no row after another has its outcome
-none_later : (key : Vec ℕ) (other : List ℕ) (rest : List (Vec ℕ × Row)) → is_key other key ≡ true
-    → AllByRecursion (λ (k : Vec ℕ). order key k ≡ Less) (keys_of rest) → lookup (is_key other) rest ≡ None
-none_later key other [] same later = refl
-none_later key other (e ∷ rest) same later = grind (arith, same_is other key.items same, none_later key other rest same later.1)
-
-both_none : (seen : Option Counted) → counted_both seen None ≡ seen
-both_none seen = grind arith
-
--- the later runs with this outcome were counted, or all of them are left
-abbrev pub IsTaken : (old later now left : Option Counted) → Type 0
-IsTaken old later now left = ((now ≡ counted_both old later) × (left ≡ None)) ⊎ ((now ≡ old) × (left ≡ later))
-
--- of two tables the later one's rows were taken in, or are left
-abbrev pub AreTaken : (old later now left : List (Vec ℕ × Row)) → Type 0
-AreTaken old later now left = (other : List ℕ) → IsTaken (counted_of old other) (counted_of later other) (counted_of now other) (counted_of left other)
-
--- no count grows past what both tables say together
-few_together : (row : Row) (old later now left : Option Counted) (most : ℕ) → left ≡ Some (counted_by row) → IsTaken old later now left
-    → IfSome {T = Counted} (counted_both old later) (λ seen. seen.0 < most) → IfSome {T = Counted} now (λ seen. seen.0 + row.count < most)
-few_together row old later now left most is (inl taken) few = absurd cc
-few_together row old later now left most is (inr free) few = grind arith
-
--- what was taken in of no row that is left is what both say
-all_together : (old later now left : Option Counted) → left ≡ None → IsTaken old later now left → now ≡ counted_both old later
-all_together old later now left none (inl taken) = taken.0
-all_together old later now left none (inr free) = grind (arith, both_none)
-
-module _ (old later : List (Vec ℕ × Row)) where
-  -- a row was taken in of those that are left
-  pub row_taken : (key : Vec ℕ) (row : Row) (left rest now new : List (Vec ℕ × Row)) → left ≡ (key, row) ∷ rest
-      → IsStrictlySortedBy order (keys_of left) → Counts key.items (counted_by row) (counted_of now) (counted_of new)
-      → AreTaken old later now left → AreTaken old later new rest
+module _ {F : Type 0} (name : F → List ℕ) where
+  -- a row with later runs
+  pub row-again : (later : Counted) (old : List (Vec ℕ × Row F)) (key : List ℕ) (row : Row F) → Some row ≡ lookup (is_key key) old
+      → Counts key later (counted_of name old) (counted_of name (set_value (is_key key) old (record row { count = row.count + later.0 })))
   unfolding counted_of
-  row_taken key row left rest now new is sorted counts so_far other = grind (arith, option_map, none_later, sorted_head, is_eq-slice_cmp)
+  row-again later old key row found = by_keys key later (counted_of name old)
+      (counted_of name (set_value (is_key key) old (record row { count = row.count + later.0 }))) (λ other.
+      ap (option_map (counted_by name)) (lookup_set key other (record row { count = row.count + later.0 }) old)
+      ∙ by other (is_eq (slice_cmp nat_cmp other key)) refl)
+    where
+      by : (other : List ℕ) (b : Bool) → is_eq (slice_cmp nat_cmp other key) ≡ b
+          → option_map (counted_by name)
+          (cond b (option_map (λ (old : Row F). record row { count = row.count + later.0 }) (lookup (is_key key) old))
+          (lookup (is_key other) old))
+          ≡ cond b (counted_both (counted_of name old other) (Some later)) (counted_of name old other)
+      by other true same =
+          let here : Some row ≡ lookup (is_key other) old = found ∙ ap (λ (k : List ℕ). lookup (is_key k) old) (sym (same_is other key same)) in
+          rw (← found, ← here) refl
+      by other false apart = refl
 
-  pub row_few : (key : Vec ℕ) (row : Row) (left rest now : List (Vec ℕ × Row)) (most : ℕ) → left ≡ (key, row) ∷ rest → AreTaken old later now left
-      → IfSome {T = Counted} (counted_both (counted_of old key.items) (counted_of later key.items)) (λ seen. seen.0 < most)
-      → IfSome {T = Counted} (counted_of now key.items) (λ seen. seen.0 + row.count < most)
+  -- a row of an outcome that had none
+  pub row-first : (old : List (Vec ℕ × Row F)) (key : Vec ℕ) (row : Row F) → None ≡ lookup (is_key key.items) old
+      → Counts key.items (counted_by name row) (counted_of name old) (counted_of name (insert_entry order old key row))
   unfolding counted_of
-  row_few key row left rest now most is so_far few = grind (arith, option_map, same_itself, few_together)
+  row-first old key row none = by_keys key.items (counted_by name row) (counted_of name old) (counted_of name (insert_entry order old key row)) (λ other.
+      ap (option_map (counted_by name)) (lookup_inserted key row other old) ∙ by other (is_key other key) refl)
+    where
+      by : (other : List ℕ) (b : Bool) → is_key other key ≡ b
+          → option_map (counted_by name) (cond b (Some row) (lookup (is_key other) old))
+          ≡ cond b (counted_both (counted_of name old other) (Some (counted_by name row))) (counted_of name old other)
+      by other true same =
+          let here : None ≡ lookup (is_key other) old = none ∙ ap (λ (k : List ℕ). lookup (is_key k) old) (sym (same_is other key.items same)) in
+          rw (← here) refl
+      by other false apart = refl
 
-  pub rows_done : (left now : List (Vec ℕ × Row)) → left ≡ [] → AreTaken old later now left
-      → (other : List ℕ) → counted_of now other ≡ counted_both (counted_of old other) (counted_of later other)
+  -- nothing is counted of an outcome that has no row
+  pub none_there : (rows : List (Vec ℕ × Row F)) (outcome : List ℕ) → None ≡ lookup (is_key outcome) rows → counted_of name rows outcome ≡ None
   unfolding counted_of
-  rows_done left now is so_far other = all_together _ _ _ (counted_of left other) (rw is refl) (so_far other)
+  none_there rows outcome none = ap (option_map (counted_by name)) (sym none)
+
+  -- of no row nothing is counted
+  pub nothing_there : (rows : List (Vec ℕ × Row F)) (outcome : List ℕ) → rows ≡ [] → counted_of name rows outcome ≡ None
+  unfolding counted_of
+  nothing_there rows outcome none = rw none refl
+
+  -- the row that is found is one that something is counted of
+  pub found-row : (Small : ℕ → Type 0) (rows : List (Vec ℕ × Row F)) (outcome : List ℕ) (found : Option (Row F))
+      → found ≡ lookup (is_key outcome) rows → IfSome (counted_of name rows outcome) (λ seen. Small seen.0)
+      → IfSome found (λ row. Small row.count)
+  unfolding counted_of
+  found-row Small rows outcome found is small = grind arith
+
+  -- ---- the rows that are left to take in
+
+  -- no row after another has its outcome
+  none_later : (key : Vec ℕ) (other : List ℕ) (rest : List (Vec ℕ × Row F)) → is_key other key ≡ true
+      → AllByRecursion (λ (k : Vec ℕ). order key k ≡ Less) (keys_of rest) → lookup (is_key other) rest ≡ None
+  none_later key other [] same later = refl
+  none_later key other (e ∷ rest) same later = grind (arith, same_is other key.items same, none_later key other rest same later.1)
+
+  both_none : (seen : Option Counted) → counted_both seen None ≡ seen
+  both_none seen = grind arith
+
+  -- the later runs with this outcome were counted, or all of them are left
+  abbrev pub IsTaken : (old later now left : Option Counted) → Type 0
+  IsTaken old later now left = ((now ≡ counted_both old later) × (left ≡ None)) ⊎ ((now ≡ old) × (left ≡ later))
+
+  -- of two tables the later one's rows were taken in, or are left
+  abbrev pub AreTaken : (old later now left : List (Vec ℕ × Row F)) → Type 0
+  AreTaken old later now left =
+      (other : List ℕ) → IsTaken (counted_of name old other) (counted_of name later other) (counted_of name now other)
+      (counted_of name left other)
+
+  -- no count grows past what both tables say together
+  few_together : (row : Row F) (old later now left : Option Counted) (most : ℕ) → left ≡ Some (counted_by name row) → IsTaken old later now left
+      → IfSome {T = Counted} (counted_both old later) (λ seen. seen.0 < most) → IfSome {T = Counted} now (λ seen. seen.0 + row.count < most)
+  few_together row old later now left most is (inl taken) few = absurd cc
+  few_together row old later now left most is (inr free) few = grind arith
+
+  -- what was taken in of no row that is left is what both say
+  all_together : (old later now left : Option Counted) → left ≡ None → IsTaken old later now left → now ≡ counted_both old later
+  all_together old later now left none (inl taken) = taken.0
+  all_together old later now left none (inr free) = grind (arith, both_none)
+
+  module _ (old later : List (Vec ℕ × Row F)) where
+    -- a row was taken in of those that are left
+    pub row_taken : (key : Vec ℕ) (row : Row F) (left rest now new : List (Vec ℕ × Row F)) → left ≡ (key, row) ∷ rest
+        → IsStrictlySortedBy order (keys_of left) → Counts key.items (counted_by name row) (counted_of name now) (counted_of name new)
+        → AreTaken old later now left → AreTaken old later new rest
+    unfolding counted_of
+    row_taken key row left rest now new is sorted counts so_far other = grind (arith, option_map, none_later, sorted_head, is_eq-slice_cmp)
+
+    pub row_few : (key : Vec ℕ) (row : Row F) (left rest now : List (Vec ℕ × Row F)) (most : ℕ) → left ≡ (key, row) ∷ rest → AreTaken old later now left
+        → IfSome {T = Counted} (counted_both (counted_of name old key.items) (counted_of name later key.items)) (λ seen. seen.0 < most)
+        → IfSome {T = Counted} (counted_of name now key.items) (λ seen. seen.0 + row.count < most)
+    unfolding counted_of
+    row_few key row left rest now most is so_far few = grind (arith, option_map, same_itself, few_together)
+
+    pub rows_done : (left now : List (Vec ℕ × Row F)) → left ≡ [] → AreTaken old later now left
+        → (other : List ℕ) → counted_of name now other ≡ counted_both (counted_of name old other) (counted_of name later other)
+    unfolding counted_of
+    rows_done left now is so_far other = all_together _ _ _ (counted_of name left other) (rw is refl) (so_far other)

@@ -7,7 +7,6 @@ use Rattle.std.specs.Cmp.Lexicographic.{slice_cmp}
 use Rattle.std.specs.Str.{bytes_eq as are_equal}
 use Rattle.std.specs.Map.{lookup}
 use Rattle.std.specs.Global.{Vec}
-use Rattle.std.specs.String.{string_bytes}
 use Rattle.litmus.specs.LitmusTests.{LitmusTest}
 use Rattle.engine_support.specs.declared.outcomes.Row.{Row}
 use Rattle.engine_support.specs.declared.outcomes.Outcomes.{Outcomes}
@@ -17,20 +16,20 @@ use Rattle.engine_support.specs.Outcomes.{line_of}
 abbrev pub Counted : Type 0
 Counted = ℕ × List ℕ
 
-abbrev pub counted_by : Row → Counted
-counted_by row = (row.count, string_bytes row.end)
+abbrev pub counted_by : {F : Type 0} → (name : F → List ℕ) → Row F → Counted
+counted_by name row = (row.count, name row.first)
 
 abbrev pub is_key : (outcome : List ℕ) → Vec ℕ → Bool
 is_key outcome key = is_eq (slice_cmp nat_cmp outcome key.items)
 
 -- what some rows tell of an outcome, if one of them is its row
-unfoldable pub counted_of : List (Vec ℕ × Row) → (outcome : List ℕ) → Option Counted
-counted_of rows outcome = option_map counted_by (lookup (is_key outcome) rows)
+unfoldable pub counted_of : {F : Type 0} → (name : F → List ℕ) → List (Vec ℕ × Row F) → (outcome : List ℕ) → Option Counted
+counted_of name rows outcome = option_map (counted_by name) (lookup (is_key outcome) rows)
 
-abbrev pub counted : Outcomes → (outcome : List ℕ) → Option Counted
-counted outcomes = counted_of outcomes.rows.entries
+abbrev pub counted : {F : Type 0} → (name : F → List ℕ) → Outcomes F → (outcome : List ℕ) → Option Counted
+counted name outcomes = counted_of name outcomes.rows.entries
 
-abbrev pub rows_in : Outcomes → ℕ
+abbrev pub rows_in : {F : Type 0} → Outcomes F → ℕ
 rows_in outcomes = length outcomes.rows.entries
 
 -- what is counted of runs and then of later ones: the counts together, and the end of the first that has one

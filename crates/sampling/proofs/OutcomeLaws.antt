@@ -2,7 +2,6 @@
 use Rattle.std.proofs.Common.{◌≡◌, ℕ, Bool, List, ◌++◌, Option, Result, OnOk, ap, ap₂, sym, subst, ◌∙◌, arith}
 use Rattle.std.specs.Io.KnownBytes.{Appends}
 use Rattle.std.specs.List.{flat_map, list_any}
-use Rattle.std.specs.String.{string_bytes}
 use Rattle.rand_core.specs.Stream.{Stream}
 use Rattle.litmus.specs.LitmusTests.{LitmusTest}
 use Rattle.litmus.specs.declared.verdict.Quantifier.{Quantifier}
@@ -13,32 +12,28 @@ use Rattle.drawn_runs.specs.declared.draws.Draw.{Draw}
 use Rattle.sampling.specs.Trials.{Trial, AreTrials, is_holds, is_fails, gave, are_good}
 use Rattle.sampling.specs.declared.trials.outcomes.Unfinished.{Unfinished}
 use Rattle.sampling.specs.Outcomes.{first_schedule, last_line, shown_by, outcome_with_count, unfinished, IsTried}
-use Rattle.sampling.specs.inner.Tallies.{IsTallyOf, good_by}
+use Rattle.sampling.specs.inner.Tallies.{IsTallyOf, good_by, left_name}
 
 good_is : (quantifier : Quantifier) (trials : List Trial)
     → good_by quantifier (list_any (λ (t : Trial). is_holds t.verdict) trials)
     (list_any (λ (t : Trial). is_fails t.verdict) trials) ≡ are_good quantifier trials
 good_is quantifier trials = grind arith
 
-pub tried : (B M : ℕ) (left : Unfinished) (draw : Draw) (stream : Stream) (runs size : ℕ) (test : LitmusTest) (trials : List Trial)
-    (tally : Tally) (lines text : List ℕ) (good : Bool)
-    → AreTrials B M test draw stream runs size trials → IsTallyOf trials tally
-    → AreCountedLines test (counted tally.outcomes) lines → text ≡ lines ++ last_line tally.unfinished (shown_by left (string_bytes tally.first_unfinished))
+pub tried : {F : Type 0} (name : F → List ℕ) (B M : ℕ) (left : Unfinished) (draw : Draw) (stream : Stream)
+    (runs size : ℕ) (test : LitmusTest) (trials : List Trial)
+    (tally : Tally F) (lines text : List ℕ) (good : Bool)
+    → AreTrials B M test draw stream runs size trials → IsTallyOf name trials tally
+    → AreCountedLines test (counted name tally.outcomes) lines
+    → text ≡ lines ++ last_line tally.unfinished (shown_by left (left_name name tally.first_unfinished))
     → good ≡ good_by test.quantifier tally.some_hold tally.some_fail → IsTried B M left draw stream runs size test (text, good)
-tried B M left draw stream runs size test trials tally lines text good are is made written judged = record {
+tried name B M left draw stream runs size test trials tally lines text good are is made written judged = record {
   trials = trials;
   are = are;
   outcomes = made.outcomes;
-  shown = are_outcomes gave first_schedule test trials (counted tally.outcomes) lines is.counts made;
+  shown = are_outcomes gave first_schedule test trials (counted name tally.outcomes) lines is.counts made;
   text = written
-      ∙ ap₂ (λ (xs : List ℕ) (n : ℕ). xs ++ last_line n (shown_by left (string_bytes tally.first_unfinished)))
-      (table_is gave first_schedule test trials (counted tally.outcomes) lines is.counts made) is.unfinished_are
+      ∙ ap₂ (λ (xs : List ℕ) (n : ℕ). xs ++ last_line n (shown_by left (left_name name tally.first_unfinished)))
+      (table_is gave first_schedule test trials (counted name tally.outcomes) lines is.counts made) is.unfinished_are
       ∙ ap (λ (end : List ℕ). flat_map (outcome_with_count test trials) made.outcomes ++ last_line (unfinished trials) (shown_by left end)) is.first_is;
   good = judged ∙ ap₂ (good_by test.quantifier) is.holds is.fails ∙ good_is test.quantifier trials;
 }
-
--- the last line of a tally that is asked for this
-pub line_by : {E : Type 0} (result : Result (Unit {0}) E) (old new : Option (List ℕ)) (count : ℕ) (left is : Unfinished) (first : List ℕ) → left ≡ is
-    → OnOk result (Appends old new (last_line count (shown_by is first))) → OnOk result (Appends old new (last_line count (shown_by left first)))
-line_by result old new count left is first same written =
-    subst (λ (l : Unfinished). OnOk result (Appends old new (last_line count (shown_by l first)))) (sym same) written

@@ -2,7 +2,6 @@
 use Rattle.std.proofs.Common.{◌≡◌, ℕ, ◌+◌, ◌<◌, Bool, true, false, cond, ◌&&◌, ◌||◌, not, List, [], ◌∷◌, ◌++◌, length, find}
 use Rattle.std.proofs.Common.{Option, Some, None, refl, sym, ap, ap₂, ◌∙◌, arith}
 use Rattle.std.specs.Prelude.{IfSome, OnOk, Result, is_some, ◌==◌}
-use Rattle.std.specs.String.{string_bytes}
 use Rattle.std.specs.List.{list_any}
 use Rattle.std.specs.Option.{option_or}
 use Rattle.std.specs.Str.{bytes_eq}
@@ -15,7 +14,7 @@ use Rattle.engine_support.proofs.OutcomeTables.{any_more, count_more, seen_few, 
 use Rattle.sampling.specs.declared.trials.tally.Tally.{Tally}
 use Rattle.sampling.specs.Trials.{Trial, is_finished, is_holds, is_fails, gave}
 use Rattle.sampling.specs.Outcomes.{first_schedule, first_schedule_text, first_unfinished, is_left, schedule_text, unfinished}
-use Rattle.sampling.specs.inner.Tallies.{IsTallyOf, Tallies, end_after}
+use Rattle.sampling.specs.inner.Tallies.{IsTallyOf, Tallies, end_after, left_name}
 
 -- ---- the first run with an outcome
 
@@ -72,7 +71,9 @@ more_seen trials trial outcome = seen_more gave first_schedule trials trial outc
     (λ none given. first_of_later outcome trials (trial ∷ []) none ∙ ap (λ (b : Bool). first_schedule_text (cond b (Some trial) None)) given)
     (first_of_both outcome trials (trial ∷ []))
 
-pub tally_more : (trials : List Trial) (trial : Trial) (old new : Tally) → IsTallyOf trials old → Tallies trial old new → IsTallyOf (trials ++ trial ∷ []) new
+pub tally_more : {F : Type 0} {name : F → List ℕ} (trials : List Trial) (trial : Trial) (old new : Tally F)
+    → IsTallyOf name trials old → Tallies name trial old new
+    → IsTallyOf name (trials ++ trial ∷ []) new
 tally_more trials trial old new tally more = record {
   counts = λ outcome. more.counts outcome
       ∙ ap (λ (seen : Option Counted). cond (gave outcome trial) (counted_both seen (Some (1, schedule_text trial.events))) seen) (tally.counts outcome)
@@ -84,18 +85,19 @@ tally_more trials trial old new tally more = record {
 }
 
 -- no count is above the number of runs
-pub counted-few : (trials : List Trial) (tally : Tally) (most : ℕ) → IsTallyOf trials tally → length trials < most
-    → (outcome : List ℕ) → IfSome {T = Counted} (counted tally.outcomes outcome) (λ seen. seen.0 < most)
+pub counted-few : {F : Type 0} {name : F → List ℕ} (trials : List Trial) (tally : Tally F) (most : ℕ) → IsTallyOf name trials tally → length trials < most
+    → (outcome : List ℕ) → IfSome {T = Counted} (counted name tally.outcomes outcome) (λ seen. seen.0 < most)
 counted-few trials tally most is few outcome = rw (is.counts outcome) (seen_few gave first_schedule trials outcome most few)
 
-pub unfinished-few : (trials : List Trial) (tally : Tally) (most : ℕ) → IsTallyOf trials tally → length trials < most → tally.unfinished < most
+pub unfinished-few : {F : Type 0} {name : F → List ℕ} (trials : List Trial) (tally : Tally F) (most : ℕ)
+    → IsTallyOf name trials tally → length trials < most → tally.unfinished < most
 unfinished-few trials tally most is few = omega (arith, is.unfinished_are, count_by-le-length (λ (t : Trial). not (is_finished t.verdict)) trials, few)
 
 -- ---- the steps of a tally
 
 -- of no run nothing is counted
-pub nothing_counted : (tally : Tally) → ((outcome : List ℕ) → counted tally.outcomes outcome ≡ None)
-    → tally.unfinished ≡ 0 → string_bytes tally.first_unfinished ≡ [] → tally.some_hold ≡ false → tally.some_fail ≡ false → IsTallyOf [] tally
+pub nothing_counted : {F : Type 0} {name : F → List ℕ} (tally : Tally F) → ((outcome : List ℕ) → counted name tally.outcomes outcome ≡ None)
+    → tally.unfinished ≡ 0 → left_name name tally.first_unfinished ≡ [] → tally.some_hold ≡ false → tally.some_fail ≡ false → IsTallyOf name [] tally
 nothing_counted tally nothing none first holds fails = record {
   counts = λ outcome. nothing outcome ∙ sym (seen_none gave first_schedule outcome);
   unfinished_are = none;
@@ -109,13 +111,14 @@ gave_by_key : (finished : Bool) → finished ≡ true → (outcome values : List
 gave_by_key finished e outcome values = grind arith
 
 -- a finished run whose outcome was counted is tallied
-pub tallied : {E : Type 0} (result : Result (Unit {0}) E) (events : List Event) (verdict : Verdict)
-    (values : List ℕ) (old new : Tally) → is_finished verdict ≡ true → new.unfinished ≡ old.unfinished
-    → string_bytes new.first_unfinished ≡ string_bytes old.first_unfinished
+pub tallied : {E F : Type 0} (name : F → List ℕ) (result : Result (Unit {0}) E) (run : F) (verdict : Verdict)
+    (values : List ℕ) (old new : Tally F) → is_finished verdict ≡ true → new.unfinished ≡ old.unfinished
+    → new.first_unfinished ≡ old.first_unfinished
     → new.some_hold ≡ (old.some_hold || is_holds verdict) → new.some_fail ≡ (old.some_fail || is_fails verdict)
-    → OnOk result (Counts values (1, schedule_text events) (counted old.outcomes) (counted new.outcomes))
-    → OnOk result (Tallies (record { events = events; verdict = verdict; values = values }) old new)
-tallied result events verdict values old new finished same first holds fails counts = grind (arith, gave_by_key)
+    → OnOk result (Counts values (1, name run) (counted name old.outcomes) (counted name new.outcomes))
+    → OnOk result ((events : List Event) → name run ≡ schedule_text events
+    → Tallies name (record { events = events; verdict = verdict; values = values }) old new)
+tallied name result run verdict values old new finished same first holds fails counts = grind (arith, gave_by_key)
 
 pub or_true : (b : Bool) → true ≡ (b || true)
 or_true b = grind arith

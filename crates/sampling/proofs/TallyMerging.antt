@@ -3,7 +3,6 @@ use Rattle.std.proofs.Common.{◌≡◌, ℕ, zero, suc, ◌+◌, ◌*◌, Bool,
 use Rattle.std.proofs.Common.{Option, sym, ap, ap₂, ◌∙◌, arith, append-nil, append_assoc, subst, ◌-◌, ◌≤◌, ◌<◌}
 use Rattle.std.specs.List.{list_any, range_with_len}
 use Rattle.std.specs.Prelude.{IfSome, ◌==◌}
-use Rattle.std.specs.String.{string_bytes}
 use Rattle.std.proofs.lemmas.List.{map-append, length-map}
 use Rattle.std.proofs.lemmas.List.Folds.{list_any-append}
 use Rattle.std.proofs.lemmas.List.Sums.{sum_by-append, count_by-le-length}
@@ -20,7 +19,7 @@ use Rattle.engine_support.specs.Counting.{Counted, counted, counted_both, seen_o
 use Rattle.engine_support.proofs.OutcomeTables.{seen_both, seen_few}
 use Rattle.sampling.specs.Trials.{Trial, IsTrial, AreTrials, gave, is_finished, is_holds, is_fails}
 use Rattle.sampling.specs.Outcomes.{first_schedule, unfinished}
-use Rattle.sampling.specs.inner.Tallies.{IsTallyOf}
+use Rattle.sampling.specs.inner.Tallies.{IsTallyOf, left_name}
 use Rattle.sampling.specs.inner.Merging.{AreRunsFrom, IsTallyFrom, Merges, TestSource}
 use Rattle.sampling.proofs.TrialLaws.{no_trials}
 use Rattle.sampling.proofs.TallyLaws.{first_of_both, first_of_later, left_of_both}
@@ -38,19 +37,19 @@ both_seen front back outcome =
     seen_both gave first_schedule front back outcome (λ none some. first_of_later outcome front back none) (first_of_both outcome front back)
 
 -- two tallies make the tally of the first one's runs and then the other's
-tally_both : (front back : List Trial) (old later new : Tally) → IsTallyOf front old → IsTallyOf back later
-    → Merges old later new → IsTallyOf (front ++ back) new
-tally_both front back old later new first second merged = record {
+tally_both : {F : Type 0} (name : F → List ℕ) (front back : List Trial) (old later new : Tally F) → IsTallyOf name front old → IsTallyOf name back later
+    → Merges name old later new → IsTallyOf name (front ++ back) new
+tally_both name front back old later new first second merged = record {
   counts = λ outcome.
       merged.counts outcome
-      ∙ ap (λ (o : Option Counted). counted_both o (counted later.outcomes outcome)) (first.counts outcome)
+      ∙ ap (λ (o : Option Counted). counted_both o (counted name later.outcomes outcome)) (first.counts outcome)
       ∙ ap (counted_both (seen_of gave first_schedule front outcome)) (second.counts outcome)
       ∙ sym (both_seen front back outcome);
   unfinished_are =
       let e = sum_by-append (λ (y : Trial). cond (not (is_finished y.verdict)) 1 0) front back in
       omega (arith, e, merged.unfinished_are, first.unfinished_are, second.unfinished_are);
   first_is = merged.first_is
-      ∙ ap (λ (n : ℕ). cond (n == 0) (string_bytes later.first_unfinished) (string_bytes old.first_unfinished)) first.unfinished_are
+      ∙ ap (λ (n : ℕ). cond (n == 0) (left_name name later.first_unfinished) (left_name name old.first_unfinished)) first.unfinished_are
       ∙ ap₂ (λ (xs ys : List ℕ). cond (unfinished front == 0) xs ys) second.first_is first.first_is
       ∙ sym (left_of_both front back);
   holds = any_both (λ (t : Trial). is_holds t.verdict) front back _ _ _ merged.holds first.holds second.holds;
@@ -104,48 +103,50 @@ module _ (source : TestSource) where
         ran = All-append IsRun front back first.ran second.ran;
       }
 
-  -- from the first run on, all runs
-  first_are : (runs : ℕ) (tally : Tally) → (is : IsTallyFrom source 0 runs tally) → AreRuns runs is.trials
-  first_are runs tally is =
-      let all : runs - 0 ≡ runs = omega arith in
-      subst (λ (n : ℕ). AreRuns n is.trials) all
-      (subst
-      (λ (s : Stream). AreTrials source.B source.M source.test source.draw s (runs - 0) source.size is.trials)
-      (at_start source.size source.stream) is.are)
-
+  -- all runs, as those from the first on
   are_first : (runs : ℕ) (trials : List Trial) → AreRuns runs trials → AreRunsFrom source 0 (runs - 0) trials
   are_first runs trials are =
       let all : runs ≡ runs - 0 = omega arith in
       subst (λ (n : ℕ). AreRunsFrom source 0 n trials) all
       (subst (λ (s : Stream). AreTrials source.B source.M source.test source.draw s runs source.size trials) (sym (at_start source.size source.stream)) are)
 
-  pub from_all : (runs : ℕ) (tally : Tally) → IsTallyFrom source 0 runs tally → (trials : List Trial) × AreRuns runs trials × IsTallyOf trials tally
+module _ {F : Type 0} {name : F → List ℕ} (source : TestSource) where
+  -- from the first run on, all runs
+  first_are : (runs : ℕ) (tally : Tally F) → (is : IsTallyFrom name source 0 runs tally) → AreRuns source runs is.trials
+  first_are runs tally is =
+      let all : runs - 0 ≡ runs = omega arith in
+      subst (λ (n : ℕ). AreRuns source n is.trials) all
+      (subst
+      (λ (s : Stream). AreTrials source.B source.M source.test source.draw s (runs - 0) source.size is.trials)
+      (at_start source.size source.stream) is.are)
+
+  pub from_all : (runs : ℕ) (tally : Tally F) → IsTallyFrom name source 0 runs tally → (trials : List Trial) × AreRuns source runs trials × IsTallyOf name trials tally
   from_all runs tally is = (is.trials, first_are runs tally is, is.tallied)
 
   -- the tally that has none is that of no run
-  pub from_none : (tally : Tally) → IsTallyOf [] tally → IsTallyFrom source 0 0 tally
+  pub from_none : (tally : Tally F) → IsTallyOf name [] tally → IsTallyFrom name source 0 0 tally
   from_none tally none = record {
     trials = [];
-    are = are_first 0 [] (no_trials source.B source.M source.test source.draw source.stream source.size);
+    are = are_first source 0 [] (no_trials source.B source.M source.test source.draw source.stream source.size);
     tallied = none;
   }
 
   -- the runs before some others, and these
-  module _ (before end : ℕ) (old later : Tally) (le : before ≤ end) (first : IsTallyFrom source 0 before old)
-      (second : IsTallyFrom source before end later) where
+  module _ (before end : ℕ) (old later : Tally F) (le : before ≤ end) (first : IsTallyFrom name source 0 before old)
+      (second : IsTallyFrom name source before end later) where
     abbrev both : List Trial
     both = first.trials ++ second.trials
 
-    both_are : AreRuns end both
+    both_are : AreRuns source end both
     both_are =
         let sum : before + (end - before) ≡ end = omega (arith, le) in
-        subst (λ (n : ℕ). AreRuns n both) sum (runs_both before (end - before) first.trials second.trials (first_are before old first) second.are)
+        subst (λ (n : ℕ). AreRuns source n both) sum (runs_both source before (end - before) first.trials second.trials (first_are before old first) second.are)
 
-    pub from_both : (new : Tally) → Merges old later new → IsTallyFrom source 0 end new
+    pub from_both : (new : Tally F) → Merges name old later new → IsTallyFrom name source 0 end new
     from_both new merged = record {
       trials = both;
-      are = are_first end both both_are;
-      tallied = tally_both first.trials second.trials old later new first.tallied second.tallied merged;
+      are = are_first source end both both_are;
+      tallied = tally_both name first.trials second.trials old later new first.tallied second.tallied merged;
     }
 
     both_long : length both ≡ end
@@ -155,7 +156,7 @@ module _ (source : TestSource) where
 
     -- no count is above the number of all runs
     pub both_few : (most : ℕ) → end < most → (outcome : List ℕ)
-        → IfSome {T = Counted} (counted_both (counted old.outcomes outcome) (counted later.outcomes outcome)) (λ seen. seen.0 < most)
+        → IfSome {T = Counted} (counted_both (counted name old.outcomes outcome) (counted name later.outcomes outcome)) (λ seen. seen.0 < most)
     both_few most few outcome =
         rw (first.tallied.counts outcome, second.tallied.counts outcome, ← both_seen first.trials second.trials outcome)
         (seen_few gave first_schedule both outcome most (omega (arith, both_long, few)))

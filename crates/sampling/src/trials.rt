@@ -5,10 +5,11 @@ ghost use Rattle.engine_support.specs.Engines.{Ends};
 ghost use Rattle.sampling.specs.Outcomes.{IsTried, IsTryAnswer};
 ghost use Rattle.sampling.specs.declared.trials.outcomes.Unfinished.{Unfinished};
 ghost use Rattle.engine_support.specs.inner.Making.{FindsUpToReads};
-ghost use Rattle.sampling.specs.inner.Tallies.{text_and_good};
+ghost use Rattle.sampling.specs.inner.Tallies.{name_of_run, text_and_good};
 ghost use Rattle.recorder.specs.Drawing.{left_after};
 ghost use Rattle.litmus.specs.declared.litmus_test.TheConstants.{MAX_LOCATIONS};
 
+use crate::trials::drawn_run::DrawnRun;
 pub use crate::trials::outcomes::Unfinished;
 use crate::trials::outcomes::end_with_tally;
 use crate::trials::parallel::tally_in_rounds;
@@ -24,14 +25,22 @@ use std::io::{Read, Write};
 use std::thread::Threads;
 
 mod drawing;
+mod drawn_run;
 mod outcomes;
 mod parallel;
+mod redrawn;
 mod tally;
 mod transitions;
 mod walking;
 
 /// The tally of a test's runs.
-fn drawn<const B: usize, const M: usize, G: Jump + Sync + Drop, T: Threads + Sync, P: Progress>(
+fn drawn<
+    const B: usize,
+    const M: usize,
+    G: Jump + Send + Sync + Drop,
+    T: Threads + Sync,
+    P: Progress,
+>(
     rt: &T,
     alloc: Global,
     test: &Test,
@@ -39,14 +48,14 @@ fn drawn<const B: usize, const M: usize, G: Jump + Sync + Drop, T: Threads + Syn
     generator: &G,
     runs: Runs,
     progress: &mut P,
-) -> Result<Tally, AllocError>
+) -> Result<Tally<DrawnRun<G>>, AllocError>
     requires some_capacity { 1 ≤ B }
     requires capacity { B ≤ 64 }
     requires words { MAX_LOCATIONS ≤ M }
     requires size { M ≤ 65536 }
     ensures { IfOk result
         (λ tally. (left : Unfinished) → IsTried B M left draw (left_after (runs.skip * runs.length) (G.Rng.stream generator.now)) runs.number
-        runs.length test.now (text_and_good left (test.now, tally))) }
+        runs.length test.now (text_and_good (name_of_run G.Rng.stream) left (test.now, tally))) }
 {
     let start = generator.ahead(runs.skip, runs.length)?;
     let Runs {
@@ -67,7 +76,7 @@ fn made<
     const B: usize,
     const M: usize,
     R: Read,
-    G: Jump + Sync + Drop,
+    G: Jump + Send + Sync + Drop,
     T: Threads + Sync,
     P: Progress,
 >(
@@ -78,13 +87,13 @@ fn made<
     generator: &G,
     runs: Runs,
     progress: &mut P,
-) -> Result<(Test, Tally), Fault>
+) -> Result<(Test, Tally<DrawnRun<G>>), Fault>
     requires some_capacity { 1 ≤ B }
     requires capacity { B ≤ 64 }
     requires words { MAX_LOCATIONS ≤ M }
     requires size { M ≤ 65536 }
     ensures { (left : Unfinished) → FindsUpToReads (IsTryAnswer B M left draw (left_after (runs.skip * runs.length) (G.Rng.stream generator.now))
-        runs.number runs.length (R.remaining file.old)) (text_and_good left) result }
+        runs.number runs.length (R.remaining file.old)) (text_and_good (name_of_run G.Rng.stream) left) result }
 {
     let test = read_test(alloc, file)?;
     let tally = drawn::<B, M, G, T, P>(rt, alloc, &test, draw, generator, runs, progress)?;
@@ -106,7 +115,7 @@ pub fn try_engine<
     const B: usize,
     const M: usize,
     R: Read,
-    G: Jump + Sync + Drop,
+    G: Jump + Send + Sync + Drop,
     W: Write,
     T: Threads + Sync,
     P: Progress,

@@ -6,7 +6,6 @@ use Rattle.std.specs.Ordering.{nat_cmp}
 use Rattle.std.specs.Cmp.Lexicographic.{slice_cmp}
 use Rattle.std.specs.Map.{lookup}
 use Rattle.std.specs.Global.{Vec}
-use Rattle.std.specs.String.{string_bytes}
 use Rattle.litmus.specs.LitmusTests.{LitmusTest}
 use Rattle.engine_support.specs.declared.outcomes.Row.{Row}
 use Rattle.engine_support.specs.declared.outcomes.Outcomes.{Outcomes}
@@ -17,12 +16,12 @@ abbrev pub order : Vec ℕ → Vec ℕ → Ordering
 order x y = slice_cmp nat_cmp x.items y.items
 
 -- each row is the one that is found for its outcome
-abbrev pub AreFound : List (Vec ℕ × Row) → Type 0
+abbrev pub AreFound : {F : Type 0} → List (Vec ℕ × Row F) → Type 0
 AreFound rows = All (λ entry. lookup (is_key entry.0.items) rows ≡ Some entry.1) rows
 
-abbrev pub row_line : LitmusTest → Vec ℕ × Row → List ℕ
-row_line test entry = line_of test entry.0.items entry.1.count (string_bytes entry.1.end)
+abbrev pub row_line : {F : Type 0} → (name : F → List ℕ) → LitmusTest → Vec ℕ × Row F → List ℕ
+row_line name test entry = line_of test entry.0.items entry.1.count (name entry.1.first)
 
 -- the lines of all rows, in order
-abbrev pub lines_in : LitmusTest → Outcomes → List ℕ
-lines_in test outcomes = flat_map (row_line test) outcomes.rows.entries
+abbrev pub lines_in : {F : Type 0} → (name : F → List ℕ) → LitmusTest → Outcomes F → List ℕ
+lines_in name test outcomes = flat_map (row_line name test) outcomes.rows.entries

@@ -3,10 +3,11 @@
 ghost use Rattle.std.specs.Prelude.{◌≡◌, ◌≤◌, List, Some, IfOk};
 ghost use Rattle.engine_support.specs.Counting.{rows_in};
 ghost use Rattle.sampling.specs.Trials.{Trial, AreTrials};
-ghost use Rattle.sampling.specs.inner.Tallies.{IsTallyOf};
+ghost use Rattle.sampling.specs.inner.Tallies.{IsTallyOf, name_of_run};
 ghost use Rattle.litmus.specs.declared.litmus_test.TheConstants.{MAX_LOCATIONS};
 
 use crate::trials::drawing::tally_of;
+use crate::trials::drawn_run::DrawnRun;
 use crate::trials::tally::Tally;
 use drawn_runs::parallel::{Trials, in_rounds};
 use drawn_runs::progress::Progress;
@@ -26,19 +27,20 @@ struct TestRuns<'a, const B: usize, const M: usize, G> {
 }
 
 /// A job's runs take a machine, its numbered states, a schedule and a tally, however many they are.
-impl<'a, const B: usize, const M: usize, G: Jump + Sync + Drop> Trials for TestRuns<'a, B, M, G> {
+impl<'a, const B: usize, const M: usize, G: Jump + Send + Sync + Drop> Trials
+    for TestRuns<'a, B, M, G> {
     ghost use Rattle.sampling.specs.inner.Merging.{IsTallyFrom};
 
-    type Part = Tally;
+    type Part = Tally<DrawnRun<G>>;
 
     ghost knows = { λ it first end tally.
-        IsTallyFrom (record { B = B; M = M; test = it.test.now; draw = it.draw; stream = G.Rng.stream it.generator.now; size = it.size }) first end tally };
+        IsTallyFrom (name_of_run G.Rng.stream) (record { B = B; M = M; test = it.test.now; draw = it.draw; stream = G.Rng.stream it.generator.now; size = it.size }) first end tally };
 
-    fn none(&self, alloc: Global) -> Result<Tally, AllocError> {
+    fn none(&self, alloc: Global) -> Result<Tally<DrawnRun<G>>, AllocError> {
         Ok(Tally::new(alloc))
     }
 
-    fn make(&self, alloc: Global, first: u32, end: u32) -> Result<Tally, AllocError> {
+    fn make(&self, alloc: Global, first: u32, end: u32) -> Result<Tally<DrawnRun<G>>, AllocError> {
         let mut there = self.generator.ahead(u64::from(first), self.size)?;
         tally_of::<B, M, G>(
             alloc,
@@ -50,15 +52,19 @@ impl<'a, const B: usize, const M: usize, G: Jump + Sync + Drop> Trials for TestR
         )
     }
 
-    fn join(&self, whole: &mut Tally, later: Tally) -> Result<(), AllocError> {
+    fn join(
+        &self,
+        whole: &mut Tally<DrawnRun<G>>,
+        later: Tally<DrawnRun<G>>,
+    ) -> Result<(), AllocError> {
         whole.take_in(later)
     }
 
-    fn is_over(&self, _whole: &Tally) -> bool {
+    fn is_over(&self, _whole: &Tally<DrawnRun<G>>) -> bool {
         false
     }
 
-    fn outcomes(&self, whole: &Tally) -> Option<usize>
+    fn outcomes(&self, whole: &Tally<DrawnRun<G>>) -> Option<usize>
         ensures { result ≡ Some (rows_in whole.now.outcomes) }
     {
         Some(whole.outcomes.len())
@@ -71,7 +77,7 @@ impl<'a, const B: usize, const M: usize, G: Jump + Sync + Drop> Trials for TestR
 pub fn tally_in_rounds<
     const B: usize,
     const M: usize,
-    G: Jump + Sync + Drop,
+    G: Jump + Send + Sync + Drop,
     T: Threads + Sync,
     P: Progress,
 >(
@@ -84,13 +90,13 @@ pub fn tally_in_rounds<
     length: u32,
     jobs: u32,
     progress: &mut P,
-) -> Result<Tally, AllocError>
+) -> Result<Tally<DrawnRun<G>>, AllocError>
     requires some_capacity { 1 ≤ B }
     requires capacity { B ≤ 64 }
     requires words { MAX_LOCATIONS ≤ M }
     requires size { M ≤ 65536 }
     ensures { IfOk result (λ tally. (trials : List Trial)
-        × AreTrials B M test.now draw (G.Rng.stream generator.now) runs length trials × IsTallyOf trials tally) }
+        × AreTrials B M test.now draw (G.Rng.stream generator.now) runs length trials × IsTallyOf (name_of_run G.Rng.stream) trials tally) }
 {
     let trials = TestRuns::<B, M, G> {
         test,

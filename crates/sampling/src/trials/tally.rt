@@ -1,76 +1,52 @@
 //! What is kept of a test's runs.
 
-ghost use Rattle.std.specs.Prelude.{◌≡◌, ◌+◌, ◌++◌, ◌<◌, ℕ, List, [], ◌∷◌, false, IsTrue, IfOk, IfSome, OnOk, codes};
-ghost use Rattle.std.specs.String.{string_bytes};
+ghost use Rattle.std.specs.Prelude.{◌≡◌, ◌+◌, ◌<◌, ℕ, List, [], false, IsTrue, IfSome, OnOk};
 ghost use Rattle.step_machine.specs.History.{History, OpeningValue};
 ghost use Rattle.step_machine.specs.Runs.{Run};
 ghost use Rattle.step_machine.specs.Standing.{RepresentsHistory, RepresentsRunFrom};
 ghost use Rattle.sampling.specs.Trials.{is_finished};
-ghost use Rattle.sampling.specs.Outcomes.{schedule_text as text_of_schedule};
+ghost use Rattle.sampling.specs.Outcomes.{schedule_text};
 ghost use Rattle.engine_support.specs.Counting.{counted, counted_both, Counts};
 ghost use Rattle.sampling.specs.inner.Tallies.{IsTallyOf, Tallies};
 ghost use Rattle.sampling.specs.inner.Merging.{Merges};
 ghost use Rattle.sampling.specs.inner.Stops.{NotesStops, TakesStops};
 
 use crate::stops::{Stopped, Stops};
-use engine_support::outcomes::Outcomes;
+use engine_support::outcomes::{FirstRun, Outcomes};
 use litmus::Verdict;
-use recorder::push_tokens;
 use std::alloc::{AllocError, Global};
 use std::mem;
 use step_machine::{Event, MachineState};
 
 /// The outcomes of the runs, and what else is known of them.
 #[derive(Drop)]
-pub struct Tally {
-    /// Each ends with the tokens of the first run's schedule behind a space, or with nothing where there are none.
-    pub outcomes: Outcomes,
+pub struct Tally<F> {
+    pub outcomes: Outcomes<F>,
     /// How many runs left a hart that hasn't ended, or a store pending. They have no outcome.
     pub unfinished: u32,
-    /// The first of these as the last line has it: the tokens of its schedule after a semicolon. Empty if there is none.
-    pub first_unfinished: String,
+    /// The first of these, if there is one.
+    pub first_unfinished: Option<F>,
     /// In how many of these each hart is stopped at the end, for each reason.
     pub stops: Stops,
     pub some_hold: bool,
     pub some_fail: bool,
 }
 
-fn push_schedule(text: &mut String, events: &[Event]) -> Result<(), AllocError>
-    ensures { OnOk result (string_bytes text.new ≡ string_bytes text.old ++ text_of_schedule events.now) }
-{
-    if events.is_empty() {
-        return Ok(());
-    }
-    text.push_str(" ")?;
-    push_tokens(text, events)
-}
-
-/// The tokens of a schedule after this word.
-fn schedule_after(alloc: Global, word: &'static str, events: &[Event]) -> Result<String, AllocError>
-    ensures { IfOk result (λ text. string_bytes text ≡ word.now ++ text_of_schedule events.now) }
-{
-    let mut text = String::new(alloc);
-    text.push_str(word)?;
-    push_schedule(&mut text, events)?;
-    Ok(text)
-}
-
-/// Counts one more run with this outcome, and keeps its events if it is the first.
-fn count_outcome(
+/// Counts one more run with this outcome, and keeps it if it is the first.
+fn count_outcome<F: FirstRun>(
     alloc: Global,
-    outcomes: &mut Outcomes,
+    outcomes: &mut Outcomes<F>,
     outcome: &[u32],
-    events: &[Event],
+    run: F,
 ) -> Result<(), AllocError>
-    requires { IfSome (counted outcomes.old outcome.now) (λ seen. seen.0 < 18446744073709551615) }
-    ensures { OnOk result (Counts outcome.now (1, text_of_schedule events.now) (counted outcomes.old) (counted outcomes.new)) }
+    requires { IfSome (counted F.name outcomes.old outcome.now) (λ seen. seen.0 < 18446744073709551615) }
+    ensures { OnOk result (Counts outcome.now (1, F.name run) (counted F.name outcomes.old) (counted F.name outcomes.new)) }
 {
     if outcomes.count_again(outcome) {
         return Ok(());
     }
-    let end = schedule_after(alloc, "", events)?;
     let outcome = Vec::from_slice(alloc, outcome)?;
-    outcomes.count_first(outcome, end)
+    outcomes.count_first(outcome, run)
 }
 
 /// Runs these events from the machine's opening, whatever it did before.
@@ -88,14 +64,14 @@ pub fn run_anew<const B: usize, const M: usize>(
     }
 }
 
-impl Tally {
+impl<F: FirstRun> Tally<F> {
     /// Takes in the runs of a later tally, after its own.
-    pub fn take_in(&mut self, mut later: Tally) -> Result<(), AllocError>
+    pub fn take_in(&mut self, mut later: Tally<F>) -> Result<(), AllocError>
         requires counts { (outcome : List ℕ)
-            → IfSome (counted_both (counted self.old.outcomes outcome) (counted later.outcomes outcome))
+            → IfSome (counted_both (counted F.name self.old.outcomes outcome) (counted F.name later.outcomes outcome))
             (λ seen. seen.0 < 18446744073709551616) }
         requires unfinished { self.old.unfinished + later.unfinished < 4294967296 }
-        ensures merged { OnOk result (Merges self.old later self.new) }
+        ensures merged { OnOk result (Merges F.name self.old later self.new) }
         ensures stops { OnOk result (TakesStops later.stops self.old.stops self.new.stops) }
     {
         if self.unfinished == 0 {
@@ -110,45 +86,47 @@ impl Tally {
     }
 
     /// The tally of no run, to which runs are added.
-    pub fn new(alloc: Global) -> Tally
-        ensures { IsTallyOf [] result }
+    pub fn new(alloc: Global) -> Tally<F>
+        ensures { IsTallyOf F.name [] result }
     {
         Tally {
             outcomes: Outcomes::new(alloc),
             unfinished: 0,
-            first_unfinished: String::new(alloc),
+            first_unfinished: None,
             stops: Stops::new(),
             some_hold: false,
             some_fail: false,
         }
     }
 
-    /// Takes in one more run, by these events, with this verdict and these last values, and with these harts stopped.
+    /// Takes in one more run, with this verdict and these last values, and with these harts stopped.
     pub fn add(
         &mut self,
         alloc: Global,
-        events: &[Event],
+        run: F,
         verdict: Verdict,
         values: &[u32],
         stopped: &[Stopped],
     ) -> Result<(), AllocError>
-        requires counts { (outcome : List ℕ) → IfSome (counted self.old.outcomes outcome) (λ seen. seen.0 < 18446744073709551615) }
+        requires counts { (outcome : List ℕ) → IfSome (counted F.name self.old.outcomes outcome) (λ seen. seen.0 < 18446744073709551615) }
         requires unfinished { self.old.unfinished < 4294967295 }
-        ensures tallied { OnOk result (Tallies (record { events = events.now; verdict = verdict; values = values.now }) self.old self.new) }
+        ensures tallied { OnOk result ((events : List Event) → F.name run ≡ schedule_text events
+            → Tallies F.name (record { events = events; verdict = verdict; values = values.now }) self.old self.new) }
         ensures stops { OnOk result (NotesStops (is_finished verdict) stopped.now self.old.stops self.new.stops) }
     {
         match verdict {
             Verdict::Holds => {
                 self.some_hold = true;
-                count_outcome(alloc, &mut self.outcomes, values, events)
+                count_outcome(alloc, &mut self.outcomes, values, run)
             }
             Verdict::Fails => {
                 self.some_fail = true;
-                count_outcome(alloc, &mut self.outcomes, values, events)
+                count_outcome(alloc, &mut self.outcomes, values, run)
             }
             Verdict::Unfinished => {
+                let mut first = Some(run);
                 if self.unfinished == 0 {
-                    self.first_unfinished = schedule_after(alloc, " ;", events)?;
+                    mem::swap(&mut self.first_unfinished, &mut first);
                 }
                 self.unfinished += 1;
                 self.stops.note_each(stopped);
@@ -160,12 +138,12 @@ impl Tally {
     /// Takes in one more run with this verdict and these last values, and with these harts stopped, unless it is the
     /// first with a new outcome or the first that didn't finish, and answers whether it did.
     pub fn add_again(&mut self, verdict: Verdict, values: &[u32], stopped: &[Stopped]) -> bool
-        requires counts { (outcome : List ℕ) → IfSome (counted self.old.outcomes outcome) (λ seen. seen.0 < 18446744073709551615) }
+        requires counts { (outcome : List ℕ) → IfSome (counted F.name self.old.outcomes outcome) (λ seen. seen.0 < 18446744073709551615) }
         requires unfinished { self.old.unfinished < 4294967295 }
-        ensures again { IsTrue result → (events : List Event) → Tallies (record { events = events; verdict = verdict; values = values.now }) self.old self.new }
+        ensures again { IsTrue result → (events : List Event) → Tallies F.name (record { events = events; verdict = verdict; values = values.now }) self.old self.new }
         ensures stops { IsTrue result → NotesStops (is_finished verdict) stopped.now self.old.stops self.new.stops }
         ensures none { result ≡ false → self.new ≡ self.old }
-        ensures new { result ≡ false → IsTrue (is_finished verdict) → counted self.old.outcomes values.now ≡ None }
+        ensures new { result ≡ false → IsTrue (is_finished verdict) → counted F.name self.old.outcomes values.now ≡ None }
         ensures first { result ≡ false → is_finished verdict ≡ false → self.old.unfinished ≡ 0 }
     {
         if verdict == Verdict::Unfinished {

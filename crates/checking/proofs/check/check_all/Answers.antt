@@ -6,7 +6,7 @@ use Rattle.checking.proofs.Answering.{all_checked, all_written, none_written}
 use Rattle.checking.proofs.Differences.{ok_more}
 use Rattle.engine_support.specs.inner.Rows.{lines_in}
 use Rattle.engine_support.proofs.Written.{hands_failure, hands_stop, hands_unwritten, stopped, unwritten, write_fails, write_stops}
-use Rattle.checking.specs.inner.Tallies.{table_text}
+use Rattle.checking.specs.inner.Tallies.{first_name, table_text}
 use Rattle.checking.proofs.OutcomeLaws.{tabled}
 use Rattle.checking.proofs.check.check_all.Goals as goal
 
@@ -51,7 +51,7 @@ returns-clause-checked g c =
     ok_more c.end_with_table.result _ _
     (λ good written. all_checked g.row.B g.row.M test tally (g.W.Write.contents c.args.writer.now) (g.W.Write.contents c.judge_all.new.writer)
     (g.R.Read.remaining c.args.records.now) c.in_ok-tally.ensures.judged (g.W.Write.contents c.end_with_table.new.writer) (table_text test tally) good
-    (λ answers is. tabled test answers tally (lines_in test tally.outcomes) (table_text test tally) is c.has_lines.ensures refl) written.0 written.1)
+    (λ answers is. tabled test answers tally (lines_in first_name test tally.outcomes) (table_text test tally) is c.has_lines.ensures refl) written.0 written.1)
     c.end_with_table.ensures.written
 
 pub returns-clause-err : goal.returns-clause-err

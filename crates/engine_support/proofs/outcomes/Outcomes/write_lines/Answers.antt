@@ -14,17 +14,17 @@ pub loop-outcome-preserved : goal.loop-outcome-preserved
 loop-outcome-preserved g c =
     let (out, appends, is) = c.loop-outcome.invariant in
     let test = c.args.test.now in
-    let entry : Vec ℕ × Row = (c.in-Some.outcome.now, c.in-Some.row.now) in
+    let entry : Vec ℕ × Row _ = (c.in-Some.outcome, c.in-Some.row) in
     let next : c.loop-outcome.outcome-iterator ≡ entry ∷ c.next.new.self = search rules in
-    let line = row_line test entry in
+    let line = row_line g.F.FirstRun.name test entry in
     let written : Appends (g.W.Write.contents c.loop-outcome.writer) (g.W.Write.contents c.write_row.new.writer)
     line =
     rw c.deref.ensures.value at c.in_ok-write_row.ensures in
-    (out ++ line, appends_more _ _ _ out line appends written, line_written (row_line test) out _ _ entry _ next is)
+    (out ++ line, appends_more _ _ _ out line appends written, line_written (row_line g.F.FirstRun.name test) out _ _ entry _ next is)
 
 pub returns : goal.returns
 returns g c =
     let (out, appends, is) = c.loop-outcome.invariant in
     let none : c.loop-outcome.outcome-iterator ≡ [] = search rules in
     subst (λ (xs : List ℕ). Appends (g.W.Write.contents c.args.writer.now) (g.W.Write.contents c.loop-outcome.writer) xs)
-    (lines_written (row_line c.args.test.now) out _ _ none is) appends
+    (lines_written (row_line g.F.FirstRun.name c.args.test.now) out _ _ none is) appends

@@ -3,4 +3,4 @@ use Rattle.sampling.proofs.TallyLaws.{nothing_counted}
 use Rattle.sampling.proofs.trials.tally.Tally.new.Goals as goal
 
 pub returns : goal.returns
-returns c = nothing_counted _ c.new.ensures refl c.new-2.ensures.bytes refl refl
+returns g c = nothing_counted _ c.new.ensures refl refl refl refl
