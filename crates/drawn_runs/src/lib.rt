@@ -3,8 +3,8 @@
 //! The contract: [`Jump::ahead`] returns a generator whose stream is what is left of this one's after so
 //! many words of 32 bits, [`first_run`] shares runs among jobs, and [`spreading::in_rounds`] returns what
 //! [`spreading::Trials`] knows of runs, however they were spread over rounds and jobs. [`draw_by`] draws the events of a run,
-//! each by itself or in bursts of one hart, and [`draws::next_by`] one after the other. What is reported through [`progress::Progress`] no clause says. This crate
-//! reads and writes no schedule.
+//! each by itself or in bursts of one hart, and [`draws::next_by`] one after the other. What is reported through
+//! [`progress::Progress`] no clause says. This crate reads and writes no schedule.
 //!
 //! Called by 9 crates, from `judged_runs` to `ztso`.
 

@@ -143,8 +143,10 @@ impl<F: FirstRun> Outcomes<F> {
     /// Counts the runs of later outcomes, after its own. At an error those of some outcomes are counted, and those of
     /// the others aren't.
     pub fn take_in(&mut self, later: Outcomes<F>) -> Result<(), AllocError>
-        requires { (outcome : List ℕ) → IfSome (counted_both (counted F.name self.old outcome) (counted F.name later outcome)) (λ seen. seen.0 < 18446744073709551616) }
-        ensures counts { OnOk result ((outcome : List ℕ) → counted F.name self.new outcome ≡ counted_both (counted F.name self.old outcome) (counted F.name later outcome)) }
+        requires { (outcome : List ℕ) → IfSome (counted_both (counted F.name self.old outcome) (counted F.name later outcome))
+            (λ seen. seen.0 < 18446744073709551616) }
+        ensures counts { OnOk result ((outcome : List ℕ) → counted F.name self.new outcome
+            ≡ counted_both (counted F.name self.old outcome) (counted F.name later outcome)) }
         ensures err { OnErr result ((outcome : List ℕ) → (counted F.name self.new outcome ≡ counted F.name self.old outcome)
             ⊎ (counted F.name self.new outcome ≡ counted_both (counted F.name self.old outcome) (counted F.name later outcome))) }
     {

@@ -120,7 +120,8 @@ module _ {F : Type 0} {name : F → List ℕ} (source : TestSource) where
       (λ (s : Stream). AreTrials source.B source.M source.test source.draw s (runs - 0) source.size is.trials)
       (at_start source.size source.stream) is.are)
 
-  pub from_all : (runs : ℕ) (tally : Tally F) → IsTallyFrom name source 0 runs tally → (trials : List Trial) × AreRuns source runs trials × IsTallyOf name trials tally
+  pub from_all : (runs : ℕ) (tally : Tally F) → IsTallyFrom name source 0 runs tally
+      → (trials : List Trial) × AreRuns source runs trials × IsTallyOf name trials tally
   from_all runs tally is = (is.trials, first_are runs tally is, is.tallied)
 
   -- the tally that has none is that of no run

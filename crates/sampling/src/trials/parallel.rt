@@ -34,7 +34,8 @@ impl<'a, const B: usize, const M: usize, G: Jump + Send + Sync + Drop> Trials
     type Part = Tally<DrawnRun<G>>;
 
     ghost knows = { λ it first end tally.
-        IsTallyFrom (name_of_run G.Rng.stream) (record { B = B; M = M; test = it.test.now; draw = it.draw; stream = G.Rng.stream it.generator.now; size = it.size }) first end tally };
+        IsTallyFrom (name_of_run G.Rng.stream)
+        (record { B = B; M = M; test = it.test.now; draw = it.draw; stream = G.Rng.stream it.generator.now; size = it.size }) first end tally };
 
     fn none(&self, alloc: Global) -> Result<Tally<DrawnRun<G>>, AllocError> {
         Ok(Tally::new(alloc))

@@ -140,7 +140,8 @@ impl<F: FirstRun> Tally<F> {
     pub fn add_again(&mut self, verdict: Verdict, values: &[u32], stopped: &[Stopped]) -> bool
         requires counts { (outcome : List ℕ) → IfSome (counted F.name self.old.outcomes outcome) (λ seen. seen.0 < 18446744073709551615) }
         requires unfinished { self.old.unfinished < 4294967295 }
-        ensures again { IsTrue result → (events : List Event) → Tallies F.name (record { events = events; verdict = verdict; values = values.now }) self.old self.new }
+        ensures again { IsTrue result → (events : List Event)
+            → Tallies F.name (record { events = events; verdict = verdict; values = values.now }) self.old self.new }
         ensures stops { IsTrue result → NotesStops (is_finished verdict) stopped.now self.old.stops self.new.stops }
         ensures none { result ≡ false → self.new ≡ self.old }
         ensures new { result ≡ false → IsTrue (is_finished verdict) → counted F.name self.old.outcomes values.now ≡ None }

@@ -26,7 +26,8 @@ loop-init g c =
       so_far = (
         codes " ",
         c.in_ok-write_all.ensures.bytes,
-        text-begun c.next_by-event.result.0 (events_by draw harts (drawn_words size before)) (events_left draw harts c.next_by-event.result.1 (size - 1) after) is,
+        text-begun c.next_by-event.result.0 (events_by draw harts (drawn_words size before))
+            (events_left draw harts c.next_by-event.result.1 (size - 1) after) is,
       );
     }
 
