@@ -1,5 +1,6 @@
 """Runs of the program and of the reference in one folder, and what is counted of them."""
 
+import contextlib
 import io
 import os
 import random
@@ -66,13 +67,14 @@ class Runs:
 
     def reference(self, words, stdin=b""):
         """The same of the reference, which has no `threads`."""
-        sys.stdin = io.TextIOWrapper(io.BytesIO(stdin))
+        sys.stdin, told = io.TextIOWrapper(io.BytesIO(stdin)), io.StringIO()
         try:
-            command, files, options = REFERENCE["job"](words)
-            text, status = REFERENCE["ENGINES"][command](files, options)
+            with contextlib.redirect_stderr(told):
+                command, files, options = REFERENCE["job"](words)
+                text, status = REFERENCE["ENGINES"][command](files, options)
         except Fault as fault:
             return fault.status, f"{fault.line}\n".encode(), b""
-        return status, b"", text.encode()
+        return status, told.getvalue().encode(), text.encode()
 
     def hold(self, kind, right, came, words, stdin=b"", note=""):
         """Counts a run, and shows it where it isn't right."""
