@@ -55,7 +55,7 @@ def rows(short):
     drawn = ["--seed", "1", "--runs", "8" if short else "64", "--length", "1048576"]
     yield ["try", "text", *drawn], b"", racing(), 1, 60, 16
     yield ["channel", "lamport", "2", "none", "--finish"], b"7 " * 520_000 + b"\n", b"", 0, 10, 256
-    yield ["run", "text", "none"], b"", empty_cells(), 0, 2, 72
+    yield ["run", "text", "none"], b"", empty_cells(), 0, 2, 96
     stores = litmus(cells=["L: sw x0,0(x0)", "j L"])
     yield ["debug", "text", "stores"], b"g\nq\n", stores, 0, 10, 80
     if not short:
