@@ -69,7 +69,7 @@ fn pc_before_last<const B: usize, const M: usize>(
     }
 }
 
-/// What was told of a run that breaks the protocol of a queue.
+/// The trial of a run that breaks the protocol of a queue, with the pc at which its hart was.
 fn broken_by<const B: usize, const M: usize>(
     alloc: Global,
     opening: &Opening,
@@ -95,7 +95,7 @@ fn broken_by<const B: usize, const M: usize>(
     })
 }
 
-/// What is told of the runs of one queue.
+/// What drawn runs show of one queue.
 fn told_of<const B: usize, const M: usize, G: Jump + Sync + Drop, T: Threads + Sync, P: Progress>(
     rt: &T,
     alloc: Global,

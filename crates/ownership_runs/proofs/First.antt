@@ -61,7 +61,7 @@ module _ (q : Queue) (some : 1 ≤ q.size) where
       ap (λ b. if b then violation_from q (place + 1) (counts_next q c e) es else Some (violation_at q place c e)) ((decides-entry q some c e).1 keeps.0)
       ∙ none-from (place + 1) (counts_next q c e) es keeps.1
 
-  -- the violation of entries before which so many come
+  -- the first violation among entries, of which the first stands at `place`
   record IsFirstFrom (place : ℕ) (c : QueueCounts) (es : List Entry) (b : Violation) : Type 0 where
     front : List Entry
     entry : Entry

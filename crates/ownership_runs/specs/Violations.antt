@@ -42,7 +42,7 @@ judged_exchange q place h p c old w = if w.value == old then Ok (after_access q 
 abbrev pub judged_entry : Queue → (place : ℕ) → QueueCounts → Entry → Result QueueCounts Violation
 judged_entry q place c e = if keeps_entry q c e then Ok (counts_next q c e) else Err (violation_at q place c e)
 
--- the first violation among entries, where so many come before them
+-- the first violation among entries, of which the first stands at this place
 abbrev pub violation_from : Queue → (place : ℕ) → QueueCounts → List Entry → Option Violation
 violation_from q place c [] = None
 violation_from q place c (e ∷ es) = if keeps_entry q c e then violation_from q (place + 1) (counts_next q c e) es else Some (violation_at q place c e)

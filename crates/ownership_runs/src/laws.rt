@@ -36,7 +36,7 @@ pub fn laws_of_violations()
 /// - `follows`: one that keeps a queue's protocol from where the queue is at rest is one of which `slot_queue::laws_of_ownership`
 ///   speaks.
 /// - `apart`: none both keeps it and breaks it.
-/// - `ends`: the part of a run's events that is told of a violation ends with the event that makes it.
+/// - `ends`: the events that are returned with a violation end with the event that makes it.
 pub fn laws_of_judged_runs()
     ensures follows { (B M : ℕ) (o : OpeningValue) (q : Queue) (start : QueueCounts) (events : List Event) (t : History) → IsQueue q
         → IsAtRest q o [] start → HasKeptRun B M o q start events → Run B M o events t → FollowsOwnership B q start o [] t.entries }

@@ -63,7 +63,7 @@ regrouped : (x p q r s : Bool) → (x && p && q && r && s) ≡ (x && (p && q && 
 regrouped true p q r s = refl
 regrouped false p q r s = refl
 
--- the parts of `is_queue`, as flaws are told by them
+-- the parts of `is_queue`, one for each kind of flaw
 abbrev places : SlotQueue → Bool
 places q = not (q.sender == q.receiver) && are_apart q.head q.index_width q.tail q.index_width
     && are_apart q.head q.index_width q.slots (q.size * q.width) && are_apart q.tail q.index_width q.slots (q.size * q.width)

@@ -65,7 +65,7 @@ fn place_flaw(queue: Queue) -> Result<Option<QueueFlaw>, Lack>
     Ok(None)
 }
 
-/// What is wrong with how many slots there are, or with how counts are told.
+/// The flaw of a queue's number of slots, or of how its indices stand for counts.
 fn number_flaw(queue: Queue) -> Option<QueueFlaw>
     ensures { result ≡ number_flaw queue }
 {

@@ -47,7 +47,7 @@ off-keeps : (r : RingBuffer) (is : IsRingBuffer r) (w : Write) → overlaps r w 
 off-keeps r is w off x on within = let part = covers-from w x on in
     grind (arith, nat_tests, off, part.0, part.1, within.0, within.1, is.slots_above, is.slots_below)
 
--- the tag of a position that is so many after the first
+-- the tag of position k, whose slot is the one at k - r.start from the first on
 tag_word : (r : RingBuffer) (o : OpeningValue) (before : List Entry) (k : ℕ) → r.start ≤ k
     → memory_word o before (slot_address r (k - r.start)) ≡ memory_tag (slots_of r) o before k
 tag_word r o before k from =
