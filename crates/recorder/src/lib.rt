@@ -31,7 +31,7 @@ mod tokens;
 pub mod versions;
 pub mod writing;
 
-pub use drawing::{draw, seeded};
+pub use drawing::{draw, event_of, seeded};
 pub use faults::{AtByte, ScheduleError, ScheduleFault};
 pub use heads::{RECORD_HEAD, has_head};
 pub use laws::{
