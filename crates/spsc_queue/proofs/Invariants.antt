@@ -1,5 +1,5 @@
 -- The invariant of a queue of either kind: what keeps it, and what the laws take from it.
-use Rattle.std.proofs.Common.{ℕ, ◌+◌, ◌^◌, ◌<◌, ◌≤◌, ◌≡◌, Option, Some, None, List, [], ◌∷◌, ◌++◌, length, refl, sym, ◌∙◌, ap, subst}
+use Rattle.std.proofs.Common.{ℕ, ◌+◌, ◌^◌, ◌<◌, ◌≤◌, ◌≡◌, List, [], ◌∷◌, ◌++◌, length, refl, sym, ◌∙◌, ap, subst}
 use Rattle.std.proofs.Common.{arith}
 use Rattle.memory.specs.declared.writes.Write.{Write}
 use Rattle.step_machine.specs.declared.events.Entry.{Entry}
@@ -17,7 +17,7 @@ use Rattle.spsc_queue.proofs.Invariant.{firsts, spare, freed, there, their_store
 use Rattle.spsc_queue.proofs.Invariant.{freed_taken}
 use Rattle.spsc_queue.proofs.Numbers.{firsts-numbers}
 use Rattle.spsc_queue.proofs.Words.{row_of, row_shorter}
-use Rattle.spsc_queue.proofs.Copies.{Copied, CopyStays, copied-on, none_leave, quiet_read}
+use Rattle.spsc_queue.proofs.Copies.{CopyStays, copied-on, copy-at-rest}
 use Rattle.spsc_queue.proofs.Loads as lamports
 use Rattle.spsc_queue.proofs.FastForwardLoads as fastforwards
 use Rattle.spsc_queue.proofs.Steps.{stays}
@@ -192,27 +192,8 @@ at_rest k r is L o es quiet first kind =
       };
       sent = numbers-same (λ j. memory_word o es (slot_address r j)) L 0 n (λ j from below. sym (first j (omega (arith, below)))) ∙ sym (firsts-numbers L n);
       received = refl;
-      copy = copy_at_rest k r.copy refl kind;
+      copy = copy-at-rest k r is o es (freed k 0 0) quiet kind;
     }
   where
     none_row : (h : ℕ) → row_of r (pending h es) ≡ []
     none_row h = row_none r (pending h es) (quiet.pending h)
-
-    copy_at_rest : (k : Kind) (q : Option ℕ) → r.copy ≡ q → r.kind ≡ k → Copied k q r o es (r.begins_with + 0) (freed k 0 0)
-    copy_at_rest k None none kind = at k
-      where
-        at : (k : Kind) → Copied k None r o es (r.begins_with + 0) (freed k 0 0)
-        at lamport = tt
-        at fastforward = refl
-    copy_at_rest fastforward (Some a) some kind = absurd (let no : lamport ≡ fastforward = sym (is.copy a some).kind ∙ kind in cc)
-    copy_at_rest lamport (Some a) some kind =
-        let at = quiet.copy a some in
-        let in_block = is.copy a some in
-        record {
-          place = at.0;
-          reads = quiet_read r o es r.sender a (quiet.pending r.sender) in_block.above in_block.below ∙ at.3;
-          low = omega (arith, at.1);
-          high = omega (arith, at.2);
-          alone = λ x from below h other. none_leave r x (pending h es) (quiet.pending h)
-              (omega (arith, from, in_block.above)) (omega (arith, below, in_block.below));
-        }
