@@ -1,6 +1,6 @@
 //! What an instruction leaves in a register, as far as it is known.
 
-ghost use Rattle.std.specs.Prelude.{◌≡◌, ◌+◌, ◌%◌, ◌^◌, ◌<◌, ◌≤◌, ◌==◌, ◌&&◌, count_ones, length, [], IfOk};
+ghost use Rattle.std.specs.Prelude.{◌≡◌, ◌+◌, ◌*◌, ◌%◌, ◌^◌, ◌<◌, ◌≤◌, ◌==◌, ◌&&◌, count_ones, length, [], IfOk};
 ghost use Rattle.queue_certificates.specs.Forms.{remainder_word};
 ghost use Rattle.queue_certificates.specs.States.{any};
 ghost use Rattle.queue_certificates.specs.Results.{just, exactly, any_up_to, or_up_to, as_number, flag_of, set_less, shifted_left, shifted_right};
@@ -282,8 +282,8 @@ fn masked_row(
     mask: u32,
     low: u64,
 ) -> Result<Outcome, Lack>
-    requires { 1 ≤ low }
-    requires { low ≤ 2 ^ 32 }
+    requires some { 1 ≤ low }
+    requires small { low ≤ 2 ^ 32 }
     ensures { IfOk result (λ r. r ≡ masked_row ranges.now rest.now mask low) }
 {
     let other = any_up_to(alloc, u64::from(mask))?;
