@@ -22,9 +22,10 @@ use Rattle.spsc_queue.specs.Protocol.{ProtocolState, at_start, sends, receives, 
 use Rattle.spsc_queue.specs.Protocol.{receive_store, next_by, protocol_next, IsWordAt, IsCopyStore, IsSenderStore, IsReceiverStore, KeepsProtocolBy}
 use Rattle.spsc_queue.specs.Protocol.{KeepsProtocol}
 use Rattle.spsc_queue.specs.Laws.{FollowsSpscProtocol, ready_by_state}
+use Rattle.spsc_queue.proofs.Cases.{by-role, by-receive-load}
 use Rattle.spsc_queue.proofs.Words.{word_overlaps}
 use Rattle.spsc_queue.proofs.Invariant.{SendingIs, sending-more}
-use Rattle.spsc_queue.proofs.Copies.{Copied, CopyStays, copied-on, copied-more, copy-at-rest, leaves, off_leave, exchange_leave, word_leave}
+use Rattle.spsc_queue.proofs.Copies.{Copied, CopyStays, copied-on, copied-more, copy-at-rest, all-off, leaves, off_leave, exchange_leave, word_leave}
 use Rattle.spsc_queue.proofs.Loads.{next_offset, slot_word, knows-more}
 use Rattle.spsc_queue.proofs.Steps.{copied-anew}
 use Rattle.slot_queue.specs.Queues.{Queue, index_word, least, IsQueue, KeepsOff, IsAtRest}
@@ -39,7 +40,6 @@ use Rattle.slot_queue.proofs.Owned.{grows-access, loaded-count, grows-load}
 use Rattle.slot_queue.proofs.OwnIndex.{reads-through}
 use Rattle.queue_instances.specs.LamportRings.{queue_of}
 use Rattle.queue_instances.specs.Starts.{counts_at_start}
-use Rattle.queue_instances.proofs.Blocks.{by-role, all-off}
 
 pub is_queue : (r : RingBuffer) → IsRingBuffer r → IsQueue (queue_of r)
 is_queue r is = record {
@@ -216,7 +216,8 @@ module _ (B : ℕ) (r : RingBuffer) (is : IsRingBuffer r) (o : OpeningValue) (es
 
   -- ---- loads
 
-  sender-loads : (a v : ℕ) → v ≡ read o es r.sender a 4 → Agrees r o es (after_load q the_sender a 4 v c) (record s { sending = send_load lamport r a v s.sending })
+  sender-loads : (a v : ℕ) → v ≡ read o es r.sender a 4
+      → Agrees r o es (after_load q the_sender a 4 v c) (record s { sending = send_load lamport r a v s.sending })
   sender-loads a v is_read = record {
     published = old.published;
     taken = old.taken;
@@ -259,7 +260,9 @@ module _ (B : ℕ) (r : RingBuffer) (is : IsRingBuffer r) (o : OpeningValue) (es
     room = old.room;
     sending = old.sending;
     copied = old.copied;
-    receiving = at s.receiving holds.receiving;
+    receiving = by-receive-load lamport r a v Has s.receiving (λ whole here.
+        is_read ∙ ap (λ x. read o es r.receiver x 4) here ∙ reads-own the_receiver ∙ sym (offset-word r c.taken s.taken holds.taken))
+        (look s.receiving holds.receiving);
   }
     where
       d : QueueCounts
@@ -301,21 +304,6 @@ module _ (B : ℕ) (r : RingBuffer) (is : IsRingBuffer r) (o : OpeningValue) (es
       look idle h = tt
       look (holding u w) h = same (holding u w) h
       look (cleared u) h = absurd h
-
-      own-or : (p : ReceiverState) → Had p → Has (if a == r.tail then asked v else receive_look lamport r a v p)
-      own-or p h = by (a == r.tail) refl
-        where
-          by : (b : Bool) → (a == r.tail) ≡ b → Has (if b then asked v else receive_look lamport r a v p)
-          by true here = is_read ∙ ap (λ x. read o es r.receiver x 4) (eqb-true a r.tail here) ∙ reads-own the_receiver
-              ∙ sym (offset-word r c.taken s.taken holds.taken)
-          by false away = look p h
-
-      at : (p : ReceiverState) → Had p → Has (receive_load lamport r a v p)
-      at idle h = own-or idle h
-      at (asked u) h = own-or (asked u) h
-      at (waiting u) h = own-or (waiting u) h
-      at (holding u w) h = own-or (holding u w) h
-      at (cleared u) h = absurd h
 
   -- ---- stores
 
@@ -519,12 +507,13 @@ module _ (B : ℕ) (r : RingBuffer) (is : IsRingBuffer r) (o : OpeningValue) (es
   passes-keep land does keeps = (tt, quiet land does (λ b y. tt))
 
   pub keeps-one : KeepsProtocolBy lamport r (role_of r (hart_of e)) s (access_of e)
-      → KeepsAccess q (party_of q (hart_of e)) c (access_of e) × Agrees r o after (counts_next q c e) (next_by lamport r (role_of r (hart_of e)) s (access_of e))
+      → KeepsAccess q (party_of q (hart_of e)) c (access_of e)
+      × Agrees r o after (counts_next q c e) (next_by lamport r (role_of r (hart_of e)) s (access_of e))
   keeps-one = by-role r (hart_of e) (λ role t. KeepsProtocolBy lamport r role s (access_of e)
       → KeepsAccess q t c (access_of e) × Agrees r o after (after_access q t (access_of e) c) (next_by lamport r role s (access_of e)))
       (λ at keeps. sender-keeps (access_of e) refl at keeps (subst (λ h. AllowedBy B (pending h es) (read o es h) (access_of e)) at can))
-      (λ at keeps. receiver-keeps (access_of e) refl keeps (subst (λ h. AllowedBy B (pending h es) (read o es h) (access_of e)) at can))
-      (passes-keep (access_of e) refl)
+      (λ other at keeps. receiver-keeps (access_of e) refl keeps (subst (λ h. AllowedBy B (pending h es) (read o es h) (access_of e)) at can))
+      (λ other another. passes-keep (access_of e) refl)
 
 -- ---- whole runs
 
@@ -538,7 +527,8 @@ keeps-all B r is o before c m s (e ∷ es) kind sides holds legal later keeps =
     let one = keeps-one B r is o before c m sides s holds e even later.0
     (subst (λ k. KeepsProtocolBy k r (role_of r (hart_of e)) s (access_of e)) kind keeps.0) in (
       one.0,
-      keeps-all B r is o (before ++ e ∷ []) (counts_next (queue_of r) c e) (λ t. moved_on (queue_of r) t (m t) (write_of before e)) (protocol_next r s e) es kind
+      keeps-all B r is o (before ++ e ∷ []) (counts_next (queue_of r) c e) (λ t. moved_on (queue_of r) t (m t) (write_of before e))
+          (protocol_next r s e) es kind
           (one-on B (queue_of r) (is_queue r is) o before e even c m one.0 later.0 sides)
           (subst (λ k. Agrees r o (before ++ e ∷ []) (counts_next (queue_of r) c e) (next_by k r (role_of r (hart_of e)) s (access_of e))) (sym kind) one.1)
           (LegalAfter-append B o [] before (e ∷ []) legal (later.0, tt)) later.1 keeps.1,

@@ -116,16 +116,19 @@ module _ (B : ℕ) (r : RingBuffer) (is : IsRingBuffer r) (o : OpeningValue) (es
   pub word_leave : (w : Write) (p : ℕ) → access_of e ≡ store w → IsWordIn r p → IsWordAt w p → CopyStays r o es (es ++ e ∷ [])
   word_leave w p does word at = leaves (store w) does (λ c y some from below. word_leaves r w p c y word at some from below)
 
--- a hart with no pending store to the block reads a word of it as memory has it
-pub none_leave : (r : RingBuffer) (x : ℕ) (ws : List Write) → writes_to r ws ≡ [] → r.first ≤ x → x < r.end → All (LeavesByte x) ws
-none_leave r x [] none from below = All-nil (LeavesByte x)
-none_leave r x (w ∷ ws) none from below = at (overlaps r w) refl (λ more. none_leave r x ws more from below)
+-- what holds of each write off the block holds of all that are pending, if none of these is to the block
+pub all-off : (r : RingBuffer) (P : Write → Type 0) → ((w : Write) → overlaps r w ≡ false → P w) → (ws : List Write) → writes_to r ws ≡ [] → All P ws
+all-off r P off [] none = All-nil P
+all-off r P off (w ∷ ws) none = at (overlaps r w) refl (all-off r P off ws)
   where
-    at : (b : Bool) → overlaps r w ≡ b → (writes_to r ws ≡ [] → All (LeavesByte x) ws) → All (LeavesByte x) (w ∷ ws)
-    at false off more = All-cons (LeavesByte x) w ws (off_leaves r w x off from below)
-        (more (sym (ap (λ b. if b then w ∷ writes_to r ws else writes_to r ws) off) ∙ none))
-    at true on more = let no : w ∷ writes_to r ws ≡ [] = sym (ap (λ b. if b then w ∷ writes_to r ws else writes_to r ws) on) ∙ none in absurd (cc)
+    at : (b : Bool) → overlaps r w ≡ b → (writes_to r ws ≡ [] → All P ws) → All P (w ∷ ws)
+    at false apart more = All-cons P w ws (off w apart) (more (sym (ap (λ b. if b then w ∷ writes_to r ws else writes_to r ws) apart) ∙ none))
+    at true on more = let wrong : w ∷ writes_to r ws ≡ [] = sym (ap (λ b. if b then w ∷ writes_to r ws else writes_to r ws) on) ∙ none in absurd (cc)
 
+none_leave : (r : RingBuffer) (x : ℕ) (ws : List Write) → writes_to r ws ≡ [] → r.first ≤ x → x < r.end → All (LeavesByte x) ws
+none_leave r x ws none from below = all-off r (LeavesByte x) (λ w off. off_leaves r w x off from below) ws none
+
+-- a hart with no pending store to the block reads a word of it as memory has it
 pub quiet_read : (r : RingBuffer) (o : OpeningValue) (es : List Entry) (h c : ℕ) → writes_to r (pending h es) ≡ [] → r.first ≤ c → c + 4 ≤ r.end
     → read o es h c 4 ≡ memory_word o es c
 quiet_read r o es h c none from below = joined-same (λ i. read_byte o es h (c + i)) (λ i. memory_byte o es (c + i)) 4

@@ -8,20 +8,23 @@ use Rattle.std.proofs.Math.Nat.{add-mod_right}
 use Rattle.memory.specs.Writes.{IsWholeWord}
 use Rattle.step_machine.specs.declared.events.Entry.{Entry}
 use Rattle.step_machine.specs.History.{OpeningValue}
-use Rattle.step_machine.specs.Entries.{pending, memory_word, read}
-use Rattle.spsc_queue.specs.RingBuffers.{lamport, RingBuffer, IsRingBuffer, IsWordIn, slot_offset, slot_address, next}
+use Rattle.step_machine.specs.Entries.{memory_word, read}
+use Rattle.memory.specs.declared.writes.Write.{Write}
+use Rattle.spsc_queue.specs.RingBuffers.{Kind, lamport, fastforward, RingBuffer, IsRingBuffer, IsWordIn, slot_offset, slot_address, next}
 use Rattle.spsc_queue.specs.Protocol.{SenderState, resting, placed, renewing, roomy, filled, ReceiverState, idle, asked}
 use Rattle.spsc_queue.specs.Protocol.{waiting, holding, cleared, ProtocolState}
 use Rattle.spsc_queue.specs.Protocol.{looks_for_room, looks_past_copy, looks_at, send_look, send_load, receive_look, receive_load}
 use Rattle.step_machine.proofs.Modulo.{offset_step, offset_wrap}
 use Rattle.spsc_queue.specs.Laws.{ready_by_state}
-use Rattle.spsc_queue.proofs.Words.{row_of, seen}
+use Rattle.spsc_queue.proofs.Words.{seen}
 use Rattle.spsc_queue.proofs.Copies.{Copied, copied-more}
-use Rattle.spsc_queue.proofs.Spread.{spread, spread-all, sent_store, freed_store, seen-none, seen-tails, seen-heads, sent-not-tail, sent-whole, offset_low}
+use Rattle.spsc_queue.proofs.Spread.{spread, spread-all, sent_store, freed_store, none-there, seen-tails, seen-heads, sent-not-tail, sent-whole, offset_low}
 use Rattle.spsc_queue.proofs.Spread.{slot_not_tail}
 use Rattle.spsc_queue.proofs.Effects.{reads-word}
 use Rattle.spsc_queue.proofs.Rows.{Earlier}
-use Rattle.spsc_queue.proofs.Invariant.{Landed, SendingIs, sending-more, ReceivingIs, Invariant}
+use Rattle.spsc_queue.proofs.Invariant.{Landed, SendingIs, sending-more, placed-of, level-counts}
+use Rattle.spsc_queue.proofs.Invariant.{ReceivingIs, Invariant, turned, turned_is, zeros, their_store, their_landed}
+use Rattle.spsc_queue.proofs.Cases.{by-send-load, by-receive-load}
 
 -- the offset after that of word j
 pub next_offset : (r : RingBuffer) (is : IsRingBuffer r) (u j : ℕ) → u ≡ slot_offset r j → next r u ≡ slot_offset r (j + 1)
@@ -153,73 +156,80 @@ module _ (r : RingBuffer) (is : IsRingBuffer r) (o : OpeningValue) (es : List En
   send-looked (roomy u) holds = raised (roomy u) holds
   send-looked (filled u) holds = raised (filled u) holds
 
-  loaded : (p : SenderState) → stored ≡ published → SendsBy k p → SendsBy l (if a == r.head then placed v else send_look lamport r a v p)
-  loaded p level holds = by (a == r.head) refl
-    where
-      by : (b : Bool) → (a == r.head) ≡ b → SendsBy l (if b then placed v else send_look lamport r a v p)
-      by true same = (
-        (level, is_read ∙ ap (λ x. read o es r.sender x 4) (eqb-true a r.head same) ∙ head),
-        copied-more r.copy r o es (stored + ready_by_state p) k (stored + 0) l (omega arith) more holds.1,
-      )
-      by false apart = send-looked p holds
-
   pub knows-more : (p : SenderState) → SendsBy k p → SendsBy l (send_load lamport r a v p)
-  knows-more resting holds = loaded resting holds.0 holds
-  knows-more (placed u) holds = loaded (placed u) holds.0.0 holds
-  knows-more (renewing u w) holds = loaded (renewing u w) holds.0.0 holds
-  knows-more (roomy u) holds = loaded (roomy u) holds.0.0 holds
-  knows-more (filled u) holds = raised (filled u) holds
+  knows-more p holds = by-send-load lamport r a v (SendsBy l) p (λ level here. (
+    (level-counts r stored published p level (placed-of 1 r stored published k p holds.0), is_read ∙ ap (λ x. read o es r.sender x 4) here ∙ head),
+    copied-more r.copy r o es (stored + ready_by_state p) k (stored + 0) l (omega arith) more holds.1,
+  )) (send-looked p holds)
+
+-- ---- what each party reads: the word in memory, after what is pending of its own row
+
+their-whole : (K : Kind) (r : RingBuffer) → IsRingBuffer r → (p : ℕ) → IsWholeWord (their_store K r p)
+their-whole lamport r is p = record { whole = refl; aligned = is.tail.aligned; small = omega (arith, offset_low r is (p + 1), is.small) }
+their-whole fastforward r is p = sent-whole (turned r) (turned_is r is) zeros (λ j. omega arith) p
+
+module _ (K : Kind) (r : RingBuffer) (is : IsRingBuffer r) (L : ℕ → ℕ) (small : (j : ℕ) → L j < 2 ^ 32) (c : Earlier) (o : OpeningValue) (es : List Entry)
+    (s : ProtocolState) (inv : Invariant K r L c o es s) where
+  abbrev mine : List Write
+  mine = spread (sent_store r L) (inv.landed.slots + inv.landed.heads) inv.buffers.unsent
+
+  abbrev theirs : List Write
+  theirs = spread (their_store K r) (their_landed K inv.landed.cleared inv.landed.tails) inv.buffers.unread
+
+  pub sender-reads : (a : ℕ) → IsWordIn r a → read o es r.sender a 4 ≡ seen a (memory_word o es a) mine
+  sender-reads a word = reads-word r o es r.sender a word (subst (All IsWholeWord) (sym inv.buffers.rows.mine)
+      (spread-all IsWholeWord (sent_store r L) (inv.landed.slots + inv.landed.heads) inv.buffers.unsent (sent-whole r is L small)))
+      ∙ ap (seen a (memory_word o es a)) inv.buffers.rows.mine
+
+  pub receiver-reads : (a : ℕ) → IsWordIn r a → read o es r.receiver a 4 ≡ seen a (memory_word o es a) theirs
+  receiver-reads a word = reads-word r o es r.receiver a word (subst (All IsWholeWord) (sym inv.buffers.rows.theirs)
+      (spread-all IsWholeWord (their_store K r) (their_landed K inv.landed.cleared inv.landed.tails) inv.buffers.unread (their-whole K r is)))
+      ∙ ap (seen a (memory_word o es a)) inv.buffers.rows.theirs
+
+  -- the sender reads its own head
+  pub sender-head : read o es r.sender r.head 4 ≡ slot_offset r s.published
+  sender-head = sender-reads r.head is.head
+      ∙ ap (λ v. seen r.head v mine) (inv.words.head ∙ ap (slot_offset r) (omega (arith, inv.order.mine.heads_slots, inv.order.mine.slots_heads)))
+      ∙ seen-heads r is L (inv.landed.slots + inv.landed.heads) inv.buffers.unsent
+      ∙ ap (slot_offset r) (omega (arith, inv.buffers.mine_count, inv.order.mine.published_stored, inv.order.mine.stored_published))
+
+-- ---- Lamport's
 
 module _ (r : RingBuffer) (is : IsRingBuffer r) (L : ℕ → ℕ) (small : (j : ℕ) → L j < 2 ^ 32) (c : Earlier) (o : OpeningValue) (es : List Entry)
     (s : ProtocolState) (inv : Invariant lamport r L c o es s) where
   abbrev d : Landed
   d = inv.landed
 
-  pub mine-whole : All IsWholeWord (row_of r (pending r.sender es))
-  mine-whole = subst (All IsWholeWord) (sym inv.buffers.rows.mine)
-      (spread-all IsWholeWord (sent_store r L) (d.slots + d.heads) inv.buffers.unsent (sent-whole r is L small))
-
-  pub freed-whole : (p : ℕ) → IsWholeWord (freed_store r p)
-  freed-whole p = record { whole = refl; aligned = is.tail.aligned; small = omega (arith, offset_low r is (p + 1), is.small) }
-
-  pub theirs-whole : All IsWholeWord (row_of r (pending r.receiver es))
-  theirs-whole = subst (All IsWholeWord) (sym inv.buffers.rows.theirs) (spread-all IsWholeWord (freed_store r) d.tails inv.buffers.unread freed-whole)
-
-  -- the sender reads its own head, and the tail that landed last
-  pub sender-head : read o es r.sender r.head 4 ≡ slot_offset r s.published
-  sender-head = reads-word r o es r.sender r.head is.head mine-whole ∙ ap (seen r.head (memory_word o es r.head)) inv.buffers.rows.mine
-      ∙ ap (λ v. seen r.head v (spread (sent_store r L) (d.slots + d.heads) inv.buffers.unsent))
-      (inv.words.head ∙ ap (slot_offset r) (omega (arith, inv.order.mine.heads_slots, inv.order.mine.slots_heads)))
-      ∙ seen-heads r is L (d.slots + d.heads) inv.buffers.unsent
-      ∙ ap (slot_offset r) (omega (arith, inv.buffers.mine_count, inv.order.mine.published_stored, inv.order.mine.stored_published))
-
+  -- the sender reads the tail that landed last
   pub sender-tail : read o es r.sender r.tail 4 ≡ slot_offset r d.tails
-  sender-tail = reads-word r o es r.sender r.tail is.tail mine-whole ∙ ap (seen r.tail (memory_word o es r.tail)) inv.buffers.rows.mine
-      ∙ seen-none r.tail (memory_word o es r.tail) (sent_store r L) (d.slots + d.heads) inv.buffers.unsent (sent-not-tail r is L) ∙ inv.words.tail
+  sender-tail = sender-reads lamport r is L small c o es s inv r.tail is.tail
+      ∙ none-there r.tail (memory_word o es r.tail) (sent_store r L) (d.slots + d.heads) inv.buffers.unsent (λ p from below. sent-not-tail r is L p)
+      ∙ inv.words.tail
 
   -- the receiver reads its own tail, and all else as memory has it
   pub receiver-tail : read o es r.receiver r.tail 4 ≡ slot_offset r s.consumed
-  receiver-tail = reads-word r o es r.receiver r.tail is.tail theirs-whole ∙ ap (seen r.tail (memory_word o es r.tail)) inv.buffers.rows.theirs
+  receiver-tail = receiver-reads lamport r is L small c o es s inv r.tail is.tail
       ∙ ap (λ v. seen r.tail v (spread (freed_store r) d.tails inv.buffers.unread)) inv.words.tail ∙ seen-tails r d.tails inv.buffers.unread
       ∙ ap (slot_offset r) (omega (arith, inv.buffers.theirs_count))
 
   pub receiver-other : (a : ℕ) → IsWordIn r a → r.tail ≢ a → read o es r.receiver a 4 ≡ memory_word o es a
-  receiver-other a word other = reads-word r o es r.receiver a word theirs-whole ∙ ap (seen a (memory_word o es a)) inv.buffers.rows.theirs
-      ∙ seen-none a (memory_word o es a) (freed_store r) d.tails inv.buffers.unread (λ p. other)
+  receiver-other a word other = receiver-reads lamport r is L small c o es s inv a word
+      ∙ none-there a (memory_word o es a) (freed_store r) d.tails inv.buffers.unread (λ p from below. other)
 
   -- the sender's loads, by which it knows more, and has seen more of its copy of the tail
   abbrev Sends : SenderState → Type 0
   Sends p = SendingIs 1 r s.stored s.published d.tails p × Copied lamport r.copy r o es (s.stored + ready_by_state p) d.tails
 
   pub sending-load : (a v : ℕ) (p : SenderState) → v ≡ read o es r.sender a 4 → Sends p → Sends (send_load lamport r a v p)
-  sending-load a v p is_read holds = knows-more r is o es s.stored s.published d.tails d.tails d.tails a v is_read sender-head
+  sending-load a v p is_read holds = knows-more r is o es s.stored s.published d.tails d.tails d.tails a v is_read
+      (sender-head lamport r is L small c o es s inv)
       (λ here. (refl, is_read ∙ ap (λ x. read o es r.sender x 4) here ∙ sender-tail)) (omega arith) inv.order.room p holds
 
   -- the receiver's
-  looked : (a v : ℕ) (p : ReceiverState) → a ≢ r.tail → v ≡ read o es r.receiver a 4 → ReceivingIs lamport r L s.taken s.consumed d.heads p
+  looked : (a v : ℕ) (p : ReceiverState) → v ≡ read o es r.receiver a 4 → ReceivingIs lamport r L s.taken s.consumed d.heads p
       → ReceivingIs lamport r L s.taken s.consumed d.heads (receive_look lamport r a v p)
-  looked a v idle other is_read holds = holds
-  looked a v (asked u) other is_read holds = by (a == r.head) refl (v == u) refl
+  looked a v idle is_read holds = holds
+  looked a v (asked u) is_read holds = by (a == r.head) refl (v == u) refl
     where
       by : (b : Bool) → (a == r.head) ≡ b → (c : Bool) → (v == u) ≡ c
           → ReceivingIs lamport r L s.taken s.consumed d.heads (if b then (if c then asked u else waiting u) else asked u)
@@ -232,7 +242,7 @@ module _ (r : RingBuffer) (is : IsRingBuffer r) (L : ℕ → ℕ) (small : (j : 
           (holds.0, holds.1, omega (arith, more, holds.0, inv.order.taken_there), refl)
       by true same true x = holds
       by false y c x = holds
-  looked a v (waiting u) other is_read holds = by (a == r.slots + u) refl
+  looked a v (waiting u) is_read holds = by (a == r.slots + u) refl
     where
       by : (b : Bool) → (a == r.slots + u) ≡ b → ReceivingIs lamport r L s.taken s.consumed d.heads (if b then holding u v else waiting u)
       by true same =
@@ -245,21 +255,10 @@ module _ (r : RingBuffer) (is : IsRingBuffer r) (L : ℕ → ℕ) (small : (j : 
                 ∙ inv.words.full s.consumed inv.order.theirs.1 (omega (arith, holds.0, holds.2, inv.order.mine.heads_slots)) ∙ ap L (sym holds.0),
           )
       by false apart = holds
-  looked a v (holding u w) other is_read holds = holds
-  looked a v (cleared u) other is_read holds = holds
-
-  loads-tail : (a v : ℕ) (p : ReceiverState) → v ≡ read o es r.receiver a 4 → ReceivingIs lamport r L s.taken s.consumed d.heads p
-      → ReceivingIs lamport r L s.taken s.consumed d.heads (if a == r.tail then asked v else receive_look lamport r a v p)
-  loads-tail a v p is_read holds = by (a == r.tail) refl
-    where
-      by : (b : Bool) → (a == r.tail) ≡ b → ReceivingIs lamport r L s.taken s.consumed d.heads (if b then asked v else receive_look lamport r a v p)
-      by true same = (inv.order.theirs.0, is_read ∙ ap (λ x. read o es r.receiver x 4) (eqb-true a r.tail same) ∙ receiver-tail)
-      by false apart = looked a v p (eqb-false a r.tail apart) is_read holds
+  looked a v (holding u w) is_read holds = holds
+  looked a v (cleared u) is_read holds = holds
 
   pub receiving-load : (a v : ℕ) (p : ReceiverState) → v ≡ read o es r.receiver a 4 → ReceivingIs lamport r L s.taken s.consumed d.heads p
       → ReceivingIs lamport r L s.taken s.consumed d.heads (receive_load lamport r a v p)
-  receiving-load a v idle is_read holds = loads-tail a v idle is_read holds
-  receiving-load a v (asked u) is_read holds = loads-tail a v (asked u) is_read holds
-  receiving-load a v (waiting u) is_read holds = loads-tail a v (waiting u) is_read holds
-  receiving-load a v (holding u w) is_read holds = loads-tail a v (holding u w) is_read holds
-  receiving-load a v (cleared u) is_read holds = holds
+  receiving-load a v p is_read holds = by-receive-load lamport r a v (ReceivingIs lamport r L s.taken s.consumed d.heads) p
+      (λ whole here. (inv.order.theirs.0, is_read ∙ ap (λ x. read o es r.receiver x 4) here ∙ receiver-tail)) (looked a v p is_read holds)

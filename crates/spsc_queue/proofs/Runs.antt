@@ -22,15 +22,16 @@ use Rattle.spsc_queue.specs.Protocol.{protocol_next, protocol_after, IsWordAt, I
 use Rattle.spsc_queue.specs.Laws.{IsPrefix, FollowsSpscProtocol, available_count, available_words}
 use Rattle.store_buffers.proofs.Effects.{read-below}
 use Rattle.memory.proofs.Joined.{joined-below}
+use Rattle.spsc_queue.proofs.Cases.{by-role}
 use Rattle.spsc_queue.proofs.Words.{shared, shared_on, off_shared, word_on}
 use Rattle.spsc_queue.proofs.Copies.{quiet_read, CopyStays, leaves, off_leave, exchange_leave, word_leave}
 use Rattle.spsc_queue.proofs.Rows.{Earlier, Stays, nothing-stays, load-stays, fence-stays, exchange-stays, off-stays}
-use Rattle.spsc_queue.proofs.Invariant.{firsts, there, ReceivingIs, Invariant}
+use Rattle.spsc_queue.proofs.Invariant.{IsPlaced, firsts, there, ReceivingIs, Invariant}
 use Rattle.spsc_queue.proofs.Numbers.{numbers-at, numbers-small}
 use Rattle.spsc_queue.proofs.Loads.{slot_word}
 use Rattle.spsc_queue.proofs.Steps.{idles, sends-word, sends-head, takes-word, frees, copies}
-use Rattle.spsc_queue.proofs.Landings.{role-cases, lands-store}
-use Rattle.spsc_queue.proofs.Invariants.{IsPlaced, Known, known, sender-loads, receiver-loads, earlier, at_rest}
+use Rattle.spsc_queue.proofs.Landings.{lands-store}
+use Rattle.spsc_queue.proofs.Invariants.{Known, known, sender-loads, receiver-loads, earlier, at_rest}
 
 pub length-firsts : (L : ℕ → ℕ) (n : ℕ) → length (firsts L n) ≡ n
 length-firsts L zero = refl
@@ -139,18 +140,12 @@ protocol-small r s (e ∷ es) keeps all = protocol-small r (protocol_next r s e)
 -- ---- one entry
 
 pub is_sender : (r : RingBuffer) (h : ℕ) → role_of r h ≡ sends → h ≡ r.sender
-is_sender r h whose = elim (role-cases r h) [
-  | inl is ↦ is.0
-  | inr (inl is) ↦ let other : receives ≡ sends = sym is.2 ∙ whose in cc
-  | inr (inr is) ↦ let other : passes ≡ sends = sym is.2 ∙ whose in cc
-]
+is_sender r h = by-role r h (λ role p. role ≡ sends → h ≡ r.sender) (λ is e. is)
+    (λ other is e. let no : receives ≡ sends = e in cc) (λ other another e. let no : passes ≡ sends = e in cc)
 
 pub is_receiver : (r : RingBuffer) (h : ℕ) → role_of r h ≡ receives → h ≡ r.receiver
-is_receiver r h whose = elim (role-cases r h) [
-  | inl is ↦ let other : sends ≡ receives = sym is.1 ∙ whose in cc
-  | inr (inl is) ↦ is.1
-  | inr (inr is) ↦ let other : passes ≡ receives = sym is.2 ∙ whose in cc
-]
+is_receiver r h = by-role r h (λ role p. role ≡ receives → h ≡ r.receiver) (λ is e. let no : sends ≡ receives = e in cc)
+    (λ other is e. is) (λ other another e. let no : passes ≡ receives = e in cc)
 
 pub protocol-append : (r : RingBuffer) (s : ProtocolState) (es fs : List Entry) → protocol_after r s (es ++ fs) ≡ protocol_after r (protocol_after r s es) fs
 protocol-append r s [] fs = refl
