@@ -76,7 +76,7 @@ def refusals(count, folder, packed):
     status, said, faults = call(clone / "scripts/make-package", "--to", folder / "none", "--program", packed)
     count.told("a change", (status, said, faults.count("\n")) == (1, "", 1) and "VERSION" in faults, said + faults)
     status, said, faults = package(folder / "none", tree.TOP / "ztso")
-    count.told("no program", (status, said, faults.count("\n")) == (1, "", 1), said + faults)
+    count.told("no program", (status, said, faults.count("\n")) == (1, "", 1) and "is no program" in faults, said + faults)
     status, said, faults = package(folder / "none", packed, "--page", folder)
     count.told("no page", (status, said, faults.count("\n")) == (1, "", 1) and "is no page" in faults, said + faults)
     count.same("nothing is made", (folder / "none").exists(), False)
