@@ -84,13 +84,15 @@ class Queue(NamedTuple):
     def text(self):
         return " ".join(map(str, ("queue", *self)))
 
-    def check_opening(self, test):
-        """Wrong, unless both indices open as the word of the count at which the queue begins."""
-        word = self.word(self.start) % 256 ** self.index_width
-        for name, place in (("head", self.head), ("tail", self.tail)):
-            opens = test.number(place, self.index_width)
-            if opens != word:
-                raise Wrong(f"the {name} opens as {opens}, and not as {word}, which stands for {self.start} records")
+    def opened(self, test):
+        """The queue with the least count of which both indices open as the word; Wrong where there is none."""
+        head, tail = (test.number(place, self.index_width) for place in (self.head, self.tail))
+        index, rest = divmod(head - self.base, self.scale)
+        if rest or not 0 <= index < self.modulus:
+            raise Wrong(f"the head opens as {head}, and not as {self.word(0)}, which stands for 0 records")
+        if tail != head:
+            raise Wrong(f"the tail opens as {tail}, and not as {head}, as the head does: a queue opens empty")
+        return self._replace(start=(index - self.offset) % self.modulus)
 
 
 class Counting(Queue):

@@ -23,6 +23,14 @@ class Refused(Exception):
         self.pc, self.why = pc, why
 
 
+class Matters(Exception):
+    """Of stores that were taken for such of which the value doesn't matter, the pcs where it does: it is an index, or a word that is loaded."""
+
+    def __init__(self, pcs):
+        super().__init__(pcs)
+        self.pcs = pcs
+
+
 class Next(NamedTuple):
     """A state after a step, and where its variables come from: of each queue by how much the own count moved, and whether what is owned is new;
     of each ("z", k) a variable of the state before, or None where it is new."""
@@ -36,7 +44,7 @@ class Next(NamedTuple):
 class Program(Values):
     """One hart's code with what holds of all its states."""
 
-    def __init__(self, test, queues, hart, kept, live, with_bytes=False, loosens=True):
+    def __init__(self, test, queues, hart, kept, needed, with_bytes=False, loosens=True):
         self.hart, self.code = hart, test.harts[hart].code
         super().__init__(queues, hart, loosens)
         self.other_indices = [self.looked(which) for which in range(len(queues))]
@@ -44,9 +52,10 @@ class Program(Values):
         self.at = {place: which for which, place in enumerate(kept)}
         self.stored = set()    # words that it may store to, apart from queues
         self.reads = set()     # which of `kept` it loads: of the others nothing need be known
-        (self.live, self.after_calls), self.edges = live, {}
+        self.needed, self.edges = needed, {}
+        self.dropped = {}      # by a word: the pcs of its stores of which the value was left out
         self.unowned = {}      # by a queue: the first pc of which a load of its slots isn't shown to be of owned ones
-        registers = tuple(number(test.harts[hart].registers.get(which, 0)) if which in self.live[0] or not which else None for which in range(32))
+        registers = tuple(number(test.harts[hart].registers.get(which, 0)) if which in needed.registers[0] or not which else None for which in range(32))
         words = tuple(number(test.words.get(place, 0)) for place in kept)
         shares = tuple(None if party is None else Share(queue.start, *[queue.start % queue.period()] * 2, *[queue.first_owned(party)] * 2)
                        for queue, party in zip(queues, self.parties))
@@ -166,6 +175,8 @@ class Program(Values):
         if width != 4 or place not in self.at:
             return None
         self.reads.add(self.at[place])
+        if self.at[place] in self.dropped:
+            raise Matters(self.dropped[self.at[place]])
         return state.words[self.at[place]]
 
     def store(self, state, value_of_place, width, value):
@@ -177,6 +188,8 @@ class Program(Values):
             if party is None:
                 raise Refused(state.pc, "a store that may be to the queue, by another hart")
             if low == high and (low, width) == (queue.own(party), queue.index_width):
+                if state.pc not in self.needed.matters:
+                    raise Matters({state.pc})
                 return state.words, (which, self.moved(which, value, state))
             if low < queue.slots or high + width > queue.slots + queue.size * queue.width:
                 where = "to an address that is not known" if low < high else "to an index that isn't the own one, whole, or across an end of the slots"
@@ -200,8 +213,17 @@ class Program(Values):
         words = list(state.words)
         for at in range(place & ~3, place + width, 4):
             if at in self.at:
-                words[self.at[at]] = value if (at, width) == (place, 4) else None
+                words[self.at[at]] = self.kept_there(state.pc, self.at[at], value) if (at, width) == (place, 4) else None
         return tuple(words)
+
+    def kept_there(self, pc, which, value):
+        """What is known of an own word after a store of the whole: nothing if the word is never loaded."""
+        if pc in self.needed.matters:
+            return value
+        if which in self.reads:
+            raise Matters({pc})
+        self.dropped.setdefault(which, set()).add(pc)
+        return None
 
     def moved(self, which, value, state):
         """By how much a store of this value to the own index moves the own count."""
@@ -354,9 +376,9 @@ class Program(Values):
             shares[which] = Share(None if share.count is None else share.count + step, share.first + step - turn, share.last + step - turn,
                                   share.low - step, share.high - step)
         pc = (state.pc + 4 if pc is None else pc) % SIZE
-        needed = self.live[pc // 4] if pc <= 4 * len(self.code) else ()
-        if state.pc in self.after_calls:
-            needed &= self.after_calls[state.pc]
+        needed = self.needed.registers[pc // 4] if pc <= 4 * len(self.code) else ()
+        if state.pc in self.needed.after_calls:
+            needed &= self.needed.after_calls[state.pc]
         registers = (ZERO, *(value if which in needed else None for which, value in enumerate(registers) if which))
         after = State(pc, registers, tuple(words), tuple(shares), others)
         return self.tidied(after, kept, move, looked)
