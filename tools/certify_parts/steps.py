@@ -57,22 +57,24 @@ class Program(Values):
         self.unowned = {}      # by a queue: the first pc of which a load of its slots isn't shown to be of owned ones
         registers = tuple(number(test.harts[hart].registers.get(which, 0)) if which in needed.registers[0] or not which else None for which in range(32))
         words = tuple(number(test.words.get(place, 0)) for place in kept)
-        shares = tuple(None if party is None else Share(queue.start, *[queue.start % queue.period()] * 2, *[queue.first_owned(party)] * 2)
+        shares = tuple(None if party is None else Share(queue.start, *[queue.start % queue.period()] * 2, *[queue.first_owned(party)] * 2,
+                                                        *[queue.start // queue.period() % queue.turns()] * 2)
                        for queue, party in zip(queues, self.parties))
         self.start = State(0, registers, words, shares, ())
 
     # ---- memory
 
     def own_index(self, which, state):
-        queue, share = self.queues[which], state.shares[which]
+        queue = self.queues[which]
         if queue.is_linear():
             return variable_of("n", which, queue.scale, queue.base + queue.scale * queue.offset)
         if not queue.has_known_words():
             return Word(which, variable_of("n", which))
-        turn = (share.first + queue.offset) // queue.modulus
-        if turn != (share.last + queue.offset) // queue.modulus:
-            raise Split(("p", which), (turn + 1) * queue.modulus - queue.offset - 1)
-        return variable_of("p", which, queue.scale, queue.base + queue.scale * (queue.offset - turn * queue.modulus))
+        count = self.position(which).plus(number(queue.offset))
+        turn, last = (end // queue.modulus for end in bounds(count, self.ranges(state), True))
+        if turn != last:
+            self.split_where(lambda found: found // queue.modulus, count, state)
+        return count.minus(number(turn * queue.modulus)).times(queue.scale).plus(number(queue.base))
 
     def other_index(self, which):
         return self.other_indices[which]
@@ -368,13 +370,17 @@ class Program(Values):
             registers[to] = value
         if move:
             which, step = move
-            share, period = shares[which], self.queues[which].period()
-            turn = period * ((share.first + step) // period)
-            if turn != period * ((share.last + step) // period):
-                raise Split(("p", which), turn + period - step - 1)
-            registers, words = ([self.rebased(each, which, step, turn) for each in values] for values in (registers, words))
-            shares[which] = Share(None if share.count is None else share.count + step, share.first + step - turn, share.last + step - turn,
-                                  share.low - step, share.high - step)
+            share, period, all_turns = shares[which], self.queues[which].period(), self.queues[which].turns()
+            turn = (share.first + step) // period
+            if turn != (share.last + step) // period:
+                raise Split(("p", which), (turn + 1) * period - step - 1)
+            again = (share.begin + turn) // all_turns
+            if again != (share.end + turn) // all_turns:
+                raise Split(("t", which), (again + 1) * all_turns - turn - 1)
+            on, further = step - turn * period, turn - again * all_turns
+            registers, words = ([self.rebased(each, which, step, on, further) for each in values] for values in (registers, words))
+            shares[which] = Share(None if share.count is None else share.count + step, share.first + on, share.last + on,
+                                  share.low - step, share.high - step, share.begin + further, share.end + further)
         pc = (state.pc + 4 if pc is None else pc) % SIZE
         needed = self.needed.registers[pc // 4] if pc <= 4 * len(self.code) else ()
         if state.pc in self.needed.after_calls:
@@ -393,13 +399,14 @@ class Program(Values):
             return Word(value.queue, value.count.put(variable, number(share.low)))
         return value.put(variable, number(share.low))
 
-    def rebased(self, value, which, step, turn):
-        """A value by the counts after the own one moved on."""
+    def rebased(self, value, which, step, on, further):
+        """A value by the counts after the own one moved on, and with it the position and the turn."""
         if value is None:
             return None
         if isinstance(value, Word):
-            return Word(value.queue, self.rebased(value.count, which, step, turn))
-        value = value.put(("n", which), variable_of("n", which, 1, -step)).put(("p", which), variable_of("p", which, 1, turn - step))
+            return Word(value.queue, self.rebased(value.count, which, step, on, further))
+        value = value.put(("n", which), variable_of("n", which, 1, -step)).put(("p", which), variable_of("p", which, 1, -on))
+        value = value.put(("t", which), variable_of("t", which, 1, -further))
         return value.put(("A", which), variable_of("A", which, 1, step))
 
     def tidied(self, state, kept, move, looked):
@@ -435,7 +442,7 @@ class Program(Values):
                 limits = first if low is None else low, last if high is None else high
                 yield state._replace(others=state.others[:which] + (limits,) + state.others[which + 1:])
             else:
-                share, names = state.shares[which], ("first", "last") if kind == "p" else ("low", "high")
+                share, names = state.shares[which], {"p": ("first", "last"), "t": ("begin", "end"), "A": ("low", "high")}[kind]
                 share = share._replace(**{name: limit for name, limit in zip(names, (low, high)) if limit is not None})
                 yield state._replace(shares=state.shares[:which] + (share,) + state.shares[which + 1:])
 

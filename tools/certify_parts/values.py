@@ -3,6 +3,7 @@
 A question that has one answer for some numbers of a variable and another for others is answered by `Split`.
 """
 
+from bisect import bisect_left
 from typing import NamedTuple
 
 from .forms import SIZE, Word, bounds, form, number, numbers_of, signed, variable_of
@@ -29,14 +30,16 @@ class Split(Exception):
 
 
 class Share(NamedTuple):
-    """What a state says of a queue of which its hart is a party: the own count if it is known, bounds of the count modulo the period, and of
-    how many positions are owned."""
+    """What a state says of a queue of which its hart is a party: the own count if it is known, bounds of the count modulo the period, of
+    how many positions are owned, and of the turn of the slots that the own position is in, of those that an index counts."""
 
     count: object
     first: int
     last: int
     low: int
     high: int
+    begin: int = 0
+    end: int = 0
 
 
 class State(NamedTuple):
@@ -68,7 +71,7 @@ class Values:
         found = {("z", which): limits for which, limits in enumerate(state.others)}
         for which, share in enumerate(state.shares):
             if share:
-                found["A", which], found["p", which] = (share.low, share.high), (share.first, share.last)
+                found["A", which], found["p", which], found["t", which] = (share.low, share.high), (share.first, share.last), (share.begin, share.end)
                 if share.count is not None:
                     found["n", which] = share.count, share.count
         return found
@@ -89,11 +92,16 @@ class Values:
         found = bounds(self.by_position(word.count, word.queue), self.ranges(state), True)
         return self.queues[word.queue].word(found[0]) % SIZE if found and found[0] == found[1] else None
 
+    def position(self, which):
+        """The own position, modulo the index's modulus where turns are told apart."""
+        queue = self.queues[which]
+        return form(0, {("p", which): 1, ("t", which): queue.size if queue.turns() > 1 else 0})
+
     def by_position(self, value, which):
         """A form in which the position stands for the own count, where it is the same modulo the index's modulus."""
         if not self.queues[which].has_known_words():
             return value
-        return value.put(("n", which), variable_of("p", which)) if dict(value.terms).get(("n", which)) == 1 else value
+        return value.put(("n", which), self.position(which)) if dict(value.terms).get(("n", which)) == 1 else value
 
     def split_to_know(self, value, state, most=MOST_TRIED):
         """Asks for the split that makes a value a number, if a few numbers of its variables are all that is open."""
@@ -118,10 +126,18 @@ class Values:
             x, y = self.as_form(x, state), self.as_form(y, state)
         if isinstance(x, Word) or isinstance(y, Word):
             return self.words_compared(kind, x, y, state)
-        ranges, holds = self.ranges(state), COMPARES[kind]
         if kind < 2:
             x, y = x.minus(y), ZERO
-        found = [numbers_of(value, ranges) for value in (x, y)]
+        answer = self.answer(kind, x, y, self.ranges(state))
+        if answer is None:
+            self.split_turns(lambda ranges: self.answer(kind, x, y, ranges), x.variables() + y.variables(), state)
+            self.split_compare(kind, x, y, state)
+        return answer
+
+    @staticmethod
+    def answer(kind, x, y, ranges):
+        """Whether a compare of two forms holds for all numbers of these ranges: True, False or None; of equal ones y is 0."""
+        holds, found = COMPARES[kind], [numbers_of(value, ranges) for value in (x, y)]
         if kind < 2 and found[0] is None and (b := bounds(x, ranges)) and not any(b[0] <= m * SIZE <= b[1] for m in range(b[0] // SIZE, b[1] // SIZE + 2)):
             return kind == 1
         if None not in found:
@@ -130,8 +146,22 @@ class Values:
             is_plain = kind not in (4, 5) or all(b < SIZE // 2 for _, b in found) or all(a == b for a, b in found)
             if len(corners) == 1 and (kind > 1 or not found[0][0] <= 0 <= found[0][1] or found[0][0] == found[0][1]) and is_plain:
                 return corners.pop()
-        self.split_compare(kind, x, y, state)
         return None
+
+    def split_turns(self, answer, variables, state):
+        """Asks for the split of an open turn that leaves most of them with an answer, which may be sought for the numbers of ranges."""
+        ranges = self.ranges(state)
+        for variable in variables:
+            if variable[0] != "t" or ranges[variable][0] == ranges[variable][1]:
+                continue
+            first, last = ranges[variable]
+            answered = range(first, last)
+            until = bisect_left(answered, True, key=lambda at: answer({**ranges, variable: (first, at)}) is None)
+            if until:
+                raise Split(variable, first + until - 1)
+            after = bisect_left(answered, True, key=lambda at: answer({**ranges, variable: (at + 1, last)}) is not None)
+            if after < len(answered):
+                raise Split(variable, first + after)
 
     def split_compare(self, kind, x, y, state):
         """Asks for the split of the one open variable after which the compare has one answer."""
@@ -332,10 +362,11 @@ class Values:
         for variable, m in value.terms:
             kind, which = variable
             if kind == "n" and state.shares[which].count is None:
-                if m * self.queues[which].period() % modulus:
+                if m * self.queues[which].period() * self.queues[which].turns() % modulus:
                     return None
-                variable = "p", which
-            rest = rest.plus(variable_of(*variable, m))
+                rest = rest.plus(self.position(which).times(m))
+            else:
+                rest = rest.plus(variable_of(*variable, m))
         # by factors from 0 on, or each by the nearer of it and what it lacks of the modulus
         for rest in (form(rest.constant, {variable: m % modulus for variable, m in rest.terms}),
                      form(rest.constant, {variable: m % modulus - modulus * (2 * (m % modulus) >= modulus) for variable, m in rest.terms})):
@@ -352,6 +383,12 @@ class Values:
         ranges = self.ranges(state)
         if not all(variable in ranges for variable in value.variables()):
             return
+
+        def answer(numbers):
+            low, high = map(part, bounds(value, numbers))
+            return low if low == high else None
+
+        self.split_turns(answer, value.variables(), state)
         open_ones = [variable for variable in value.variables() if ranges[variable][0] < ranges[variable][1]]
         if not open_ones:
             return
