@@ -1,10 +1,10 @@
 //! What an instruction leaves in a register, as far as it is known.
 
-ghost use Rattle.std.specs.Prelude.{◌≡◌, ◌+◌, ◌%◌, ◌^◌, ◌<◌, ◌≤◌, ◌==◌, ◌&&◌, count_ones, length, [], IfOk};
+ghost use Rattle.std.specs.Prelude.{◌≡◌, ◌+◌, ◌*◌, ◌%◌, ◌^◌, ◌<◌, ◌≤◌, ◌==◌, ◌&&◌, count_ones, length, [], IfOk};
 ghost use Rattle.queue_certificates.specs.Forms.{remainder_word};
 ghost use Rattle.queue_certificates.specs.States.{any};
 ghost use Rattle.queue_certificates.specs.Results.{just, exactly, any_up_to, or_up_to, as_number, flag_of, set_less, shifted_left, shifted_right};
-ghost use Rattle.queue_certificates.specs.Results.{sum_of, of_rest, rest_of, turned, bounds, counting, rest_counted, remaining, masked, masked_by};
+ghost use Rattle.queue_certificates.specs.Results.{sum_of, of_rest, rest_of, turned, bounds, counting, rest_counted, remaining, multiple_or, masked_row, masked, masked_by};
 ghost use Rattle.queue_certificates.specs.Results.{without, shifted_back};
 ghost use Rattle.queue_certificates.specs.Results.{immediate_part, of_immediate, shift_part, of_shift, register_part, of_registers};
 ghost use Rattle.queue_certificates.specs.Results.{branch_part, is_branch_taken};
@@ -255,7 +255,50 @@ fn remaining(
     }
 }
 
-/// The low bits that `mask` keeps, or some number up to it.
+/// `n` times a form, if it is one; or the other.
+fn multiple_or(alloc: Global, n: u64, form: Option<Form>, other: Outcome) -> Result<Outcome, Lack>
+    ensures { IfOk result (λ r. r ≡ multiple_or n form other) }
+{
+    match form {
+        None => Ok(other),
+        Some(form) => just(alloc, &linear(times(alloc, n, &form)?)),
+    }
+}
+
+/// Whether the mask keeps bits in a row from `low` on, and no more of them than make a remainder by `by`.
+fn is_row(by: u64, mask: u32, low: u64) -> bool
+    requires { low ≤ 2 ^ 32 }
+    ensures { result ≡ ((mask + low == low * 2 ^ count_ones mask) && (by % (mask + low) == 0)) }
+{
+    let above = u64::from(mask) + low;
+    above == low << mask.count_ones() && remainder_by(by, above) == 0
+}
+
+/// The bits in a row that `mask` keeps of a multiple of the lowest of them, or some number up to it.
+fn masked_row(
+    alloc: Global,
+    ranges: &[Option<u64>],
+    rest: &Rest,
+    mask: u32,
+    low: u64,
+) -> Result<Outcome, Lack>
+    requires some { 1 ≤ low }
+    requires small { low ≤ 2 ^ 32 }
+    ensures { IfOk result (λ r. r ≡ masked_row ranges.now rest.now mask low) }
+{
+    let other = any_up_to(alloc, u64::from(mask))?;
+    if !is_row(rest.by, mask, low) {
+        return Ok(other);
+    }
+    let part = without(alloc, low, &rest.form)?;
+    if !is_same(0, &rest.form, &times(alloc, low, &part)?) {
+        return Ok(other);
+    }
+    let kept = remainder_word(alloc, ranges, &part, 1 << mask.count_ones())?;
+    multiple_or(alloc, low, kept, other)
+}
+
+/// The low bits that `mask` keeps, or bits in a row, or some number up to it.
 pub fn masked(
     alloc: Global,
     queues: &[OpenedQueue],
@@ -277,7 +320,8 @@ pub fn masked(
                 other,
             )
         }
-        _ => Ok(other),
+        Some(rest) => masked_row(alloc, ranges, &rest, mask, 1 << mask.trailing_zeros()),
+        None => Ok(other),
     }
 }
 
