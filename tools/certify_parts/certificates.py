@@ -75,7 +75,7 @@ class Layout:
         if isinstance(value, Word):
             # up to the modulus; where that divides 2^32, up to that, so that a sum is the search's
             modulus = self.program.queues[value.queue].modulus
-            return f"@{value.queue}:{self.form(value.count, modulus if SIZE % modulus else SIZE)}"
+            return f"{'@~'[value.is_signed]}{value.queue}:{self.form(value.count, modulus if SIZE % modulus else SIZE)}"
         return self.form(value, SIZE)
 
     def lines(self):

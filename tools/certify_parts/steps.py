@@ -6,7 +6,7 @@ or refuses by `Refused` what isn't shown to keep the protocol.
 
 from typing import NamedTuple
 
-from .forms import SIZE, Word, bounds, form, number, numbers_of, signed, variable_of
+from .forms import SIZE, Form, Word, bounds, form, number, numbers_of, signed, variable_of
 from .values import MOST_TRIED, ZERO, Share, Split, State, Values
 
 # the kinds of instructions, by their low seven bits
@@ -155,9 +155,10 @@ class Program(Values):
                         self.refuse_looks(state, low, high, width)
                 return None, None
             if (low, high, width) == (queue.own(party), queue.own(party), queue.index_width):
-                return (None if self.is_negative(queue, width, is_signed) else self.own_index(which, state)), None
+                return (Word(which, variable_of("n", which), True) if self.is_negative(queue, width, is_signed) else self.own_index(which, state)), None
             if (low, high, width) == (queue.other(party), queue.other(party), queue.index_width):
-                return (None if self.is_negative(queue, width, is_signed) else self.other_index(which)), which
+                value = self.other_index(which)
+                return (value._replace(is_signed=True) if self.is_negative(queue, width, is_signed) else value), which
             self.refuse_looks(state, low, high, width)
             return None, None
         return (self.own_word(state, low, width) if low == high else None), None
@@ -230,9 +231,9 @@ class Program(Values):
     def moved(self, which, value, state):
         """By how much a store of this value to the own index moves the own count."""
         queue, share, step = self.queues[which], state.shares[which], None
-        if isinstance(value, Word):
+        if isinstance(value, Word) and not value.is_signed:
             step = self.step_of(value.count.minus(variable_of("n", which)), queue.modulus, state) if value.queue == which else None
-        elif value is not None and (queue.is_linear() or queue.is_cut() or self.is_index(value, queue, state)):
+        elif isinstance(value, Form) and (queue.is_linear() or queue.is_cut() or self.is_index(value, queue, state)):
             own = self.own_index(which, state)
             scaled = value.minus(self.rest(own)[0] if isinstance(own, Word) else own)
             if queue.is_cut():
@@ -396,7 +397,7 @@ class Program(Values):
         if share.low < share.high:
             return None
         if isinstance(value, Word):
-            return Word(value.queue, value.count.put(variable, number(share.low)))
+            return value._replace(count=value.count.put(variable, number(share.low)))
         return value.put(variable, number(share.low))
 
     def rebased(self, value, which, step, on, further):
@@ -404,7 +405,7 @@ class Program(Values):
         if value is None:
             return None
         if isinstance(value, Word):
-            return Word(value.queue, self.rebased(value.count, which, step, on, further))
+            return value._replace(count=self.rebased(value.count, which, step, on, further))
         value = value.put(("n", which), variable_of("n", which, 1, -step)).put(("p", which), variable_of("p", which, 1, -on))
         value = value.put(("t", which), variable_of("t", which, 1, -further))
         return value.put(("A", which), variable_of("A", which, 1, step))
@@ -420,7 +421,7 @@ class Program(Values):
             if value is None:
                 return None
             if isinstance(value, Word):
-                return Word(value.queue, renamed(value.count))
+                return value._replace(count=renamed(value.count))
             found = form(value.constant)
             for variable, m in value.terms:
                 each = new.get(variable) or (number(state.others[variable[1]][0]) if variable[0] == "z" else variable_of(*variable))

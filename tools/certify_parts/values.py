@@ -88,7 +88,9 @@ class Values:
         return found[0] % SIZE if found and found[0] == found[1] else None
 
     def word_known(self, word, state):
-        """A word whose count is known up to the modulus."""
+        """A word whose count is known up to the modulus; what a signed load leaves of one counts as no number."""
+        if word.is_signed:
+            return None
         found = bounds(self.by_position(word.count, word.queue), self.ranges(state), True)
         return self.queues[word.queue].word(found[0]) % SIZE if found and found[0] == found[1] else None
 
@@ -105,7 +107,7 @@ class Values:
 
     def split_to_know(self, value, state, most=MOST_TRIED):
         """Asks for the split that makes a value a number, if a few numbers of its variables are all that is open."""
-        if isinstance(value, Word) and not self.queues[value.queue].has_known_words():
+        if isinstance(value, Word) and (value.is_signed or not self.queues[value.queue].has_known_words()):
             return
         terms = value.terms if value is not None and not isinstance(value, Word) else value.count.terms if value else ()
         ranges = self.ranges(state)
@@ -197,6 +199,10 @@ class Values:
             return COMPARES[kind](*found)
         which = x.queue if isinstance(x, Word) else y.queue
         queue = self.queues[which]
+        if any(isinstance(value, Word) and value.is_signed for value in (x, y)):
+            # two that are left of words by signed loads are equal where the words are
+            if kind > 1 or not all(isinstance(value, Word) and value.is_signed for value in (x, y)):
+                return None
         if kind < 2:
             counts = [self.count_of(value, queue, which, state) for value in (x, y)]
             if None not in counts:
@@ -282,10 +288,8 @@ class Values:
 
     def shifted_back(self, value, amount, state):
         """What is a multiple of a power of two, as after a shift to the left, shifted right: a remainder of what it is a multiple of; or None."""
-        if any(m % (1 << amount) for m in (value.constant, *(m for _, m in value.terms))):
-            return None
-        value, modulus = form(value.constant >> amount, {variable: m >> amount for variable, m in value.terms}), 1 << 32 - amount
-        return self.remainder(value, modulus, state) or self.counted(value, modulus, state)
+        value, modulus = self.part(value, 1 << amount), 1 << 32 - amount
+        return value and self.remainder(value, modulus, state) or self.counted(value, modulus, state)
 
     def counted(self, value, modulus, state):
         """A remainder as the word of an index that counts on in so many words, where the form has own counts of any size; or None."""
@@ -302,7 +306,7 @@ class Values:
 
     def as_form(self, value, state):
         """A word as a form, as the check takes it where it is one; where the search says so, after splits; else what it was."""
-        if not isinstance(value, Word):
+        if not isinstance(value, Word) or value.is_signed:
             return value
         queue = self.queues[value.queue]
         count = self.by_position(value.count, value.queue).plus(number(queue.offset))
@@ -324,7 +328,7 @@ class Values:
             return value and (value, SIZE)
         queue = self.queues[value.queue]
         by = queue.scale * queue.modulus
-        return None if SIZE % by else (value.count.plus(number(queue.offset)).times(queue.scale).plus(number(queue.base)), by)
+        return None if SIZE % by or value.is_signed and 256 ** queue.index_width % by else (value.count.plus(number(queue.offset)).times(queue.scale).plus(number(queue.base)), by)
 
     def word_computed(self, name, x, y, state, given):
         """What an operation makes of words that are no forms, and the range of a new variable."""
@@ -353,8 +357,22 @@ class Values:
             low = self.remainder(rest[0], mask + 1, state) or self.counted(rest[0], mask + 1, state)
             if low is not None:
                 return low, None
+        low = mask & -mask
+        if rest is not None and (mask + low) & mask == 0 and rest[1] % (mask + low) == 0:
+            # bits in a row, not from the lowest on, of what has none below
+            part = self.part(rest[0], low)
+            found = part and self.remainder(part, (mask + low) // low, state)
+            if found is not None:
+                return found.times(low), None
         self.split_to_know(value, state, 64)
         return None, (0, mask) if mask < MOST_MASK else None
+
+    @staticmethod
+    def part(value, by):
+        """What a form is so many times of, as a sum of whole numbers; or None."""
+        if any(m % by for m in (value.constant, *(m for _, m in value.terms))):
+            return None
+        return form(value.constant // by, {variable: m // by for variable, m in value.terms})
 
     def remainder(self, value, modulus, state):
         """A form modulo a power of two as a form of variables with ranges, or None; asks for the split after which it doesn't wrap."""
