@@ -281,15 +281,20 @@ class Values:
         rest = self.shifted_back(x, b & 31, state) if name == "srl" and is_immediate else None
         if rest is not None:
             return rest, None
+        limits = numbers_of(x, self.ranges(state))
+        if name == "srl" and is_immediate and limits and limits[0] >> b == 0:
+            # what is small enough is 0 after it, and a number
+            self.split_where(lambda found: found % SIZE >> b == 0, x, state)
         self.split_to_know(x, state, 64)
         self.split_to_know(y, state, 64)
-        limits = numbers_of(x, self.ranges(state))
         return None, (0, limits[1] >> (b & 31)) if name == "srl" and is_immediate and limits else None
 
     def shifted_back(self, value, amount, state):
         """What is a multiple of a power of two, as after a shift to the left, shifted right: a remainder of what it is a multiple of; or None."""
         value, modulus = self.part(value, 1 << amount), 1 << 32 - amount
-        return value and self.remainder(value, modulus, state) or self.counted(value, modulus, state)
+        if value is None:
+            return None
+        return self.remainder(value, modulus, state) or self.counted(value, modulus, state)
 
     def counted(self, value, modulus, state):
         """A remainder as the word of an index that counts on in so many words, where the form has own counts of any size; or None."""
