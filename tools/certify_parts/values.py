@@ -154,7 +154,7 @@ class Values:
         """Asks for the split of an open turn that leaves most of them with an answer, which may be sought for the numbers of ranges."""
         ranges = self.ranges(state)
         for variable in variables:
-            if variable[0] != "t" or ranges[variable][0] == ranges[variable][1]:
+            if variable[0] != "t" or ranges[variable][0] == ranges[variable][1] or answer(ranges) is not None:
                 continue
             first, last = ranges[variable]
             answered = range(first, last)
@@ -282,7 +282,7 @@ class Values:
         if rest is not None:
             return rest, None
         limits = numbers_of(x, self.ranges(state))
-        if name == "srl" and is_immediate and limits and limits[0] >> b == 0:
+        if name == "srl" and is_immediate and limits and limits[0] >> b == 0 < limits[1] >> b:
             # what is small enough is 0 after it, and a number
             self.split_where(lambda found: found % SIZE >> b == 0, x, state)
         self.split_to_know(x, state, 64)
