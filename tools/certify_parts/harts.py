@@ -10,11 +10,11 @@ from .steps import Matters, Program, Refused
 # count as numbers of a range, by what values are spelled first, and whether sums of an index's words are taken by their remainders. What an
 # earlier search saw of copies of the other's index is taken up, so the first way is gone twice
 WAYS = ((Mode.TOGETHER, False, "npA", True), (Mode.TOGETHER, False, "npA", True), (Mode.BY_PATH, False, "npA", True),
-        (Mode.BY_PATH, False, "npA", False), (Mode.TOGETHER, False, "pnA", True), (Mode.TOGETHER, True, "npA", True),
-        (Mode.TOGETHER, False, "npA", False), (Mode.BY_POSITION, False, "npA", False), (Mode.BY_PATH, True, "npA", True),
+        (Mode.TOGETHER, False, "npA", False), (Mode.BY_POSITION, False, "npA", False), (Mode.BY_PATH, False, "npA", False),
+        (Mode.TOGETHER, False, "pnA", True), (Mode.TOGETHER, True, "npA", True), (Mode.BY_PATH, True, "npA", True),
         (Mode.BY_PATH, True, "npA", False), (Mode.BY_OWNED, False, "npA", False))
 # for how many seconds of the processor each way is gone, first and, if none succeeds, again
-SECONDS = ((2, 1, 4, 3, 0.5, 0.5, 0.5, 1, 1, 1, 1), (5, 5, 15, 15, 5, 5, 5, 10, 10, 10, 15))
+SECONDS = ((2, 1, 4, 0.5, 1, 3, 0.5, 0.5, 1, 1, 1), (5, 5, 15, 5, 10, 15, 5, 5, 10, 10, 15))
 TURNS = [(turn, at) for turn in range(len(SECONDS)) for at in range(len(WAYS))]
 MOST_ROUNDS = 60
 
