@@ -12,6 +12,8 @@ from .values import MOST_TRIED, ZERO, Share, Split, State, Values
 # the kinds of instructions, by their low seven bits
 LOAD, FENCE, IMMEDIATE, AUIPC, STORE, AMO, REGISTER, LUI, BRANCH, JALR, JAL, SYSTEM = (
     0x03, 0x0F, 0x13, 0x17, 0x23, 0x2F, 0x33, 0x37, 0x63, 0x67, 0x6F, 0x73)
+# so many splits a certificate may have of a state
+MOST_SPLITS = 1024
 NAMES = ("add", "sll", "slt", "sltu", "xor", "srl", "or", "and")
 
 
@@ -449,12 +451,18 @@ class Program(Values):
 
     def tree(self, state):
         """The case tree of a state: ("leaf", the state, what follows) or ("split", variable, at, tree, tree)."""
+        return self.tree_within(state, iter(range(MOST_SPLITS)))
+
+    def tree_within(self, state, splits):
+        """`tree`, with no more splits than there are left."""
         try:
             return "leaf", state, self.execute(state)
         except Split as split:
+            if next(splits, None) is None:
+                raise Refused(state.pc, "more cases than a certificate may have") from None
             self.edges.setdefault(split.variable, set()).add(split.at)
             left, right = self.halves(state, split)
-            return "split", split.variable, split.at, self.tree(left), self.tree(right)
+            return "split", split.variable, split.at, self.tree_within(left, splits), self.tree_within(right, splits)
 
 
 def leaves(tree):
