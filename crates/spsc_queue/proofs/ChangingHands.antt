@@ -66,9 +66,9 @@ quiet k r is L c o es s inv level whole none =
     let z : ℕ = inv.landed.cleared in
     let t : ℕ = inv.landed.tails in
     let unsent = none_left (sent_store r L) (inv.landed.slots + inv.landed.heads) inv.buffers.unsent (row_of r (pending r.sender es))
-    inv.buffers.rows.mine (row_none r (pending r.sender es) (none r.sender)) in
+    inv.buffers.rows.mine.pends (row_none r (pending r.sender es) (none r.sender)) in
     let unread = none_left (their_store k r) (their_landed k z t) inv.buffers.unread (row_of r (pending r.receiver es))
-    inv.buffers.rows.theirs (row_none r (pending r.receiver es) (none r.receiver)) in
+    inv.buffers.rows.theirs.pends (row_none r (pending r.receiver es) (none r.receiver)) in
     let sent : (inv.landed.heads ≡ s.stored) × (inv.landed.slots ≡ s.stored) = (
       omega (arith, unsent, level, inv.buffers.mine_count, inv.order.mine.slots_stored, inv.order.mine.heads_published),
       omega (arith, unsent, level, inv.buffers.mine_count, inv.order.mine.slots_stored, inv.order.mine.heads_published),

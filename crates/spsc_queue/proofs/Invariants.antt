@@ -159,10 +159,8 @@ at_rest k r is L o es quiet first kind =
         unsent = 0;
         unread = 0;
         rows = subst (λ j. Rows r (earlier r es) (sent_store r L) (their_store k r) es (n + n) 0 j 0) (sym none.1) (record {
-          mine = none_row r.sender;
-          mine_made = omega arith;
-          theirs = none_row r.receiver;
-          theirs_made = omega arith;
+          mine = record { pends = none_row r.sender; made = omega arith };
+          theirs = record { pends = none_row r.receiver; made = omega arith };
           others = λ h not_sender not_receiver. none_row h;
         });
         mine_count = omega arith;

@@ -22,13 +22,13 @@ use Rattle.spsc_queue.proofs.Words.{is_copy, row_counts, copy_apart}
 use Rattle.spsc_queue.proofs.Copies.{Copied, row_whole}
 use Rattle.spsc_queue.proofs.Spread.{offset_apart, sent_store, freed_store, spread-count, counts-heads, counts-slots}
 use Rattle.spsc_queue.proofs.Rows.{Earlier, RowOrder}
-use Rattle.spsc_queue.proofs.Invariant.{turned, turned_is, zeros, cleared_store, Landed, spare, freed, there, their_store, their_landed, Theirs}
+use Rattle.spsc_queue.proofs.Invariant.{turned, turned_is, zeros, cleared_store, Landed, spare, freed, there, their_landed, Theirs}
 use Rattle.spsc_queue.proofs.Invariant.{SendingIs, ReceivingIs, Invariant}
 use Rattle.spsc_queue.proofs.Loads.{next_offset, sender-tail, receiver-other}
 use Rattle.spsc_queue.proofs.FastForwardLoads.{receiver-word, sender-free}
 use Rattle.spsc_queue.proofs.Invariants.{earlier, spare_capacity}
 use Rattle.spsc_queue.proofs.Runs.{invariant-of, protocol-small, waiting-small}
-use Rattle.spsc_queue.proofs.PastRows.{length-spread, sender-grows, receiver-grows}
+use Rattle.spsc_queue.proofs.PastRows.{length-spread, row-grows}
 
 -- without a copy no store is to one
 no_copy : (r : RingBuffer) (b : Bool) → r.copy ≡ None → (w : Write) → is_copy r.copy w ≡ true → b ≡ false
@@ -96,14 +96,14 @@ module _ (r : RingBuffer) (is : IsRingBuffer r) (L : ℕ → ℕ) (small : (j : 
       → available_of k T ≡ there k inv.landed.slots inv.landed.heads + length (filter (publishes k r) (writes_to r (pending r.sender es)))
   words_held lamport inv =
       let held = row_counts r (publishes lamport r) (copy_apart r r.head is.head) (pending r.sender es)
-      ∙ ap (λ ws. length (filter (publishes lamport r) ws)) inv.buffers.rows.mine in
+      ∙ ap (λ ws. length (filter (publishes lamport r) ws)) inv.buffers.rows.mine.pends in
       let count = spread-count (publishes lamport r) (λ p. p / 2) (sent_store r L) (counts-heads r is L) (inv.landed.slots + inv.landed.heads)
       inv.buffers.unsent in
       let row = inv.order.mine in
       omega (arith, held, count, inv.buffers.mine_count, row.heads_slots, row.slots_heads, row.published_stored, row.stored_published)
   words_held fastforward inv =
       let held = row_counts r (publishes fastforward r) (λ w. no_copy r (publishes fastforward r w) inv.copy w) (pending r.sender es)
-      ∙ ap (λ ws. length (filter (publishes fastforward r) ws)) inv.buffers.rows.mine in
+      ∙ ap (λ ws. length (filter (publishes fastforward r) ws)) inv.buffers.rows.mine.pends in
       let count = spread-count (publishes fastforward r) (λ p. (p + 1) / 2) (sent_store r L) (counts-slots r is L) (inv.landed.slots + inv.landed.heads)
       inv.buffers.unsent in
       let row = inv.order.mine in
@@ -113,13 +113,13 @@ module _ (r : RingBuffer) (is : IsRingBuffer r) (L : ℕ → ℕ) (small : (j : 
       → T.taken ≡ freed k inv.landed.cleared inv.landed.tails + length (filter (releases k r) (writes_to r (pending r.receiver es)))
   slots_held lamport inv =
       let held = row_counts r (releases lamport r) (copy_apart r r.tail is.tail) (pending r.receiver es)
-      ∙ ap (λ ws. length (filter (releases lamport r) ws)) inv.buffers.rows.theirs in
+      ∙ ap (λ ws. length (filter (releases lamport r) ws)) inv.buffers.rows.theirs.pends in
       let count = spread-count (releases lamport r) (λ p. p) (freed_store r) (λ p. ap (λ b. (if b then 1 else 0) + p) (eq-eqb r.tail r.tail refl) ∙ omega arith)
       inv.landed.tails inv.buffers.unread in
       omega (arith, held, count, inv.buffers.theirs_count, inv.order.theirs.0)
   slots_held fastforward inv =
       let held = row_counts r (releases fastforward r) (λ w. no_copy r (releases fastforward r w) inv.copy w) (pending r.receiver es)
-      ∙ ap (λ ws. length (filter (releases fastforward r) ws)) inv.buffers.rows.theirs in
+      ∙ ap (λ ws. length (filter (releases fastforward r) ws)) inv.buffers.rows.theirs.pends in
       let count = spread-count (releases fastforward r) (λ p. (p + 1) / 2) (cleared_store r) (counts-slots (turned r) (turned_is r is) zeros)
       (inv.landed.cleared + inv.landed.tails) inv.buffers.unread in
       let row = inv.order.theirs in
@@ -130,7 +130,7 @@ module _ (r : RingBuffer) (is : IsRingBuffer r) (L : ℕ → ℕ) (small : (j : 
   never_fuller lamport inv is_lamport =
       let left : length (writes_to r (pending r.receiver es)) ≡ inv.buffers.unread =
       row_whole r (pending r.receiver es) (alone r.copy refl inv.copy)
-      ∙ ap length inv.buffers.rows.theirs ∙ length-spread (freed_store r) inv.landed.tails inv.buffers.unread in
+      ∙ ap length inv.buffers.rows.theirs.pends ∙ length-spread (freed_store r) inv.landed.tails inv.buffers.unread in
       omega (arith, left, inv.order.theirs.0, inv.order.room, inv.buffers.theirs_count, is.some_slots)
     where
       alone : (q : Option ℕ) → r.copy ≡ q → Copied lamport q r o es (T.stored + ready_by_state T.sending) inv.landed.tails → (a : ℕ) → r.copy ≡ Some a
@@ -222,17 +222,11 @@ module _ (B : ℕ) (r : RingBuffer) (o : OpeningValue) (before es fs : List Entr
 
   there_later : there r.kind at.slots at.heads ≤ there r.kind to.slots to.heads
   there_later = more_there r.kind S.stored S.published at.slots at.heads Z.stored Z.published to.slots to.heads first.order.mine second.order.mine
-      (sender-grows r (earlier r before) (sent_store r A) (their_store r.kind r) (sent_store r (L B r o before (es ++ fs) e gs later)) (their_store r.kind r)
-      (before ++ es) fs (before ++ (es ++ fs)) (at.slots + at.heads) first.buffers.unsent (their_landed r.kind at.cleared at.tails) first.buffers.unread
-      (to.slots + to.heads) second.buffers.unsent (their_landed r.kind to.cleared to.tails) second.buffers.unread
-      (sym (append_assoc before es fs)) first.buffers.rows second.buffers.rows (even r.sender))
+      (row-grows fs (sym (append_assoc before es fs)) first.buffers.rows.mine second.buffers.rows.mine (even r.sender))
 
   freed_later : freed r.kind at.cleared at.tails ≤ freed r.kind to.cleared to.tails
   freed_later = more_freed r.kind S.taken S.consumed at.cleared at.tails Z.taken Z.consumed to.cleared to.tails first.order.theirs second.order.theirs
-      (receiver-grows r (earlier r before) (sent_store r A) (their_store r.kind r) (sent_store r (L B r o before (es ++ fs) e gs later)) (their_store r.kind r)
-      (before ++ es) fs (before ++ (es ++ fs)) (at.slots + at.heads) first.buffers.unsent (their_landed r.kind at.cleared at.tails) first.buffers.unread
-      (to.slots + to.heads) second.buffers.unsent (their_landed r.kind to.cleared to.tails) second.buffers.unread
-      (sym (append_assoc before es fs)) first.buffers.rows second.buffers.rows (even r.receiver))
+      (row-grows fs (sym (append_assoc before es fs)) first.buffers.rows.theirs second.buffers.rows.theirs (even r.receiver))
 
   pub word_found : (u v : ℕ) → hart_of e ≡ r.receiver → access_of e ≡ load (watched_address r.kind r u) 4 v → Z.receiving ≡ asked u
       → Z.taken + unpublished r (pending r.sender (before ++ es)) < available_count r S → says_empty r.kind u v ≡ false

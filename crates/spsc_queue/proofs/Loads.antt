@@ -177,14 +177,14 @@ module _ (K : Kind) (r : RingBuffer) (is : IsRingBuffer r) (L : ℕ → ℕ) (sm
   theirs = spread (their_store K r) (their_landed K inv.landed.cleared inv.landed.tails) inv.buffers.unread
 
   pub sender-reads : (a : ℕ) → IsWordIn r a → read o es r.sender a 4 ≡ seen a (memory_word o es a) mine
-  sender-reads a word = reads-word r o es r.sender a word (subst (All IsWholeWord) (sym inv.buffers.rows.mine)
+  sender-reads a word = reads-word r o es r.sender a word (subst (All IsWholeWord) (sym inv.buffers.rows.mine.pends)
       (spread-all IsWholeWord (sent_store r L) (inv.landed.slots + inv.landed.heads) inv.buffers.unsent (sent-whole r is L small)))
-      ∙ ap (seen a (memory_word o es a)) inv.buffers.rows.mine
+      ∙ ap (seen a (memory_word o es a)) inv.buffers.rows.mine.pends
 
   pub receiver-reads : (a : ℕ) → IsWordIn r a → read o es r.receiver a 4 ≡ seen a (memory_word o es a) theirs
-  receiver-reads a word = reads-word r o es r.receiver a word (subst (All IsWholeWord) (sym inv.buffers.rows.theirs)
+  receiver-reads a word = reads-word r o es r.receiver a word (subst (All IsWholeWord) (sym inv.buffers.rows.theirs.pends)
       (spread-all IsWholeWord (their_store K r) (their_landed K inv.landed.cleared inv.landed.tails) inv.buffers.unread (their-whole K r is)))
-      ∙ ap (seen a (memory_word o es a)) inv.buffers.rows.theirs
+      ∙ ap (seen a (memory_word o es a)) inv.buffers.rows.theirs.pends
 
   -- the sender reads its own head
   pub sender-head : read o es r.sender r.head 4 ≡ slot_offset r s.published

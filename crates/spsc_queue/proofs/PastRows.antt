@@ -12,7 +12,7 @@ use Rattle.spsc_queue.specs.RingBuffers.{RingBuffer}
 use Rattle.spsc_queue.proofs.Words.{row_of}
 use Rattle.spsc_queue.proofs.Effects.{on-append}
 use Rattle.spsc_queue.proofs.Spread.{spread}
-use Rattle.spsc_queue.proofs.Rows.{Earlier, Rows, on_count}
+use Rattle.spsc_queue.proofs.Rows.{Row}
 
 count-append : (r : RingBuffer) (ws vs : List Write) → length (row_of r (ws ++ vs)) ≡ length (row_of r ws) + length (row_of r vs)
 count-append r ws vs = ap length (on-append r ws vs) ∙ length-append (row_of r ws) (row_of r vs)
@@ -40,19 +40,6 @@ pub length-spread : (f : ℕ → Write) (i n : ℕ) → length (spread f i n) �
 length-spread f i zero = refl
 length-spread f i (suc n) = let more : length (spread f (suc i) n) ≡ n = length-spread f (suc i) n in omega arith
 
--- a hart made x stores to the block up to a point, counting b that it didn't make, besides a that it had made before, and later i of
--- them have landed
-past : (r : RingBuffer) (h : ℕ) (es fs whole : List Entry) (f : ℕ → Write) (a b x i n : ℕ) → whole ≡ es ++ fs → on_count r h es + b ≡ a + x
-    → on_count r h whole + b ≡ a + (i + n) → row_of r (pending h whole) ≡ spread f i n → x < i → length (own_stores h es) < lands h whole
-past r h es fs whole f a b x i n is before after left more = beyond r (own_stores h es) (own_stores h fs) (lands h whole)
-    (subst (λ ws. length (row_of r (own_stores h es)) < length (row_of r (take (lands h whole) ws))) (ap (own_stores h) is ∙ stores-append h es fs) counted)
-  where
-    left_count : length (row_of r (pending h whole)) ≡ n
-    left_count = ap length left ∙ length-spread f i n
-
-    counted : length (row_of r (own_stores h es)) < length (row_of r (take (lands h whole) (own_stores h whole)))
-    counted = omega (arith, landed-on r h whole, left_count, before, after, more)
-
 -- what has landed of a hart's stores to the block stays so
 landed-grows : (r : RingBuffer) (h : ℕ) (es fs whole : List Entry) → whole ≡ es ++ fs → lands h es ≤ length (own_stores h es)
     → length (row_of r (take (lands h es) (own_stores h es))) ≤ length (row_of r (take (lands h whole) (own_stores h whole)))
@@ -66,34 +53,19 @@ landed-grows r h es fs whole is even =
     omega (arith, more)
 
 -- how far a row has come in memory, by its hart's stores that have landed
-reached : (r : RingBuffer) (h : ℕ) (es : List Entry) (f : ℕ → Write) (a b i n : ℕ) → on_count r h es + b ≡ a + (i + n)
-    → row_of r (pending h es) ≡ spread f i n → length (row_of r (take (lands h es) (own_stores h es))) + b ≡ a + i
-reached r h es f a b i n made left =
-    let count : length (row_of r (pending h es)) ≡ n = ap length left ∙ length-spread f i n in omega (arith, landed-on r h es, count, made)
+reached : {r : RingBuffer} {h a b : ℕ} {f : ℕ → Write} {es : List Entry} {i n : ℕ} → Row r h a b f es i n
+    → length (row_of r (take (lands h es) (own_stores h es))) + b ≡ a + i
+reached {r = r} {h = h} {f = f} {es = es} {i = i} {n = n} row =
+    let count : length (row_of r (pending h es)) ≡ n = ap length row.pends ∙ length-spread f i n in omega (arith, landed-on r h es, count, row.made)
 
--- once more of a row has landed than a party had stored at a point, all that its hart had stored there has landed
-module _ (r : RingBuffer) (c : Earlier) (f g p q : ℕ → Write) (es fs whole : List Entry) (i n j m i2 n2 j2 m2 : ℕ) (is : whole ≡ es ++ fs)
-    (rows : Rows r c f g es i n j m) (later : Rows r c p q whole i2 n2 j2 m2) where
-  pub sender-past : i + n < i2 → length (own_stores r.sender es) < lands r.sender whole
-  sender-past more = past r r.sender es fs whole p c.sender c.ahead (i + n) i2 n2 is rows.mine_made later.mine_made later.mine more
-
-  pub receiver-past : j + m < j2 → length (own_stores r.receiver es) < lands r.receiver whole
-  receiver-past more = past r r.receiver es fs whole q c.receiver 0 (j + m) j2 m2 is
-      (omega (arith, rows.theirs_made)) (omega (arith, later.theirs_made)) later.theirs more
+module _ {r : RingBuffer} {h a b : ℕ} {f p : ℕ → Write} {es whole : List Entry} {i n j m : ℕ} (fs : List Entry) (is : whole ≡ es ++ fs)
+    (row : Row r h a b f es i n) (later : Row r h a b p whole j m) where
+  -- once more of a row has landed than its hart had stored at a point, all that the hart had stored there has landed
+  pub row-past : i + n < j → length (own_stores h es) < lands h whole
+  row-past more = beyond r (own_stores h es) (own_stores h fs) (lands h whole)
+      (subst (λ ws. length (row_of r (own_stores h es)) < length (row_of r (take (lands h whole) ws)))
+      (ap (own_stores h) is ∙ stores-append h es fs) (omega (arith, reached later, row.made, more)))
 
   -- and no less of it has landed later
-  pub sender-grows : lands r.sender es ≤ length (own_stores r.sender es) → i ≤ i2
-  sender-grows even = omega (
-    arith,
-    landed-grows r r.sender es fs whole is even,
-    reached r r.sender es f c.sender c.ahead i n rows.mine_made rows.mine,
-    reached r r.sender whole p c.sender c.ahead i2 n2 later.mine_made later.mine,
-  )
-
-  pub receiver-grows : lands r.receiver es ≤ length (own_stores r.receiver es) → j ≤ j2
-  receiver-grows even = omega (
-    arith,
-    landed-grows r r.receiver es fs whole is even,
-    reached r r.receiver es g c.receiver 0 j m (omega (arith, rows.theirs_made)) rows.theirs,
-    reached r r.receiver whole q c.receiver 0 j2 m2 (omega (arith, later.theirs_made)) later.theirs,
-  )
+  pub row-grows : lands h es ≤ length (own_stores h es) → i ≤ j
+  row-grows even = omega (arith, landed-grows r h es fs whole is even, reached row, reached later)

@@ -8,11 +8,10 @@ use Rattle.spsc_queue.specs.RingBuffers.{Kind, lamport, fastforward, RingBuffer,
 use Rattle.spsc_queue.specs.Protocol.{SenderState, roomy, ReceiverState}
 use Rattle.spsc_queue.specs.Protocol.{waiting, holding, ProtocolState, parties_after}
 use Rattle.spsc_queue.specs.Laws.{FollowsSpscProtocol, available_of, available_count, known_count, known_by_state, ready_count, ready_by_state}
-use Rattle.spsc_queue.proofs.Spread.{sent_store}
 use Rattle.spsc_queue.proofs.Rows.{Earlier}
-use Rattle.spsc_queue.proofs.Invariant.{spare, freed, there, their_store, their_landed, they_made, Theirs, SendingIs, ReceivingIs, Invariant}
+use Rattle.spsc_queue.proofs.Invariant.{spare, freed, there, their_landed, they_made, Theirs, SendingIs, ReceivingIs, Invariant}
 use Rattle.spsc_queue.proofs.Invariants.{spare_capacity, earlier}
-use Rattle.spsc_queue.proofs.PastRows.{sender-past, receiver-past}
+use Rattle.spsc_queue.proofs.PastRows.{row-past}
 use Rattle.spsc_queue.proofs.Runs.{invariant-of}
 
 known_there : (K : Kind) (r : RingBuffer) (L : ℕ → ℕ) (taken consumed n : ℕ) (p : ReceiverState) → taken ≤ n → ReceivingIs K r L taken consumed n p
@@ -44,10 +43,7 @@ module _ (k : Kind) (r : RingBuffer) (is : IsRingBuffer r) (L M : ℕ → ℕ) (
       let n : ℕ = there k later.landed.slots later.landed.heads in
       let more = more_landed k s (known_count z) later.landed.slots later.landed.heads inv.order.mine.published_stored inv.order.mine.stored_published heard
       (known_there k r M z.taken z.consumed n z.receiving later.order.taken_there later.receiving) later.order.mine.heads_slots later.order.mine.slots_heads in
-      sender-past r c (sent_store r L) (their_store k r) (sent_store r M) (their_store k r) (before ++ es) fs (before ++ (es ++ fs))
-      (inv.landed.slots + inv.landed.heads) inv.buffers.unsent (their_landed k inv.landed.cleared inv.landed.tails) inv.buffers.unread
-      (later.landed.slots + later.landed.heads) later.buffers.unsent (their_landed k later.landed.cleared later.landed.tails) later.buffers.unread
-      (sym (append_assoc before es fs)) inv.buffers.rows later.buffers.rows (omega (arith, more, inv.buffers.mine_count))
+      row-past fs (sym (append_assoc before es fs)) inv.buffers.rows.mine later.buffers.rows.mine (omega (arith, more, inv.buffers.mine_count))
 
   -- once the sender has used a slot again, or is about to, all that the receiver's hart stored before it freed that slot has
   -- reached memory
@@ -57,10 +53,7 @@ module _ (k : Kind) (r : RingBuffer) (is : IsRingBuffer r) (L M : ℕ → ℕ) (
       let ready : ready_count z + spare k ≤ n + r.size = ready_freed (spare k) r z.stored z.published n z.sending later.order.room later.sending in
       let more = more_freed k s.taken s.consumed inv.landed.cleared inv.landed.tails z.taken z.consumed later.landed.cleared later.landed.tails
       inv.order.theirs later.order.theirs (omega (arith, again, ready, spare_capacity k r.size is.some_slots)) in
-      receiver-past r c (sent_store r L) (their_store k r) (sent_store r M) (their_store k r) (before ++ es) fs (before ++ (es ++ fs))
-      (inv.landed.slots + inv.landed.heads) inv.buffers.unsent (their_landed k inv.landed.cleared inv.landed.tails) inv.buffers.unread
-      (later.landed.slots + later.landed.heads) later.buffers.unsent (their_landed k later.landed.cleared later.landed.tails) later.buffers.unread
-      (sym (append_assoc before es fs)) inv.buffers.rows later.buffers.rows (omega (arith, more, inv.buffers.theirs_count))
+      row-past fs (sym (append_assoc before es fs)) inv.buffers.rows.theirs later.buffers.rows.theirs (omega (arith, more, inv.buffers.theirs_count))
 
 module _ (B : ℕ) (r : RingBuffer) (o : OpeningValue) (before es fs : List Entry) (t : FollowsSpscProtocol B r o before (es ++ fs)) where
   abbrev L : ℕ → ℕ

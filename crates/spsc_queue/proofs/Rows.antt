@@ -38,12 +38,14 @@ pub record Earlier : Type 0 where
 abbrev pub on_count : RingBuffer → (h : ℕ) → List Entry → ℕ
 on_count r h es = length (row_of r (own_stores h es))
 
--- the sender's row is f and the receiver's g: i and j of their stores have landed, and the next n and m are pending
+-- hart h's row is f: i of its stores have landed, and the next n are pending. It had made a others before, and b of these count as its own
+pub record Row (r : RingBuffer) (h a b : ℕ) (f : ℕ → Write) (es : List Entry) (i n : ℕ) : Type 0 where
+  pub pends : row_of r (pending h es) ≡ spread f i n
+  pub made : on_count r h es + b ≡ a + (i + n)
+
 pub record Rows (r : RingBuffer) (c : Earlier) (f g : ℕ → Write) (es : List Entry) (i n j m : ℕ) : Type 0 where
-  pub mine : row_of r (pending r.sender es) ≡ spread f i n
-  pub mine_made : on_count r r.sender es + c.ahead ≡ c.sender + (i + n)
-  pub theirs : row_of r (pending r.receiver es) ≡ spread g j m
-  pub theirs_made : on_count r r.receiver es ≡ c.receiver + (j + m)
+  pub mine : Row r r.sender c.sender c.ahead f es i n
+  pub theirs : Row r r.receiver c.receiver 0 g es j m
   pub others : (h : ℕ) → h ≢ r.sender → h ≢ r.receiver → row_of r (pending h es) ≡ []
 
 -- of a party that stores a word into a slot and then its index: how many slots and indices it has stored, and how many of these have landed
@@ -95,13 +97,15 @@ pub miss : (r : RingBuffer) (o : OpeningValue) (es fs : List Entry) (w : Write) 
     → memory_word o fs a ≡ memory_word o es a
 miss r o es fs w a is word whole there = is a word whole ∙ ap (λ b. if b then w.value else memory_word o es a) (ne_eqb w.addr a there)
 
-pub rows-stay : (r : RingBuffer) (c : Earlier) (f g : ℕ → Write) (o : OpeningValue) (es fs : List Entry) (i n j m : ℕ)
+row-same : {r : RingBuffer} {h a b : ℕ} {f : ℕ → Write} {es fs : List Entry} {i n : ℕ} → row_of r (pending h fs) ≡ row_of r (pending h es)
+    → on_count r h fs ≡ on_count r h es → Row r h a b f es i n → Row r h a b f fs i n
+row-same {b = b} pends made row = record { pends = pends ∙ row.pends; made = ap (λ k. k + b) made ∙ row.made }
+
+pub rows-stay : {r : RingBuffer} {c : Earlier} {f g : ℕ → Write} {o : OpeningValue} {es fs : List Entry} {i n j m : ℕ}
     → Rows r c f g es i n j m → Stays r o es fs → Rows r c f g fs i n j m
-rows-stay r c f g o es fs i n j m rows stays = record {
-  mine = stays.pends r.sender ∙ rows.mine;
-  mine_made = ap (λ k. k + c.ahead) (stays.made r.sender) ∙ rows.mine_made;
-  theirs = stays.pends r.receiver ∙ rows.theirs;
-  theirs_made = stays.made r.receiver ∙ rows.theirs_made;
+rows-stay {r = r} rows stays = record {
+  mine = row-same (stays.pends r.sender) (stays.made r.sender) rows.mine;
+  theirs = row-same (stays.pends r.receiver) (stays.made r.receiver) rows.theirs;
   others = λ h not_sender not_receiver. stays.pends h ∙ rows.others h not_sender not_receiver;
 }
 
@@ -201,30 +205,27 @@ module _ (r : RingBuffer) (is : IsRingBuffer r) (o : OpeningValue) (es : List En
       one-more h mine = subst (λ g. on_count r g after ≡ on_count r g es + 1) mine
           (made-of (hart_of e) (w ∷ []) stored-of ∙ ap (λ vs. on_count r (hart_of e) es + length vs) (on-one r w on))
 
-      module _ (c : Earlier) (f g : ℕ → Write) (i n j m : ℕ) (rows : Rows r c f g es i n j m) where
+      next : {h a b : ℕ} {f : ℕ → Write} {i n : ℕ} → hart_of e ≡ h → Row r h a b f es i n → w ≡ f (i + n) → Row r h a b f after i (suc n)
+      next {h = h} {f = f} {i = i} {n = n} mine row is_next =
+          record { pends = longer h mine f i n row.pends is_next; made = (let one = one-more h mine in omega (arith, one, row.made)) }
+
+      kept : {h a b : ℕ} {f : ℕ → Write} {i n : ℕ} → hart_of e ≢ h → Row r h a b f es i n → Row r h a b f after i n
+      kept {h = h} other row = row-same (same-of h other) (made-none h (no-store-of (store w) does h other)) row
+
+      module _ {c : Earlier} {f g : ℕ → Write} {i n j m : ℕ} (rows : Rows r c f g es i n j m) where
         pub sender-stores : hart_of e ≡ r.sender → w ≡ f (i + n) → Rows r c f g after i (suc n) j m
         sender-stores mine is_next = record {
-          mine = longer r.sender mine f i n rows.mine is_next;
-          mine_made = (let one = one-more r.sender mine in omega (arith, one, rows.mine_made));
-          theirs = same-of r.receiver other ∙ rows.theirs;
-          theirs_made = made-none r.receiver (no-store-of (store w) does r.receiver other) ∙ rows.theirs_made;
+          mine = next mine rows.mine is_next;
+          theirs = kept (λ same. is.parties (sym mine ∙ same)) rows.theirs;
           others = λ h not_sender not_receiver. same-of h (λ same. not_sender (sym same ∙ mine)) ∙ rows.others h not_sender not_receiver;
         }
-          where
-            other : hart_of e ≢ r.receiver
-            other = λ same. is.parties (sym mine ∙ same)
 
         pub receiver-stores : hart_of e ≡ r.receiver → w ≡ g (j + m) → Rows r c f g after i n j (suc m)
         receiver-stores mine is_next = record {
-          mine = same-of r.sender other ∙ rows.mine;
-          mine_made = ap (λ k. k + c.ahead) (made-none r.sender (no-store-of (store w) does r.sender other)) ∙ rows.mine_made;
-          theirs = longer r.receiver mine g j m rows.theirs is_next;
-          theirs_made = (let one = one-more r.receiver mine in omega (arith, one, rows.theirs_made));
+          mine = kept (λ same. is.parties (sym same ∙ mine)) rows.mine;
+          theirs = next mine rows.theirs is_next;
           others = λ h not_sender not_receiver. same-of h (λ same. not_receiver (sym same ∙ mine)) ∙ rows.others h not_sender not_receiver;
         }
-          where
-            other : hart_of e ≢ r.sender
-            other = λ same. is.parties (sym same ∙ mine)
 
   -- the oldest pending store of the entry's hart lands
   module _ (c : Earlier) (f g : ℕ → Write) (i n j m : ℕ) (rows : Rows r c f g es i n j m) where
@@ -264,46 +265,54 @@ module _ (r : RingBuffer) (is : IsRingBuffer r) (o : OpeningValue) (es : List En
               (ap (row_of r) left-of ∙ sym (ap (row_of r) first ∙ split_off r w rest off))
           at h (inr other) = kept-of h other
 
-      left : (h : ℕ) → hart_of e ≡ h → (q : ℕ → Write) (p k : ℕ) → row_of r rest ≡ spread q p k → row_of r (pending h after) ≡ spread q p k
-      left h mine q p k more = subst (λ g. row_of r (pending g after) ≡ spread q p k) mine (ap (row_of r) left-of ∙ more)
-
       row-of : (h : ℕ) → hart_of e ≡ h → (ws : List Write) → row_of r (pending h es) ≡ ws → row_of r (w ∷ rest) ≡ ws
       row-of h mine ws has = ap (row_of r) (sym first) ∙ ap (λ g. row_of r (pending g es)) mine ∙ has
+
+      -- it is the oldest of its hart's row
+      oldest : {h a b : ℕ} {q : ℕ → Write} {p k : ℕ} → hart_of e ≡ h → Row r h a b q es p k → shared r w ≡ true
+          → (l : ℕ) × (k ≡ suc l) × Row r h a b q after (suc p) l × (w ≡ q p)
+      oldest {h = h} {a = a} {b = b} {q = q} {p = p} {k = k} mine row on =
+          let split = split_on r w rest q p k on (row-of h mine (spread q p k) row.pends) in (
+            split.0,
+            split.1,
+            record {
+              pends = subst (λ g. row_of r (pending g after) ≡ spread q (suc p) split.0) mine (ap (row_of r) left-of ∙ split.3);
+              made = ap (λ x. x + b) (made-none h (none-stored h)) ∙ row.made
+                  ∙ (let same : a + (p + k) ≡ a + (suc p + split.0) = omega (arith, split.1) in same);
+            },
+            split.2,
+          )
+
+      kept-row : {h a b : ℕ} {q : ℕ → Write} {p k : ℕ} → hart_of e ≢ h → Row r h a b q es p k → Row r h a b q after p k
+      kept-row {h = h} other row = row-same (kept-of h other) (made-none h (none-stored h)) row
 
       on-lands : shared r w ≡ true → Landing
       on-lands on = at (cases_eq (hart_of e) r.sender) (cases_eq (hart_of e) r.receiver)
         where
           at : (hart_of e ≡ r.sender) ⊎ (hart_of e ≢ r.sender) → (hart_of e ≡ r.receiver) ⊎ (hart_of e ≢ r.receiver) → Landing
           at (inl mine) c2 =
-              let split = split_on r w rest f i n on (row-of r.sender mine (spread f i n) rows.mine) in
-              let other : hart_of e ≢ r.receiver = λ same. is.parties (sym mine ∙ same) in
+              let one = oldest mine rows.mine on in
               inr (inl (
-                split.0,
-                split.1,
+                one.0,
+                one.1,
                 record {
-                  mine = left r.sender mine f (suc i) split.0 split.3;
-                  mine_made = ap (λ k. k + c.ahead) (made-none r.sender (none-stored r.sender)) ∙ rows.mine_made
-                      ∙ (let same : c.sender + (i + n) ≡ c.sender + (suc i + split.0) = omega (arith, split.1) in same);
-                  theirs = kept-of r.receiver other ∙ rows.theirs;
-                  theirs_made = made-none r.receiver (none-stored r.receiver) ∙ rows.theirs_made;
+                  mine = one.2;
+                  theirs = kept-row (λ same. is.parties (sym mine ∙ same)) rows.theirs;
                   others = λ h not_sender not_receiver. kept-of h (λ same. not_sender (sym same ∙ mine)) ∙ rows.others h not_sender not_receiver;
                 },
-                written (f i) split.2,
+                written (f i) one.3,
               ))
           at (inr other) (inl mine) =
-              let split = split_on r w rest g j m on (row-of r.receiver mine (spread g j m) rows.theirs) in
+              let one = oldest mine rows.theirs on in
               inr (inr (
-                split.0,
-                split.1,
+                one.0,
+                one.1,
                 record {
-                  mine = kept-of r.sender other ∙ rows.mine;
-                  mine_made = ap (λ k. k + c.ahead) (made-none r.sender (none-stored r.sender)) ∙ rows.mine_made;
-                  theirs = left r.receiver mine g (suc j) split.0 split.3;
-                  theirs_made = made-none r.receiver (none-stored r.receiver) ∙ rows.theirs_made
-                      ∙ (let same : c.receiver + (j + m) ≡ c.receiver + (suc j + split.0) = omega (arith, split.1) in same);
+                  mine = kept-row other rows.mine;
+                  theirs = one.2;
                   others = λ h not_sender not_receiver. kept-of h (λ same. not_receiver (sym same ∙ mine)) ∙ rows.others h not_sender not_receiver;
                 },
-                written (g j) split.2,
+                written (g j) one.3,
               ))
           at (inr other) (inr another) =
               let none : row_of r (w ∷ rest) ≡ [] = row-of (hart_of e) refl [] (rows.others (hart_of e) other another) in

@@ -64,8 +64,7 @@ module _ (K : Kind) (r : RingBuffer) (is : IsRingBuffer r) (L : ℕ → ℕ) (c 
     buffers = record {
       unsent = inv.buffers.unsent;
       unread = inv.buffers.unread;
-      rows = rows-stay r c (sent_store r L) (their_store K r) o es after (d.slots + d.heads) inv.buffers.unsent (their_landed K d.cleared d.tails)
-          inv.buffers.unread inv.buffers.rows block;
+      rows = rows-stay inv.buffers.rows block;
       mine_count = inv.buffers.mine_count;
       theirs_count = inv.buffers.theirs_count;
     };
@@ -102,8 +101,7 @@ module _ (K : Kind) (r : RingBuffer) (is : IsRingBuffer r) (L : ℕ → ℕ) (c 
       buffers = record {
         unsent = suc inv.buffers.unsent;
         unread = inv.buffers.unread;
-        rows = sender-stores r is o es e even w does on c (sent_store r L) (their_store K r) (d.slots + d.heads) inv.buffers.unsent
-            (their_landed K d.cleared d.tails) inv.buffers.unread inv.buffers.rows mine is_next;
+        rows = sender-stores r is o es e even w does on inv.buffers.rows mine is_next;
         mine_count = omega (arith, inv.buffers.mine_count, one);
         theirs_count = inv.buffers.theirs_count;
       };
@@ -163,8 +161,7 @@ module _ (K : Kind) (r : RingBuffer) (is : IsRingBuffer r) (L : ℕ → ℕ) (c 
       buffers = record {
         unsent = inv.buffers.unsent;
         unread = suc inv.buffers.unread;
-        rows = receiver-stores r is o es e even w does on c (sent_store r L) (their_store K r) (d.slots + d.heads) inv.buffers.unsent
-            (their_landed K d.cleared d.tails) inv.buffers.unread inv.buffers.rows mine is_next;
+        rows = receiver-stores r is o es e even w does on inv.buffers.rows mine is_next;
         mine_count = inv.buffers.mine_count;
         theirs_count = omega (arith, inv.buffers.theirs_count, one);
       };
