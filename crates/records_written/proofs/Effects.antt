@@ -6,20 +6,18 @@ use Rattle.std.proofs.lemmas.Bool.{and_parts, eqb-true}
 use Rattle.std.proofs.Math.Nat.{mod-eq_of_lt, mod-lt}
 use Rattle.hart.specs.State.{HartState}
 use Rattle.hart.specs.declared.status.Status.TheVariants as status
-use Rattle.memory.specs.declared.writes.Write.{Write}
 use Rattle.memory.specs.Writes.{write}
 use Rattle.memory.proofs.Bytes.{covers-yes}
 use Rattle.step_machine.specs.Access.{Access, nothing, store, exchange}
-use Rattle.slot_queue.specs.Queues.{Queue, IsQueue, KeepsOff, index_word, slot_of}
+use Rattle.slot_queue.specs.Queues.{Queue, IsQueue, slot_of}
 use Rattle.queue_parties.specs.Parties.{the_sender, QueueCounts}
-use Rattle.slot_queue.specs.Ownership.{index, after_access}
-use Rattle.queue_certificates.specs.Forms.{Form, form_value, number, plus, minus, times, is_same, most, fits_in, remainder, InRanges, Bounds}
+use Rattle.slot_queue.specs.Ownership.{after_access}
+use Rattle.queue_certificates.specs.Forms.{Form, form_value, number, plus, times, is_same, most, fits_in, remainder, InRanges, Bounds}
 use Rattle.queue_certificates.specs.States.{KnownValue, any, linear, index_for, Share, Has, HasShare}
 use Rattle.queue_certificates.specs.Steps.{position_at, offset_at, is_slot, is_owned, misses}
 use Rattle.queue_certificates.proofs.Forms.{value-plus, value-times, value-number, same-value}
 use Rattle.queue_certificates.proofs.Bounds.{value-below, fits-below, value-remainder}
 use Rattle.queue_certificates.proofs.Accesses.{missed}
-use Rattle.queue_certificates.proofs.Stores.{stays-off, stays-filled, moves-on}
 use Rattle.records_written.specs.Written.{WritesByte}
 use Rattle.records_written.specs.declared.effect.Effect.{Effect}
 use Rattle.records_written.specs.declared.effect.Effect.TheVariants.{Leaves, Fills, Publishes, PublishesSome}
@@ -50,11 +48,6 @@ does-leave q c y z same = record { upto = omega (arith, same); done = λ runs. s
 
 module _ (q : Queue) (is : IsQueue q) (c : QueueCounts) (xs : List ℕ) (s : Share) (has : HasShare q the_sender c xs s)
     (queues : ℕ → Queue) (rs : List (Option ℕ)) (ranges : InRanges rs xs) (z : HartState) where
-  -- a store beside the queue
-  off-does : (a width v : ℕ) → KeepsOff q (write a width v) → Does q c Leaves (store (write a width v)) z
-  off-does a width v keeps = does-leave q c (store (write a width v)) z
-      ((stays-off q is the_sender c xs s has (write a width v) keeps).share.own ∙ sym has.own)
-
   -- bytes of an owned slot: of which position, and how far into its slot
   owned-place : (f : Form) (a width : ℕ) → Has queues xs (linear f) a → is_owned rs q s (linear f) width ≡ true
       → a ≡ slot_of q (c.published + position_at q s.own.constant f.constant) + offset_at q f.constant
@@ -89,20 +82,17 @@ module _ (q : Queue) (is : IsQueue q) (c : QueueCounts) (xs : List ℕ) (s : Sha
           ∙ mod-eq_of_lt (omega (arith, small)) in
           omega (arith, slot, place, whole)
 
-  -- a store of bytes that are of an owned slot, or else of nothing of the queue
-  pub does-fill : (place : KnownValue) (a width v : ℕ) → Has queues xs place a
-      → (is_owned rs q s place width ≡ false → KeepsOff q (write a width v)) → Does q c (filled_by rs q s place width) (store (write a width v)) z
-  does-fill any a width v at off = off-does a width v (off refl)
-  does-fill (index_for i f) a width v at off = off-does a width v (off refl)
-  does-fill (linear f) a width v at off = by (is_owned rs q s (linear f) width) refl
+  -- a store that leaves the count fills what is owned there
+  pub does-fill : (place : KnownValue) (a width v : ℕ) → Has queues xs place a → published_then q c (store (write a width v)) ≡ c.published
+      → Does q c (filled_by rs q s place width) (store (write a width v)) z
+  does-fill any a width v at same = does-leave q c (store (write a width v)) z same
+  does-fill (index_for i f) a width v at same = does-leave q c (store (write a width v)) z same
+  does-fill (linear f) a width v at same = by (is_owned rs q s (linear f) width) refl
     where
       by : (t : Bool) → is_owned rs q s (linear f) width ≡ t
           → Does q c (if t then Fills (position_at q s.own.constant f.constant) (offset_at q f.constant) width else Leaves) (store (write a width v)) z
-      by false not = off-does a width v (off not)
-      by true ok =
-          let same : published_then q c (store (write a width v)) ≡ c.published =
-          (stays-filled q is the_sender c xs s has queues rs ranges (linear f) a width v at ok).share.own ∙ sym has.own in
-          let place : a ≡ slot_of q (c.published + position_at q s.own.constant f.constant) + offset_at q f.constant = owned-place f a width at ok in
+      by false not = does-leave q c (store (write a width v)) z same
+      by true ok = (let place : a ≡ slot_of q (c.published + position_at q s.own.constant f.constant) + offset_at q f.constant = owned-place f a width at ok in
           record {
             upto = omega (arith, same);
             done = λ runs. (
@@ -111,22 +101,17 @@ module _ (q : Queue) (is : IsQueue q) (c : QueueCounts) (xs : List ℕ) (s : Sha
               (λ b low high. covers-yes (write a width v) (slot_of q (c.published + position_at q s.own.constant f.constant) + b)
                   (omega (arith, place, low)) (omega (arith, place, high))),
             );
-          }
+          })
 
-  -- a store to the head of the word of the count d further
-  pub does-move : (d : Form) (w : Write) → w.addr ≡ index q the_sender → w.width ≡ q.index_width → w.value ≡ index_word q (form_value (plus s.own d) xs)
-      → is_same 0 (plus d (minus s.owned d)) s.owned ≡ true → form_value d xs < q.modulus → (n : ℕ) → most rs d ≡ Some n
-      → Does q c (if n == d.constant then Publishes n else PublishesSome n) (store w) z
-  does-move d w place width word owned near n bound = by (n == d.constant) refl
+  -- one that moves the count by a form publishes so many
+  pub does-move : (d : Form) (y : Access) → published_then q c y ≡ c.published + form_value d xs → (n : ℕ) → most rs d ≡ Some n
+      → Does q c (if n == d.constant then Publishes n else PublishesSome n) y z
+  does-move d y to n bound = by (n == d.constant) refl
     where
-      to : published_then q c (store w) ≡ c.published + form_value d xs
-      to = (moves-on q is the_sender c xs s has w d place width word owned near).share.own ∙ value-plus s.own d xs
-          ∙ ap (λ m. m + form_value d xs) (sym has.own)
-
       below : form_value d xs ≤ n
       below = value-below rs d xs n ranges bound
 
-      by : (t : Bool) → (n == d.constant) ≡ t → Does q c (if t then Publishes n else PublishesSome n) (store w) z
+      by : (t : Bool) → (n == d.constant) ≡ t → Does q c (if t then Publishes n else PublishesSome n) y z
       by false other = record { upto = omega (arith, to, below); done = λ runs. tt }
       by true same = (let is : n ≡ d.constant = eqb-true n d.constant same in record {
         upto = omega (arith, to, below);

@@ -1,16 +1,14 @@
 -- What an instruction of a queue's sender does to its count and to its slots: its effect.
-use Rattle.std.proofs.Common.{ℕ, ℤ, ◌-◌, ◌*◌, ◌/◌, ◌%◌, ◌^◌, ◌<◌, ◌≤◌, ◌≡◌, ◌==◌, ◌&&◌, ◌||◌, inl, inr, if◌then◌else◌}
-use Rattle.std.proofs.Common.{Bool, true, false, Option, Some, None, List, length, get_or, refl, sym, ◌∙◌, ap, subst, arith}
-use Rattle.std.specs.Prelude.{nat_lt, not, slice_index}
+use Rattle.std.proofs.Common.{ℕ, ℤ, ◌+◌, ◌*◌, ◌/◌, ◌%◌, ◌<◌, ◌≤◌, ◌≡◌, ◌==◌, ◌&&◌, ◌||◌, if◌then◌else◌}
+use Rattle.std.proofs.Common.{Bool, true, false, Option, Some, None, List, length, get_or, refl, sym, ◌∙◌, ap, subst}
+use Rattle.std.specs.Prelude.{nat_lt, slice_index}
 use Rattle.std.specs.List.{slice_get}
-use Rattle.std.proofs.lemmas.Bool.{and_parts, or_cases, eqb-true, ltb-true}
-use Rattle.std.proofs.Math.Nat.{pow-le-pow_right}
+use Rattle.std.proofs.lemmas.Bool.{ltb-true}
 use Rattle.rv_decode.specs.Meaning.{meaning}
 use Rattle.rv_decode.specs.declared.instruction.Reg.{Reg}
 use Rattle.rv_decode.specs.declared.instruction.StoreOp.{StoreOp}
 use Rattle.rv_decode.specs.declared.instruction.StoreOp.TheVariants as store_op
 use Rattle.rv_decode.specs.declared.instruction.AmoOp.{AmoOp}
-use Rattle.rv_decode.specs.declared.instruction.AmoOp.TheVariants as amo
 use Rattle.rv_decode.specs.declared.instruction.Instr.{Instr}
 use Rattle.rv_decode.specs.declared.instruction.Instr.TheVariants.{Lui, Auipc, Jal, Jalr, Branch, Load, Store}
 use Rattle.rv_decode.specs.declared.instruction.Instr.TheVariants.{Immediate, Shift, Register, Fence, FenceTso, Ecall}
@@ -28,32 +26,29 @@ use Rattle.hart.proofs.Instructions.{IsAt, need_at, illegal, stopped}
 use Rattle.memory.specs.Writes.{write}
 use Rattle.step_machine.specs.declared.events.Entry.{Entry}
 use Rattle.step_machine.specs.History.{OpeningValue}
-use Rattle.step_machine.specs.Access.{store, access_of}
+use Rattle.step_machine.specs.Access.{store, exchange, access_of}
 use Rattle.step_machine.specs.Entries.{hart_of}
 use Rattle.step_machine.specs.Paths.{number_read, entry_of}
-use Rattle.slot_queue.specs.Queues.{Queue, IsQueue, TellsFull, index_word, least}
-use Rattle.slot_queue.proofs.Codes.{word-small}
+use Rattle.slot_queue.specs.Queues.{Queue, IsQueue, TellsFull, least}
 use Rattle.queue_parties.specs.Parties.{the_sender, the_receiver, QueueCounts, known, with_known}
-use Rattle.slot_queue.specs.Ownership.{index, party_of}
-use Rattle.owned_run.specs.Certified.{View, AllCounts, Acts}
-use Rattle.queue_certificates.specs.Forms.{Form, form_value, number, plus, minus, is_same, most, fits_in, Bounds}
-use Rattle.queue_certificates.specs.States.{KnownValue, any, linear, index_for, no_share, KnownState, scaled, is_within, Has, HasShare, MeansAt}
+use Rattle.slot_queue.specs.Ownership.{index, party_of, after_access}
+use Rattle.owned_run.specs.Certified.{View, AllCounts, ReadsFrom, Acts}
+use Rattle.queue_certificates.specs.Forms.{Form, form_value, most, Bounds}
+use Rattle.queue_certificates.specs.States.{KnownValue, no_share, KnownState, Has, HasShare, MeansAt}
 use Rattle.queue_certificates.specs.Results.{bounds}
-use Rattle.queue_certificates.specs.Steps.{last_below, anywhere, is_one, is_whole, misses, is_off, is_owned, is_cut}
-use Rattle.queue_certificates.specs.Steps.{register_at, operand, address_value, addresses, is_own_index, value_loaded, updated_value}
-use Rattle.queue_certificates.specs.Steps.{may_move, may_fill, may_store, exchange_by, storing, exchanging, follow, instruction_at}
+use Rattle.queue_certificates.specs.Steps.{all_below, last_below, is_just, anywhere, misses, is_off, register_at, operand, address_value, addresses}
+use Rattle.queue_certificates.specs.Steps.{is_own_index, value_loaded, updated_value, may_move, may_fill, may_store, leaves_words, shares_moved, moved_share}
+use Rattle.queue_certificates.specs.Steps.{store_by, exchange_by, exchanging, follow, instruction_at}
 use Rattle.queue_certificates.specs.Certificates.{QueueCertificate, queue_at, own_of}
-use Rattle.queue_certificates.proofs.Values.{word-linear, has-bounds, within}
-use Rattle.queue_certificates.proofs.Forms.{same-value}
-use Rattle.queue_certificates.proofs.Bounds.{value-below, fits-below}
+use Rattle.queue_certificates.proofs.Values.{has-bounds}
+use Rattle.queue_certificates.proofs.Forms.{value-plus}
 use Rattle.queue_certificates.proofs.States.{at-below}
-use Rattle.queue_certificates.proofs.Accesses.{found-below, just-is, same-party, party-hart, hart-party, whole-index}
-use Rattle.queue_certificates.proofs.Stores.{keeps-off, stored-whole, stored-low}
+use Rattle.queue_certificates.proofs.Accesses.{just-is, hart-party}
 use Rattle.queue_certificates.proofs.Steps.{nobody_told, nothing_sent, no-code}
 use Rattle.queue_certificates.proofs.Steps as steps
 use Rattle.records_written.specs.declared.effect.Effect.{Effect}
 use Rattle.records_written.specs.declared.effect.Effect.TheVariants.{Leaves, Publishes, PublishesSome}
-use Rattle.records_written.specs.Marks.{published_by, filled_by, is_swap, its_sender, moves_head, effect_at, exchange_effect, effect_of}
+use Rattle.records_written.specs.Marks.{published_by, filled_by, its_sender, moves_head, effect_at, effect_of}
 use Rattle.records_written.proofs.Marked.{left-of, right-of}
 use Rattle.records_written.proofs.Effects.{published_then, Does, does-nothing, does-leave, does-fill, does-move, does-exchange}
 
@@ -101,15 +96,13 @@ module _ (M : ℕ) (o : OpeningValue) (c : QueueCertificate) (i : ℕ) (less : i
     (k : KnownState) (s : HartState) (m : View) (cs : AllCounts) (e : Entry)
     (acts : Acts M o (length c.queues) (queue_at c) nobody_told nothing_sent (its_sender c i) s m cs e) (size : 32 ≤ length s.registers)
     (fine : (j : ℕ) → j < length c.queues → IsQueue (queue_at c j) × TellsFull (queue_at c j) × ((queue_at c j).index_width ≤ 4))
-    (means : MeansAt (queue_at c) (length c.queues) (own_of c (its_sender c i)) (its_sender c i) xs k s m cs) where
+    (means : MeansAt (queue_at c) (length c.queues) (own_of c (its_sender c i)) (its_sender c i) xs k s m cs)
+    (past : (g : ℕ) → length c.harts ≤ g → length (own_of c g) ≡ 0) where
   abbrev q : Queue
   q = queue_at c i
 
   abbrev h : ℕ
   h = (queue_at c i).sender
-
-  is : IsQueue (queue_at c i)
-  is = (fine i less).0
 
   has : HasShare (queue_at c i) the_sender (cs i) xs (get_or k.shares i no_share)
   has = means.shares i less the_sender refl
@@ -131,113 +124,65 @@ module _ (M : ℕ) (o : OpeningValue) (c : QueueCertificate) (i : ℕ) (less : i
   updates op b r = updated_value (queue_at c) (length c.queues) (own_of c) (length c.harts) h k.ranges op
       (value_loaded (queue_at c) (length c.queues) (own_of c) (length c.harts) h k b 4) (register_at k r)
 
-  register-has : (r : Reg) → Has (queue_at c) xs (register_at k r) (register_value s.registers r)
-  register-has = steps.register-has M o (queue_at c) (length c.queues) (own_of c) (length c.harts) h xs k s m cs e acts size fine means
-
   operand-has : (r : Reg) → Has (queue_at c) xs (held r) (register_value s.registers r)
   operand-has = steps.operand-has M o (queue_at c) (length c.queues) (own_of c) (length c.harts) h xs k s m cs e acts size fine means
 
-  -- ---- a store, whoever makes it
+  -- ---- a store, of an instruction or of an AMO
 
-  module _ (d : Form) (op : StoreOp) (a x : ℕ) (vx place : KnownValue) (b : Bounds) (at : Has (queue_at c) xs place a) (low : b.low ≤ a) (high : a ≤ b.high)
-      (has-x : moves_head c i b (store_width op) ≡ true → Has (queue_at c) xs vx x)
-      (may : may_store (queue_at c) (length c.queues) (own_of c) (length c.harts) h k d vx place b (store_width op)
-      (index-at b (store_width op)) i ≡ true) where
-    -- the word that a store to the head stores
-    moved-word : (f : Form) → Has (queue_at c) xs vx x → store_width op ≡ (queue_at c i).index_width
-        → (is_within (queue_at c) k.ranges vx (index_for i f) || is_cut (queue_at c i) vx f) ≡ true → stored op x ≡ index_word (queue_at c i) (form_value f xs)
-    moved-word f known width ok = elim (or_cases (is_within (queue_at c) k.ranges vx (index_for i f)) (is_cut (queue_at c i) vx f) ok) [
-      | inl whole ↦ (
-          let word : x ≡ index_word (queue_at c i) (form_value f xs) = within (queue_at c) k.ranges xs means.ranges vx (index_for i f) x whole known in
-          let small : x < 256 ^ (queue_at c i).index_width = subst (λ n. n < 256 ^ (queue_at c i).index_width) (sym word)
-          (word-small (queue_at c i) is (form_value f xs)) in
-          stored-whole op x (subst (λ n. x < 256 ^ n) (sym width) small) ∙ word)
-      | inr cut ↦ cut-word vx known cut
-    ]
-      where
-        cut-word : (u : KnownValue) → Has (queue_at c) xs u x → is_cut (queue_at c i) u f ≡ true
-            → stored op x ≡ index_word (queue_at c i) (form_value f xs)
-        cut-word any known ok = absurd (cc)
-        cut-word (index_for j g) known ok = absurd (cc)
-        cut-word (linear g) known ok =
-            let p2 = and_parts (((queue_at c i).scale * (queue_at c i).modulus == 256 ^ (queue_at c i).index_width)
-            && nat_lt (queue_at c i).base (queue_at c i).scale)
-            (is_same (256 ^ (queue_at c i).index_width) g (scaled (queue_at c i) (plus f (number (queue_at c i).offset)))) ok in
-            let p1 = and_parts ((queue_at c i).scale * (queue_at c i).modulus == 256 ^ (queue_at c i).index_width)
-            (nat_lt (queue_at c i).base (queue_at c i).scale) p2.0 in
-            stored-low op x (form_value g xs) known ∙ ap (λ n. form_value g xs % 256 ^ n) width
-            ∙ same-value (256 ^ (queue_at c i).index_width) g (scaled (queue_at c i) (plus f (number (queue_at c i).offset))) xs p2.1
-            ∙ sym (word-linear (256 ^ (queue_at c i).index_width) (queue_at c i) f xs
-            (pow-le-pow_right {n = 256} (omega arith) {i = 0} {j = (queue_at c i).index_width} (omega arith))
-            (eqb-true ((queue_at c i).scale * (queue_at c i).modulus) (256 ^ (queue_at c i).index_width) p1.0)
-            (ltb-true (queue_at c i).base (queue_at c i).scale p1.1))
-
-    moves-head : moves_head c i b (store_width op) ≡ true → (a ≡ index (queue_at c i) the_sender) × (store_width op ≡ (queue_at c i).index_width)
-    moves-head moves =
-        let f = found-below (length c.queues) (is_own_index (queue_at c) (length c.queues) (own_of c) (length c.harts) h b (store_width op)) i
-        (just-is (index-at b (store_width op)) i moves) in
-        let parts = and_parts (is_one b) (is_whole (queue_at c i) (party_of (queue_at c i) h) (λ p. p) b.low (store_width op)) f.1 in
-        let w = whole-index (queue_at c i) (party_of (queue_at c i) h) (λ p. p) b.low (store_width op) parts.1 in
-        let one : b.low ≡ b.high = eqb-true b.low b.high parts.0 in
-        let place : a ≡ b.low = omega (arith, one, low, high) in (
-          place ∙ w.place ∙ ap (index (queue_at c i))
-              (same-party (queue_at c i) is h w.party the_sender (party-hart (queue_at c i) is h w.party w.is) refl),
-          w.whole,
-        )
+  module _ (d : Form) (op : StoreOp) (a x : ℕ) (vx place : KnownValue) (b : Bounds) (at : Has (queue_at c) xs place a) (low : b.low ≤ a)
+      (high : a ≤ b.high) (has-x : Has (queue_at c) xs vx x)
+      (may : all_below (length c.queues)
+      (may_store (queue_at c) (length c.queues) (own_of c) (length c.harts) h k d vx place b (store_width op)
+      (index-at b (store_width op))) ≡ true)
+      (apart : all_below (length c.harts) (leaves_words (queue_at c) (length c.queues) (own_of c) (length c.harts) h b (store_width op)) ≡ true) where
+    share : HasShare (queue_at c i) the_sender (after_access (queue_at c i) (Some the_sender) (store (write a (store_width op) (stored op x))) (cs i)) xs
+        (get_or (shares_moved (queue_at c) (length c.queues) (own_of c) (length c.harts) h k.shares d (index-at b (store_width op))) i no_share)
+    share =
+        (steps.party-store M o (queue_at c) (length c.queues) (own_of c) (length c.harts) h xs k s m cs e acts size fine
+        means d op a x vx place b (index-at b (store_width op)) at low high
+        has-x refl may apart past i less the_sender refl).share
 
     stored-does : (f : Effect) (z : HartState) → effect_at c i k d place b (store_width op) ≡ Some f
         → Does (queue_at c i) (cs i) f (store (write a (store_width op) (stored op x))) z
-    stored-does f z effect = by (moves_head c i b (store_width op)) refl may effect
+    stored-does f z effect = by (moves_head c i b (store_width op)) refl
+        (at-below (length c.queues)
+        (may_store (queue_at c) (length c.queues) (own_of c) (length c.harts) h k d vx place b (store_width op)
+        (index-at b (store_width op))) may i less) effect
       where
-        bounded : (bound : Option ℕ) → most k.ranges d ≡ bound → moves_head c i b (store_width op) ≡ true
-            → may_move (queue_at c) (length c.queues) (own_of c) (length c.harts) h k d vx i (get_or k.shares i no_share) ≡ true
+        moved : is_just (index-at b (store_width op)) i ≡ true → i < length k.shares
+            → get_or (shares_moved (queue_at c) (length c.queues) (own_of c) (length c.harts) h k.shares d
+            (index-at b (store_width op))) i no_share ≡ moved_share (get_or k.shares i no_share) d
+        moved moves short = ap (λ j.
+            get_or (shares_moved (queue_at c) (length c.queues) (own_of c) (length c.harts) h k.shares d j) i no_share)
+            (just-is (index-at b (store_width op)) i moves)
+            ∙ steps.set-share M o (queue_at c) (length c.queues) (own_of c) (length c.harts) h xs k s m cs e acts size fine means k.shares d i short
+
+        bounded : (bound : Option ℕ) → most k.ranges d ≡ bound → is_just (index-at b (store_width op)) i ≡ true → i < length k.shares
             → published_by d bound ≡ Some f → Does (queue_at c i) (cs i) f (store (write a (store_width op) (stored op x))) z
-        bounded None bound moves ok effect = absurd (cc)
-        bounded (Some n) bound moves ok effect =
-            let here = moves-head moves in
-            let stands = is_within (queue_at c) k.ranges vx (index_for i (plus (get_or k.shares i no_share).own d))
-            || is_cut (queue_at c i) vx (plus (get_or k.shares i no_share).own d) in
-            let p1 = and_parts ((is_within (queue_at c) k.ranges vx (index_for i (plus (get_or k.shares i no_share).own d))
-            || is_cut (queue_at c i) vx (plus (get_or k.shares i no_share).own d))
-            && is_same 0 (plus d (minus (get_or k.shares i no_share).owned d)) (get_or k.shares i no_share).owned
-            && fits_in (most k.ranges d) (Some ((queue_at c i).modulus - 1))) (nat_lt i (length k.shares)) ok in
-            let p2 = and_parts ((is_within (queue_at c) k.ranges vx (index_for i (plus (get_or k.shares i no_share).own d))
-            || is_cut (queue_at c i) vx (plus (get_or k.shares i no_share).own d))
-            && is_same 0 (plus d (minus (get_or k.shares i no_share).owned d)) (get_or k.shares i no_share).owned)
-            (fits_in (most k.ranges d) (Some ((queue_at c i).modulus - 1))) p1.0 in
-            let p3 = and_parts (is_within (queue_at c) k.ranges vx (index_for i (plus (get_or k.shares i no_share).own d))
-            || is_cut (queue_at c i) vx (plus (get_or k.shares i no_share).own d))
-            (is_same 0 (plus d (minus (get_or k.shares i no_share).owned d)) (get_or k.shares i no_share).owned) p2.0 in
-            let near : form_value d xs ≤ (queue_at c i).modulus - 1 = fits-below (most k.ranges d) (Some ((queue_at c i).modulus - 1)) (form_value d xs) p2.1
-            (λ n is. value-below k.ranges d xs n means.ranges is) in
-            let one : 1 ≤ (queue_at c i).modulus = is.words in
+        bounded None bound moves short effect = absurd (cc)
+        bounded (Some n) bound moves short effect =
             subst (λ g. Does (queue_at c i) (cs i) g (store (write a (store_width op) (stored op x))) z)
-            (let same : (if n == d.constant then Publishes n
-            else PublishesSome n) ≡ f = cc in same)
-            (does-move (queue_at c i) is (cs i) xs (get_or k.shares i no_share) has (queue_at c) k.ranges means.ranges z d
-            (write a (store_width op) (stored op x)) here.0 here.1
-            (moved-word (plus (get_or k.shares i no_share).own d) (has-x moves) here.1 p3.0) p3.1 (omega (arith, near, one)) n bound)
+            (let same : (if n == d.constant then Publishes n else PublishesSome n) ≡ f = cc in same)
+            (does-move (queue_at c i) (fine i less).0 (cs i) xs (get_or k.shares i no_share) has (queue_at c) k.ranges means.ranges z d
+            (store (write a (store_width op) (stored op x)))
+            (share.own ∙ ap (λ t. form_value t.own xs) (moved moves short) ∙ value-plus (get_or k.shares i no_share).own d xs
+            ∙ ap (λ n. n + form_value d xs) (sym has.own)) n bound)
 
         by : (t : Bool) → moves_head c i b (store_width op) ≡ t
             → (if t then may_move (queue_at c) (length c.queues) (own_of c) (length c.harts) h k d vx i (get_or k.shares i no_share)
-            else (is_off (queue_at c i) b (store_width op)
-            || may_fill (queue_at c) (length c.queues) (own_of c) (length c.harts) h k (party_of (queue_at c i) h) place (store_width op) i)) ≡ true
+            else (is_off (queue_at c i) b (store_width op) || may_fill (queue_at c) (length c.queues) (own_of c)
+            (length c.harts) h k (party_of (queue_at c i) h) place (store_width op) i)) ≡ true
             → (if t then published_by d (most k.ranges d)
             else Some (filled_by k.ranges (queue_at c i) (get_or k.shares i no_share) place (store_width op))) ≡ Some f
             → Does (queue_at c i) (cs i) f (store (write a (store_width op) (stored op x))) z
-        by true moves ok effect = bounded (most k.ranges d) refl moves ok effect
+        by true moves ok effect = bounded (most k.ranges d) refl moves (ltb-true i (length k.shares) (right-of _ _ ok)) effect
         by false other ok effect = subst (λ g. Does (queue_at c i) (cs i) g (store (write a (store_width op) (stored op x))) z)
             (let same : filled_by k.ranges (queue_at c i) (get_or k.shares i no_share) place (store_width op) ≡ f = cc in same)
-            (does-fill (queue_at c i) is (cs i) xs (get_or k.shares i no_share) has (queue_at c) k.ranges means.ranges z
-            place a (store_width op) (stored op x) at (λ not. elim (or_cases (is_off (queue_at c i) b (store_width op))
-            (may_fill (queue_at c) (length c.queues) (own_of c) (length c.harts) h k (party_of (queue_at c i) h) place (store_width op) i) ok) [
-              | inl off ↦ keeps-off (queue_at c i) b (store_width op) a (stored op x) off low high
-              | inr fill ↦ absurd (
-                  let owned : is_owned k.ranges (queue_at c i) (get_or k.shares i no_share) place (store_width op) ≡ true =
-                  subst (λ t. may_fill (queue_at c) (length c.queues) (own_of c) (length c.harts) h k t place (store_width op) i ≡ true)
-                  (hart-party (queue_at c i) is h the_sender refl) fill in
-                  let no : true ≡ false = sym owned ∙ not in cc)
-            ]))
+            (does-fill (queue_at c i) (fine i less).0 (cs i) xs (get_or k.shares i no_share) has (queue_at c) k.ranges means.ranges z
+            place a (store_width op) (stored op x) at (share.own
+            ∙ ap (λ t. form_value t.own xs)
+            (steps.left-share M o (queue_at c) (length c.queues) (own_of c) (length c.harts) h xs k s m cs e acts
+            size fine means k.shares d (index-at b (store_width op)) i other) ∙ sym has.own))
 
   -- ---- instructions
 
@@ -270,109 +215,80 @@ module _ (M : ℕ) (o : OpeningValue) (c : QueueCertificate) (i : ℕ) (less : i
       by true needs = inside (nat_lt a (4 * s.words)) needs
       by false needs = stop-does f stop.Misaligned needs
 
-  -- what is checked of a store
-  store-may : (d : Form) (width : ℕ) (vx place : KnownValue) (b : Bounds) (ks : List KnownState)
-      → storing (queue_at c) (length c.queues) (own_of c) (length c.harts) h k d width vx place b ≡ Some ks
-      → may_store (queue_at c) (length c.queues) (own_of c) (length c.harts) h k d vx place b width
-      (index-at b width) i ≡ true
-  store-may d width vx place b ks found = at-below (length c.queues)
-      (may_store (queue_at c) (length c.queues) (own_of c) (length c.harts) h k d vx place b width
-      (index-at b width))
-      (left-of _ _ (chosen _ _ ks found)) i less
-
   store-does : (d : Form) (f : Effect) (op : StoreOp) (rs1 rs2 : Reg) (offset : ℤ) (ks : List KnownState) → IsAt s (Store op rs1 rs2 offset)
-      → follow (queue_at c) (length c.queues) (own_of c) (length c.harts) h k d (Some (Store op rs1 rs2 offset)) ≡ Some ks
-      → effect_of c i k d (Some (Store op rs1 rs2 offset)) ≡ Some f → Does (queue_at c i) (cs i) f (access_of e) (advanced s (number_read e))
+      → store_by (queue_at c) (length c.queues) (own_of c) (length c.harts) h k d (store_width op)
+      (register_at k rs2) (place-of rs1 offset) (around rs1 offset) (index-at (around rs1 offset) (store_width op))
+      ≡ Some ks
+      → effect_at c i k d (place-of rs1 offset) (around rs1 offset) (store_width op) ≡ Some f
+      → Does (queue_at c i) (cs i) f (access_of e) (advanced s (number_read e))
   store-does d f op rs1 rs2 offset ks here found effect =
       let p = steps.points M o (queue_at c) (length c.queues) (own_of c) (length c.harts) h xs k s m cs e acts size fine means rs1 offset in
       access-does f (store_width op) (address (register_value s.registers rs1) offset)
       (need.Store (address (register_value s.registers rs1) offset) (store_width op) (stored op (register_value s.registers rs2))) (need_at here) (λ needs.
       subst (λ y. Does (queue_at c i) (cs i) f y (advanced s (number_read e)))
-      (sym (ap access_of (acts.can.made ∙ ap (λ w. entry_of (hart_of e) w (number_read e)) needs)))
+      (sym (steps.access-is M o (queue_at c) (length c.queues) (own_of c) (length c.harts) h xs k s m cs e acts size fine means
+      (need.Store (address (register_value s.registers rs1) offset) (store_width op) (stored op (register_value s.registers rs2))) needs))
       (stored-does d op (address (register_value s.registers rs1) offset) (register_value s.registers rs2) (register_at k rs2)
-      (place-of rs1 offset)
-      (around rs1 offset)
+      (place-of rs1 offset) (around rs1 offset)
       (steps.address-has M o (queue_at c) (length c.queues) (own_of c) (length c.harts) h xs k s m cs e acts size
-      fine means rs1 offset) p.0 p.1 (λ moves. register-has rs2)
-      (store-may d (store_width op) (register_at k rs2) (place-of rs1 offset)
-      (around rs1 offset) ks found)
-      f (advanced s (number_read e)) effect))
+      fine means rs1 offset) p.0 p.1
+      (steps.register-has M o (queue_at c) (length c.queues) (own_of c) (length c.harts) h xs k s m cs e acts size fine means rs2)
+      (left-of _ _ (chosen _ _ ks found)) (right-of _ _ (chosen _ _ ks found)) f (advanced s (number_read e)) effect))
 
-  -- and of an AMO
-  exchange-may : (d : Form) (rd : ℕ) (vx place : KnownValue) (b : Bounds) (move : Option ℕ) (ks : List KnownState)
+  -- what is checked of an AMO
+  exchange-checks : (d : Form) (rd : ℕ) (vx place : KnownValue) (b : Bounds) (move : Option ℕ) (ks : List KnownState)
       → exchange_by (queue_at c) (length c.queues) (own_of c) (length c.harts) h k d rd vx place b move ≡ Some ks
-      → (may_store (queue_at c) (length c.queues) (own_of c) (length c.harts) h k d vx place b 4 move i ≡ true)
-      × (misses (queue_at c i) (Some the_sender) b 4 ≡ true)
-  exchange-may d rd vx place b move ks found = (
-    at-below (length c.queues) (may_store (queue_at c) (length c.queues) (own_of c) (length c.harts) h k d vx place b 4 move)
-        (left-of _ _ (left-of _ _ (chosen _ _ ks found))) i less,
-    subst (λ t. misses (queue_at c i) t b 4 ≡ true) (hart-party (queue_at c i) is h the_sender refl)
-        (at-below (length c.queues) (λ j. misses (queue_at c j) (party_of (queue_at c j) h) b 4) (right-of _ _ (chosen _ _ ks found)) i less),
+      → (all_below (length c.queues) (may_store (queue_at c) (length c.queues) (own_of c) (length c.harts) h k d vx place b 4 move) ≡ true)
+      × (all_below (length c.harts) (leaves_words (queue_at c) (length c.queues) (own_of c) (length c.harts) h b 4) ≡ true)
+      × (all_below (length c.queues) (λ j. misses (queue_at c j) (party_of (queue_at c j) h) b 4) ≡ true)
+  exchange-checks d rd vx place b move ks found = (
+    left-of _ _ (left-of _ _ (chosen _ _ ks found)),
+    right-of _ _ (left-of _ _ (chosen _ _ ks found)),
+    right-of _ _ (chosen _ _ ks found),
   )
 
   amo-does : (d : Form) (f : Effect) (op : AmoOp) (rd rs1 rs2 : Reg) (aq rl : Bool) (ks : List KnownState) → IsAt s (Amo op rd rs1 rs2 aq rl)
-      → follow (queue_at c) (length c.queues) (own_of c) (length c.harts) h k d (Some (Amo op rd rs1 rs2 aq rl)) ≡ Some ks
-      → effect_of c i k d (Some (Amo op rd rs1 rs2 aq rl)) ≡ Some f → Does (queue_at c i) (cs i) f (access_of e) (advanced s (number_read e))
-  amo-does d f op rd rs1 rs2 aq rl ks here found effect =
-      at (bounds k.ranges (held rs1)) refl found effect
+      → exchanging (queue_at c) (length c.queues) (own_of c) (length c.harts) h k d op rd.number (register_at k rs2)
+      (held rs1) (bounds k.ranges (held rs1)) ≡ Some ks
+      → effect_at c i k d (held rs1) (anywhere (bounds k.ranges (held rs1))) 4 ≡ Some f
+      → Does (queue_at c i) (cs i) f (access_of e) (advanced s (number_read e))
+  amo-does d f op rd rs1 rs2 aq rl ks here found effect = by (bounds k.ranges (held rs1)) refl found effect
     where
-      no-move : (b : Bounds) → moves_head c i b 4 ≡ true
-          → exchange_effect c i k d false (held rs1) b ≡ Some f → ⊥
-      no-move b moves effect = by (moves_head c i b 4) moves effect
-        where
-          by : (t : Bool) → t ≡ true → (if t && true then None else effect_at c i k d
-              (held rs1) b 4) ≡ Some f → ⊥
-          by true moves effect = (let no : None ≡ Some f = effect in cc)
-          by false moves effect = (let no : false ≡ true = moves in cc)
-
-      -- the word that a swap stores is its register's
-      swaps : (u : AmoOp) (b : Bounds) → moves_head c i b 4 ≡ true
-          → exchange_effect c i k d (is_swap u) (held rs1) b ≡ Some f
-          → Has (queue_at c) xs (updates u b rs2)
-          (updated u (number_read e) (register_value s.registers rs2))
-      swaps amo.Swap b moves effect = register-has rs2
-      swaps amo.Add b moves effect = absurd (no-move b moves effect)
-      swaps u b moves effect = tt
-
-      -- where it moves no index it doesn't count which AMO it is
-      effect-is : (t : Bool) (b : Bounds) → exchange_effect c i k d t (held rs1) b ≡ Some f
-          → effect_at c i k d (held rs1) b 4 ≡ Some f
-      effect-is t b effect = by (moves_head c i b 4 && not t) effect
-        where
-          by : (u : Bool) → (if u then None else effect_at c i k d (held rs1) b 4) ≡ Some f
-              → effect_at c i k d (held rs1) b 4 ≡ Some f
-          by true effect = absurd (cc)
-          by false effect = effect
-
       go : (b : Bounds) → bounds k.ranges (held rs1) ≡ Some b
-          → exchanging (queue_at c) (length c.queues) (own_of c) (length c.harts) h k d op rd.number (register_at k rs2)
-          (held rs1) (Some b) ≡ Some ks
-          → exchange_effect c i k d (is_swap op) (held rs1) b ≡ Some f
-          → Does (queue_at c i) (cs i) f (access_of e) (advanced s (number_read e))
+          → exchange_by (queue_at c) (length c.queues) (own_of c) (length c.harts) h k d rd.number (updates op b rs2) (held rs1) b (index-at b 4) ≡ Some ks
+          → effect_at c i k d (held rs1) b 4 ≡ Some f → Does (queue_at c i) (cs i) f (access_of e) (advanced s (number_read e))
       go b is-b found effect =
-          let p = has-bounds (queue_at c) k.ranges xs (held rs1)
-          (register_value s.registers rs1) b means.ranges is-b (operand-has rs1) in
-          let checks = exchange-may d rd.number (updates op b rs2)
-          (held rs1) b
-          (index-at b 4) ks found in
-          access-does f 4 (register_value s.registers rs1)
-          (need.Amo (register_value s.registers rs1) op (register_value s.registers rs2)) (need_at here) (λ needs.
-          subst (λ y. Does (queue_at c i) (cs i) f y (advanced s (number_read e)))
-          (sym (ap access_of (acts.can.made ∙ ap (λ w. entry_of (hart_of e) w (number_read e)) needs)))
+          let p = has-bounds (queue_at c) k.ranges xs (held rs1) (register_value s.registers rs1) b means.ranges is-b (operand-has rs1) in
+          let checks = exchange-checks d rd.number (updates op b rs2) (held rs1) b (index-at b 4) ks found in
+          access-does f 4 (register_value s.registers rs1) (need.Amo (register_value s.registers rs1) op (register_value s.registers rs2)) (need_at here)
+          (λ needs. (let access : access_of e ≡ exchange (register_value s.registers rs1) (number_read e)
+          (updated op (number_read e) (register_value s.registers rs2)) =
+          steps.access-is M o (queue_at c) (length c.queues) (own_of c) (length c.harts) h xs k s m cs e acts size
+          fine means (need.Amo (register_value s.registers rs1) op (register_value s.registers rs2)) needs in
+          let old : Has (queue_at c) xs (value_loaded (queue_at c) (length c.queues) (own_of c) (length c.harts) h k b 4) (number_read e) =
+          steps.value-loaded M o (queue_at c) (length c.queues) (own_of c) (length c.harts) h xs k s m cs e acts
+          size fine means b 4 (register_value s.registers rs1) (number_read e) p.0 p.1
+          (subst (ReadsFrom m) access acts.reads) in
+          subst (λ y. Does (queue_at c i) (cs i) f y (advanced s (number_read e))) (sym access)
           (does-exchange (queue_at c i) (cs i) f b (register_value s.registers rs1) (number_read e)
-          (updated op (number_read e) (register_value s.registers rs2)) (advanced s (number_read e)) checks.1 p.0 p.1
-          (stored-does d store_op.Word (register_value s.registers rs1) (updated op (number_read e) (register_value s.registers rs2))
-          (updates op b rs2)
+          (updated op (number_read e) (register_value s.registers rs2)) (advanced s (number_read e))
+          (subst (λ t. misses (queue_at c i) t b 4 ≡ true) (hart-party (queue_at c i) (fine i less).0 h the_sender refl)
+          (at-below (length c.queues) (λ j. misses (queue_at c j) (party_of (queue_at c j) h) b 4) checks.2 i less)) p.0 p.1
+          (stored-does d store_op.Word (register_value s.registers rs1) (updated op (number_read e) (register_value s.registers rs2)) (updates op b rs2)
           (held rs1) b (operand-has rs1) p.0 p.1
-          (λ moves. swaps op b moves effect) checks.0 f (advanced s (number_read e)) (effect-is (is_swap op) b effect))))
+          (steps.updated-has M o (queue_at c) (length c.queues) (own_of c) (length c.harts) h xs k s m cs e acts
+          size fine means op (value_loaded (queue_at c) (length c.queues) (own_of c) (length c.harts) h k b 4)
+          (register_at k rs2) (number_read e)
+          (register_value s.registers rs2) old
+          (steps.register-has M o (queue_at c) (length c.queues) (own_of c) (length c.harts) h xs k s m cs e acts
+          size fine means rs2))
+          checks.0 checks.1 f (advanced s (number_read e)) effect))))
 
-      at : (bs : Option Bounds) → bounds k.ranges (held rs1) ≡ bs
-          → exchanging (queue_at c) (length c.queues) (own_of c) (length c.harts) h k d op rd.number (register_at k rs2)
-          (held rs1) bs ≡ Some ks
-          → exchange_effect c i k d (is_swap op) (held rs1) (anywhere bs) ≡ Some f
-          → Does (queue_at c i) (cs i) f (access_of e) (advanced s (number_read e))
-      at None is-b found effect = absurd (cc)
-      at (Some b) is-b found effect = go b is-b found effect
+      by : (bs : Option Bounds) → bounds k.ranges (held rs1) ≡ bs
+          → exchanging (queue_at c) (length c.queues) (own_of c) (length c.harts) h k d op rd.number (register_at k rs2) (held rs1) bs ≡ Some ks
+          → effect_at c i k d (held rs1) (anywhere bs) 4 ≡ Some f → Does (queue_at c i) (cs i) f (access_of e) (advanced s (number_read e))
+      by None is-b found effect = absurd (cc)
+      by (Some b) is-b found effect = go b is-b found effect
 
   -- an instruction that is said to do nothing stores nothing
   says-nothing : (d : Form) (f : Effect) (j : Instr) → StoresNothing (need_for s j) → IsAt s j → ◌≡◌ {A = Option Effect} (Some Leaves) (Some f)

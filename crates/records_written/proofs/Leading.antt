@@ -123,7 +123,7 @@ module _ (M : ℕ) (o : OpeningValue) (c : QueueCertificate) (ok : accepts o c �
           wide (fine M o c ok) means (past M o c ok) d ks found-here in
           record {
             effect = f;
-            does = state-does M o c i less xs k s m cs e acts wide (fine M o c ok) means d f ks found-here effect-here;
+            does = state-does M o c i less xs k s m cs e acts wide (fine M o c ok) means (past M o c ok) d f ks found-here effect-here;
             whole = left-of _ _ keeps;
             next = λ runs. found-among x.code ks arrows (is_marked_after ms f) (advanced s (number_read e)) (view_then (access_of e) m)
                 (λ j. after_access (queue_at c j) (party_of (queue_at c j) h) (access_of e) (cs j)) closed (right-of _ _ keeps) (goes.next runs);

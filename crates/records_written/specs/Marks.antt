@@ -3,8 +3,6 @@
 use Rattle.std.specs.Prelude.{ℕ, ◌+◌, ◌==◌, ◌&&◌, ◌||◌, not, nat_le, nat_lt, if◌then◌else◌, Bool, true, false, Option, None, Some}
 use Rattle.std.specs.Prelude.{List, [], ◌∷◌, length, get_or}
 use Rattle.std.specs.List.{list_all, list_any}
-use Rattle.rv_decode.specs.declared.instruction.AmoOp.{AmoOp}
-use Rattle.rv_decode.specs.declared.instruction.AmoOp.TheVariants as amo
 use Rattle.rv_decode.specs.declared.instruction.Instr.{Instr}
 use Rattle.rv_decode.specs.declared.instruction.Instr.TheVariants.{Store, Amo}
 use Rattle.hart.specs.Effects.{store_width}
@@ -40,11 +38,6 @@ filled_by rs q s (index_for i f) width = Leaves
 filled_by rs q s (linear f) width = if is_owned rs q s (linear f) width
     then Fills (position_at q s.own.constant f.constant) (offset_at q f.constant) width else Leaves
 
--- of an AMO that moves the index it isn't known here what it stores, unless it swaps
-abbrev pub is_swap : AmoOp → Bool
-is_swap amo.Swap = true
-is_swap op = false
-
 -- of the sender of queue i
 module _ (c : QueueCertificate) (i : ℕ) where
   abbrev pub its_sender : ℕ
@@ -58,16 +51,13 @@ module _ (c : QueueCertificate) (i : ℕ) where
   effect_at k d place b width = if moves_head b width then published_by d (most k.ranges d)
       else Some (filled_by k.ranges (queue_at c i) (get_or k.shares i no_share) place width)
 
-  abbrev pub exchange_effect : KnownState → (d : Form) → (swaps : Bool) → (place : KnownValue) → Bounds → Option Effect
-  exchange_effect k d swaps place b = if moves_head b 4 && not swaps then None else effect_at k d place b 4
-
   abbrev pub effect_of : KnownState → (d : Form) → Option Instr → Option Effect
   effect_of k d (Some (Store op rs1 rs2 offset)) =
       effect_at k d (address_value (queue_at c) (length c.queues) (own_of c) (length c.harts) its_sender k rs1 offset)
       (addresses (queue_at c) (length c.queues) (own_of c) (length c.harts) its_sender k rs1 offset) (store_width op)
   effect_of k d (Some (Amo op rd rs1 rs2 aq rl)) =
-      exchange_effect k d (is_swap op) (operand (queue_at c) (length c.queues) (own_of c) (length c.harts) its_sender k rs1)
-      (anywhere (bounds k.ranges (operand (queue_at c) (length c.queues) (own_of c) (length c.harts) its_sender k rs1)))
+      effect_at k d (operand (queue_at c) (length c.queues) (own_of c) (length c.harts) its_sender k rs1)
+      (anywhere (bounds k.ranges (operand (queue_at c) (length c.queues) (own_of c) (length c.harts) its_sender k rs1))) 4
   effect_of k d other = Some Leaves
 
 -- ---- marks
