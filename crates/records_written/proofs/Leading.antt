@@ -26,7 +26,7 @@ use Rattle.queue_certificates.proofs.States.{at-below, means-low, means-high, me
 use Rattle.queue_certificates.proofs.Steps.{IsAmong, state-goes, nobody_told, nothing_sent}
 use Rattle.queue_certificates.proofs.Certified.{otherwise, fine, past}
 use Rattle.records_written.specs.declared.effect.Effect.{Effect}
-use Rattle.records_written.specs.Marks.{Marks, effect_of, is_whole, is_marked_after, are_so, arrows_keep, effect_keeps}
+use Rattle.records_written.specs.Marks.{Marks, effect_of, may_publish, has_mark_after, are_so, arrows_keep, effect_keeps}
 use Rattle.records_written.specs.Marks.{keeps_marks, shows_written}
 use Rattle.records_written.proofs.Marked.{left-of, right-of}
 use Rattle.records_written.proofs.Effects.{Does}
@@ -92,9 +92,9 @@ module _ (M : ℕ) (o : OpeningValue) (c : QueueCertificate) (ok : accepts o c �
   pub record Leads (ms : Marks) (m : View) (cs : AllCounts) (y : Access) (z : HartState) : Type 0 where
     pub effect : Effect
     pub does : Does (queue_at c i) (cs i) effect y z
-    pub whole : is_whole mask ms effect ≡ true
+    pub whole : may_publish mask ms effect ≡ true
     pub next : z.status ≡ status.Running
-        → Found (is_marked_after ms effect) z (view_then y m) (λ j. after_access (queue_at c j) (party_of (queue_at c j) h) y (cs j))
+        → Found (has_mark_after ms effect) z (view_then y m) (λ j. after_access (queue_at c j) (party_of (queue_at c j) h) y (cs j))
 
   pub leads : (x : HartOpeningValue) → OfSender x → (s : HartState) (m : View) (cs : AllCounts) (e : Entry)
       → Acts M o (length c.queues) (queue_at c) nobody_told nothing_sent (queue_at c i).sender s m cs e → s.code ≡ x.code
@@ -125,7 +125,7 @@ module _ (M : ℕ) (o : OpeningValue) (c : QueueCertificate) (ok : accepts o c �
             effect = f;
             does = state-does M o c i less xs k s m cs e acts wide (fine M o c ok) means (past M o c ok) d f ks found-here effect-here;
             whole = left-of _ _ keeps;
-            next = λ runs. found-among x.code ks arrows (is_marked_after ms f) (advanced s (number_read e)) (view_then (access_of e) m)
+            next = λ runs. found-among x.code ks arrows (has_mark_after ms f) (advanced s (number_read e)) (view_then (access_of e) m)
                 (λ j. after_access (queue_at c j) (party_of (queue_at c j) h) (access_of e) (cs j)) closed (right-of _ _ keeps) (goes.next runs);
           }
   leads x of s m cs e acts code size ms k (split j v low high) xs closed keeps means =

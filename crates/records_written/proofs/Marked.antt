@@ -7,7 +7,7 @@ use Rattle.std.proofs.lemmas.List.Elements.{All-contains}
 use Rattle.std.proofs.lemmas.List.Sums.{AllPass-from_list_all}
 use Rattle.queue_certificates.proofs.States.{at-below}
 use Rattle.records_written.specs.declared.effect.Effect.{Effect}
-use Rattle.records_written.specs.Marks.{Marks, is_marked, most_published, is_whole, are_so}
+use Rattle.records_written.specs.Marks.{Marks, has_mark, most_published, may_publish, are_so}
 
 pub left-of : (a b : Bool) → (a && b) ≡ true → a ≡ true
 left-of a b both = (and_parts a b both).0
@@ -28,7 +28,7 @@ passes-found f (a ∷ bs) b all found =
     ]
 
 -- what marks say is so, where all that they say is
-pub so-at : (ms : Marks) (f : ℕ → ℕ → Bool) → are_so ms f ≡ true → (d b : ℕ) → is_marked ms d b ≡ true → f d b ≡ true
+pub so-at : (ms : Marks) (f : ℕ → ℕ → Bool) → are_so ms f ≡ true → (d b : ℕ) → has_mark ms d b ≡ true → f d b ≡ true
 so-at ms f ok d b marked = by (cases_lt d (length ms))
   where
     by : (d < length ms) ⊎ (length ms ≤ d) → f d b ≡ true
@@ -37,7 +37,7 @@ so-at ms f ok d b marked = by (cases_lt d (length ms))
         let none : list_any (λ a. a == b) [] ≡ true = subst (λ bs. list_any (λ a. a == b) bs ≡ true) (get_or_past ms d [] past) marked in cc)
 
 -- each byte of the mask is marked of a position that may be published
-pub whole-at : (mask : List ℕ) (ms : Marks) (e : Effect) → is_whole mask ms e ≡ true → (d : ℕ) → d < most_published e
-    → (b : ℕ) → Contains mask b → is_marked ms d b ≡ true
+pub whole-at : (mask : List ℕ) (ms : Marks) (e : Effect) → may_publish mask ms e ≡ true → (d : ℕ) → d < most_published e
+    → (b : ℕ) → Contains mask b → has_mark ms d b ≡ true
 whole-at mask ms e ok d less b among =
-    passes (is_marked ms d) mask b (at-below (most_published e) (λ d. list_all (is_marked ms d) mask) ok d less) among
+    passes (has_mark ms d) mask b (at-below (most_published e) (λ d. list_all (has_mark ms d) mask) ok d less) among

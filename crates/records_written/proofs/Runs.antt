@@ -41,7 +41,7 @@ use Rattle.queue_certificates.proofs.Certified.{accepted-opens, accepted-certifi
 use Rattle.records_written.specs.Written.{IsWritten}
 use Rattle.records_written.specs.declared.effect.Effect.{Effect}
 use Rattle.records_written.specs.declared.effect.Effect.TheVariants.{Leaves, Fills, Publishes, PublishesSome}
-use Rattle.records_written.specs.Marks.{Marks, most_published, is_marked, is_marked_after}
+use Rattle.records_written.specs.Marks.{Marks, most_published, has_mark, has_mark_after}
 use Rattle.records_written.specs.Marks.{shows_written}
 use Rattle.records_written.proofs.Marked.{so-at, whole-at, left-of, right-of}
 use Rattle.records_written.proofs.Effects.{published_then, IsDone}
@@ -62,7 +62,7 @@ later q n es e k x w = record {
 
 -- these marks are so after these entries
 abbrev AreWritten : Queue → (n : ℕ) → Marks → List Entry → Type 0
-AreWritten q n ms es = (d b : ℕ) → is_marked ms d b ≡ true
+AreWritten q n ms es = (d b : ℕ) → has_mark ms d b ≡ true
     → IsWritten q n es ((counts_after q (all_at n) es).published + d) (slot_of q ((counts_after q (all_at n) es).published + d) + b)
 
 -- the position further by an entry that publishes so many
@@ -74,7 +74,7 @@ written-on q n es e p d b same w = subst (λ k. IsWritten q n (es ++ e ∷ []) k
 -- after an entry of the sender's whose effect is done, its marks are so
 marks-after : (q : Queue) (n : ℕ) (es : List Entry) (e : Entry) (ms : Marks) (f : Effect) → hart_of e ≡ q.sender
     → published_then q (counts_after q (all_at n) es) (access_of e) ≡ (counts_after q (all_at n) (es ++ e ∷ [])).published
-    → AreWritten q n ms es → IsDone q (counts_after q (all_at n) es) f (access_of e) → (d b : ℕ) → is_marked_after ms f d b ≡ true
+    → AreWritten q n ms es → IsDone q (counts_after q (all_at n) es) f (access_of e) → (d b : ℕ) → has_mark_after ms f d b ≡ true
     → IsWritten q n (es ++ e ∷ []) ((counts_after q (all_at n) (es ++ e ∷ [])).published + d)
     (slot_of q ((counts_after q (all_at n) (es ++ e ∷ [])).published + d) + b)
 marks-after q n es e ms Leaves mine to so done d b marked =
@@ -83,7 +83,7 @@ marks-after q n es e ms (Publishes m) mine to so done d b marked =
     written-on q n es e ((counts_after q (all_at n) es).published + (d + m)) d b (omega (arith, to, done)) (so (d + m) b marked)
 marks-after q n es e ms (PublishesSome m) mine to so done d b marked = absurd (cc)
 marks-after q n es e ms (Fills j offset width) mine to so done d b marked =
-    elim (or_cases ((j == d) && nat_le offset b && nat_lt b (offset + width)) (is_marked ms d b) marked) [
+    elim (or_cases ((j == d) && nat_le offset b && nat_lt b (offset + width)) (has_mark ms d b) marked) [
       | inr old ↦ written-on q n es e ((counts_after q (all_at n) es).published + d) d b (omega (arith, to, done.0)) (so d b old)
       | inl new ↦ (
           let to-same : (counts_after q (all_at n) (es ++ e ∷ [])).published ≡ (counts_after q (all_at n) es).published = sym to ∙ done.0 in
@@ -302,7 +302,7 @@ module _ (B M : ℕ) (o : OpeningValue) (c : QueueCertificate) (ok : accepts o c
                           (counts_acted done e run h parts.0 j)),
                     );
                 written = λ d b marked. marks-after (queue_at c i) (start_at c i) done e st.ms st.leading.effect parts.0 (published-is parts.0) st.written
-                    (st.leading.does.done running) d b (so-at (get_or marks found.state []) (is_marked_after st.ms st.leading.effect) found.so d b marked);
+                    (st.leading.does.done running) d b (so-at (get_or marks found.state []) (has_mark_after st.ms st.leading.effect) found.so d b marked);
               }
 
       holds-next : Holds (done ++ e ∷ [])

@@ -22,8 +22,8 @@ use Rattle.records_written.specs.declared.effect.Effect.TheVariants.{Leaves, Fil
 abbrev pub Marks : Type 0
 Marks = List (List ℕ)
 
-abbrev pub is_marked : Marks → (d b : ℕ) → Bool
-is_marked ms d b = list_any (λ a. a == b) (get_or ms d [])
+abbrev pub has_mark : Marks → (d b : ℕ) → Bool
+has_mark ms d b = list_any (λ a. a == b) (get_or ms d [])
 
 -- ---- the effect of an instruction, or nothing where no bound is known of the number of positions that it publishes
 
@@ -69,15 +69,15 @@ most_published (Publishes n) = n
 most_published (PublishesSome n) = n
 
 -- what may be published has all bytes of the mask
-abbrev pub is_whole : (mask : List ℕ) → Marks → Effect → Bool
-is_whole mask ms e = all_below (most_published e) (λ d. list_all (is_marked ms d) mask)
+abbrev pub may_publish : (mask : List ℕ) → Marks → Effect → Bool
+may_publish mask ms e = all_below (most_published e) (λ d. list_all (has_mark ms d) mask)
 
 -- byte b of the position d further than the count is written after it
-abbrev pub is_marked_after : Marks → Effect → (d b : ℕ) → Bool
-is_marked_after ms Leaves d b = is_marked ms d b
-is_marked_after ms (Fills j offset width) d b = ((j == d) && nat_le offset b && nat_lt b (offset + width)) || is_marked ms d b
-is_marked_after ms (Publishes n) d b = is_marked ms (d + n) b
-is_marked_after ms (PublishesSome n) d b = false
+abbrev pub has_mark_after : Marks → Effect → (d b : ℕ) → Bool
+has_mark_after ms Leaves d b = has_mark ms d b
+has_mark_after ms (Fills j offset width) d b = ((j == d) && nat_le offset b && nat_lt b (offset + width)) || has_mark ms d b
+has_mark_after ms (Publishes n) d b = has_mark ms (d + n) b
+has_mark_after ms (PublishesSome n) d b = false
 
 -- all that these marks say is so
 abbrev pub are_so : Marks → (ℕ → ℕ → Bool) → Bool
@@ -92,7 +92,7 @@ module _ (c : QueueCertificate) (i : ℕ) (code : List ℕ) (mask : List ℕ) (m
 
   abbrev pub effect_keeps : Marks → List Arrow → Option Effect → Bool
   effect_keeps ms arrows None = false
-  effect_keeps ms arrows (Some e) = is_whole mask ms e && arrows_keep arrows (is_marked_after ms e)
+  effect_keeps ms arrows (Some e) = may_publish mask ms e && arrows_keep arrows (has_mark_after ms e)
 
   abbrev pub keeps_marks : Marks → KnownState → Cases → Bool
   keeps_marks ms k (leaf d arrows) = effect_keeps ms arrows (effect_of c i k d (instruction_at code k.pc))

@@ -4,7 +4,7 @@
 //! them keeps it. Here a certificate of `queue_certificates` has in addition, for each state of the sender, which bytes of the slots
 //! ahead of its count it has surely written since these slots were last published. This crate runs nothing.
 //!
-//! Called by none.
+//! Called by `records_checker`.
 
 #![tactic(auto)]
 
