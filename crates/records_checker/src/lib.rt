@@ -3,7 +3,7 @@
 //! The contract: [`shows_written`] computes the definition of its name, or returns the [`Lack`](known_values::Lack) of memory or of
 //! 64 bits. This crate finds no marks, reads no text and runs no machine.
 //!
-//! Called by none.
+//! Called by none: its laws are what it is for.
 
 #![tactic(auto)]
 
