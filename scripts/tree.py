@@ -32,8 +32,13 @@ TEXTS = {
     "share/bash-completion/completions/ztso": "scripts/completion.bash",
     ZSH: "scripts/completion.zsh",
     "share/fish/vendor_completions.d/ztso.fish": "scripts/completion.fish",
-    **{f"{SHARE}/{name}": name for name in ("VERSION", "README.md", "CHANGELOG.md", "tools/README.md", "docs/commands.tsv", "docs/rings.tsv",
-                                        "examples/firmware-queue/Makefile", "cases/kit/__init__.py", "cases/kit/parts.py")},
+    **{f"{SHARE}/{name}": name for name in ("VERSION", "docs/commands.tsv", "docs/rings.tsv", "examples/firmware-queue/Makefile",
+                                        "cases/kit/__init__.py", "cases/kit/parts.py")},
+    # README.md, and each page outside of the folders below that it links
+    **{f"{SHARE}/{name}": name for name in (
+        "README.md", "CHANGELOG.md", "CONTRIBUTING.md", "tools/README.md", "tools/reference/README.md", "crates/README.md",
+        "crates/mutants.md", "bench/README.md", "bench/tried.md", "stock/README.md", "tests/README.md", "tests/outside/README.md",
+        "scripts/README.md", "cases/README.md")},
 }
 # the folders of the pages, the shelf, the examples and what the tools are made of, with what their files are
 FOLDERS = {

@@ -16,9 +16,11 @@ MAINTAINER = "Halvizga maintainers <maintainers@users.noreply.halvizga.example>"
 SUMMARY = "run small RISC-V programs under the memory model Ztso"
 DESCRIPTION = """\
 Several RISC-V harts (RV32I and the word AMOs) with FIFO store buffers over
-one memory, one event at a time: litmus tests are run, drawn, drawn as
-pictures, shortened and debugged. Every run can be replayed. The program is
-proved to follow the model, each function against its contract.
+one memory, one event at a time: litmus tests are run, tried by drawn
+schedules, searched, drawn as pictures, shortened and debugged, and every run
+can be replayed. Of a queue between two harts it can show that every run keeps
+its protocol. The program is proved to follow the model, each function against
+its contract.
 """
 COPYRIGHT = """\
 ztso

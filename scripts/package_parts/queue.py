@@ -1,14 +1,18 @@
-"""The queue's functions for C, as an archive: their header, their words and how to compile them."""
+"""The queue's functions for C and Rust, as an archive: their declarations, their words and how to compile them."""
 
 import tree
 from package_parts import archive
 
-FILES = ("queue.h", "functions.S")
+# each file's place in the archive, and in the repository: `queue.h` names docs/functions.md
+FILES = {"queue.h": "examples/bare-metal/queue.h", "queue.rs": "examples/bare-metal/queue.rs",
+         "functions.S": "examples/bare-metal/functions.S", "docs/functions.md": "docs/functions.md"}
 README = """\
-A queue of words from one hart to another, for C11 and C++: ztso {version}
+A queue of words from one hart to another, for C11, C++ and Rust: ztso {version}
 
-queue.h      its block, and its functions' declarations (RV32, ilp32)
-functions.S  the functions: of Lamport's queue, with a cached tail too, and of FastForward's
+queue.h            its block, and its functions' declarations (RV32, ilp32)
+queue.rs           the same for Rust
+functions.S        the functions: of Lamport's queue, with a cached tail too, and of FastForward's
+docs/functions.md  what your code owes and what it gets; its links lead to pages of ztso's repository
 
     #include "queue.h"
 
@@ -23,13 +27,12 @@ functions.S  the functions: of Lamport's queue, with a cached tail too, and of F
 
 No call has a loop, takes a lock, or executes a fence or an atomic instruction. What each call does, and what your code
 gets if it keeps eight rules, is proved of these words on harts with Ztso, as ztso's model defines them. Nothing is
-claimed of hardware, of harts without Ztso, or of your compiler. The rules and the promises are in docs/functions.md of
-ztso, which the package ztso has as share/ztso/docs/functions.md; its command `ztso callers` tries whether your code
-keeps the rules.
+claimed of hardware, of harts without Ztso, or of your compiler. The command `ztso callers` of the package ztso tries
+whether your code keeps the rules.
 """
 
 
 def write(to, epoch):
     files = [tree.File("README", README.format(version=tree.version()).encode(), False)]
-    files += [tree.File(file, (tree.TOP / "examples/bare-metal" / file).read_bytes(), False) for file in FILES]
+    files += [tree.File(place, (tree.TOP / name).read_bytes(), False) for place, name in FILES.items()]
     return archive.write(to, "queue", files, epoch)

@@ -17,7 +17,10 @@ UNCALLED = ("socket connect bind accept listen sendto recvfrom fork vfork clone 
 
 
 def part(count, program):
-    if not count.there("dpkg-deb", "the packages"):
+    if not (tree.TOP / ".git").exists():
+        print("  not tried: the packages, since this is no clone of the repository", flush=True)
+        return
+    if not (count.there("dpkg-deb", "the packages") and count.there("git", "the packages")):
         return
     with workplace(program) as (folder, alone):
         packed = alone if is_binary(program) else STAND_IN.resolve()
@@ -30,7 +33,7 @@ def part(count, program):
         made = below(folder / "first")
         version = tree.version()
         count.same("what is made", [name.replace("aarch64", "x86_64").replace("arm64", "amd64") for name in made],
-                   ["SHA256SUMS", *(f"ztso-{version}-{what}.tar.xz" for what in ("page", "queue", "x86_64-linux")), f"ztso_{version}_amd64.deb"])
+                   ["SHA256SUMS", *(f"ztso-{version}-{what}.tar.xz" for what in ("page", "queue", "source", "x86_64-linux")), f"ztso_{version}_amd64.deb"])
         for name in made:
             one, other = (folder / "first" / name).read_bytes(), (folder / "second/deep" / name).read_bytes()
             count.told(f"{name} is the same twice", one == other)
@@ -41,13 +44,15 @@ def part(count, program):
         else:
             there = [name for name in UNCALLED if b"\0%s\0" % name.encode() in alone.read_bytes()]
             count.same("functions that the program calls", there, [])
-        _, of_page, of_queue, of_program, of_debian = (folder / "first" / name for name in made)
+        _, of_page, of_queue, of_source, of_program, of_debian = (folder / "first" / name for name in made)
         archive(count, folder, of_program, packed, page)
         debian(count, folder, of_debian, packed)
         page_archive(count, folder, of_page, page)
         queue_archive(count, folder, of_queue)
-        status, said, faults = package(folder / "without", packed, "--without-page")
-        count.same("without a page", (status, faults, [name for name in below(folder / "without") if "page" in name]), (0, "", []))
+        source_archive(count, folder, of_source)
+        status, said, faults = package(folder / "without", packed, "--without-page", "--without-source")
+        left = [name for name in below(folder / "without") if "page" in name or "source" in name]
+        count.same("without a page and the sources", (status, faults, left), (0, "", []))
 
 
 def package(to, program, *words, **options):
@@ -71,10 +76,14 @@ def refusals(count, folder, packed):
     status, said, faults = call(clone / "scripts/make-package", "--to", folder / "none", "--program", packed)
     count.told("a change", (status, said, faults.count("\n")) == (1, "", 1) and "VERSION" in faults, said + faults)
     status, said, faults = package(folder / "none", tree.TOP / "ztso")
-    count.told("no program", (status, said, faults.count("\n")) == (1, "", 1), said + faults)
+    count.told("no program", (status, said, faults.count("\n")) == (1, "", 1) and "is no program" in faults, said + faults)
     status, said, faults = package(folder / "none", packed, "--page", folder)
     count.told("no page", (status, said, faults.count("\n")) == (1, "", 1) and "is no page" in faults, said + faults)
     count.same("nothing is made", (folder / "none").exists(), False)
+
+
+def files(top):
+    return [name for name in below(top) if (top / name).is_file()]
 
 
 def unpacked(count, folder, path):
@@ -106,12 +115,14 @@ def page_archive(count, folder, path, page):
 
 
 def queue_archive(count, folder, path):
-    """The header and the functions are those of the repository, and its README's lines compile beside them."""
+    """It has the files that its README names, as the repository has them, and the README's lines compile beside them."""
     top = unpacked(count, folder, path)
-    for name in ("queue.h", "functions.S"):
-        count.told(f"the archive's {name}", (top / name).read_bytes() == (tree.TOP / "examples/bare-metal" / name).read_bytes(), "other bytes")
-    count.same("the archive's files", below(top), ["README", "functions.S", "queue.h"])
     lines = (top / "README").read_text().split("\n")
+    named = [line.split()[0] for line in lines if re.match(r"\S+  +\S", line)]
+    count.same("the archive's files", files(top), sorted(["README", *named]))
+    for name in named:
+        here = tree.TOP / (name if "/" in name else f"examples/bare-metal/{name}")
+        count.told(f"the archive's {name}", (top / name).read_bytes() == here.read_bytes(), "other bytes")
     uses = [re.sub(r"^hart \d:", "", line.strip()) for line in lines if line.startswith("    ") and "gcc" not in line]
     code = [line for line in uses if not line.lstrip().startswith(("while", "struct received", "if"))]
     body = [line for line in uses if line not in code]
@@ -120,6 +131,15 @@ def queue_archive(count, folder, path):
     for compiler in (["riscv64-unknown-elf-gcc"], ["clang", "--target=riscv32-unknown-elf"]):
         if count.there(compiler[0], "the queue's functions compiled"):
             count.same(f"{compiler[0]} takes the archive's README", call(*compiler, *flags, folder=top), (0, "", ""))
+
+
+def source_archive(count, folder, path):
+    """The files that git tracks, and no other."""
+    top = unpacked(count, folder, path)
+    names = call("git", "-C", tree.TOP, "ls-files", "-z")[1].split("\0")[:-1]
+    wanted = {name: ((tree.TOP / name).read_bytes(), os.access(tree.TOP / name, os.X_OK)) for name in names}
+    came = {name: ((top / name).read_bytes(), os.access(top / name, os.X_OK)) for name in files(top)}
+    count.told("the sources", came == wanted, "other files, contents or rights")
 
 
 def debian(count, folder, path, packed):

@@ -60,7 +60,9 @@ def written(count, top):
         good = '<p id="unproved">Runs in your browser. The proofs are of the sources: <a href="guide.html#' in page
         good = good and "default-src 'none'" in page
         files = (out / "ztso.wasm").read_bytes() == b"\0asm" and not (out / "page.html").exists()
-        files = files and 'id="the-page-by-a-link">' in (out / "guide.html").read_text()
+        guide = (out / "guide.html").read_text()
+        files = files and 'id="the-page-by-a-link">' in guide and '<a href="./#run=' in guide
+        files = files and "![" not in (out / "project.html").read_text()
         count.told(name, done.returncode == 0 and good and files, done)
     left = sorted(path.name for path in top.iterdir())
     count.told("nothing is left beside it, and nothing lost", left == ["other", "out", "some.wasm"] and (other / "mine").exists(), left)

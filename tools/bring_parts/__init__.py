@@ -97,7 +97,10 @@ def put(path, text):
 
 def program_of(named=None):
     """The program that is named, or the one that ./ztso runs, or the reference where there is none."""
-    program = Path(named) if named else chosen() or REFERENCE
+    program = Path(named) if named else chosen()
+    if not program:
+        print("the second implementation answers, tools/reference/ztso, of which nothing is proved", file=sys.stderr)
+        program = REFERENCE
     if program.is_dir() or not os.access(program, os.X_OK):
         raise Refused(f"{program}: no such program; ./ztso --which makes and names one")
     return program.resolve()

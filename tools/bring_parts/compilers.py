@@ -65,7 +65,9 @@ class Compiler:
         command = [*self.words]
         if language == CXX:
             command[0] = re.sub(r"gcc(?=[-0-9.]*$)", "g++", re.sub(r"clang(?=[-0-9.]*$)", "clang++", command[0]))
-        own = [word for folder in (cxx_headers() if language == CXX else ()) for word in ("-isystem", folder)]
+        # a compiler that isn't there is named before headers that aren't
+        headers = cxx_headers() if language == CXX and shutil.which(command[0]) else ()
+        own = [word for folder in headers for word in ("-isystem", folder)]
         include = [word for folder in (HERE / "c", *folders) for word in ("-I", folder)]
         flags, rest = [*self.flags(language), *flags], ["-c", "-o", module, "-x", KINDS[language], source]
         variables = {"TMPDIR": str(Path(module).parent)}

@@ -23,6 +23,8 @@ class Layout:
                 self.add(("n", which), 0, None)
             if share and share.first < share.last:
                 self.add(("p", which), share.first, share.last)
+            if share and share.begin < share.end:
+                self.add(("t", which), share.begin, share.end)
             if share and share.low < share.high:
                 self.add(("A", which), share.low, share.high)
         for which, (low, high) in enumerate(state.others):
@@ -51,10 +53,12 @@ class Layout:
         if kind == "n":
             if at is None:
                 return share.count, {}
-            begin, terms = self.named(("p", which), lift)
-            return begin, {**terms, at: self.program.queues[which].period()}
+            queue = self.program.queues[which]
+            (begin, terms), (turn, turns) = self.named(("p", which), lift), self.named(("t", which), lift)
+            terms = {**terms, **{place: m * queue.period() for place, m in turns.items()}, at: queue.period() * queue.turns()}
+            return begin + turn * queue.period(), terms
         if at is None:
-            return (share.first if kind == "p" else share.low), {}
+            return {"p": share.first, "t": share.begin, "A": share.low}[kind], {}
         return self.begins[variable], {at: 1}
 
     def form(self, value, modulus):
@@ -71,7 +75,7 @@ class Layout:
         if isinstance(value, Word):
             # up to the modulus; where that divides 2^32, up to that, so that a sum is the search's
             modulus = self.program.queues[value.queue].modulus
-            return f"@{value.queue}:{self.form(value.count, modulus if SIZE % modulus else SIZE)}"
+            return f"{'@~'[value.is_signed]}{value.queue}:{self.form(value.count, modulus if SIZE % modulus else SIZE)}"
         return self.form(value, SIZE)
 
     def lines(self):
@@ -114,8 +118,8 @@ class Writer:
         kind, which = variable
         start = self.program.start.shares[which]
         if kind == "n":
-            return start.count // self.program.queues[which].period()
-        return (start.low if kind == "A" else start.first) - self.layouts[at].begins[variable]
+            return start.count // (self.program.queues[which].period() * self.program.queues[which].turns())
+        return {"p": start.first, "t": start.begin, "A": start.low}[kind] - self.layouts[at].begins[variable]
 
     def tree(self, tree, layout):
         if tree[0] == "split":
@@ -135,14 +139,16 @@ class Writer:
         """A variable of the state that is reached, by those of the leaf and the one that comes with the step."""
         kind, which = variable
         begins = self.layouts[to].begins[variable]
-        if kind in "np":
+        if kind in "npt":
             share, queue = layout.state.shares[which], self.program.queues[which]
-            turns, rest = divmod(layout.begins.get(("p", which), share.first) + following.moved[which], queue.period())
-            if kind == "p":
+            turns = (layout.begins.get(("p", which), share.first) + following.moved[which]) // queue.period()
+            again = (layout.begins.get(("t", which), share.begin) + turns) // queue.turns()
+            if kind != "n":
                 constant, terms = layout.named(variable, 1)
-                return written(constant + following.moved[which] - turns * queue.period() - begins, terms)
+                on = following.moved[which] - turns * queue.period() if kind == "p" else turns - again * queue.turns()
+                return written(constant + on - begins, terms)
             at = layout.variables.index(variable) + 1 if variable in layout.variables else None
-            return written(turns + (share.count // queue.period() if at is None else 0), {} if at is None else {at: 1})
+            return written(again + (share.count // (queue.period() * queue.turns()) if at is None else 0), {} if at is None else {at: 1})
         if kind == "A" and following.looked[which]:
             return written(layout.named(variable, 1)[0] - begins, {0: 1})
         old = following.kept[which] if kind == "z" else which

@@ -43,10 +43,11 @@ class Form(NamedTuple):
 
 
 class Word(NamedTuple):
-    """What an index of queue `queue` holds that stands for this count, an exact form."""
+    """What an index of queue `queue` holds that stands for this count, an exact form, or what a signed load leaves of it."""
 
     queue: int
     count: Form
+    is_signed: bool = False
 
 
 def form(constant, terms=None):

@@ -2,19 +2,19 @@
 
 from typing import NamedTuple
 
-from .live import flow_of, live_registers, needed_after_calls
+from .live import flow_of, needed_of
 from .search import Mode, Search
-from .steps import Program, Refused
+from .steps import Matters, Program, Refused
 
 # how a hart's states are searched, one way after the other until one succeeds: what is told apart, whether bytes and halves that are loaded
 # count as numbers of a range, by what values are spelled first, and whether sums of an index's words are taken by their remainders. What an
 # earlier search saw of copies of the other's index is taken up, so the first way is gone twice
 WAYS = ((Mode.TOGETHER, False, "npA", True), (Mode.TOGETHER, False, "npA", True), (Mode.BY_PATH, False, "npA", True),
-        (Mode.BY_PATH, False, "npA", False), (Mode.TOGETHER, False, "pnA", True), (Mode.TOGETHER, True, "npA", True),
-        (Mode.TOGETHER, False, "npA", False), (Mode.BY_POSITION, False, "npA", False), (Mode.BY_PATH, True, "npA", True),
+        (Mode.TOGETHER, False, "npA", False), (Mode.BY_POSITION, False, "npA", False), (Mode.BY_PATH, False, "npA", False),
+        (Mode.TOGETHER, False, "pnA", True), (Mode.TOGETHER, True, "npA", True), (Mode.BY_PATH, True, "npA", True),
         (Mode.BY_PATH, True, "npA", False), (Mode.BY_OWNED, False, "npA", False))
 # for how many seconds of the processor each way is gone, first and, if none succeeds, again
-SECONDS = ((2, 1, 4, 3, 0.5, 0.5, 0.5, 1, 1, 1, 1), (5, 5, 15, 15, 5, 5, 5, 10, 10, 10, 15))
+SECONDS = ((2, 1, 4, 0.5, 1, 3, 0.5, 0.5, 1, 1, 1), (5, 5, 15, 5, 10, 15, 5, 5, 10, 10, 15))
 TURNS = [(turn, at) for turn in range(len(SECONDS)) for at in range(len(WAYS))]
 MOST_ROUNDS = 60
 
@@ -35,8 +35,7 @@ class FoundHart(NamedTuple):
 class Harts:
     def __init__(self, test, queues):
         self.test, self.queues = test, queues
-        live = [live_registers(hart.code) for hart in test.harts]
-        self.live = [(each, needed_after_calls(hart.code, each)) for each, hart in zip(live, test.harts)]
+        self.needed = [needed_of(hart.code) for hart in test.harts]
         self.flows = [flow_of(hart.code) for hart in test.harts]
         self.turns, self.copies = [0] * len(test.harts), [frozenset()] * len(test.harts)
         self.shared = {place for place in test.words if any(queue.meets(place, 4) for queue in queues)}
@@ -59,27 +58,35 @@ class Harts:
         kept = sorted(set(self.test.words) - self.shared - others)
         ended, refused, reads = set(), None, None
         for turn, at in TURNS[self.turns[hart]:]:
-            mode, with_bytes, order, loosens = WAYS[at]
             asked = *WAYS[at], self.copies[hart]
             if asked in ended:
                 continue
-            queues = [queue.counting() for queue in self.queues] if loosens else self.queues
-            program = Program(self.test, queues, hart, kept, self.live[hart], with_bytes, loosens)
-            search = Search(program, mode, self.copies[hart], order, SECONDS[turn][at], self.flows[hart])
+            found = self.searched(hart, kept, WAYS[at], SECONDS[turn][at])
+            # one that names an instruction is told first
+            if found.refused and (not refused or refused.refused.pc is None):
+                refused = found
+            if not found.refused or found.refused.pc is not None:
+                ended.add(asked)
+            if not found.refused and not found.program.unowned:
+                # a further round begins here
+                self.turns[hart] = TURNS.index((turn, at))
+                return found
+            reads = reads or (None if found.refused else found)
+            self.copies[hart] |= found.search.seen
+        return reads or refused
+
+    def searched(self, hart, kept, way, seconds):
+        """What one way finds of a hart, anew as long as what it stores turns out to matter at further places."""
+        mode, with_bytes, order, loosens = way
+        queues = [queue.counting() for queue in self.queues] if loosens else self.queues
+        while True:
+            program = Program(self.test, queues, hart, kept, self.needed[hart], with_bytes, loosens)
+            search = Search(program, mode, self.copies[hart], order, seconds, self.flows[hart])
             try:
                 search.run_by_path() if mode == Mode.BY_PATH else search.run()
+            except Matters as found:
+                self.needed[hart] = needed_of(self.test.harts[hart].code, self.needed[hart].matters | found.pcs)
             except Refused as why:
-                # one that names an instruction is told first
-                if not refused or refused[2].pc is None:
-                    refused = program, search, why
-                if why.pc is not None:
-                    ended.add(asked)
+                return FoundHart(hart, program, search, why)
             else:
-                ended.add(asked)
-                if not program.unowned:
-                    # a further round begins here
-                    self.turns[hart] = TURNS.index((turn, at))
-                    return FoundHart(hart, program, search, None)
-                reads = reads or FoundHart(hart, program, search, None)
-            self.copies[hart] |= search.seen
-        return reads or FoundHart(hart, *refused)
+                return FoundHart(hart, program, search, None)

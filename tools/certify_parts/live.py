@@ -1,24 +1,22 @@
-"""Which registers an instruction may still need, by its place in the code."""
+"""Which registers an instruction may still need, by its place in the code: for an address, a branch, or a value that is stored and matters."""
 
 from typing import NamedTuple
 
 from .forms import signed
 from .steps import AMO, AUIPC, BRANCH, IMMEDIATE, JAL, JALR, LOAD, LUI, REGISTER, STORE, SYSTEM
 
-def reads_and_writes(word):
-    """The registers that an instruction reads, and the one that it writes."""
+def needed_before(word, after, matters):
+    """The registers that are needed before an instruction, by those after it and whether what it stores matters."""
     kind, to, x, y = word & 127, word >> 7 & 31, word >> 15 & 31, word >> 20 & 31
-    if kind in (LUI, AUIPC, JAL):
-        return {}, {to}
-    if kind in (IMMEDIATE, LOAD, JALR):
-        return {x}, {to}
-    if kind in (REGISTER, AMO):
-        return {x, y}, {to}
-    if kind in (STORE, BRANCH):
-        return {x, y}, set()
+    read = set()
+    if kind in (LOAD, JALR, BRANCH, STORE, AMO) or kind in (IMMEDIATE, REGISTER) and to in after:
+        read.add(x)
+    if kind == BRANCH or kind in (STORE, AMO) and matters or kind == REGISTER and to in after:
+        read.add(y)
     if kind == SYSTEM:
-        return {10, 11, 17}, set()
-    return set(), set()
+        read |= {10, 11, 17}
+    written = {to} if kind in (LUI, AUIPC, JAL, IMMEDIATE, LOAD, JALR, REGISTER, AMO) else set()
+    return after - written | read - {0}
 
 
 def followers(pc, word):
@@ -38,30 +36,34 @@ def returns_of(code):
     return [4 * at + 4 for at, word in enumerate(code) if word & 127 in (JAL, JALR) and word >> 7 & 31]
 
 
-def live_registers(code):
-    """For each place of the code the registers that are needed from there on; at its end none is. A return goes on after any call."""
-    returns = returns_of(code)
-    return lived(code, [returns if goals is None else goals for goals in (followers(4 * at, word) for at, word in enumerate(code))])
+class Needed(NamedTuple):
+    """What is needed of a code's registers: for each place those that are from there on, none at its end; by the place of each call those that
+    are just after it, by what is called and where that returns to; and at which places what is stored matters."""
+
+    registers: list
+    after_calls: dict
+    matters: frozenset
 
 
-def needed_after_calls(code, live):
-    """By the place of each call the registers that are needed just after it: by what is called, and where that returns to."""
+def needed_of(code, matters=frozenset()):
+    """What is needed of a code's registers, if what is stored matters at these places. A return goes on after any call."""
     returns = set(returns_of(code))
-    inside = lived(code, [[*(followers(4 * at, word) or ()), *([4 * at + 4] if 4 * at + 4 in returns else ())] for at, word in enumerate(code)])
-    goals = {4 * at: followers(4 * at, word) for at, word in enumerate(code) if 4 * at + 4 in returns}
-    return {pc: live[pc // 4 + 1].union(*(inside[goal // 4] for goal in goals[pc] if 0 <= goal <= 4 * len(code)), {code[pc // 4] >> 7 & 31})
-            for pc in goals if goals[pc]}
+    goals = {4 * at: followers(4 * at, word) for at, word in enumerate(code)}
+    registers = lived(code, matters, [returns if each is None else each for each in goals.values()])
+    inside = lived(code, matters, [[*(each or ()), *([pc + 4] if pc + 4 in returns else ())] for pc, each in goals.items()])
+    after = {pc: registers[pc // 4 + 1].union(*(inside[goal // 4] for goal in goals[pc] if 0 <= goal <= 4 * len(code)), {code[pc // 4] >> 7 & 31})
+             for pc in goals if pc + 4 in returns and goals[pc]}
+    return Needed(registers, after, matters)
 
 
-def lived(code, following):
+def lived(code, matters, following):
     """For each place of the code, and its end, the registers that are needed from there on, if control goes from each to those that follow."""
     live, changed = [frozenset()] * (len(code) + 1), True
     while changed:
         changed = False
         for at in range(len(code) - 1, -1, -1):
-            read, written = reads_and_writes(code[at])
             after = frozenset().union(*(live[goal // 4] for goal in following[at] if 0 <= goal <= 4 * len(code)))
-            now = (after - frozenset(written)) | frozenset(read) - {0}
+            now = needed_before(code[at], after, 4 * at in matters)
             if now != live[at]:
                 live[at], changed = now, True
     return live

@@ -6,6 +6,10 @@ from typing import NamedTuple
 from .forms import SIZE
 
 
+# up to so many turns of the slots are told apart as positions
+FEW = 4
+
+
 class Wrong(Exception):
     """What is wrong with the description of a queue."""
 
@@ -40,13 +44,17 @@ class Queue(NamedTuple):
         """Whether all numbers of an index's fewer than four bytes are words of it."""
         return self.index_width < 4 and self.scale * self.modulus == 256 ** self.index_width and self.base < self.scale
 
+    def turns(self):
+        """How many turns of the slots an index counts, if these are many and told apart by a number of their own; else 1."""
+        return self.modulus // self.size if not self.is_linear() and self.modulus % self.size == 0 and self.modulus > FEW * self.size else 1
+
     def period(self):
-        """The positions of a count modulo this are told apart: they say which slot it has, and which word if words aren't linear."""
-        return self.size if self.is_linear() else self.size * self.modulus // gcd(self.size, self.modulus)
+        """The positions of a count modulo this are told apart: they say which slot it has, and, with the turn, which word if words aren't linear."""
+        return self.size if self.is_linear() or self.turns() > 1 else self.size * self.modulus // gcd(self.size, self.modulus)
 
     def has_known_words(self):
-        """Whether a position, modulo the period, says which word stands for its count."""
-        return self.period() % self.modulus == 0
+        """Whether a position, with its turn, says which word stands for its count."""
+        return self.period() * self.turns() % self.modulus == 0
 
     def counting(self):
         """The queue whose positions say no more than slots, if its count is a running one of one or two bytes; else itself."""
@@ -84,17 +92,22 @@ class Queue(NamedTuple):
     def text(self):
         return " ".join(map(str, ("queue", *self)))
 
-    def check_opening(self, test):
-        """Wrong, unless both indices open as the word of the count at which the queue begins."""
-        word = self.word(self.start) % 256 ** self.index_width
-        for name, place in (("head", self.head), ("tail", self.tail)):
-            opens = test.number(place, self.index_width)
-            if opens != word:
-                raise Wrong(f"the {name} opens as {opens}, and not as {word}, which stands for {self.start} records")
+    def opened(self, test):
+        """The queue with the least count of which both indices open as the word; Wrong where there is none."""
+        head, tail = (test.number(place, self.index_width) for place in (self.head, self.tail))
+        index, rest = divmod(head - self.base, self.scale)
+        if rest or not 0 <= index < self.modulus:
+            raise Wrong(f"the head opens as {head}, and not as {self.word(0)}, which stands for 0 records")
+        if tail != head:
+            raise Wrong(f"the tail opens as {tail}, and not as {head}, as the head does: a queue opens empty")
+        return self._replace(start=(index - self.offset) % self.modulus)
 
 
 class Counting(Queue):
     """A queue of which the words aren't told apart."""
+
+    def turns(self):
+        return 1
 
     def period(self):
         return self.size

@@ -108,7 +108,7 @@ class Search:
         """Whether each state that `state` stands for is one that `old` does, of two with one key."""
         for share, other in zip(old.shares, state.shares):
             if share and not (share.low <= other.low and other.high <= share.high and share.first <= other.first and other.last <= share.last
-                              and share.count in (None, other.count)):
+                              and share.begin <= other.begin and other.end <= share.end and share.count in (None, other.count)):
                 return False
         return all(self.is_value(new, state, wanted) for new, wanted in zip(state.registers + state.words, old.registers + old.words))
 
@@ -129,14 +129,19 @@ class Search:
         (a, first_ranges), (b, second_ranges) = two
         numbers = {variable: (first_ranges[variable][0], second_ranges[variable][0]) for variable in first_ranges.keys() & second_ranges.keys()
                    if variable[0] != "z" and all(ranges[variable][0] == ranges[variable][1] for ranges in (first_ranges, second_ranges))}
+        for which in {which for kind, which in numbers if kind == "t" and self.program.queues[which].turns() > 1}:
+            position = self.program.position(which).times(self.program.queues[which].scale)
+            x, y = (value - bounds(position, ranges)[0] for value, ranges in two)
+            if (x - y) % SIZE == 0:
+                yield position.plus(number(x))
         shifts = [(None, 0)] + [(variable, sign * self.program.queues[variable[1]].scale) for variable in numbers if variable[0] == "A" for sign in (1, -1)]
         for owned, m in shifts:
             x, y = (value - m * numbers[owned][at] if owned else value for at, value in enumerate((a, b)))
             begin = variable_of(*owned, m) if owned else number(0)
             if owned and (x - y) % SIZE == 0:
                 yield begin.plus(number(x))
-            for variable, (first, second) in sorted(numbers.items(), key=lambda row: self.order.index(row[0][0])):
-                if variable != owned and first != second and signed(y - x) % (second - first) == 0:
+            for variable, (first, second) in sorted(numbers.items(), key=lambda row: self.order.find(row[0][0])):
+                if variable != owned and variable[0] != "t" and first != second and signed(y - x) % (second - first) == 0:
                     factor = signed(y - x) // (second - first)
                     if 0 < factor < MOST_FACTOR:
                         yield begin.plus(variable_of(*variable, factor, x - factor * first))
@@ -196,17 +201,23 @@ class Search:
         return None not in column and self.spelled(where, column, states) is None
 
     def joined_share(self, which, shares):
-        queue, edges = self.program.queues[which], self.program.edges.get(("p", which), ())
+        queue = self.program.queues[which]
         count = shares[0].count if all(share.count == shares[0].count for share in shares) else None
         low, high = min(share.low for share in shares), max(share.high for share in shares)
         first, last = min(share.first for share in shares), max(share.last for share in shares)
         if len({(share.low, share.high) for share in shares}) > EARLY:
             low, high = min(low, 1), queue.capacity
+        begin, end = min(share.begin for share in shares), max(share.end for share in shares)
         if self.mode in TOGETHER and len({(share.first, share.last) for share in shares}) > EARLY:
-            # up to where positions were parted
-            first = max([0, *(at + 1 for at in edges if at < first)])
-            last = min([queue.period() - 1, *(at for at in edges if at >= last)])
-        return shares[0]._replace(count=count, first=first, last=last, low=low, high=high)
+            first, last = self.widened(("p", which), first, last, queue.period())
+        if len({(share.begin, share.end) for share in shares}) > 1:
+            begin, end = self.widened(("t", which), begin, end, queue.turns())
+        return Share(count, first, last, low, high, begin, end)
+
+    def widened(self, variable, first, last, count):
+        """A range up to where its variable was parted, or of all its numbers, from 0 to less than a count."""
+        edges = self.program.edges.get(variable, ())
+        return max([0, *(at + 1 for at in edges if at < first)]), min([count - 1, *(at for at in edges if at >= last)])
 
     def as_one(self, one, other):
         """Two states as one, if only one range tells them apart and both make one range; or None."""
@@ -216,11 +227,11 @@ class Search:
         shares = one.shares
         for which in differ:
             a, b = one.shares[which], other.shares[which]
-            is_one = a.count == b.count and ((a.low, a.high) == (b.low, b.high) and max(a.first, b.first) <= min(a.last, b.last) + 1 or
-                                             (a.first, a.last) == (b.first, b.last) and max(a.low, b.low) <= min(a.high, b.high) + 1)
-            if not is_one:
+            ranges = [(x, y) for x, y in zip(zip(a[1::2], a[2::2]), zip(b[1::2], b[2::2])) if x != y]
+            if a.count != b.count or len(ranges) > 1 or ranges and max(ranges[0][0][0], ranges[0][1][0]) > min(ranges[0][0][1], ranges[0][1][1]) + 1:
                 return None
-            share = Share(a.count, min(a.first, b.first), max(a.last, b.last), min(a.low, b.low), max(a.high, b.high))
+            share = Share(a.count, min(a.first, b.first), max(a.last, b.last), min(a.low, b.low), max(a.high, b.high),
+                          min(a.begin, b.begin), max(a.end, b.end))
             shares = (*shares[:which], share, *shares[which + 1:])
         values = []
         for a, b in zip(one.registers + one.words, other.registers + other.words):

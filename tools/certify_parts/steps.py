@@ -6,12 +6,14 @@ or refuses by `Refused` what isn't shown to keep the protocol.
 
 from typing import NamedTuple
 
-from .forms import SIZE, Word, bounds, form, number, numbers_of, signed, variable_of
+from .forms import SIZE, Form, Word, bounds, form, number, numbers_of, signed, variable_of
 from .values import MOST_TRIED, ZERO, Share, Split, State, Values
 
 # the kinds of instructions, by their low seven bits
 LOAD, FENCE, IMMEDIATE, AUIPC, STORE, AMO, REGISTER, LUI, BRANCH, JALR, JAL, SYSTEM = (
     0x03, 0x0F, 0x13, 0x17, 0x23, 0x2F, 0x33, 0x37, 0x63, 0x67, 0x6F, 0x73)
+# so many splits a certificate may have of a state
+MOST_SPLITS = 1024
 NAMES = ("add", "sll", "slt", "sltu", "xor", "srl", "or", "and")
 
 
@@ -21,6 +23,14 @@ class Refused(Exception):
     def __init__(self, pc, why):
         super().__init__(pc, why)
         self.pc, self.why = pc, why
+
+
+class Matters(Exception):
+    """Of stores that were taken for such of which the value doesn't matter, the pcs where it does: it is an index, or a word that is loaded."""
+
+    def __init__(self, pcs):
+        super().__init__(pcs)
+        self.pcs = pcs
 
 
 class Next(NamedTuple):
@@ -36,7 +46,7 @@ class Next(NamedTuple):
 class Program(Values):
     """One hart's code with what holds of all its states."""
 
-    def __init__(self, test, queues, hart, kept, live, with_bytes=False, loosens=True):
+    def __init__(self, test, queues, hart, kept, needed, with_bytes=False, loosens=True):
         self.hart, self.code = hart, test.harts[hart].code
         super().__init__(queues, hart, loosens)
         self.other_indices = [self.looked(which) for which in range(len(queues))]
@@ -44,26 +54,29 @@ class Program(Values):
         self.at = {place: which for which, place in enumerate(kept)}
         self.stored = set()    # words that it may store to, apart from queues
         self.reads = set()     # which of `kept` it loads: of the others nothing need be known
-        (self.live, self.after_calls), self.edges = live, {}
+        self.needed, self.edges = needed, {}
+        self.dropped = {}      # by a word: the pcs of its stores of which the value was left out
         self.unowned = {}      # by a queue: the first pc of which a load of its slots isn't shown to be of owned ones
-        registers = tuple(number(test.harts[hart].registers.get(which, 0)) if which in self.live[0] or not which else None for which in range(32))
+        registers = tuple(number(test.harts[hart].registers.get(which, 0)) if which in needed.registers[0] or not which else None for which in range(32))
         words = tuple(number(test.words.get(place, 0)) for place in kept)
-        shares = tuple(None if party is None else Share(queue.start, *[queue.start % queue.period()] * 2, *[queue.first_owned(party)] * 2)
+        shares = tuple(None if party is None else Share(queue.start, *[queue.start % queue.period()] * 2, *[queue.first_owned(party)] * 2,
+                                                        *[queue.start // queue.period() % queue.turns()] * 2)
                        for queue, party in zip(queues, self.parties))
         self.start = State(0, registers, words, shares, ())
 
     # ---- memory
 
     def own_index(self, which, state):
-        queue, share = self.queues[which], state.shares[which]
+        queue = self.queues[which]
         if queue.is_linear():
             return variable_of("n", which, queue.scale, queue.base + queue.scale * queue.offset)
         if not queue.has_known_words():
             return Word(which, variable_of("n", which))
-        turn = (share.first + queue.offset) // queue.modulus
-        if turn != (share.last + queue.offset) // queue.modulus:
-            raise Split(("p", which), (turn + 1) * queue.modulus - queue.offset - 1)
-        return variable_of("p", which, queue.scale, queue.base + queue.scale * (queue.offset - turn * queue.modulus))
+        count = self.position(which).plus(number(queue.offset))
+        turn, last = (end // queue.modulus for end in bounds(count, self.ranges(state), True))
+        if turn != last:
+            self.split_where(lambda found: found // queue.modulus, count, state)
+        return count.minus(number(turn * queue.modulus)).times(queue.scale).plus(number(queue.base))
 
     def other_index(self, which):
         return self.other_indices[which]
@@ -144,9 +157,10 @@ class Program(Values):
                         self.refuse_looks(state, low, high, width)
                 return None, None
             if (low, high, width) == (queue.own(party), queue.own(party), queue.index_width):
-                return (None if self.is_negative(queue, width, is_signed) else self.own_index(which, state)), None
+                return (Word(which, variable_of("n", which), True) if self.is_negative(queue, width, is_signed) else self.own_index(which, state)), None
             if (low, high, width) == (queue.other(party), queue.other(party), queue.index_width):
-                return (None if self.is_negative(queue, width, is_signed) else self.other_index(which)), which
+                value = self.other_index(which)
+                return (value._replace(is_signed=True) if self.is_negative(queue, width, is_signed) else value), which
             self.refuse_looks(state, low, high, width)
             return None, None
         return (self.own_word(state, low, width) if low == high else None), None
@@ -166,6 +180,8 @@ class Program(Values):
         if width != 4 or place not in self.at:
             return None
         self.reads.add(self.at[place])
+        if self.at[place] in self.dropped:
+            raise Matters(self.dropped[self.at[place]])
         return state.words[self.at[place]]
 
     def store(self, state, value_of_place, width, value):
@@ -177,6 +193,8 @@ class Program(Values):
             if party is None:
                 raise Refused(state.pc, "a store that may be to the queue, by another hart")
             if low == high and (low, width) == (queue.own(party), queue.index_width):
+                if state.pc not in self.needed.matters:
+                    raise Matters({state.pc})
                 return state.words, (which, self.moved(which, value, state))
             if low < queue.slots or high + width > queue.slots + queue.size * queue.width:
                 where = "to an address that is not known" if low < high else "to an index that isn't the own one, whole, or across an end of the slots"
@@ -200,15 +218,24 @@ class Program(Values):
         words = list(state.words)
         for at in range(place & ~3, place + width, 4):
             if at in self.at:
-                words[self.at[at]] = value if (at, width) == (place, 4) else None
+                words[self.at[at]] = self.kept_there(state.pc, self.at[at], value) if (at, width) == (place, 4) else None
         return tuple(words)
+
+    def kept_there(self, pc, which, value):
+        """What is known of an own word after a store of the whole: nothing if the word is never loaded."""
+        if pc in self.needed.matters:
+            return value
+        if which in self.reads:
+            raise Matters({pc})
+        self.dropped.setdefault(which, set()).add(pc)
+        return None
 
     def moved(self, which, value, state):
         """By how much a store of this value to the own index moves the own count."""
         queue, share, step = self.queues[which], state.shares[which], None
-        if isinstance(value, Word):
+        if isinstance(value, Word) and not value.is_signed:
             step = self.step_of(value.count.minus(variable_of("n", which)), queue.modulus, state) if value.queue == which else None
-        elif value is not None and (queue.is_linear() or queue.is_cut() or self.is_index(value, queue, state)):
+        elif isinstance(value, Form) and (queue.is_linear() or queue.is_cut() or self.is_index(value, queue, state)):
             own = self.own_index(which, state)
             scaled = value.minus(self.rest(own)[0] if isinstance(own, Word) else own)
             if queue.is_cut():
@@ -346,17 +373,21 @@ class Program(Values):
             registers[to] = value
         if move:
             which, step = move
-            share, period = shares[which], self.queues[which].period()
-            turn = period * ((share.first + step) // period)
-            if turn != period * ((share.last + step) // period):
-                raise Split(("p", which), turn + period - step - 1)
-            registers, words = ([self.rebased(each, which, step, turn) for each in values] for values in (registers, words))
-            shares[which] = Share(None if share.count is None else share.count + step, share.first + step - turn, share.last + step - turn,
-                                  share.low - step, share.high - step)
+            share, period, all_turns = shares[which], self.queues[which].period(), self.queues[which].turns()
+            turn = (share.first + step) // period
+            if turn != (share.last + step) // period:
+                raise Split(("p", which), (turn + 1) * period - step - 1)
+            again = (share.begin + turn) // all_turns
+            if again != (share.end + turn) // all_turns:
+                raise Split(("t", which), (again + 1) * all_turns - turn - 1)
+            on, further = step - turn * period, turn - again * all_turns
+            registers, words = ([self.rebased(each, which, step, on, further) for each in values] for values in (registers, words))
+            shares[which] = Share(None if share.count is None else share.count + step, share.first + on, share.last + on,
+                                  share.low - step, share.high - step, share.begin + further, share.end + further)
         pc = (state.pc + 4 if pc is None else pc) % SIZE
-        needed = self.live[pc // 4] if pc <= 4 * len(self.code) else ()
-        if state.pc in self.after_calls:
-            needed &= self.after_calls[state.pc]
+        needed = self.needed.registers[pc // 4] if pc <= 4 * len(self.code) else ()
+        if state.pc in self.needed.after_calls:
+            needed &= self.needed.after_calls[state.pc]
         registers = (ZERO, *(value if which in needed else None for which, value in enumerate(registers) if which))
         after = State(pc, registers, tuple(words), tuple(shares), others)
         return self.tidied(after, kept, move, looked)
@@ -368,16 +399,17 @@ class Program(Values):
         if share.low < share.high:
             return None
         if isinstance(value, Word):
-            return Word(value.queue, value.count.put(variable, number(share.low)))
+            return value._replace(count=value.count.put(variable, number(share.low)))
         return value.put(variable, number(share.low))
 
-    def rebased(self, value, which, step, turn):
-        """A value by the counts after the own one moved on."""
+    def rebased(self, value, which, step, on, further):
+        """A value by the counts after the own one moved on, and with it the position and the turn."""
         if value is None:
             return None
         if isinstance(value, Word):
-            return Word(value.queue, self.rebased(value.count, which, step, turn))
-        value = value.put(("n", which), variable_of("n", which, 1, -step)).put(("p", which), variable_of("p", which, 1, turn - step))
+            return value._replace(count=self.rebased(value.count, which, step, on, further))
+        value = value.put(("n", which), variable_of("n", which, 1, -step)).put(("p", which), variable_of("p", which, 1, -on))
+        value = value.put(("t", which), variable_of("t", which, 1, -further))
         return value.put(("A", which), variable_of("A", which, 1, step))
 
     def tidied(self, state, kept, move, looked):
@@ -391,7 +423,7 @@ class Program(Values):
             if value is None:
                 return None
             if isinstance(value, Word):
-                return Word(value.queue, renamed(value.count))
+                return value._replace(count=renamed(value.count))
             found = form(value.constant)
             for variable, m in value.terms:
                 each = new.get(variable) or (number(state.others[variable[1]][0]) if variable[0] == "z" else variable_of(*variable))
@@ -413,18 +445,24 @@ class Program(Values):
                 limits = first if low is None else low, last if high is None else high
                 yield state._replace(others=state.others[:which] + (limits,) + state.others[which + 1:])
             else:
-                share, names = state.shares[which], ("first", "last") if kind == "p" else ("low", "high")
+                share, names = state.shares[which], {"p": ("first", "last"), "t": ("begin", "end"), "A": ("low", "high")}[kind]
                 share = share._replace(**{name: limit for name, limit in zip(names, (low, high)) if limit is not None})
                 yield state._replace(shares=state.shares[:which] + (share,) + state.shares[which + 1:])
 
     def tree(self, state):
         """The case tree of a state: ("leaf", the state, what follows) or ("split", variable, at, tree, tree)."""
+        return self.tree_within(state, iter(range(MOST_SPLITS)))
+
+    def tree_within(self, state, splits):
+        """`tree`, with no more splits than there are left."""
         try:
             return "leaf", state, self.execute(state)
         except Split as split:
+            if next(splits, None) is None:
+                raise Refused(state.pc, "more cases than a certificate may have") from None
             self.edges.setdefault(split.variable, set()).add(split.at)
             left, right = self.halves(state, split)
-            return "split", split.variable, split.at, self.tree(left), self.tree(right)
+            return "split", split.variable, split.at, self.tree_within(left, splits), self.tree_within(right, splits)
 
 
 def leaves(tree):

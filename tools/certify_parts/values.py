@@ -3,6 +3,7 @@
 A question that has one answer for some numbers of a variable and another for others is answered by `Split`.
 """
 
+from bisect import bisect_left
 from typing import NamedTuple
 
 from .forms import SIZE, Word, bounds, form, number, numbers_of, signed, variable_of
@@ -29,14 +30,16 @@ class Split(Exception):
 
 
 class Share(NamedTuple):
-    """What a state says of a queue of which its hart is a party: the own count if it is known, bounds of the count modulo the period, and of
-    how many positions are owned."""
+    """What a state says of a queue of which its hart is a party: the own count if it is known, bounds of the count modulo the period, of
+    how many positions are owned, and of the turn of the slots that the own position is in, of those that an index counts."""
 
     count: object
     first: int
     last: int
     low: int
     high: int
+    begin: int = 0
+    end: int = 0
 
 
 class State(NamedTuple):
@@ -68,7 +71,7 @@ class Values:
         found = {("z", which): limits for which, limits in enumerate(state.others)}
         for which, share in enumerate(state.shares):
             if share:
-                found["A", which], found["p", which] = (share.low, share.high), (share.first, share.last)
+                found["A", which], found["p", which], found["t", which] = (share.low, share.high), (share.first, share.last), (share.begin, share.end)
                 if share.count is not None:
                     found["n", which] = share.count, share.count
         return found
@@ -85,19 +88,26 @@ class Values:
         return found[0] % SIZE if found and found[0] == found[1] else None
 
     def word_known(self, word, state):
-        """A word whose count is known up to the modulus."""
+        """A word whose count is known up to the modulus; what a signed load leaves of one counts as no number."""
+        if word.is_signed:
+            return None
         found = bounds(self.by_position(word.count, word.queue), self.ranges(state), True)
         return self.queues[word.queue].word(found[0]) % SIZE if found and found[0] == found[1] else None
+
+    def position(self, which):
+        """The own position, modulo the index's modulus where turns are told apart."""
+        queue = self.queues[which]
+        return form(0, {("p", which): 1, ("t", which): queue.size if queue.turns() > 1 else 0})
 
     def by_position(self, value, which):
         """A form in which the position stands for the own count, where it is the same modulo the index's modulus."""
         if not self.queues[which].has_known_words():
             return value
-        return value.put(("n", which), variable_of("p", which)) if dict(value.terms).get(("n", which)) == 1 else value
+        return value.put(("n", which), self.position(which)) if dict(value.terms).get(("n", which)) == 1 else value
 
     def split_to_know(self, value, state, most=MOST_TRIED):
         """Asks for the split that makes a value a number, if a few numbers of its variables are all that is open."""
-        if isinstance(value, Word) and not self.queues[value.queue].has_known_words():
+        if isinstance(value, Word) and (value.is_signed or not self.queues[value.queue].has_known_words()):
             return
         terms = value.terms if value is not None and not isinstance(value, Word) else value.count.terms if value else ()
         ranges = self.ranges(state)
@@ -118,10 +128,18 @@ class Values:
             x, y = self.as_form(x, state), self.as_form(y, state)
         if isinstance(x, Word) or isinstance(y, Word):
             return self.words_compared(kind, x, y, state)
-        ranges, holds = self.ranges(state), COMPARES[kind]
         if kind < 2:
             x, y = x.minus(y), ZERO
-        found = [numbers_of(value, ranges) for value in (x, y)]
+        answer = self.answer(kind, x, y, self.ranges(state))
+        if answer is None:
+            self.split_turns(lambda ranges: self.answer(kind, x, y, ranges), x.variables() + y.variables(), state)
+            self.split_compare(kind, x, y, state)
+        return answer
+
+    @staticmethod
+    def answer(kind, x, y, ranges):
+        """Whether a compare of two forms holds for all numbers of these ranges: True, False or None; of equal ones y is 0."""
+        holds, found = COMPARES[kind], [numbers_of(value, ranges) for value in (x, y)]
         if kind < 2 and found[0] is None and (b := bounds(x, ranges)) and not any(b[0] <= m * SIZE <= b[1] for m in range(b[0] // SIZE, b[1] // SIZE + 2)):
             return kind == 1
         if None not in found:
@@ -130,8 +148,22 @@ class Values:
             is_plain = kind not in (4, 5) or all(b < SIZE // 2 for _, b in found) or all(a == b for a, b in found)
             if len(corners) == 1 and (kind > 1 or not found[0][0] <= 0 <= found[0][1] or found[0][0] == found[0][1]) and is_plain:
                 return corners.pop()
-        self.split_compare(kind, x, y, state)
         return None
+
+    def split_turns(self, answer, variables, state):
+        """Asks for the split of an open turn that leaves most of them with an answer, which may be sought for the numbers of ranges."""
+        ranges = self.ranges(state)
+        for variable in variables:
+            if variable[0] != "t" or ranges[variable][0] == ranges[variable][1] or answer(ranges) is not None:
+                continue
+            first, last = ranges[variable]
+            answered = range(first, last)
+            until = bisect_left(answered, True, key=lambda at: answer({**ranges, variable: (first, at)}) is None)
+            if until:
+                raise Split(variable, first + until - 1)
+            after = bisect_left(answered, True, key=lambda at: answer({**ranges, variable: (at + 1, last)}) is not None)
+            if after < len(answered):
+                raise Split(variable, first + after)
 
     def split_compare(self, kind, x, y, state):
         """Asks for the split of the one open variable after which the compare has one answer."""
@@ -167,6 +199,10 @@ class Values:
             return COMPARES[kind](*found)
         which = x.queue if isinstance(x, Word) else y.queue
         queue = self.queues[which]
+        if any(isinstance(value, Word) and value.is_signed for value in (x, y)):
+            # two that are left of words by signed loads are equal where the words are
+            if kind > 1 or not all(isinstance(value, Word) and value.is_signed for value in (x, y)):
+                return None
         if kind < 2:
             counts = [self.count_of(value, queue, which, state) for value in (x, y)]
             if None not in counts:
@@ -245,16 +281,19 @@ class Values:
         rest = self.shifted_back(x, b & 31, state) if name == "srl" and is_immediate else None
         if rest is not None:
             return rest, None
+        limits = numbers_of(x, self.ranges(state))
+        if name == "srl" and is_immediate and limits and limits[0] >> b == 0 < limits[1] >> b:
+            # what is small enough is 0 after it, and a number
+            self.split_where(lambda found: found % SIZE >> b == 0, x, state)
         self.split_to_know(x, state, 64)
         self.split_to_know(y, state, 64)
-        limits = numbers_of(x, self.ranges(state))
         return None, (0, limits[1] >> (b & 31)) if name == "srl" and is_immediate and limits else None
 
     def shifted_back(self, value, amount, state):
         """What is a multiple of a power of two, as after a shift to the left, shifted right: a remainder of what it is a multiple of; or None."""
-        if any(m % (1 << amount) for m in (value.constant, *(m for _, m in value.terms))):
+        value, modulus = self.part(value, 1 << amount), 1 << 32 - amount
+        if value is None:
             return None
-        value, modulus = form(value.constant >> amount, {variable: m >> amount for variable, m in value.terms}), 1 << 32 - amount
         return self.remainder(value, modulus, state) or self.counted(value, modulus, state)
 
     def counted(self, value, modulus, state):
@@ -272,7 +311,7 @@ class Values:
 
     def as_form(self, value, state):
         """A word as a form, as the check takes it where it is one; where the search says so, after splits; else what it was."""
-        if not isinstance(value, Word):
+        if not isinstance(value, Word) or value.is_signed:
             return value
         queue = self.queues[value.queue]
         count = self.by_position(value.count, value.queue).plus(number(queue.offset))
@@ -294,7 +333,7 @@ class Values:
             return value and (value, SIZE)
         queue = self.queues[value.queue]
         by = queue.scale * queue.modulus
-        return None if SIZE % by else (value.count.plus(number(queue.offset)).times(queue.scale).plus(number(queue.base)), by)
+        return None if SIZE % by or value.is_signed and 256 ** queue.index_width % by else (value.count.plus(number(queue.offset)).times(queue.scale).plus(number(queue.base)), by)
 
     def word_computed(self, name, x, y, state, given):
         """What an operation makes of words that are no forms, and the range of a new variable."""
@@ -323,8 +362,22 @@ class Values:
             low = self.remainder(rest[0], mask + 1, state) or self.counted(rest[0], mask + 1, state)
             if low is not None:
                 return low, None
+        low = mask & -mask
+        if rest is not None and (mask + low) & mask == 0 and rest[1] % (mask + low) == 0:
+            # bits in a row, not from the lowest on, of what has none below
+            part = self.part(rest[0], low)
+            found = part and self.remainder(part, (mask + low) // low, state)
+            if found is not None:
+                return found.times(low), None
         self.split_to_know(value, state, 64)
         return None, (0, mask) if mask < MOST_MASK else None
+
+    @staticmethod
+    def part(value, by):
+        """What a form is so many times of, as a sum of whole numbers; or None."""
+        if any(m % by for m in (value.constant, *(m for _, m in value.terms))):
+            return None
+        return form(value.constant // by, {variable: m // by for variable, m in value.terms})
 
     def remainder(self, value, modulus, state):
         """A form modulo a power of two as a form of variables with ranges, or None; asks for the split after which it doesn't wrap."""
@@ -332,10 +385,11 @@ class Values:
         for variable, m in value.terms:
             kind, which = variable
             if kind == "n" and state.shares[which].count is None:
-                if m * self.queues[which].period() % modulus:
+                if m * self.queues[which].period() * self.queues[which].turns() % modulus:
                     return None
-                variable = "p", which
-            rest = rest.plus(variable_of(*variable, m))
+                rest = rest.plus(self.position(which).times(m))
+            else:
+                rest = rest.plus(variable_of(*variable, m))
         # by factors from 0 on, or each by the nearer of it and what it lacks of the modulus
         for rest in (form(rest.constant, {variable: m % modulus for variable, m in rest.terms}),
                      form(rest.constant, {variable: m % modulus - modulus * (2 * (m % modulus) >= modulus) for variable, m in rest.terms})):
@@ -352,6 +406,12 @@ class Values:
         ranges = self.ranges(state)
         if not all(variable in ranges for variable in value.variables()):
             return
+
+        def answer(numbers):
+            low, high = map(part, bounds(value, numbers))
+            return low if low == high else None
+
+        self.split_turns(answer, value.variables(), state)
         open_ones = [variable for variable in value.variables() if ranges[variable][0] < ranges[variable][1]]
         if not open_ones:
             return

@@ -22,6 +22,9 @@ FRONT = """<!doctype html>
 """
 OTHER = {"guide.html": '<a href="project.html">The project</a>', "project.html": '<a href="guide.html">The page\'s help</a>'}
 LINK = re.compile(r"(!?)\[((?:[^\[\]]|\[[^\]]*\])*)\]\(([^)\s]*)\)")
+PICTURE = re.compile(r"!\[([^\]]*)\]\([^)]*\)")
+# the command that opens a run, which the site has a link for
+OPENS = re.compile(r"page --open '(#run=[\w-]+)'")
 ITEM = re.compile(r"(?:- |[0-9]+\. )")
 
 
@@ -42,8 +45,9 @@ def place_of(target):
 def linked(found):
     if found[1]:
         return ""  # a picture
-    place = place_of(html.unescape(found[3]))
-    return f'<a href="{html.escape(place)}">{found[2]}</a>' if place else found[2]
+    # the site has no pictures: one that is a link is its description
+    place, words = place_of(html.unescape(found[3])), PICTURE.sub(r"\1", found[2])
+    return f'<a href="{html.escape(place)}">{words}</a>' if place else words
 
 
 def inline(text):
@@ -95,6 +99,7 @@ def body(markdown):
     for number, part in enumerate(parts):
         if number % 2:
             made.append(f"<pre>{html.escape(part, quote=False)}</pre>")
+            made += [f'<p><a href="./{run}">Open this run here</a></p>' for run in OPENS.findall(part)]
             continue
         for line in part.split("\n"):
             if line.strip():

@@ -128,11 +128,11 @@ class Reader:
         def made(place, word):
             least, most = (1, 32) if name == "reg" else (0, len(self.own))
             need(least <= number(place) < most)
-            if not word.startswith("@"):
+            if not word.startswith(("@", "~")):
                 return number(place), form(word, len(self.most))
             queue, colon, rest = word[1:].partition(":")
             need(colon and number(queue) < len(self.queues))
-            return number(place), (number(queue), *form(rest, len(self.most)))
+            return number(place), (word[0], number(queue), *form(rest, len(self.most)))
         return made
 
     def share(self, queue, own, owned):

@@ -217,6 +217,13 @@ class IndexFor(NamedTuple):
     form: Form
 
 
+class SignedFor(NamedTuple):
+    """What a signed load leaves of the word of a queue that stands for the count that a form is."""
+
+    queue: int
+    form: Form
+
+
 ANY = None
 
 
@@ -280,9 +287,7 @@ def index(q, party):
 
 
 def value_by(t, v):
-    if v is ANY:
-        return ANY
-    return Linear(t(v.form)) if isinstance(v, Linear) else IndexFor(v.queue, t(v.form))
+    return ANY if v is ANY else v._replace(form=t(v.form))
 
 
 def share_by(t, s):
@@ -292,6 +297,12 @@ def share_by(t, s):
 def state_by(t, ranges, s):
     return KnownState(s.pc, ranges, tuple(value_by(t, v) for v in s.registers), tuple(value_by(t, v) for v in s.words),
                       tuple(share_by(t, share) for share in s.shares))
+
+
+def signed_word(width, x):
+    """The number as two's complement of so many bytes, as a word."""
+    bytes_have = 1 << 8 * width
+    return x if 2 * x < bytes_have else x + monus(M32, bytes_have)
 
 
 def scaled(q, f):
@@ -316,7 +327,7 @@ def is_within_plain(queues, v, w):
         return True
     if isinstance(v, Linear) and isinstance(w, Linear):
         return is_same(M32, v.form, w.form)
-    if isinstance(v, IndexFor) and isinstance(w, IndexFor):
+    if isinstance(v, (IndexFor, SignedFor)) and type(v) is type(w):
         return v.queue == w.queue and is_same(queue_at(queues, v.queue).modulus, v.form, w.form)
     return False
 
@@ -415,7 +426,9 @@ def rest_of(queues, v):
     if isinstance(v, Linear):
         return Rest(M32, v.form)
     q = queue_at(queues, v.queue)
-    return Rest(q.scale * q.modulus, scaled(q, plus(v.form, number(q.offset)))) if mod(M32, q.scale * q.modulus) == 0 else None
+    by = q.scale * q.modulus
+    divides = mod(M32, by) == 0 and (isinstance(v, IndexFor) or mod(256 ** q.index_width, by) == 0)
+    return Rest(by, scaled(q, plus(v.form, number(q.offset)))) if divides else None
 
 
 def negative(r):
@@ -471,10 +484,28 @@ def remaining(queues, ranges, n, f, otherwise):
     return counted(queues, n, f, counting(queues, n), otherwise) if most(ranges, f) is None else otherwise
 
 
-def masked(queues, ranges, r, mask):
-    if r is not None and mask + 1 == 1 << mask.bit_count() and mod(r.by, mask + 1) == 0:
-        return remaining(queues, ranges, mask + 1, r.form, any_up_to(mask))
+def multiple_or(n, f, otherwise):
+    return otherwise if f is None else just(Linear(times(n, f)))
+
+
+def lowest(mask):
+    """The lowest bit of a mask of 32 bits; the one past them, if it has none."""
+    return mask & -mask or M32
+
+
+def masked_row(ranges, r, mask, low):
+    count, part = 1 << mask.bit_count(), without(low, r.form)
+    if mask + low == low * count and mod(r.by, mask + low) == 0 and is_same(0, r.form, times(low, part)):
+        return multiple_or(low, remainder_word(ranges, part, count), any_up_to(mask))
     return any_up_to(mask)
+
+
+def masked(queues, ranges, r, mask):
+    if r is None:
+        return any_up_to(mask)
+    if mask + 1 == 1 << mask.bit_count() and mod(r.by, mask + 1) == 0:
+        return remaining(queues, ranges, mask + 1, r.form, any_up_to(mask))
+    return masked_row(ranges, r, mask, lowest(mask))
 
 
 def masked_by(queues, ranges, r, mask, otherwise):
@@ -570,7 +601,7 @@ def standing(queues, ranges, i, v):
     q = queue_at(queues, i)
     if isinstance(v, Linear):
         return unscaled(q, v.form) if is_scaled(ranges, q, v.form, unscaled(q, v.form)) else None
-    return plus(v.form, number(q.offset)) if v is not ANY and v.queue == i else None
+    return plus(v.form, number(q.offset)) if isinstance(v, IndexFor) and v.queue == i else None
 
 
 def both_agree(ranges, n, j, k):
@@ -585,7 +616,9 @@ def is_equal_word(queues, ranges, i, v, w):
 def is_equal(queues, ranges, v, w):
     if isinstance(v, IndexFor):
         return is_equal_word(queues, ranges, v.queue, v, w)
-    if not isinstance(v, Linear) or w is ANY:
+    if isinstance(v, SignedFor) and isinstance(w, SignedFor) and queue_at(queues, v.queue).index_width == queue_at(queues, w.queue).index_width:
+        return is_equal_word(queues, ranges, v.queue, IndexFor(*v), IndexFor(*w))
+    if not isinstance(v, Linear) or w is ANY or isinstance(w, SignedFor):
         return None
     return is_equal_word(queues, ranges, w.queue, v, w) if isinstance(w, IndexFor) else agrees(ranges, M32, v.form, w.form)
 
@@ -787,7 +820,7 @@ class Steps:
         return anywhere(bounds(k.ranges, self.address_value(k, n, offset)))
 
     def storable(self, v):
-        return ANY if isinstance(v, IndexFor) and v.queue >= len(self.queues) else v
+        return ANY if isinstance(v, (IndexFor, SignedFor)) and v.queue >= len(self.queues) else v
 
     def immediate_result(self, k, op, v, n):
         return just(self.storable(v)) if is_copy(op, n) else of_immediate(self.queues, k.ranges, op, v, n)
@@ -824,21 +857,24 @@ class Steps:
         q = queue_at(self.queues, v.queue)
         return q.modulus >= 1 and q.base + q.scale * (q.modulus - 1) < limit
 
-    def zero_extended(self, op, v):
+    def signed_value(self, width, v):
+        return SignedFor(*v) if isinstance(v, IndexFor) and queue_at(self.queues, v.queue).index_width == width else ANY
+
+    def extended_value(self, op, v):
         if op in ("lb", "lh"):
-            return v if self.is_index_below(1 << 7 if op == "lb" else 1 << 15, v) else ANY
+            return v if self.is_index_below(1 << 8 * LOADS[op] - 1, v) else self.signed_value(LOADS[op], v)
         return v
 
     def loaded(self, op, v):
         if op in ("lbu", "lhu"):
             return or_up_to(255 if op == "lbu" else 65535, v)
-        return just(self.zero_extended(op, v))
+        return just(self.extended_value(op, v))
 
     def looked_word(self, i, s):
         return IndexFor(i, plus(plus(lifted(s.own), owned_then(s)), number(back_of(self.queues[i], self.parties[i]))))
 
     def after_look(self, k, op, rd, i, s):
-        after = with_result(k, rd, next_pc(k.pc), Result(monus(self.queues[i].capacity, s.owned.constant), self.zero_extended(op, self.looked_word(i, s))))
+        after = with_result(k, rd, next_pc(k.pc), Result(monus(self.queues[i].capacity, s.owned.constant), self.extended_value(op, self.looked_word(i, s))))
         return after._replace(shares=put_at(after.shares, i, looked_share(s)))
 
     def after_load(self, k, op, rd, b, look):
@@ -1128,7 +1164,11 @@ def owns_loads(c, h, code, i, k, cases):
 def is_value(queues, numbers, v, x):
     if v is ANY:
         return True
-    return x == (form_value(v.form, numbers) % M32 if isinstance(v, Linear) else queue_at(queues, v.queue).index_word(form_value(v.form, numbers)))
+    if isinstance(v, Linear):
+        return x == form_value(v.form, numbers) % M32
+    q = queue_at(queues, v.queue)
+    word = q.index_word(form_value(v.form, numbers))
+    return x == (word if isinstance(v, IndexFor) else signed_word(q.index_width, word))
 
 
 def are_in_ranges(ranges, numbers):

@@ -36,8 +36,11 @@ def form_of(found):
 
 
 def value_of(found):
-    """A form, or the word of a queue that stands for one."""
-    return certificates.IndexFor(found[0], form_of(found[1:])) if len(found) == 3 else certificates.Linear(form_of(found))
+    """A form, or after a mark the word of a queue that stands for one, or what a signed load leaves of it."""
+    if len(found) == 2:
+        return certificates.Linear(form_of(found))
+    mark, queue, *form = found
+    return (certificates.IndexFor if mark == "@" else certificates.SignedFor)(queue, form_of(form))
 
 
 def cases_of(found):
@@ -100,7 +103,9 @@ def form_text(form):
 
 
 def value_text(value):
-    return form_text(value.form) if isinstance(value, certificates.Linear) else f"@{value.queue}:{form_text(value.form)}"
+    if isinstance(value, certificates.Linear):
+        return form_text(value.form)
+    return f"{'@' if isinstance(value, certificates.IndexFor) else '~'}{value.queue}:{form_text(value.form)}"
 
 
 def known_lines(known):

@@ -4,7 +4,6 @@ use Rattle.std.proofs.Common.{refl, sym, ap, subst, ◌∙◌, arith, add-zero}
 use Rattle.std.proofs.lemmas.Bool.{cases_order, cases_lt}
 use Rattle.std.proofs.lemmas.Bool.Decides.{nat_tests}
 use Rattle.std.proofs.Math.Nat.{add-mod_right, mod-eq_of_lt, mod-lt}
-use Rattle.rand_core.specs.Stream.{Stream}
 use Rattle.step_machine.specs.declared.events.Event.{Event}
 use Rattle.step_machine.specs.History.{OpeningValue, History, at_opening}
 use Rattle.step_machine.specs.Entries.{memory_word}
@@ -14,13 +13,13 @@ use Rattle.spsc_queue.specs.RingBuffers.{slot_address}
 use Rattle.spsc_queue.specs.Calls.{copy_in, buffer, HasFunction}
 use Rattle.callers.specs.Queues.{kind_of, caches_tail, slots_after, start_in, waiting_in, spsc_of, sends_by, receives_by, HasFirstCopy, IsLocated}
 use Rattle.callers.specs.Violations.{waits_in, IsOldTail, IsOpeningViolation, first_caller_violation}
-use Rattle.drawn_runs.specs.declared.draws.Draw.{Draw}
+use Rattle.drawn_runs.specs.Samples.{DrawnRuns}
 use Rattle.judged_runs.specs.Finding.{AreAllGood}
 use Rattle.judged_runs.specs.Histories.{MOST, summed}
 use Rattle.judged_runs.proofs.Histories.{runs_one}
 use Rattle.callers.specs.Counts.{AreCountsOf, are_none, sends as sends_in, receives as receives_in}
-use Rattle.callers.specs.Runs.{CallSource, call_source, call_schedule, KeepsObligations, HasCallerViolation}
-use Rattle.callers.specs.Answers.{IsCallersOutput, IsOutputOfRuns, kept_text}
+use Rattle.callers.specs.Runs.{KeepsObligations, HasCallerViolation}
+use Rattle.callers.specs.Answers.{IsCallersOutput, IsOutputOfRuns, call_schedule, kept_text}
 use Rattle.callers.specs.declared.counts.Counts.{Counts}
 use Rattle.callers.specs.declared.judging.Calls.{Calls}
 use Rattle.callers.specs.declared.violations.CallerViolation.{CallerViolation}
@@ -177,11 +176,11 @@ abbrev calls_of : (sent full received empty : ℕ) → Calls
 calls_of sent full received empty = record { sent = sent; full = full; received = received; empty = empty }
 
 -- the output of runs that keep all that is owed, of which some call returned or none
-pub kept_output : (s : CallSource) (runs : ℕ) (text : List ℕ) (counts : Counts)
-    → AreAllGood (KeepsObligations s.B s.M s.opening s.located) (AreCountsOf s.B s.M s.opening s.located) (call_schedule s) 0 runs counts
-    → text ≡ kept_text s.located.queue runs counts → (called : Bool) → called ≡ not (are_none counts.calls) → IsOutputOfRuns s runs (text, called)
-kept_output s runs text counts kept is true some = record { counts = counts; kept = kept; called_is = some; text_is = is }
-kept_output s runs text counts kept is false none = inl (record { counts = counts; kept = kept; called_is = none; text_is = is })
+pub kept_output : (d : DrawnRuns) (o : OpeningValue) (l : Located) (text : List ℕ) (counts : Counts)
+    → AreAllGood (KeepsObligations d.B d.M o l) (AreCountsOf d.B d.M o l) (call_schedule d o) 0 d.number counts
+    → text ≡ kept_text l.queue d.number counts → (called : Bool) → called ≡ not (are_none counts.calls) → IsOutputOfRuns d o l (text, called)
+kept_output d o l text counts kept is true some = record { counts = counts; kept = kept; called_is = some; text_is = is }
+kept_output d o l text counts kept is false none = inl (record { counts = counts; kept = kept; called_is = none; text_is = is })
 
 -- the same runs count to the same calls
 one_count : (B M : ℕ) (o : OpeningValue) (l : Located) (all : List (List Event)) (a b : Counts) → AreCountsOf B M o l all a → AreCountsOf B M o l all b
@@ -200,32 +199,30 @@ one_count B M o l all a b one other =
     ∙ ap (λ (n : ℕ). calls_of y.sent y.full y.received n)
     (one.calls.empty ∙ ap (λ hs. min (summed (λ t. receives_in M o q 0 t.entries) hs) MOST) same ∙ sym other.calls.empty)
 
-module _ (B M : ℕ) (o : OpeningValue) (q : Queue) (draw : Draw) (stream : Stream) (runs size : ℕ) (text other : List ℕ) where
-  runs_differ : (l : Located) → IsOutputOfRuns (call_source B M o l draw stream size) runs (text, true)
-      → IsOutputOfRuns (call_source B M o l draw stream size) runs (other, false) → ⊥
+module _ (d : DrawnRuns) (o : OpeningValue) (q : Queue) (text other : List ℕ) where
+  runs_differ : (l : Located) → IsOutputOfRuns d o l (text, true) → IsOutputOfRuns d o l (other, false) → ⊥
   runs_differ l kept (inl uncalled) =
-      let same = one_count B M o l _ kept.counts uncalled.counts kept.kept.counted uncalled.kept.counted in
+      let same = one_count d.B d.M o l _ kept.counts uncalled.counts kept.kept.counted uncalled.kept.counted in
       let differ : true ≡ false = kept.called_is ∙ ap (λ (c : Calls). not (are_none c)) same ∙ sym uncalled.called_is in
       absurd (cc)
   runs_differ l kept (inr shown) =
       let first = shown.is_told.is_first in
-      kept_or_owing B M o l (call_schedule (call_source B M o l draw stream size) shown.is_told.number) shown.is_told.flaw
+      kept_or_owing d.B d.M o l (call_schedule d o shown.is_told.number) shown.is_told.flaw
       (kept.kept.good shown.is_told.number (omega arith) first.within) first.has
 
-  never_both : IsCallersOutput B M o q draw stream runs size (text, true) → IsCallersOutput B M o q draw stream runs size (other, false) → ⊥
-  never_both kept (inl there) = no_opening_violation M o q kept.located there.violation kept.usable there.has_violation.0
+  never_both : IsCallersOutput d o q (text, true) → IsCallersOutput d o q (other, false) → ⊥
+  never_both kept (inl there) = no_opening_violation d.M o q kept.located there.violation kept.usable there.has_violation.0
   never_both kept (inr owing) =
       let l = kept.located in
       let m = owing.located in
-      let one = subst (λ (x : Queue). IsLocated M o x l) (sym kept.usable.queue_is) kept.usable in
-      let two = subst (λ (x : Queue). IsLocated M o x m) (sym kept.usable.queue_is) owing.usable in
-      let same : l ≡ m = one_way M o l m one two in
-      runs_differ l kept.output_of
-      (subst (λ (x : Located). IsOutputOfRuns (call_source B M o x draw stream size) runs (other, false)) (sym same) owing.output_of)
+      let one = subst (λ (x : Queue). IsLocated d.M o x l) (sym kept.usable.queue_is) kept.usable in
+      let two = subst (λ (x : Queue). IsLocated d.M o x m) (sym kept.usable.queue_is) owing.usable in
+      let same : l ≡ m = one_way d.M o l m one two in
+      runs_differ l kept.output_of (subst (λ (x : Located). IsOutputOfRuns d o x (other, false)) (sym same) owing.output_of)
 
-pub status_alike : (B M : ℕ) (o : OpeningValue) (q : Queue) (draw : Draw) (stream : Stream) (runs size : ℕ) (text other : List ℕ) (a b : Bool)
-    → IsCallersOutput B M o q draw stream runs size (text, a) → IsCallersOutput B M o q draw stream runs size (other, b) → a ≡ b
-status_alike B M o q draw stream runs size text other true true one two = refl
-status_alike B M o q draw stream runs size text other false false one two = refl
-status_alike B M o q draw stream runs size text other true false one two = absurd (never_both B M o q draw stream runs size text other one two)
-status_alike B M o q draw stream runs size text other false true one two = absurd (never_both B M o q draw stream runs size other text two one)
+pub status_alike : (d : DrawnRuns) (o : OpeningValue) (q : Queue) (text other : List ℕ) (a b : Bool)
+    → IsCallersOutput d o q (text, a) → IsCallersOutput d o q (other, b) → a ≡ b
+status_alike d o q text other true true one two = refl
+status_alike d o q text other false false one two = refl
+status_alike d o q text other true false one two = absurd (never_both d o q text other one two)
+status_alike d o q text other false true one two = absurd (never_both d o q other text two one)

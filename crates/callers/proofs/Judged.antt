@@ -4,12 +4,15 @@ use Rattle.step_machine.specs.declared.events.Event.{Event}
 use Rattle.step_machine.specs.History.{OpeningValue, History, history_of, at_opening}
 use Rattle.step_machine.specs.Legal.{WellFormed}
 use Rattle.step_machine.proofs.Running.{kept-at_opening, kept-run, opening_kept, run-one}
-use Rattle.judged_runs.specs.Finding.{AreAllGood}
-use Rattle.judged_runs.specs.Telling.{IsFlawTold}
+use Rattle.drawn_runs.specs.Samples.{DrawnRuns}
+use Rattle.judged_runs.specs.Telling.{IsTold}
+use Rattle.judged_runs.specs.declared.telling.Told.{Told}
+use Rattle.judged_runs.proofs.Better.{told_better}
+use Rattle.callers.specs.Answers.{call_schedule}
+use Rattle.callers.specs.Counts.{AreCountsOf}
 use Rattle.callers.specs.Queues.{spsc_of, IsLocated}
 use Rattle.callers.specs.Violations.{first_caller_violation}
-use Rattle.callers.specs.Counts.{AreCountsOf}
-use Rattle.callers.specs.Runs.{CallSource, call_schedule, KeepsObligations, HasNoCallerViolation, HasCallerViolation}
+use Rattle.callers.specs.Runs.{KeepsObligations, HasNoCallerViolation, HasCallerViolation}
 use Rattle.callers.specs.declared.counts.Counts.{Counts}
 use Rattle.callers.specs.declared.violations.CallerViolation.{CallerViolation}
 use Rattle.callers.specs.declared.queue.Located.{Located}
@@ -38,29 +41,13 @@ module _ (B M : ℕ) (o : OpeningValue) (l : Located) (events : List Event) wher
           (kept-run B M _ events free.history (kept-at_opening B M o) free.run)
 
 -- the same of many runs
-module _ (s : CallSource) (located : IsLocated s.M s.opening s.located.queue s.located) where
-  pub all_kept : (runs : ℕ) (counts : Counts)
-      → AreAllGood (HasNoCallerViolation s.B s.M s.opening s.located) (AreCountsOf s.B s.M s.opening s.located) (call_schedule s) 0 runs counts
-      → AreAllGood (KeepsObligations s.B s.M s.opening s.located) (AreCountsOf s.B s.M s.opening s.located) (call_schedule s) 0 runs counts
-  all_kept runs counts free = record {
-    order = free.order;
-    good = λ i above below. kept s.B s.M s.opening s.located (call_schedule s i) located (free.good i above below);
-    counted = free.counted;
-  }
+module _ (d : DrawnRuns) (o : OpeningValue) (l : Located) where
+  -- what is told of runs that are good so
+  abbrev pub AreTold : (Good : List Event → Type 0) → Told Counts CallerViolation → Type 0
+  AreTold Good told =
+      IsTold Good (HasCallerViolation d.B d.M o l) (λ found other. found ≡ other) (AreCountsOf d.B d.M o l) (call_schedule d o) d.number told
 
-  pub told_kept : (runs : ℕ) (part : List Event) (violation : CallerViolation)
-      → IsFlawTold (HasNoCallerViolation s.B s.M s.opening s.located)
-      (HasCallerViolation s.B s.M s.opening s.located) (λ found other. found ≡ other) (call_schedule s) runs part
-      violation
-      → IsFlawTold (KeepsObligations s.B s.M s.opening s.located) (HasCallerViolation s.B s.M s.opening s.located) (λ found other. found ≡ other)
-      (call_schedule s) runs part violation
-  told_kept runs part violation found = record {
-    number = found.number;
-    flaw = found.flaw;
-    is_first = record {
-      within = found.is_first.within;
-      before = λ i above below. kept s.B s.M s.opening s.located (call_schedule s i) located (found.is_first.before i above below);
-      has = found.is_first.has;
-    };
-    shown = found.shown;
-  }
+  pub told_kept : IsLocated d.M o l.queue l → (told : Told Counts CallerViolation) → AreTold (HasNoCallerViolation d.B d.M o l) told
+      → AreTold (KeepsObligations d.B d.M o l) told
+  told_kept located = told_better (HasNoCallerViolation d.B d.M o l) (KeepsObligations d.B d.M o l) (HasCallerViolation d.B d.M o l)
+      (λ found other. found ≡ other) (AreCountsOf d.B d.M o l) (call_schedule d o) d.number (λ events. kept d.B d.M o l events located)

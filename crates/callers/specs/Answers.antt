@@ -1,12 +1,11 @@
 -- The answer of many runs: that all keep what callers owe and what they count to, or a violation and a short schedule of a run that has it.
-use Rattle.std.specs.Prelude.{ℕ, ◌≡◌, ◌⊎◌, Bool, true, false, not, List, [], ◌∷◌, ◌++◌, Option, Result, Ok, Err, codes}
+use Rattle.std.specs.Prelude.{ℕ, ◌≡◌, ◌⊎◌, Bool, true, false, not, List, [], ◌∷◌, ◌++◌, length, Option, Result, Ok, Err, codes}
 use Rattle.std.specs.Fmt.{decimal}
-use Rattle.rand_core.specs.Stream.{Stream}
 use Rattle.step_machine.specs.declared.events.Event.{Event}
 use Rattle.step_machine.specs.History.{OpeningValue}
 use Rattle.litmus.specs.LitmusTests.{LitmusTest}
 use Rattle.recorder.specs.Writing.{canon}
-use Rattle.drawn_runs.specs.declared.draws.Draw.{Draw}
+use Rattle.drawn_runs.specs.Samples.{DrawnRuns, schedule_in}
 use Rattle.judged_runs.specs.Finding.{AreAllGood}
 use Rattle.judged_runs.specs.Telling.{IsFlawTold}
 use Rattle.engine_support.specs.declared.fault.Refusal.{Refusal}
@@ -15,7 +14,7 @@ use Rattle.engine_support.specs.Tests.{tests}
 use Rattle.callers.specs.Queues.{IsLocated}
 use Rattle.callers.specs.Violations.{IsFirstOpeningViolation}
 use Rattle.callers.specs.Counts.{AreCountsOf, are_none}
-use Rattle.callers.specs.Runs.{CallSource, call_source, call_schedule, KeepsObligations, HasCallerViolation}
+use Rattle.callers.specs.Runs.{KeepsObligations, HasCallerViolation}
 use Rattle.callers.specs.declared.counts.Counts.{Counts}
 use Rattle.callers.specs.declared.judging.Calls.{Calls}
 use Rattle.callers.specs.declared.violations.CallerViolation.{CallerViolation}
@@ -78,19 +77,23 @@ kept_text q runs counts =
     head_line runs counts.calls ++ calls_line q.sender (codes "sent") counts.calls.sent (codes "full") counts.calls.full
     ++ calls_line q.receiver (codes "received") counts.calls.received (codes "empty") counts.calls.empty ++ runs_unfinished_line counts.unfinished
 
+-- the schedules of drawn runs from an opening
+abbrev pub call_schedule : DrawnRuns → OpeningValue → (number : ℕ) → List Event
+call_schedule d o = schedule_in d (length o.harts)
+
 -- all runs keep what callers owe, and the text has what they count to; whether some call returned
-pub record IsKeptOutput (s : CallSource) (runs : ℕ) (text : List ℕ) (called : Bool) : Type 0 where
+pub record IsKeptOutput (d : DrawnRuns) (o : OpeningValue) (l : Located) (text : List ℕ) (called : Bool) : Type 0 where
   pub counts : Counts
-  pub kept : AreAllGood (KeepsObligations s.B s.M s.opening s.located) (AreCountsOf s.B s.M s.opening s.located) (call_schedule s) 0 runs counts
+  pub kept : AreAllGood (KeepsObligations d.B d.M o l) (AreCountsOf d.B d.M o l) (call_schedule d o) 0 d.number counts
   pub called_is : called ≡ not (are_none counts.calls)
-  pub text_is : text ≡ kept_text s.located.queue runs counts
+  pub text_is : text ≡ kept_text l.queue d.number counts
 
 -- the first run that owes something, made short, and what it owes first
-pub record IsViolationOutput (s : CallSource) (runs : ℕ) (text : List ℕ) : Type 0 where
+pub record IsViolationOutput (d : DrawnRuns) (o : OpeningValue) (l : Located) (text : List ℕ) : Type 0 where
   pub part : List Event
   pub violation : CallerViolation
-  pub is_told : IsFlawTold (KeepsObligations s.B s.M s.opening s.located) (HasCallerViolation s.B s.M s.opening s.located) (λ found other. found ≡ other)
-      (call_schedule s) runs part violation
+  pub is_told : IsFlawTold (KeepsObligations d.B d.M o l) (HasCallerViolation d.B d.M o l) (λ found other. found ≡ other)
+      (call_schedule d o) d.number part violation
   pub text_is : text ≡ canon part ++ violation_line violation
 
 -- something is owed at the opening already, which a schedule of no events shows: the first of it
@@ -99,29 +102,28 @@ pub record IsOpeningViolationOutput (M : ℕ) (o : OpeningValue) (queue : Queue)
   pub has_violation : IsFirstOpeningViolation M o queue violation
   pub text_is : text ≡ canon [] ++ violation_line violation
 
--- the text for this number of runs, and whether all keep what callers owe and some call returned
-abbrev pub IsOutputOfRuns : CallSource → (runs : ℕ) → List ℕ × Bool → Type 0
-IsOutputOfRuns s runs (text, true) = IsKeptOutput s runs text true
-IsOutputOfRuns s runs (text, false) = IsKeptOutput s runs text false ⊎ IsViolationOutput s runs text
+-- the text for these runs, and whether all keep what callers owe and some call returned
+abbrev pub IsOutputOfRuns : DrawnRuns → OpeningValue → Located → List ℕ × Bool → Type 0
+IsOutputOfRuns d o l (text, true) = IsKeptOutput d o l text true
+IsOutputOfRuns d o l (text, false) = IsKeptOutput d o l text false ⊎ IsViolationOutput d o l text
 
 -- the same of a queue whose functions were found
-pub record IsLocatedOutput (B M : ℕ) (o : OpeningValue) (queue : Queue) (draw : Draw) (stream : Stream) (runs size : ℕ) (answer : List ℕ × Bool) : Type 0 where
+pub record IsLocatedOutput (d : DrawnRuns) (o : OpeningValue) (queue : Queue) (answer : List ℕ × Bool) : Type 0 where
   pub located : Located
-  pub usable : IsLocated M o queue located
-  pub output_of : IsOutputOfRuns (call_source B M o located draw stream size) runs answer
+  pub usable : IsLocated d.M o queue located
+  pub output_of : IsOutputOfRuns d o located answer
 
--- the text for this many drawn runs from this opening, and whether all keep what callers owe and some call returned: what is owed at the opening
+-- the text for these drawn runs from this opening, and whether all keep what callers owe and some call returned: what is owed at the opening
 -- already, or what the runs show
-abbrev pub IsCallersOutput : (B M : ℕ) → OpeningValue → Queue → Draw → Stream → (runs size : ℕ) → List ℕ × Bool → Type 0
-IsCallersOutput B M o queue draw stream runs size (text, true) = IsLocatedOutput B M o queue draw stream runs size (text, true)
-IsCallersOutput B M o queue draw stream runs size (text, false) =
-    IsOpeningViolationOutput M o queue text ⊎ IsLocatedOutput B M o queue draw stream runs size (text, false)
+abbrev pub IsCallersOutput : DrawnRuns → OpeningValue → Queue → List ℕ × Bool → Type 0
+IsCallersOutput d o queue (text, true) = IsLocatedOutput d o queue (text, true)
+IsCallersOutput d o queue (text, false) = IsOpeningViolationOutput d.M o queue text ⊎ IsLocatedOutput d o queue (text, false)
 
 -- what answers a test; none is refused
-abbrev pub IsCallersGiven : (B M : ℕ) → Queue → Draw → Stream → (runs size : ℕ) → LitmusTest → Result (List ℕ × Bool) Refusal → Type 0
-IsCallersGiven B M queue draw stream runs size test (Ok answer) = IsCallersOutput B M test.opening queue draw stream runs size answer
-IsCallersGiven B M queue draw stream runs size test (Err refusal) = ⊥
+abbrev pub IsCallersGiven : DrawnRuns → Queue → LitmusTest → Result (List ℕ × Bool) Refusal → Type 0
+IsCallersGiven d queue test (Ok answer) = IsCallersOutput d test.opening queue answer
+IsCallersGiven d queue test (Err refusal) = ⊥
 
 -- what answers a litmus text
-abbrev pub IsCallersAnswer : (B M : ℕ) → Queue → Draw → Stream → (runs size : ℕ) → (file : Option (List ℕ)) → Result (List ℕ × Bool) Refusal → Type 0
-IsCallersAnswer B M queue draw stream runs size file = After tests file (IsCallersGiven B M queue draw stream runs size)
+abbrev pub IsCallersAnswer : DrawnRuns → Queue → (file : Option (List ℕ)) → Result (List ℕ × Bool) Refusal → Type 0
+IsCallersAnswer d queue file = After tests file (IsCallersGiven d queue)

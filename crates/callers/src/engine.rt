@@ -1,8 +1,8 @@
 //! An engine: a litmus text in, what is told of its callers out.
 
-ghost use Rattle.std.specs.Prelude.{◌≤◌, ◌*◌};
+ghost use Rattle.std.specs.Prelude.{◌≤◌};
 ghost use Rattle.litmus.specs.declared.litmus_test.TheConstants.{MAX_LOCATIONS};
-ghost use Rattle.recorder.specs.Drawing.{left_after};
+ghost use Rattle.drawn_runs.specs.Samples.{runs_of};
 ghost use Rattle.engine_support.specs.Engines.{Ends};
 ghost use Rattle.engine_support.specs.Faults.{AnswersAs};
 ghost use Rattle.engine_support.specs.inner.Making.{FindsUpToReads, text_and_value};
@@ -11,7 +11,7 @@ ghost use Rattle.callers.specs.Answers.{IsCallersAnswer, IsCallersGiven};
 use crate::queue::Queue;
 use crate::run_output::check_callers;
 use drawn_runs::progress::Progress;
-use drawn_runs::{Draw, Jump, Runs};
+use drawn_runs::{Jump, Sample};
 use engine_support::fault::Fault;
 use engine_support::litmus_text::read_test;
 use engine_support::output::end_with;
@@ -26,20 +26,16 @@ fn answer<const B: usize, const M: usize, G: Jump + Sync + Drop, T: Threads + Sy
     alloc: Global,
     test: &Test,
     queue: Queue,
-    draw: Draw,
-    generator: &G,
-    runs: Runs,
+    sample: &Sample<'_, G>,
     progress: &mut P,
 ) -> Result<(String, bool), Fault>
     requires some_capacity { 1 ≤ B }
     requires capacity { B ≤ 64 }
     requires words { MAX_LOCATIONS ≤ M }
     requires size { M ≤ 65536 }
-    ensures { AnswersAs
-        (IsCallersGiven B M queue draw (left_after (runs.skip * runs.length) (G.Rng.stream generator.now)) runs.number runs.length test.now)
-        text_and_value result }
+    ensures { AnswersAs (IsCallersGiven (runs_of B M G.Rng.stream sample.now) queue test.now) text_and_value result }
 {
-    Ok(check_callers::<B, M, G, T, P>(rt, alloc, test, queue, draw, generator, runs, progress)?)
+    Ok(check_callers::<B, M, G, T, P>(rt, alloc, test, queue, sample, progress)?)
 }
 
 /// What is to be written for the input that the reader gives.
@@ -55,21 +51,17 @@ fn made<
     alloc: Global,
     file: &mut R,
     queue: Queue,
-    draw: Draw,
-    generator: &G,
-    runs: Runs,
+    sample: &Sample<'_, G>,
     progress: &mut P,
 ) -> Result<(String, bool), Fault>
     requires some_capacity { 1 ≤ B }
     requires capacity { B ≤ 64 }
     requires words { MAX_LOCATIONS ≤ M }
     requires size { M ≤ 65536 }
-    ensures { FindsUpToReads
-        (IsCallersAnswer B M queue draw (left_after (runs.skip * runs.length) (G.Rng.stream generator.now)) runs.number runs.length
-        (R.remaining file.old)) text_and_value result }
+    ensures { FindsUpToReads (IsCallersAnswer (runs_of B M G.Rng.stream sample.now) queue (R.remaining file.old)) text_and_value result }
 {
     let test = read_test(alloc, file)?;
-    answer::<B, M, G, T, P>(rt, alloc, &test, queue, draw, generator, runs, progress)
+    answer::<B, M, G, T, P>(rt, alloc, &test, queue, sample, progress)
 }
 
 /// Reads a litmus text to its end, and writes what [`check_callers`] answers of its test. It answers whether every run keeps what
@@ -89,9 +81,7 @@ pub fn callers_engine<
     alloc: Global,
     file: &mut R,
     queue: Queue,
-    draw: Draw,
-    generator: &G,
-    runs: Runs,
+    sample: &Sample<'_, G>,
     progress: &mut P,
     writer: &mut W,
 ) -> Result<bool, Fault>
@@ -99,12 +89,10 @@ pub fn callers_engine<
     requires capacity { B ≤ 64 }
     requires words { MAX_LOCATIONS ≤ M }
     requires size { M ≤ 65536 }
-    ensures { Ends
-        (IsCallersAnswer B M queue draw (left_after (runs.skip * runs.length) (G.Rng.stream generator.now)) runs.number runs.length
-        (R.remaining file.old)) result W.contents writer.old writer.new }
+    ensures { Ends (IsCallersAnswer (runs_of B M G.Rng.stream sample.now) queue (R.remaining file.old)) result W.contents writer.old writer.new }
 {
     end_with(
-        made::<B, M, R, G, T, P>(rt, alloc, file, queue, draw, generator, runs, progress),
+        made::<B, M, R, G, T, P>(rt, alloc, file, queue, sample, progress),
         writer,
     )
 }

@@ -1,14 +1,13 @@
 //! Laws of violations, and of answers.
 
 ghost use Rattle.std.specs.Prelude.{◌≡◌, ℕ, Bool, List, [], None};
-ghost use Rattle.rand_core.specs.Stream.{Stream};
 ghost use Rattle.step_machine.specs.declared.events.Entry.{Entry};
 ghost use Rattle.step_machine.specs.History.{OpeningValue, history_of};
 ghost use Rattle.step_machine.specs.Legal.{WellFormed};
 ghost use Rattle.spsc_queue.specs.Calls.{UsesAsSpscQueue};
 ghost use Rattle.callers.specs.Queues.{spsc_of, IsLocated};
 ghost use Rattle.callers.specs.Violations.{IsOpeningViolation, first_caller_violation};
-ghost use Rattle.drawn_runs.specs.declared.draws.Draw.{Draw};
+ghost use Rattle.drawn_runs.specs.Samples.{DrawnRuns};
 ghost use Rattle.callers.specs.Answers.{IsCallersOutput};
 ghost use Rattle.callers.specs.declared.violations.CallerViolation.{CallerViolation};
 ghost use Rattle.callers.specs.declared.queue.Queue.{Queue};
@@ -29,6 +28,6 @@ pub fn laws_of_caller_violations()
 /// an answer names, and which of the parts that no event can leave it shows, is left open. It does nothing.
 #[tactic(auto, using(crate::proofs::Alike::status_alike))]
 pub fn callers_alike()
-    ensures { (B M : ℕ) (o : OpeningValue) (q : Queue) (draw : Draw) (stream : Stream) (runs size : ℕ) (text other : List ℕ) (a b : Bool)
-        → IsCallersOutput B M o q draw stream runs size (text, a) → IsCallersOutput B M o q draw stream runs size (other, b) → a ≡ b }
+    ensures { (d : DrawnRuns) (o : OpeningValue) (q : Queue) (text other : List ℕ) (a b : Bool)
+        → IsCallersOutput d o q (text, a) → IsCallersOutput d o q (other, b) → a ≡ b }
 {}

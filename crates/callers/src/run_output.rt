@@ -1,12 +1,11 @@
 //! The answer of many runs: that all keep what callers owe and what they count to, or a violation and a short schedule of a run
 //! that has it.
 
-ghost use Rattle.std.specs.Prelude.{◌≡◌, ◌≤◌, ◌*◌, IfOk};
+ghost use Rattle.std.specs.Prelude.{◌≡◌, ◌≤◌, IfOk};
 ghost use Rattle.std.specs.String.{string_bytes};
 ghost use Rattle.litmus.specs.declared.litmus_test.TheConstants.{MAX_LOCATIONS};
-ghost use Rattle.recorder.specs.Drawing.{left_after};
+ghost use Rattle.drawn_runs.specs.Samples.{runs_of};
 ghost use Rattle.callers.specs.Queues.{IsLocated};
-ghost use Rattle.callers.specs.Runs.{call_source};
 ghost use Rattle.callers.specs.Answers.{IsCallersOutput, IsOutputOfRuns};
 
 use crate::answer_texts::{kept_text, owing_text};
@@ -16,7 +15,7 @@ use crate::queue::{Located, Queue};
 use crate::runs::CallersJudge;
 use drawn_runs::parallel::in_rounds;
 use drawn_runs::progress::Progress;
-use drawn_runs::{Draw, Jump, Runs};
+use drawn_runs::{Jump, Sample};
 use judged_runs::{JudgedRuns, Told, told_of_runs};
 use litmus::Test;
 use std::alloc::{AllocError, Global};
@@ -35,9 +34,7 @@ fn output_of_runs<
     alloc: Global,
     test: &Test,
     located: Located,
-    draw: Draw,
-    generator: &G,
-    runs: Runs,
+    sample: &Sample<'_, G>,
     progress: &mut P,
 ) -> Result<(String, bool), AllocError>
     requires some_capacity { 1 ≤ B }
@@ -45,16 +42,15 @@ fn output_of_runs<
     requires words { MAX_LOCATIONS ≤ M }
     requires size { M ≤ 65536 }
     requires usable { IsLocated M test.now.opening located.queue located }
-    ensures { IfOk result (λ t. IsOutputOfRuns
-        (call_source B M test.now.opening located draw (left_after (runs.skip * runs.length) (G.Rng.stream generator.now)) runs.length)
-        runs.number (string_bytes t.0, t.1)) }
+    ensures { IfOk result (λ t. IsOutputOfRuns (runs_of B M G.Rng.stream sample.now) test.now.opening located (string_bytes t.0, t.1)) }
 {
     let judge = CallersJudge::<B, M> { test, located };
-    let start = generator.ahead(runs.skip, runs.length)?;
+    let runs = sample.runs;
+    let start = sample.generator.ahead(runs.skip, runs.length)?;
     let drawn = JudgedRuns {
         judge: &judge,
         generator: &start,
-        draw,
+        draw: sample.draw,
         size: runs.length,
     };
     let found = in_rounds(rt, alloc, &drawn, runs.number, runs.jobs, progress);
@@ -68,10 +64,9 @@ fn output_of_runs<
     }
 }
 
-/// Runs a test, whose harts call the functions of `spsc_queue` for this queue, `runs.number` times from its opening, with
-/// store buffers of `B` pairs and `M` words of memory, each time by `runs.length` events that the generator draws so, after the
-/// events of the runs that are passed over. Gives the text of what is found, and whether every run keeps what callers owe and
-/// some call returned.
+/// Makes the runs of a sample of a test, whose harts call the functions of `spsc_queue` for this queue, with store buffers of `B`
+/// pairs and `M` words of memory. Gives the text of what is found, and whether every run keeps what callers owe and some call
+/// returned.
 ///
 /// If all do, that is their number, or that no call returned, and what they count to: the calls that returned 1 or 0, and
 /// the runs that weren't finished. Otherwise it is a schedule and the line of a violation: one at the opening, with no events,
@@ -88,25 +83,20 @@ pub fn check_callers<
     alloc: Global,
     test: &Test,
     queue: Queue,
-    draw: Draw,
-    generator: &G,
-    runs: Runs,
+    sample: &Sample<'_, G>,
     progress: &mut P,
 ) -> Result<(String, bool), AllocError>
     requires some_capacity { 1 ≤ B }
     requires capacity { B ≤ 64 }
     requires words { MAX_LOCATIONS ≤ M }
     requires size { M ≤ 65536 }
-    ensures { IfOk result (λ t. IsCallersOutput B M test.now.opening queue draw
-        (left_after (runs.skip * runs.length) (G.Rng.stream generator.now)) runs.number runs.length (string_bytes t.0, t.1)) }
+    ensures { IfOk result (λ t. IsCallersOutput (runs_of B M G.Rng.stream sample.now) test.now.opening queue (string_bytes t.0, t.1)) }
 {
     let opening = test.opening(alloc)?;
     let machine: Machine<B, M> = Machine::open(alloc, opening)?;
     match locate(&machine, queue) {
         Ok(located) => {
-            output_of_runs::<B, M, G, T, P>(
-                rt, alloc, test, located, draw, generator, runs, progress,
-            )
+            output_of_runs::<B, M, G, T, P>(rt, alloc, test, located, sample, progress)
         }
         Err(violation) => Ok((owing_text(alloc, &[], violation)?, false)),
     }

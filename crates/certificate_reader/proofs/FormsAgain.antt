@@ -17,7 +17,7 @@ use Rattle.texts.specs.declared.pieces.Separators.TheVariants.{Byte}
 use Rattle.texts.proofs.CuttingLaws.{none-append, before-stop, after-stop, split_none, split_stop, decimal_none, not_byte, not_low_byte}
 use Rattle.texts.proofs.RowLaws.{is_low, Solid}
 use Rattle.queue_certificates.specs.Forms.{Form}
-use Rattle.queue_certificates.specs.States.{linear, index_for}
+use Rattle.queue_certificates.specs.States.{linear, index_for, signed_for}
 use Rattle.certificate_reader.specs.declared.faults.CertificateFault.{CertificateFault}
 use Rattle.certificate_reader.specs.Numbers.{count_of, round_of}
 use Rattle.certificate_reader.specs.FormTexts.{multiple_of, with_factor, factors_after, form_from, form_of, index_of}
@@ -243,21 +243,24 @@ form_solid n f small fits = (
 
 -- ---- values
 
-not_index : (N n : ℕ) (text : List ℕ) → 0 < length text → NonePass (is_byte 64) text → known_value_in N n text ≡ linear_of n text
+not_index : (N n : ℕ) (text : List ℕ) → 0 < length text → NonePass (is_byte 64) text → NonePass (is_byte 126) text
+    → known_value_in N n text ≡ linear_of n text
 unfolding known_value_in
-not_index N n [] some none = absurd (omega arith)
-not_index N n (byte ∷ text) some none = rw none.0 refl
+not_index N n [] some none other = absurd (omega arith)
+not_index N n (byte ∷ text) some none other = rw (none.0, other.0) refl
 
 pub linear_again : (N n : ℕ) (f : Form) → n ≤ 2 ^ 32 → FitsForm n f → known_value_in N n (form_text f) ≡ Ok (linear f)
 unfolding linear_of
 linear_again N n f small fits =
     not_index N n (form_text f) (form_solid n f small fits).0 (form_bytes (is_byte 64) (λ d lt. not_byte 64 d (omega arith) lt) refl refl n f small fits)
+    (form_bytes (is_byte 126) (λ d lt. not_byte 126 d (omega arith) lt) refl refl n f small fits)
     ∙ rw (form_again n f small fits) refl
 
-pub index_again : (N n i : ℕ) (f : Form) → n ≤ 2 ^ 32 → N ≤ 2 ^ 32 → i < N → FitsForm n f
-    → known_value_in N n (64 ∷ decimal i ++ 58 ∷ form_text f) ≡ Ok (index_for i f)
-unfolding known_value_in index_of
-index_again N n i f small few below fits =
+-- what follows the mark
+word_of_index : (is_signed : Bool) (N n i : ℕ) (f : Form) → n ≤ 2 ^ 32 → N ≤ 2 ^ 32 → i < N → FitsForm n f
+    → index_of is_signed N n (decimal i ++ 58 ∷ form_text f) ≡ Ok (index_value is_signed i f)
+unfolding index_of
+word_of_index is_signed N n i f small few below fits =
     let none = decimal_bytes (is_byte 58) (λ d lt. not_byte 58 d (omega arith) lt) i (omega arith) in
     rw (
       before-stop (is_byte 58) (decimal i) 58 (form_text f) none refl,
@@ -266,3 +269,13 @@ index_again N n i f small few below fits =
       lt-ltb i N below,
       form_again n f small fits,
     ) refl
+
+pub index_again : (N n i : ℕ) (f : Form) → n ≤ 2 ^ 32 → N ≤ 2 ^ 32 → i < N → FitsForm n f
+    → known_value_in N n (64 ∷ decimal i ++ 58 ∷ form_text f) ≡ Ok (index_for i f)
+unfolding known_value_in
+index_again N n i f small few below fits = word_of_index false N n i f small few below fits
+
+pub signed_again : (N n i : ℕ) (f : Form) → n ≤ 2 ^ 32 → N ≤ 2 ^ 32 → i < N → FitsForm n f
+    → known_value_in N n (126 ∷ decimal i ++ 58 ∷ form_text f) ≡ Ok (signed_for i f)
+unfolding known_value_in
+signed_again N n i f small few below fits = word_of_index true N n i f small few below fits

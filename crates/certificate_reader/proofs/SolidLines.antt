@@ -6,7 +6,7 @@ use Rattle.std.specs.Fmt.{decimal}
 use Rattle.std.proofs.lemmas.List.{map-append}
 use Rattle.texts.proofs.CuttingLaws.{none-append}
 use Rattle.texts.proofs.RowLaws.{is_low, Solid, solid_by_test, decimal_solid}
-use Rattle.queue_certificates.specs.States.{KnownValue, any, linear, index_for, Share}
+use Rattle.queue_certificates.specs.States.{KnownValue, any, linear, index_for, signed_for, Share}
 use Rattle.queue_certificates.specs.Certificates.{OpenedQueue, Arrow, Cases, leaf, split, ListedState, HartPart, QueueCertificate}
 use Rattle.certificate_reader.specs.CaseTexts.{arrow_lines, case_lines}
 use Rattle.certificate_reader.specs.Writing.{LineOfWords, form_text, value_line, value_lines, share_lines, range_text, line_if}
@@ -52,8 +52,8 @@ range_solid : (r : Option ℕ) → FitsRange r → Solid (range_text r)
 range_solid None fits = solid_by_test (codes "-") refl
 range_solid (Some n) fits = count_solid n fits
 
-index_solid : (i : ℕ) (text : List ℕ) → i < 2 ^ 32 → Solid text → Solid (64 ∷ decimal i ++ 58 ∷ text)
-index_solid i text small solid = (omega arith, (refl, none-append is_low (decimal i) (58 ∷ text) (word_solid i small).1 (refl, solid.1)))
+index_solid : (mark i : ℕ) (text : List ℕ) → is_low mark ≡ false → i < 2 ^ 32 → Solid text → Solid (mark ∷ decimal i ++ 58 ∷ text)
+index_solid mark i text high small solid = (omega arith, (high, none-append is_low (decimal i) (58 ∷ text) (word_solid i small).1 (refl, solid.1)))
 
 value_solid : (N n j : ℕ) (name : List ℕ) (v : KnownValue) → n ≤ 2 ^ 32 → N ≤ 2 ^ 32 → j < 2 ^ 32 → Solid name → FitsValue N n v
     → AreSolid (value_line name j (value_text v))
@@ -62,7 +62,12 @@ value_solid N n j name (linear f) small few place one fits =
     (line_solid name (decimal j ∷ form_text f ∷ []) one (word_solid j place, (form_solid n f small fits, tt)), tt)
 value_solid N n j name (index_for i f) small few place one fits = (
   line_solid name (decimal j ∷ (64 ∷ decimal i ++ 58 ∷ form_text f) ∷ []) one
-      (word_solid j place, (index_solid i (form_text f) (omega (arith, fits.0)) (form_solid n f small fits.1), tt)),
+      (word_solid j place, (index_solid 64 i (form_text f) refl (omega (arith, fits.0)) (form_solid n f small fits.1), tt)),
+  tt,
+)
+value_solid N n j name (signed_for i f) small few place one fits = (
+  line_solid name (decimal j ∷ (126 ∷ decimal i ++ 58 ∷ form_text f) ∷ []) one
+      (word_solid j place, (index_solid 126 i (form_text f) refl (omega (arith, fits.0)) (form_solid n f small fits.1), tt)),
   tt,
 )
 

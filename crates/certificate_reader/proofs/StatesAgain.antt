@@ -9,7 +9,7 @@ use Rattle.std.proofs.lemmas.List.{reverse-append, map-append}
 use Rattle.std.proofs.Math.Dec.{eqb-suc-zero}
 use Rattle.std.proofs.Math.Seq.{set-append_seam}
 use Rattle.queue_certificates.specs.Forms.{Form}
-use Rattle.queue_certificates.specs.States.{KnownValue, any, linear, index_for, Share, no_share}
+use Rattle.queue_certificates.specs.States.{KnownValue, any, linear, index_for, signed_for, Share, no_share}
 use Rattle.queue_certificates.specs.Certificates.{Arrow, Cases, leaf, split}
 use Rattle.queue_checker.specs.Trees.{height}
 use Rattle.certificate_reader.specs.declared.cases.Node.{Node}
@@ -26,7 +26,7 @@ use Rattle.certificate_reader.specs.Writing.{form_text, index_text, value_text, 
 use Rattle.certificate_reader.specs.Writing.{tree_lines}
 use Rattle.certificate_reader.specs.Written.{FitsForm, FitsValue, FitsShare, FitsRange, FitsArrow, FitsCases}
 use Rattle.certificate_reader.proofs.NumbersAgain.{first_word_again, first_count_again, ranges_again}
-use Rattle.certificate_reader.proofs.FormsAgain.{form_again, forms_again, linear_again, index_again}
+use Rattle.certificate_reader.proofs.FormsAgain.{form_again, forms_again, linear_again, index_again, signed_again}
 use Rattle.certificate_reader.proofs.LinesAgain.{told, told-append, by_name}
 
 -- ---- ranges
@@ -58,12 +58,14 @@ after_values s [] = s
 after_values s (any ∷ values) = after_values s values
 after_values s (linear f ∷ values) = after_values stage.Known values
 after_values s (index_for i f ∷ values) = after_values stage.Known values
+after_values s (signed_for i f ∷ values) = after_values stage.Known values
 
 pub described_after : (s : Stage) (values : List KnownValue) → is_described s ≡ true → is_described (after_values s values) ≡ true
 described_after s [] is = is
 described_after s (any ∷ values) is = described_after s values is
 described_after s (linear f ∷ values) is = described_after stage.Known values refl
 described_after s (index_for i f ∷ values) is = described_after stage.Known values refl
+described_after s (signed_for i f ∷ values) is = described_after stage.Known values refl
 
 value_set : (least N n j : ℕ) (before after : List KnownValue) (value : KnownValue) (text : List ℕ) → j ≡ length before → least ≤ j → j < 2 ^ 32
     → known_value_in N n text ≡ Ok value → with_value least N n (before ++ any ∷ after) (decimal j ∷ text ∷ []) ≡ Ok (before ++ value ∷ after)
@@ -111,7 +113,10 @@ module _ (N n least : ℕ) (name : List ℕ) (held : List KnownValue → Stage �
           told_value (linear f) (form_text f) (some_place (linear f) same (λ e. cc)) (linear_again N n f n_small fits_f)
       by_value (index_for i f) same =
           let fits_f = subst (FitsValue N n) same fits in
-          told_value (index_for i f) (index_text i f) (some_place (index_for i f) same (λ e. cc)) (index_again N n i f n_small N_small fits_f.0 fits_f.1)
+          told_value (index_for i f) (index_text 64 i f) (some_place (index_for i f) same (λ e. cc)) (index_again N n i f n_small N_small fits_f.0 fits_f.1)
+      by_value (signed_for i f) same =
+          let fits_f = subst (FitsValue N n) same fits in
+          told_value (signed_for i f) (index_text 126 i f) (some_place (signed_for i f) same (λ e. cc)) (signed_again N n i f n_small N_small fits_f.0 fits_f.1)
 
   pub values_told : (before values : List KnownValue) (j : ℕ) (s : Stage) → j ≡ length before → j + length values ≤ 2 ^ 32 → is_described s ≡ true
       → (j < least → get_or values 0 any ≡ any) → AllByRecursion (FitsValue N n) values → IsReadFrom j before values s

@@ -1,5 +1,5 @@
 -- The forms and values of a certificate, in terms of n variables.
-use Rattle.std.specs.Prelude.{ℕ, ◌-◌, nat_le, nat_lt, ◌==◌, ◌&&◌, if◌then◌else◌, List, [], ◌∷◌, ◌++◌, length, replicate, Option, Some, None}
+use Rattle.std.specs.Prelude.{ℕ, ◌-◌, nat_le, nat_lt, ◌==◌, ◌&&◌, if◌then◌else◌, Bool, true, false, List, [], ◌∷◌, ◌++◌, length, replicate, Option, Some, None}
 use Rattle.std.specs.Prelude.{Result, Ok, Err}
 use Rattle.std.specs.Option.{option_and_then, option_zip}
 use Rattle.texts.specs.Numbers.{word_of}
@@ -8,7 +8,7 @@ use Rattle.texts.specs.Cutting.{before, after, is_byte}
 use Rattle.texts.specs.Pieces.{pieces}
 use Rattle.texts.specs.declared.pieces.Separators.TheVariants.{Byte}
 use Rattle.queue_certificates.specs.Forms.{Form}
-use Rattle.queue_certificates.specs.States.{KnownValue, linear, index_for}
+use Rattle.queue_certificates.specs.States.{KnownValue, linear, index_for, signed_for}
 use Rattle.certificate_reader.specs.declared.faults.CertificateFault.{CertificateFault}
 use Rattle.certificate_reader.specs.declared.faults.CertificateFault.TheVariants.{BadLine}
 use Rattle.certificate_reader.specs.Faults.{or_bad_line}
@@ -52,15 +52,19 @@ form_from n (first ∷ others) = form_by n (count_of first) first others
 unfoldable pub form_of : (n : ℕ) → List ℕ → Result Form CertificateFault
 form_of n text = form_from n (pieces (Byte 43) text)
 
--- ---- values: a form, or `@` (64), a queue of the N and `:` (58) before one
+-- ---- values: a form, or `@` (64), a queue of the N and `:` (58) before one; or `~` (126) in place of the `@`
 
-abbrev pub index_by : (N n : ℕ) → Option ℕ → Option (List ℕ) → Result KnownValue CertificateFault
-index_by N n None text = Err BadLine
-index_by N n (Some i) None = Err BadLine
-index_by N n (Some i) (Some text) = if nat_lt i N then form_of n text >>= (λ form. Ok (index_for i form)) else Err BadLine
+abbrev pub index_value : (is_signed : Bool) (i : ℕ) → Form → KnownValue
+index_value false i f = index_for i f
+index_value true i f = signed_for i f
 
-unfoldable pub index_of : (N n : ℕ) → List ℕ → Result KnownValue CertificateFault
-index_of N n text = index_by N n (word_of (before (is_byte 58) text)) (after (is_byte 58) text)
+abbrev pub index_by : (is_signed : Bool) (N n : ℕ) → Option ℕ → Option (List ℕ) → Result KnownValue CertificateFault
+index_by is_signed N n None text = Err BadLine
+index_by is_signed N n (Some i) None = Err BadLine
+index_by is_signed N n (Some i) (Some text) = if nat_lt i N then form_of n text >>= (λ form. Ok (index_value is_signed i form)) else Err BadLine
+
+unfoldable pub index_of : (is_signed : Bool) (N n : ℕ) → List ℕ → Result KnownValue CertificateFault
+index_of is_signed N n text = index_by is_signed N n (word_of (before (is_byte 58) text)) (after (is_byte 58) text)
 
 unfoldable pub linear_of : (n : ℕ) → List ℕ → Result KnownValue CertificateFault
 linear_of n text = do
@@ -69,4 +73,4 @@ linear_of n text = do
 
 unfoldable pub known_value_in : (N n : ℕ) → List ℕ → Result KnownValue CertificateFault
 known_value_in N n [] = Err BadLine
-known_value_in N n (byte ∷ text) = if byte == 64 then index_of N n text else linear_of n (byte ∷ text)
+known_value_in N n (byte ∷ text) = if byte == 64 then index_of false N n text else (if byte == 126 then index_of true N n text else linear_of n (byte ∷ text))

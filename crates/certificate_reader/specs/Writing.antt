@@ -4,7 +4,7 @@ use Rattle.std.specs.Prelude.{ℕ, ◌+◌, ◌==◌, ◌||◌, not, Bool, true,
 use Rattle.std.specs.List.{flat_map}
 use Rattle.std.specs.Fmt.{decimal}
 use Rattle.queue_certificates.specs.Forms.{Form}
-use Rattle.queue_certificates.specs.States.{KnownValue, any, linear, index_for, Share, KnownState}
+use Rattle.queue_certificates.specs.States.{KnownValue, any, linear, index_for, signed_for, Share, KnownState}
 use Rattle.queue_certificates.specs.Certificates.{OpenedQueue, ListedState, HartPart, QueueCertificate}
 use Rattle.certificate_reader.specs.declared.cases.Node.{Node}
 use Rattle.certificate_reader.specs.declared.cases.Node.TheVariants as node
@@ -63,14 +63,15 @@ form_text f = parts_text false (parts_of f)
 
 -- ---- what is known in a state
 
--- `@i:FORM` for an index's word (the `@` is 64, the `:` 58)
-abbrev pub index_text : (i : ℕ) → Form → List ℕ
-index_text i f = 64 ∷ decimal i ++ 58 ∷ form_text f
+-- `@i:FORM` for an index's word, `~i:FORM` for what a signed load leaves of it (the `@` is 64, the `~` 126, the `:` 58)
+abbrev pub index_text : (mark i : ℕ) → Form → List ℕ
+index_text mark i f = mark ∷ decimal i ++ 58 ∷ form_text f
 
 abbrev pub value_text : KnownValue → Option (List ℕ)
 value_text any = None
 value_text (linear f) = Some (form_text f)
-value_text (index_for i f) = Some (index_text i f)
+value_text (index_for i f) = Some (index_text 64 i f)
+value_text (signed_for i f) = Some (index_text 126 i f)
 
 abbrev pub value_line : (name : List ℕ) (place : ℕ) → Option (List ℕ) → List LineOfWords
 value_line name place None = []

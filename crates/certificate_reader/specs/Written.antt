@@ -2,7 +2,7 @@
 use Rattle.std.specs.Prelude.{ℕ, ◌≡◌, ◌+◌, ◌^◌, ◌<◌, ◌≤◌, Option, None, Some, [], ◌∷◌, length, get_or, sum_by}
 use Rattle.std.specs.List.{AllByRecursion}
 use Rattle.queue_certificates.specs.Forms.{Form}
-use Rattle.queue_certificates.specs.States.{KnownValue, any, linear, index_for, Share}
+use Rattle.queue_certificates.specs.States.{KnownValue, any, linear, index_for, signed_for, Share}
 use Rattle.queue_certificates.specs.Certificates.{OpenedQueue, Arrow, Cases, leaf, split, ListedState, HartPart, QueueCertificate}
 use Rattle.queue_checker.specs.Trees.{height}
 use Rattle.certificate_reader.specs.declared.stages.TheConstants.{MAX_SPLITS}
@@ -26,6 +26,7 @@ abbrev pub FitsValue : (N n : ℕ) → KnownValue → Type 0
 FitsValue N n any = Unit {0}
 FitsValue N n (linear f) = FitsForm n f
 FitsValue N n (index_for i f) = (i < N) × FitsForm n f
+FitsValue N n (signed_for i f) = (i < N) × FitsForm n f
 
 pub record FitsShare (n : ℕ) (s : Share) : Type 0 where
   pub own : FitsForm n s.own

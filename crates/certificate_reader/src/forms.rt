@@ -9,7 +9,7 @@ ghost use Rattle.certificate_reader.specs.FormTexts.{multiple_of, with_factor, f
 
 use crate::faults::{BAD, LineError};
 use crate::numbers::count;
-use known_values::values::{index_for, linear};
+use known_values::values::{index_for, linear, signed_for};
 use known_values::{Form, KnownValue};
 use std::alloc::Global;
 use texts::cutting::cut_at;
@@ -72,15 +72,16 @@ pub fn form(alloc: Global, variables: usize, text: &[u8]) -> Result<Form, LineEr
     Ok(Form { constant, factors })
 }
 
-/// The word of one of the queues that stands for a count: what follows the `@`.
+/// The word of one of the queues that stands for a count, or what a signed load leaves of it: what follows the `@` or the `~`.
 #[tactic(auto, unfolding(crate::specs::FormTexts::index_of))]
 fn index(
     alloc: Global,
+    is_signed: bool,
     queues: usize,
     variables: usize,
     text: &[u8],
 ) -> Result<KnownValue, LineError>
-    ensures { GivesUpToMemory refusal_of (λ value. value) result (index_of queues variables text.now) }
+    ensures { GivesUpToMemory refusal_of (λ value. value) result (index_of is_signed queues variables text.now) }
 {
     let (digits, after) = cut_at(text, b':');
     let queue = word(digits).ok_or(BAD)?;
@@ -88,7 +89,12 @@ fn index(
     if queue as usize >= queues {
         return Err(BAD);
     }
-    Ok(index_for(queue, form(alloc, variables, text)?))
+    let form = form(alloc, variables, text)?;
+    Ok(if is_signed {
+        signed_for(queue, form)
+    } else {
+        index_for(queue, form)
+    })
 }
 
 #[tactic(auto, unfolding(crate::specs::FormTexts::linear_of))]
@@ -110,7 +116,8 @@ pub fn value(
 {
     match text {
         [] => Err(BAD),
-        [b'@', text @ ..] => index(alloc, queues, variables, text),
+        [b'@', text @ ..] => index(alloc, false, queues, variables, text),
+        [b'~', text @ ..] => index(alloc, true, queues, variables, text),
         _ => number(alloc, variables, text),
     }
 }

@@ -1,6 +1,6 @@
 //! Writing what is known in a state.
 
-ghost use Rattle.std.specs.Prelude.{◌≡◌, ◌++◌, ◌∷◌, [], codes, map, OnOk};
+ghost use Rattle.std.specs.Prelude.{◌≡◌, ◌++◌, ◌∷◌, [], codes, map, if◌then◌else◌, OnOk};
 ghost use Rattle.std.specs.String.{string_bytes};
 ghost use Rattle.std.specs.Fmt.{decimal};
 ghost use Rattle.certificate_reader.specs.Writing.{lines_text, line_if, range_text, index_text, value_text, value_line, value_lines, share_line};
@@ -23,11 +23,11 @@ fn push_place(out: &mut String, front: &str, name: &str, place: usize) -> Result
     out.push_str(" ")
 }
 
-/// Appends the word of a queue that stands for a count.
-fn push_index(out: &mut String, queue: u32, form: &Form) -> Result<(), AllocError>
-    ensures { OnOk result (string_bytes out.new ≡ string_bytes out.old ++ index_text queue form.now) }
+/// Appends a queue and a count after a mark of what of its index's word is meant: the word, or what a signed load leaves of it.
+fn push_index(out: &mut String, is_signed: bool, queue: u32, form: &Form) -> Result<(), AllocError>
+    ensures { OnOk result (string_bytes out.new ≡ string_bytes out.old ++ index_text (if is_signed then 126 else 64) queue form.now) }
 {
-    out.push_str("@")?;
+    out.push_str(if is_signed { "~" } else { "@" })?;
     push_decimal(out, u64::from(queue))?;
     out.push_str(":")?;
     push_form(out, form)
@@ -52,7 +52,12 @@ fn push_value(
         }
         Known::IndexFor(queue, form) => {
             push_place(out, front, name, place)?;
-            push_index(out, *queue, form)?;
+            push_index(out, false, *queue, form)?;
+            out.push_str("\n")
+        }
+        Known::SignedFor(queue, form) => {
+            push_place(out, front, name, place)?;
+            push_index(out, true, *queue, form)?;
             out.push_str("\n")
         }
     }

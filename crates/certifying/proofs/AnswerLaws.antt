@@ -13,6 +13,7 @@ use Rattle.owned_run.specs.Certified.{ReadsOwned}
 use Rattle.queue_certificates.specs.Certificates.{QueueCertificate, queue_at, start_at, accepts, accepts_loads}
 use Rattle.queue_checker.specs.declared.flaws.Flaw.{Flaw}
 use Rattle.queue_checker.specs.Flaws.{first_flaw, first_of, first_unowned}
+use Rattle.drawn_runs.specs.Samples.{DrawnRuns}
 use Rattle.engine_support.specs.declared.fault.Refusal.{Refusal}
 use Rattle.engine_support.specs.Inputs.After.{read}
 use Rattle.engine_support.specs.Tests.{tests}
@@ -20,7 +21,6 @@ use Rattle.engine_support.proofs.InputLaws.{IsOne, alike_after, is_one, one_litm
 use Rattle.certifying.specs.Answers.{IsAnswerTo, IsCertificateAnswer, IsFlawAnswer, IsQueueAnswer, IsTrialAnswer, is_of_queue, judged_reads, judged_use}
 use Rattle.certifying.specs.Inputs.{SaysCertificate, certificate_of, certificates}
 use Rattle.certifying.specs.Kept.{AreJudged, AreQueueAnswers, IsPromised, KeepsProtocol, LoadsOwnedSlots}
-use Rattle.certifying.specs.Trials.{DrawnRuns}
 use Rattle.certifying.specs.Unread.{first_unread, unread_by, unread_of}
 use Rattle.certifying.specs.Unused.{first_unused}
 use Rattle.certifying.specs.declared.judgement.Judgement.{Judgement}

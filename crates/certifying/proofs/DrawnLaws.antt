@@ -18,6 +18,7 @@ use Rattle.queue_checker.specs.declared.flaws.Flaw.TheVariants as flaw
 use Rattle.queue_checker.specs.declared.flaws.QueueFlaw.{QueueFlaw}
 use Rattle.queue_checker.specs.Flaws.{first_below, first_flaw, first_of, hart_flaw, queue_flaw, flaw_of_queue}
 use Rattle.queue_checker.proofs.FlawLaws.{no_queue_flaw}
+use Rattle.drawn_runs.specs.Samples.{DrawnRuns}
 use Rattle.ownership_runs.specs.declared.violations.Violation.{Violation}
 use Rattle.ownership_runs.specs.declared.runs.Moved.{Moved}
 use Rattle.ownership_runs.specs.Violations.{first_ownership_violation}
@@ -25,7 +26,7 @@ use Rattle.ownership_runs.specs.Runs.{HasKeptRun, HasBrokenRun}
 use Rattle.ownership_runs.proofs.Judged.{moves-one}
 use Rattle.certifying.specs.Answers.{IsBrokenText, IsTriedText, IsTrialAnswer, is_of_queue, tried_text}
 use Rattle.certifying.specs.Kept.{BreaksProtocol}
-use Rattle.certifying.specs.Trials.{AllKeep, DrawnRuns, EndsBroken, IsBrokenBy, IsOfTrial, IsTrialBroken, QueuesKeep, schedule_in}
+use Rattle.certifying.specs.Trials.{AllKeep, EndsBroken, IsBrokenBy, IsOfTrial, IsTrialBroken, QueuesKeep, trial_schedule}
 use Rattle.certifying.specs.declared.trials.Trial.{Trial}
 use Rattle.certifying.specs.declared.trials.Trial.TheVariants as trial
 use Rattle.certifying.specs.declared.judgement.Judgement.{Judgement}
@@ -149,7 +150,7 @@ module _ (d : DrawnRuns) (o : OpeningValue) (c : QueueCertificate) where
         let all = kept-at 0 is.moved broken.queue (subst (λ (n : ℕ). broken.queue < n) (sym is.count) first.inside) is.kept in
         let at : 0 + broken.queue ≡ broken.queue = omega arith in
         let kept : AllKeep d o c broken.queue all.0 = subst (λ (j : ℕ). AllKeep d o c j all.0) at all.1 in
-        laws.apart d.B d.M o (queue_at c broken.queue) (all_at (start_at c broken.queue)) (schedule_in d o first.told.number) first.told.flaw
+        laws.apart d.B d.M o (queue_at c broken.queue) (all_at (start_at c broken.queue)) (trial_schedule d o first.told.number) first.told.flaw
         (some broken.queue first.inside) (kept.good first.told.number (omega arith) flawed.within) flawed.has
 
     pub one-trial : (f : Flaw) (a b : List ℕ × Judgement) → IsTrialAnswer d o c f a → IsTrialAnswer d o c f b → AreAlike a b

@@ -3,6 +3,7 @@ use Rattle.std.specs.Prelude.{ℕ, ◌≡◌, Bool, true, false, List, [], ◌�
 use Rattle.step_machine.specs.History.{OpeningValue}
 use Rattle.step_machine.specs.declared.events.Event.{Event}
 use Rattle.queue_certificates.specs.Certificates.{QueueCertificate, no_queue}
+use Rattle.drawn_runs.specs.Samples.{DrawnRuns}
 use Rattle.ownership_runs.specs.declared.violations.Violation.{Violation}
 use Rattle.ownership_runs.specs.declared.runs.Moved.{Moved}
 use Rattle.queue_checker.specs.Flaws.{first_flaw}
@@ -22,7 +23,7 @@ use Rattle.certifying.specs.Broken.{broken_text, runs_line}
 use Rattle.certifying.specs.Descriptions.{all_queue_lines}
 use Rattle.certifying.specs.Inputs.{certificates}
 use Rattle.certifying.specs.NotShown.{flaw_line, likely_line}
-use Rattle.certifying.specs.Trials.{DrawnRuns, IsFirstBroken, QueuesKeep}
+use Rattle.certifying.specs.Trials.{IsFirstBroken, QueuesKeep}
 use Rattle.certifying.specs.Unread.{first_unread, unread_line}
 use Rattle.certifying.specs.Unused.{first_unused, unused_line}
 use Rattle.certifying.specs.declared.judgement.Judgement.{Judgement}

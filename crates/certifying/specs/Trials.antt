@@ -1,14 +1,12 @@
 -- Drawn runs of a text whose certificate isn't accepted, judged by the protocol of each queue of the certificate.
 use Rattle.std.specs.Prelude.{ℕ, ◌≡◌, ◌+◌, ◌-◌, ◌<◌, List, [], ◌∷◌, length, take}
-use Rattle.rand_core.specs.Stream.{Stream}
 use Rattle.step_machine.specs.declared.events.Event.{Event}
 use Rattle.step_machine.specs.History.{OpeningValue, History}
 use Rattle.step_machine.specs.Paths.{IsPc}
 use Rattle.step_machine.specs.Runs.{Run}
 use Rattle.queue_parties.specs.Parties.{all_at}
 use Rattle.queue_certificates.specs.Certificates.{QueueCertificate, queue_at, start_at}
-use Rattle.drawn_runs.specs.declared.draws.Draw.{Draw}
-use Rattle.drawn_runs.specs.Draws.{schedule_by}
+use Rattle.drawn_runs.specs.Samples.{DrawnRuns, schedule_in}
 use Rattle.judged_runs.specs.Finding.{AreAllGood}
 use Rattle.judged_runs.specs.Telling.{IsFlawTold, IsTold}
 use Rattle.judged_runs.specs.declared.telling.Told.{Told}
@@ -19,20 +17,8 @@ use Rattle.ownership_runs.specs.Runs.{HasKeptRun, HasBrokenRun, IsOfOneHart, Are
 use Rattle.certifying.specs.declared.trials.Trial.{Trial}
 use Rattle.certifying.specs.declared.trials.Trial.TheVariants.{Kept, Broken}
 
--- What is drawn: over buffers of B stores and a memory of M words, in which way and by which stream, how many runs, each of how many events.
-pub record DrawnRuns : Type 0 where
-  pub B : ℕ
-  pub M : ℕ
-  pub draw : Draw
-  pub stream : Stream
-  pub number : ℕ
-  pub size : ℕ
-
-abbrev pub runs_by : (B M : ℕ) → Draw → Stream → (number size : ℕ) → DrawnRuns
-runs_by B M draw stream number size = record { B = B; M = M; draw = draw; stream = stream; number = number; size = size }
-
-abbrev pub schedule_in : DrawnRuns → OpeningValue → ℕ → List Event
-schedule_in d o = schedule_by d.draw (length o.harts) d.size d.stream
+abbrev pub trial_schedule : DrawnRuns → OpeningValue → ℕ → List Event
+trial_schedule d o = schedule_in d (length o.harts)
 
 -- ---- of one queue, which opens empty
 
@@ -40,17 +26,17 @@ module _ (d : DrawnRuns) (o : OpeningValue) (c : QueueCertificate) (i : ℕ) whe
   -- what is stated of all runs
   abbrev pub IsToldOf : Told Moved Violation → Type 0
   IsToldOf told = IsTold (HasKeptRun d.B d.M o (queue_at c i) (all_at (start_at c i))) (HasBrokenRun d.B d.M o (queue_at c i) (all_at (start_at c i)))
-      IsOfOneHart (AreMovesOf d.B d.M o (queue_at c i) (all_at (start_at c i))) (schedule_in d o) d.number told
+      IsOfOneHart (AreMovesOf d.B d.M o (queue_at c i) (all_at (start_at c i))) (trial_schedule d o) d.number told
 
   -- all keep the protocol, and the parties moved on by this much in them
   abbrev pub AllKeep : Moved → Type 0
   AllKeep moved = AreAllGood (HasKeptRun d.B d.M o (queue_at c i) (all_at (start_at c i))) (AreMovesOf d.B d.M o (queue_at c i) (all_at (start_at c i)))
-      (schedule_in d o) 0 d.number moved
+      (trial_schedule d o) 0 d.number moved
 
   -- this is a part of the events of the first run that breaks it, with no event to spare, whose own run has this first violation
   abbrev pub IsBrokenBy : (part : List Event) → Violation → Type 0
   IsBrokenBy part violation = IsFlawTold (HasKeptRun d.B d.M o (queue_at c i) (all_at (start_at c i)))
-      (HasBrokenRun d.B d.M o (queue_at c i) (all_at (start_at c i))) IsOfOneHart (schedule_in d o) d.number part violation
+      (HasBrokenRun d.B d.M o (queue_at c i) (all_at (start_at c i))) IsOfOneHart (trial_schedule d o) d.number part violation
 
   -- the last of these events makes the violation
   abbrev pub EndsBroken : (part : List Event) → Violation → Type 0

@@ -1,6 +1,6 @@
 //! The command `queue`: a litmus text and a certificate in, what is promised of each run out.
 
-ghost use Rattle.std.specs.Prelude.{◌≡◌, ◌≤◌, ◌<◌, ◌*◌, ◌++◌, ℕ, Some, IfOk, OnOk, length};
+ghost use Rattle.std.specs.Prelude.{◌≡◌, ◌≤◌, ◌<◌, ◌++◌, ℕ, Some, IfOk, OnOk, length};
 ghost use Rattle.std.specs.String.{string_bytes};
 ghost use Rattle.engine_support.specs.Engines.{Ends};
 ghost use Rattle.engine_support.specs.Faults.{AnswersAs};
@@ -9,7 +9,7 @@ ghost use Rattle.engine_support.specs.Tests.{tests};
 ghost use Rattle.engine_support.specs.inner.Making.{FindsUpToReads, text_and_value};
 ghost use Rattle.engine_support.specs.OpeningTexts.{numbered};
 ghost use Rattle.litmus.specs.declared.litmus_test.TheConstants.{MAX_LOCATIONS};
-ghost use Rattle.recorder.specs.Drawing.{left_after};
+ghost use Rattle.drawn_runs.specs.Samples.{runs_of};
 ghost use Rattle.step_machine.specs.History.{FitsIn};
 ghost use Rattle.queue_certificates.specs.Certificates.{queue_at};
 ghost use Rattle.queue_checker.specs.Flaws.{first_flaw};
@@ -17,7 +17,6 @@ ghost use Rattle.certifying.specs.Answers.{IsAnswerTo, IsCertificateAnswer, IsFl
 ghost use Rattle.certifying.specs.Answers.{judged_reads, judged_use, kept_text, nothing_line};
 ghost use Rattle.certifying.specs.Broken.{runs_line};
 ghost use Rattle.certifying.specs.NotShown.{flaw_line, likely_line};
-ghost use Rattle.certifying.specs.Trials.{runs_by};
 ghost use Rattle.certifying.specs.Answers.{limit_lines, progress_line, promise_end, protocol_line, protocol_text, reads_line, records_line};
 ghost use Rattle.certifying.specs.Answers.{unread_text, unused_text};
 ghost use Rattle.certifying.specs.Unread.{first_unread};
@@ -31,7 +30,7 @@ use crate::trials::{Trial, trial_of};
 use crate::unread::first_unread;
 use crate::unused::first_unused;
 use drawn_runs::progress::Progress;
-use drawn_runs::{Draw, Jump, Runs};
+use drawn_runs::{Jump, Sample};
 use engine_support::fault::{Fault, Position};
 use engine_support::litmus_text::read_test;
 use engine_support::output::end_with;
@@ -100,9 +99,7 @@ fn judged_by_runs<
     opening: &Opening,
     certificate: &QueueCertificate,
     flaw: Flaw,
-    draw: Draw,
-    generator: &G,
-    runs: Runs,
+    sample: &Sample<'_, G>,
     progress: &mut P,
 ) -> Result<(String, Judgement), Lack>
     requires some_capacity { 1 ≤ B }
@@ -111,22 +108,12 @@ fn judged_by_runs<
     requires size { M ≤ 65536 }
     requires fits { FitsIn M opening.now }
     requires some_slot { (i : ℕ) → i < length certificate.now.queues → 1 ≤ (queue_at certificate.now i).size }
-    ensures { IfOk result (λ answer. IsTrialAnswer
-        (runs_by B M draw (left_after (runs.skip * runs.length) (G.Rng.stream generator.now)) runs.number runs.length) opening.now certificate.now flaw
+    ensures { IfOk result (λ answer. IsTrialAnswer (runs_of B M G.Rng.stream sample.now) opening.now certificate.now flaw
         (text_and_value answer)) }
 {
-    match trial_of::<B, M, G, T, P>(
-        rt,
-        alloc,
-        opening,
-        certificate,
-        draw,
-        generator,
-        runs,
-        progress,
-    )? {
+    match trial_of::<B, M, G, T, P>(rt, alloc, opening, certificate, sample, progress)? {
         Trial::Kept(kept) => Ok((
-            tried_text(alloc, opening, certificate, flaw, runs, &kept)?,
+            tried_text(alloc, opening, certificate, flaw, sample.runs, &kept)?,
             Judgement::NotShown,
         )),
         Trial::Broken {
@@ -166,9 +153,7 @@ fn judged_flaw<
     opening: &Opening,
     certificate: &QueueCertificate,
     flaw: Flaw,
-    draw: Draw,
-    generator: &G,
-    runs: Runs,
+    sample: &Sample<'_, G>,
     progress: &mut P,
 ) -> Result<(String, Judgement), Lack>
     requires some_capacity { 1 ≤ B }
@@ -177,25 +162,14 @@ fn judged_flaw<
     requires size { M ≤ 65536 }
     requires fits { FitsIn M opening.now }
     requires first { first_flaw opening.now certificate.now ≡ Some flaw }
-    ensures { IfOk result (λ answer. IsFlawAnswer
-        (runs_by B M draw (left_after (runs.skip * runs.length) (G.Rng.stream generator.now)) runs.number runs.length) opening.now certificate.now flaw
+    ensures { IfOk result (λ answer. IsFlawAnswer (runs_of B M G.Rng.stream sample.now) opening.now certificate.now flaw
         (is_of_queue flaw) (text_and_value answer)) }
 {
     if is_of_queue(flaw) {
         let text = flaw_text(alloc, opening, certificate, flaw)?;
         return Ok((text, Judgement::NotShown));
     }
-    judged_by_runs::<B, M, G, T, P>(
-        rt,
-        alloc,
-        opening,
-        certificate,
-        flaw,
-        draw,
-        generator,
-        runs,
-        progress,
-    )
+    judged_by_runs::<B, M, G, T, P>(rt, alloc, opening, certificate, flaw, sample, progress)
 }
 
 /// The text and the judgement of an opening and a certificate.
@@ -204,9 +178,7 @@ fn judged<const B: usize, const M: usize, G: Jump + Sync + Drop, T: Threads + Sy
     alloc: Global,
     opening: &Opening,
     certificate: &QueueCertificate,
-    draw: Draw,
-    generator: &G,
-    runs: Runs,
+    sample: &Sample<'_, G>,
     progress: &mut P,
 ) -> Result<(String, Judgement), Lack>
     requires some_capacity { 1 ≤ B }
@@ -214,8 +186,7 @@ fn judged<const B: usize, const M: usize, G: Jump + Sync + Drop, T: Threads + Sy
     requires some_word { 1 ≤ M }
     requires size { M ≤ 65536 }
     requires fits { FitsIn M opening.now }
-    ensures { IfOk result (λ answer. IsAnswerTo
-        (runs_by B M draw (left_after (runs.skip * runs.length) (G.Rng.stream generator.now)) runs.number runs.length) opening.now certificate.now
+    ensures { IfOk result (λ answer. IsAnswerTo (runs_of B M G.Rng.stream sample.now) opening.now certificate.now
         (first_flaw opening.now certificate.now) (text_and_value answer)) }
 {
     match first_flaw(alloc, opening, certificate)? {
@@ -226,9 +197,7 @@ fn judged<const B: usize, const M: usize, G: Jump + Sync + Drop, T: Threads + Sy
             opening,
             certificate,
             flaw,
-            draw,
-            generator,
-            runs,
+            sample,
             progress,
         ),
     }
@@ -240,30 +209,17 @@ fn answer<const B: usize, const M: usize, G: Jump + Sync + Drop, T: Threads + Sy
     alloc: Global,
     test: &Test,
     certificate: &QueueCertificate,
-    draw: Draw,
-    generator: &G,
-    runs: Runs,
+    sample: &Sample<'_, G>,
     progress: &mut P,
 ) -> Result<(String, Judgement), Fault>
     requires some_capacity { 1 ≤ B }
     requires capacity { B ≤ 64 }
     requires words { MAX_LOCATIONS ≤ M }
     requires size { M ≤ 65536 }
-    ensures { AnswersAs
-        (IsCertificateAnswer (runs_by B M draw (left_after (runs.skip * runs.length) (G.Rng.stream generator.now)) runs.number runs.length)
-        test.now.opening certificate.now) text_and_value result }
+    ensures { AnswersAs (IsCertificateAnswer (runs_of B M G.Rng.stream sample.now) test.now.opening certificate.now) text_and_value result }
 {
     let opening = test.opening(alloc)?;
-    match judged::<B, M, G, T, P>(
-        rt,
-        alloc,
-        &opening,
-        certificate,
-        draw,
-        generator,
-        runs,
-        progress,
-    ) {
+    match judged::<B, M, G, T, P>(rt, alloc, &opening, certificate, sample, progress) {
         Ok(answer) => Ok(answer),
         Err(lack) => Err(fault_of(lack)),
     }
@@ -283,9 +239,7 @@ fn made<
     alloc: Global,
     file: &mut F,
     certificate: &mut C,
-    draw: Draw,
-    generator: &G,
-    runs: Runs,
+    sample: &Sample<'_, G>,
     progress: &mut P,
 ) -> Result<(String, Judgement), Fault>
     requires some_capacity { 1 ≤ B }
@@ -293,22 +247,20 @@ fn made<
     requires words { MAX_LOCATIONS ≤ M }
     requires size { M ≤ 65536 }
     ensures made { FindsUpToReads
-        (IsQueueAnswer (runs_by B M draw (left_after (runs.skip * runs.length) (G.Rng.stream generator.now)) runs.number runs.length)
-        (F.remaining file.old) (C.remaining certificate.old)) text_and_value result }
+        (IsQueueAnswer (runs_of B M G.Rng.stream sample.now) (F.remaining file.old) (C.remaining certificate.old)) text_and_value result }
     ensures unread { IsRefused tests (F.remaining file.old) → certificate.new ≡ certificate.old }
 {
     let test = read_test(alloc, file)?;
     let listed = read_certificate(alloc, certificate)?;
-    answer::<B, M, G, T, P>(rt, alloc, &test, &listed, draw, generator, runs, progress)
+    answer::<B, M, G, T, P>(rt, alloc, &test, &listed, sample, progress)
 }
 
 /// Reads a litmus text and then a certificate, each to its end, and writes whether the certificate shows that every run of the text
 /// keeps the protocol of each of its queues, with what is promised then. It returns the judgement.
 ///
-/// If the certificate isn't accepted, but its queues open at their counts, the text runs `runs.number` times for each queue, with store
-/// buffers of `B` pairs and `M` words of memory, each time by `runs.length` events that the generator draws so, after the events of the
-/// runs that are passed over: then it writes a short schedule of the first run that breaks the protocol of the first such queue, or
-/// that all keep it. That depends neither on the jobs nor on the progress. Where the certificate is accepted neither `B` nor `M` is
+/// If the certificate isn't accepted, but its queues open at their counts, the runs of the sample are made of the text for each queue,
+/// with store buffers of `B` pairs and `M` words of memory: then it writes a short schedule of the first run that breaks the protocol
+/// of the first such queue, or that all keep it. That depends neither on the jobs nor on the progress. Where the certificate is accepted neither `B` nor `M` is
 /// part of the answer.
 ///
 /// Each input is refused as too large ([`engine_support::fault::TOO_LARGE`]), else as no text
@@ -329,9 +281,7 @@ pub fn queue_engine<
     alloc: Global,
     file: &mut F,
     certificate: &mut C,
-    draw: Draw,
-    generator: &G,
-    runs: Runs,
+    sample: &Sample<'_, G>,
     progress: &mut P,
     writer: &mut W,
 ) -> Result<Judgement, Fault>
@@ -339,22 +289,12 @@ pub fn queue_engine<
     requires capacity { B ≤ 64 }
     requires words { MAX_LOCATIONS ≤ M }
     requires size { M ≤ 65536 }
-    ensures ends { Ends
-        (IsQueueAnswer (runs_by B M draw (left_after (runs.skip * runs.length) (G.Rng.stream generator.now)) runs.number runs.length)
-        (F.remaining file.old) (C.remaining certificate.old)) result W.contents writer.old writer.new }
+    ensures ends { Ends (IsQueueAnswer (runs_of B M G.Rng.stream sample.now) (F.remaining file.old) (C.remaining certificate.old)) result
+        W.contents writer.old writer.new }
     ensures unread { IsRefused tests (F.remaining file.old) → certificate.new ≡ certificate.old }
 {
     end_with(
-        made::<B, M, F, C, G, T, P>(
-            rt,
-            alloc,
-            file,
-            certificate,
-            draw,
-            generator,
-            runs,
-            progress,
-        ),
+        made::<B, M, F, C, G, T, P>(rt, alloc, file, certificate, sample, progress),
         writer,
     )
 }

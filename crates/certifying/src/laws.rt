@@ -4,7 +4,7 @@ ghost use Rattle.std.specs.Prelude.{ℕ, List, Option, Result, Ok, Some};
 ghost use Rattle.engine_support.specs.declared.fault.Refusal.{Refusal};
 ghost use Rattle.certifying.specs.Answers.{IsQueueAnswer};
 ghost use Rattle.certifying.specs.Kept.{AreJudged, AreQueueAnswers, IsPromised};
-ghost use Rattle.certifying.specs.Trials.{DrawnRuns};
+ghost use Rattle.drawn_runs.specs.Samples.{DrawnRuns};
 ghost use Rattle.certifying.specs.declared.judgement.Judgement.{Judgement};
 
 use ownership_runs::laws::{laws_of_judged_runs, laws_of_violations};

@@ -1,15 +1,15 @@
 //! Drawn runs of a text, judged by the protocol of each queue of a certificate that isn't accepted.
 
-ghost use Rattle.std.specs.Prelude.{◌≡◌, ◌≤◌, ◌<◌, ◌-◌, ◌*◌, ℕ, List, IfOk, length, take};
-ghost use Rattle.recorder.specs.Drawing.{left_after};
+ghost use Rattle.std.specs.Prelude.{◌≡◌, ◌≤◌, ◌<◌, ◌-◌, ℕ, List, IfOk, length, take};
+ghost use Rattle.drawn_runs.specs.Samples.{runs_of};
 ghost use Rattle.step_machine.specs.History.{FitsIn};
 ghost use Rattle.queue_parties.specs.Parties.{all_at};
 ghost use Rattle.queue_certificates.specs.Certificates.{queue_at, start_at};
-ghost use Rattle.certifying.specs.Trials.{IsOfTrial, IsPcBeforeLast, IsToldOf, IsTrialBroken, runs_by};
+ghost use Rattle.certifying.specs.Trials.{IsOfTrial, IsPcBeforeLast, IsToldOf, IsTrialBroken};
 
 use crate::unused::number_of;
 use drawn_runs::progress::Progress;
-use drawn_runs::{Draw, Jump, Runs};
+use drawn_runs::{Jump, Sample};
 use judged_runs::Told;
 use known_values::{Lack, OpenedQueue};
 use ownership_runs::laws::laws_of_judged_runs;
@@ -102,9 +102,7 @@ fn told_of<const B: usize, const M: usize, G: Jump + Sync + Drop, T: Threads + S
     opening: &Opening,
     certificate: &QueueCertificate,
     index: u32,
-    draw: Draw,
-    generator: &G,
-    runs: Runs,
+    sample: &Sample<'_, G>,
     progress: &mut P,
 ) -> Result<Told<Moved, Violation>, AllocError>
     requires some_capacity { 1 ≤ B }
@@ -114,8 +112,7 @@ fn told_of<const B: usize, const M: usize, G: Jump + Sync + Drop, T: Threads + S
     requires fits { FitsIn M opening.now }
     requires inside { index < length certificate.now.queues }
     requires some_slot { 1 ≤ (queue_at certificate.now index).size }
-    ensures { IfOk result (IsToldOf
-        (runs_by B M draw (left_after (runs.skip * runs.length) (G.Rng.stream generator.now)) runs.number runs.length) opening.now certificate.now index) }
+    ensures { IfOk result (IsToldOf (runs_of B M G.Rng.stream sample.now) opening.now certificate.now index) }
 {
     let opened = &certificate.queues[index as usize];
     check_runs::<B, M, G, T, P>(
@@ -124,14 +121,12 @@ fn told_of<const B: usize, const M: usize, G: Jump + Sync + Drop, T: Threads + S
         opening,
         &opened.queue,
         counts_at(opened.start),
-        draw,
-        generator,
-        runs,
+        sample,
         progress,
     )
 }
 
-/// Runs an opening `runs.number` times, as [`check_runs`] does, for each queue of a certificate: what that shows.
+/// Makes the runs of a sample from an opening, as [`check_runs`] does, for each queue of a certificate: what that shows.
 pub fn trial_of<
     const B: usize,
     const M: usize,
@@ -143,9 +138,7 @@ pub fn trial_of<
     alloc: Global,
     opening: &Opening,
     certificate: &QueueCertificate,
-    draw: Draw,
-    generator: &G,
-    runs: Runs,
+    sample: &Sample<'_, G>,
     progress: &mut P,
 ) -> Result<Trial, Lack>
     requires some_capacity { 1 ≤ B }
@@ -154,23 +147,12 @@ pub fn trial_of<
     requires size { M ≤ 65536 }
     requires fits { FitsIn M opening.now }
     requires some_slot { (i : ℕ) → i < length certificate.now.queues → 1 ≤ (queue_at certificate.now i).size }
-    ensures { IfOk result (IsOfTrial
-        (runs_by B M draw (left_after (runs.skip * runs.length) (G.Rng.stream generator.now)) runs.number runs.length) opening.now certificate.now) }
+    ensures { IfOk result (IsOfTrial (runs_of B M G.Rng.stream sample.now) opening.now certificate.now) }
 {
     laws_of_judged_runs();
     let mut kept = Vec::new(alloc);
     for index in 0..number_of(certificate.queues.len())? {
-        match told_of::<B, M, G, T, P>(
-            rt,
-            alloc,
-            opening,
-            certificate,
-            index,
-            draw,
-            generator,
-            runs,
-            progress,
-        )? {
+        match told_of::<B, M, G, T, P>(rt, alloc, opening, certificate, index, sample, progress)? {
             Told::Good(moved) => kept.push(moved)?,
             Told::Flawed { part, flaw } => {
                 return Ok(broken_by::<B, M>(alloc, opening, index, part, flaw)?);

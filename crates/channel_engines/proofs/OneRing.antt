@@ -7,7 +7,7 @@ use Rattle.std.specs.List.{slice_get}
 use Rattle.step_machine.specs.History.{History, OpeningValue, at_opening}
 use Rattle.step_machine.specs.Runs.{Run}
 use Rattle.step_machine.proofs.Running.{run-one}
-use Rattle.drawn_runs.specs.Draws.{schedule_by}
+use Rattle.drawn_runs.specs.Samples.{DrawnRuns, schedule_in}
 use Rattle.poll_close.specs.Violations.{first_violation}
 use Rattle.poll_close.specs.Laws.{opening_over}
 use Rattle.poll_close.specs.Layout.{Layout}
@@ -23,13 +23,13 @@ use Rattle.judged_runs.specs.Histories.{AreRuns}
 use Rattle.judged_runs.proofs.Histories.{runs_one}
 use Rattle.ring_trials.specs.Answers.{IsTrialsOutput, IsCleanOutput, IsUncleanOutput, clean_text, sender_line, sender_lines}
 use Rattle.ring_trials.specs.UserChannel.{ring_of, lists_of, layout_from, start_of}
-use Rattle.ring_trials.specs.Trials.{AreTotals, closed_in, most_of, schedule_of_run}
+use Rattle.ring_trials.specs.Trials.{AreTotals, channel_schedule, closed_in, most_of}
 use Rattle.ring_trials.specs.declared.user_channel.UserChannel.{UserChannel}
 use Rattle.ring_trials.specs.declared.runs.Total.{Total}
 use Rattle.channel_engines.specs.Lists.{list_texts}
 use Rattle.channel_engines.specs.UserChannels.{ring_over}
 use Rattle.channel_engines.specs.Programs.{programs}
-use Rattle.channel_engines.specs.Rings.{AreAlikeRuns, AreDrawn, Draws, IsUserChannel, IsRingAnswer, source_drawn}
+use Rattle.channel_engines.specs.Rings.{AreAlikeRuns, AreDrawn, IsUserChannel, IsRingAnswer}
 use Rattle.channel_engines.proofs.ListTexts.{one_list_text}
 use Rattle.channel_engines.proofs.OneChannel.{channel_or_refusal, one_channel_refusal}
 use Rattle.channel_engines.proofs.ProgramLaws.{one_program}
@@ -66,34 +66,34 @@ from_first ts totals are k s is = grind (arith)
 
 -- ---- runs of channels with the same words
 
-module _ (d : Draws) (channel also : UserChannel) (rings : ring_of channel ≡ ring_of also) (lists : lists_of channel ≡ lists_of also)
+module _ (d : DrawnRuns) (channel also : UserChannel) (rings : ring_of channel ≡ ring_of also) (lists : lists_of channel ≡ lists_of also)
     (layouts : layout_from channel ≡ layout_from also) where
   starts : start_of channel ≡ start_of also
   starts = λ i. opening_over (rings i) (lists i) (layouts i)
 
   -- so the runs of one aren't all clean where those of the other aren't
-  clean_or_not : (a b : List ℕ) → IsCleanOutput (source_drawn d channel) d.runs a → IsUncleanOutput (source_drawn d also) d.runs b → ⊥
+  clean_or_not : (a b : List ℕ) → IsCleanOutput d channel a → IsUncleanOutput d also b → ⊥
   clean_or_not a b is other =
       let number = other.is_told.number in
       let has = other.is_told.is_first.has in
       let mine = is.clean.good number (omega arith) other.is_told.is_first.within in
-      let run : Run d.B d.M (start_of channel) (schedule_of_run (source_drawn d channel) number) has.history =
-      subst (λ (o : OpeningValue). Run d.B d.M o (schedule_by d.draw (length o.harts) d.size d.stream number) has.history) (sym starts) has.run in
+      let run : Run d.B d.M (start_of channel) (channel_schedule d channel number) has.history =
+      subst (λ (o : OpeningValue). Run d.B d.M o (schedule_in d (length o.harts) number) has.history) (sym starts) has.run in
       let same : mine.history ≡ has.history =
-      run-one d.B d.M (at_opening (start_of channel)) (schedule_of_run (source_drawn d channel) number) mine.history has.history mine.run run in
+      run-one d.B d.M (at_opening (start_of channel)) (channel_schedule d channel number) mine.history has.history mine.run run in
       let none : first_violation (layout_from channel) (lists_of channel) mine.history.entries ≡ None =
       (first_law (layout_from channel) (lists_of channel) mine.history.entries).1 mine.kept in
       let some : first_violation (layout_from channel) (lists_of channel) mine.history.entries ≡ Some other.is_told.flaw =
       ap (λ (t : History). first_violation (layout_from channel) (lists_of channel) t.entries) same
       ∙ ap₂ (λ (l : Layout) (ls : List (List ℕ)). first_violation l ls has.history.entries) layouts lists ∙ has.breaks in absurd cc
 
-  one_clean : (a b : List ℕ) → IsCleanOutput (source_drawn d channel) d.runs a → IsCleanOutput (source_drawn d also) d.runs b → a ≡ b
+  one_clean : (a b : List ℕ) → IsCleanOutput d channel a → IsCleanOutput d also b → a ≡ b
   one_clean a b is other =
       let first = is.clean.counted in
       let second = other.clean.counted in
-      let all = schedules_from (schedule_of_run (source_drawn d channel)) 0 (d.runs - 0) in
+      let all = schedules_from (channel_schedule d channel) 0 (d.number - 0) in
       let others : AreRuns d.B d.M (start_of channel) all second.histories =
-      subst (λ (o : OpeningValue). AreRuns d.B d.M o (schedules_from (schedule_by d.draw (length o.harts) d.size d.stream) 0 (d.runs - 0)) second.histories)
+      subst (λ (o : OpeningValue). AreRuns d.B d.M o (schedules_from (schedule_in d (length o.harts)) 0 (d.number - 0)) second.histories)
       (sym starts) second.runs in
       let runs : first.histories ≡ second.histories = runs_one d.B d.M (start_of channel) all first.histories second.histories first.runs others in
       let ts = second.histories in
@@ -102,15 +102,15 @@ module _ (d : Draws) (channel also : UserChannel) (rings : ring_of channel ≡ r
       let seconds : AreTotalsFrom ts 0 other.totals = from_first ts other.totals second.totals_are in
       let counts : length is.totals ≡ length other.totals =
       first.count ∙ ap (λ (ls : List (List ℕ)). length ls) lists ∙ sym second.count in
-      is.text_is ∙ ap (λ (ls : List (List ℕ)). clean_text d.runs is.totals ls) lists
-      ∙ ap (λ (lines : List ℕ). codes "clean " ++ decimal d.runs ++ codes " runs" ++ 10 ∷ lines)
+      is.text_is ∙ ap (λ (ls : List (List ℕ)). clean_text d.number is.totals ls) lists
+      ∙ ap (λ (lines : List ℕ). codes "clean " ++ decimal d.number ++ codes " runs" ++ 10 ∷ lines)
       (one_lines ts 0 is.totals other.totals (lists_of also) counts firsts seconds)
       ∙ sym other.text_is
 
 -- what is told of both
-outputs_alike : (d : Draws) (channel also : UserChannel) → ring_of channel ≡ ring_of also
+outputs_alike : (d : DrawnRuns) (channel also : UserChannel) → ring_of channel ≡ ring_of also
     → lists_of channel ≡ lists_of also → layout_from channel ≡ layout_from also
-    → (a b : List ℕ × Bool) → IsTrialsOutput (source_drawn d channel) d.runs a → IsTrialsOutput (source_drawn d also) d.runs b → AreAlikeRuns (Ok a) (Ok b)
+    → (a b : List ℕ × Bool) → IsTrialsOutput d channel a → IsTrialsOutput d also b → AreAlikeRuns (Ok a) (Ok b)
 outputs_alike d channel also rings lists layouts (a, true) (b, true) is other = one_clean d channel also rings lists layouts a b is other
 outputs_alike d channel also rings lists layouts (a, true) (b, false) is other =
     clean_or_not d channel also rings lists layouts a b is other
@@ -120,26 +120,26 @@ outputs_alike d channel also rings lists layouts (a, false) (b, false) is other 
 
 -- ---- the answer
 
-module _ (d : Draws) (sends receives : List ℕ) (ls : List (List ℕ)) where
-  module _ (channel also : UserChannel) (is : IsUserChannel d.place sends receives ls channel) (other : IsUserChannel d.place sends receives ls also) where
+module _ (d : DrawnRuns) (place : BlockPlace) (sends receives : List ℕ) (ls : List (List ℕ)) where
+  module _ (channel also : UserChannel) (is : IsUserChannel place sends receives ls channel) (other : IsUserChannel place sends receives ls also) where
     same_rings : ring_of channel ≡ ring_of also
     same_rings = ap₂ ring_over (is.sends_are ∙ sym other.sends_are) (is.receives_are ∙ sym other.receives_are)
 
     same_layouts : layout_from channel ≡ layout_from also
     same_layouts = ap (λ (p : BlockPlace). layout_of p []) (is.lies ∙ sym other.lies)
 
-    same_output : (a b : List ℕ × Bool) → IsTrialsOutput (source_drawn d channel) d.runs a
-        → IsTrialsOutput (source_drawn d also) d.runs b → AreAlikeRuns (Ok a) (Ok b)
+    same_output : (a b : List ℕ × Bool) → IsTrialsOutput d channel a
+        → IsTrialsOutput d also b → AreAlikeRuns (Ok a) (Ok b)
     same_output = outputs_alike d channel also same_rings (is.lists_are ∙ sym other.lists_are) same_layouts
 
-  one_drawn : (a b : Result (List ℕ × Bool) Refusal) → AreDrawn d sends receives ls a → AreDrawn d sends receives ls b → AreAlikeRuns a b
+  one_drawn : (a b : Result (List ℕ × Bool) Refusal) → AreDrawn d place sends receives ls a → AreDrawn d place sends receives ls b → AreAlikeRuns a b
   one_drawn a b is other = grind (arith, channel_or_refusal, one_channel_refusal, same_output)
 
-pub one_ring : (d : Draws) (sender receiver input : List ℕ) (a b : Result (List ℕ × Bool) Refusal)
-    → IsRingAnswer d (Some sender) (Some receiver) (Some input) a → IsRingAnswer d (Some sender) (Some receiver) (Some input) b → AreAlikeRuns a b
-one_ring d sender receiver input =
+pub one_ring : (d : DrawnRuns) (place : BlockPlace) (sender receiver input : List ℕ) (a b : Result (List ℕ × Bool) Refusal)
+    → IsRingAnswer d place (Some sender) (Some receiver) (Some input) a → IsRingAnswer d place (Some sender) (Some receiver) (Some input) b → AreAlikeRuns a b
+one_ring d place sender receiver input =
     after (programs Sender) (one_program Sender) sender _ (λ sends. after (programs Receiver) (one_program Receiver) receiver _
-    (λ receives. after list_texts one_list_text input _ (λ ls. one_drawn d sends receives ls)))
+    (λ receives. after list_texts one_list_text input _ (λ ls. one_drawn d place sends receives ls)))
   where
     after : {V : Type 0} (form : Format V) (is : IsOne form (λ r s. r ≡ s)) (bytes : List ℕ) (Next : V → Result (List ℕ × Bool) Refusal → Type 0)
         → ((v : V) (a b : Result (List ℕ × Bool) Refusal) → Next v a → Next v b → AreAlikeRuns a b)

@@ -3,12 +3,14 @@
 ghost use Rattle.std.specs.Prelude.{◌≡◌, ◌↔◌, ℕ, Bool, true, false, List, Ok, Result, Some};
 ghost use Rattle.poll_close.specs.Layout.{Layout};
 ghost use Rattle.poll_close.specs.Laws.{Ring};
+ghost use Rattle.poll_close.specs.declared.place.BlockPlace.{BlockPlace};
+ghost use Rattle.drawn_runs.specs.Samples.{DrawnRuns};
 ghost use Rattle.engine_support.specs.declared.fault.Refusal.{Refusal};
 ghost use Rattle.engine_support.specs.Engines.{Output, AcceptedInput, AreAlike, decoded};
 ghost use Rattle.channel_engines.specs.Lists.{SaysLists, lists_at};
 ghost use Rattle.channel_engines.specs.Channels.{IsChannelAnswer};
 ghost use Rattle.channel_engines.specs.UserChannels.{IsUserAnswer};
-ghost use Rattle.channel_engines.specs.Rings.{AreAlikeRuns, Draws, IsRingAnswer};
+ghost use Rattle.channel_engines.specs.Rings.{AreAlikeRuns, IsRingAnswer};
 
 /// A text of lists says one list of lists at most, and reading it from the top finds that; an input is
 /// not refused exactly where it is a text within the limit that says lists. It does nothing.
@@ -29,8 +31,8 @@ pub fn one_answer()
     ensures own { (B M : ℕ) (l : Layout) (sender receiver schedule input : List ℕ) (a b : Result Output Refusal)
         → IsUserAnswer B M l (Some sender) (Some receiver) (Some schedule) (Some input) a
         → IsUserAnswer B M l (Some sender) (Some receiver) (Some schedule) (Some input) b → a ≡ b }
-    ensures ring { (d : Draws) (sender receiver input : List ℕ) (a b : Result (List ℕ × Bool) Refusal)
-        → IsRingAnswer d (Some sender) (Some receiver) (Some input) a → IsRingAnswer d (Some sender) (Some receiver) (Some input) b
+    ensures ring { (d : DrawnRuns) (place : BlockPlace) (sender receiver input : List ℕ) (a b : Result (List ℕ × Bool) Refusal)
+        → IsRingAnswer d place (Some sender) (Some receiver) (Some input) a → IsRingAnswer d place (Some sender) (Some receiver) (Some input) b
         → AreAlikeRuns a b }
     ensures finished { (ring : Ring) (B M : ℕ) (l : Layout) (schedule input : List ℕ)
         (a b : Result Output Refusal) → IsChannelAnswer ring B M l true (Some schedule) (Some input) a

@@ -1,18 +1,19 @@
 //! The command `ring`: two programs and the senders' lists in, totals of drawn runs of their channel or a short unclean one out.
 
 ghost use Rattle.std.specs.Prelude.{◌≡◌, ◌≤◌, ◌⊎◌};
+ghost use Rattle.drawn_runs.specs.Samples.{runs_of};
 ghost use Rattle.engine_support.specs.declared.fault.Role.TheVariants.{Sender, Receiver};
 ghost use Rattle.engine_support.specs.Engines.{Ends};
 ghost use Rattle.engine_support.specs.inner.Making.{FindsUpToReads, text_and_value};
 ghost use Rattle.engine_support.specs.Inputs.{IsRefused};
 ghost use Rattle.channel_engines.specs.Programs.{programs};
-ghost use Rattle.channel_engines.specs.Rings.{IsRingAnswer, draws};
+ghost use Rattle.channel_engines.specs.Rings.{IsRingAnswer};
 
 use crate::channel::channel_fault;
 use crate::lists::read_lists;
 use crate::programs::read_program;
 use drawn_runs::progress::Progress;
-use drawn_runs::{Draw, Jump, Runs};
+use drawn_runs::{Jump, Sample};
 use engine_support::fault::{Fault, Role};
 use engine_support::output::end_with;
 use poll_close::BlockPlace;
@@ -39,16 +40,14 @@ fn made<
     sender: &mut S,
     receiver: &mut R,
     lists: &mut L,
-    draw: Draw,
-    generator: &G,
-    runs: Runs,
+    sample: &Sample<'_, G>,
     progress: &mut P,
 ) -> Result<(String, bool), Fault>
     requires some_capacity { 1 ≤ B }
     requires capacity { B ≤ 64 }
     requires some_word { 1 ≤ M }
     requires size { M ≤ 65536 }
-    ensures made { FindsUpToReads (IsRingAnswer (draws B M place draw (G.Rng.stream generator.now) runs)
+    ensures made { FindsUpToReads (IsRingAnswer (runs_of B M G.Rng.stream sample.now) place
         (S.remaining sender.old) (R.remaining receiver.old) (L.remaining lists.old)) text_and_value result }
     ensures unread { IsRefused (programs Sender) (S.remaining sender.old) → receiver.new ≡ receiver.old }
     ensures unread_lists { IsRefused (programs Sender) (S.remaining sender.old) ⊎ IsRefused (programs Receiver) (R.remaining receiver.old)
@@ -63,16 +62,15 @@ fn made<
         lists,
         place,
     };
-    match run_trials::<B, M, G, T, P>(rt, alloc, &channel, draw, generator, runs, progress) {
+    match run_trials::<B, M, G, T, P>(rt, alloc, &channel, sample, progress) {
         Ok(answered) => Ok(answered),
         Err(why) => Err(channel_fault(why)),
     }
 }
 
 /// Reads the assembly of the sender and that of the receiver, and then the senders' lists, each to its end: a line of
-/// words in decimal, parted by spaces, for each sender. It runs the channel over these programs and lists at a place
-/// `runs.number` times from its opening with store buffers of `B` pairs and `M` words of memory that open as 0, each
-/// time by `runs.length` events that the generator draws so, after the events of the runs that are passed over.
+/// words in decimal, parted by spaces, for each sender. It makes the runs of the sample of the channel over these programs and
+/// lists at a place, with store buffers of `B` pairs and `M` words of memory that open as 0.
 ///
 /// Where all runs are clean it writes how many they are, and a line for each sender: how many of its words a run took
 /// at most, and in how many runs it was reported closed. Else it writes a part of the first unclean run's events that is
@@ -100,9 +98,7 @@ pub fn ring_engine<
     sender: &mut S,
     receiver: &mut R,
     lists: &mut L,
-    draw: Draw,
-    generator: &G,
-    runs: Runs,
+    sample: &Sample<'_, G>,
     progress: &mut P,
     writer: &mut W,
 ) -> Result<bool, Fault>
@@ -110,16 +106,14 @@ pub fn ring_engine<
     requires capacity { B ≤ 64 }
     requires some_word { 1 ≤ M }
     requires size { M ≤ 65536 }
-    ensures ends { Ends (IsRingAnswer (draws B M place draw (G.Rng.stream generator.now) runs)
+    ensures ends { Ends (IsRingAnswer (runs_of B M G.Rng.stream sample.now) place
         (S.remaining sender.old) (R.remaining receiver.old) (L.remaining lists.old)) result W.contents writer.old writer.new }
     ensures unread { IsRefused (programs Sender) (S.remaining sender.old) → receiver.new ≡ receiver.old }
     ensures unread_lists { IsRefused (programs Sender) (S.remaining sender.old) ⊎ IsRefused (programs Receiver) (R.remaining receiver.old)
         → lists.new ≡ lists.old }
 {
     end_with(
-        made::<B, M, S, R, L, G, T, P>(
-            rt, alloc, place, sender, receiver, lists, draw, generator, runs, progress,
-        ),
+        made::<B, M, S, R, L, G, T, P>(rt, alloc, place, sender, receiver, lists, sample, progress),
         writer,
     )
 }

@@ -6,7 +6,7 @@ ghost use Rattle.step_machine.specs.declared.opening.TheConstants.{MAX_HARTS};
 ghost use Rattle.drawn_runs.specs.Draws.{acted, burst_event, burst_after, burst_by, burst_of, event_by, events_by};
 
 use rand_core::Rng;
-use recorder::draw;
+use recorder::{draw, event_of};
 use std::alloc::AllocError;
 use step_machine::Event;
 
@@ -77,20 +77,6 @@ fn next(harts: u32, burst: Burst, word: u32) -> (Event, Burst)
         (Event::Land(burst.hart), burst)
     } else {
         (Event::Act(burst.hart), acted(burst))
-    }
-}
-
-/// The event that a word draws by itself.
-fn event_of(harts: u32, word: u32) -> Event
-    requires some_hart { 1 ≤ harts }
-    requires most_harts { harts ≤ MAX_HARTS }
-    ensures { result ≡ drawn harts word }
-{
-    let number = word % (2 * harts);
-    if number < harts {
-        Event::Act(number)
-    } else {
-        Event::Land(number - harts)
     }
 }
 

@@ -1,8 +1,8 @@
-//! Generators that can jump over words that nobody draws, which runs they draw ([`Runs`]), and how these are spread.
+//! Generators that can jump over words that nobody draws, the runs that they draw ([`Sample`]), and how these are spread.
 //!
 //! The contract: [`Jump::ahead`] returns a generator whose stream is what is left of this one's after so
-//! many words of 32 bits, [`first_run`] shares runs among jobs, and [`spreading::in_rounds`] returns what
-//! [`spreading::Trials`] knows of runs, however they were spread over rounds and jobs. [`draw_by`] draws the events of a run,
+//! many words of 32 bits, [`first_run`] shares runs among jobs, and [`parallel::in_rounds`] returns what
+//! [`parallel::Trials`] knows of runs, however they were spread over rounds and jobs. [`draw_by`] draws the events of a run,
 //! each by itself or in bursts of one hart, and [`draws::next_by`] one after the other. What is reported through
 //! [`progress::Progress`] no clause says. This crate reads and writes no schedule.
 //!
@@ -34,6 +34,17 @@ pub struct Runs {
     pub length: u32,
     /// How many threads share the runs, where 0 is one. The answer doesn't depend on it.
     pub jobs: u32,
+}
+
+/// Runs that a generator draws.
+#[derive(Drop)]
+pub struct Sample<'a, G> {
+    /// How their events are drawn.
+    pub draw: Draw,
+    /// The generator before the runs that are passed over.
+    pub generator: &'a G,
+    /// Which runs they are.
+    pub runs: Runs,
 }
 
 /// How many runs come before those of a job. No job has more than one run more than another.

@@ -10,7 +10,8 @@ use Rattle.step_machine.specs.History.{History, at_opening}
 use Rattle.step_machine.specs.Runs.{Happens, RunFrom, event_of}
 use Rattle.step_machine.proofs.Follows.{event_of-for}
 use Rattle.litmus.specs.LitmusTests.{LitmusTest}
-use Rattle.finding.specs.Find.{IsWitness, Shows}
+use Rattle.surveys.specs.Wanted.{Shows}
+use Rattle.finding.specs.Find.{IsWitness}
 
 -- each of these events adds an entry
 record EachAdds (t : History) (evs : List Event) (new : History) : Type 0 where

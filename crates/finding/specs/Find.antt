@@ -1,16 +1,12 @@
 -- The command `find`: a schedule that shows what a test asks about, where a search met one.
-use Rattle.std.specs.Prelude.{ℕ, ◌≡◌, ◌≤◌, ◌<◌, ◌⊎◌, Bool, true, false, List, [], length, map, Option, Result, Ok, Err}
+use Rattle.std.specs.Prelude.{ℕ, ◌≡◌, ◌≤◌, ◌<◌, List, [], length, map, Option, Result, Ok, Err}
 use Rattle.step_machine.specs.declared.events.Event.{Event}
-use Rattle.step_machine.specs.History.{History, at_opening}
-use Rattle.step_machine.specs.Positions.{Position}
-use Rattle.step_machine.specs.Runs.{Run, event_of}
-use Rattle.litmus.specs.Formulas.{truth}
+use Rattle.step_machine.specs.History.{at_opening}
+use Rattle.step_machine.specs.Runs.{event_of}
 use Rattle.litmus.specs.LitmusTests.{LitmusTest}
-use Rattle.litmus.specs.Verdicts.{IsFinished, IsFinishedAt, final_value, value_there}
-use Rattle.litmus.specs.declared.verdict.Quantifier.{Quantifier}
-use Rattle.litmus.specs.declared.verdict.Quantifier.TheVariants.{Exists, NotExists, ForAll}
 use Rattle.recorder.specs.Writing.{canon}
 use Rattle.recorder.specs.declared.reading.TheConstants.{MAX_EVENTS}
+use Rattle.surveys.specs.Wanted.{EndsAsWanted, IsCutShort, Shows}
 use Rattle.engine_support.specs.declared.fault.Refusal.{Refusal}
 use Rattle.engine_support.specs.Faults.{too_large}
 use Rattle.engine_support.specs.Inputs.{After}
@@ -19,38 +15,11 @@ use Rattle.engine_support.specs.declared.input.TheConstants.{INPUT_BYTES}
 use Rattle.finding.specs.declared.finds.Found.{Found}
 use Rattle.finding.specs.declared.finds.Found.TheVariants.{Shown, AllSeen, Cut}
 
--- What the condition is in the outcome that is looked for: the one that `exists` and `~exists` ask about makes it
--- true, and the one that refutes `forall` makes it false.
-abbrev pub wanted : Quantifier → Bool
-wanted Exists = true
-wanted NotExists = true
-wanted ForAll = false
-
--- a history that is finished, and whose outcome is one that is looked for
-pub record EndsAsWanted (M : ℕ) (test : LitmusTest) (history : History) : Type 0 where
-  pub finished : IsFinished M history
-  pub condition : truth (final_value M history) test.condition ≡ wanted test.quantifier
-
--- a position that is finished, and whose outcome is one that is looked for, whatever led there
-pub record IsWantedAt (test : LitmusTest) (position : Position) : Type 0 where
-  pub finished : IsFinishedAt position
-  pub condition : truth (value_there position) test.condition ≡ wanted test.quantifier
-
--- the run of these events from the test's opening, over store buffers of B pairs and a memory of M words, ends so
-pub record Shows (B M : ℕ) (test : LitmusTest) (events : List Event) : Type 0 where
-  pub history : History
-  pub ran : Run B M test.opening events history
-  pub ends : EndsAsWanted M test history
-
 -- these events show such an outcome, one event an entry, and no schedule with fewer events does
 pub record IsWitness (B M : ℕ) (test : LitmusTest) (events : List Event) : Type 0 where
   pub shows : Shows B M test events
   pub each : events ≡ map event_of shows.history.entries
   pub shortest : (fewer : List Event) → length fewer < length events → Shows B M test fewer → ⊥
-
--- what a search saw when it was cut: as many states as it may, or at least as many as a schedule may have events
-abbrev pub IsCut : (limit states : ℕ) → Type 0
-IsCut limit states = (states ≤ limit) × ((states ≡ limit) ⊎ (MAX_EVENTS ≤ states))
 
 -- The output is the canonical schedule of events that show such an outcome, and short enough to be an input. Or there is
 -- none, and this number of states was seen: either fewer than may be seen, or the search was cut. The opening then doesn't
@@ -60,7 +29,7 @@ IsFound B M limit test out Shown =
     (events : List Event) × IsWitness B M test events × (length events ≤ MAX_EVENTS) × (out ≡ canon events) × (length out ≤ INPUT_BYTES)
 IsFound B M limit test out (AllSeen states) =
     (out ≡ []) × (1 ≤ states) × (states < limit) × (EndsAsWanted M test (at_opening test.opening) → ⊥)
-IsFound B M limit test out (Cut states) = (out ≡ []) × IsCut limit states × (EndsAsWanted M test (at_opening test.opening) → ⊥)
+IsFound B M limit test out (Cut states) = (out ≡ []) × IsCutShort limit states × (EndsAsWanted M test (at_opening test.opening) → ⊥)
 
 -- events that show such an outcome, whose schedule would be refused as an input: its text has too many bytes
 pub record HasLongWitness (B M : ℕ) (test : LitmusTest) : Type 0 where

@@ -1,27 +1,25 @@
 //! The command `find`: a litmus text in, a schedule that shows what it asks about out.
 
-ghost use Rattle.std.specs.Prelude.{◌≡◌, ◌≤◌, ◌↔◌, if◌then◌else◌, IsTrue, IfOk, length};
-ghost use Rattle.step_machine.specs.Positions.{position_of};
-ghost use Rattle.step_machine.specs.Standing.{ForEachHistory};
+ghost use Rattle.std.specs.Prelude.{◌≡◌, ◌≤◌, ◌↔◌, if◌then◌else◌, IsTrue, IfOk};
 ghost use Rattle.engine_support.specs.Engines.{Ends};
 ghost use Rattle.engine_support.specs.Faults.{AnswersAs};
 ghost use Rattle.engine_support.specs.inner.Making.{FindsUpToReads, text_and_value};
 ghost use Rattle.finding.specs.declared.finds.Found.TheVariants.{AllSeen, Cut};
-ghost use Rattle.finding.specs.Find.{EndsAsWanted, IsFindAnswer, IsFindGiven, IsWantedAt, Shows};
+ghost use Rattle.finding.specs.Find.{IsFindAnswer, IsFindGiven};
+ghost use Rattle.surveys.specs.Wanted.{Shows};
 ghost use Rattle.litmus.specs.declared.litmus_test.TheConstants.{MAX_LOCATIONS};
 
-use crate::progress::SearchProgress;
-use crate::surveying::{Searched, survey};
 use engine_support::fault::{Fault, Position, TOO_LARGE};
 use engine_support::input::INPUT_BYTES;
 use engine_support::litmus_text::read_test;
 use engine_support::output::end_with;
-use litmus::{Test, Verdict};
+use litmus::Test;
 use recorder::write_schedule;
 use std::alloc::{AllocError, Global};
 use std::io::{Read, Write};
 use step_machine::laws::laws_of_runs;
-use step_machine::{Event, Machine, MachineState};
+use step_machine::{Event, Machine};
+use surveys::{SearchProgress, Searched, ends_as_wanted, survey};
 
 /// What a search came to.
 #[derive(Clone, Copy, PartialEq, Eq)]
@@ -33,23 +31,6 @@ pub enum Found {
     /// It was cut after this many distinct states, since it may see no more or a path has no more events. None of them ends
     /// so.
     Cut { states: u32 },
-}
-
-/// Whether the machine is finished with an outcome that is looked for, whatever led to where it stands.
-pub(crate) fn ends_as_wanted<const B: usize, const M: usize>(
-    test: &Test,
-    machine: &MachineState<B, M>,
-) -> bool
-    requires harts { length machine.now.harts ≡ length test.now.opening.harts }
-    requires names { length test.now.names ≤ M }
-    ensures history { ForEachHistory B M machine.now (λ t. IsTrue result ↔ EndsAsWanted M test.now t) }
-    ensures position { IsTrue result ↔ IsWantedAt test.now (position_of machine.now) }
-{
-    match test.verdict(machine) {
-        Verdict::Holds => test.by_exists(),
-        Verdict::Fails => !test.by_exists(),
-        Verdict::Unfinished => false,
-    }
 }
 
 /// Whether the run of these events from the test's opening shows what the test asks about.

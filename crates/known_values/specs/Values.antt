@@ -1,9 +1,10 @@
 -- What the code's enum of values stands for.
 use Rattle.known_values.specs.declared.values.Known.{Known}
 use Rattle.known_values.specs.declared.values.Known.TheVariants as known
-use Rattle.queue_certificates.specs.States.{KnownValue, any, linear, index_for}
+use Rattle.queue_certificates.specs.States.{KnownValue, any, linear, index_for, signed_for}
 
 abbrev pub known_of : Known → KnownValue
 known_of known.Any = any
 known_of (known.Linear f) = linear f
 known_of (known.IndexFor i f) = index_for i f
+known_of (known.SignedFor i f) = signed_for i f

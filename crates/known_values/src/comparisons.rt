@@ -1,8 +1,9 @@
 //! Comparisons of numbers that aren't known, where what is known of them decides.
 
 ghost use Rattle.std.specs.Prelude.{◌≡◌, ◌-◌, ◌≤◌, [], IfOk};
-ghost use Rattle.queue_certificates.specs.Forms.{plus, times};
+ghost use Rattle.queue_certificates.specs.Forms.{plus, times, reduced};
 ghost use Rattle.queue_certificates.specs.Results.{is_below, is_below_signed, is_nothing, negated, agrees, unscaled, is_scaled};
+ghost use Rattle.queue_certificates.specs.States.{signed_for};
 ghost use Rattle.queue_certificates.specs.Results.{standing, is_equal_word, is_equal};
 ghost use Rattle.known_values.specs.Queues.{queue_in};
 
@@ -10,8 +11,8 @@ use crate::bounds::{Bounds, bounds_of};
 use crate::forms::{Form, is_same, number, plus, times};
 use crate::lack::Lack;
 use crate::queues::{OpenedQueue, queue_in};
-use crate::ranges::{fits_in, most};
-use crate::values::{Known, KnownValue, scaled};
+use crate::ranges::{fits_in, most, reduced};
+use crate::values::{Known, KnownValue, index_for, scaled};
 use crate::words::WORDS;
 use std::alloc::Global;
 
@@ -59,15 +60,21 @@ pub fn negated(known: Option<bool>) -> Option<bool>
     }
 }
 
-/// The difference of two forms as a remainder by `modulus`.
+/// The difference of two forms as a remainder by `modulus`. Both are reduced first: below 2^32 none of its numbers is from 2^64 on.
 fn difference(alloc: Global, modulus: u64, left: &Form, right: &Form) -> Result<Form, Lack>
-    ensures { IfOk result (λ f. f ≡ plus left.now (times (modulus - 1) right.now)) }
+    ensures { IfOk result (λ f. f ≡ plus (reduced modulus left.now) (times (modulus - 1) (reduced modulus right.now))) }
 {
-    let negative = times(alloc, modulus.saturating_sub(1), right)?;
-    plus(alloc, left, &negative)
+    let least = reduced(alloc, modulus, left)?;
+    let negative = times(
+        alloc,
+        modulus.saturating_sub(1),
+        &reduced(alloc, modulus, right)?,
+    )?;
+    plus(alloc, &least, &negative)
 }
 
 /// Whether the remainders of two forms by `modulus` are the same, where bounds of the difference show it.
+#[tactic(auto, using(crate::proofs::Differences::bounds_reduced))]
 pub fn agrees(
     alloc: Global,
     ranges: &[Option<u64>],
@@ -146,6 +153,7 @@ fn standing(
                 Ok(None)
             }
         }
+        Known::SignedFor(_, _) => Ok(None),
     }
 }
 
@@ -172,6 +180,26 @@ fn is_equal_word(
     }
 }
 
+/// Whether what signed loads leave of words of two queues' indices is equal, where that is known.
+fn is_equal_signed(
+    alloc: Global,
+    queues: &[OpenedQueue],
+    ranges: &[Option<u64>],
+    i: u32,
+    left: &Form,
+    j: u32,
+    right: &Form,
+) -> Result<Option<bool>, Lack>
+    ensures { IfOk result (λ b. b ≡ is_equal (queue_in queues.now) ranges.now (signed_for i left.now) (signed_for j right.now)) }
+{
+    if queue_in(queues, i).index_width != queue_in(queues, j).index_width {
+        return Ok(None);
+    }
+    let left = index_for(i, left.copy(alloc)?);
+    let right = index_for(j, right.copy(alloc)?);
+    is_equal_word(alloc, queues, ranges, i, &left, &right)
+}
+
 /// Whether two values are equal, where that is known.
 pub fn is_equal(
     alloc: Global,
@@ -186,6 +214,9 @@ pub fn is_equal(
         (Known::Linear(f), Known::Linear(g)) => agrees(alloc, ranges, WORDS, f, g),
         (Known::IndexFor(i, _), _) | (Known::Linear(_), Known::IndexFor(i, _)) => {
             is_equal_word(alloc, queues, ranges, *i, left, right)
+        }
+        (Known::SignedFor(i, f), Known::SignedFor(j, g)) => {
+            is_equal_signed(alloc, queues, ranges, *i, f, *j, g)
         }
         _ => Ok(None),
     }

@@ -1,8 +1,9 @@
 //! Queues, as a certificate lists them.
 
-ghost use Rattle.std.specs.Prelude.{◌≡◌};
+ghost use Rattle.std.specs.Prelude.{◌≡◌, ◌^◌, IfOk};
 ghost use Rattle.known_values.specs.Queues.{queue_in};
 
+use crate::lack::{Lack, product};
 pub use queue_layouts::Queue;
 use std::marker::Model;
 
@@ -21,6 +22,18 @@ impl Model for OpenedQueue {
     ghost view = { λ o. record { queue = o.queue; start = o.start } };
 
     ghost inverse = { λ o. record { queue = o.queue; start = o.start } };
+}
+
+/// How many numbers as many bytes have.
+pub fn words_of(bytes: u32) -> Result<u64, Lack>
+    ensures { IfOk result (λ n. n ≡ 256 ^ bytes) }
+{
+    let mut count = 1;
+    for i in 0..bytes {
+        let _turn = i;
+        count = product(count, 256)?;
+    }
+    Ok(count)
 }
 
 /// Queue `i` of these; one of zeros, if there are fewer.

@@ -1,12 +1,12 @@
 //! Numbers that are known by their remainders, as sums and differences of an index's words are.
 
-ghost use Rattle.std.specs.Prelude.{length, ◌≡◌, ◌+◌, ◌-◌, ◌*◌, ◌/◌, ◌%◌, ◌^◌, IfOk};
-ghost use Rattle.queue_certificates.specs.Results.{negative, rests_added, whole, rest_of, is_count, counting};
+ghost use Rattle.std.specs.Prelude.{length, ◌≡◌, ◌+◌, ◌-◌, ◌*◌, ◌/◌, ◌%◌, ◌^◌, ◌==◌, None, if◌then◌else◌, IfOk};
+ghost use Rattle.queue_certificates.specs.Results.{negative, rests_added, whole, index_rest, rest_of, is_count, counting};
 ghost use Rattle.known_values.specs.Queues.{queue_in};
 
 use crate::forms::{Form, number, plus, times};
 use crate::lack::{Lack, product, remainder_by};
-use crate::queues::{OpenedQueue, Queue, queue_in};
+use crate::queues::{OpenedQueue, Queue, queue_in, words_of};
 use crate::values::{Known, KnownValue, scaled};
 use crate::words::WORDS;
 use std::alloc::Global;
@@ -93,6 +93,33 @@ pub fn counting(queues: &[OpenedQueue], n: u64) -> Result<Option<u32>, Lack>
     Ok(last)
 }
 
+/// The word of a queue's index that stands for the count that `form` is, by its remainder, if that divides 2^32.
+fn index_rest(alloc: Global, queue: Queue, form: &Form) -> Result<Option<Rest>, Lack>
+    ensures { IfOk result (λ r. r ≡ index_rest queue form.now) }
+{
+    let by = product(queue.scale, queue.modulus)?;
+    if remainder_by(WORDS, by) != 0 {
+        return Ok(None);
+    }
+    let count = plus(alloc, form, &number(alloc, queue.offset))?;
+    Ok(Some(Rest {
+        by,
+        form: scaled(alloc, queue, &count)?,
+    }))
+}
+
+/// What a signed load leaves of such a word, if that also divides the number of words of the index's bytes.
+fn signed_rest(alloc: Global, queue: Queue, form: &Form) -> Result<Option<Rest>, Lack>
+    ensures { IfOk result (λ r. r ≡ (if 256 ^ queue.index_width % (queue.scale * queue.modulus) == 0 then index_rest queue form.now else None)) }
+{
+    let by = product(queue.scale, queue.modulus)?;
+    if remainder_by(words_of(queue.index_width)?, by) == 0 {
+        index_rest(alloc, queue, form)
+    } else {
+        Ok(None)
+    }
+}
+
 /// What is known of a value's remainder.
 pub fn rest_of(
     alloc: Global,
@@ -104,17 +131,7 @@ pub fn rest_of(
     match &value.known {
         Known::Any => Ok(None),
         Known::Linear(form) => Ok(whole(form.copy(alloc)?)),
-        Known::IndexFor(i, form) => {
-            let queue = queue_in(queues, *i);
-            let by = product(queue.scale, queue.modulus)?;
-            if remainder_by(WORDS, by) != 0 {
-                return Ok(None);
-            }
-            let count = plus(alloc, form, &number(alloc, queue.offset))?;
-            Ok(Some(Rest {
-                by,
-                form: scaled(alloc, queue, &count)?,
-            }))
-        }
+        Known::IndexFor(i, form) => index_rest(alloc, queue_in(queues, *i), form),
+        Known::SignedFor(i, form) => signed_rest(alloc, queue_in(queues, *i), form),
     }
 }

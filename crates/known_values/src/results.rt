@@ -1,10 +1,12 @@
 //! What an instruction leaves in a register, as far as it is known.
 
-ghost use Rattle.std.specs.Prelude.{◌≡◌, ◌+◌, ◌%◌, ◌^◌, ◌<◌, ◌≤◌, ◌==◌, ◌&&◌, count_ones, length, [], IfOk};
-ghost use Rattle.queue_certificates.specs.Forms.{remainder_word};
+ghost use Rattle.std.specs.Prelude.{◌≡◌, ◌+◌, ◌*◌, ◌%◌, ◌^◌, ◌<◌, ◌≤◌, ◌==◌, ◌&&◌, count_ones, length, [], IfOk};
+ghost use Rattle.std.specs.Int.{trailing_zeros, w32};
+ghost use Rattle.queue_certificates.specs.Forms as forms;
+ghost use Rattle.queue_certificates.specs.Forms.{remainder_word, times};
 ghost use Rattle.queue_certificates.specs.States.{any};
 ghost use Rattle.queue_certificates.specs.Results.{just, exactly, any_up_to, or_up_to, as_number, flag_of, set_less, shifted_left, shifted_right};
-ghost use Rattle.queue_certificates.specs.Results.{sum_of, of_rest, rest_of, turned, bounds, counting, rest_counted, remaining, masked, masked_by};
+ghost use Rattle.queue_certificates.specs.Results.{sum_of, of_rest, rest_of, turned, bounds, counting, rest_counted, remaining, multiple_or, masked_row, masked, masked_by};
 ghost use Rattle.queue_certificates.specs.Results.{without, shifted_back};
 ghost use Rattle.queue_certificates.specs.Results.{immediate_part, of_immediate, shift_part, of_shift, register_part, of_registers};
 ghost use Rattle.queue_certificates.specs.Results.{branch_part, is_branch_taken};
@@ -255,7 +257,77 @@ fn remaining(
     }
 }
 
-/// The low bits that `mask` keeps, or some number up to it.
+/// `n` times a form, if it is one; or the other.
+fn multiple_or(alloc: Global, n: u64, form: Option<Form>, other: Outcome) -> Result<Outcome, Lack>
+    ensures { IfOk result (λ r. r ≡ multiple_or n form other) }
+{
+    match form {
+        None => Ok(other),
+        Some(form) => just(alloc, &linear(times(alloc, n, &form)?)),
+    }
+}
+
+/// Whether the mask keeps bits in a row from `low` on, and no more of them than make a remainder by `by`.
+fn is_row(by: u64, mask: u32, low: u64) -> bool
+    requires { low ≤ 2 ^ 32 }
+    ensures { result ≡ ((mask + low == low * 2 ^ count_ones mask) && (by % (mask + low) == 0)) }
+{
+    let above = u64::from(mask) + low;
+    above == low << mask.count_ones() && remainder_by(by, above) == 0
+}
+
+/// The lowest bit of a mask; the one past them all, if it has none.
+fn lowest(mask: u32) -> u64
+    ensures value { result ≡ 2 ^ trailing_zeros w32 mask }
+    ensures some { 1 ≤ result }
+    ensures small { result ≤ 2 ^ 32 }
+{
+    1 << mask.trailing_zeros()
+}
+
+/// Whether a form is `n` times another.
+fn is_multiple(alloc: Global, n: u64, form: &Form, part: &Form) -> Result<bool, Lack>
+    ensures { IfOk result (λ same. same ≡ forms.is_same 0 form.now (times n part.now)) }
+{
+    Ok(is_same(0, form, &times(alloc, n, part)?))
+}
+
+/// `low` times the remainder of `part` by as many words as the mask has bits for, if that is a form; or some number up to the mask.
+fn kept_multiple(
+    alloc: Global,
+    ranges: &[Option<u64>],
+    part: &Form,
+    mask: u32,
+    low: u64,
+) -> Result<Outcome, Lack>
+    ensures { IfOk result (λ r. r ≡ multiple_or low (remainder_word ranges.now part.now (2 ^ count_ones mask)) (any_up_to mask)) }
+{
+    let kept = remainder_word(alloc, ranges, part, 1 << mask.count_ones())?;
+    multiple_or(alloc, low, kept, any_up_to(alloc, u64::from(mask))?)
+}
+
+/// The bits in a row that `mask` keeps of a multiple of the lowest of them, or some number up to it.
+fn masked_row(
+    alloc: Global,
+    ranges: &[Option<u64>],
+    rest: &Rest,
+    mask: u32,
+    low: u64,
+) -> Result<Outcome, Lack>
+    requires some { 1 ≤ low }
+    requires small { low ≤ 2 ^ 32 }
+    ensures { IfOk result (λ r. r ≡ masked_row ranges.now rest.now mask low) }
+{
+    let part = without(alloc, low, &rest.form)?;
+    let multiple = is_multiple(alloc, low, &rest.form, &part)?;
+    if is_row(rest.by, mask, low) && multiple {
+        kept_multiple(alloc, ranges, &part, mask, low)
+    } else {
+        any_up_to(alloc, u64::from(mask))
+    }
+}
+
+/// The low bits that `mask` keeps, or bits in a row, or some number up to it.
 pub fn masked(
     alloc: Global,
     queues: &[OpenedQueue],
@@ -277,7 +349,8 @@ pub fn masked(
                 other,
             )
         }
-        _ => Ok(other),
+        Some(rest) => masked_row(alloc, ranges, &rest, mask, lowest(mask)),
+        None => Ok(other),
     }
 }
 

@@ -3,13 +3,13 @@
 ghost use Rattle.std.specs.Prelude.{ℕ, ◌≡◌, List, Option, IfOk};
 ghost use Rattle.queue_certificates.specs.Forms as forms;
 ghost use Rattle.queue_certificates.specs.Forms.{lifted, raised, substituted, times};
-ghost use Rattle.queue_certificates.specs.States.{any, linear, index_for, value_by, scaled, of_remainder, plain, is_within_plain, is_within};
+ghost use Rattle.queue_certificates.specs.States.{any, linear, index_for, signed_for, signed_word, value_by, scaled, of_remainder, plain, is_within_plain, is_within};
 ghost use Rattle.known_values.specs.Queues.{queue_in};
 ghost use Rattle.known_values.specs.Values.{known_of};
 
 use crate::forms::{Form, is_same, lifted, number, plus, raised, substituted, times};
-use crate::lack::Lack;
-use crate::queues::{OpenedQueue, Queue, queue_in};
+use crate::lack::{Lack, sum};
+use crate::queues::{OpenedQueue, Queue, queue_in, words_of};
 use crate::ranges::{fits_in, most, remainder, settled};
 use crate::words::WORDS;
 use std::alloc::Global;
@@ -24,6 +24,8 @@ pub enum Known {
     Linear(Form),
     /// The word of this queue that stands for the count that the form is.
     IndexFor(u32, Form),
+    /// What a signed load leaves of that word.
+    SignedFor(u32, Form),
 }
 
 /// What is known of a register or a word. A contract sees it as a `KnownValue` of `queue_certificates`.
@@ -67,6 +69,15 @@ pub fn index_for(i: u32, form: Form) -> KnownValue
     }
 }
 
+/// What a signed load leaves of the word of queue `i` that stands for the count that the form is.
+pub fn signed_for(i: u32, form: Form) -> KnownValue
+    ensures { result ≡ signed_for i form }
+{
+    KnownValue {
+        known: Known::SignedFor(i, form),
+    }
+}
+
 impl KnownValue {
     /// A copy, which takes its memory from `alloc`.
     pub fn copy(&self, alloc: Global) -> Result<KnownValue, Lack>
@@ -76,6 +87,7 @@ impl KnownValue {
             Known::Any => Ok(any()),
             Known::Linear(form) => Ok(linear(form.copy(alloc)?)),
             Known::IndexFor(i, form) => Ok(index_for(*i, form.copy(alloc)?)),
+            Known::SignedFor(i, form) => Ok(signed_for(*i, form.copy(alloc)?)),
         }
     }
 }
@@ -88,6 +100,7 @@ pub fn lifted_value(alloc: Global, value: &KnownValue) -> Result<KnownValue, Lac
         Known::Any => Ok(any()),
         Known::Linear(form) => Ok(linear(lifted(alloc, form)?)),
         Known::IndexFor(i, form) => Ok(index_for(*i, lifted(alloc, form)?)),
+        Known::SignedFor(i, form) => Ok(signed_for(*i, lifted(alloc, form)?)),
     }
 }
 
@@ -103,6 +116,7 @@ pub fn settled_value(
         Known::Any => Ok(any()),
         Known::Linear(form) => Ok(linear(settled(alloc, ranges, form)?)),
         Known::IndexFor(i, form) => Ok(index_for(*i, settled(alloc, ranges, form)?)),
+        Known::SignedFor(i, form) => Ok(signed_for(*i, settled(alloc, ranges, form)?)),
     }
 }
 
@@ -114,6 +128,7 @@ pub fn times_value(alloc: Global, n: u64, value: &KnownValue) -> Result<KnownVal
         Known::Any => Ok(any()),
         Known::Linear(form) => Ok(linear(times(alloc, n, form)?)),
         Known::IndexFor(i, form) => Ok(index_for(*i, times(alloc, n, form)?)),
+        Known::SignedFor(i, form) => Ok(signed_for(*i, times(alloc, n, form)?)),
     }
 }
 
@@ -125,6 +140,7 @@ pub fn raised_value(alloc: Global, j: u32, by: u64, value: &KnownValue) -> Resul
         Known::Any => Ok(any()),
         Known::Linear(form) => Ok(linear(raised(alloc, j, by, form)?)),
         Known::IndexFor(i, form) => Ok(index_for(*i, raised(alloc, j, by, form)?)),
+        Known::SignedFor(i, form) => Ok(signed_for(*i, raised(alloc, j, by, form)?)),
     }
 }
 
@@ -140,6 +156,19 @@ pub fn substituted_value(
         Known::Any => Ok(any()),
         Known::Linear(form) => Ok(linear(substituted(alloc, form, forms)?)),
         Known::IndexFor(i, form) => Ok(index_for(*i, substituted(alloc, form, forms)?)),
+        Known::SignedFor(i, form) => Ok(signed_for(*i, substituted(alloc, form, forms)?)),
+    }
+}
+
+/// What a signed load leaves of a number of so many bytes.
+pub fn signed_word(width: u32, word: u64) -> Result<u64, Lack>
+    ensures { IfOk result (λ n. n ≡ signed_word width word) }
+{
+    let words = words_of(width)?;
+    if sum(word, word)? < words {
+        Ok(word)
+    } else {
+        sum(word, WORDS.saturating_sub(words))
     }
 }
 
@@ -203,6 +232,7 @@ pub fn plain(
             let rest = remainder(alloc, ranges, &count, queue.modulus)?;
             of_remainder(alloc, ranges, queue, *i, form, rest)
         }
+        Known::SignedFor(i, form) => Ok(signed_for(*i, form.copy(alloc)?)),
     }
 }
 
@@ -214,6 +244,9 @@ pub fn is_within_plain(queues: &[OpenedQueue], left: &KnownValue, right: &KnownV
         (_, Known::Any) => true,
         (Known::Linear(f), Known::Linear(g)) => is_same(WORDS, f, g),
         (Known::IndexFor(i, f), Known::IndexFor(j, g)) => {
+            *i == *j && is_same(queue_in(queues, *i).modulus, f, g)
+        }
+        (Known::SignedFor(i, f), Known::SignedFor(j, g)) => {
             *i == *j && is_same(queue_in(queues, *i).modulus, f, g)
         }
         _ => false,

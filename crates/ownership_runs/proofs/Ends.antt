@@ -6,16 +6,16 @@ use Rattle.std.proofs.lemmas.List.{length-append}
 use Rattle.std.proofs.Math.Seq.{take-append_seam}
 use Rattle.step_machine.specs.declared.events.Event.{Event}
 use Rattle.step_machine.specs.declared.events.Entry.{Entry}
-use Rattle.step_machine.specs.declared.events.Outcome.{Outcome}
 use Rattle.step_machine.specs.declared.events.Outcome.TheVariants as outcome
 use Rattle.step_machine.specs.History.{OpeningValue, History, at_opening}
 use Rattle.step_machine.specs.Entries.{hart_of}
-use Rattle.step_machine.specs.Runs.{Adds, Idles, Happens, RunFrom, Run}
+use Rattle.step_machine.specs.Runs.{Adds, Idles, Run}
 use Rattle.step_machine.proofs.Running.{shape_of, hart_follows, opening_kept}
 use Rattle.queue_parties.specs.Parties.{QueueCounts}
 use Rattle.slot_queue.specs.Queues.{Queue}
 use Rattle.slot_queue.specs.Ownership.{counts_after}
 use Rattle.shrink.specs.Shrinking.{without}
+use Rattle.drawn_runs.proofs.LastEvents.{LastHappens, last_happens}
 use Rattle.judged_runs.specs.Telling.{IsFlawTold}
 use Rattle.ownership_runs.specs.declared.violations.Violation.{Violation}
 use Rattle.ownership_runs.specs.Keeping.{keeps_entry}
@@ -56,21 +56,6 @@ without-last front last = ap (λ xs. xs ++ drop (length front + 1) (front ++ las
             let next : length (x ∷ xs) + 1 ≡ suc (length xs + 1) = omega arith in
             ap (λ (n : ℕ). drop n (x ∷ xs ++ last ∷ [])) next ∙ by xs
 
--- the history before the last event, and what then happened
-record LastHappens (B M : ℕ) (t : History) (events : List Event) (event : Event) (new : History) : Type 0 where
-  before : History
-  outcome : Outcome
-  ran : RunFrom B M t events before
-  happens : Happens B M before event outcome new
-
-last-happens : (B M : ℕ) (t : History) (events : List Event) (event : Event) (new : History) → RunFrom B M t (events ++ event ∷ []) new
-    → LastHappens B M t events event new
-last-happens B M t [] event new run =
-    record { before = t; outcome = run.0; ran = refl; happens = subst (λ (u : History). Happens B M t event run.0 u) (sym run.3) run.2 }
-last-happens B M t (e ∷ events) event new run =
-    let rest = last-happens B M run.1 events event new run.3 in
-    record { before = rest.before; outcome = rest.outcome; ran = (run.0, run.1, run.2, rest.ran); happens = rest.happens }
-
 -- ---- the violation of the last entry
 
 module _ (q : Queue) (start : QueueCounts) (es : List Entry) (e : Entry) (b : Violation)
@@ -106,7 +91,7 @@ module _ (B M : ℕ) (o : OpeningValue) (q : Queue) (start : QueueCounts) (part 
 
     module _ (l : HasLast part) where
       split : LastHappens B M (at_opening o) l.front l.last has.history
-      split = last-happens B M (at_opening o) l.front l.last has.history (subst (λ xs. Run B M o xs has.history) l.is has.run)
+      split = last_happens B M (at_opening o) l.front l.last has.history (subst (λ xs. Run B M o xs has.history) l.is has.run)
 
       -- the events before the last one have no such run
       not-before : first_ownership_violation q start split.before.entries ≡ Some b → ⊥

@@ -10,9 +10,6 @@ use Rattle.slot_queue.specs.Queues.{Queue, IsQueue, IsAtRest}
 use Rattle.slot_queue.specs.Ownership.{KeepsOwnership}
 use Rattle.slot_queue.specs.Laws.{FollowsOwnership}
 use Rattle.judged_runs.specs.Histories.{MOST, summed}
-use Rattle.judged_runs.specs.Telling.{IsTold}
-use Rattle.judged_runs.specs.declared.telling.Told.{Told}
-use Rattle.judged_runs.specs.declared.telling.Told.TheVariants as told
 use Rattle.judged_runs.proofs.Histories.{capped_both, runs_both, runs_one, total_both}
 use Rattle.ownership_runs.specs.declared.violations.Violation.{Violation}
 use Rattle.ownership_runs.specs.declared.runs.Moved.{Moved}
@@ -95,23 +92,3 @@ module _ (B M : ℕ) (o : OpeningValue) (q : Queue) (start : QueueCounts) where
     taken = taken ∙ capped_both old.taken later.taken _ _ are.taken others.taken
         ∙ ap (λ m. min m MOST) (sym (total_both (taken_in q start) are.histories others.histories));
   }
-
--- what is told of runs, of which the good ones are also good in another way
-pub told-better : {T F : Type 0} (Good Better : List Event → Type 0) (Has : List Event → F → Type 0) (Alike : F → F → Type 0)
-    (Counts : List (List Event) → T → Type 0) (schedule : ℕ → List Event) (runs : ℕ) (told : Told T F) → ((events : List Event) → Good events → Better events)
-    → IsTold Good Has Alike Counts schedule runs told → IsTold Better Has Alike Counts schedule runs told
-told-better Good Better Has Alike Counts schedule runs (told.Good tally) better is = record {
-  order = is.order;
-  good = λ i above below. better (schedule i) (is.good i above below);
-  counted = is.counted;
-}
-told-better Good Better Has Alike Counts schedule runs (told.Flawed part flaw) better is = record {
-  number = is.number;
-  flaw = is.flaw;
-  is_first = record {
-    within = is.is_first.within;
-    before = λ i above below. better (schedule i) (is.is_first.before i above below);
-    has = is.is_first.has;
-  };
-  shown = is.shown;
-}

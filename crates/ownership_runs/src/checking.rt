@@ -1,9 +1,8 @@
 //! The answer of many runs: that all keep a queue's protocol of ownership, or a short schedule of one that breaks it.
 
-ghost use Rattle.std.specs.Prelude.{◌≡◌, ◌≤◌, ◌*◌, IfOk, length};
+ghost use Rattle.std.specs.Prelude.{◌≡◌, ◌≤◌, IfOk, length};
 ghost use Rattle.step_machine.specs.History.{FitsIn};
-ghost use Rattle.recorder.specs.Drawing.{left_after};
-ghost use Rattle.drawn_runs.specs.Draws.{schedule_by};
+ghost use Rattle.drawn_runs.specs.Samples.{runs_of, schedule_in};
 ghost use Rattle.judged_runs.specs.Telling.{IsTold};
 ghost use Rattle.ownership_runs.specs.Runs.{HasKeptRun, HasBrokenRun, AreMovesOf, IsOfOneHart};
 
@@ -12,16 +11,15 @@ use crate::runs::{Moved, OwnershipJudge};
 use crate::violations::Violation;
 use drawn_runs::parallel::in_rounds;
 use drawn_runs::progress::Progress;
-use drawn_runs::{Draw, Jump, Runs};
+use drawn_runs::{Jump, Sample};
 use judged_runs::{JudgedRuns, Told, told_of_runs};
 use queue_layouts::Queue;
 use std::alloc::{AllocError, Global};
 use std::thread::Threads;
 use step_machine::Opening;
 
-/// Runs an opening `runs.number` times, with store buffers of `B` pairs and `M` words of memory, each time by `runs.length` events
-/// that the generator draws, after the events of the runs that are passed over, and judges each by the protocol of ownership of this
-/// queue, whose parties have come as far as `start` there.
+/// Makes the runs of a sample from an opening, with store buffers of `B` pairs and `M` words of memory, and judges each by the
+/// protocol of ownership of this queue, whose parties have come as far as `start` there.
 ///
 /// If all keep it, that is by how much the parties moved on in all of them. Otherwise it is a part of the events of the first run
 /// that doesn't, from which events were left out until none could go without its first violation being another hart's or none, and the
@@ -39,9 +37,7 @@ pub fn check_runs<
     opening: &Opening,
     queue: &Queue,
     start: Counts,
-    draw: Draw,
-    generator: &G,
-    runs: Runs,
+    sample: &Sample<'_, G>,
     progress: &mut P,
 ) -> Result<Told<Moved, Violation>, AllocError>
     requires some_capacity { 1 ≤ B }
@@ -52,18 +48,19 @@ pub fn check_runs<
     requires some_slot { 1 ≤ queue.now.size }
     ensures { IfOk result (λ told. IsTold (HasKeptRun B M opening.now queue.now start) (HasBrokenRun B M opening.now queue.now start) IsOfOneHart
         (AreMovesOf B M opening.now queue.now start)
-        (schedule_by draw (length opening.now.harts) runs.length (left_after (runs.skip * runs.length) (G.Rng.stream generator.now))) runs.number told) }
+        (schedule_in (runs_of B M G.Rng.stream sample.now) (length opening.now.harts)) sample.now.runs.number told) }
 {
     let judge = OwnershipJudge::<B, M> {
         opening,
         queue,
         start,
     };
-    let from = generator.ahead(runs.skip, runs.length)?;
+    let runs = sample.runs;
+    let from = sample.generator.ahead(runs.skip, runs.length)?;
     let drawn = JudgedRuns {
         judge: &judge,
         generator: &from,
-        draw,
+        draw: sample.draw,
         size: runs.length,
     };
     let found = in_rounds(rt, alloc, &drawn, runs.number, runs.jobs, progress);

@@ -22,7 +22,8 @@ use Rattle.queue_parties.specs.Parties.{Party, the_sender, the_receiver, all_at,
 use Rattle.slot_queue.specs.Ownership.{hart, party_of, end, after_access, KeepsAccess}
 use Rattle.owned_run.specs.Certified.{View, AllCounts, number_seen, view_then, Acts, LoadsOwned}
 use Rattle.queue_certificates.specs.Forms.{settled, form_value, InRanges}
-use Rattle.queue_certificates.specs.States.{KnownValue, any, linear, index_for, no_share, KnownState, Has, HasShare, MeansAt, Means}
+use Rattle.queue_certificates.specs.States.{KnownValue, any, linear, index_for, signed_for, no_share, KnownState}
+use Rattle.queue_certificates.specs.States.{Has, signed_word, HasShare, MeansAt, Means}
 use Rattle.queue_certificates.specs.Steps.{all_below, follow, instruction_at, loads_owned}
 use Rattle.queue_certificates.specs.Certificates.{Arrow, Cases, leaf, split, QueueCertificate, queue_at, start_at}
 use Rattle.queue_certificates.specs.Certificates.{part_of, own_of, state_at, no_part, no_hart, IsInState, Opens}
@@ -98,6 +99,7 @@ has-value : (queues : ℕ → Queue) (xs : List ℕ) (v : KnownValue) (x : ℕ) 
 has-value queues xs any x ok = tt
 has-value queues xs (linear f) x ok = eqb-true x (form_value f xs % 2 ^ 32) ok
 has-value queues xs (index_for i f) x ok = eqb-true x (index_word (queues i) (form_value f xs)) ok
+has-value queues xs (signed_for i f) x ok = eqb-true x (signed_word (queues i).index_width (index_word (queues i) (form_value f xs))) ok
 
 in-ranges : (rs : List (Option ℕ)) (xs : List ℕ) → are_in_ranges rs xs ≡ true → InRanges rs xs
 in-ranges [] [] ok = tt

@@ -1,12 +1,12 @@
 -- When two values are equal: by bounds of the difference of their forms, or of what they count as words of one index.
 use Rattle.std.proofs.Common.{ℕ, ◌+◌, ◌-◌, ◌*◌, ◌/◌, ◌%◌, ◌^◌, ◌<◌, ◌≤◌, ◌≡◌, ◌==◌, ◌&&◌, if◌then◌else◌, Bool, true, false}
-use Rattle.std.proofs.Common.{Option, Some, None, List, refl, sym, ◌∙◌, ap, subst, arith}
+use Rattle.std.proofs.Common.{Option, Some, None, List, inl, inr, refl, sym, ◌∙◌, ap, subst, arith}
 use Rattle.std.specs.Prelude.{nat_lt, nat_le}
-use Rattle.std.proofs.lemmas.Bool.{and_parts, eqb-true, ltb-true, leb-true, eq-eqb, ne_eqb}
+use Rattle.std.proofs.lemmas.Bool.{and_parts, eqb-true, ltb-true, leb-true, lt-ltb, eq-eqb, ne_eqb, cases_lt}
 use Rattle.std.proofs.Math.Nat.{mod-eq_of_lt, add-mul-mod_self_left, add-mul, mul-mod_left, mul_comm, mul-div_cancel_left}
 use Rattle.slot_queue.specs.Queues.{Queue, index_word}
 use Rattle.queue_certificates.specs.Forms.{Form, form_value, number, plus, times, is_same, most, fits_in, InRanges, Bounds, bounds_of}
-use Rattle.queue_certificates.specs.States.{KnownValue, any, linear, index_for, Has, scaled}
+use Rattle.queue_certificates.specs.States.{KnownValue, any, linear, index_for, signed_for, Has, signed_word, scaled}
 use Rattle.queue_certificates.specs.Results.{is_nothing, agrees, unscaled, is_scaled, standing, both_agree, is_equal_word, is_equal}
 use Rattle.queue_certificates.proofs.Forms.{value-plus, value-times, mod-sum, same-value}
 use Rattle.queue_certificates.proofs.Bounds.{IsBetween, value-between, value-below, fits-below}
@@ -69,10 +69,39 @@ module _ (queues : ℕ → Queue) (xs : List ℕ) (rs : List (Option ℕ)) (rang
           )
           at false false low high is = absurd (cc)
 
+  -- a signed load leaves different numbers of different ones
+  signed-below : (w x y : ℕ) → x < y → signed_word w x < signed_word w y
+  signed-below w x y less = by (nat_lt (x + x) (256 ^ w)) (nat_lt (y + y) (256 ^ w)) refl refl
+    where
+      by : (s t : Bool) → nat_lt (x + x) (256 ^ w) ≡ s → nat_lt (y + y) (256 ^ w) ≡ t
+          → (if s then x else x + (2 ^ 32 - 256 ^ w)) < (if t then y else y + (2 ^ 32 - 256 ^ w))
+      by true true low high = less
+      by true false low high = omega (arith, less)
+      by false false low high = omega (arith, less)
+      by false true low high = absurd (
+          let u : y + y < 256 ^ w = ltb-true (y + y) (256 ^ w) high in
+          let t : nat_lt (x + x) (256 ^ w) ≡ true = lt-ltb (x + x) (256 ^ w) (omega (arith, u, less)) in
+          let no : true ≡ false = sym t ∙ low in cc)
+
+  signed-apart : (w x y : ℕ) → signed_word w x ≡ signed_word w y → x ≡ y
+  signed-apart w x y same = elim (cases_lt x y) [
+    | inl less ↦ absurd (let u : signed_word w x < signed_word w y = signed-below w x y less in omega (arith, u, same))
+    | inr other ↦ elim (cases_lt y x) [
+      | inl more ↦ absurd (let u : signed_word w y < signed_word w x = signed-below w y x more in omega (arith, u, same))
+      | inr more ↦ omega (arith, other, more)
+    ]
+  ]
+
+  signed-equal : (w x y : ℕ) (t : Bool) → (x == y) ≡ t → (signed_word w x == signed_word w y) ≡ t
+  signed-equal w x y true is = eq-eqb (signed_word w x) (signed_word w y) (ap (signed_word w) (eqb-true x y is))
+  signed-equal w x y false is = ne_eqb (signed_word w x) (signed_word w y) (λ same.
+      (let no : true ≡ false = sym (eq-eqb x y (signed-apart w x y same)) ∙ is in cc))
+
   -- what a value stands for as a word of queue i's index
   standing-is : (i : ℕ) (v : KnownValue) (x : ℕ) (k : Form) → 1 ≤ (queues i).modulus → standing queues rs i v ≡ Some k → Has queues xs v x
       → x ≡ (queues i).base + (queues i).scale * (form_value k xs % (queues i).modulus)
   standing-is i any x k some is has = absurd (cc)
+  standing-is i (signed_for j f) x k some is has = absurd (cc)
   standing-is i (index_for j f) x k some is has = by (i == j) refl is
     where
       by : (t : Bool) → (i == j) ≡ t → (if t then Some (plus f (number (queues i).offset)) else None) ≡ Some k
@@ -140,6 +169,24 @@ module _ (queues : ℕ → Queue) (xs : List ℕ) (rs : List (Option ℕ)) (rang
   pub equal-is : (v w : KnownValue) (x y : ℕ) → Has queues xs v x → Has queues xs w y → (t : Bool) → is_equal queues rs v w ≡ Some t → (x == y) ≡ t
   equal-is any w x y one two t is = absurd (cc)
   equal-is (index_for i f) w x y one two t is = equal-word i (index_for i f) w x y one two t is
+  equal-is (signed_for i f) any x y one two t is = absurd (cc)
+  equal-is (signed_for i f) (linear g) x y one two t is = absurd (cc)
+  equal-is (signed_for i f) (index_for j g) x y one two t is = absurd (cc)
+  equal-is (signed_for i f) (signed_for j g) x y one two t is = by ((queues i).index_width == (queues j).index_width) refl is
+    where
+      a : ℕ
+      a = index_word (queues i) (form_value f xs)
+
+      b : ℕ
+      b = index_word (queues j) (form_value g xs)
+
+      by : (u : Bool) → ((queues i).index_width == (queues j).index_width) ≡ u
+          → (if u then is_equal_word queues rs i (index_for i f) (index_for j g) else None) ≡ Some t → (x == y) ≡ t
+      by false other is = absurd (cc)
+      by true same is = ap (λ n. n == y) one
+          ∙ ap (λ n. signed_word (queues i).index_width a == n) (two ∙ ap (λ w. signed_word w b) (sym (eqb-true (queues i).index_width (queues j).index_width same)))
+          ∙ signed-equal (queues i).index_width a b t (equal-word i (index_for i f) (index_for j g) a b refl refl t is)
   equal-is (linear f) any x y one two t is = absurd (cc)
+  equal-is (linear f) (signed_for i g) x y one two t is = absurd (cc)
   equal-is (linear f) (index_for i g) x y one two t is = equal-word i (linear f) (index_for i g) x y one two t is
   equal-is (linear f) (linear g) x y one two t is = ap (λ n. n == y) one ∙ ap (λ n. form_value f xs % 2 ^ 32 == n) two ∙ (agrees-is (2 ^ 32) f g t is).1

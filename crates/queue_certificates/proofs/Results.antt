@@ -3,13 +3,14 @@ use Rattle.std.proofs.Common.{ℕ, ℤ, pos, negsuc, zero, suc, ◌+◌, ◌-◌
 use Rattle.std.proofs.Common.{◌+ℤ◌, inl, inr, if◌then◌else◌, not, Bool, true, false, Option, Some, None, List, ◌∷◌}
 use Rattle.std.proofs.Common.{refl, sym, ◌∙◌, ap, subst, arith}
 use Rattle.std.specs.Prelude.{int_lt, nat_lt, nat_le, ◌-ℤ◌, bit_and, bit_xor, count_ones}
-use Rattle.std.specs.Int.Bits.{xor_add_and}
+use Rattle.std.specs.Int.{trailing_zeros, w32}
+use Rattle.std.specs.Int.Bits.{xor_add_and, and_zero_r}
 use Rattle.std.proofs.lemmas.Int.{ints}
 use Rattle.std.proofs.lemmas.Bool.{and_parts, eqb-true, ltb-true, leb-true, lt-ltb, le-ltb, cases_lt}
-use Rattle.std.proofs.lemmas.Nat.{le-div, pow_pos, pow-add, and_mask, and_le_r, and_comm, mul-le, mul-mod_first}
+use Rattle.std.proofs.lemmas.Nat.{le-div, pow_pos, pow-add, shr_split, field_of, and_mask, and_block, and_le_r, and_comm, mul-le, mul-mod_first}
 use Rattle.std.proofs.Math.Nat.{mod-eq_of_lt, mod-mod_of_dvd, div-mul-le_self, pow-le-pow_right, mul-div_cancel_left, mod-mod, mod-zero, zero-mod}
-use Rattle.std.proofs.Math.Nat.{mod_self, mod-add-div, add-mul, add-mul-mod_self_left, mul_comm}
-use Rattle.std.proofs.lemmas.Nat.Gcd.{dvd_of_mod-eq-zero}
+use Rattle.std.proofs.Math.Nat.{mod_self, mod-lt, mod-add-div, add-mul, mul-add, add-mul-mod_self_left, mul_comm, dvd-sub}
+use Rattle.std.proofs.lemmas.Nat.Gcd.{dvd_of_mod-eq-zero, mod-eq-zero_of_dvd}
 use Rattle.rv_decode.specs.declared.instruction.BranchOp.{BranchOp}
 use Rattle.rv_decode.specs.declared.instruction.BranchOp.TheVariants as branch
 use Rattle.rv_decode.specs.declared.instruction.ImmediateOp.{ImmediateOp}
@@ -19,16 +20,16 @@ use Rattle.rv_decode.specs.declared.instruction.ShiftOp.TheVariants as shift
 use Rattle.rv_decode.specs.declared.instruction.RegisterOp.{RegisterOp}
 use Rattle.rv_decode.specs.declared.instruction.RegisterOp.TheVariants as register
 use Rattle.rv_decode.specs.Word.{signed}
-use Rattle.hart.specs.Effects.{word, computed, with_immediate, shifted, is_taken, flag}
-use Rattle.slot_queue.specs.Queues.{Queue}
+use Rattle.hart.specs.Effects.{word, computed, with_immediate, shifted, sign_extended, is_taken, flag}
+use Rattle.slot_queue.specs.Queues.{Queue, index_word}
 use Rattle.queue_certificates.specs.Forms.{remainder_word, is_same, bounds_of, Form, form_value, number, first_variable, plus, times, lifted}
 use Rattle.queue_certificates.specs.Forms.{InRanges, Bounds, most}
-use Rattle.queue_certificates.specs.States.{KnownValue, any, linear, index_for, Has, scaled}
+use Rattle.queue_certificates.specs.States.{KnownValue, any, linear, index_for, signed_for, Has, signed_word, scaled}
 use Rattle.queue_certificates.specs.Results.{Result, just, exactly, any_up_to, or_up_to, as_number, or_else, both, is_below}
 use Rattle.queue_certificates.specs.Results.{is_below_signed, set_less, negated, flag_of}
 use Rattle.queue_certificates.specs.Results.{shifted_right, sum_of, number_and, taken_known}
 use Rattle.queue_certificates.specs.Results.{Rest, of_rest, negative, rests_added, whole, rest_of, turned, result_by, shifted_left}
-use Rattle.queue_certificates.specs.Results.{is_count, counting, rest_counted, if_unbounded, remaining}
+use Rattle.queue_certificates.specs.Results.{index_rest, is_count, counting, rest_counted, multiple_or, masked_row, if_unbounded, remaining}
 use Rattle.queue_certificates.specs.Results.{without, shifted_back, masked, masked_by, bounds, is_equal, immediate_part}
 use Rattle.queue_certificates.specs.Results.{of_immediate, shift_part, of_shift, register_part, of_registers}
 use Rattle.queue_certificates.specs.Results.{branch_part, is_branch_taken}
@@ -61,6 +62,24 @@ word-of-difference a (suc b) = word-of-sum a (negsuc b)
 signed-small : (x : ℕ) → x < 2 ^ 31 → signed x ≡ pos x
 signed-small x small = ap (λ t. if t then pos x else pos x -ℤ pos (2 ^ 32)) (lt-ltb x (2 ^ 31) small)
 
+-- a signed load of so many bits, of a number that has no more
+pub signed-of-bits : (bits width x : ℕ) → 2 ^ (bits - 1) + 2 ^ (bits - 1) ≡ 256 ^ width → 2 ^ bits ≡ 256 ^ width → 256 ^ width ≤ 2 ^ 32
+    → x < 256 ^ width → sign_extended bits x ≡ signed_word width x
+signed-of-bits bits width x half all small low = elim (cases_lt x (2 ^ (bits - 1))) [
+  | inl less ↦ ap (λ t. if t then x else word (pos x -ℤ pos (2 ^ bits))) (lt-ltb x (2 ^ (bits - 1)) less)
+      ∙ sym (ap (λ t. if t then x else x + (2 ^ 32 - 256 ^ width)) (lt-ltb (x + x) (256 ^ width) (omega (arith, less, half))))
+  | inr more ↦ ap (λ t. if t then x else word (pos x -ℤ pos (2 ^ bits))) (le-ltb x (2 ^ (bits - 1)) more)
+      ∙ word-of-difference x (2 ^ bits) ∙ (let e : (x + 2 ^ bits * (2 ^ 32 - 1)) % 2 ^ 32 ≡ x + (2 ^ 32 - 256 ^ width) = omega (arith, all, small, low) in e)
+      ∙ sym (ap (λ t. if t then x else x + (2 ^ 32 - 256 ^ width)) (le-ltb (x + x) (256 ^ width) (omega (arith, more, half))))
+]
+
+pub signed-fits : (width x : ℕ) → x < 256 ^ width → 256 ^ width ≤ 2 ^ 32 → signed_word width x < 2 ^ 32
+signed-fits width x low small = by (nat_lt (x + x) (256 ^ width))
+  where
+    by : (t : Bool) → (if t then x else x + (2 ^ 32 - 256 ^ width)) < 2 ^ 32
+    by true = omega (arith, low, small)
+    by false = omega (arith, low, small)
+
 divisor-below : (n : ℕ) → 2 ^ 32 % n ≡ 0 → n ≤ 2 ^ 32
 divisor-below n divides = elim (cases_lt (2 ^ 32) n) [
   | inl over ↦ absurd (let same : 2 ^ 32 % n ≡ 2 ^ 32 = mod-eq_of_lt over in omega (arith, same, divides))
@@ -72,9 +91,41 @@ coarser : (m n a b : ℕ) → m % n ≡ 0 → a % m ≡ b % m → a % n ≡ b % 
 coarser m n a b divides same = sym (mod-mod_of_dvd n a (dvd_of_mod-eq-zero n divides)) ∙ ap (λ y. y % n) same
     ∙ mod-mod_of_dvd n b (dvd_of_mod-eq-zero n divides)
 
+-- the remainder of an index's word is by its scale and modulus
+index-by : (q : Queue) (f : Form) (r : Rest) → index_rest q f ≡ Some r → r.by ≡ q.scale * q.modulus
+index-by q f r is = by (2 ^ 32 % (q.scale * q.modulus) == 0) is
+  where
+    by : (t : Bool) → (if t then Some (record { by = q.scale * q.modulus; form = scaled q (plus f (number q.offset)) }) else None) ≡ Some r
+        → r.by ≡ q.scale * q.modulus
+    by false is = absurd (cc)
+    by true is = cc
+
 some-divisor : (n : ℕ) → 2 ^ 32 % n ≡ 0 → 1 ≤ n
 some-divisor zero divides = absurd (let e : 2 ^ 32 % 0 ≡ 2 ^ 32 = mod-zero (2 ^ 32) in omega (arith, e, divides))
 some-divisor (suc n) divides = omega arith
+
+-- a signed load leaves a remainder that divides both
+signed-rest : (w n x : ℕ) → 2 ^ 32 % n ≡ 0 → 256 ^ w % n ≡ 0 → signed_word w x % n ≡ x % n
+signed-rest w n x words bytes = by (nat_lt (x + x) (256 ^ w))
+  where
+    none : (2 ^ 32 - 256 ^ w) % n ≡ 0
+    none = mod-eq-zero_of_dvd n (dvd-sub n (dvd_of_mod-eq-zero n words) (dvd_of_mod-eq-zero n bytes))
+
+    by : (t : Bool) → (if t then x else x + (2 ^ 32 - 256 ^ w)) % n ≡ x % n
+    by true = refl
+    by false = mod-sum x (2 ^ 32 - 256 ^ w) x 0 n refl (none ∙ sym (zero-mod n)) ∙ (let e : x + 0 ≡ x = omega arith in ap (λ y. y % n) e)
+
+-- bits in a row from bit k on
+row-bits : (x k j : ℕ) → bit_and x ((2 ^ j - 1) * 2 ^ k) ≡ x / 2 ^ k % 2 ^ j * 2 ^ k
+row-bits x k j =
+    let parts : x / 2 ^ k * 2 ^ k + x % 2 ^ k ≡ x = shr_split x k in
+    let whole : (2 ^ j - 1) * 2 ^ k + 0 ≡ (2 ^ j - 1) * 2 ^ k = omega arith in
+    let blocks : bit_and (x / 2 ^ k * 2 ^ k + x % 2 ^ k) ((2 ^ j - 1) * 2 ^ k + 0) ≡ bit_and (x / 2 ^ k) (2 ^ j - 1) * 2 ^ k + bit_and (x % 2 ^ k) 0 =
+    and_block k (x / 2 ^ k) (2 ^ j - 1) (x % 2 ^ k) 0 (mod-lt x (pow_pos k)) (pow_pos k) in
+    sym (ap (λ y. bit_and y ((2 ^ j - 1) * 2 ^ k + 0)) parts ∙ ap (bit_and x) whole) ∙ blocks
+    ∙ ap (λ y. bit_and (x / 2 ^ k) (2 ^ j - 1) * 2 ^ k + y) (and_zero_r (x % 2 ^ k))
+    ∙ (let z : bit_and (x / 2 ^ k) (2 ^ j - 1) * 2 ^ k + 0 ≡ bit_and (x / 2 ^ k) (2 ^ j - 1) * 2 ^ k = omega arith in z)
+    ∙ ap (λ y. y * 2 ^ k) (and_mask (x / 2 ^ k) j)
 
 turned-bits : (x : ℕ) → x < 2 ^ 32 → bit_xor x (2 ^ 32 - 1) ≡ 2 ^ 32 - 1 - x
 turned-bits x small =
@@ -93,10 +144,8 @@ module _ (queues : ℕ → Queue) (xs : List ℕ) where
   whole-rest f x has r is = subst (λ s. IsRest s x) (let e : record { by = 2 ^ 32; form = f } ≡ r = cc in e)
       (omega arith, ap (λ y. y % 2 ^ 32) has ∙ mod-mod (form_value f xs) (2 ^ 32))
 
-  rest-has : (v : KnownValue) (x : ℕ) → Has queues xs v x → HasRest (rest_of queues v) x
-  rest-has any x has r is = absurd (cc)
-  rest-has (linear f) x has r is = whole-rest f x has r is
-  rest-has (index_for i f) x has r is = by (2 ^ 32 % ((queues i).scale * (queues i).modulus) == 0) refl is
+  index-rest : (i : ℕ) (f : Form) (x : ℕ) → x ≡ index_word (queues i) (form_value f xs) → HasRest (index_rest (queues i) f) x
+  index-rest i f x has r is = by (2 ^ 32 % ((queues i).scale * (queues i).modulus) == 0) refl is
     where
       n : ℕ
       n = (queues i).scale * (queues i).modulus
@@ -121,6 +170,26 @@ module _ (queues : ℕ → Queue) (xs : List ℕ) where
           let divides : 2 ^ 32 % n ≡ 0 = eqb-true (2 ^ 32 % n) 0 ok in
           subst (λ s. IsRest s x) (let e : record { by = n; form = g } ≡ r = cc in e) (divides, at divides)
 
+  rest-has : (v : KnownValue) (x : ℕ) → Has queues xs v x → HasRest (rest_of queues v) x
+  rest-has any x has r is = absurd (cc)
+  rest-has (linear f) x has r is = whole-rest f x has r is
+  rest-has (index_for i f) x has r is = index-rest i f x has r is
+  rest-has (signed_for i f) x has r is = by (256 ^ (queues i).index_width % ((queues i).scale * (queues i).modulus) == 0) refl is
+    where
+      w : ℕ
+      w = index_word (queues i) (form_value f xs)
+
+      by : (t : Bool) → (256 ^ (queues i).index_width % ((queues i).scale * (queues i).modulus) == 0) ≡ t
+          → (if t then index_rest (queues i) f else None) ≡ Some r → IsRest r x
+      by false other is = absurd (cc)
+      by true ok is =
+          let rest = index-rest i f w refl r is in (
+          rest.0,
+          ap (λ y. y % r.by) has
+          ∙ signed-rest (queues i).index_width r.by w rest.0
+          (ap (λ n. 256 ^ (queues i).index_width % n) (index-by (queues i) f r is) ∙ eqb-true (256 ^ (queues i).index_width % ((queues i).scale * (queues i).modulus)) 0 ok)
+          ∙ rest.1,
+          )
   negative-has : (o : Option Rest) (x : ℕ) → HasRest o x → HasRest (negative o) (x * (2 ^ 32 - 1))
   negative-has None x has r is = absurd (cc)
   negative-has (Some a) x has r is =
@@ -181,6 +250,7 @@ module _ (queues : ℕ → Queue) (xs : List ℕ) where
   or-up-to-gives n x any low has = up-to-gives n x low
   or-up-to-gives n x (linear f) low has = just-gives (linear f) x has
   or-up-to-gives n x (index_for i f) low has = just-gives (index_for i f) x has
+  or-up-to-gives n x (signed_for i f) low has = just-gives (signed_for i f) x has
 
   else-gives : (a : Option ℕ) (r : Result) (x : ℕ) → ((n : ℕ) → a ≡ Some n → x ≡ n) → Gives r x → Gives (or_else a r) x
   else-gives None r x is gives = gives
@@ -198,8 +268,10 @@ module _ (queues : ℕ → Queue) (xs : List ℕ) where
   sum-has (linear f) (linear g) x y one two = plus-value f g xs x y (2 ^ 32) one two
   sum-has (linear f) any x y one two = tt
   sum-has (linear f) (index_for i g) x y one two = tt
+  sum-has (linear f) (signed_for i g) x y one two = tt
   sum-has any w x y one two = tt
   sum-has (index_for i f) w x y one two = tt
+  sum-has (signed_for i f) w x y one two = tt
 
   rest-gives : (o : Option Rest) (x : ℕ) → x < 2 ^ 32 → HasRest o x → Gives (of_rest o) x
   rest-gives None x small has = just-gives any x tt
@@ -252,6 +324,7 @@ module _ (queues : ℕ → Queue) (xs : List ℕ) where
   turned-gives : (v : KnownValue) (x mask : ℕ) → Has queues xs v x → Gives (turned v mask) (bit_xor x mask)
   turned-gives any x mask has = just-gives any (bit_xor x mask) tt
   turned-gives (index_for i f) x mask has = just-gives any (bit_xor x mask) tt
+  turned-gives (signed_for i f) x mask has = just-gives any (bit_xor x mask) tt
   turned-gives (linear f) x mask has = by (mask == 2 ^ 32 - 1) refl
     where
       g : Form
@@ -282,6 +355,7 @@ module _ (queues : ℕ → Queue) (xs : List ℕ) where
   shifted-left : (v : KnownValue) (x amount : ℕ) → Has queues xs v x → Gives (shifted_left queues v amount) ((x * 2 ^ amount) % 2 ^ 32)
   shifted-left any x amount has = times-gives (2 ^ amount) None x (λ r is. absurd (cc))
   shifted-left (index_for i f) x amount has = times-gives (2 ^ amount) (rest_of queues (index_for i f)) x (rest-has (index_for i f) x has)
+  shifted-left (signed_for i f) x amount has = times-gives (2 ^ amount) (rest_of queues (signed_for i f)) x (rest-has (signed_for i f) x has)
   shifted-left (linear f) x amount has = just-gives (linear (times (2 ^ amount) f)) ((x * 2 ^ amount) % 2 ^ 32) (times-value (2 ^ amount) f xs x (2 ^ 32) has)
 
   counting-is : (N n i : ℕ) → counting queues N n ≡ Some i → is_count (queues i) n ≡ true
@@ -404,6 +478,66 @@ module _ (queues : ℕ → Queue) (xs : List ℕ) where
         by None = rest_rest-counted-gives N n f x other some is gives (counting queues N n) refl
         by (Some m) = gives
 
+    multiple-gives : (n : ℕ) (f : Form) (m x : ℕ) (other : Result) → m ≤ 2 ^ 32 → x < 2 ^ 32 → x ≡ form_value f xs % m * n → Gives other x
+        → (o : Option Form) → remainder_word rs f m ≡ o → Gives (multiple_or n o other) x
+    multiple-gives n f m x other small low is gives None word = gives
+    multiple-gives n f m x other small low is gives (Some g) word = just-gives (linear (times n g)) x
+        (sym (mod-eq_of_lt low) ∙ ap (λ y. y % 2 ^ 32) is
+        ∙ times-value n g xs (form_value f xs % m) (2 ^ 32) (value-word rs f m g xs ranges small word))
+
+    row-gives : (r : Rest) (x mask k : ℕ) → IsRest r x → Gives (masked_row rs r mask (2 ^ k)) (bit_and x mask)
+    row-gives r x mask k rest = by ((mask + low == low * n) && (r.by % (mask + low) == 0) && is_same 0 f (times low g)) refl
+      where
+        low : ℕ
+        low = 2 ^ k
+
+        n : ℕ
+        n = 2 ^ count_ones mask
+
+        f : Form
+        f = r.form
+
+        g : Form
+        g = without rs (2 ^ k) r.form
+
+        up-to : Gives (any_up_to mask) (bit_and x mask)
+        up-to = up-to-gives mask (bit_and x mask) (and_le_r x mask)
+
+        at : (mask + low == low * n) ≡ true → (r.by % (mask + low) == 0) ≡ true → is_same 0 f (times low g) ≡ true
+            → Gives (multiple_or low (remainder_word rs g n) (any_up_to mask)) (bit_and x mask)
+        at row dvd same =
+            let one : 1 ≤ n = pow_pos (count_ones mask) in
+            let some : 1 ≤ low = pow_pos k in
+            let whole : mask + low ≡ low * n = eqb-true (mask + low) (low * n) row in
+            let fine : r.by % (low * n) ≡ 0 = ap (λ y. r.by % y) (sym whole) ∙ eqb-true (r.by % (mask + low)) 0 dvd in
+            let divides : 2 ^ 32 % (low * n) ≡ 0 = coarser r.by (low * n) (2 ^ 32) 0 fine (rest.0 ∙ sym (zero-mod r.by)) ∙ zero-mod (low * n) in
+            let words : low * n ≤ 2 ^ 32 = divisor-below (low * n) divides in
+            let few : n ≤ low * n = (let e : 1 * n ≤ low * n = mul-le 1 n low n some (omega arith) in omega (arith, e)) in
+            let ones : mask ≡ (n - 1) * low =
+            (let e : low * (1 + (n - 1)) ≡ low * 1 + low * (n - 1) = mul-add low 1 (n - 1) in
+            let f : n ≡ 1 + (n - 1) = omega (arith, one) in
+            let h : low * n ≡ low * (1 + (n - 1)) = ap (λ y. low * y) f in
+            let t : low * (n - 1) ≡ (n - 1) * low = mul_comm low (n - 1) in omega (arith, whole, e, h, t)) in
+            let value : form_value f xs ≡ low * form_value g xs = same-exactly f (times low g) xs same ∙ value-times low g xs in
+            let rest : x % (low * n) ≡ low * (form_value g xs % n) =
+            coarser r.by (low * n) x (form_value f xs) fine rest.1 ∙ ap (λ y. y % (low * n)) value
+            ∙ sym (scaled-mod (low * n) low n (form_value g xs) (omega (arith, few, one)) refl) in
+            let part : x / low % n ≡ form_value g xs % n =
+            sym (field_of x (count_ones mask) k)
+            ∙ ap (λ y. x % y / low) (pow-add 2 (count_ones mask) k ∙ (let t : n * low ≡ low * n = mul_comm n low in t)) ∙ ap (λ y. y / low) rest ∙ mul-div_cancel_left (form_value g xs % n) some in
+            let bits : bit_and x mask ≡ form_value g xs % n * low =
+            ap (bit_and x) ones ∙ row-bits x k (count_ones mask) ∙ ap (λ y. y * low) part in
+            let le : bit_and x mask ≤ mask = and_le_r x mask in
+            multiple-gives low g n (bit_and x mask) (any_up_to mask) (omega (arith, few, words)) (omega (arith, le, whole, words, some)) bits up-to
+            (remainder_word rs g n) refl
+
+        by : (t : Bool) → ((mask + low == low * n) && (r.by % (mask + low) == 0) && is_same 0 f (times low g)) ≡ t
+            → Gives (if t then multiple_or low (remainder_word rs g n) (any_up_to mask) else any_up_to mask) (bit_and x mask)
+        by false other = up-to
+        by true ok =
+            let p2 = and_parts ((mask + low == low * n) && (r.by % (mask + low) == 0)) (is_same 0 f (times low g)) ok in
+            let p1 = and_parts (mask + low == low * n) (r.by % (mask + low) == 0) p2.0 in at p1.0 p1.1 p2.1
+
     masked-gives : (N : ℕ) (o : Option Rest) (x mask : ℕ) → HasRest o x → Gives (masked queues N rs o mask) (bit_and x mask)
     masked-gives N None x mask has = up-to-gives mask (bit_and x mask) (and_le_r x mask)
     masked-gives N (Some r) x mask has = by ((mask + 1 == 2 ^ count_ones mask) && (r.by % (mask + 1) == 0)) refl
@@ -425,8 +559,9 @@ module _ (queues : ℕ → Queue) (xs : List ℕ) where
             (up-to-gives mask (bit_and x mask) (and_le_r x mask)) (remainder_word rs f (mask + 1)) refl
 
         by : (t : Bool) → ((mask + 1 == 2 ^ count_ones mask) && (r.by % (mask + 1) == 0)) ≡ t
-            → Gives (if t then remaining queues N rs (mask + 1) f (remainder_word rs f (mask + 1)) (any_up_to mask) else any_up_to mask) (bit_and x mask)
-        by false other = up-to-gives mask (bit_and x mask) (and_le_r x mask)
+            → Gives (if t then remaining queues N rs (mask + 1) f (remainder_word rs f (mask + 1)) (any_up_to mask)
+            else masked_row rs r mask (2 ^ trailing_zeros w32 mask)) (bit_and x mask)
+        by false other = row-gives r x mask (trailing_zeros w32 mask) (has r refl)
         by true ok = let parts = and_parts (mask + 1 == 2 ^ count_ones mask) (r.by % (mask + 1) == 0) ok in
             at parts.0 parts.1
 
@@ -438,6 +573,7 @@ module _ (queues : ℕ → Queue) (xs : List ℕ) where
     shifted-back : (N : ℕ) (v : KnownValue) (x amount : ℕ) → Has queues xs v x → Gives (shifted_back queues N rs v amount) (x / 2 ^ amount)
     shifted-back N any x amount has = just-gives any (x / 2 ^ amount) tt
     shifted-back N (index_for i f) x amount has = just-gives any (x / 2 ^ amount) tt
+    shifted-back N (signed_for i f) x amount has = just-gives any (x / 2 ^ amount) tt
     shifted-back N (linear f) x amount has = by (nat_le amount 32 && is_same 0 f (times (2 ^ amount) (without rs (2 ^ amount) f))) refl
       where
         bounded : Gives (shifted_right (bounds_of (2 ^ 32) rs f) amount) (x / 2 ^ amount)

@@ -45,15 +45,15 @@ use Rattle.queue_parties.specs.Parties.{Party, other, QueueCounts, count, known 
 use Rattle.slot_queue.specs.Ownership.{hart, index, party_of, after_load as after_load_of, after_access, KeepsAccess}
 use Rattle.owned_run.specs.Certified.{View, AllCounts, number_seen, view_then, Acts, ReadsFrom, IsSameFor, LoadsOwned, OwnsSlotsOf}
 use Rattle.queue_certificates.specs.Forms.{Form, form_value, number, plus, minus, is_same, most, fits_in, lifted, Bounds}
-use Rattle.queue_certificates.specs.States.{KnownValue, any, linear, index_for, Share, no_share, share_by, KnownState}
+use Rattle.queue_certificates.specs.States.{KnownValue, any, linear, index_for, signed_for, signed_word, Share, no_share, share_by, KnownState}
 use Rattle.queue_certificates.specs.States.{value_by, state_by, scaled, plain, is_within, Has, HasShare, MeansAt, Means}
 use Rattle.queue_certificates.specs.Results.{Result, just, exactly, as_number, bounds, sum_of, of_immediate, of_shift, of_registers, is_branch_taken}
 use Rattle.queue_certificates.specs.Steps.{with_register, with_result, going_to, goes_by, operand, jumping}
 use Rattle.queue_certificates.specs.Steps.{called as called_state, follow, register_at, instruction_at, loads_owned}
 use Rattle.queue_certificates.specs.Steps.{reads_owned, updated_value, after_exchange, exchanging, addresses}
 use Rattle.queue_certificates.specs.Steps.{address_value, anywhere, is_one, is_whole, misses, is_look, is_own_index}
-use Rattle.queue_certificates.specs.Steps.{is_own_word, word_loaded, index_loaded, value_loaded, zero_extended}
-use Rattle.queue_certificates.specs.Steps.{is_index_below, loaded, shared, with_equal, when_taken, when_passed}
+use Rattle.queue_certificates.specs.Steps.{is_own_word, word_loaded, index_loaded, value_loaded, extended_value}
+use Rattle.queue_certificates.specs.Steps.{is_index_below, signed_value, loaded, shared, with_equal, when_taken, when_passed}
 use Rattle.queue_certificates.specs.Steps.{last_below, is_just, may_load, after_load, looked_word, owned_then}
 use Rattle.queue_certificates.specs.Steps.{looked_share, back_of, loading, all_below, shares_moved, moved_share}
 use Rattle.queue_certificates.specs.Steps.{is_copy, immediate_result, is_cut, may_move, may_fill, may_store, leaves_words, is_off, is_owned, is_apart}
@@ -61,7 +61,7 @@ use Rattle.queue_certificates.specs.Steps.{storable, word_then, words_then, afte
 use Rattle.queue_certificates.proofs.Values.{word-linear, has-plain, known-is, has-bounds, within}
 use Rattle.queue_certificates.proofs.Forms.{same-value}
 use Rattle.queue_certificates.proofs.Results.{word-of-sum, word-small, word-has, sum-has, Gives, just-gives}
-use Rattle.queue_certificates.proofs.Results.{or-up-to-gives, exactly-gives, immediate-gives, shift-gives, register-gives, branch-is}
+use Rattle.queue_certificates.proofs.Results.{signed-of-bits, signed-fits, or-up-to-gives, exactly-gives, immediate-gives, shift-gives, register-gives, branch-is}
 use Rattle.queue_certificates.proofs.States.{means-result, means-going, means-lifted, means-moved, means-frame, written-has, at-below}
 use Rattle.queue_certificates.proofs.Stores.{stored-low, apart-from, stored-number, left-number, stored-whole, stored-word}
 use Rattle.queue_certificates.proofs.Stores.{keeps-off, Stored, stays-off, stays-filled, moves-on, owned-slots}
@@ -294,10 +294,16 @@ module _ (M : ℕ) (o : OpeningValue) (queues : ℕ → Queue) (N : ℕ) (own_of
       by any w one two = learns rs1 w (subst (Has queues xs w) (sym same) two)
       by (linear f) any one two = learns rs2 (linear f) (subst (Has queues xs (linear f)) same one)
       by (index_for i f) any one two = learns rs2 (index_for i f) (subst (Has queues xs (index_for i f)) same one)
+      by (signed_for i f) any one two = learns rs2 (signed_for i f) (subst (Has queues xs (signed_for i f)) same one)
       by (linear f) (linear g) one two = means
       by (linear f) (index_for i g) one two = means
+      by (linear f) (signed_for i g) one two = means
       by (index_for i f) (linear g) one two = means
       by (index_for i f) (index_for j g) one two = means
+      by (index_for i f) (signed_for j g) one two = means
+      by (signed_for i f) (linear g) one two = means
+      by (signed_for i f) (index_for j g) one two = means
+      by (signed_for i f) (signed_for j g) one two = means
 
   taken-means : (op : BranchOp) (rs1 rs2 : Reg) → is_taken op (register_value s.registers rs1) (register_value s.registers rs2) ≡ true
       → MeansAt queues N (own_of h) h xs (when_taken k op rs1 rs2) s m cs
@@ -454,6 +460,15 @@ module _ (M : ℕ) (o : OpeningValue) (queues : ℕ → Queue) (N : ℕ) (own_of
           let small : index_word (queues i) (form_value f xs) < 256 ^ (queues i).index_width = word-fits (queues i) (fine i less).0 (form_value f xs) in
           let four : 256 ^ (queues i).index_width ≤ 2 ^ 32 = pow-le-pow_right {n = 256} (omega arith) {i = (queues i).index_width} {j = 4} (fine i less).2 in
           is has (omega (arith, has, small, four)) ∙ has
+  storable-has n x (signed_for i f) has is = by (nat_lt i N) refl
+    where
+      by : (t : Bool) → nat_lt i N ≡ t → Has queues xs (if t then signed_for i f else any) n
+      by false other = tt
+      by true listed =
+          let less : i < N = ltb-true i N listed in
+          let small : index_word (queues i) (form_value f xs) < 256 ^ (queues i).index_width = word-fits (queues i) (fine i less).0 (form_value f xs) in
+          let four : 256 ^ (queues i).index_width ≤ 2 ^ 32 = pow-le-pow_right {n = 256} (omega arith) {i = (queues i).index_width} {j = 4} (fine i less).2 in
+          is has (subst (λ y. y < 2 ^ 32) (sym has) (signed-fits (queues i).index_width (index_word (queues i) (form_value f xs)) small four)) ∙ has
 
   immediate-result : (op : ImmediateOp) (v : KnownValue) (x : ℕ) (n : ℤ) → Has queues xs v x
       → Gives queues xs (immediate_result queues N own_of H h k op v n) (with_immediate op x n)
@@ -509,6 +524,7 @@ module _ (M : ℕ) (o : OpeningValue) (queues : ℕ → Queue) (N : ℕ) (own_of
   index-below : (ys : List ℕ) (limit : ℕ) (w : KnownValue) (x : ℕ) → is_index_below queues N own_of H h limit w ≡ true → Has queues ys w x → x < limit
   index-below ys limit any x ok has = absurd (cc)
   index-below ys limit (linear f) x ok has = absurd (cc)
+  index-below ys limit (signed_for i f) x ok has = absurd (cc)
   index-below ys limit (index_for i f) x ok has =
       let p = and_parts (nat_le 1 (queues i).modulus) (nat_lt ((queues i).base + (queues i).scale * ((queues i).modulus - 1)) limit) ok in
       let some : 1 ≤ (queues i).modulus = leb-true 1 (queues i).modulus p.0 in
@@ -520,22 +536,37 @@ module _ (M : ℕ) (o : OpeningValue) (queues : ℕ → Queue) (N : ℕ) (own_of
       ltb-true ((queues i).base + (queues i).scale * ((queues i).modulus - 1)) limit p.1 in
       omega (arith, has, most, low)
 
-  sign-kept : (ys : List ℕ) (bits : ℕ) (w : KnownValue) (x : ℕ) → Has queues ys w x
-      → Has queues ys (if is_index_below queues N own_of H h (2 ^ (bits - 1)) w then w else any) (sign_extended bits x)
-  sign-kept ys bits w x has = by (is_index_below queues N own_of H h (2 ^ (bits - 1)) w) refl
+  signed-has : (ys : List ℕ) (width : ℕ) (w : KnownValue) (x : ℕ) → Has queues ys w x
+      → Has queues ys (signed_value queues N own_of H h width w) (signed_word width x)
+  signed-has ys width any x has = tt
+  signed-has ys width (linear f) x has = tt
+  signed-has ys width (signed_for i f) x has = tt
+  signed-has ys width (index_for i f) x has = by ((queues i).index_width == width) refl
     where
-      by : (t : Bool) → is_index_below queues N own_of H h (2 ^ (bits - 1)) w ≡ t → Has queues ys (if t then w else any) (sign_extended bits x)
+      by : (t : Bool) → ((queues i).index_width == width) ≡ t → Has queues ys (if t then signed_for i f else any) (signed_word width x)
       by false other = tt
+      by true same = ap (signed_word width) has
+          ∙ ap (λ n. signed_word n (index_word (queues i) (form_value f ys))) (sym (eqb-true (queues i).index_width width same))
+
+  sign-kept : (ys : List ℕ) (bits width : ℕ) (w : KnownValue) (x : ℕ) → 2 ^ (bits - 1) + 2 ^ (bits - 1) ≡ 256 ^ width → 2 ^ bits ≡ 256 ^ width
+      → 256 ^ width ≤ 2 ^ 32 → x < 256 ^ width → Has queues ys w x
+      → Has queues ys (if is_index_below queues N own_of H h (2 ^ (bits - 1)) w then w else signed_value queues N own_of H h width w) (sign_extended bits x)
+  sign-kept ys bits width w x half all small low has = by (is_index_below queues N own_of H h (2 ^ (bits - 1)) w) refl
+    where
+      by : (t : Bool) → is_index_below queues N own_of H h (2 ^ (bits - 1)) w ≡ t
+          → Has queues ys (if t then w else signed_value queues N own_of H h width w) (sign_extended bits x)
+      by false other = subst (Has queues ys (signed_value queues N own_of H h width w)) (sym (signed-of-bits bits width x half all small low))
+          (signed-has ys width w x has)
       by true low = subst (Has queues ys w)
           (sym (ap (λ t. if t then x else word (pos x -ℤ pos (2 ^ bits))) (lt-ltb x (2 ^ (bits - 1)) (index-below ys (2 ^ (bits - 1)) w x low has)))) has
 
-  extended-has : (ys : List ℕ) (op : LoadOp) (w : KnownValue) (x : ℕ) → Has queues ys w x
-      → Has queues ys (zero_extended queues N own_of H h op w) (extended op x)
-  extended-has ys load_op.Byte w x has = sign-kept ys 8 w x has
-  extended-has ys load_op.Half w x has = sign-kept ys 16 w x has
-  extended-has ys load_op.Word w x has = has
-  extended-has ys load_op.ByteUnsigned w x has = has
-  extended-has ys load_op.HalfUnsigned w x has = has
+  extended-has : (ys : List ℕ) (op : LoadOp) (w : KnownValue) (x : ℕ) → x < 256 ^ load_width op → Has queues ys w x
+      → Has queues ys (extended_value queues N own_of H h op w) (extended op x)
+  extended-has ys load_op.Byte w x low has = sign-kept ys 8 1 w x refl refl (omega arith) low has
+  extended-has ys load_op.Half w x low has = sign-kept ys 16 2 w x refl refl (omega arith) low has
+  extended-has ys load_op.Word w x low has = has
+  extended-has ys load_op.ByteUnsigned w x low has = has
+  extended-has ys load_op.HalfUnsigned w x low has = has
 
   value-loaded : (b : Bounds) (width a x : ℕ) → b.low ≤ a → a ≤ b.high → x ≡ number_seen m a width
       → Has queues xs (value_loaded queues N own_of H h k b width) x
@@ -568,9 +599,9 @@ module _ (M : ℕ) (o : OpeningValue) (queues : ℕ → Queue) (N : ℕ) (own_of
   loaded-gives : (op : LoadOp) (w : KnownValue) (x : ℕ) → x < 256 ^ load_width op → Has queues xs w x
       → Gives queues xs (loaded queues N own_of H h op w) (extended op x)
   loaded-gives load_op.Byte w x low has =
-      just-gives queues xs (zero_extended queues N own_of H h load_op.Byte w) (extended load_op.Byte x) (extended-has xs load_op.Byte w x has)
+      just-gives queues xs (extended_value queues N own_of H h load_op.Byte w) (extended load_op.Byte x) (extended-has xs load_op.Byte w x low has)
   loaded-gives load_op.Half w x low has =
-      just-gives queues xs (zero_extended queues N own_of H h load_op.Half w) (extended load_op.Half x) (extended-has xs load_op.Half w x has)
+      just-gives queues xs (extended_value queues N own_of H h load_op.Half w) (extended load_op.Half x) (extended-has xs load_op.Half w x low has)
   loaded-gives load_op.Word w x low has = just-gives queues xs w x has
   loaded-gives load_op.ByteUnsigned w x low has = or-up-to-gives queues xs 255 x w (omega (arith, low)) has
   loaded-gives load_op.HalfUnsigned w x low has = or-up-to-gives queues xs 65535 x w (omega (arith, low)) has
@@ -608,9 +639,9 @@ module _ (M : ℕ) (o : OpeningValue) (queues : ℕ → Queue) (N : ℕ) (own_of
       pc = at;
       registers =
           λ j. subst (λ zs. Has queues (l.more ∷ xs) (get_or (with_register (map (value_by lifted) k.registers) rd.number
-          (zero_extended queues N own_of H h op (looked_word queues N own_of H h i share))) j any) (slice_index zs j))
+          (extended_value queues N own_of H h op (looked_word queues N own_of H h i share))) j any) (slice_index zs j))
           (sym regs) (written-has queues N (own_of h) h (l.more ∷ xs) (map (value_by lifted) k.registers) s.registers rd.number (extended op v)
-          (zero_extended queues N own_of H h op (looked_word queues N own_of H h i share)) lifted-means.registers
+          (extended_value queues N own_of H h op (looked_word queues N own_of H h i share)) lifted-means.registers
           (omega (arith, size, rd.below_32)) word-has-looked j);
       words = lifted-means.words;
       shares = λ n less p mine. by n less p mine (cases_eq n i);
@@ -651,9 +682,10 @@ module _ (M : ℕ) (o : OpeningValue) (queues : ℕ → Queue) (N : ℕ) (own_of
       lifted-means = means-lifted queues N (own_of h) h ((queues i).capacity - (get_or k.shares i no_share).owned.constant) l.more l.low xs k s m cs means
 
       word-has-looked : Has queues (l.more ∷ xs)
-          (zero_extended queues N own_of H h op (looked_word queues N own_of H h i (get_or k.shares i no_share)))
+          (extended_value queues N own_of H h op (looked_word queues N own_of H h i (get_or k.shares i no_share)))
           (extended op v)
       word-has-looked = extended-has (l.more ∷ xs) op (looked_word queues N own_of H h i (get_or k.shares i no_share)) v
+          (subst (λ n. n < 256 ^ load_width op) (sym read) (joined-below (λ i. m (a + i)) (λ i. acts.bytes (a + i)) (load_width op)))
           (subst (λ t. v ≡ index_word (queues i) (form_value
           (plus (plus (lifted (get_or k.shares i no_share).own) (owned_then (get_or k.shares i no_share)))
           (number (back_of (queues i) t))) (l.more ∷ xs)))
@@ -809,6 +841,7 @@ module _ (M : ℕ) (o : OpeningValue) (queues : ℕ → Queue) (N : ℕ) (own_of
         cut : (u : KnownValue) → Has queues xs u x → is_cut (queues i) u f ≡ true → stored op x ≡ index_word (queues i) (form_value f xs)
         cut any has low = absurd (cc)
         cut (index_for j g) has low = absurd (cc)
+        cut (signed_for j g) has low = absurd (cc)
         cut (linear g) has low =
             let p2 = and_parts (((queues i).scale * (queues i).modulus == 256 ^ (queues i).index_width) && nat_lt (queues i).base (queues i).scale)
             (is_same (256 ^ (queues i).index_width) g (scaled (queues i) (plus f (number (queues i).offset)))) low in

@@ -20,7 +20,7 @@ use Rattle.slot_queue.proofs.Looks.{end-set-count}
 use Rattle.owned_run.specs.Certified.{View, number_seen, view_then, OwnsSlotsOf}
 use Rattle.owned_run.proofs.Accesses.{moves, fills, off, loads_owned}
 use Rattle.queue_certificates.specs.Forms.{Form, form_value, number, plus, times, minus, is_same, most, fits_in, remainder, InRanges, Bounds}
-use Rattle.queue_certificates.specs.States.{KnownValue, any, linear, index_for, Share, Has, HasShare}
+use Rattle.queue_certificates.specs.States.{KnownValue, any, linear, index_for, signed_for, Share, Has, HasShare}
 use Rattle.queue_certificates.specs.Steps.{is_apart, is_off, position_at, offset_at, is_slot, is_owned, moved_share}
 use Rattle.queue_certificates.proofs.Bounds.{value-below, fits-below, value-remainder}
 use Rattle.queue_certificates.proofs.Forms.{value-plus, value-times, value-number, same-value, same-exactly}
@@ -108,6 +108,7 @@ module _ (q : Queue) (is : IsQueue q) (p : Party) (c : QueueCounts) (xs : List �
     pub owned-at : (place : KnownValue) (a width : ℕ) → Has queues xs place a → is_owned rs q s place width ≡ true → Owned a width
     owned-at any a width at ok = absurd (cc)
     owned-at (index_for i f) a width at ok = absurd (cc)
+    owned-at (signed_for i f) a width at ok = absurd (cc)
     owned-at (linear f) a width at ok = by (remainder rs (plus s.own (number j)) q.size) refl p1.1
       where
         j : ℕ

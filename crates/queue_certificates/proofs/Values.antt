@@ -8,7 +8,8 @@ use Rattle.std.proofs.lemmas.Nat.{mul-le}
 use Rattle.std.proofs.lemmas.Bool.{cases_eq}
 use Rattle.slot_queue.specs.Queues.{Queue, index_word}
 use Rattle.queue_certificates.specs.Forms.{Form, form_value, number, plus, times, lifted, vanishes, remainder, most, fits_in, is_same, InRanges, Bounds}
-use Rattle.queue_certificates.specs.States.{KnownValue, any, linear, index_for, value_by, Has, plain, scaled, of_remainder, is_within_plain, is_within}
+use Rattle.queue_certificates.specs.States.{KnownValue, any, linear, index_for, signed_for, value_by, Has, signed_word}
+use Rattle.queue_certificates.specs.States.{plain, scaled, of_remainder, is_within_plain, is_within}
 use Rattle.queue_certificates.specs.Results.{as_number, bounds}
 use Rattle.queue_certificates.proofs.Forms.{value-plus, value-times, value-lifted, value-number, same-value, constant-value, mod-sum}
 use Rattle.queue_certificates.proofs.Bounds.{value-between, value-below, fits-below, value-remainder}
@@ -80,12 +81,14 @@ module _ (queues : ℕ → Queue) where
   has-by t xs ys same any x has = tt
   has-by t xs ys same (linear f) x has = has ∙ ap (λ n. n % 2 ^ 32) (sym (same f))
   has-by t xs ys same (index_for i f) x has = has ∙ ap (index_word (queues i)) (sym (same f))
+  has-by t xs ys same (signed_for i f) x has = has ∙ ap (λ n. signed_word (queues i).index_width (index_word (queues i) n)) (sym (same f))
 
   pub has-back : (t : Form → Form) (xs ys : List ℕ) → ((f : Form) → form_value (t f) ys ≡ form_value f xs)
       → (v : KnownValue) (x : ℕ) → Has queues ys (value_by t v) x → Has queues xs v x
   has-back t xs ys same any x has = tt
   has-back t xs ys same (linear f) x has = has ∙ ap (λ n. n % 2 ^ 32) (same f)
   has-back t xs ys same (index_for i f) x has = has ∙ ap (index_word (queues i)) (same f)
+  has-back t xs ys same (signed_for i f) x has = has ∙ ap (λ n. signed_word (queues i).index_width (index_word (queues i) n)) (same f)
 
   pub has-lifted : (v : KnownValue) (x y : ℕ) (xs : List ℕ) → Has queues xs v x → Has queues (y ∷ xs) (value_by lifted v) x
   has-lifted v x y xs has = has-by lifted xs (y ∷ xs) (λ f. value-lifted f y xs) v x has
@@ -133,19 +136,31 @@ module _ (queues : ℕ → Queue) where
     has-plain any x has = tt
     has-plain (linear f) x has = has
     has-plain (index_for i f) x has = (same-word i f x).0 has
+    has-plain (signed_for i f) x has = has
 
     pub plain-has : (v : KnownValue) (x : ℕ) → Has queues xs (plain queues rs v) x → Has queues xs v x
     plain-has any x has = tt
     plain-has (linear f) x has = has
     plain-has (index_for i f) x has = (same-word i f x).1 has
+    plain-has (signed_for i f) x has = has
 
     within-plain : (v w : KnownValue) (x : ℕ) → is_within_plain queues rs v w ≡ true → Has queues xs v x → Has queues xs w x
     within-plain v any x ok has = tt
     within-plain any (linear g) x ok has = absurd (cc)
     within-plain any (index_for j g) x ok has = absurd (cc)
+    within-plain any (signed_for j g) x ok has = absurd (cc)
     within-plain (linear f) (linear g) x ok has = has ∙ same-value (2 ^ 32) f g xs ok
     within-plain (linear f) (index_for j g) x ok has = absurd (cc)
+    within-plain (linear f) (signed_for j g) x ok has = absurd (cc)
     within-plain (index_for i f) (linear g) x ok has = absurd (cc)
+    within-plain (index_for i f) (signed_for j g) x ok has = absurd (cc)
+    within-plain (signed_for i f) (linear g) x ok has = absurd (cc)
+    within-plain (signed_for i f) (index_for j g) x ok has = absurd (cc)
+    within-plain (signed_for i f) (signed_for j g) x ok has =
+        let parts = and_parts (i == j) (is_same ((queues i).modulus) f g) ok in
+        subst (λ k. x ≡ signed_word (queues k).index_width (index_word (queues k) (form_value g xs))) (eqb-true i j parts.0)
+        (has ∙ ap (signed_word (queues i).index_width)
+        (word-of-remainder (queues i) (form_value f xs) (form_value g xs) (same-value ((queues i).modulus) f g xs parts.1)))
     within-plain (index_for i f) (index_for j g) x ok has =
         let parts = and_parts (i == j) (is_same ((queues i).modulus) f g) ok in
         subst (λ k. x ≡ index_word (queues k) (form_value g xs)) (eqb-true i j parts.0)
@@ -157,6 +172,7 @@ module _ (queues : ℕ → Queue) where
   pub known-is : (xs : List ℕ) (v : KnownValue) (x a : ℕ) → as_number v ≡ Some a → Has queues xs v x → x ≡ a
   known-is xs any x a is has = absurd (cc)
   known-is xs (index_for i f) x a is has = absurd (cc)
+  known-is xs (signed_for i f) x a is has = absurd (cc)
   known-is xs (linear f) x a is has = by (vanishes (2 ^ 32) f.factors) refl is
     where
       by : (t : Bool) → vanishes (2 ^ 32) f.factors ≡ t → (if t then Some (f.constant % 2 ^ 32) else None) ≡ Some a → x ≡ a
@@ -167,5 +183,6 @@ module _ (queues : ℕ → Queue) where
       → (b.low ≤ x) × (x ≤ b.high)
   has-bounds rs xs any x b ranges is has = absurd (cc)
   has-bounds rs xs (index_for i f) x b ranges is has = absurd (cc)
+  has-bounds rs xs (signed_for i f) x b ranges is has = absurd (cc)
   has-bounds rs xs (linear f) x b ranges is has = let e = value-between (2 ^ 32) rs f xs b ranges is in
       subst (λ z. (b.low ≤ z) × (z ≤ b.high)) (sym has) (e.low, e.high)

@@ -12,7 +12,8 @@ use Rattle.queue_parties.specs.Parties.{Party, all_at}
 use Rattle.slot_queue.specs.Ownership.{party_of, end}
 use Rattle.owned_run.specs.Certified.{View, AllCounts, number_seen, OpenQueues, IsCertified, LoadsAreOwned}
 use Rattle.queue_certificates.specs.Forms.{Form, form_value, number, substituted, is_same, raised, settled, are_in}
-use Rattle.queue_certificates.specs.States.{KnownValue, any, linear, index_for, Share, no_share, KnownState, value_by, state_by, is_within, Means}
+use Rattle.queue_certificates.specs.States.{KnownValue, any, linear, index_for, signed_for, Share, no_share, KnownState}
+use Rattle.queue_certificates.specs.States.{value_by, state_by, signed_word, is_within, Means}
 use Rattle.queue_certificates.specs.Steps.{all_below, follow, instruction_at, loads_owned}
 
 -- where a state goes on: to the state of this number, whose variables are these forms over those of the leaf, after one that comes
@@ -183,6 +184,7 @@ abbrev pub is_value : (ℕ → Queue) → List ℕ → KnownValue → ℕ → Bo
 is_value queues xs any x = true
 is_value queues xs (linear f) x = x == form_value f xs % 2 ^ 32
 is_value queues xs (index_for i f) x = x == index_word (queues i) (form_value f xs)
+is_value queues xs (signed_for i f) x = x == signed_word (queues i).index_width (index_word (queues i) (form_value f xs))
 
 abbrev pub is_at_most : Option ℕ → ℕ → Bool
 is_at_most None x = true

@@ -1,6 +1,7 @@
 -- What an instruction leaves in a register, as far as it is known. What isn't treated becomes any number.
 use Rattle.std.specs.Prelude.{ℕ, ℤ, zero, suc, pos, negsuc, ◌+◌, ◌-◌, ◌*◌, ◌/◌, ◌%◌, ◌^◌, ◌==◌, ◌&&◌, not, nat_le, nat_lt}
 use Rattle.std.specs.Prelude.{if◌then◌else◌, Bool, true, false, Option, None, Some, List, map, count_ones}
+use Rattle.std.specs.Int.{trailing_zeros, w32}
 use Rattle.rv_decode.specs.declared.instruction.BranchOp.{BranchOp}
 use Rattle.rv_decode.specs.declared.instruction.BranchOp.TheVariants as branch
 use Rattle.rv_decode.specs.declared.instruction.ImmediateOp.{ImmediateOp}
@@ -13,7 +14,7 @@ use Rattle.hart.specs.Effects.{word, computed, with_immediate, shifted, is_taken
 use Rattle.slot_queue.specs.Queues.{Queue}
 use Rattle.queue_certificates.specs.Forms.{Form, number, first_variable, plus, times, lifted, vanishes, is_same, most, fits_in}
 use Rattle.queue_certificates.specs.Forms.{remainder_word, Bounds, bounds_of}
-use Rattle.queue_certificates.specs.States.{KnownValue, any, linear, index_for, value_by, scaled}
+use Rattle.queue_certificates.specs.States.{KnownValue, any, linear, index_for, signed_for, value_by, scaled}
 
 -- a value over one variable more, the first, which is at most so much
 pub record Result : Type 0 where
@@ -40,6 +41,7 @@ abbrev pub as_number : KnownValue → Option ℕ
 as_number any = None
 as_number (linear f) = if vanishes (2 ^ 32) f.factors then Some (f.constant % 2 ^ 32) else None
 as_number (index_for i f) = None
+as_number (signed_for i f) = None
 
 -- what one says where it says something, and else the other
 abbrev pub or_else : Option ℕ → Result → Result
@@ -122,11 +124,17 @@ abbrev pub turned : KnownValue → (mask : ℕ) → Result
 turned (linear f) mask = just (if mask == 2 ^ 32 - 1 then linear (plus (number (2 ^ 32 - 1)) (times (2 ^ 32 - 1) f)) else any)
 turned v mask = just any
 
+-- of an index's word, where its remainder divides 2 ^ 32
+abbrev pub index_rest : Queue → Form → Option Rest
+index_rest q f = if 2 ^ 32 % (q.scale * q.modulus) == 0
+    then Some (record { by = q.scale * q.modulus; form = scaled q (plus f (number q.offset)) }) else None
+
+-- a signed load leaves a remainder that divides the number of words of the index's bytes
 abbrev pub rest_of : (ℕ → Queue) → KnownValue → Option Rest
 rest_of queues any = None
 rest_of queues (linear f) = whole f
-rest_of queues (index_for i f) = if 2 ^ 32 % ((queues i).scale * (queues i).modulus) == 0
-    then Some (record { by = (queues i).scale * (queues i).modulus; form = scaled (queues i) (plus f (number (queues i).offset)) }) else None
+rest_of queues (index_for i f) = index_rest (queues i) f
+rest_of queues (signed_for i f) = if 256 ^ (queues i).index_width % ((queues i).scale * (queues i).modulus) == 0 then index_rest (queues i) f else None
 
 abbrev pub shifted_left : (ℕ → Queue) → KnownValue → (amount : ℕ) → Result
 shifted_left queues (linear f) amount = just (linear (times (2 ^ amount) f))
@@ -144,6 +152,11 @@ counting queues (suc k) n = if is_count (queues k) n then Some k else counting q
 abbrev pub rest_counted : (ℕ → Queue) → (n : ℕ) → Form → Option ℕ → (other : Result) → Result
 rest_counted queues n f None other = other
 rest_counted queues n f (Some i) other = just (index_for i (plus f (number (n - (queues i).offset % n))))
+
+-- n times a form, where it is one
+abbrev pub multiple_or : (n : ℕ) → Option Form → (other : Result) → Result
+multiple_or n None other = other
+multiple_or n (Some g) other = just (linear (times n g))
 
 abbrev pub if_unbounded : (most : Option ℕ) → (r other : Result) → Result
 if_unbounded None r other = r
@@ -163,6 +176,7 @@ module _ (ranges : List (Option ℕ)) where
   bounds any = None
   bounds (linear f) = bounds_of (2 ^ 32) ranges f
   bounds (index_for i f) = None
+  bounds (signed_for i f) = None
 
   -- whether their remainders by n are the same, where bounds of the difference tell
   abbrev pub agrees : (n : ℕ) → Form → Form → Option Bool
@@ -172,6 +186,11 @@ module _ (ranges : List (Option ℕ)) where
   abbrev pub without : (n : ℕ) → Form → Form
   without n f = record { constant = f.constant / n; factors = map (λ m. m / n) f.factors }
 
+  -- bits in a row, of which this is the lowest, of one of its multiples
+  abbrev pub masked_row : Rest → (mask low : ℕ) → Result
+  masked_row r mask low = if (mask + low == low * 2 ^ count_ones mask) && (r.by % (mask + low) == 0) && is_same 0 r.form (times low (without low r.form))
+      then multiple_or low (remainder_word ranges (without low r.form) (2 ^ count_ones mask)) (any_up_to mask) else any_up_to mask
+
 -- where there are N queues
 module _ (queues : ℕ → Queue) (N : ℕ) (ranges : List (Option ℕ)) where
   -- the remainder by n, as a form or as an index's word
@@ -179,11 +198,11 @@ module _ (queues : ℕ → Queue) (N : ℕ) (ranges : List (Option ℕ)) where
   remaining n f (Some g) other = just (linear g)
   remaining n f None other = if_unbounded (most ranges f) (rest_counted queues n f (counting queues N n) other) other
 
-  -- the low bits
+  -- the low bits, or bits in a row
   abbrev pub masked : Option Rest → (mask : ℕ) → Result
   masked None mask = any_up_to mask
   masked (Some r) mask = if (mask + 1 == 2 ^ count_ones mask) && (r.by % (mask + 1) == 0)
-      then remaining (mask + 1) r.form (remainder_word ranges r.form (mask + 1)) (any_up_to mask) else any_up_to mask
+      then remaining (mask + 1) r.form (remainder_word ranges r.form (mask + 1)) (any_up_to mask) else masked_row ranges r mask (2 ^ trailing_zeros w32 mask)
 
   abbrev pub masked_by : Option Rest → Option ℕ → (other : Result) → Result
   masked_by r None other = other
@@ -192,6 +211,7 @@ module _ (queues : ℕ → Queue) (N : ℕ) (ranges : List (Option ℕ)) where
   abbrev pub shifted_back : KnownValue → (amount : ℕ) → Result
   shifted_back any amount = just any
   shifted_back (index_for i f) amount = just any
+  shifted_back (signed_for i f) amount = just any
   shifted_back (linear f) amount = if nat_le amount 32 && is_same 0 f (times (2 ^ amount) (without ranges (2 ^ amount) f))
       then remaining (2 ^ (32 - amount)) (without ranges (2 ^ amount) f) (remainder_word ranges (without ranges (2 ^ amount) f) (2 ^ (32 - amount)))
       (shifted_right (bounds_of (2 ^ 32) ranges f) amount)
@@ -246,6 +266,7 @@ module _ (queues : ℕ → Queue) (ranges : List (Option ℕ)) where
   standing i any = None
   standing i (linear f) = if is_scaled (queues i) f (unscaled (queues i) f) then Some (unscaled (queues i) f) else None
   standing i (index_for j f) = if i == j then Some (plus f (number (queues i).offset)) else None
+  standing i (signed_for j f) = None
 
   abbrev pub both_agree : (n : ℕ) → Option Form → Option Form → Option Bool
   both_agree n None k = None
@@ -256,10 +277,17 @@ module _ (queues : ℕ → Queue) (ranges : List (Option ℕ)) where
   abbrev pub is_equal_word : (i : ℕ) → KnownValue → KnownValue → Option Bool
   is_equal_word i v w = if nat_le 1 (queues i).scale then both_agree (queues i).modulus (standing i v) (standing i w) else None
 
+  -- what signed loads leave of words is equal where the words are
   abbrev pub is_equal : KnownValue → KnownValue → Option Bool
   is_equal any w = None
   is_equal (index_for i f) w = is_equal_word i (index_for i f) w
+  is_equal (signed_for i f) any = None
+  is_equal (signed_for i f) (linear g) = None
+  is_equal (signed_for i f) (index_for j g) = None
+  is_equal (signed_for i f) (signed_for j g) = if (queues i).index_width == (queues j).index_width
+      then is_equal_word i (index_for i f) (index_for j g) else None
   is_equal (linear f) any = None
+  is_equal (linear f) (signed_for i g) = None
   is_equal (linear f) (index_for i g) = is_equal_word i (linear f) (index_for i g)
   is_equal (linear f) (linear g) = agrees ranges (2 ^ 32) f g
 

@@ -8,12 +8,13 @@ use Rattle.slot_queue.specs.Ownership.{hart, end}
 use Rattle.owned_run.specs.Certified.{View, AllCounts, number_seen}
 use Rattle.queue_certificates.specs.Forms.{Form, form_value, number, plus, times, is_same, InRanges, most, fits_in, remainder}
 
--- what is known of a register or a word: nothing; that it is this form's remainder by 2 ^ 32; or that it is the word of queue i that
--- stands for the count that this form is
+-- what is known of a register or a word: nothing; that it is this form's remainder by 2 ^ 32; that it is the word of queue i that
+-- stands for the count that this form is; or that it is what a signed load leaves of that word
 pub data KnownValue : Type 0 where
   any : KnownValue
   linear : (f : Form) → KnownValue
   index_for : (i : ℕ) (f : Form) → KnownValue
+  signed_for : (i : ℕ) (f : Form) → KnownValue
 
 -- of a queue of which the hart is a party: its own count, and how many positions it owns, exactly so many
 pub record Share : Type 0 where
@@ -35,6 +36,7 @@ abbrev pub value_by : (Form → Form) → KnownValue → KnownValue
 value_by t any = any
 value_by t (linear f) = linear (t f)
 value_by t (index_for i f) = index_for i (t f)
+value_by t (signed_for i f) = signed_for i (t f)
 
 abbrev pub share_by : (Form → Form) → Share → Share
 share_by t s = record { own = t s.own; owned = t s.owned }
@@ -50,11 +52,16 @@ state_by t ranges s = record {
 
 -- ---- meaning
 
+-- what a signed load leaves of a number of so many bytes
+abbrev pub signed_word : (width x : ℕ) → ℕ
+signed_word width x = if nat_lt (x + x) (256 ^ width) then x else x + (2 ^ 32 - 256 ^ width)
+
 module _ (queues : ℕ → Queue) where
   abbrev pub Has : List ℕ → KnownValue → (x : ℕ) → Type 0
   Has xs any x = Unit {0}
   Has xs (linear f) x = x ≡ form_value f xs % 2 ^ 32
   Has xs (index_for i f) x = x ≡ index_word (queues i) (form_value f xs)
+  Has xs (signed_for i f) x = x ≡ signed_word (queues i).index_width (index_word (queues i) (form_value f xs))
 
 -- an index's word as a form, where it is one
 abbrev pub scaled : Queue → Form → Form
@@ -69,6 +76,7 @@ module _ (queues : ℕ → Queue) (ranges : List (Option ℕ)) where
   plain any = any
   plain (linear f) = linear f
   plain (index_for i f) = of_remainder ranges (queues i) i f (remainder ranges (plus f (number (queues i).offset)) (queues i).modulus)
+  plain (signed_for i f) = signed_for i f
 
   -- a number of which the first is known, of that the second holds too
   abbrev pub is_within_plain : KnownValue → KnownValue → Bool
@@ -76,8 +84,13 @@ module _ (queues : ℕ → Queue) (ranges : List (Option ℕ)) where
   is_within_plain any w = false
   is_within_plain (linear f) (linear g) = is_same (2 ^ 32) f g
   is_within_plain (index_for i f) (index_for j g) = (i == j) && is_same ((queues i).modulus) f g
+  is_within_plain (signed_for i f) (signed_for j g) = (i == j) && is_same ((queues i).modulus) f g
   is_within_plain (linear f) (index_for j g) = false
+  is_within_plain (linear f) (signed_for j g) = false
   is_within_plain (index_for i f) (linear g) = false
+  is_within_plain (index_for i f) (signed_for j g) = false
+  is_within_plain (signed_for i f) (linear g) = false
+  is_within_plain (signed_for i f) (index_for j g) = false
 
   abbrev pub is_within : KnownValue → KnownValue → Bool
   is_within v w = is_within_plain (plain v) (plain w)

@@ -21,7 +21,7 @@ use Rattle.slot_queue.specs.Queues.{Queue}
 use Rattle.queue_parties.specs.Parties.{Party, the_sender, the_receiver, other}
 use Rattle.slot_queue.specs.Ownership.{party_of, index}
 use Rattle.queue_certificates.specs.Forms.{Form, number, first_variable, plus, times, remainder, lifted, is_same, most, fits_in, Bounds, minus}
-use Rattle.queue_certificates.specs.States.{KnownValue, any, linear, index_for, Share, no_share, KnownState, value_by}
+use Rattle.queue_certificates.specs.States.{KnownValue, any, linear, index_for, signed_for, Share, no_share, KnownState, value_by}
 use Rattle.queue_certificates.specs.States.{share_by, state_by, scaled, plain, is_within}
 use Rattle.queue_certificates.specs.Results.{Result, just, exactly, or_up_to, as_number, bounds, sum_of, of_immediate, of_shift, of_registers, is_branch_taken}
 
@@ -62,6 +62,7 @@ is_slot rs q f offset (Some g) = is_same (2 ^ 32) f (plus (times q.width g) (num
 abbrev pub is_owned : List (Option ℕ) → Queue → Share → KnownValue → (width : ℕ) → Bool
 is_owned rs q s any width = false
 is_owned rs q s (index_for i f) width = false
+is_owned rs q s (signed_for i f) width = false
 is_owned rs q s (linear f) width = nat_lt (position_at q s.own.constant f.constant) s.owned.constant && nat_le (offset_at q f.constant + width) q.width
     && is_slot rs q f (offset_at q f.constant) (remainder rs (plus s.own (number (position_at q s.own.constant f.constant))) q.size)
 
@@ -74,6 +75,7 @@ behind q the_receiver = 0
 abbrev pub is_cut : Queue → KnownValue → (f : Form) → Bool
 is_cut q any f = false
 is_cut q (index_for i g) f = false
+is_cut q (signed_for i g) f = false
 is_cut q (linear g) f = (q.scale * q.modulus == 256 ^ q.index_width) && nat_lt q.base q.scale
     && is_same (256 ^ q.index_width) g (scaled q (plus f (number q.offset)))
 
@@ -146,6 +148,7 @@ abbrev pub shared : KnownState → (rs1 rs2 : Reg) → (v w : KnownValue) → Kn
 shared k rs1 rs2 any w = record k { registers = with_register k.registers rs1.number w }
 shared k rs1 rs2 (linear f) any = record k { registers = with_register k.registers rs2.number (linear f) }
 shared k rs1 rs2 (index_for i f) any = record k { registers = with_register k.registers rs2.number (index_for i f) }
+shared k rs1 rs2 (signed_for i f) any = record k { registers = with_register k.registers rs2.number (signed_for i f) }
 shared k rs1 rs2 v w = k
 
 abbrev pub with_equal : KnownState → (rs1 rs2 : Reg) → KnownState
@@ -183,6 +186,7 @@ module _ (queues : ℕ → Queue) (N : ℕ) (own_of : ℕ → List ℕ) (H h : �
   storable any = any
   storable (linear f) = linear f
   storable (index_for i f) = if nat_lt i N then index_for i f else any
+  storable (signed_for i f) = if nat_lt i N then signed_for i f else any
 
   -- a copy keeps what is known
   abbrev pub immediate_result : KnownState → ImmediateOp → KnownValue → ℤ → Result
@@ -219,18 +223,25 @@ module _ (queues : ℕ → Queue) (N : ℕ) (own_of : ℕ → List ℕ) (H h : �
   abbrev pub is_index_below : (limit : ℕ) → KnownValue → Bool
   is_index_below limit any = false
   is_index_below limit (linear f) = false
+  is_index_below limit (signed_for i f) = false
   is_index_below limit (index_for i f) = nat_le 1 (queues i).modulus && nat_lt ((queues i).base + (queues i).scale * ((queues i).modulus - 1)) limit
 
+  abbrev pub signed_value : (width : ℕ) → KnownValue → KnownValue
+  signed_value width any = any
+  signed_value width (linear f) = any
+  signed_value width (signed_for i f) = any
+  signed_value width (index_for i f) = if (queues i).index_width == width then signed_for i f else any
+
   -- a signed load leaves a number as it is if its highest bit is 0
-  abbrev pub zero_extended : LoadOp → KnownValue → KnownValue
-  zero_extended load.Byte v = if is_index_below (2 ^ 7) v then v else any
-  zero_extended load.Half v = if is_index_below (2 ^ 15) v then v else any
-  zero_extended op v = v
+  abbrev pub extended_value : LoadOp → KnownValue → KnownValue
+  extended_value load.Byte v = if is_index_below (2 ^ 7) v then v else signed_value 1 v
+  extended_value load.Half v = if is_index_below (2 ^ 15) v then v else signed_value 2 v
+  extended_value op v = v
 
   abbrev pub loaded : LoadOp → KnownValue → Result
   loaded load.ByteUnsigned v = or_up_to 255 v
   loaded load.HalfUnsigned v = or_up_to 65535 v
-  loaded op v = just (zero_extended op v)
+  loaded op v = just (extended_value op v)
 
   abbrev pub looked_word : (i : ℕ) → Share → KnownValue
   looked_word i s = index_for i (plus (plus (lifted s.own) (owned_then s)) (number (back_of (queues i) (party_of (queues i) h))))
@@ -238,7 +249,7 @@ module _ (queues : ℕ → Queue) (N : ℕ) (own_of : ℕ → List ℕ) (H h : �
   abbrev pub after_look : KnownState → LoadOp → (rd i : ℕ) → Share → KnownState
   after_look k op rd i s = record (with_result k rd (next_pc k.pc) (record {
     most = (queues i).capacity - s.owned.constant;
-    value = zero_extended op (looked_word i s);
+    value = extended_value op (looked_word i s);
   })) { shares = set (map (share_by lifted) k.shares) i (looked_share s) }
 
   abbrev pub after_load : KnownState → LoadOp → (rd : ℕ) → Bounds → Option ℕ → KnownState

@@ -9,7 +9,7 @@ ghost use Rattle.queue_certificates.specs.Forms.{Form, number, plus, lifted};
 ghost use Rattle.queue_certificates.specs.States.{KnownState, KnownValue, Share, share_by, no_share, any, index_for};
 ghost use Rattle.queue_certificates.specs.Certificates.{queue_at, own_of};
 ghost use Rattle.queue_certificates.specs.Steps.{all_below, is_one, last_below, is_just, misses, owned_then, looked_share, is_look, is_own_index};
-ghost use Rattle.queue_certificates.specs.Steps.{is_index_below, loaded, is_own_word, share_at, word_loaded, index_loaded, value_loaded, zero_extended};
+ghost use Rattle.queue_certificates.specs.Steps.{is_index_below, signed_value, loaded, is_own_word, share_at, word_loaded, index_loaded, value_loaded, extended_value};
 ghost use Rattle.queue_certificates.specs.Steps.{looked_word, after_look, after_load, may_load, load_by, loading};
 
 use crate::certificate::{KnownState, QueueCertificate, Share};
@@ -23,7 +23,7 @@ use known_values::forms::{first_variable, lifted, number, plus};
 use known_values::lack::{product, sum};
 use known_values::queues::queue_in;
 use known_values::results::{just, or_up_to};
-use known_values::values::{any, index_for};
+use known_values::values::{any, index_for, signed_for};
 use known_values::{Bounds, Form, Known, KnownValue, Lack, Outcome, Queue};
 use rv_decode::instruction::LoadOp;
 use std::alloc::Global;
@@ -166,6 +166,7 @@ fn is_index_below(
     match &value.known {
         Known::Any => Ok(false),
         Known::Linear(_) => Ok(false),
+        Known::SignedFor(_, _) => Ok(false),
         Known::IndexFor(i, _) => {
             let queue = queue_in(&certificate.queues, *i);
             let last = last_word(queue)?;
@@ -175,35 +176,55 @@ fn is_index_below(
 }
 
 /// What a signed load leaves of a number: itself, if its highest bit is 0.
-fn zero_extended(
+fn extended_value(
     certificate: &QueueCertificate,
     hart: u32,
     op: LoadOp,
     value: KnownValue,
 ) -> Result<KnownValue, Lack>
-    ensures { IfOk result (λ v. v ≡ zero_extended (queue_at certificate.now) (length certificate.now.queues) (own_of certificate.now)
+    ensures { IfOk result (λ v. v ≡ extended_value (queue_at certificate.now) (length certificate.now.queues) (own_of certificate.now)
         (length certificate.now.harts) hart op value) }
 {
     match op {
-        LoadOp::Byte => below_or_any(certificate, hart, 1 << 7, value),
-        LoadOp::Half => below_or_any(certificate, hart, 1 << 15, value),
+        LoadOp::Byte => below_or_signed(certificate, hart, 1 << 7, 1, value),
+        LoadOp::Half => below_or_signed(certificate, hart, 1 << 15, 2, value),
         LoadOp::Word | LoadOp::ByteUnsigned | LoadOp::HalfUnsigned => Ok(value),
     }
 }
 
-fn below_or_any(
+/// What a signed load of so many bytes leaves of an index's word of as many.
+fn signed_value(
+    certificate: &QueueCertificate,
+    hart: u32,
+    width: u32,
+    value: KnownValue,
+) -> KnownValue
+    ensures { result ≡ signed_value (queue_at certificate.now) (length certificate.now.queues) (own_of certificate.now)
+        (length certificate.now.harts) hart width value }
+{
+    let _hart = hart;
+    match value.known {
+        Known::IndexFor(i, form) if queue_in(&certificate.queues, i).index_width == width => signed_for(i, form),
+        _ => any(),
+    }
+}
+
+fn below_or_signed(
     certificate: &QueueCertificate,
     hart: u32,
     limit: u64,
+    width: u32,
     value: KnownValue,
 ) -> Result<KnownValue, Lack>
     ensures { IfOk result (λ v. v ≡ (if is_index_below (queue_at certificate.now) (length certificate.now.queues) (own_of certificate.now)
-        (length certificate.now.harts) hart limit value then value else any)) }
+        (length certificate.now.harts) hart limit value then value
+        else signed_value (queue_at certificate.now) (length certificate.now.queues) (own_of certificate.now)
+        (length certificate.now.harts) hart width value)) }
 {
     if is_index_below(certificate, hart, limit, &value)? {
         Ok(value)
     } else {
-        Ok(any())
+        Ok(signed_value(certificate, hart, width, value))
     }
 }
 
@@ -222,7 +243,7 @@ fn loaded(
         LoadOp::ByteUnsigned => or_up_to(alloc, 255, &value),
         LoadOp::HalfUnsigned => or_up_to(alloc, 65535, &value),
         LoadOp::Byte | LoadOp::Half | LoadOp::Word => {
-            just(alloc, &zero_extended(certificate, hart, op, value)?)
+            just(alloc, &extended_value(certificate, hart, op, value)?)
         }
     }
 }
@@ -298,7 +319,7 @@ fn after_look(
         state.now op rd i share.now) }
 {
     let word = looked_word(alloc, certificate, hart, i, share)?;
-    let value = zero_extended(certificate, hart, op, word)?;
+    let value = extended_value(certificate, hart, op, word)?;
     let most = most_more(queue_in(&certificate.queues, i), share);
     let shares = looked_shares(alloc, &state.shares, i, share)?;
     let next = with_result(alloc, state, rd, next_pc(state.pc), Outcome { most, value })?;

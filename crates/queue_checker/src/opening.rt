@@ -19,6 +19,7 @@ use crate::states::{share_in, value_in};
 use known_values::forms::form_value;
 use known_values::lack::{product, remainder_by, sum};
 use known_values::queues::queue_in;
+use known_values::values::signed_word;
 use known_values::{Known, KnownValue, Lack, OpenedQueue, Queue};
 use std::alloc::Global;
 use step_machine::{HartOpening, Opening};
@@ -79,6 +80,11 @@ fn is_value(
         Known::Linear(form) => Ok(word == form_value(form, numbers)? % WORDS),
         Known::IndexFor(i, form) => {
             Ok(word == index_word(queue_in(queues, *i), form_value(form, numbers)?)?)
+        }
+        Known::SignedFor(i, form) => {
+            let queue = queue_in(queues, *i);
+            let index = index_word(queue, form_value(form, numbers)?)?;
+            Ok(word == signed_word(queue.index_width, index)?)
         }
     }
 }

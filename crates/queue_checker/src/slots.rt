@@ -71,5 +71,6 @@ pub(crate) fn is_owned(
         Known::Linear(form) => is_owned_form(alloc, ranges, queue, share, form, width),
         Known::Any => Ok(false),
         Known::IndexFor(_, _) => Ok(false),
+        Known::SignedFor(_, _) => Ok(false),
     }
 }

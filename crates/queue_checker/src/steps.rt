@@ -103,10 +103,18 @@ fn shared(
         (Known::IndexFor(_, _), Known::Any) => {
             with_value(alloc, state, rs2.number, left.copy(alloc)?)
         }
+        (Known::SignedFor(_, _), Known::Any) => {
+            with_value(alloc, state, rs2.number, left.copy(alloc)?)
+        }
         (Known::Linear(_), Known::Linear(_)) => copied_state(alloc, state),
         (Known::Linear(_), Known::IndexFor(_, _)) => copied_state(alloc, state),
+        (Known::Linear(_), Known::SignedFor(_, _)) => copied_state(alloc, state),
         (Known::IndexFor(_, _), Known::Linear(_)) => copied_state(alloc, state),
         (Known::IndexFor(_, _), Known::IndexFor(_, _)) => copied_state(alloc, state),
+        (Known::IndexFor(_, _), Known::SignedFor(_, _)) => copied_state(alloc, state),
+        (Known::SignedFor(_, _), Known::Linear(_)) => copied_state(alloc, state),
+        (Known::SignedFor(_, _), Known::IndexFor(_, _)) => copied_state(alloc, state),
+        (Known::SignedFor(_, _), Known::SignedFor(_, _)) => copied_state(alloc, state),
     }
 }
 

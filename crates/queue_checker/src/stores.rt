@@ -20,7 +20,7 @@ use crate::states::{
 use crate::successors::{Successors, not_shown, one};
 use known_values::forms::{is_same, minus, number, plus};
 use known_values::lack::product;
-use known_values::queues::queue_in;
+use known_values::queues::{queue_in, words_of};
 use known_values::ranges::{fits_in, most};
 use known_values::results::{just, sum_of};
 use known_values::values::{any, index_for, is_within, plain, scaled};
@@ -56,19 +56,8 @@ fn is_cut(alloc: Global, queue: Queue, value: &KnownValue, count: &Form) -> Resu
         Known::Linear(form) => is_cut_form(alloc, queue, form, count),
         Known::Any => Ok(false),
         Known::IndexFor(_, _) => Ok(false),
+        Known::SignedFor(_, _) => Ok(false),
     }
-}
-
-/// How many numbers as many bytes have.
-fn words_of(bytes: u32) -> Result<u64, Lack>
-    ensures { IfOk result (λ n. n ≡ 256 ^ bytes) }
-{
-    let mut count = 1;
-    for i in 0..bytes {
-        let _turn = i;
-        count = product(count, 256)?;
-    }
-    Ok(count)
 }
 
 fn is_cut_form(alloc: Global, queue: Queue, form: &Form, count: &Form) -> Result<bool, Lack>
@@ -281,6 +270,7 @@ pub(crate) fn storable(
 {
     match &value.known {
         Known::IndexFor(i, _) if *i as usize >= certificate.queues.len() => Ok(any()),
+        Known::SignedFor(i, _) if *i as usize >= certificate.queues.len() => Ok(any()),
         _ => value.copy(alloc),
     }
 }

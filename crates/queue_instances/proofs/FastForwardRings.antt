@@ -15,10 +15,14 @@ use Rattle.step_machine.specs.Entries.{hart_of, pending, memory_word}
 use Rattle.spsc_queue.specs.RingBuffers.{lamport, fastforward, RingBuffer, IsRingBuffer, slot_offset, overlaps, slot_address, capacity_of, IsQuiescent}
 use Rattle.spsc_queue.specs.Protocol.{SenderState, resting, placed, renewing, roomy, filled, ReceiverState, idle, asked, waiting, holding, cleared}
 use Rattle.spsc_queue.specs.Protocol.{ProtocolState, at_start, parties_after, Role, sends, receives, passes, role_of, looks_at}
-use Rattle.spsc_queue.specs.Protocol.{send_load, send_store, receive_load, receive_store, next_by, protocol_next, IsCopyStore, IsSenderStore}
+use Rattle.spsc_queue.specs.Protocol.{send_look, send_load, send_store, receive_look, receive_load, receive_store, next_by, protocol_next}
+use Rattle.spsc_queue.specs.Protocol.{IsCopyStore, IsSenderStore}
 use Rattle.spsc_queue.specs.Protocol.{IsReceiverStore, KeepsProtocolBy, KeepsProtocol, IsWordAt}
 use Rattle.spsc_queue.specs.Laws.{FollowsSpscProtocol}
-use Rattle.spsc_queue.proofs.Invariants.{IsPlaced, IsAsked}
+use Rattle.spsc_queue.proofs.Cases.{IsWhole, by-role, by-send-load, by-receive-load}
+use Rattle.spsc_queue.proofs.Copies.{all-off}
+use Rattle.spsc_queue.proofs.Invariant.{IsPlaced}
+use Rattle.spsc_queue.proofs.Invariants.{IsAsked}
 use Rattle.spsc_queue.proofs.Runs.{known-of, protocol-append}
 use Rattle.queue_parties.specs.Parties.{Party, the_sender, the_receiver, other, QueueCounts, count, known, with_known}
 use Rattle.queue_parties.proofs.Positions.{ahead-is}
@@ -32,7 +36,6 @@ use Rattle.slots_that_tell.proofs.Codecs.{zero_differs}
 use Rattle.slots_that_tell.proofs.Places.{slot_at-tag, is_tag-tag, moved-tag, moved-leaves, off-leaves}
 use Rattle.slots_that_tell.proofs.Owned.{loaded-count, grows-load}
 use Rattle.queue_parties.proofs.Parties.{known-set, Grows}
-use Rattle.queue_instances.proofs.Blocks.{by-role, all-off}
 
 pub is_slots : (r : RingBuffer) → IsRingBuffer r → IsSlots (slots_of r)
 is_slots r is = record {
@@ -168,128 +171,89 @@ module _ (r : RingBuffer) (is : IsRingBuffer r) (kind : r.kind ≡ fastforward) 
   taken_place : (u : ℕ) → u ≡ slot_offset r s.taken → r.slots + u ≡ tag_of (slots_of r) c.taken
   taken_place u at = (let z : r.slots + u ≡ r.slots + u + 0 = omega arith in z) ∙ ap (λ i. r.slots + i + 0) (at ∙ ap (λ n. 4 * (n % r.size)) (sym agrees.taken))
 
-  -- the sender's load
-  sends-load : (a v : ℕ) (p : SenderState) → IsPlaced r s.stored s.published p → Sending r.size c p
-      → Sending r.size (after_load q the_sender a 4 v c) (send_load fastforward r a v p)
-  sends-load a v (filled u) at h = tt
-  sends-load a v resting at h = by (a == r.head)
-    where
-      by : (b : Bool) → Sending r.size (after_load q the_sender a 4 v c) (if b then placed v else resting)
-      by true = tt
-      by false = tt
-  sends-load a v (renewing u w) at h = by (a == r.head)
-    where
-      by : (b : Bool) → Sending r.size (after_load q the_sender a 4 v c) (if b then placed v else renewing u w)
-      by true = tt
-      by false = tt
-  sends-load a v (roomy u) at h = by (a == r.head)
-    where
-      by : (b : Bool) → Sending r.size (after_load q the_sender a 4 v c) (if b then placed v else roomy u)
-      by true = tt
-      by false =
-          let g : Grows c (after_load q the_sender a 4 v c) = grows-load q the_sender a 4 v c in
-          let n : (after_load q the_sender a 4 v c).published ≡ c.published = loaded-count q the_sender the_sender a 4 v c in
-          let k : c.known_taken ≤ (after_load q the_sender a 4 v c).known_taken = g.knows the_sender in
-          omega (arith, n, k, h)
-  sends-load a v (placed u) at h = by (a == r.head)
-    where
-      room : (b2 : Bool) → (v == 0) ≡ b2 → a ≡ r.slots + u → Sending r.size (after_load q the_sender a 4 v c) (if not b2 then placed u else roomy u)
-      room false full place = tt
-      room true free place =
-          let here : a ≡ tag_of (slots_of r) c.published = place ∙ sent_place u (at.1 ∙ ap (slot_offset r) (sym at.0)) in
-          let d : c.published < owned_end (slots_of r) the_sender (after_load (slots_of r) the_sender a 4 v c) =
-          subst (λ y. c.published < owned_end (slots_of r) the_sender (after_load (slots_of r) the_sender y 4 v c))
-          (sym here) (told-own r is the_sender c v free) in
-          let n : (after_load q the_sender a 4 v c).published ≡ c.published = loaded-count q the_sender the_sender a 4 v c in
-          omega (arith, n, d)
+  -- a load of the own slot that tells: after it the party owns a position
+  told-there : (p : Party) (a v : ℕ) → a ≡ tag_of (slots_of r) (count p c) → (slots_of r).tells p (count p c) v ≡ true
+      → count p (after_load q p a 4 v c) < owned_end (slots_of r) p (after_load q p a 4 v c)
+  told-there p a v here tells =
+      let own : count p c < owned_end (slots_of r) p (after_load (slots_of r) p a 4 v c) =
+      subst (λ y. count p c < owned_end (slots_of r) p (after_load (slots_of r) p y 4 v c)) (sym here) (told-own r is p c v tells) in
+      let n : count p (after_load q p a 4 v c) ≡ count p c = loaded-count q p p a 4 v c in
+      omega (arith, n, own)
 
-      look : (b1 : Bool) → (a == r.slots + u) ≡ b1 → Sending r.size (after_load q the_sender a 4 v c)
-          (if b1 then (if not (v == 0) then placed u else roomy u) else placed u)
-      look false off = tt
-      look true on = room (v == 0) refl (eqb-true a (r.slots + u) on)
-
-      by : (b : Bool) → Sending r.size (after_load q the_sender a 4 v c) (if b then placed v else looks_at r.copy fastforward r a u v)
-      by true = tt
-      by false = subst (λ t. Sending r.size (after_load q the_sender a 4 v c) (looks_at t fastforward r a u v))
-          (sym (no_copy r.copy refl)) (look (a == r.slots + u) refl)
-
-  -- the receiver's
-  takes-load : (a v : ℕ) (p : ReceiverState) → IsAsked r s.consumed p → Receiving s.taken s.consumed c p
-      → Receiving s.taken s.consumed (after_load q the_receiver a 4 v c) (receive_load fastforward r a v p)
-  takes-load a v (cleared u) at h = h
-  takes-load a v (waiting u) at h = absurd h
-  takes-load a v idle at h = by (a == r.tail)
+  -- a look at the own slot that tells
+  sends-look : (a v : ℕ) (p : SenderState) → IsPlaced r s.stored s.published p → Sending r.size (after_load q the_sender a 4 v c) p
+      → Sending r.size (after_load q the_sender a 4 v c) (send_look fastforward r a v p)
+  sends-look a v (placed u) at h = subst (λ t. Sending r.size (after_load q the_sender a 4 v c) (looks_at t fastforward r a u v))
+      (sym (no_copy r.copy refl)) (by (a == r.slots + u) refl (v == 0) refl)
     where
-      by : (b : Bool) → Receiving s.taken s.consumed (after_load q the_receiver a 4 v c) (if b then asked v else idle)
-      by true = h
-      by false = h
-  takes-load a v (holding u w) at h = by (a == r.tail)
-    where
-      by : (b : Bool) → Receiving s.taken s.consumed (after_load q the_receiver a 4 v c) (if b then asked v else holding u w)
-      by true = h.0
-      by false =
-          let g : Grows c (after_load q the_receiver a 4 v c) = grows-load q the_receiver a 4 v c in
-          let n : (after_load q the_receiver a 4 v c).taken ≡ c.taken = loaded-count q the_receiver the_receiver a 4 v c in
-          let k : c.known_published ≤ (after_load q the_receiver a 4 v c).known_published = g.knows the_receiver in
-          (h.0, omega (arith, n, k, h.1))
-  takes-load a v (asked u) at h = by (a == r.tail)
-    where
-      word : (b2 : Bool) → (v == 0) ≡ b2 → a ≡ r.slots + u
-          → Receiving s.taken s.consumed (after_load q the_receiver a 4 v c) (if b2 then asked u else holding u v)
-      word true free place = h
-      word false full place =
-          let here : a ≡ tag_of (slots_of r) c.taken = place ∙ taken_place u (at ∙ ap (slot_offset r) (sym h)) in
-          let d : c.taken < owned_end (slots_of r) the_receiver (after_load (slots_of r) the_receiver a 4 v c) =
-          subst (λ y. c.taken < owned_end (slots_of r) the_receiver (after_load (slots_of r) the_receiver y 4 v c))
-          (sym here) (told-own r is the_receiver c v (ap not full)) in
-          let n : (after_load q the_receiver a 4 v c).taken ≡ c.taken = loaded-count q the_receiver the_receiver a 4 v c in
-          (h, omega (arith, n, d))
+      by : (b : Bool) → (a == r.slots + u) ≡ b → (d : Bool) → (v == 0) ≡ d
+          → Sending r.size (after_load q the_sender a 4 v c) (if b then (if not d then placed u else roomy u) else placed u)
+      by true on true free = told-there the_sender a v (eqb-true a (r.slots + u) on ∙ sent_place u (at.1 ∙ ap (slot_offset r) (sym at.0))) free
+      by true on false full = tt
+      by false off d what = tt
+  sends-look a v resting at h = h
+  sends-look a v (renewing u w) at h = h
+  sends-look a v (roomy u) at h = h
+  sends-look a v (filled u) at h = h
 
-      look : (b1 : Bool) → (a == r.slots + u) ≡ b1
-          → Receiving s.taken s.consumed (after_load q the_receiver a 4 v c)
-          (if b1 then (if v == 0 then asked u else holding u v) else asked u)
-      look false off = h
-      look true on = word (v == 0) refl (eqb-true a (r.slots + u) on)
-
-      by : (b : Bool) → Receiving s.taken s.consumed (after_load q the_receiver a 4 v c)
-          (if b then asked v else (if a == r.slots + u then (if v == 0 then asked u else holding u v) else asked u))
-      by true = h
-      by false = look (a == r.slots + u) refl
+  takes-look : (a v : ℕ) (p : ReceiverState) → IsAsked r s.consumed p → Receiving s.taken s.consumed (after_load q the_receiver a 4 v c) p
+      → Receiving s.taken s.consumed (after_load q the_receiver a 4 v c) (receive_look fastforward r a v p)
+  takes-look a v (asked u) at h = by (a == r.slots + u) refl (v == 0) refl
+    where
+      by : (b : Bool) → (a == r.slots + u) ≡ b → (d : Bool) → (v == 0) ≡ d
+          → Receiving s.taken s.consumed (after_load q the_receiver a 4 v c) (if b then (if d then asked u else holding u v) else asked u)
+      by true on false full =
+          let d : (after_load q the_receiver a 4 v c).taken < owned_end (slots_of r) the_receiver (after_load q the_receiver a 4 v c) =
+          told-there the_receiver a v (eqb-true a (r.slots + u) on ∙ taken_place u (at ∙ ap (slot_offset r) (sym h))) (ap not full) in (h, omega (arith, d))
+      by true on true free = h
+      by false off d what = h
+  takes-look a v (waiting u) at h = absurd h
+  takes-look a v idle at h = h
+  takes-look a v (holding u w) at h = h
+  takes-look a v (cleared u) at h = h
 
   sender-load : (a width v : ℕ) → Agrees r (next_by fastforward r sends s (load a width v)) (after_load q the_sender a width v c)
   sender-load a width v = by (width == 4) refl
     where
+      old : (k : ℕ) → Agrees r s (after_load q the_sender a k v c)
+      old k = kept-load the_sender a k v
+
       by : (b : Bool) → (width == 4) ≡ b
-          → Agrees r (if b then record s { sending = send_load fastforward r a v s.sending } else s)
-          (after_load q the_sender a width v c)
-      by false off = kept-load the_sender a width v
-      by true on =
-          let old : Agrees r s (after_load q the_sender a width v c) = kept-load the_sender a width v in
-          record {
-            published = old.published;
-            taken = old.taken;
-            sending = subst (λ y. Sending r.size (after_load q the_sender a y v c) (send_load fastforward r a v s.sending)) (sym (eqb-true width 4 on))
-                (sends-load a v s.sending at_slot agrees.sending);
-            receiving = old.receiving;
-          }
+          → Agrees r (if b then record s { sending = send_load fastforward r a v s.sending } else s) (after_load q the_sender a width v c)
+      by false off = old width
+      by true on = subst (λ k. Agrees r (record s { sending = send_load fastforward r a v s.sending }) (after_load q the_sender a k v c))
+          (sym (eqb-true width 4 on)) (record {
+            published = (old 4).published;
+            taken = (old 4).taken;
+            sending = by-send-load fastforward r a v (Sending r.size (after_load q the_sender a 4 v c)) s.sending (λ level here. tt)
+                (sends-look a v s.sending at_slot (old 4).sending);
+            receiving = (old 4).receiving;
+          })
 
   receiver-load : (a width v : ℕ) → Agrees r (next_by fastforward r receives s (load a width v)) (after_load q the_receiver a width v c)
   receiver-load a width v = by (width == 4) refl
     where
+      old : (k : ℕ) → Agrees r s (after_load q the_receiver a k v c)
+      old k = kept-load the_receiver a k v
+
+      level : (p : ReceiverState) → IsWhole p → Receiving s.taken s.consumed c p → s.taken ≡ s.consumed
+      level idle whole h = h
+      level (asked u) whole h = h
+      level (waiting u) whole h = absurd h
+      level (holding u w) whole h = h.0
+      level (cleared u) whole h = absurd whole
+
       by : (b : Bool) → (width == 4) ≡ b
-          → Agrees r (if b then record s { receiving = receive_load fastforward r a v s.receiving } else s)
-          (after_load q the_receiver a width v c)
-      by false off = kept-load the_receiver a width v
-      by true on =
-          let old : Agrees r s (after_load q the_receiver a width v c) = kept-load the_receiver a width v in
-          record {
-            published = old.published;
-            taken = old.taken;
-            sending = old.sending;
-            receiving = subst (λ y. Receiving s.taken s.consumed (after_load q the_receiver a y v c)
-                (receive_load fastforward r a v s.receiving)) (sym (eqb-true width 4 on))
-                (takes-load a v s.receiving at_word agrees.receiving);
-          }
+          → Agrees r (if b then record s { receiving = receive_load fastforward r a v s.receiving } else s) (after_load q the_receiver a width v c)
+      by false off = old width
+      by true on = subst (λ k. Agrees r (record s { receiving = receive_load fastforward r a v s.receiving }) (after_load q the_receiver a k v c))
+          (sym (eqb-true width 4 on)) (record {
+            published = (old 4).published;
+            taken = (old 4).taken;
+            sending = (old 4).sending;
+            receiving = by-receive-load fastforward r a v (Receiving s.taken s.consumed (after_load q the_receiver a 4 v c)) s.receiving
+                (λ whole here. level s.receiving whole agrees.receiving) (takes-look a v s.receiving at_word (old 4).receiving);
+          })
 
   kept-store : (p : Party) (w : Write) → KeepsOff (slots_of r) w → Agrees r s (after_store q p w c)
   kept-store the_sender w keeps = kept (after_store q the_sender w c)
@@ -433,7 +397,8 @@ module _ (r : RingBuffer) (is : IsRingBuffer r) (kind : r.kind ≡ fastforward) 
       → TellsAccess (slots_of r) (teller_of (slots_of r) (hart_of e)) c (access_of e)
       × Agrees r (next_by fastforward r (role_of r (hart_of e)) s (access_of e)) (after_entry (slots_of r) c e)
   keeps-one e = by-role r (hart_of e) (λ role t. KeepsProtocolBy fastforward r role s (access_of e) → Kept role t (access_of e))
-      (λ at. sender-keeps (access_of e)) (λ at. receiver-keeps (access_of e)) (passes-keep (access_of e))
+      (λ at. sender-keeps (access_of e)) (λ other at. receiver-keeps (access_of e))
+      (λ other another. passes-keep (access_of e))
 
 keeps-all : (B : ℕ) (r : RingBuffer) (o : OpeningValue) (before done es : List Entry) (c : QueueCounts)
     → r.kind ≡ fastforward → FollowsSpscProtocol B r o before (done ++ es)

@@ -1,5 +1,5 @@
 -- The events that a generator's words draw.
-use Rattle.std.specs.Prelude.{ℕ, zero, suc, ◌-◌, ◌*◌, ◌%◌, nat_lt, if◌then◌else◌, List, [], ◌∷◌, map}
+use Rattle.std.specs.Prelude.{ℕ, zero, suc, ◌-◌, ◌*◌, ◌%◌, nat_lt, if◌then◌else◌, List, [], ◌∷◌}
 use Rattle.rand_core.specs.Stream.{Stream, next_u32}
 use Rattle.step_machine.specs.declared.events.Event.{Event}
 use Rattle.step_machine.specs.declared.events.Event.TheVariants.{Act, Land}
@@ -21,8 +21,3 @@ drawn_words (suc n) stream = (next_u32 stream).0 ∷ drawn_words n (next_u32 str
 unfoldable pub left_after : (n : ℕ) → Stream → Stream
 left_after zero stream = stream
 left_after (suc n) stream = left_after n (next_u32 stream).1
-
--- The schedule of this number, from 0. Each has `size` events and takes `size` words of the generator's stream,
--- after those of the schedules before it.
-abbrev pub schedule_drawn : (harts size : ℕ) → Stream → (number : ℕ) → List Event
-schedule_drawn harts size stream number = map (drawn harts) (drawn_words size (left_after (number * size) stream))

@@ -9,11 +9,11 @@ use rand_core::Rng;
 use std::alloc::{AllocError, Global};
 use step_machine::events::Event;
 
-/// The event that the word draws.
+/// The event of `harts` harts, 1 to 64, that a word draws.
 #[inline(always)]
-fn event_of(word: u32, harts: u32) -> Event
-    requires some { 1 ≤ harts }
-    requires most { harts ≤ MAX_HARTS }
+pub fn event_of(harts: u32, word: u32) -> Event
+    requires some_hart { 1 ≤ harts }
+    requires most_harts { harts ≤ MAX_HARTS }
     ensures { result ≡ drawn harts word }
 {
     let number = word % (2 * harts);
@@ -93,7 +93,7 @@ fn put<R: Rng>(
     events.clear();
     events.reserve(n as usize)?;
     for _ in 0..n {
-        events.push_reserved(event_of(generator.next_u32(), harts));
+        events.push_reserved(event_of(harts, generator.next_u32()));
     }
     Ok(())
 }

@@ -14,7 +14,7 @@
 //! This crate opens no file and judges no run: events of any harts below 64 are read and written,
 //! whether a machine could follow them or not.
 //!
-//! Called by 14 crates, from `drawn_runs` to `certifying`.
+//! Called by 15 crates, from `drawn_runs` to `certifying`.
 
 #![tactic(auto)]
 
@@ -31,7 +31,7 @@ mod tokens;
 pub mod versions;
 pub mod writing;
 
-pub use drawing::{draw, seeded};
+pub use drawing::{draw, event_of, seeded};
 pub use faults::{AtByte, ScheduleError, ScheduleFault};
 pub use heads::{RECORD_HEAD, has_head};
 pub use laws::{

@@ -7,11 +7,13 @@ use Rattle.step_machine.specs.declared.events.Event.{Event}
 use Rattle.recorder.specs.Writing.{canon}
 use Rattle.poll_close.specs.declared.clean.Violation.{Violation}
 use Rattle.poll_close.specs.declared.clean.Violation.TheVariants as violation
+use Rattle.drawn_runs.specs.Samples.{DrawnRuns}
 use Rattle.judged_runs.specs.Finding.{AreAllGood}
 use Rattle.judged_runs.specs.Telling.{IsFlawTold}
 use Rattle.ring_trials.specs.UserChannel.{lists_of}
 use Rattle.ring_trials.specs.declared.runs.Total.{Total}
-use Rattle.ring_trials.specs.Trials.{ChannelSource, schedule_of_run, IsClean, HasViolation, AreTotalsOf}
+use Rattle.ring_trials.specs.declared.user_channel.UserChannel.{UserChannel}
+use Rattle.ring_trials.specs.Trials.{channel_schedule, IsClean, HasViolation, AreTotalsOf}
 
 -- which blocks are a hart's: for the receiver all
 abbrev pub blocks_text : (hart : ℕ) → List ℕ
@@ -55,19 +57,20 @@ abbrev pub clean_text : (runs : ℕ) → List Total → List (List ℕ) → List
 clean_text runs totals lists = codes "clean " ++ decimal runs ++ codes " runs" ++ 10 ∷ sender_lines 0 totals lists
 
 -- a short schedule of the first unclean run, and what its own run breaks
-pub record IsUncleanOutput (s : ChannelSource) (runs : ℕ) (text : List ℕ) : Type 0 where
+pub record IsUncleanOutput (d : DrawnRuns) (channel : UserChannel) (text : List ℕ) : Type 0 where
   pub part : List Event
   pub violation : Violation
-  pub is_told : IsFlawTold (IsClean s.B s.M s.channel) (HasViolation s.B s.M s.channel) (λ found other. Unit {0}) (schedule_of_run s) runs part violation
+  pub is_told : IsFlawTold (IsClean d.B d.M channel) (HasViolation d.B d.M channel) (λ found other. Unit {0}) (channel_schedule d channel) d.number
+      part violation
   pub text_is : text ≡ canon part ++ violation_line violation
 
 -- all runs are clean, and the text lists each sender's totals
-pub record IsCleanOutput (s : ChannelSource) (runs : ℕ) (text : List ℕ) : Type 0 where
+pub record IsCleanOutput (d : DrawnRuns) (channel : UserChannel) (text : List ℕ) : Type 0 where
   pub totals : List Total
-  pub clean : AreAllGood (IsClean s.B s.M s.channel) (AreTotalsOf s.B s.M s.channel) (schedule_of_run s) 0 runs totals
-  pub text_is : text ≡ clean_text runs totals (lists_of s.channel)
+  pub clean : AreAllGood (IsClean d.B d.M channel) (AreTotalsOf d.B d.M channel) (channel_schedule d channel) 0 d.number totals
+  pub text_is : text ≡ clean_text d.number totals (lists_of channel)
 
--- the text for this number of runs, and whether all are clean
-abbrev pub IsTrialsOutput : ChannelSource → (runs : ℕ) → List ℕ × Bool → Type 0
-IsTrialsOutput s runs (text, true) = IsCleanOutput s runs text
-IsTrialsOutput s runs (text, false) = IsUncleanOutput s runs text
+-- the text for these drawn runs, and whether all are clean
+abbrev pub IsTrialsOutput : DrawnRuns → UserChannel → List ℕ × Bool → Type 0
+IsTrialsOutput d channel (text, true) = IsCleanOutput d channel text
+IsTrialsOutput d channel (text, false) = IsUncleanOutput d channel text

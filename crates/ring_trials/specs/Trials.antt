@@ -1,7 +1,6 @@
 -- Runs of a channel, by schedules that a generator draws, and their totals.
 use Rattle.std.specs.Prelude.{ℕ, ◌≡◌, ◌+◌, ◌^◌, ◌<◌, max, List, [], ◌∷◌, ◌++◌, length, if◌then◌else◌, Option, Some, None}
 use Rattle.std.specs.List.{slice_get}
-use Rattle.rand_core.specs.Stream.{Stream}
 use Rattle.step_machine.specs.declared.events.Event.{Event}
 use Rattle.step_machine.specs.declared.events.Entry.{Entry}
 use Rattle.step_machine.specs.declared.events.Outcome.{Outcome}
@@ -11,8 +10,7 @@ use Rattle.step_machine.specs.Entries.{reported}
 use Rattle.step_machine.specs.Runs.{Run}
 use Rattle.step_machine.specs.Standing.{RepresentsHistory, RepresentsRunFrom}
 use Rattle.step_machine.specs.inner.Config.{Config}
-use Rattle.drawn_runs.specs.declared.draws.Draw.{Draw}
-use Rattle.drawn_runs.specs.Draws.{schedule_by}
+use Rattle.drawn_runs.specs.Samples.{DrawnRuns, schedule_in}
 use Rattle.poll_close.specs.Layout.{base_of}
 use Rattle.poll_close.specs.Reports.{taken}
 use Rattle.poll_close.specs.Plans.{is_closed}
@@ -55,21 +53,9 @@ pub record IsChannelJudgedAt (B M : ℕ) (channel : UserChannel) (events : List 
   pub stands : RepresentsHistory B M history c
   pub noted : AreNoted channel history.entries found shares
 
--- Where runs come from: buffers of B stores and a memory of M words, the channel, how the schedules are drawn and by which stream,
--- and how many events each schedule has.
-pub record ChannelSource : Type 0 where
-  pub B : ℕ
-  pub M : ℕ
-  pub channel : UserChannel
-  pub draw : Draw
-  pub stream : Stream
-  pub size : ℕ
-
-abbrev pub channel_source : (B M : ℕ) → UserChannel → Draw → Stream → (size : ℕ) → ChannelSource
-channel_source B M channel draw stream size = record { B = B; M = M; channel = channel; draw = draw; stream = stream; size = size }
-
-abbrev pub schedule_of_run : ChannelSource → (number : ℕ) → List Event
-schedule_of_run s number = schedule_by s.draw (length (start_of s.channel).harts) s.size s.stream number
+-- the schedules of drawn runs of a channel
+abbrev pub channel_schedule : DrawnRuns → UserChannel → (number : ℕ) → List Event
+channel_schedule d channel = schedule_in d (length (start_of channel).harts)
 
 -- the run keeps what a ring must
 abbrev pub KeepsAll : UserChannel → History → Type 0

@@ -1,12 +1,11 @@
 //! The answer of many runs: that all are clean, or the first one that isn't, made short.
 
-ghost use Rattle.std.specs.Prelude.{◌≤◌, ◌*◌, IfOk, IfErr, OnOk};
+ghost use Rattle.std.specs.Prelude.{◌≤◌, IfOk, IfErr, OnOk};
 ghost use Rattle.std.specs.String.{string_bytes};
-ghost use Rattle.recorder.specs.Drawing.{left_after};
+ghost use Rattle.drawn_runs.specs.Samples.{runs_of};
 ghost use Rattle.poll_close.specs.Laws.{AcceptedAt, FitsHart};
 ghost use Rattle.poll_close.specs.Refusals.{RefusesAt};
 ghost use Rattle.ring_trials.specs.UserChannel.{ring_of, lists_of, layout_from, OpensOver};
-ghost use Rattle.ring_trials.specs.Trials.{channel_source};
 ghost use Rattle.ring_trials.specs.Answers.{IsTrialsOutput};
 
 use crate::answer_texts::{clean_text, unclean_text};
@@ -14,7 +13,7 @@ use crate::runs::ChannelJudge;
 use crate::user_channel::{UserChannel, open_channel};
 use drawn_runs::parallel::in_rounds;
 use drawn_runs::progress::Progress;
-use drawn_runs::{Draw, Jump, Runs};
+use drawn_runs::{Jump, Sample};
 use judged_runs::{JudgedRuns, Told, told_of_runs};
 use poll_close::RefusedAt;
 use std::alloc::{AllocError, Global};
@@ -27,24 +26,21 @@ fn output_of<const B: usize, const M: usize, G: Jump + Sync + Drop, T: Threads +
     alloc: Global,
     channel: &UserChannel,
     opening: &Opening,
-    draw: Draw,
-    generator: &G,
-    runs: Runs,
+    sample: &Sample<'_, G>,
     progress: &mut P,
 ) -> Result<(String, bool), AllocError>
     requires capacity { B ≤ 64 }
     requires memory { M ≤ 65536 }
     requires opens { OpensOver M channel.now opening.now }
-    ensures { IfOk result (λ t. IsTrialsOutput
-        (channel_source B M channel.now draw (left_after (runs.skip * runs.length) (G.Rng.stream generator.now)) runs.length)
-        runs.number (string_bytes t.0, t.1)) }
+    ensures { IfOk result (λ t. IsTrialsOutput (runs_of B M G.Rng.stream sample.now) channel.now (string_bytes t.0, t.1)) }
 {
     let judge = ChannelJudge::<B, M> { channel, opening };
-    let start = generator.ahead(runs.skip, runs.length)?;
+    let runs = sample.runs;
+    let start = sample.generator.ahead(runs.skip, runs.length)?;
     let drawn = JudgedRuns {
         judge: &judge,
         generator: &start,
-        draw,
+        draw: sample.draw,
         size: runs.length,
     };
     let found = in_rounds(rt, alloc, &drawn, runs.number, runs.jobs, progress);
@@ -58,9 +54,8 @@ fn output_of<const B: usize, const M: usize, G: Jump + Sync + Drop, T: Threads +
     }
 }
 
-/// Runs a channel over two programs `runs.number` times from its opening, with store buffers of `B` pairs and `M`
-/// words of memory, each time by `runs.length` events that the generator draws so, after the events of the runs that
-/// are passed over. Gives the text of what is found, and whether all runs are clean.
+/// Makes the runs of a sample of a channel over two programs, with store buffers of `B` pairs and `M` words of memory. Gives the
+/// text of what is found, and whether all runs are clean.
 ///
 /// If all are clean, that is their number and a line for each sender. Otherwise it is a schedule and the line of the
 /// first violation of its run: of the first run that isn't clean, from which events were left out until none could go.
@@ -77,9 +72,7 @@ pub fn run_trials<
     rt: &T,
     alloc: Global,
     channel: &UserChannel,
-    draw: Draw,
-    generator: &G,
-    runs: Runs,
+    sample: &Sample<'_, G>,
     progress: &mut P,
 ) -> Result<(String, bool), RefusedAt>
     requires some_capacity { 1 ≤ B }
@@ -88,13 +81,9 @@ pub fn run_trials<
     requires memory { M ≤ 65536 }
     requires short { FitsHart (ring_of channel.now) }
     ensures accepted { OnOk result (AcceptedAt (ring_of channel.now) M (lists_of channel.now) (layout_from channel.now)) }
-    ensures output { IfOk result (λ t. IsTrialsOutput
-        (channel_source B M channel.now draw (left_after (runs.skip * runs.length) (G.Rng.stream generator.now)) runs.length)
-        runs.number (string_bytes t.0, t.1)) }
+    ensures output { IfOk result (λ t. IsTrialsOutput (runs_of B M G.Rng.stream sample.now) channel.now (string_bytes t.0, t.1)) }
     ensures refused { IfErr result (λ e. RefusesAt (ring_of channel.now) M (lists_of channel.now) (layout_from channel.now) e) }
 {
     let opening = open_channel(alloc, channel, M)?;
-    Ok(output_of::<B, M, G, T, P>(
-        rt, alloc, channel, &opening, draw, generator, runs, progress,
-    )?)
+    Ok(output_of::<B, M, G, T, P>(rt, alloc, channel, &opening, sample, progress)?)
 }

@@ -2,7 +2,6 @@
 use Rattle.std.proofs.Common.{◌≡◌, ℕ, Bool, List, [], ◌∷◌, ◌++◌, map, All, Some, Result, refl, sym, ap, ◌∙◌, subst, arith}
 use Rattle.std.specs.List.{flat_map}
 use Rattle.std.proofs.lemmas.List.Elements.{All-tail}
-use Rattle.rand_core.specs.Stream.{Stream}
 use Rattle.step_machine.specs.History.{History, at_opening}
 use Rattle.step_machine.specs.Runs.{Run}
 use Rattle.step_machine.specs.declared.events.Event.{Event}
@@ -19,7 +18,7 @@ use Rattle.engine_support.proofs.InputLaws.{alike_after, one_litmus_text, one_ma
 use Rattle.engine_support.proofs.OneInput.{equal_alike}
 use Rattle.engine_support.proofs.OutcomeTables.{one_outcomes}
 use Rattle.sampling.specs.Trials.{Trial, IsTrial, are_good, gave}
-use Rattle.drawn_runs.specs.declared.draws.Draw.{Draw}
+use Rattle.drawn_runs.specs.Samples.{DrawnRuns}
 use Rattle.sampling.specs.declared.trials.outcomes.Unfinished.{Unfinished}
 use Rattle.sampling.specs.Outcomes.{first_unfinished, last_line, shown_by, outcome_with_count, unfinished, IsTried, IsTryAnswer}
 
@@ -53,10 +52,9 @@ one_list B M q x y are others same = absurd cc
 
 -- ---- one text
 
-one_text : (B M : ℕ) (left : Unfinished) (draw : Draw) (stream : Stream) (runs size : ℕ) (q : LitmusTest) (a b : List ℕ × Bool)
-    → IsTried B M left draw stream runs size q a → IsTried B M left draw stream runs size q b → a ≡ b
-one_text B M left draw stream runs size q a b is other =
-    let trials : is.trials ≡ other.trials = one_list B M q is.trials other.trials is.are.ran other.are.ran (is.are.schedules ∙ sym other.are.schedules) in
+one_text : (d : DrawnRuns) (left : Unfinished) (q : LitmusTest) (a b : List ℕ × Bool) → IsTried d left q a → IsTried d left q b → a ≡ b
+one_text d left q a b is other =
+    let trials : is.trials ≡ other.trials = one_list d.B d.M q is.trials other.trials is.are.ran other.are.ran (is.are.schedules ∙ sym other.are.schedules) in
     let outcomes : is.outcomes ≡ other.outcomes = one_outcomes gave is.trials is.outcomes other.outcomes is.shown
     (subst (λ (ts : List Trial). AreOutcomes gave ts other.outcomes) (sym trials) other.shown) in
     let texts : a.0 ≡ b.0 = is.text
@@ -67,8 +65,8 @@ one_text B M left draw stream runs size q a b is other =
     let goods : a.1 ≡ b.1 = is.good ∙ ap (are_good q.quantifier) trials ∙ sym other.good in
     λ i. (texts i, goods i)
 
-pub one_try : (B M : ℕ) (left : Unfinished) (draw : Draw) (stream : Stream) (runs size : ℕ) (file : List ℕ) (a b : Result (List ℕ × Bool) Refusal)
-    → IsTryAnswer B M left draw stream runs size (Some file) a → IsTryAnswer B M left draw stream runs size (Some file) b → AreOneAnswer a b
-one_try B M left draw stream runs size file =
+pub one_try : (d : DrawnRuns) (left : Unfinished) (file : List ℕ) (a b : Result (List ℕ × Bool) Refusal)
+    → IsTryAnswer d left (Some file) a → IsTryAnswer d left (Some file) b → AreOneAnswer a b
+one_try d left file =
     alike_after tests (λ r s. r.number ≡ s.number) one_litmus_text AreOneAnswer (λ r s e. e) file _
-    (λ q a b is other. equal_alike a b (one_made (IsTried B M left draw stream runs size q) (one_text B M left draw stream runs size q) a b is other))
+    (λ q a b is other. equal_alike a b (one_made (IsTried d left q) (one_text d left q) a b is other))

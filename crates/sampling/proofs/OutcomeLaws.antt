@@ -2,14 +2,13 @@
 use Rattle.std.proofs.Common.{◌≡◌, ℕ, Bool, List, ◌++◌, Option, Result, OnOk, ap, ap₂, sym, subst, ◌∙◌, arith}
 use Rattle.std.specs.Io.KnownBytes.{Appends}
 use Rattle.std.specs.List.{flat_map, list_any}
-use Rattle.rand_core.specs.Stream.{Stream}
 use Rattle.litmus.specs.LitmusTests.{LitmusTest}
 use Rattle.litmus.specs.declared.verdict.Quantifier.{Quantifier}
 use Rattle.engine_support.specs.Counting.{AreCountedLines, counted}
 use Rattle.engine_support.proofs.OutcomeTables.{are_outcomes, table_is}
 use Rattle.sampling.specs.declared.trials.tally.Tally.{Tally}
-use Rattle.drawn_runs.specs.declared.draws.Draw.{Draw}
-use Rattle.sampling.specs.Trials.{Trial, AreTrials, is_holds, is_fails, gave, are_good}
+use Rattle.drawn_runs.specs.Samples.{DrawnRuns}
+use Rattle.sampling.specs.Trials.{Trial, AreDrawnTrials, is_holds, is_fails, gave, are_good}
 use Rattle.sampling.specs.declared.trials.outcomes.Unfinished.{Unfinished}
 use Rattle.sampling.specs.Outcomes.{first_schedule, last_line, shown_by, outcome_with_count, unfinished, IsTried}
 use Rattle.sampling.specs.inner.Tallies.{IsTallyOf, good_by, left_name}
@@ -19,14 +18,13 @@ good_is : (quantifier : Quantifier) (trials : List Trial)
     (list_any (λ (t : Trial). is_fails t.verdict) trials) ≡ are_good quantifier trials
 good_is quantifier trials = grind arith
 
-pub tried : {F : Type 0} (name : F → List ℕ) (B M : ℕ) (left : Unfinished) (draw : Draw) (stream : Stream)
-    (runs size : ℕ) (test : LitmusTest) (trials : List Trial)
+pub tried : {F : Type 0} (name : F → List ℕ) (d : DrawnRuns) (left : Unfinished) (test : LitmusTest) (trials : List Trial)
     (tally : Tally F) (lines text : List ℕ) (good : Bool)
-    → AreTrials B M test draw stream runs size trials → IsTallyOf name trials tally
+    → AreDrawnTrials d test trials → IsTallyOf name trials tally
     → AreCountedLines test (counted name tally.outcomes) lines
     → text ≡ lines ++ last_line tally.unfinished (shown_by left (left_name name tally.first_unfinished))
-    → good ≡ good_by test.quantifier tally.some_hold tally.some_fail → IsTried B M left draw stream runs size test (text, good)
-tried name B M left draw stream runs size test trials tally lines text good are is made written judged = record {
+    → good ≡ good_by test.quantifier tally.some_hold tally.some_fail → IsTried d left test (text, good)
+tried name d left test trials tally lines text good are is made written judged = record {
   trials = trials;
   are = are;
   outcomes = made.outcomes;

@@ -3,16 +3,15 @@
 use Rattle.std.specs.Prelude.{ℕ, ◌≡◌, ◌==◌, if◌then◌else◌, Bool, not, List, [], ◌++◌, length, find, flat_map, count_by}
 use Rattle.std.specs.Prelude.{IsOkAnd, Option, Some, None, Result, codes, ◌∷◌}
 use Rattle.std.specs.Fmt.{decimal}
-use Rattle.rand_core.specs.Stream.{Stream}
 use Rattle.step_machine.specs.declared.events.Event.{Event}
 use Rattle.litmus.specs.LitmusTests.{LitmusTest}
-use Rattle.drawn_runs.specs.declared.draws.Draw.{Draw}
+use Rattle.drawn_runs.specs.Samples.{DrawnRuns}
 use Rattle.recorder.specs.Writing.{schedule_tokens}
 use Rattle.engine_support.specs.declared.fault.Refusal.{Refusal}
 use Rattle.engine_support.specs.Outcomes.{AreOutcomes, line_of}
 use Rattle.engine_support.specs.Inputs.{After}
 use Rattle.engine_support.specs.Tests.{tests}
-use Rattle.sampling.specs.Trials.{Trial, AreTrials, is_finished, gave, are_good}
+use Rattle.sampling.specs.Trials.{Trial, AreDrawnTrials, is_finished, gave, are_good}
 use Rattle.sampling.specs.declared.trials.outcomes.Unfinished.{Unfinished}
 use Rattle.sampling.specs.declared.trials.outcomes.Unfinished.TheVariants.{Counted, Shown}
 
@@ -57,16 +56,15 @@ shown_by Shown first = first
 abbrev pub last_line : (count : ℕ) → (end : List ℕ) → List ℕ
 last_line count end = codes "unfinished " ++ (decimal count ++ (end ++ 10 ∷ []))
 
--- the text of this number of runs of a test, over store buffers of B pairs and a memory of M words, and
--- whether they show what the test asks
-pub record IsTried (B M : ℕ) (left : Unfinished) (draw : Draw) (stream : Stream) (runs size : ℕ) (test : LitmusTest) (answer : List ℕ × Bool) : Type 0 where
+-- the text of these runs of a test, and whether they show what the test asks
+pub record IsTried (d : DrawnRuns) (left : Unfinished) (test : LitmusTest) (answer : List ℕ × Bool) : Type 0 where
   pub trials : List Trial
-  pub are : AreTrials B M test draw stream runs size trials
+  pub are : AreDrawnTrials d test trials
   pub outcomes : List (List ℕ)
   pub shown : AreOutcomes gave trials outcomes
   pub text : answer.0 ≡ flat_map (outcome_with_count test trials) outcomes ++ last_line (unfinished trials) (shown_by left (first_unfinished trials))
   pub good : answer.1 ≡ are_good test.quantifier trials
 
--- What answers a litmus text, where schedules are drawn so, by this stream.
-abbrev pub IsTryAnswer : (B M : ℕ) → Unfinished → Draw → Stream → (runs size : ℕ) → (file : Option (List ℕ)) → Result (List ℕ × Bool) Refusal → Type 0
-IsTryAnswer B M left draw stream runs size file = After tests file (λ test given. IsOkAnd given (IsTried B M left draw stream runs size test))
+-- What answers a litmus text, where these runs are drawn.
+abbrev pub IsTryAnswer : DrawnRuns → Unfinished → (file : Option (List ℕ)) → Result (List ℕ × Bool) Refusal → Type 0
+IsTryAnswer d left file = After tests file (λ test given. IsOkAnd given (IsTried d left test))

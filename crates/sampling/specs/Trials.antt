@@ -14,6 +14,7 @@ use Rattle.litmus.specs.declared.verdict.Verdict.{Verdict}
 use Rattle.litmus.specs.declared.verdict.Verdict.TheVariants.{Holds, Fails, Unfinished}
 use Rattle.drawn_runs.specs.declared.draws.Draw.{Draw}
 use Rattle.drawn_runs.specs.Draws.{schedule_by}
+use Rattle.drawn_runs.specs.Samples.{DrawnRuns}
 
 -- one run: its schedule, the verdict on it, and the last values of the condition's observed locations
 pub record Trial : Type 0 where
@@ -32,6 +33,10 @@ pub record IsTrial (B M : ℕ) (test : LitmusTest) (trial : Trial) : Type 0 wher
 pub record AreTrials (B M : ℕ) (test : LitmusTest) (draw : Draw) (stream : Stream) (runs size : ℕ) (trials : List Trial) : Type 0 where
   pub schedules : map (λ t. t.events) trials ≡ map (schedule_by draw (length test.opening.harts) size stream) (range_with_len 0 runs)
   pub ran : All (IsTrial B M test) trials
+
+-- the runs that are drawn so
+abbrev pub AreDrawnTrials : DrawnRuns → LitmusTest → List Trial → Type 0
+AreDrawnTrials d test trials = AreTrials d.B d.M test d.draw d.stream d.number d.size trials
 
 -- a run is finished where there is a verdict on its outcome
 abbrev pub is_finished : Verdict → Bool

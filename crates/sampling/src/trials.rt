@@ -1,12 +1,12 @@
 //! The command `try`: runs of a litmus test from schedules that a generator draws, and their outcomes.
 
-ghost use Rattle.std.specs.Prelude.{◌≤◌, ◌*◌, IfOk};
+ghost use Rattle.std.specs.Prelude.{◌≤◌, IfOk};
 ghost use Rattle.engine_support.specs.Engines.{Ends};
 ghost use Rattle.sampling.specs.Outcomes.{IsTried, IsTryAnswer};
 ghost use Rattle.sampling.specs.declared.trials.outcomes.Unfinished.{Unfinished};
 ghost use Rattle.engine_support.specs.inner.Making.{FindsUpToReads};
 ghost use Rattle.sampling.specs.inner.Tallies.{name_of_run, text_and_good};
-ghost use Rattle.recorder.specs.Drawing.{left_after};
+ghost use Rattle.drawn_runs.specs.Samples.{runs_of};
 ghost use Rattle.litmus.specs.declared.litmus_test.TheConstants.{MAX_LOCATIONS};
 
 use crate::trials::drawn_run::DrawnRun;
@@ -14,9 +14,8 @@ pub use crate::trials::outcomes::Unfinished;
 use crate::trials::outcomes::end_with_tally;
 use crate::trials::parallel::tally_in_rounds;
 use crate::trials::tally::Tally;
-pub use drawn_runs::Runs;
 use drawn_runs::progress::Progress;
-use drawn_runs::{Draw, Jump};
+use drawn_runs::{Jump, Sample};
 use engine_support::fault::Fault;
 use engine_support::litmus_text::read_test;
 use litmus::Test;
@@ -44,29 +43,17 @@ fn drawn<
     rt: &T,
     alloc: Global,
     test: &Test,
-    draw: Draw,
-    generator: &G,
-    runs: Runs,
+    sample: &Sample<'_, G>,
     progress: &mut P,
 ) -> Result<Tally<DrawnRun<G>>, AllocError>
     requires some_capacity { 1 ≤ B }
     requires capacity { B ≤ 64 }
     requires words { MAX_LOCATIONS ≤ M }
     requires size { M ≤ 65536 }
-    ensures { IfOk result
-        (λ tally. (left : Unfinished) → IsTried B M left draw (left_after (runs.skip * runs.length) (G.Rng.stream generator.now)) runs.number
-        runs.length test.now (text_and_good (name_of_run G.Rng.stream) left (test.now, tally))) }
+    ensures { IfOk result (λ tally. (left : Unfinished) → IsTried (runs_of B M G.Rng.stream sample.now) left test.now
+        (text_and_good (name_of_run G.Rng.stream) left (test.now, tally))) }
 {
-    let start = generator.ahead(runs.skip, runs.length)?;
-    let Runs {
-        number,
-        length,
-        jobs,
-        ..
-    } = runs;
-    let tally = tally_in_rounds::<B, M, G, T, P>(
-        rt, alloc, test, draw, &start, number, length, jobs, progress,
-    )?;
+    let tally = tally_in_rounds::<B, M, G, T, P>(rt, alloc, test, sample, progress)?;
     tally.outcomes.has_lines(test);
     Ok(tally)
 }
@@ -83,26 +70,23 @@ fn made<
     rt: &T,
     alloc: Global,
     file: &mut R,
-    draw: Draw,
-    generator: &G,
-    runs: Runs,
+    sample: &Sample<'_, G>,
     progress: &mut P,
 ) -> Result<(Test, Tally<DrawnRun<G>>), Fault>
     requires some_capacity { 1 ≤ B }
     requires capacity { B ≤ 64 }
     requires words { MAX_LOCATIONS ≤ M }
     requires size { M ≤ 65536 }
-    ensures { (left : Unfinished) → FindsUpToReads (IsTryAnswer B M left draw (left_after (runs.skip * runs.length) (G.Rng.stream generator.now))
-        runs.number runs.length (R.remaining file.old)) (text_and_good (name_of_run G.Rng.stream) left) result }
+    ensures { (left : Unfinished) → FindsUpToReads (IsTryAnswer (runs_of B M G.Rng.stream sample.now) left (R.remaining file.old))
+        (text_and_good (name_of_run G.Rng.stream) left) result }
 {
     let test = read_test(alloc, file)?;
-    let tally = drawn::<B, M, G, T, P>(rt, alloc, &test, draw, generator, runs, progress)?;
+    let tally = drawn::<B, M, G, T, P>(rt, alloc, &test, sample, progress)?;
     Ok((test, tally))
 }
 
-/// Reads a litmus text to its end, and runs the test `runs.number` times from its opening with store
-/// buffers of `B` pairs and `M` words of memory, each time by `runs.length` events that the generator
-/// draws so, after the events of the runs that are passed over.
+/// Reads a litmus text to its end, and makes the runs of a sample of its test, with store buffers of `B` pairs and `M` words of
+/// memory.
 ///
 /// It writes a line for each outcome of the finished runs, ascending by the values: how many runs gave
 /// it, the values of the condition's observed locations, and the schedule of the first of these runs; and then
@@ -124,9 +108,7 @@ pub fn try_engine<
     alloc: Global,
     file: &mut R,
     left: Unfinished,
-    draw: Draw,
-    generator: &G,
-    runs: Runs,
+    sample: &Sample<'_, G>,
     progress: &mut P,
     writer: &mut W,
 ) -> Result<bool, Fault>
@@ -134,11 +116,10 @@ pub fn try_engine<
     requires capacity { B ≤ 64 }
     requires words { MAX_LOCATIONS ≤ M }
     requires size { M ≤ 65536 }
-    ensures { Ends (IsTryAnswer B M left draw (left_after (runs.skip * runs.length) (G.Rng.stream generator.now)) runs.number runs.length
-        (R.remaining file.old)) result W.contents writer.old writer.new }
+    ensures { Ends (IsTryAnswer (runs_of B M G.Rng.stream sample.now) left (R.remaining file.old)) result W.contents writer.old writer.new }
 {
     end_with_tally(
-        made::<B, M, R, G, T, P>(rt, alloc, file, draw, generator, runs, progress),
+        made::<B, M, R, G, T, P>(rt, alloc, file, sample, progress),
         left,
         writer,
     )

@@ -12,29 +12,24 @@ use Rattle.step_machine.specs.Entries.{hart_of, own_stores, lands, pending, read
 use Rattle.step_machine.specs.Paths.{state_of}
 use Rattle.step_machine.specs.Legal.{Legal}
 use Rattle.spsc_queue.specs.RingBuffers.{Kind, lamport, fastforward, RingBuffer, capacity, unpublished, unreleased}
-use Rattle.spsc_queue.specs.Protocol.{SenderState, resting, placed, renewing, roomy, filled, asked, ProtocolState}
+use Rattle.spsc_queue.specs.Protocol.{placed, asked, ProtocolState}
 use Rattle.spsc_queue.specs.Protocol.{room_at, says_full, watched_address}
 use Rattle.spsc_queue.specs.Protocol.{says_empty, parties_after}
 use Rattle.spsc_queue.specs.Laws.{IsPrefix, FollowsSpscProtocol, available_of, available_count, available_words}
 use Rattle.store_buffers.specs.StoreBuffers.{IsOnlyWriter, AllLeaveByte}
 use Rattle.spsc_queue.specs.Calls.{SpscQueue, Party, the_sender, the_receiver, party_line, buffer, is_sender_in_call, is_receiver_in_call, given_words}
 use Rattle.spsc_queue.specs.Calls.{received_words, UsesAsSpscQueue}
-use Rattle.spsc_queue.proofs.Invariants.{IsPlaced, Known}
+use Rattle.spsc_queue.proofs.Cases.{IsLevel}
+use Rattle.spsc_queue.proofs.Invariant.{level-counts}
+use Rattle.spsc_queue.proofs.Invariants.{Known}
 use Rattle.spsc_queue.proofs.Runs.{known-of, delivered, length-firsts}
 use Rattle.spsc_queue.proofs.Publication.{published, returned}
 use Rattle.store_buffers.proofs.MessagePassing.{handed_over}
 use Rattle.spsc_queue.proofs.Linearization.{empty_landed, full_landed, word_found, room_found}
-use Rattle.spsc_queue.proofs.Outline.{part, IsLevel, Level, Stands, WordsAre}
+use Rattle.spsc_queue.proofs.Outline.{part, Level, Stands, WordsAre}
 use Rattle.spsc_queue.proofs.Functions.{words_are_by}
 use Rattle.spsc_queue.proofs.Parties.{is_busy, words}
 use Rattle.spsc_queue.proofs.Calls.{Stand, stands-at, calls_follow, here, was_here}
-
-level-counts : (r : RingBuffer) (stored published : ℕ) (p : SenderState) → IsLevel p → IsPlaced r stored published p → stored ≡ published
-level-counts r stored published resting l h = h
-level-counts r stored published (placed u) l h = h.0
-level-counts r stored published (renewing u v) l h = h.0
-level-counts r stored published (roomy u) l h = h.0
-level-counts r stored published (filled u) l h = absurd l
 
 -- where no word is half sent, each that is stored is available; and at most one isn't
 level-available : (k : Kind) (t : ProtocolState) → t.stored ≡ t.published → available_of k t ≡ t.stored

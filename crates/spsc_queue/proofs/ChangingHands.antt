@@ -9,14 +9,14 @@ use Rattle.step_machine.specs.History.{OpeningValue}
 use Rattle.step_machine.specs.Entries.{pending, memory_word}
 use Rattle.spsc_queue.specs.RingBuffers.{Kind, lamport, fastforward, RingBuffer, IsRingBuffer, slot_offset, slot_address, writes_to, IsQuiescent, capacity_of}
 use Rattle.spsc_queue.specs.RingBuffers.{waiting_words}
-use Rattle.spsc_queue.specs.Protocol.{ReceiverState, idle, asked, waiting, holding, cleared, ProtocolState, parties_after}
+use Rattle.spsc_queue.specs.Protocol.{ProtocolState, parties_after}
 use Rattle.spsc_queue.specs.Laws.{FollowsSpscProtocol, ready_by_state, available_count}
 use Rattle.spsc_queue.specs.Calls.{SpscQueue, the_receiver, ring_at, buffer, is_sender_in_call, is_receiver_in_call, received_words}
 use Rattle.spsc_queue.specs.Calls.{UsesAsSpscQueue, given_words, block_after, the_sender}
 use Rattle.spsc_queue.proofs.Spread.{spread, sent_store}
 use Rattle.spsc_queue.proofs.Rows.{Earlier}
 use Rattle.spsc_queue.proofs.PastRows.{length-spread}
-use Rattle.spsc_queue.proofs.Invariant.{freed, there, their_store, their_landed, they_made, Theirs, ReceivingIs, Invariant, firsts}
+use Rattle.spsc_queue.proofs.Invariant.{whole-counts, freed, there, their_store, their_landed, they_made, Theirs, Invariant, firsts}
 use Rattle.queue_parties.specs.Positions.{numbers_from}
 use Rattle.spsc_queue.proofs.Numbers.{numbers-moved, firsts-on}
 use Rattle.spsc_queue.proofs.Words.{row_of}
@@ -24,20 +24,12 @@ use Rattle.spsc_queue.proofs.Copies.{Copied, quiet_read}
 use Rattle.spsc_queue.proofs.Invariants.{row_none, earlier, known}
 use Rattle.spsc_queue.proofs.Parts.{ring_is}
 use Rattle.spsc_queue.proofs.Runs.{invariant-of, known-of}
-use Rattle.spsc_queue.proofs.Outline.{IsWhole}
+use Rattle.spsc_queue.proofs.Cases.{IsWhole}
 use Rattle.spsc_queue.proofs.Calls.{calls_follow}
 use Rattle.spsc_queue.proofs.CallLaws.{idle_words, idle_sent, idle_received}
 
 none_left : (f : ℕ → Write) (i n : ℕ) (ws : List Write) → ws ≡ spread f i n → ws ≡ [] → n ≡ 0
 none_left f i n ws is none = sym (length-spread f i n) ∙ ap length (sym is ∙ none)
-
-whole-counts : (K : Kind) (r : RingBuffer) (L : ℕ → ℕ) (taken consumed n : ℕ) (p : ReceiverState) → IsWhole p → ReceivingIs K r L taken consumed n p
-    → taken ≡ consumed
-whole-counts K r L taken consumed n idle whole is = is
-whole-counts K r L taken consumed n (asked u) whole is = is.0
-whole-counts K r L taken consumed n (waiting u) whole is = is.0
-whole-counts K r L taken consumed n (holding u w) whole is = is.0
-whole-counts K r L taken consumed n (cleared u) whole is = absurd whole
 
 -- where all that it made has landed, so have its zeros and tails
 all_landed : (K : Kind) (n m z t : ℕ) → Theirs K n m z t → n ≡ m → their_landed K z t ≡ they_made K n m → (freed K z t ≡ n) × (t ≡ n)

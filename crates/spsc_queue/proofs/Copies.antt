@@ -1,20 +1,20 @@
 -- The sender's copy of the tail, as the sender reads it: what leaves it, and what its own store makes of it.
 use Rattle.std.proofs.Common.{ℕ, ◌+◌, ◌-◌, ◌^◌, ◌<◌, ◌≤◌, ◌≡◌, ◌&&◌, inl, inr, not, Bool, true, false, if◌then◌else◌, List, [], ◌∷◌, ◌++◌, length, Option}
-use Rattle.std.proofs.Common.{Some, None, refl, sym, ◌∙◌, ap, arith}
+use Rattle.std.proofs.Common.{Some, None, refl, sym, ◌∙◌, ap, subst, arith}
 use Rattle.std.specs.Prelude.{All, unwrap_or}
 use Rattle.std.specs.Int.{byte_at}
 use Rattle.std.proofs.lemmas.Bool.Decides.{nat_tests}
 use Rattle.std.proofs.lemmas.List.Elements.{All-head, All-tail, All-nil, All-cons}
 use Rattle.memory.specs.declared.writes.Write.{Write}
-use Rattle.memory.specs.Writes.{covers, newest_of}
+use Rattle.memory.specs.Writes.{write, covers, newest_of}
 use Rattle.memory.proofs.Bytes.{joined-same, word_of_bytes, covers-yes, covers-from}
 use Rattle.memory.proofs.Newest.{newest_of-append}
 use Rattle.step_machine.specs.declared.events.Entry.{Entry}
 use Rattle.step_machine.specs.History.{OpeningValue}
-use Rattle.step_machine.specs.Access.{access_of}
+use Rattle.step_machine.specs.Access.{Access, store, exchange, access_of}
 use Rattle.step_machine.specs.Entries.{pending, memory_byte, memory_word, read_byte, read, own_stores, lands}
 use Rattle.step_machine.specs.Legal.{Allowed}
-use Rattle.spsc_queue.specs.RingBuffers.{Kind, lamport, fastforward, RingBuffer, IsWordIn, slot_offset, overlaps, writes_to}
+use Rattle.spsc_queue.specs.RingBuffers.{Kind, lamport, fastforward, RingBuffer, IsRingBuffer, IsWordIn, slot_offset, overlaps, writes_to, IsQuiescent}
 use Rattle.spsc_queue.specs.Protocol.{IsWordAt}
 use Rattle.store_buffers.specs.StoreBuffers.{LeavesByte, LeavesByteBy, IsOnlyWriter}
 use Rattle.spsc_queue.proofs.Words.{is_copy, row_of, copy_at}
@@ -51,16 +51,6 @@ copied-on lamport (Some c) r o es fs n m n2 m2 e stays le less is =
     let on = stays c e is.alone in
     record { place = is.place; reads = on.0 ∙ is.reads; low = omega (arith, is.low, le); high = omega (arith, is.high, less); alone = on.1 }
 
--- an entry that leaves each byte of the copy
-pub copy-left : (B : ℕ) (r : RingBuffer) (o : OpeningValue) (es : List Entry) (e : Entry) → ((h : ℕ) → lands h es ≤ length (own_stores h es)) → Allowed B o es e
-    → ((c x : ℕ) → r.copy ≡ Some c → c ≤ x → x < c + 4 → LeavesByteBy x (access_of e)) → CopyStays r o es (es ++ e ∷ [])
-copy-left B r o es e even allowed leaves c is alone = (
-  joined-same (λ i. read_byte o (es ++ e ∷ []) r.sender (c + i)) (λ i. read_byte o es r.sender (c + i)) 4
-      (λ i lt. (kept B o r.sender (c + i) es (e ∷ []) even (allowed, tt) (alone (c + i) (omega arith) (omega (arith, lt)))
-      (leaves c (c + i) is (omega arith) (omega (arith, lt)), tt)).0),
-  λ x from below. (kept B o r.sender x es (e ∷ []) even (allowed, tt) (alone x from below) (leaves c x is from below, tt)).1,
-)
-
 -- a write off the block, and one of a word of the block, leaves the copy
 pub off_leaves : (r : RingBuffer) (w : Write) (x : ℕ) → overlaps r w ≡ false → r.first ≤ x → x < r.end → LeavesByte x w
 off_leaves r w x off from below = at (covers w x) refl
@@ -93,21 +83,78 @@ own_read o es fs h c w more at small =
         ∙ ap (λ f. unwrap_or f (memory_byte o fs (c + i))) (newest_of-append (c + i) None (pending h es) (w ∷ [])
         ∙ ap (λ b. if b then Some (byte_at (c + i - w.addr) w.value) else newest_of (c + i) None (pending h es)) held) ∙ ap (λ j. byte_at j w.value) place
 
--- a hart with no pending store to the block reads a word of it as memory has it
-pub none_leave : (r : RingBuffer) (x : ℕ) (ws : List Write) → writes_to r ws ≡ [] → r.first ≤ x → x < r.end → All (LeavesByte x) ws
-none_leave r x [] none from below = All-nil (LeavesByte x)
-none_leave r x (w ∷ ws) none from below = at (overlaps r w) refl (λ more. none_leave r x ws more from below)
-  where
-    at : (b : Bool) → overlaps r w ≡ b → (writes_to r ws ≡ [] → All (LeavesByte x) ws) → All (LeavesByte x) (w ∷ ws)
-    at false off more = All-cons (LeavesByte x) w ws (off_leaves r w x off from below)
-        (more (sym (ap (λ b. if b then w ∷ writes_to r ws else writes_to r ws) off) ∙ none))
-    at true on more = let no : w ∷ writes_to r ws ≡ [] = sym (ap (λ b. if b then w ∷ writes_to r ws else writes_to r ws) on) ∙ none in absurd (cc)
+-- less is stored, and more is known
+pub copied-more : (q : Option ℕ) (r : RingBuffer) (o : OpeningValue) (es : List Entry) (n m n2 m2 : ℕ) → n2 ≤ n → m ≤ m2
+    → Copied lamport q r o es n m → Copied lamport q r o es n2 m2
+copied-more None r o es n m n2 m2 le less is = tt
+copied-more (Some c) r o es n m n2 m2 le less is =
+    record { place = is.place; reads = is.reads; low = omega (arith, is.low, le); high = omega (arith, is.high, less); alone = is.alone }
 
+-- an entry that leaves the copy
+module _ (B : ℕ) (r : RingBuffer) (is : IsRingBuffer r) (o : OpeningValue) (es : List Entry) (e : Entry)
+    (even : (h : ℕ) → lands h es ≤ length (own_stores h es)) (can : Allowed B o es e) where
+  pub leaves : (x : Access) → access_of e ≡ x → ((c y : ℕ) → r.copy ≡ Some c → c ≤ y → y < c + 4 → LeavesByteBy y x) → CopyStays r o es (es ++ e ∷ [])
+  leaves x does left c some alone = (
+    joined-same (λ i. read_byte o (es ++ e ∷ []) r.sender (c + i)) (λ i. read_byte o es r.sender (c + i)) 4
+        (λ i lt. (kept B o r.sender (c + i) es (e ∷ []) even (can, tt) (alone (c + i) (omega arith) (omega (arith, lt)))
+        (left_by (c + i) (omega arith) (omega (arith, lt)), tt)).0),
+    λ y from below. (kept B o r.sender y es (e ∷ []) even (can, tt) (alone y from below) (left_by y from below, tt)).1,
+  )
+    where
+      left_by : (y : ℕ) → c ≤ y → y < c + 4 → LeavesByteBy y (access_of e)
+      left_by y from below = subst (LeavesByteBy y) (sym does) (left c y some from below)
+
+  off_left : (w : Write) → overlaps r w ≡ false → (c y : ℕ) → r.copy ≡ Some c → c ≤ y → y < c + 4 → LeavesByte y w
+  off_left w off c y some from below = off_leaves r w y off (omega (arith, from, (is.copy c some).above)) (omega (arith, below, (is.copy c some).below))
+
+  pub off_leave : (w : Write) → access_of e ≡ store w → overlaps r w ≡ false → CopyStays r o es (es ++ e ∷ [])
+  off_leave w does off = leaves (store w) does (off_left w off)
+
+  pub exchange_leave : (a old new : ℕ) → access_of e ≡ exchange a old new → overlaps r (write a 4 new) ≡ false → CopyStays r o es (es ++ e ∷ [])
+  exchange_leave a old new does off = leaves (exchange a old new) does (λ c y some from below. inr (off_left (write a 4 new) off c y some from below))
+
+  pub word_leave : (w : Write) (p : ℕ) → access_of e ≡ store w → IsWordIn r p → IsWordAt w p → CopyStays r o es (es ++ e ∷ [])
+  word_leave w p does word at = leaves (store w) does (λ c y some from below. word_leaves r w p c y word at some from below)
+
+-- what holds of each write off the block holds of all that are pending, if none of these is to the block
+pub all-off : (r : RingBuffer) (P : Write → Type 0) → ((w : Write) → overlaps r w ≡ false → P w) → (ws : List Write) → writes_to r ws ≡ [] → All P ws
+all-off r P off [] none = All-nil P
+all-off r P off (w ∷ ws) none = at (overlaps r w) refl (all-off r P off ws)
+  where
+    at : (b : Bool) → overlaps r w ≡ b → (writes_to r ws ≡ [] → All P ws) → All P (w ∷ ws)
+    at false apart more = All-cons P w ws (off w apart) (more (sym (ap (λ b. if b then w ∷ writes_to r ws else writes_to r ws) apart) ∙ none))
+    at true on more = let wrong : w ∷ writes_to r ws ≡ [] = sym (ap (λ b. if b then w ∷ writes_to r ws else writes_to r ws) on) ∙ none in absurd (cc)
+
+none_leave : (r : RingBuffer) (x : ℕ) (ws : List Write) → writes_to r ws ≡ [] → r.first ≤ x → x < r.end → All (LeavesByte x) ws
+none_leave r x ws none from below = all-off r (LeavesByte x) (λ w off. off_leaves r w x off from below) ws none
+
+-- a hart with no pending store to the block reads a word of it as memory has it
 pub quiet_read : (r : RingBuffer) (o : OpeningValue) (es : List Entry) (h c : ℕ) → writes_to r (pending h es) ≡ [] → r.first ≤ c → c + 4 ≤ r.end
     → read o es h c 4 ≡ memory_word o es c
 quiet_read r o es h c none from below = joined-same (λ i. read_byte o es h (c + i)) (λ i. memory_byte o es (c + i)) 4
     (λ i lt. ap (λ f. unwrap_or f (memory_byte o es (c + i)))
     (passed_over (c + i) None (pending h es) (none_leave r (c + i) (pending h es) none (omega (arith, from)) (omega (arith, below, lt)))))
+
+-- where the block is at rest, so is the copy
+pub copy-at-rest : (k : Kind) (r : RingBuffer) (is : IsRingBuffer r) (o : OpeningValue) (es : List Entry) (m : ℕ) → IsQuiescent r o es → r.kind ≡ k
+    → Copied k r.copy r o es (r.begins_with + 0) m
+copy-at-rest k r is o es m quiet kind = by k r.copy kind refl
+  where
+    by : (k : Kind) (q : Option ℕ) → r.kind ≡ k → r.copy ≡ q → Copied k q r o es (r.begins_with + 0) m
+    by lamport None kind none = tt
+    by fastforward None kind none = refl
+    by fastforward (Some c) kind some = absurd (let no : lamport ≡ fastforward = sym (is.copy c some).kind ∙ kind in cc)
+    by lamport (Some c) kind some =
+        let at = quiet.copy c some in
+        let in_block = is.copy c some in
+        record {
+          place = at.0;
+          reads = quiet_read r o es r.sender c (quiet.pending r.sender) in_block.above in_block.below ∙ at.3;
+          low = omega (arith, at.1);
+          high = omega (arith, at.2);
+          alone = λ x from below h other. none_leave r x (pending h es) (quiet.pending h)
+              (omega (arith, from, in_block.above)) (omega (arith, below, in_block.below));
+        }
 
 -- of writes that leave the copy, those to the block are all in the row
 pub row_whole : (r : RingBuffer) (ws : List Write) → ((c : ℕ) → r.copy ≡ Some c → All (LeavesByte c) ws) → length (writes_to r ws) ≡ length (row_of r ws)

@@ -1,33 +1,26 @@
 -- What FastForward's parties know after a load, whichever word they load.
 use Rattle.std.proofs.Common.{ℕ, zero, suc, ◌+◌, ◌*◌, ◌/◌, ◌%◌, ◌^◌, ◌<◌, ◌≤◌, ◌≡◌, ◌≢◌, ◌==◌, ◌⊎◌, inl, inr, not, Bool, true, false, if◌then◌else◌, List, refl}
 use Rattle.std.proofs.Common.{sym, ◌∙◌, ap, subst, arith}
-use Rattle.std.specs.Prelude.{All}
 use Rattle.std.proofs.lemmas.Bool.{cases_eq, cases_lt, eqb-true, eqb-false}
 use Rattle.std.proofs.lemmas.Bool.Decides.{nat_tests}
 use Rattle.memory.specs.declared.writes.Write.{Write}
-use Rattle.memory.specs.Writes.{write, IsWholeWord}
+use Rattle.memory.specs.Writes.{write}
 use Rattle.step_machine.specs.declared.events.Entry.{Entry}
 use Rattle.step_machine.specs.History.{OpeningValue}
-use Rattle.step_machine.specs.Entries.{pending, memory_word, read}
+use Rattle.step_machine.specs.Entries.{memory_word, read}
 use Rattle.spsc_queue.specs.RingBuffers.{lamport, fastforward, RingBuffer, IsRingBuffer, slot_offset, slot_address}
 use Rattle.spsc_queue.specs.Protocol.{SenderState, resting, placed, renewing, roomy, filled, ReceiverState, idle, asked}
 use Rattle.spsc_queue.specs.Protocol.{waiting, holding, cleared, ProtocolState}
 use Rattle.spsc_queue.specs.Protocol.{looks_at, send_look, send_load, receive_look, receive_load}
-use Rattle.spsc_queue.proofs.Words.{row_of, seen}
-use Rattle.spsc_queue.proofs.Spread.{slot_apart, spread, spread-all, sent_store, sent-slot, sent-head, seen-heads, sent-whole, slot_not_head}
-use Rattle.spsc_queue.proofs.Effects.{reads-word}
+use Rattle.spsc_queue.proofs.Words.{seen}
+use Rattle.spsc_queue.proofs.Spread.{none-there, slot_apart, spread, sent_store, sent-slot, sent-head, seen-heads, slot_not_head}
 use Rattle.spsc_queue.proofs.Rows.{Earlier}
+use Rattle.spsc_queue.proofs.Cases.{by-send-load, by-receive-load}
+use Rattle.spsc_queue.proofs.Invariant.{placed-of, level-counts, whole-counts}
 use Rattle.spsc_queue.proofs.Invariant.{turned, turned_is, zeros, cleared_store, Landed, SendingIs, ReceivingIs, Invariant}
-use Rattle.spsc_queue.proofs.Loads.{slot_again, slot_word}
+use Rattle.spsc_queue.proofs.Loads.{slot_again, slot_word, sender-reads, receiver-reads, sender-head}
 
 -- ---- what a word is after a part of a row
-
--- none of the part goes there
-none-there : (a v : ℕ) (f : ℕ → Write) (i n : ℕ) → ((p : ℕ) → i ≤ p → p < i + n → (f p).addr ≢ a) → seen a v (spread f i n) ≡ v
-none-there a v f i zero other = refl
-none-there a v f i (suc n) other =
-    let off : ((f i).addr == a) ≡ false = grind (arith, nat_tests, other i) in
-    ap (λ b. seen a (if b then (f i).value else v) (spread f (suc i) n)) off ∙ none-there a v f (suc i) n (λ p from below. other p (omega arith) (omega arith))
 
 -- the q-th goes there, and none after it
 last-there : (a x v : ℕ) (f : ℕ → Write) (i n q : ℕ) → i ≤ q → q < i + n → f q ≡ write a 4 x
@@ -66,26 +59,8 @@ module _ (r : RingBuffer) (is : IsRingBuffer r) (L : ℕ → ℕ) (small : (j : 
   abbrev d : Landed
   d = inv.landed
 
-  pub mine-whole : All IsWholeWord (row_of r (pending r.sender es))
-  mine-whole = subst (All IsWholeWord) (sym inv.buffers.rows.mine)
-      (spread-all IsWholeWord (sent_store r L) (d.slots + d.heads) inv.buffers.unsent (sent-whole r is L small))
-
-  pub cleared-whole : (p : ℕ) → IsWholeWord (cleared_store r p)
-  cleared-whole p = sent-whole (turned r) (turned_is r is) zeros (λ j. omega arith) p
-
-  pub theirs-whole : All IsWholeWord (row_of r (pending r.receiver es))
-  theirs-whole = subst (All IsWholeWord) (sym inv.buffers.rows.theirs)
-      (spread-all IsWholeWord (cleared_store r) (d.cleared + d.tails) inv.buffers.unread cleared-whole)
-
-  sender-head : read o es r.sender r.head 4 ≡ slot_offset r s.published
-  sender-head = reads-word r o es r.sender r.head is.head mine-whole ∙ ap (seen r.head (memory_word o es r.head)) inv.buffers.rows.mine
-      ∙ ap (λ v. seen r.head v (spread (sent_store r L) (d.slots + d.heads) inv.buffers.unsent))
-      (inv.words.head ∙ ap (slot_offset r) (omega (arith, inv.order.mine.heads_slots, inv.order.mine.slots_heads)))
-      ∙ seen-heads r is L (d.slots + d.heads) inv.buffers.unsent
-      ∙ ap (slot_offset r) (omega (arith, inv.buffers.mine_count, inv.order.mine.published_stored, inv.order.mine.stored_published))
-
   receiver-tail : read o es r.receiver r.tail 4 ≡ slot_offset r s.consumed
-  receiver-tail = reads-word r o es r.receiver r.tail is.tail theirs-whole ∙ ap (seen r.tail (memory_word o es r.tail)) inv.buffers.rows.theirs
+  receiver-tail = receiver-reads fastforward r is L small c o es s inv r.tail is.tail
       ∙ ap (λ v. seen r.tail v (spread (cleared_store r) (d.cleared + d.tails) inv.buffers.unread))
       (inv.words.tail ∙ ap (slot_offset r) (omega (arith, inv.order.theirs.heads_slots, inv.order.theirs.slots_heads)))
       ∙ seen-heads (turned r) (turned_is r is) zeros (d.cleared + d.tails) inv.buffers.unread
@@ -94,8 +69,7 @@ module _ (r : RingBuffer) (is : IsRingBuffer r) (L : ℕ → ℕ) (small : (j : 
   -- the sender finds a word in a slot whose word isn't cleared in memory
   sender-full : s.stored ≡ s.published → s.stored ≡ d.cleared + r.size → read o es r.sender (slot_address r s.stored) 4 ≡ L d.cleared
   sender-full level full =
-      reads-word r o es r.sender (slot_address r s.stored) (slot_word r is s.stored) mine-whole
-      ∙ ap (seen (slot_address r s.stored) (memory_word o es (slot_address r s.stored))) inv.buffers.rows.mine ∙ at (cases_lt d.cleared d.slots)
+      sender-reads fastforward r is L small c o es s inv (slot_address r s.stored) (slot_word r is s.stored) ∙ at (cases_lt d.cleared d.slots)
     where
       at : (d.cleared < d.slots) ⊎ (d.slots ≤ d.cleared) → seen (slot_address r s.stored) (memory_word o es (slot_address r s.stored))
           (spread (sent_store r L) (d.slots + d.heads) inv.buffers.unsent) ≡ L d.cleared
@@ -116,8 +90,7 @@ module _ (r : RingBuffer) (is : IsRingBuffer r) (L : ℕ → ℕ) (small : (j : 
   -- and 0 where the slot is free in memory
   pub sender-free : s.stored ≡ s.published → s.stored < d.cleared + r.size → read o es r.sender (slot_address r s.stored) 4 ≡ 0
   sender-free level room =
-      reads-word r o es r.sender (slot_address r s.stored) (slot_word r is s.stored) mine-whole
-      ∙ ap (seen (slot_address r s.stored) (memory_word o es (slot_address r s.stored))) inv.buffers.rows.mine
+      sender-reads fastforward r is L small c o es s inv (slot_address r s.stored) (slot_word r is s.stored)
       ∙ none-there (slot_address r s.stored) (memory_word o es (slot_address r s.stored)) (sent_store r L) (d.slots + d.heads) inv.buffers.unsent
       (λ p from below. row_apart r is L p s.stored (λ even. (
         omega (arith, below, even, level, inv.buffers.mine_count),
@@ -127,8 +100,7 @@ module _ (r : RingBuffer) (is : IsRingBuffer r) (L : ℕ → ℕ) (small : (j : 
   -- what the receiver reads in its slot
   slot-reads : read o es r.receiver (slot_address r s.taken) 4
       ≡ seen (slot_address r s.taken) (memory_word o es (slot_address r s.taken)) (spread (cleared_store r) (d.cleared + d.tails) inv.buffers.unread)
-  slot-reads = reads-word r o es r.receiver (slot_address r s.taken) (slot_word r is s.taken) theirs-whole
-      ∙ ap (seen (slot_address r s.taken) (memory_word o es (slot_address r s.taken))) inv.buffers.rows.theirs
+  slot-reads = receiver-reads fastforward r is L small c o es s inv (slot_address r s.taken) (slot_word r is s.taken)
 
   slot-near : s.taken ≡ s.consumed → s.taken < d.cleared + r.size → read o es r.receiver (slot_address r s.taken) 4 ≡ memory_word o es (slot_address r s.taken)
   slot-near level near =
@@ -185,22 +157,13 @@ module _ (r : RingBuffer) (is : IsRingBuffer r) (L : ℕ → ℕ) (small : (j : 
   send-looked a v (roomy u) is_read holds = holds
   send-looked a v (filled u) is_read holds = holds
 
-  send-head : (a v : ℕ) (p : SenderState) → s.stored ≡ s.published → v ≡ read o es r.sender a 4
-      → SendingIs 0 r s.stored s.published d.cleared (send_look fastforward r a v p)
-      → SendingIs 0 r s.stored s.published d.cleared (if a == r.head then placed v else send_look fastforward r a v p)
-  send-head a v p level is_read holds = by (a == r.head) refl
-    where
-      by : (b : Bool) → (a == r.head) ≡ b → SendingIs 0 r s.stored s.published d.cleared (if b then placed v else send_look fastforward r a v p)
-      by true same = (level, is_read ∙ ap (λ x. read o es r.sender x 4) (eqb-true a r.head same) ∙ sender-head)
-      by false apart = holds
-
   pub sending-load : (a v : ℕ) (p : SenderState) → v ≡ read o es r.sender a 4 → SendingIs 0 r s.stored s.published d.cleared p
       → SendingIs 0 r s.stored s.published d.cleared (send_load fastforward r a v p)
-  sending-load a v resting is_read holds = send-head a v resting holds is_read (send-looked a v resting is_read holds)
-  sending-load a v (placed u) is_read holds = send-head a v (placed u) holds.0 is_read (send-looked a v (placed u) is_read holds)
-  sending-load a v (renewing u w) is_read holds = send-head a v (renewing u w) holds.0 is_read (send-looked a v (renewing u w) is_read holds)
-  sending-load a v (roomy u) is_read holds = send-head a v (roomy u) holds.0 is_read (send-looked a v (roomy u) is_read holds)
-  sending-load a v (filled u) is_read holds = holds
+  sending-load a v p is_read holds = by-send-load fastforward r a v (SendingIs 0 r s.stored s.published d.cleared) p
+      (λ level here. (
+        level-counts r s.stored s.published p level (placed-of 0 r s.stored s.published d.cleared p holds),
+        is_read ∙ ap (λ x. read o es r.sender x 4) here ∙ sender-head fastforward r is L small c o es s inv,
+      )) (send-looked a v p is_read holds)
 
   take-looked : (a v : ℕ) (p : ReceiverState) → v ≡ read o es r.receiver a 4 → ReceivingIs fastforward r L s.taken s.consumed d.slots p
       → ReceivingIs fastforward r L s.taken s.consumed d.slots (receive_look fastforward r a v p)
@@ -222,19 +185,10 @@ module _ (r : RingBuffer) (is : IsRingBuffer r) (L : ℕ → ℕ) (small : (j : 
   take-looked a v (holding u w) is_read holds = holds
   take-looked a v (cleared u) is_read holds = holds
 
-  take-tail : (a v : ℕ) (p : ReceiverState) → s.taken ≡ s.consumed → v ≡ read o es r.receiver a 4
-      → ReceivingIs fastforward r L s.taken s.consumed d.slots (receive_look fastforward r a v p)
-      → ReceivingIs fastforward r L s.taken s.consumed d.slots (if a == r.tail then asked v else receive_look fastforward r a v p)
-  take-tail a v p level is_read holds = by (a == r.tail) refl
-    where
-      by : (b : Bool) → (a == r.tail) ≡ b → ReceivingIs fastforward r L s.taken s.consumed d.slots (if b then asked v else receive_look fastforward r a v p)
-      by true same = (level, is_read ∙ ap (λ x. read o es r.receiver x 4) (eqb-true a r.tail same) ∙ receiver-tail)
-      by false apart = holds
-
   pub receiving-load : (a v : ℕ) (p : ReceiverState) → v ≡ read o es r.receiver a 4 → ReceivingIs fastforward r L s.taken s.consumed d.slots p
       → ReceivingIs fastforward r L s.taken s.consumed d.slots (receive_load fastforward r a v p)
-  receiving-load a v idle is_read holds = take-tail a v idle holds is_read (take-looked a v idle is_read holds)
-  receiving-load a v (asked u) is_read holds = take-tail a v (asked u) holds.0 is_read (take-looked a v (asked u) is_read holds)
-  receiving-load a v (waiting u) is_read holds = absurd (let no : fastforward ≡ lamport = holds.3 in cc)
-  receiving-load a v (holding u w) is_read holds = take-tail a v (holding u w) holds.0 is_read (take-looked a v (holding u w) is_read holds)
-  receiving-load a v (cleared u) is_read holds = holds
+  receiving-load a v p is_read holds = by-receive-load fastforward r a v (ReceivingIs fastforward r L s.taken s.consumed d.slots) p
+      (λ whole here. (
+        whole-counts fastforward r L s.taken s.consumed d.slots p whole holds,
+        is_read ∙ ap (λ x. read o es r.receiver x 4) here ∙ receiver-tail,
+      )) (take-looked a v p is_read holds)

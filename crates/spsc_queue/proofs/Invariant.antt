@@ -9,6 +9,7 @@ use Rattle.spsc_queue.specs.Protocol.{SenderState, resting, placed, renewing, ro
 use Rattle.spsc_queue.specs.Protocol.{waiting, holding, cleared, ProtocolState}
 use Rattle.spsc_queue.specs.Laws.{ready_by_state}
 use Rattle.spsc_queue.proofs.Spread.{sent_store, freed_store}
+use Rattle.spsc_queue.proofs.Cases.{IsLevel, IsWhole}
 use Rattle.spsc_queue.proofs.Copies.{Copied}
 use Rattle.spsc_queue.proofs.Rows.{Earlier, Rows, RowOrder}
 
@@ -157,3 +158,32 @@ there_slots fastforward le = omega arith
 pub there_more : (K : Kind) {n h n2 h2 : ℕ} → n ≤ n2 → h ≤ h2 → there K n h ≤ there K n2 h2
 there_more lamport le le2 = le2
 there_more fastforward le le2 = le
+
+-- the sender's place, and whether a word is half sent
+abbrev pub IsPlaced : RingBuffer → (stored published : ℕ) → SenderState → Type 0
+IsPlaced r stored published resting = stored ≡ published
+IsPlaced r stored published (placed u) = (stored ≡ published) × (u ≡ slot_offset r published)
+IsPlaced r stored published (renewing u v) = (stored ≡ published) × (u ≡ slot_offset r published)
+IsPlaced r stored published (roomy u) = (stored ≡ published) × (u ≡ slot_offset r published)
+IsPlaced r stored published (filled u) = (stored ≡ published + 1) × (u ≡ slot_offset r published)
+
+pub placed-of : (spare : ℕ) (r : RingBuffer) (stored published n : ℕ) (p : SenderState) → SendingIs spare r stored published n p → IsPlaced r stored published p
+placed-of spare r stored published n (renewing u v) h = (h.0, h.1)
+placed-of spare r stored published n (roomy u) h = (h.0, h.1)
+placed-of spare r stored published n p h = h
+
+-- where no word is half sent, and no slot half freed, the counts are level
+pub level-counts : (r : RingBuffer) (stored published : ℕ) (p : SenderState) → IsLevel p → IsPlaced r stored published p → stored ≡ published
+level-counts r stored published resting l h = h
+level-counts r stored published (placed u) l h = h.0
+level-counts r stored published (renewing u v) l h = h.0
+level-counts r stored published (roomy u) l h = h.0
+level-counts r stored published (filled u) l h = absurd l
+
+pub whole-counts : (K : Kind) (r : RingBuffer) (L : ℕ → ℕ) (taken consumed n : ℕ) (p : ReceiverState) → IsWhole p → ReceivingIs K r L taken consumed n p
+    → taken ≡ consumed
+whole-counts K r L taken consumed n idle whole is = is
+whole-counts K r L taken consumed n (asked u) whole is = is.0
+whole-counts K r L taken consumed n (waiting u) whole is = is.0
+whole-counts K r L taken consumed n (holding u w) whole is = is.0
+whole-counts K r L taken consumed n (cleared u) whole is = absurd whole

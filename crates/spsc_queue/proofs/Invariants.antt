@@ -1,37 +1,30 @@
 -- The invariant of a queue of either kind: what keeps it, and what the laws take from it.
-use Rattle.std.proofs.Common.{ℕ, ◌+◌, ◌^◌, ◌<◌, ◌≤◌, ◌≡◌, Option, Some, None, List, [], ◌∷◌, ◌++◌, length, refl, sym, ◌∙◌, ap, subst}
+use Rattle.std.proofs.Common.{ℕ, ◌+◌, ◌^◌, ◌<◌, ◌≤◌, ◌≡◌, List, [], ◌∷◌, ◌++◌, length, refl, sym, ◌∙◌, ap, subst}
 use Rattle.std.proofs.Common.{arith}
 use Rattle.memory.specs.declared.writes.Write.{Write}
 use Rattle.step_machine.specs.declared.events.Entry.{Entry}
 use Rattle.step_machine.specs.History.{OpeningValue}
 use Rattle.step_machine.specs.Entries.{pending, memory_word, read, own_stores, lands}
 use Rattle.spsc_queue.specs.RingBuffers.{Kind, lamport, fastforward, RingBuffer, IsRingBuffer, slot_offset, slot_address, capacity_of, writes_to, IsQuiescent}
-use Rattle.spsc_queue.specs.Protocol.{SenderState, resting, placed, renewing, roomy, filled, ReceiverState, idle, asked}
+use Rattle.spsc_queue.specs.Protocol.{SenderState, ReceiverState, idle, asked}
 use Rattle.spsc_queue.specs.Protocol.{waiting, holding, cleared, ProtocolState}
 use Rattle.spsc_queue.specs.Protocol.{at_start, send_load, receive_load}
 use Rattle.spsc_queue.specs.Laws.{available_of, ready_by_state}
 use Rattle.queue_parties.proofs.Records.{numbers-same}
 use Rattle.spsc_queue.proofs.Spread.{sent_store}
-use Rattle.spsc_queue.proofs.Rows.{row-none, RowOrder, Earlier, Rows, Stays, on_count}
-use Rattle.spsc_queue.proofs.Invariant.{firsts, spare, freed, there, their_store, their_landed, they_made, Theirs, SendingIs, ReceivingIs, Invariant}
-use Rattle.spsc_queue.proofs.Invariant.{freed_taken}
+use Rattle.spsc_queue.proofs.Rows.{row-level, RowOrder, Earlier, Rows, Stays, on_count}
+use Rattle.spsc_queue.proofs.Invariant.{firsts, spare, freed, there, their_store, their_landed, they_made, Theirs, ReceivingIs, Invariant}
+use Rattle.spsc_queue.proofs.Invariant.{IsPlaced, placed-of, freed_taken}
 use Rattle.spsc_queue.proofs.Numbers.{firsts-numbers}
 use Rattle.spsc_queue.proofs.Words.{row_of, row_shorter}
-use Rattle.spsc_queue.proofs.Copies.{Copied, CopyStays, copied-on, none_leave, quiet_read}
+use Rattle.spsc_queue.proofs.Copies.{CopyStays, copied-on, copy-at-rest}
 use Rattle.spsc_queue.proofs.Loads as lamports
 use Rattle.spsc_queue.proofs.FastForwardLoads as fastforwards
 use Rattle.spsc_queue.proofs.Steps.{stays}
 
 -- ---- what every invariant says of the two parties
 
--- the sender's place, and whether a word is half sent; the receiver's place
-abbrev pub IsPlaced : RingBuffer → (stored published : ℕ) → SenderState → Type 0
-IsPlaced r stored published resting = stored ≡ published
-IsPlaced r stored published (placed u) = (stored ≡ published) × (u ≡ slot_offset r published)
-IsPlaced r stored published (renewing u v) = (stored ≡ published) × (u ≡ slot_offset r published)
-IsPlaced r stored published (roomy u) = (stored ≡ published) × (u ≡ slot_offset r published)
-IsPlaced r stored published (filled u) = (stored ≡ published + 1) × (u ≡ slot_offset r published)
-
+-- the receiver's place
 abbrev pub IsAsked : RingBuffer → (consumed : ℕ) → ReceiverState → Type 0
 IsAsked r consumed idle = Unit {0}
 IsAsked r consumed (asked u) = u ≡ slot_offset r consumed
@@ -49,11 +42,6 @@ pub record Known (k : Kind) (r : RingBuffer) (L : ℕ → ℕ) (s : ProtocolStat
   pub taken_available : s.taken ≤ available_of k s
   pub available_stored : available_of k s ≤ s.stored
   pub room : s.stored ≤ s.taken + capacity_of k r.size
-
-placed-of : (spare : ℕ) (r : RingBuffer) (stored published n : ℕ) (p : SenderState) → SendingIs spare r stored published n p → IsPlaced r stored published p
-placed-of spare r stored published n (renewing u v) h = (h.0, h.1)
-placed-of spare r stored published n (roomy u) h = (h.0, h.1)
-placed-of spare r stored published n p h = h
 
 asked-of : (K : Kind) (r : RingBuffer) (L : ℕ → ℕ) (taken consumed n : ℕ) (p : ReceiverState) → ReceivingIs K r L taken consumed n p → IsAsked r consumed p
 asked-of K r L taken consumed n idle is = tt
@@ -133,21 +121,11 @@ row_none r ws none = at (row_of r ws) (omega (arith, row_shorter r ws, ap length
 -- nothing is taken and none of the receiver's stores has landed
 none_theirs : (K : Kind) → Theirs K 0 0 0 0
 none_theirs lamport = (refl, omega arith)
-none_theirs fastforward = row-none
+none_theirs fastforward = row-level 0
 
 none_counted : (K : Kind) → (freed K 0 0 ≡ 0) × (their_landed K 0 0 ≡ 0) × (they_made K 0 0 ≡ 0)
 none_counted lamport = (refl, refl, refl)
 none_counted fastforward = (refl, refl, refl)
-
-row-level : (n : ℕ) → RowOrder n n n n
-row-level n = record {
-  heads_slots = omega arith;
-  slots_heads = omega arith;
-  slots_stored = omega arith;
-  heads_published = omega arith;
-  published_stored = omega arith;
-  stored_published = omega arith;
-}
 
 -- the words that wait, by the words of the run
 pub at_rest : (k : Kind) (r : RingBuffer) (is : IsRingBuffer r) (L : ℕ → ℕ) (o : OpeningValue) (es : List Entry) → IsQuiescent r o es
@@ -192,27 +170,8 @@ at_rest k r is L o es quiet first kind =
       };
       sent = numbers-same (λ j. memory_word o es (slot_address r j)) L 0 n (λ j from below. sym (first j (omega (arith, below)))) ∙ sym (firsts-numbers L n);
       received = refl;
-      copy = copy_at_rest k r.copy refl kind;
+      copy = copy-at-rest k r is o es (freed k 0 0) quiet kind;
     }
   where
     none_row : (h : ℕ) → row_of r (pending h es) ≡ []
     none_row h = row_none r (pending h es) (quiet.pending h)
-
-    copy_at_rest : (k : Kind) (q : Option ℕ) → r.copy ≡ q → r.kind ≡ k → Copied k q r o es (r.begins_with + 0) (freed k 0 0)
-    copy_at_rest k None none kind = at k
-      where
-        at : (k : Kind) → Copied k None r o es (r.begins_with + 0) (freed k 0 0)
-        at lamport = tt
-        at fastforward = refl
-    copy_at_rest fastforward (Some a) some kind = absurd (let no : lamport ≡ fastforward = sym (is.copy a some).kind ∙ kind in cc)
-    copy_at_rest lamport (Some a) some kind =
-        let at = quiet.copy a some in
-        let in_block = is.copy a some in
-        record {
-          place = at.0;
-          reads = quiet_read r o es r.sender a (quiet.pending r.sender) in_block.above in_block.below ∙ at.3;
-          low = omega (arith, at.1);
-          high = omega (arith, at.2);
-          alone = λ x from below h other. none_leave r x (pending h es) (quiet.pending h)
-              (omega (arith, from, in_block.above)) (omega (arith, below, in_block.below));
-        }

@@ -1,7 +1,7 @@
 -- Each landing of a party's store keeps the invariant.
-use Rattle.std.proofs.Common.{ℕ, suc, ◌+◌, ◌^◌, ◌<◌, ◌≤◌, ◌≡◌, ◌≢◌, ◌==◌, ◌⊎◌, inl, inr, Bool, true, false, if◌then◌else◌, List, [], ◌∷◌, ◌++◌, length, refl}
+use Rattle.std.proofs.Common.{ℕ, suc, ◌+◌, ◌^◌, ◌<◌, ◌≤◌, ◌≡◌, ◌≢◌, inl, inr, List, [], ◌∷◌, ◌++◌, length, refl}
 use Rattle.std.proofs.Common.{sym, ◌∙◌, ap, subst, arith}
-use Rattle.std.proofs.lemmas.Bool.{cases_eq, eqb-true, eqb-false}
+use Rattle.std.proofs.lemmas.Bool.{cases_eq}
 use Rattle.memory.specs.declared.writes.Write.{Write}
 use Rattle.memory.specs.Writes.{write, IsWholeWord}
 use Rattle.step_machine.specs.declared.events.Entry.{Entry}
@@ -9,7 +9,7 @@ use Rattle.step_machine.specs.History.{OpeningValue}
 use Rattle.step_machine.specs.Access.{land, access_of}
 use Rattle.step_machine.specs.Entries.{hart_of, pending, memory_word, own_stores, lands}
 use Rattle.spsc_queue.specs.RingBuffers.{Kind, lamport, fastforward, RingBuffer, IsRingBuffer, IsWordIn, slot_offset, slot_address}
-use Rattle.spsc_queue.specs.Protocol.{ProtocolState, sends, receives, passes, role_of}
+use Rattle.spsc_queue.specs.Protocol.{ProtocolState}
 use Rattle.spsc_queue.specs.Laws.{ready_by_state}
 use Rattle.spsc_queue.proofs.Spread.{slot_apart, sent_store, sent-slot, sent-head, slot_not_head, slot_not_tail, offset_low}
 use Rattle.spsc_queue.proofs.Rows.{RowOrder, slot-landed, head-landed, Earlier, Rows, Lands, hit, miss, landing}
@@ -18,25 +18,6 @@ use Rattle.spsc_queue.proofs.Invariant.{receiving-more, freed_taken, there_slots
 use Rattle.spsc_queue.proofs.Copies.{Copied, CopyStays, copied-on}
 use Rattle.spsc_queue.proofs.Loads.{slot_word, slot_again}
 use Rattle.spsc_queue.proofs.Steps.{idles}
-
--- whose entry it is
-pub role-cases : (r : RingBuffer) (h : ℕ) → ((h ≡ r.sender) × (role_of r h ≡ sends))
-    ⊎ (((h ≢ r.sender) × (h ≡ r.receiver) × (role_of r h ≡ receives)) ⊎ ((h ≢ r.sender) × (h ≢ r.receiver) × (role_of r h ≡ passes)))
-role-cases r h = at (h == r.sender) refl (h == r.receiver) refl
-  where
-    at : (b : Bool) → (h == r.sender) ≡ b → (c : Bool) → (h == r.receiver) ≡ c → ((h ≡ r.sender) × (role_of r h ≡ sends))
-        ⊎ (((h ≢ r.sender) × (h ≡ r.receiver) × (role_of r h ≡ receives)) ⊎ ((h ≢ r.sender) × (h ≢ r.receiver) × (role_of r h ≡ passes)))
-    at true one c two = inl (eqb-true h r.sender one, ap (λ x. if x then sends else (if h == r.receiver then receives else passes)) one)
-    at false one true two = inr (inl (
-      eqb-false h r.sender one,
-      eqb-true h r.receiver two,
-      ap (λ x. if x then sends else (if h == r.receiver then receives else passes)) one ∙ ap (λ x. if x then receives else passes) two,
-    ))
-    at false one false two = inr (inr (
-      eqb-false h r.sender one,
-      eqb-false h r.receiver two,
-      ap (λ x. if x then sends else (if h == r.receiver then receives else passes)) one ∙ ap (λ x. if x then receives else passes) two,
-    ))
 
 module _ (K : Kind) (r : RingBuffer) (is : IsRingBuffer r) (L : ℕ → ℕ) (small : (j : ℕ) → L j < 2 ^ 32) (c : Earlier) (o : OpeningValue) (es : List Entry)
     (s : ProtocolState) (inv : Invariant K r L c o es s) (e : Entry) (copied : CopyStays r o es (es ++ e ∷ [])) where

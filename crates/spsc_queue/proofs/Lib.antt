@@ -1,4 +1,5 @@
 pub mod Words
+pub mod Cases
 pub mod Spread
 pub mod Effects
 pub mod Rows

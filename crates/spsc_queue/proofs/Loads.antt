@@ -8,20 +8,23 @@ use Rattle.std.proofs.Math.Nat.{add-mod_right}
 use Rattle.memory.specs.Writes.{IsWholeWord}
 use Rattle.step_machine.specs.declared.events.Entry.{Entry}
 use Rattle.step_machine.specs.History.{OpeningValue}
-use Rattle.step_machine.specs.Entries.{pending, memory_word, read}
-use Rattle.spsc_queue.specs.RingBuffers.{lamport, RingBuffer, IsRingBuffer, IsWordIn, slot_offset, slot_address, next}
+use Rattle.step_machine.specs.Entries.{memory_word, read}
+use Rattle.memory.specs.declared.writes.Write.{Write}
+use Rattle.spsc_queue.specs.RingBuffers.{Kind, lamport, fastforward, RingBuffer, IsRingBuffer, IsWordIn, slot_offset, slot_address, next}
 use Rattle.spsc_queue.specs.Protocol.{SenderState, resting, placed, renewing, roomy, filled, ReceiverState, idle, asked}
 use Rattle.spsc_queue.specs.Protocol.{waiting, holding, cleared, ProtocolState}
 use Rattle.spsc_queue.specs.Protocol.{looks_for_room, looks_past_copy, looks_at, send_look, send_load, receive_look, receive_load}
 use Rattle.step_machine.proofs.Modulo.{offset_step, offset_wrap}
 use Rattle.spsc_queue.specs.Laws.{ready_by_state}
-use Rattle.spsc_queue.proofs.Words.{row_of, seen}
-use Rattle.spsc_queue.proofs.Copies.{Copied}
-use Rattle.spsc_queue.proofs.Spread.{spread, spread-all, sent_store, freed_store, seen-none, seen-tails, seen-heads, sent-not-tail, sent-whole, offset_low}
+use Rattle.spsc_queue.proofs.Words.{seen}
+use Rattle.spsc_queue.proofs.Copies.{Copied, copied-more}
+use Rattle.spsc_queue.proofs.Spread.{spread, spread-all, sent_store, freed_store, none-there, seen-tails, seen-heads, sent-not-tail, sent-whole, offset_low}
 use Rattle.spsc_queue.proofs.Spread.{slot_not_tail}
 use Rattle.spsc_queue.proofs.Effects.{reads-word}
 use Rattle.spsc_queue.proofs.Rows.{Earlier}
-use Rattle.spsc_queue.proofs.Invariant.{Landed, SendingIs, ReceivingIs, Invariant}
+use Rattle.spsc_queue.proofs.Invariant.{Landed, SendingIs, sending-more, placed-of, level-counts}
+use Rattle.spsc_queue.proofs.Invariant.{ReceivingIs, Invariant, turned, turned_is, zeros, their_store, their_landed}
+use Rattle.spsc_queue.proofs.Cases.{by-send-load, by-receive-load}
 
 -- the offset after that of word j
 pub next_offset : (r : RingBuffer) (is : IsRingBuffer r) (u j : ℕ) → u ≡ slot_offset r j → next r u ≡ slot_offset r (j + 1)
@@ -57,159 +60,176 @@ slot_word r is j = record {
   ];
 }
 
-module _ (r : RingBuffer) (is : IsRingBuffer r) (L : ℕ → ℕ) (small : (j : ℕ) → L j < 2 ^ 32) (c : Earlier) (o : OpeningValue) (es : List Entry)
-    (s : ProtocolState) (inv : Invariant lamport r L c o es s) where
-  abbrev d : Landed
-  d = inv.landed
+-- ---- a load of Lamport's sender that knows of k freed slots, and of l after it, where the tail in memory is that after m
 
-  pub mine-whole : All IsWholeWord (row_of r (pending r.sender es))
-  mine-whole = subst (All IsWholeWord) (sym inv.buffers.rows.mine)
-      (spread-all IsWholeWord (sent_store r L) (d.slots + d.heads) inv.buffers.unsent (sent-whole r is L small))
+module _ (r : RingBuffer) (is : IsRingBuffer r) (o : OpeningValue) (es : List Entry) (stored published k l m a v : ℕ) (is_read : v ≡ read o es r.sender a 4)
+    (head : read o es r.sender r.head 4 ≡ slot_offset r published) (tail : a ≡ r.tail → (l ≡ m) × (v ≡ slot_offset r m)) (more : k ≤ l)
+    (room : stored + 1 ≤ m + r.size) where
+  abbrev SendsBy : ℕ → SenderState → Type 0
+  SendsBy n p = SendingIs 1 r stored published n p × Copied lamport r.copy r o es (stored + ready_by_state p) n
 
-  pub freed-whole : (p : ℕ) → IsWholeWord (freed_store r p)
-  freed-whole p = record { whole = refl; aligned = is.tail.aligned; small = omega (arith, offset_low r is (p + 1), is.small) }
-
-  pub theirs-whole : All IsWholeWord (row_of r (pending r.receiver es))
-  theirs-whole = subst (All IsWholeWord) (sym inv.buffers.rows.theirs) (spread-all IsWholeWord (freed_store r) d.tails inv.buffers.unread freed-whole)
-
-  -- the sender reads its own head, and the tail that landed last
-  pub sender-head : read o es r.sender r.head 4 ≡ slot_offset r s.published
-  sender-head = reads-word r o es r.sender r.head is.head mine-whole ∙ ap (seen r.head (memory_word o es r.head)) inv.buffers.rows.mine
-      ∙ ap (λ v. seen r.head v (spread (sent_store r L) (d.slots + d.heads) inv.buffers.unsent))
-      (inv.words.head ∙ ap (slot_offset r) (omega (arith, inv.order.mine.heads_slots, inv.order.mine.slots_heads)))
-      ∙ seen-heads r is L (d.slots + d.heads) inv.buffers.unsent
-      ∙ ap (slot_offset r) (omega (arith, inv.buffers.mine_count, inv.order.mine.published_stored, inv.order.mine.stored_published))
-
-  pub sender-tail : read o es r.sender r.tail 4 ≡ slot_offset r d.tails
-  sender-tail = reads-word r o es r.sender r.tail is.tail mine-whole ∙ ap (seen r.tail (memory_word o es r.tail)) inv.buffers.rows.mine
-      ∙ seen-none r.tail (memory_word o es r.tail) (sent_store r L) (d.slots + d.heads) inv.buffers.unsent (sent-not-tail r is L) ∙ inv.words.tail
-
-  -- the receiver reads its own tail, and all else as memory has it
-  pub receiver-tail : read o es r.receiver r.tail 4 ≡ slot_offset r s.consumed
-  receiver-tail = reads-word r o es r.receiver r.tail is.tail theirs-whole ∙ ap (seen r.tail (memory_word o es r.tail)) inv.buffers.rows.theirs
-      ∙ ap (λ v. seen r.tail v (spread (freed_store r) d.tails inv.buffers.unread)) inv.words.tail ∙ seen-tails r d.tails inv.buffers.unread
-      ∙ ap (slot_offset r) (omega (arith, inv.buffers.theirs_count))
-
-  pub receiver-other : (a : ℕ) → IsWordIn r a → r.tail ≢ a → read o es r.receiver a 4 ≡ memory_word o es a
-  receiver-other a word other = reads-word r o es r.receiver a word theirs-whole ∙ ap (seen a (memory_word o es a)) inv.buffers.rows.theirs
-      ∙ seen-none a (memory_word o es a) (freed_store r) d.tails inv.buffers.unread (λ p. other)
-
-  -- the sender's loads, by which it knows more, and has seen more of its copy of the tail
-  abbrev Sends : SenderState → Type 0
-  Sends p = SendingIs 1 r s.stored s.published d.tails p × Copied lamport r.copy r o es (s.stored + ready_by_state p) d.tails
+  raised : (p : SenderState) → SendsBy k p → SendsBy l p
+  raised p holds = (
+    sending-more 1 r stored published k l p more holds.0,
+    copied-more r.copy r o es (stored + ready_by_state p) k
+        (stored + ready_by_state p) l (omega arith) more holds.1,
+  )
 
   -- the tail says that there is room
-  far : (u v : ℕ) → u ≡ slot_offset r s.published → v ≡ slot_offset r d.tails → (v == next r u) ≡ false → s.published + 1 ≢ d.tails + r.size
-  far u v at is_tail other full = eqb-false v (next r u) other
-      (is_tail ∙ sym (offset_again r is d.tails (s.published + 1) full) ∙ sym (next_offset r is u s.published at))
+  far : (u : ℕ) → u ≡ slot_offset r published → v ≡ slot_offset r m → (v == next r u) ≡ false → published + 1 ≢ m + r.size
+  far u at is_tail other full = eqb-false v (next r u) other
+      (is_tail ∙ sym (offset_again r is m (published + 1) full) ∙ sym (next_offset r is u published at))
 
-  tail-says : (u v : ℕ) → r.copy ≡ None → (s.stored ≡ s.published) → u ≡ slot_offset r s.published
-      → v ≡ slot_offset r d.tails → Sends (looks_for_room lamport r u v)
-  tail-says u v none level at is_tail = by (v == next r u) refl
+  tail-says : (u : ℕ) → r.copy ≡ None → a ≡ r.tail → (stored ≡ published) × (u ≡ slot_offset r published) → SendsBy l (looks_for_room lamport r u v)
+  tail-says u none here holds = by (v == next r u) refl
     where
-      copy : (n : ℕ) → Copied lamport r.copy r o es n d.tails
-      copy n = subst (λ q. Copied lamport q r o es n d.tails) (sym none) tt
+      copy : (n : ℕ) → Copied lamport r.copy r o es n l
+      copy n = subst (λ q. Copied lamport q r o es n l) (sym none) tt
 
-      by : (b : Bool) → (v == next r u) ≡ b → Sends (if b then placed u else roomy u)
-      by true same = ((level, at), copy (s.stored + 0))
-      by false other = let apart = far u v at is_tail other in ((level, at, omega (arith, apart, inv.order.room, level)), copy (s.stored + 1))
+      by : (b : Bool) → (v == next r u) ≡ b → SendsBy l (if b then placed u else roomy u)
+      by true same = (holds, copy (stored + 0))
+      by false other =
+          let at = tail here in
+          let apart = far u holds.1 at.1 other in
+          ((holds.0, holds.1, omega (arith, apart, room, holds.0, at.0)), copy (stored + 1))
 
   -- so does the tail where a copy is to be made of it, and the copy
-  past-copy-says : (u v : ℕ) → (s.stored ≡ s.published) → u ≡ slot_offset r s.published → v ≡ slot_offset r d.tails
-      → Copied lamport r.copy r o es (s.stored + 0) d.tails → Sends (looks_past_copy lamport r u v)
-  past-copy-says u v level at is_tail copy = by (v == next r u) refl
+  past-copy-says : (u : ℕ) → a ≡ r.tail → SendsBy k (placed u) → SendsBy l (looks_past_copy lamport r u v)
+  past-copy-says u here holds = by (v == next r u) refl
     where
-      by : (b : Bool) → (v == next r u) ≡ b → Sends (if b then placed u else renewing u v)
-      by true same = ((level, at), copy)
+      by : (b : Bool) → (v == next r u) ≡ b → SendsBy l (if b then placed u else renewing u v)
+      by true same = raised (placed u) holds
       by false other =
-          let apart = far u v at is_tail other in (
+          let at = tail here in
+          let apart = far u holds.0.1 at.1 other in (
             (
-              level,
-              at,
+              holds.0.0,
+              holds.0.1,
               (
-                d.tails + r.size,
-                is_tail ∙ sym (offset_again r is d.tails (d.tails + r.size) refl),
-                omega (arith, apart, inv.order.room, level),
-                omega arith,
+                m + r.size,
+                at.1 ∙ sym (offset_again r is m (m + r.size) refl),
+                omega (arith, apart, room, holds.0.0),
+                omega (arith, at.0),
               ),
             ),
-            copy,
+            (raised (placed u) holds).1,
           )
 
-  copy-says : (u v c : ℕ) → r.copy ≡ Some c → (s.stored ≡ s.published) → u ≡ slot_offset r s.published → v ≡ read o es r.sender c 4
-      → Copied lamport (Some c) r o es (s.stored + 0) d.tails → Sends (looks_for_room lamport r u v)
-  copy-says u v c some level at is_read copy = by (v == next r u) refl
+  copy-says : (u c : ℕ) → r.copy ≡ Some c → a ≡ c → (stored ≡ published) × (u ≡ slot_offset r published)
+      → Copied lamport (Some c) r o es (stored + 0) k → SendsBy k (looks_for_room lamport r u v)
+  copy-says u c some here holds copy = by (v == next r u) refl
     where
-      by : (b : Bool) → (v == next r u) ≡ b → Sends (if b then placed u else roomy u)
-      by true same = ((level, at), subst (λ q. Copied lamport q r o es (s.stored + 0) d.tails) (sym some) copy)
+      by : (b : Bool) → (v == next r u) ≡ b → SendsBy k (if b then placed u else roomy u)
+      by true same = (holds, subst (λ q. Copied lamport q r o es (stored + 0) k) (sym some) copy)
       by false other =
-          let more : copy.place ≢ s.published + 1 = λ e. eqb-false v (next r u) other
-          (is_read ∙ copy.reads ∙ ap (slot_offset r) e ∙ sym (next_offset r is u s.published at)) in (
-            (level, at, omega (arith, more, copy.low, copy.high, level)),
-            subst (λ q. Copied lamport q r o es (s.stored + 1) d.tails) (sym some) (record {
+          let further : copy.place ≢ published + 1 = λ e. eqb-false v (next r u) other
+          (is_read ∙ ap (λ x. read o es r.sender x 4) here ∙ copy.reads ∙ ap (slot_offset r) e ∙ sym (next_offset r is u published holds.1)) in (
+            (holds.0, holds.1, omega (arith, further, copy.low, copy.high, holds.0)),
+            subst (λ q. Copied lamport q r o es (stored + 1) k) (sym some) (record {
               place = copy.place;
               reads = copy.reads;
-              low = omega (arith, more, copy.low, level);
+              low = omega (arith, further, copy.low, holds.0);
               high = copy.high;
               alone = copy.alone;
             }),
           )
 
-  looks : (a u v : ℕ) (q : Option ℕ) → r.copy ≡ q → v ≡ read o es r.sender a 4 → (s.stored ≡ s.published) × (u ≡ slot_offset r s.published)
-      → Copied lamport q r o es (s.stored + 0) d.tails → Sends (looks_at q lamport r a u v)
-  looks a u v None none is_read holds copy = by (a == r.tail) refl
+  looks : (u : ℕ) (q : Option ℕ) → r.copy ≡ q → SendsBy k (placed u) → SendsBy l (looks_at q lamport r a u v)
+  looks u None none holds = by (a == r.tail) refl
     where
-      by : (b : Bool) → (a == r.tail) ≡ b → Sends (if b then looks_for_room lamport r u v else placed u)
-      by true same = tail-says u v none holds.0 holds.1 (is_read ∙ ap (λ x. read o es r.sender x 4) (eqb-true a r.tail same) ∙ sender-tail)
-      by false other = (holds, subst (λ q. Copied lamport q r o es (s.stored + 0) d.tails) (sym none) tt)
-  looks a u v (Some c) some is_read holds copy = by (a == c) refl (a == r.tail) refl
+      by : (b : Bool) → (a == r.tail) ≡ b → SendsBy l (if b then looks_for_room lamport r u v else placed u)
+      by true here = tail-says u none (eqb-true a r.tail here) holds.0
+      by false apart = raised (placed u) holds
+  looks u (Some c) some holds = by (a == c) refl (a == r.tail) refl
     where
-      same_copy : Copied lamport r.copy r o es (s.stored + 0) d.tails
-      same_copy = subst (λ q. Copied lamport q r o es (s.stored + 0) d.tails) (sym some) copy
-
       by : (b : Bool) → (a == c) ≡ b → (e : Bool) → (a == r.tail) ≡ e
-          → Sends (if b then looks_for_room lamport r u v else (if e then looks_past_copy lamport r u v else placed u))
-      by true same e tail = copy-says u v c some holds.0 holds.1 (is_read ∙ ap (λ x. read o es r.sender x 4) (eqb-true a c same)) copy
-      by false other true same =
-          past-copy-says u v holds.0 holds.1 (is_read ∙ ap (λ x. read o es r.sender x 4) (eqb-true a r.tail same) ∙ sender-tail) same_copy
-      by false other false apart = (holds, same_copy)
+          → SendsBy l (if b then looks_for_room lamport r u v else (if e then looks_past_copy lamport r u v else placed u))
+      by true here e tail = raised (looks_for_room lamport r u v)
+          (copy-says u c some (eqb-true a c here) holds.0 (subst (λ q. Copied lamport q r o es (stored + 0) k) some holds.1))
+      by false other true here = past-copy-says u (eqb-true a r.tail here) holds
+      by false other false apart = raised (placed u) holds
 
-  send-looked : (a v : ℕ) (p : SenderState) → v ≡ read o es r.sender a 4 → Sends p → Sends (send_look lamport r a v p)
-  send-looked a v resting is_read holds = holds
-  send-looked a v (placed u) is_read holds = looks a u v r.copy refl is_read holds.0 holds.1
-  send-looked a v (renewing u w) is_read holds = holds
-  send-looked a v (roomy u) is_read holds = holds
-  send-looked a v (filled u) is_read holds = holds
+  send-looked : (p : SenderState) → SendsBy k p → SendsBy l (send_look lamport r a v p)
+  send-looked resting holds = raised resting holds
+  send-looked (placed u) holds = looks u r.copy refl holds
+  send-looked (renewing u w) holds = raised (renewing u w) holds
+  send-looked (roomy u) holds = raised (roomy u) holds
+  send-looked (filled u) holds = raised (filled u) holds
 
-  -- less is about to be stored
-  fewer : (n m : ℕ) (q : Option ℕ) → m ≤ n → Copied lamport q r o es n d.tails → Copied lamport q r o es m d.tails
-  fewer n m None le copy = tt
-  fewer n m (Some c) le copy =
-      record { place = copy.place; reads = copy.reads; low = omega (arith, le, copy.low); high = copy.high; alone = copy.alone }
+  pub knows-more : (p : SenderState) → SendsBy k p → SendsBy l (send_load lamport r a v p)
+  knows-more p holds = by-send-load lamport r a v (SendsBy l) p (λ level here. (
+    (level-counts r stored published p level (placed-of 1 r stored published k p holds.0), is_read ∙ ap (λ x. read o es r.sender x 4) here ∙ head),
+    copied-more r.copy r o es (stored + ready_by_state p) k (stored + 0) l (omega arith) more holds.1,
+  )) (send-looked p holds)
 
-  loaded : (a v : ℕ) (p : SenderState) → s.stored ≡ s.published → v ≡ read o es r.sender a 4 → Sends p
-      → Sends (if a == r.head then placed v else send_look lamport r a v p)
-  loaded a v p level is_read holds = by (a == r.head) refl
-    where
-      by : (b : Bool) → (a == r.head) ≡ b → Sends (if b then placed v else send_look lamport r a v p)
-      by true same = (
-        (level, is_read ∙ ap (λ x. read o es r.sender x 4) (eqb-true a r.head same) ∙ sender-head),
-        fewer (s.stored + ready_by_state p) (s.stored + 0) r.copy (omega arith) holds.1,
-      )
-      by false apart = send-looked a v p is_read holds
+-- ---- what each party reads: the word in memory, after what is pending of its own row
+
+their-whole : (K : Kind) (r : RingBuffer) → IsRingBuffer r → (p : ℕ) → IsWholeWord (their_store K r p)
+their-whole lamport r is p = record { whole = refl; aligned = is.tail.aligned; small = omega (arith, offset_low r is (p + 1), is.small) }
+their-whole fastforward r is p = sent-whole (turned r) (turned_is r is) zeros (λ j. omega arith) p
+
+module _ (K : Kind) (r : RingBuffer) (is : IsRingBuffer r) (L : ℕ → ℕ) (small : (j : ℕ) → L j < 2 ^ 32) (c : Earlier) (o : OpeningValue) (es : List Entry)
+    (s : ProtocolState) (inv : Invariant K r L c o es s) where
+  abbrev mine : List Write
+  mine = spread (sent_store r L) (inv.landed.slots + inv.landed.heads) inv.buffers.unsent
+
+  abbrev theirs : List Write
+  theirs = spread (their_store K r) (their_landed K inv.landed.cleared inv.landed.tails) inv.buffers.unread
+
+  pub sender-reads : (a : ℕ) → IsWordIn r a → read o es r.sender a 4 ≡ seen a (memory_word o es a) mine
+  sender-reads a word = reads-word r o es r.sender a word (subst (All IsWholeWord) (sym inv.buffers.rows.mine)
+      (spread-all IsWholeWord (sent_store r L) (inv.landed.slots + inv.landed.heads) inv.buffers.unsent (sent-whole r is L small)))
+      ∙ ap (seen a (memory_word o es a)) inv.buffers.rows.mine
+
+  pub receiver-reads : (a : ℕ) → IsWordIn r a → read o es r.receiver a 4 ≡ seen a (memory_word o es a) theirs
+  receiver-reads a word = reads-word r o es r.receiver a word (subst (All IsWholeWord) (sym inv.buffers.rows.theirs)
+      (spread-all IsWholeWord (their_store K r) (their_landed K inv.landed.cleared inv.landed.tails) inv.buffers.unread (their-whole K r is)))
+      ∙ ap (seen a (memory_word o es a)) inv.buffers.rows.theirs
+
+  -- the sender reads its own head
+  pub sender-head : read o es r.sender r.head 4 ≡ slot_offset r s.published
+  sender-head = sender-reads r.head is.head
+      ∙ ap (λ v. seen r.head v mine) (inv.words.head ∙ ap (slot_offset r) (omega (arith, inv.order.mine.heads_slots, inv.order.mine.slots_heads)))
+      ∙ seen-heads r is L (inv.landed.slots + inv.landed.heads) inv.buffers.unsent
+      ∙ ap (slot_offset r) (omega (arith, inv.buffers.mine_count, inv.order.mine.published_stored, inv.order.mine.stored_published))
+
+-- ---- Lamport's
+
+module _ (r : RingBuffer) (is : IsRingBuffer r) (L : ℕ → ℕ) (small : (j : ℕ) → L j < 2 ^ 32) (c : Earlier) (o : OpeningValue) (es : List Entry)
+    (s : ProtocolState) (inv : Invariant lamport r L c o es s) where
+  abbrev d : Landed
+  d = inv.landed
+
+  -- the sender reads the tail that landed last
+  pub sender-tail : read o es r.sender r.tail 4 ≡ slot_offset r d.tails
+  sender-tail = sender-reads lamport r is L small c o es s inv r.tail is.tail
+      ∙ none-there r.tail (memory_word o es r.tail) (sent_store r L) (d.slots + d.heads) inv.buffers.unsent (λ p from below. sent-not-tail r is L p)
+      ∙ inv.words.tail
+
+  -- the receiver reads its own tail, and all else as memory has it
+  pub receiver-tail : read o es r.receiver r.tail 4 ≡ slot_offset r s.consumed
+  receiver-tail = receiver-reads lamport r is L small c o es s inv r.tail is.tail
+      ∙ ap (λ v. seen r.tail v (spread (freed_store r) d.tails inv.buffers.unread)) inv.words.tail ∙ seen-tails r d.tails inv.buffers.unread
+      ∙ ap (slot_offset r) (omega (arith, inv.buffers.theirs_count))
+
+  pub receiver-other : (a : ℕ) → IsWordIn r a → r.tail ≢ a → read o es r.receiver a 4 ≡ memory_word o es a
+  receiver-other a word other = receiver-reads lamport r is L small c o es s inv a word
+      ∙ none-there a (memory_word o es a) (freed_store r) d.tails inv.buffers.unread (λ p from below. other)
+
+  -- the sender's loads, by which it knows more, and has seen more of its copy of the tail
+  abbrev Sends : SenderState → Type 0
+  Sends p = SendingIs 1 r s.stored s.published d.tails p × Copied lamport r.copy r o es (s.stored + ready_by_state p) d.tails
 
   pub sending-load : (a v : ℕ) (p : SenderState) → v ≡ read o es r.sender a 4 → Sends p → Sends (send_load lamport r a v p)
-  sending-load a v resting is_read holds = loaded a v resting holds.0 is_read holds
-  sending-load a v (placed u) is_read holds = loaded a v (placed u) holds.0.0 is_read holds
-  sending-load a v (renewing u w) is_read holds = loaded a v (renewing u w) holds.0.0 is_read holds
-  sending-load a v (roomy u) is_read holds = loaded a v (roomy u) holds.0.0 is_read holds
-  sending-load a v (filled u) is_read holds = holds
+  sending-load a v p is_read holds = knows-more r is o es s.stored s.published d.tails d.tails d.tails a v is_read
+      (sender-head lamport r is L small c o es s inv)
+      (λ here. (refl, is_read ∙ ap (λ x. read o es r.sender x 4) here ∙ sender-tail)) (omega arith) inv.order.room p holds
 
   -- the receiver's
-  looked : (a v : ℕ) (p : ReceiverState) → a ≢ r.tail → v ≡ read o es r.receiver a 4 → ReceivingIs lamport r L s.taken s.consumed d.heads p
+  looked : (a v : ℕ) (p : ReceiverState) → v ≡ read o es r.receiver a 4 → ReceivingIs lamport r L s.taken s.consumed d.heads p
       → ReceivingIs lamport r L s.taken s.consumed d.heads (receive_look lamport r a v p)
-  looked a v idle other is_read holds = holds
-  looked a v (asked u) other is_read holds = by (a == r.head) refl (v == u) refl
+  looked a v idle is_read holds = holds
+  looked a v (asked u) is_read holds = by (a == r.head) refl (v == u) refl
     where
       by : (b : Bool) → (a == r.head) ≡ b → (c : Bool) → (v == u) ≡ c
           → ReceivingIs lamport r L s.taken s.consumed d.heads (if b then (if c then asked u else waiting u) else asked u)
@@ -222,7 +242,7 @@ module _ (r : RingBuffer) (is : IsRingBuffer r) (L : ℕ → ℕ) (small : (j : 
           (holds.0, holds.1, omega (arith, more, holds.0, inv.order.taken_there), refl)
       by true same true x = holds
       by false y c x = holds
-  looked a v (waiting u) other is_read holds = by (a == r.slots + u) refl
+  looked a v (waiting u) is_read holds = by (a == r.slots + u) refl
     where
       by : (b : Bool) → (a == r.slots + u) ≡ b → ReceivingIs lamport r L s.taken s.consumed d.heads (if b then holding u v else waiting u)
       by true same =
@@ -235,21 +255,10 @@ module _ (r : RingBuffer) (is : IsRingBuffer r) (L : ℕ → ℕ) (small : (j : 
                 ∙ inv.words.full s.consumed inv.order.theirs.1 (omega (arith, holds.0, holds.2, inv.order.mine.heads_slots)) ∙ ap L (sym holds.0),
           )
       by false apart = holds
-  looked a v (holding u w) other is_read holds = holds
-  looked a v (cleared u) other is_read holds = holds
-
-  loads-tail : (a v : ℕ) (p : ReceiverState) → v ≡ read o es r.receiver a 4 → ReceivingIs lamport r L s.taken s.consumed d.heads p
-      → ReceivingIs lamport r L s.taken s.consumed d.heads (if a == r.tail then asked v else receive_look lamport r a v p)
-  loads-tail a v p is_read holds = by (a == r.tail) refl
-    where
-      by : (b : Bool) → (a == r.tail) ≡ b → ReceivingIs lamport r L s.taken s.consumed d.heads (if b then asked v else receive_look lamport r a v p)
-      by true same = (inv.order.theirs.0, is_read ∙ ap (λ x. read o es r.receiver x 4) (eqb-true a r.tail same) ∙ receiver-tail)
-      by false apart = looked a v p (eqb-false a r.tail apart) is_read holds
+  looked a v (holding u w) is_read holds = holds
+  looked a v (cleared u) is_read holds = holds
 
   pub receiving-load : (a v : ℕ) (p : ReceiverState) → v ≡ read o es r.receiver a 4 → ReceivingIs lamport r L s.taken s.consumed d.heads p
       → ReceivingIs lamport r L s.taken s.consumed d.heads (receive_load lamport r a v p)
-  receiving-load a v idle is_read holds = loads-tail a v idle is_read holds
-  receiving-load a v (asked u) is_read holds = loads-tail a v (asked u) is_read holds
-  receiving-load a v (waiting u) is_read holds = loads-tail a v (waiting u) is_read holds
-  receiving-load a v (holding u w) is_read holds = loads-tail a v (holding u w) is_read holds
-  receiving-load a v (cleared u) is_read holds = holds
+  receiving-load a v p is_read holds = by-receive-load lamport r a v (ReceivingIs lamport r L s.taken s.consumed d.heads) p
+      (λ whole here. (inv.order.theirs.0, is_read ∙ ap (λ x. read o es r.receiver x 4) here ∙ receiver-tail)) (looked a v p is_read holds)

@@ -17,6 +17,7 @@ use Rattle.spsc_queue.specs.CallEffects.{IsPlainNeed, sees_full, look_accesses, 
 use Rattle.spsc_queue.proofs.Courses.{At, at_00, at_04, at_08, at_0C, at_10, at_14, at_18, at_1C, at_20, at_24, at_28}
 use Rattle.spsc_queue.proofs.Courses.{at_2C, at_30, at_34, at_38, at_3C, at_40, number, moved, Course}
 use Rattle.spsc_queue.proofs.Courses.{went, Left, Frame}
+use Rattle.spsc_queue.proofs.Cases.{IsLevel, IsWhole}
 
 -- a party's part of the protocol's state
 pub record Part : Type 0 where
@@ -33,15 +34,6 @@ role the_sender = sends
 role the_receiver = receives
 
 -- ---- what a party knows
-
--- no word is half sent, and no slot half freed
-abbrev pub IsLevel : SenderState → Type 0
-IsLevel (filled u) = ⊥
-IsLevel p = Unit {0}
-
-abbrev pub IsWhole : ReceiverState → Type 0
-IsWhole (cleared u) = ⊥
-IsWhole p = Unit {0}
 
 pub record Level (t : Part) : Type 0 where
   pub sending : IsLevel t.sending

@@ -7,7 +7,7 @@ use Rattle.spsc_queue.specs.Protocol.{passes, role_of}
 use Rattle.spsc_queue.specs.Calls.{SpscQueue, Party, the_sender, the_receiver, party_hart, party_line, listing_of, buffer, is_in_call, completed_words}
 use Rattle.spsc_queue.specs.Calls.{completed_by_entry}
 use Rattle.spsc_queue.specs.Calls.{HasFunction, PartyObligation, CallerObligation, SharesQueue}
-use Rattle.spsc_queue.proofs.Landings.{role-cases}
+use Rattle.spsc_queue.proofs.Cases.{by-role}
 use Rattle.spsc_queue.proofs.Outline.{role}
 use Rattle.spsc_queue.proofs.Completed.{completed-last}
 
@@ -64,11 +64,10 @@ module _ (q : SpscQueue) where
     pub role : role_of (buffer q) h ≡ passes
 
   pub whose : (h : ℕ) → Mine h ⊎ Others h
-  whose h = elim (role-cases (buffer q) h) [
-    | inl is ↦ inl (record { party = the_sender; hart = is.0; role = is.1 })
-    | inr (inl is) ↦ inl (record { party = the_receiver; hart = is.1; role = is.2 })
-    | inr (inr is) ↦ inr (record { not_sender = is.0; not_receiver = is.1; role = is.2 })
-  ]
+  whose h = by-role (buffer q) h (λ t p. role_of (buffer q) h ≡ t → Mine h ⊎ Others h)
+      (λ is e. inl (record { party = the_sender; hart = is; role = e }))
+      (λ other is e. inl (record { party = the_receiver; hart = is; role = e }))
+      (λ other another e. inr (record { not_sender = other; not_receiver = another; role = e })) refl
 
   pub not_mine : {h : ℕ} → Others h → (p : Party) → h ≢ party_hart q p
   not_mine is the_sender = is.not_sender

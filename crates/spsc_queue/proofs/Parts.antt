@@ -15,8 +15,10 @@ use Rattle.spsc_queue.specs.Protocol.{receive_load, receive_store, room_at, says
 use Rattle.spsc_queue.specs.Protocol.{KeepsProtocolBy, KeepsProtocol}
 use Rattle.spsc_queue.specs.Calls.{Block, IsBlock, Party, the_sender, the_receiver, copy_in, ring_at}
 use Rattle.spsc_queue.proofs.Spread.{offset_low}
-use Rattle.spsc_queue.proofs.Invariants.{IsPlaced, IsAsked, Known}
-use Rattle.spsc_queue.proofs.Outline.{Part, part, role, IsLevel, IsWhole, Level, IsOffset, IsNear, IsFit, Near}
+use Rattle.spsc_queue.proofs.Cases.{IsLevel, IsWhole, by-send-load, by-receive-load}
+use Rattle.spsc_queue.proofs.Invariant.{IsPlaced}
+use Rattle.spsc_queue.proofs.Invariants.{IsAsked, Known}
+use Rattle.spsc_queue.proofs.Outline.{Part, part, role, Level, IsOffset, IsNear, IsFit, Near}
 use Rattle.spsc_queue.proofs.Outline.{first_look, index_at, look_at, Knows, Looked, MayStore}
 use Rattle.spsc_queue.proofs.Outline.{Stored, Does}
 
@@ -128,7 +130,7 @@ module _ (K : Kind) (r : RingBuffer) where
   -- ---- loads
 
   level-send : (a v : ℕ) (p : SenderState) → IsLevel p → IsLevel (send_load K r a v p)
-  level-send a v p level = at p level
+  level-send a v p level = by-send-load K r a v IsLevel p (λ l here. tt) (at p level)
     where
       chosen : (b : Bool) (p q : SenderState) → IsLevel p → IsLevel q → IsLevel (if b then p else q)
       chosen true p q one two = one
@@ -142,15 +144,15 @@ module _ (K : Kind) (r : RingBuffer) where
       looks u (Some c) = chosen (a == c) (looks_for_room K r u v) (if a == room_at K r u then looks_past_copy K r u v else placed u) (seen u)
           (chosen (a == room_at K r u) (looks_past_copy K r u v) (placed u) (chosen (says_full K r u v) (placed u) (renewing u v) tt tt) tt)
 
-      at : (p : SenderState) → IsLevel p → IsLevel (send_load K r a v p)
-      at resting l = chosen (a == r.head) (placed v) resting tt tt
-      at (placed u) l = chosen (a == r.head) (placed v) (send_look K r a v (placed u)) tt (looks u r.copy)
-      at (renewing u w) l = chosen (a == r.head) (placed v) (renewing u w) tt tt
-      at (roomy u) l = chosen (a == r.head) (placed v) (roomy u) tt tt
-      at (filled u) l = absurd l
+      at : (p : SenderState) → IsLevel p → IsLevel (send_look K r a v p)
+      at (placed u) l = looks u r.copy
+      at resting l = l
+      at (renewing u w) l = l
+      at (roomy u) l = l
+      at (filled u) l = l
 
   whole-receive : (a v : ℕ) (p : ReceiverState) → IsWhole p → IsWhole (receive_load K r a v p)
-  whole-receive a v p whole = at p whole
+  whole-receive a v p whole = by-receive-load K r a v IsWhole p (λ l here. tt) (at p whole)
     where
       chosen : (b : Bool) (p q : ReceiverState) → IsWhole p → IsWhole q → IsWhole (if b then p else q)
       chosen true p q one two = one
@@ -160,13 +162,12 @@ module _ (K : Kind) (r : RingBuffer) where
       seen lamport u = chosen (says_empty lamport u v) (asked u) (waiting u) tt tt
       seen fastforward u = chosen (says_empty fastforward u v) (asked u) (holding u v) tt tt
 
-      at : (p : ReceiverState) → IsWhole p → IsWhole (receive_load K r a v p)
-      at idle l = chosen (a == r.tail) (asked v) idle tt tt
-      at (asked u) l = chosen (a == r.tail) (asked v) (receive_look K r a v (asked u)) tt
-          (chosen (a == look_at the_receiver K r u) (looks_for_word K u v) (asked u) (seen K u) tt)
-      at (waiting u) l = chosen (a == r.tail) (asked v) (receive_look K r a v (waiting u)) tt (chosen (a == r.slots + u) (holding u v) (waiting u) tt tt)
-      at (holding u w) l = chosen (a == r.tail) (asked v) (holding u w) tt tt
-      at (cleared u) l = absurd l
+      at : (p : ReceiverState) → IsWhole p → IsWhole (receive_look K r a v p)
+      at (asked u) l = chosen (a == look_at the_receiver K r u) (looks_for_word K u v) (asked u) (seen K u) tt
+      at (waiting u) l = chosen (a == r.slots + u) (holding u v) (waiting u) tt tt
+      at idle l = l
+      at (holding u w) l = l
+      at (cleared u) l = l
 
   -- outside of the functions no word becomes half passed, and none is passed
   pub level-next : (p : Party) (t : ProtocolState) (x : Access) → WritesNothingTo r x → Level (part p t)

@@ -1,6 +1,6 @@
 -- Whole runs that keep the protocol: what is received is a prefix of what was sent.
 use Rattle.std.proofs.Common.{ℕ, zero, suc, ◌+◌, ◌-◌, ◌^◌, ◌<◌, ◌≤◌, ◌≡◌, ◌==◌, ◌⊎◌, inl, inr, Bool, true, false}
-use Rattle.std.proofs.Common.{if◌then◌else◌, Some, List, [], ◌∷◌, ◌++◌, length}
+use Rattle.std.proofs.Common.{if◌then◌else◌, List, [], ◌∷◌, ◌++◌, length}
 use Rattle.std.proofs.Common.{take, refl, sym, ◌∙◌, ap, subst, arith, append-nil, append_assoc, length-append}
 use Rattle.std.specs.Prelude.{slice_index}
 use Rattle.std.proofs.lemmas.Bool.{eqb-true}
@@ -20,18 +20,18 @@ use Rattle.spsc_queue.specs.Protocol.{waiting, holding, cleared, ProtocolState, 
 use Rattle.spsc_queue.specs.Protocol.{at_start, Role, sends, receives, passes, role_of, send_load, send_store, receive_load, receive_store, next_by}
 use Rattle.spsc_queue.specs.Protocol.{protocol_next, protocol_after, IsWordAt, IsSenderStore, IsTaking, IsReceiverStore, KeepsProtocolBy, KeepsProtocol}
 use Rattle.spsc_queue.specs.Laws.{IsPrefix, FollowsSpscProtocol, available_count, available_words}
-use Rattle.store_buffers.specs.StoreBuffers.{LeavesByteBy}
 use Rattle.store_buffers.proofs.Effects.{read-below}
 use Rattle.memory.proofs.Joined.{joined-below}
+use Rattle.spsc_queue.proofs.Cases.{by-role}
 use Rattle.spsc_queue.proofs.Words.{shared, shared_on, off_shared, word_on}
-use Rattle.spsc_queue.proofs.Copies.{quiet_read, CopyStays, copy-left, off_leaves, word_leaves}
+use Rattle.spsc_queue.proofs.Copies.{quiet_read, CopyStays, leaves, off_leave, exchange_leave, word_leave}
 use Rattle.spsc_queue.proofs.Rows.{Earlier, Stays, nothing-stays, load-stays, fence-stays, exchange-stays, off-stays}
-use Rattle.spsc_queue.proofs.Invariant.{firsts, there, ReceivingIs, Invariant}
+use Rattle.spsc_queue.proofs.Invariant.{IsPlaced, firsts, there, ReceivingIs, Invariant}
 use Rattle.spsc_queue.proofs.Numbers.{numbers-at, numbers-small}
 use Rattle.spsc_queue.proofs.Loads.{slot_word}
 use Rattle.spsc_queue.proofs.Steps.{idles, sends-word, sends-head, takes-word, frees, copies}
-use Rattle.spsc_queue.proofs.Landings.{role-cases, lands-store}
-use Rattle.spsc_queue.proofs.Invariants.{IsPlaced, Known, known, sender-loads, receiver-loads, earlier, at_rest}
+use Rattle.spsc_queue.proofs.Landings.{lands-store}
+use Rattle.spsc_queue.proofs.Invariants.{Known, known, sender-loads, receiver-loads, earlier, at_rest}
 
 pub length-firsts : (L : ℕ → ℕ) (n : ℕ) → length (firsts L n) ≡ n
 length-firsts L zero = refl
@@ -140,18 +140,12 @@ protocol-small r s (e ∷ es) keeps all = protocol-small r (protocol_next r s e)
 -- ---- one entry
 
 pub is_sender : (r : RingBuffer) (h : ℕ) → role_of r h ≡ sends → h ≡ r.sender
-is_sender r h whose = elim (role-cases r h) [
-  | inl is ↦ is.0
-  | inr (inl is) ↦ let other : receives ≡ sends = sym is.2 ∙ whose in cc
-  | inr (inr is) ↦ let other : passes ≡ sends = sym is.2 ∙ whose in cc
-]
+is_sender r h = by-role r h (λ role p. role ≡ sends → h ≡ r.sender) (λ is e. is)
+    (λ other is e. let no : receives ≡ sends = e in cc) (λ other another e. let no : passes ≡ sends = e in cc)
 
 pub is_receiver : (r : RingBuffer) (h : ℕ) → role_of r h ≡ receives → h ≡ r.receiver
-is_receiver r h whose = elim (role-cases r h) [
-  | inl is ↦ let other : sends ≡ receives = sym is.1 ∙ whose in cc
-  | inr (inl is) ↦ is.1
-  | inr (inr is) ↦ let other : passes ≡ receives = sym is.2 ∙ whose in cc
-]
+is_receiver r h = by-role r h (λ role p. role ≡ receives → h ≡ r.receiver) (λ is e. let no : sends ≡ receives = e in cc)
+    (λ other is e. is) (λ other another e. let no : passes ≡ receives = e in cc)
 
 pub protocol-append : (r : RingBuffer) (s : ProtocolState) (es fs : List Entry) → protocol_after r s (es ++ fs) ≡ protocol_after r (protocol_after r s es) fs
 protocol-append r s [] fs = refl
@@ -178,17 +172,6 @@ module _ (B : ℕ) (r : RingBuffer) (is : IsRingBuffer r) (F : List ℕ) (small 
   facts : Known k r L s
   facts = known r is L c o es s k inv
 
-  -- this access leaves the copy
-  leaves : (x : Access) → access_of e ≡ x → ((a b : ℕ) → r.copy ≡ Some a → a ≤ b → b < a + 4 → LeavesByteBy b x) → CopyStays r o es after
-  leaves x does left = copy-left B r o es e even can (λ a b copy from below. subst (LeavesByteBy b) (sym does) (left a b copy from below))
-
-  off_leave : (w : Write) → access_of e ≡ store w → overlaps r w ≡ false → CopyStays r o es after
-  off_leave w does off = leaves (store w) does
-      (λ a b copy from below. off_leaves r w b off (omega (arith, from, (is.copy a copy).above)) (omega (arith, below, (is.copy a copy).below)))
-
-  word_leave : (w : Write) (p : ℕ) → access_of e ≡ store w → IsWordIn r p → IsWordAt w p → CopyStays r o es after
-  word_leave w p does word at = leaves (store w) does (λ a b copy from below. word_leaves r w p a b word at copy from below)
-
   rests : Stays r o es after → CopyStays r o es after → Invariant k r L c o after s
   rests block copied = idles k r is L c o es s inv e even block copied
 
@@ -201,11 +184,11 @@ module _ (B : ℕ) (r : RingBuffer) (is : IsRingBuffer r) (F : List ℕ) (small 
     where
       by : (b : Bool) → overlaps r w ≡ b → Invariant k r L c o after (if b then send_store w (renewing u v) s else s)
       by true on = copies k r is L c o es s inv e even w does mine u v at r.copy refl keeps
-      by false off = rests (off-stays r is o es e even w does (off_shared r w off)) (off_leave w does off)
+      by false off = rests (off-stays r is o es e even w does (off_shared r w off)) (off_leave B r is o es e even can w does off)
   sender-stores w (roomy u) does mine at keeps ahead =
       subst (λ b. Invariant k r L c o after (if b then send_store w (roomy u) s else s)) (sym (shared_on r w on))
       (sends-word k r is L c o es s inv e even w does on
-      (word_leave w (slot_address r s.published) does (slot_word r is s.published) word) mine u at keeps.0 value keeps.2)
+      (word_leave B r is o es e even can w (slot_address r s.published) does (slot_word r is s.published) word) mine u at keeps.0 value keeps.2)
     where
       place : IsPlaced r s.stored s.published (roomy u)
       place = subst (IsPlaced r s.stored s.published) at facts.sending
@@ -222,7 +205,7 @@ module _ (B : ℕ) (r : RingBuffer) (is : IsRingBuffer r) (F : List ℕ) (small 
   sender-stores w (filled u) does mine at keeps ahead =
       let on : shared r w ≡ true = word_on r w r.head is.head keeps.0 in
       subst (λ b. Invariant k r L c o after (if b then send_store w (filled u) s else s)) (sym (shared_on r w on))
-      (sends-head k r is L c o es s inv e even w does on (word_leave w r.head does is.head keeps.0) mine u at keeps.0 keeps.1)
+      (sends-head k r is L c o es s inv e even w does on (word_leave B r is o es e even can w r.head does is.head keeps.0) mine u at keeps.0 keeps.1)
 
   taking : (K : Kind) (u v : ℕ) (w : Write) → ReceivingIs K r L s.taken s.consumed (there K inv.landed.slots inv.landed.heads) (holding u v) → IsTaking K r u w
       → (p : ℕ) × IsWordIn r p × IsWordAt w p
@@ -241,12 +224,12 @@ module _ (B : ℕ) (r : RingBuffer) (is : IsRingBuffer r) (F : List ℕ) (small 
   receiver-stores w (holding u v) does mine at keeps =
       let known = subst (ReceivingIs k r L s.taken s.consumed (there k inv.landed.slots inv.landed.heads)) at inv.receiving in
       let word = taking k u v w known keeps in
-      let one = takes-word k r is L c o es s inv e even w does (word_leave w word.0 does word.1 word.2) mine u v at keeps in
+      let one = takes-word k r is L c o es s inv e even w does (word_leave B r is o es e even can w word.0 does word.1 word.2) mine u v at keeps in
       subst (λ b. Invariant k r L c o after (if b then receive_store k (holding u v) s else s)) (sym (shared_on r w one.0)) one.1
   receiver-stores w (cleared u) does mine at keeps =
       let on : shared r w ≡ true = word_on r w r.tail is.tail keeps.0 in
       subst (λ b. Invariant k r L c o after (if b then receive_store k (cleared u) s else s)) (sym (shared_on r w on))
-      (frees k r is L c o es s inv e even w does on (word_leave w r.tail does is.tail keeps.0) mine u at keeps.0 keeps.1)
+      (frees k r is L c o es s inv e even w does on (word_leave B r is o es e even can w r.tail does is.tail keeps.0) mine u at keeps.0 keeps.1)
 
   loads-word : (a width v : ℕ) → access_of e ≡ load a width v → v ≡ read o es (hart_of e) a width → (role : Role) → role_of r (hart_of e) ≡ role
       → Invariant k r L c o after (next_by k r role s (load a width v))
@@ -256,7 +239,7 @@ module _ (B : ℕ) (r : RingBuffer) (is : IsRingBuffer r) (F : List ℕ) (small 
       block = load-stays r is o es e even a width v does
 
       copied : CopyStays r o es after
-      copied = leaves (load a width v) does (λ c x copy from below. tt)
+      copied = leaves B r is o es e even can (load a width v) does (λ c x copy from below. tt)
 
       read_by : (h : ℕ) → hart_of e ≡ h → width ≡ 4 → v ≡ read o es h a 4
       read_by h mine whole = found ∙ ap (λ g. read o es g a width) mine ∙ ap (read o es h a) whole
@@ -278,13 +261,13 @@ module _ (B : ℕ) (r : RingBuffer) (is : IsRingBuffer r) (F : List ℕ) (small 
       → (more : List ℕ) × (F ≡ (next_by k r role s (store w)).sent ++ more) → Invariant k r L c o after (next_by k r role s (store w))
   stores-word w does sends whose (inl off) ahead =
       subst (λ b. Invariant k r L c o after (if b then send_store w s.sending s else s)) (sym off)
-      (rests (off-stays r is o es e even w does (off_shared r w off)) (off_leave w does off))
+      (rests (off-stays r is o es e even w does (off_shared r w off)) (off_leave B r is o es e even can w does off))
   stores-word w does sends whose (inr keeps) ahead = sender-stores w s.sending does (is_sender r (hart_of e) whose) refl keeps ahead
   stores-word w does receives whose (inl off) ahead =
       subst (λ b. Invariant k r L c o after (if b then receive_store k s.receiving s else s)) (sym off)
-      (rests (off-stays r is o es e even w does (off_shared r w off)) (off_leave w does off))
+      (rests (off-stays r is o es e even w does (off_shared r w off)) (off_leave B r is o es e even can w does off))
   stores-word w does receives whose (inr keeps) ahead = receiver-stores w s.receiving does (is_receiver r (hart_of e) whose) refl keeps
-  stores-word w does passes whose off ahead = rests (off-stays r is o es e even w does (off_shared r w off)) (off_leave w does off)
+  stores-word w does passes whose off ahead = rests (off-stays r is o es e even w does (off_shared r w off)) (off_leave B r is o es e even can w does off)
 
   -- an access that changes nothing of either party
   others : (role : Role) (x : Access) → next_by k r sends s x ≡ s → next_by k r receives s x ≡ s → Invariant k r L c o after s
@@ -298,22 +281,21 @@ module _ (B : ℕ) (r : RingBuffer) (is : IsRingBuffer r) (F : List ℕ) (small 
       → AllowedBy B (pending (hart_of e) es) (read o es (hart_of e)) x
       → (more : List ℕ) × (F ≡ (next_by k r role s x).sent ++ more) → Invariant k r L c o after (next_by k r role s x)
   acts nothing does role whose keeps allowed ahead = others role nothing refl refl
-      (rests (nothing-stays r is o es e even does) (leaves nothing does (λ c x copy from below. tt)))
+      (rests (nothing-stays r is o es e even does) (leaves B r is o es e even can nothing does (λ c x copy from below. tt)))
   acts (load a width v) does role whose keeps allowed ahead = loads-word a width v does allowed role whose
   acts (store w) does role whose keeps allowed ahead = stores-word w does role whose keeps ahead
   acts (exchange a old new) does role whose keeps allowed ahead =
       others role (exchange a old new) refl refl (rests (exchange-stays r is o es e even a old new does (off_shared r (write a 4 new) (off role keeps)))
-      (leaves (exchange a old new) does (λ d x copy from below. inr (off_leaves r (write a 4 new) x (off role keeps)
-      (omega (arith, from, (is.copy d copy).above)) (omega (arith, below, (is.copy d copy).below))))))
+      (exchange_leave B r is o es e even can a old new does (off role keeps)))
     where
       off : (role : Role) → KeepsProtocolBy k r role s (exchange a old new) → overlaps r (write a 4 new) ≡ false
       off sends keeps = keeps
       off receives keeps = keeps
       off passes keeps = keeps
   acts (fence full) does role whose keeps allowed ahead = others role (fence full) refl refl (rests (fence-stays r is o es e even full does)
-      (leaves (fence full) does (λ c x copy from below. tt)))
+      (leaves B r is o es e even can (fence full) does (λ c x copy from below. tt)))
   acts land does role whose keeps allowed ahead = others role land refl refl (lands-store k r is L small c o es s inv e even
-      (leaves land does (λ c x copy from below. tt)) does allowed)
+      (leaves B r is o es e even can land does (λ c x copy from below. tt)) does allowed)
 
 -- ---- whole runs
 

@@ -67,11 +67,11 @@ sent-head r L p j is =
     odd ∙ ap (λ k. write r.head 4 (slot_offset r (k + 1))) half
 
 -- none goes to this word
-pub seen-none : (a v : ℕ) (f : ℕ → Write) (i n : ℕ) → ((p : ℕ) → (f p).addr ≢ a) → seen a v (spread f i n) ≡ v
-seen-none a v f i zero other = refl
-seen-none a v f i (suc n) other =
+pub none-there : (a v : ℕ) (f : ℕ → Write) (i n : ℕ) → ((p : ℕ) → i ≤ p → p < i + n → (f p).addr ≢ a) → seen a v (spread f i n) ≡ v
+none-there a v f i zero other = refl
+none-there a v f i (suc n) other =
     let off : ((f i).addr == a) ≡ false = grind (arith, nat_tests, other i) in
-    ap (λ b. seen a (if b then (f i).value else v) (spread f (suc i) n)) off ∙ seen-none a v f (suc i) n other
+    ap (λ b. seen a (if b then (f i).value else v) (spread f (suc i) n)) off ∙ none-there a v f (suc i) n (λ p from below. other p (omega arith) (omega arith))
 
 -- each goes to this word
 pub seen-tails : (r : RingBuffer) (i n : ℕ) → seen r.tail (slot_offset r i) (spread (freed_store r) i n) ≡ slot_offset r (i + n)

@@ -1,5 +1,5 @@
 -- Each store of a party keeps the invariant, and so does what leaves the block.
-use Rattle.std.proofs.Common.{ℕ, suc, ◌+◌, ◌^◌, ◌≤◌, ◌<◌, ◌≡◌, ◌≢◌, ◌==◌, ◌&&◌, not, inl, inr, Bool, true, false}
+use Rattle.std.proofs.Common.{ℕ, suc, ◌+◌, ◌≤◌, ◌<◌, ◌≡◌, ◌≢◌, ◌==◌, ◌&&◌, not, inl, inr, Bool, true, false}
 use Rattle.std.proofs.Common.{Option, Some, None, List, [], ◌∷◌, ◌++◌, length, refl, sym, ◌∙◌, ap, subst, arith}
 use Rattle.std.specs.Prelude.{All}
 use Rattle.std.proofs.lemmas.Bool.{cases_eq, eq-eqb}
@@ -227,6 +227,27 @@ frees fastforward r is L c o es s inv e even w does on copied mine u at word val
     takes-one fastforward r is L c o es s inv e even w does on copied mine is_next idle s.taken (s.consumed + 1) s.received (omega arith)
     (row-publishes inv.order.theirs known.0) inv.order.taken_there known.0 inv.received
 
+-- the sender's store of its copy of the tail
+pub copied-anew : (r : RingBuffer) (is : IsRingBuffer r) (o : OpeningValue) (es : List Entry) (e : Entry)
+    (even : (h : ℕ) → lands h es ≤ length (own_stores h es)) (w : Write) → access_of e ≡ store w → hart_of e ≡ r.sender → (a : ℕ) → r.copy ≡ Some a
+    → IsWordAt w a → (n m n2 m2 p : ℕ) → Copied lamport r.copy r o es n m → w.value ≡ slot_offset r p → n2 + 1 ≤ p → p ≤ m2 + r.size
+    → Copied lamport r.copy r o (es ++ e ∷ []) n2 m2
+copied-anew r is o es e even w does mine a some at n m n2 m2 p copy value low high =
+    subst (λ q. Copied lamport q r o after n2 m2) (sym some) (record {
+      place = p;
+      reads = own_read o es after r.sender a w more at (omega (arith, value, offset_low r is p, is.small)) ∙ value;
+      low = low;
+      high = high;
+      alone = λ x from below g other. subst (All (LeavesByte x)) (sym (kept-pending r is o es e even w does g (λ same. other (sym same ∙ mine))))
+          ((subst (λ q. Copied lamport q r o es n m) some copy).alone x from below g other);
+    })
+  where
+    after : List Entry
+    after = es ++ e ∷ []
+
+    more : pending r.sender after ≡ pending r.sender es ++ w ∷ []
+    more = subst (λ g. pending g after ≡ pending g es ++ w ∷ []) mine (more-of r is o es e even w does)
+
 -- the sender makes what it read its copy of the tail
 pub copies : (K : Kind) (r : RingBuffer) (is : IsRingBuffer r) (L : ℕ → ℕ) (c : Earlier) (o : OpeningValue) (es : List Entry) (s : ProtocolState)
     (inv : Invariant K r L c o es s) (e : Entry) (even : (h : ℕ) → lands h es ≤ length (own_stores h es)) (w : Write) → access_of e ≡ store w
@@ -236,28 +257,15 @@ copies K r is L c o es s inv e even w does mine u v at None none keeps = absurd 
 copies fastforward r is L c o es s inv e even w does mine u v at (Some a) some keeps =
     absurd (let no : Some a ≡ None = sym some ∙ inv.copy in cc)
 copies lamport r is L c o es s inv e even w does mine u v at (Some a) some keeps =
-    let after : List Entry = es ++ e ∷ [] in
     let known : SendingIs 1 r s.stored s.published inv.landed.tails (renewing u v) =
     subst (SendingIs 1 r s.stored s.published inv.landed.tails) at inv.sending in
-    let copy : Copied lamport (Some a) r o es (s.stored + ready_by_state s.sending) inv.landed.tails =
-    subst (λ q. Copied lamport q r o es (s.stored + ready_by_state s.sending) inv.landed.tails) some inv.copy in
     let it : is_copy r.copy w ≡ true = ap (λ q. is_copy q w) some ∙ ap (λ b. b && (w.width == 4)) (eq-eqb w.addr a keeps.0.place)
     ∙ eq-eqb w.width 4 keeps.0.width in
     let off : shared r w ≡ false = ap (λ b. overlaps r w && not b) it ∙ none (overlaps r w) in
-    let small : w.value < 2 ^ 32 = omega (arith, keeps.1, known.2.1, offset_low r is known.2.0, is.small) in
-    let more : pending r.sender after ≡ pending r.sender es ++ w ∷ [] =
-    subst (λ g. pending g after ≡ pending g es ++ w ∷ []) mine (more-of r is o es e even w does) in
-    let new : Copied lamport (Some a) r o after (s.stored + 1) inv.landed.tails = record {
-      place = known.2.0;
-      reads = own_read o es after r.sender a w more keeps.0 small ∙ keeps.1 ∙ known.2.1;
-      low = omega (arith, known.2.2);
-      high = known.2.3;
-      alone = λ x from below g other. subst (All (LeavesByte x)) (sym (kept-pending r is o es e even w does g (λ same. other (sym same ∙ mine))))
-          (copy.alone x from below g other);
-    } in
     stays lamport r is L c o es s inv e even (roomy u) s.receiving (off-stays r is o es e even w does off)
     (known.0, known.1, omega (arith, known.2.2, known.2.3)) inv.receiving
-    (subst (λ q. Copied lamport q r o after (s.stored + 1) inv.landed.tails) (sym some) new)
+    (copied-anew r is o es e even w does mine a some keeps.0 (s.stored + ready_by_state s.sending) inv.landed.tails (s.stored + 1) inv.landed.tails known.2.0
+    inv.copy (keeps.1 ∙ known.2.1) (omega (arith, known.2.2)) known.2.3)
   where
     none : (b : Bool) → b && not true ≡ false
     none true = refl

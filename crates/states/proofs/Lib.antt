@@ -1,10 +1,4 @@
-pub mod Compaction
 pub mod EndLaws
-pub mod NumberLaws
 pub mod FitAfter
 pub mod GoingOn
-pub mod FieldLaws
-pub mod KeyLaws
-pub mod LayoutLaws
-pub mod Zipped
-pub mod TreeLaws
+pub mod NumberLaws

@@ -3,7 +3,7 @@
 ghost use Rattle.std.specs.Prelude.{◌≡◌, ◌+◌, ◌<◌, ◌≤◌, [], length, IfOk, OnOk, OnErr};
 ghost use Rattle.step_machine.specs.Positions.{packed, IsSoundMachine};
 
-use crate::parts::Parts;
+use indexmap::IndexSet;
 use std::alloc::{AllocError, Global};
 use std::marker::Model;
 use step_machine::MachineState;
@@ -12,32 +12,30 @@ use step_machine::MachineState;
 /// list of their positions, each packed as words.
 #[derive(Drop)]
 pub struct States<const B: usize, const M: usize> {
-    positions: Parts,
+    positions: IndexSet<Vec<u32>>,
     /// Room for the words of one position.
     draft: Vec<u32>,
 }
 
 impl<const B: usize, const M: usize> Model for States<B, M> {
-    ghost use Rattle.std.specs.Prelude.{ℕ, List};
+    ghost use Rattle.std.specs.Prelude.{ℕ, List, map};
 
     ghost Value = { List (List ℕ) };
 
-    ghost view = { λ s. s.positions };
+    ghost view = { λ s. map (λ position. position.items) s.positions.keys };
 }
 
 impl<const B: usize, const M: usize> States<B, M> {
-    ghost use Rattle.states.specs.Numbered.{IsNumbered, words_at};
+    ghost use Rattle.states.specs.Numbered.{IsNumbered};
 
-    /// None is numbered yet. `machine` is of the opening whose states are to be numbered.
-    pub fn new(alloc: Global, machine: &MachineState<B, M>) -> Result<Self, AllocError>
-        ensures { IfOk result (λ s. s ≡ []) }
+    /// None is numbered yet.
+    pub fn new(alloc: Global) -> Self
+        ensures { result ≡ [] }
     {
-        let mut draft = Vec::new(alloc);
-        machine.pack(&mut draft)?;
-        Ok(States {
-            positions: Parts::new(alloc),
-            draft,
-        })
+        States {
+            positions: IndexSet::new(alloc),
+            draft: Vec::new(alloc),
+        }
     }
 
     /// How many are numbered, which is the number of the next new one.
@@ -58,15 +56,12 @@ impl<const B: usize, const M: usize> States<B, M> {
     {
         self.draft.clear();
         machine.pack(&mut self.draft)?;
-        self.positions.number(&self.draft)
-    }
-
-    /// Writes the words of the position of this number in the place of what `words` holds. A machine of the
-    /// opening unpacks them.
-    pub fn words_into(&self, number: usize, words: &mut Vec<u32>) -> Result<(), AllocError>
-        requires { number < length self.now }
-        ensures { OnOk result (words.new.items ≡ words_at self.now number) }
-    {
-        self.positions.words_into(number, words)
+        if let Some(number) = self.positions.get_index_of(self.draft.as_slice()) {
+            return Ok(number);
+        }
+        let number = self.positions.len();
+        let position = Vec::from_slice(*self.draft.allocator(), &self.draft)?;
+        self.positions.insert(position)?;
+        Ok(number)
     }
 }

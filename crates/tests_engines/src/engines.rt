@@ -10,8 +10,8 @@ use code_engines::asm::asm_engine;
 use code_engines::dis::dis_engine;
 use code_engines::steps::steps_engine;
 use debugger::debug::debug_engine;
-use drawn_runs::Draw;
 use drawn_runs::progress::Progress;
+use drawn_runs::{Draw, Runs, Sample};
 use engine_support::fault::Fault;
 use finding::{SearchProgress, find_engine};
 use hart::Stop;
@@ -21,7 +21,7 @@ use rand_pcg::Pcg32;
 use run_engines::moving::move_engine;
 use run_engines::replay::replay_engine;
 use run_engines::run::run_engine;
-use sampling::trials::{Runs, Unfinished, try_engine};
+use sampling::trials::{Unfinished, try_engine};
 use std::io::BufReader;
 use std::sync::Wait;
 use std::thread::Threads;
@@ -92,12 +92,19 @@ const QUEUE: Queue = Queue {
     receiver: 1,
 };
 
-const ONE_RUN: Runs = Runs {
-    skip: 0,
-    number: 1,
-    length: 4,
-    jobs: 1,
-};
+/// One run.
+fn one_run(generator: &Pcg32) -> Sample<'_, Pcg32> {
+    Sample {
+        draw: Draw::Uniform,
+        generator,
+        runs: Runs {
+            skip: 0,
+            number: 1,
+            length: 4,
+            jobs: 1,
+        },
+    }
+}
 
 /// Nobody waits for the runs, or for the search.
 #[derive(Drop)]
@@ -150,9 +157,7 @@ pub fn answer(
                 alloc,
                 first,
                 QUEUE,
-                Draw::Uniform,
-                &generator,
-                ONE_RUN,
+                &one_run(&generator),
                 &mut Nobody,
                 writer,
             )
@@ -205,15 +210,12 @@ pub fn answer(
         }
         Engine::Try => {
             let generator = Pcg32::new(42, 54);
-            let runs = ONE_RUN;
             try_engine::<4, 4096, _, _, _, _, _>(
                 rt,
                 alloc,
                 first,
                 Unfinished::Counted,
-                Draw::Uniform,
-                &generator,
-                runs,
+                &one_run(&generator),
                 &mut Nobody,
                 writer,
             )
@@ -221,7 +223,6 @@ pub fn answer(
         }
         Engine::Ring => {
             let generator = Pcg32::new(42, 54);
-            let runs = ONE_RUN;
             ring_engine::<4, 4096, _, _, _, _, _, _, _>(
                 rt,
                 alloc,
@@ -229,9 +230,7 @@ pub fn answer(
                 first,
                 second,
                 third,
-                Draw::Uniform,
-                &generator,
-                runs,
+                &one_run(&generator),
                 &mut Nobody,
                 writer,
             )

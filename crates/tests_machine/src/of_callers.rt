@@ -2,7 +2,7 @@
 
 use crate::given::NoProgress;
 use callers::{Queue, QueueKind, check_callers};
-use drawn_runs::{Draw, Runs};
+use drawn_runs::{Draw, Runs, Sample};
 use litmus::Test;
 use rand_core::SeedableRng;
 use rand_pcg::Pcg32;
@@ -109,23 +109,18 @@ fn answer<T: Threads + Sync>(
     queue: Queue,
     jobs: u32,
 ) -> Result<(String, bool), AllocError> {
-    let runs = Runs {
-        skip: 7,
-        number: 20,
-        length: 80,
-        jobs,
-    };
     let generator = Pcg32::seed_from_u64(1);
-    check_callers::<4, 1024, _, _, _>(
-        rt,
-        alloc,
-        test,
-        queue,
-        Draw::Uniform,
-        &generator,
-        runs,
-        &mut NoProgress,
-    )
+    let sample = Sample {
+        draw: Draw::Uniform,
+        generator: &generator,
+        runs: Runs {
+            skip: 7,
+            number: 20,
+            length: 80,
+            jobs,
+        },
+    };
+    check_callers::<4, 1024, _, _, _>(rt, alloc, test, queue, &sample, &mut NoProgress)
 }
 
 #[test]

@@ -1,7 +1,7 @@
 //! The crate `ownership_runs`.
 
 use crate::given::{NoProgress, amo, load, store};
-use drawn_runs::{Draw, Runs};
+use drawn_runs::{Draw, Runs, Sample};
 use judged_runs::Told;
 use litmus::Test;
 use ownership_runs::{Counts, Moved, Owned, Violation, check_runs, first_violation};
@@ -157,13 +157,17 @@ fn told<T: Threads + Sync>(
     test: &Test,
     draw: Draw,
 ) -> Result<Told<Moved, Violation>, AllocError> {
-    let runs = Runs {
-        skip: 3,
-        number: 20,
-        length: 400,
-        jobs: 2,
-    };
     let generator = Pcg32::seed_from_u64(1);
+    let sample = Sample {
+        draw,
+        generator: &generator,
+        runs: Runs {
+            skip: 3,
+            number: 20,
+            length: 400,
+            jobs: 2,
+        },
+    };
     let opening = test.opening(alloc)?;
     check_runs::<4, 1024, _, _, _>(
         rt,
@@ -171,9 +175,7 @@ fn told<T: Threads + Sync>(
         &opening,
         &WORDS,
         counts(0, 0),
-        draw,
-        &generator,
-        runs,
+        &sample,
         &mut NoProgress,
     )
 }

@@ -2,9 +2,10 @@
 
 use crate::given::{A0, A1, L0, L1, store_buffering};
 use hart::status::Status;
-use states::{Draft, Keys, Layout, Parts, States};
+use states::States;
 use std::process::Abort;
 use step_machine::{Event, MachineState};
+use surveys::{Draft, Keys, Layout, Parts};
 
 /// Store buffering at its opening.
 fn machine(rt: &(impl Abort + AllocGlobal)) -> MachineState<4, 4096> {
@@ -22,7 +23,7 @@ fn run(rt: &impl Abort, machine: &mut MachineState<4, 4096>, events: &[Event]) {
 #[test]
 fn a_position_keeps_its_number_whatever_led_there(rt: HostRuntime) {
     let mut machine = machine(&rt);
-    let mut states = States::new(rt.alloc(), &machine).expect(&rt, "memory");
+    let mut states = States::new(rt.alloc());
     assert_same!(rt; states.len(), 0);
     assert_same!(rt; states.number(&machine).expect(&rt, "memory"), 0);
     run(&rt, &mut machine, &[A0, A1]);
@@ -39,14 +40,13 @@ fn a_position_keeps_its_number_whatever_led_there(rt: HostRuntime) {
 #[test]
 fn a_machine_put_back_goes_on_from_there(rt: HostRuntime) {
     let mut machine = machine(&rt);
-    let mut states = States::new(rt.alloc(), &machine).expect(&rt, "memory");
+    let mut states = States::new(rt.alloc());
     run(&rt, &mut machine, &[A0, A1, L1]);
     let there = states.number(&machine).expect(&rt, "memory");
+    let mut words = Vec::new(rt.alloc());
+    machine.pack(&mut words).expect(&rt, "memory");
     run(&rt, &mut machine, &[A0, A1, L0]);
     let end = states.number(&machine).expect(&rt, "memory");
-    assert!(rt; there < states.len());
-    let mut words = Vec::new(rt.alloc());
-    states.words_into(there, &mut words).expect(&rt, "memory");
     machine.unpack(&words);
     assert_same!(rt; states.number(&machine).expect(&rt, "memory"), there);
     assert!(rt; machine.harts() == 2);

@@ -5,7 +5,6 @@ use Rattle.rand_core.specs.Stream.{Stream}
 use Rattle.rand_core.specs.Steps.{stream_of, steps_u32}
 use Rattle.rand_core.specs.Pcg32Seed.{pcg32_seed}
 use Rattle.rand_pcg.specs.Pcg.{pcg32, pcg32_of_seed}
-use Rattle.recorder.specs.Drawing.{left_after}
 use Rattle.engine_support.specs.declared.fault.Fault.{Fault}
 use Rattle.engine_support.specs.declared.fault.Fault.TheVariants.{Refused}
 use Rattle.engine_support.specs.declared.fault.Refusal.{Refusal}
@@ -30,7 +29,6 @@ use Rattle.run_engines.specs.Replay.{IsReplayAnswer}
 use Rattle.debugger.specs.Transcripts.{EndsInteractive, IsDebugAnswer, IsDebugFront, IsDebugSome, OnStopped, OnUnwritten}
 use Rattle.sampling.specs.Outcomes.{IsTryAnswer}
 use Rattle.certifying.specs.Answers.{IsQueueAnswer}
-use Rattle.certifying.specs.Trials.{runs_by}
 use Rattle.callers.specs.Answers.{IsCallersAnswer}
 use Rattle.callers.specs.declared.queue.Queue.{Queue}
 use Rattle.callers.specs.declared.queue.QueueKind.{QueueKind}
@@ -40,12 +38,13 @@ use Rattle.poll_close.specs.Places.{layout_of}
 use Rattle.poll_close.specs.declared.place.BlockPlace.{BlockPlace}
 use Rattle.drawn_runs.specs.declared.Runs.{Runs}
 use Rattle.drawn_runs.specs.declared.draws.Draw.{Draw}
+use Rattle.drawn_runs.specs.Samples.{DrawnRuns, runs_drawn}
 use Rattle.channel_engines.specs.Channels.{IsChannelAnswer}
 use Rattle.threading.specs.Threads.{IsThreadsAnswer}
 use Rattle.channel_engines.specs.UserChannels.{IsUserAnswer}
 use Rattle.channel_engines.specs.Programs.{programs}
 use Rattle.engine_support.specs.declared.fault.Role.TheVariants.{Sender, Receiver}
-use Rattle.channel_engines.specs.Rings.{Draws, draws, IsRingAnswer}
+use Rattle.channel_engines.specs.Rings.{IsRingAnswer}
 use Rattle.poll_close.specs.Laws.{Ring as RingTables}
 use Rattle.lamport_ring.specs.Listing.{lamport}
 use Rattle.fastforward.specs.Listing.{fastforward}
@@ -77,9 +76,9 @@ stores_of Sixteen = 16
 abbrev pub drawn_from : (seed : ℕ) → Stream
 drawn_from seed = stream_of (steps_u32 pcg32) (pcg32_of_seed (pcg32_seed 16 seed))
 
--- the runs of a channel at this place that the generator of this seed draws, with buffers of B stores
-abbrev pub ring_draws : (B seed : ℕ) → Draw → Runs → BlockPlace → Draws
-ring_draws B seed draw runs place = draws B WORDS place draw (drawn_from seed) runs
+-- the runs that it draws, with buffers of B stores
+abbrev pub runs_from : (B seed : ℕ) → Draw → Runs → DrawnRuns
+runs_from B seed draw runs = runs_drawn B WORDS draw (drawn_from seed) runs
 
 -- the tables and the least size of the rings of a kind
 abbrev pub tables_of : RingKind → RingTables
@@ -155,10 +154,10 @@ Does B (Machine Check) result given = DoneAlong good_exit (IsCheckAnswer B WORDS
 Does B (Machine Debug) result given = DoneAlong done_exit (IsDebugAnswer B WORDS given.commands given.first given.second)
     (λ out. IsDebugFront B WORDS given.commands given.first given.second (Ok (out, tt)))
     (λ out. IsDebugSome B WORDS given.commands given.first given.second (Ok (out, tt))) result
-Does B (Machine (Try seed draw runs unfinished)) result given = Done good_exit
-    (IsTryAnswer B WORDS (left_of unfinished) draw (left_after (runs.skip * runs.length) (drawn_from seed)) runs.number runs.length given.first) result
-Does B (Machine (Callers seed draw runs queue)) result given = Done good_exit
-    (IsCallersAnswer B WORDS (queue_of queue) draw (left_after (runs.skip * runs.length) (drawn_from seed)) runs.number runs.length given.first) result
+Does B (Machine (Try seed draw runs unfinished)) result given =
+    Done good_exit (IsTryAnswer (runs_from B seed draw runs) (left_of unfinished) given.first) result
+Does B (Machine (Callers seed draw runs queue)) result given =
+    Done good_exit (IsCallersAnswer (runs_from B seed draw runs) (queue_of queue) given.first) result
 Does B (Machine (Channel ring place finish)) result given =
     Done done_exit (IsChannelAnswer (tables_of ring) B WORDS (layout_of place []) finish given.first given.second) result
 Does B (Find states) result given = Done found_exit (IsFindAnswer B WORDS (max states 1) given.first) result
@@ -166,9 +165,9 @@ Does B (Threads turns) result given = Done verdict_exit (IsThreadsAnswer B WORDS
 Does B (UserChannel place) result given =
     Done done_exit (IsUserAnswer B WORDS (layout_of place []) given.first given.second given.third given.fourth) result
 Does B (Ring seed draw runs place) result given =
-    Done good_exit (IsRingAnswer (ring_draws B seed draw runs place) given.first given.second given.third) result
-Does B (OfQueues seed draw runs) result given = Done judgement_exit (IsQueueAnswer
-    (runs_by B WORDS draw (left_after (runs.skip * runs.length) (drawn_from seed)) runs.number runs.length) given.first given.second) result
+    Done good_exit (IsRingAnswer (runs_from B seed draw runs) place given.first given.second given.third) result
+Does B (OfQueues seed draw runs) result given =
+    Done judgement_exit (IsQueueAnswer (runs_from B seed draw runs) given.first given.second) result
 
 -- the greatest exit status of a command that doesn't fail
 abbrev pub greatest_status : Command → ℕ

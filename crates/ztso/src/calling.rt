@@ -1,18 +1,16 @@
 //! What is asked of the callers of a queue's functions.
 
-ghost use Rattle.std.specs.Prelude.{◌≡◌, ◌≤◌, ◌*◌};
-ghost use Rattle.recorder.specs.Drawing.{left_after};
+ghost use Rattle.std.specs.Prelude.{◌≡◌, ◌≤◌};
 ghost use Rattle.engine_support.specs.Engines.{Ends};
 ghost use Rattle.callers.specs.Answers.{IsCallersAnswer};
-ghost use Rattle.ztso.specs.Work.{drawn_from, queue_of};
-ghost use Rattle.ztso.specs.declared.work.TheConstants.{WORDS};
+ghost use Rattle.ztso.specs.Work.{queue_of, runs_from};
 
 use crate::work::WORDS;
 use callers::{Queue, QueueKind, callers_engine};
 use command_line::job;
 use command_line::job::CalledQueue;
 use drawn_runs::progress::Progress;
-use drawn_runs::{Draw, Runs};
+use drawn_runs::{Draw, Runs, Sample};
 use engine_support::fault::Fault;
 use rand_core::SeedableRng;
 use rand_pcg::Lcg64Xsh32;
@@ -59,18 +57,20 @@ pub fn call_drawn<const B: usize, F: Read, W: Write, T: Threads + Sync, P: Progr
 ) -> Result<bool, Fault>
     requires some_capacity { 1 ≤ B }
     requires capacity { B ≤ 64 }
-    ensures { Ends (IsCallersAnswer B WORDS (queue_of called) draw (left_after (runs.skip * runs.length) (drawn_from seed)) runs.number runs.length
-        (F.remaining file.old)) result W.contents writer.old writer.new }
+    ensures { Ends (IsCallersAnswer (runs_from B seed draw runs) (queue_of called) (F.remaining file.old)) result W.contents writer.old writer.new }
 {
     let generator = Lcg64Xsh32::seed_from_u64(seed);
+    let sample = Sample {
+        draw,
+        generator: &generator,
+        runs,
+    };
     callers_engine::<B, WORDS, _, _, _, _, _>(
         rt,
         alloc,
         file,
         queue_of(called),
-        draw,
-        &generator,
-        runs,
+        &sample,
         progress,
         writer,
     )

@@ -1,19 +1,16 @@
 //! What is asked of a certificate of queues.
 
-ghost use Rattle.std.specs.Prelude.{◌≡◌, ◌≤◌, ◌*◌};
-ghost use Rattle.recorder.specs.Drawing.{left_after};
+ghost use Rattle.std.specs.Prelude.{◌≡◌, ◌≤◌};
 ghost use Rattle.engine_support.specs.Engines.{Ends};
 ghost use Rattle.engine_support.specs.Inputs.{IsRefused};
 ghost use Rattle.engine_support.specs.Tests.{tests};
 ghost use Rattle.certifying.specs.Answers.{IsQueueAnswer};
-ghost use Rattle.certifying.specs.Trials.{runs_by};
-ghost use Rattle.ztso.specs.Work.{drawn_from};
-ghost use Rattle.ztso.specs.declared.work.TheConstants.{WORDS};
+ghost use Rattle.ztso.specs.Work.{runs_from};
 
 use crate::work::WORDS;
 use certifying::{Judgement, queue_engine};
 use drawn_runs::progress::Progress;
-use drawn_runs::{Draw, Runs};
+use drawn_runs::{Draw, Runs, Sample};
 use engine_support::fault::Fault;
 use rand_core::SeedableRng;
 use rand_pcg::Lcg64Xsh32;
@@ -42,20 +39,22 @@ pub fn judge_certificate<
 ) -> Result<Judgement, Fault>
     requires some_capacity { 1 ≤ B }
     requires capacity { B ≤ 64 }
-    ensures ends { Ends (IsQueueAnswer
-        (runs_by B WORDS draw (left_after (runs.skip * runs.length) (drawn_from seed)) runs.number runs.length)
-        (F.remaining file.old) (C.remaining certificate.old)) result W.contents writer.old writer.new }
+    ensures ends { Ends (IsQueueAnswer (runs_from B seed draw runs) (F.remaining file.old) (C.remaining certificate.old)) result
+        W.contents writer.old writer.new }
     ensures unread { IsRefused tests (F.remaining file.old) → certificate.new ≡ certificate.old }
 {
     let generator = Lcg64Xsh32::seed_from_u64(seed);
+    let sample = Sample {
+        draw,
+        generator: &generator,
+        runs,
+    };
     queue_engine::<B, WORDS, _, _, _, _, _, _>(
         rt,
         alloc,
         file,
         certificate,
-        draw,
-        &generator,
-        runs,
+        &sample,
         progress,
         writer,
     )

@@ -1,12 +1,11 @@
 //! Which engine does a job.
 
-ghost use Rattle.std.specs.Prelude.{◌≡◌, ◌⊎◌, ℕ, ◌≤◌, ◌*◌, List, [], ◌∷◌, max, IfOk, Ok};
+ghost use Rattle.std.specs.Prelude.{◌≡◌, ◌⊎◌, ℕ, ◌≤◌, List, [], ◌∷◌, max, IfOk, Ok};
 ghost use Rattle.std.specs.Io.KnownBytes.{Appends};
 ghost use Rattle.ztso.specs.declared.work.TheConstants.{WORDS};
 ghost use Rattle.command_line.specs.declared.job.Command.TheVariants.{Code, Machine};
-ghost use Rattle.ztso.specs.Work.{Does, LeavesCommands, LeavesUnread, drawn_from, ring_draws, form_of, greatest_status, left_of};
+ghost use Rattle.ztso.specs.Work.{Does, LeavesCommands, LeavesUnread, form_of, greatest_status, left_of, runs_from};
 ghost use Rattle.ztso.specs.Work.{refusals, stores_of, tables_of};
-ghost use Rattle.recorder.specs.Drawing.{left_after};
 ghost use Rattle.poll_close.specs.Places.{layout_of};
 ghost use Rattle.channel_engines.specs.Channels.{IsChannelAnswer};
 ghost use Rattle.engine_support.specs.Engines.{Ends};
@@ -34,7 +33,7 @@ use code_engines::steps::steps_engine;
 use command_line::job::{Capacity, CodeCommand, Command, MachineCommand, Ring};
 use debugger::debug::debug_engine;
 use drawn_runs::progress::Progress;
-use drawn_runs::{Draw, Runs};
+use drawn_runs::{Draw, Runs, Sample};
 use engine_support::fault::Fault;
 use fastforward::FastForward;
 use finding::{Found, SearchProgress, find_engine};
@@ -137,14 +136,16 @@ fn try_drawn<const B: usize, F: Read, W: Write, T: Threads + Sync, P: Progress>(
 ) -> Result<bool, Fault>
     requires some_capacity { 1 ≤ B }
     requires capacity { B ≤ 64 }
-    ensures { Ends (IsTryAnswer B WORDS (left_of unfinished) draw (left_after (runs.skip * runs.length) (drawn_from seed)) runs.number runs.length
-        (F.remaining file.old)) result W.contents writer.old writer.new }
+    ensures { Ends (IsTryAnswer (runs_from B seed draw runs) (left_of unfinished) (F.remaining file.old)) result W.contents writer.old writer.new }
 {
     let generator = Lcg64Xsh32::seed_from_u64(seed);
+    let sample = Sample {
+        draw,
+        generator: &generator,
+        runs,
+    };
     let left = left_of(unfinished);
-    try_engine::<B, WORDS, _, _, _, _, _>(
-        rt, alloc, file, left, draw, &generator, runs, progress, writer,
-    )
+    try_engine::<B, WORDS, _, _, _, _, _>(rt, alloc, file, left, &sample, progress, writer)
 }
 
 /// Runs a channel over lists of words by a schedule, through rings of this kind at this place, and then by a
@@ -235,15 +236,20 @@ fn run_user_ring<
 ) -> Result<bool, Fault>
     requires some_capacity { 1 ≤ B }
     requires capacity { B ≤ 64 }
-    ensures ends { Ends (IsRingAnswer (ring_draws B seed draw runs place) (S.remaining sender.old) (R.remaining receiver.old) (L.remaining lists.old))
+    ensures ends { Ends (IsRingAnswer (runs_from B seed draw runs) place (S.remaining sender.old) (R.remaining receiver.old) (L.remaining lists.old))
         result W.contents writer.old writer.new }
     ensures unread { IsRefused (programs Sender) (S.remaining sender.old) → receiver.new ≡ receiver.old }
     ensures unread_lists { IsRefused (programs Sender) (S.remaining sender.old) ⊎ IsRefused (programs Receiver) (R.remaining receiver.old)
         → lists.new ≡ lists.old }
 {
     let generator = Lcg64Xsh32::seed_from_u64(seed);
+    let sample = Sample {
+        draw,
+        generator: &generator,
+        runs,
+    };
     ring_engine::<B, WORDS, _, _, _, _, _, _, _>(
-        rt, alloc, place, sender, receiver, lists, draw, &generator, runs, progress, writer,
+        rt, alloc, place, sender, receiver, lists, &sample, progress, writer,
     )
 }
 

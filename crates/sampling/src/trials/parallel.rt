@@ -2,7 +2,8 @@
 
 ghost use Rattle.std.specs.Prelude.{◌≡◌, ◌≤◌, List, Some, IfOk};
 ghost use Rattle.engine_support.specs.Counting.{rows_in};
-ghost use Rattle.sampling.specs.Trials.{Trial, AreTrials};
+ghost use Rattle.drawn_runs.specs.Samples.{runs_of};
+ghost use Rattle.sampling.specs.Trials.{Trial, AreDrawnTrials};
 ghost use Rattle.sampling.specs.inner.Tallies.{IsTallyOf, name_of_run};
 ghost use Rattle.litmus.specs.declared.litmus_test.TheConstants.{MAX_LOCATIONS};
 
@@ -11,7 +12,7 @@ use crate::trials::drawn_run::DrawnRun;
 use crate::trials::tally::Tally;
 use drawn_runs::parallel::{Trials, in_rounds};
 use drawn_runs::progress::Progress;
-use drawn_runs::{Draw, Jump};
+use drawn_runs::{Draw, Jump, Runs, Sample};
 use litmus::Test;
 use std::alloc::{AllocError, Global};
 use std::thread::Threads;
@@ -72,9 +73,8 @@ impl<'a, const B: usize, const M: usize, G: Jump + Send + Sync + Drop> Trials
     }
 }
 
-/// The tally of `runs` runs, each by `length` events that the generator draws so, spread over rounds and over `jobs`
-/// threads; no job is one. It depends on neither. The progress learns how far the runs are, which harts are stopped at
-/// their ends, and that they ended.
+/// The tally of a sample's runs, spread over rounds and over its jobs. It depends on neither. The progress learns how far the
+/// runs are, which harts are stopped at their ends, and that they ended.
 pub fn tally_in_rounds<
     const B: usize,
     const M: usize,
@@ -85,11 +85,7 @@ pub fn tally_in_rounds<
     rt: &T,
     alloc: Global,
     test: &Test,
-    draw: Draw,
-    generator: &G,
-    runs: u32,
-    length: u32,
-    jobs: u32,
+    sample: &Sample<'_, G>,
     progress: &mut P,
 ) -> Result<Tally<DrawnRun<G>>, AllocError>
     requires some_capacity { 1 ≤ B }
@@ -97,15 +93,22 @@ pub fn tally_in_rounds<
     requires words { MAX_LOCATIONS ≤ M }
     requires size { M ≤ 65536 }
     ensures { IfOk result (λ tally. (trials : List Trial)
-        × AreTrials B M test.now draw (G.Rng.stream generator.now) runs length trials × IsTallyOf (name_of_run G.Rng.stream) trials tally) }
+        × AreDrawnTrials (runs_of B M G.Rng.stream sample.now) test.now trials × IsTallyOf (name_of_run G.Rng.stream) trials tally) }
 {
+    let Runs {
+        skip,
+        number,
+        length,
+        jobs,
+    } = sample.runs;
+    let start = sample.generator.ahead(skip, length)?;
     let trials = TestRuns::<B, M, G> {
         test,
-        draw,
-        generator,
+        draw: sample.draw,
+        generator: &start,
         size: length,
     };
-    let tallied = in_rounds(rt, alloc, &trials, runs, jobs, progress);
+    let tallied = in_rounds(rt, alloc, &trials, number, jobs, progress);
     if let Ok(tally) = &tallied {
         tally.stops.tell(progress);
     }

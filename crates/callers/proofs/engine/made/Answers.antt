@@ -1,5 +1,4 @@
-use Rattle.std.proofs.Common.{◌*◌}
-use Rattle.recorder.specs.Drawing.{left_after}
+use Rattle.drawn_runs.specs.Samples.{runs_of}
 use Rattle.litmus.specs.LitmusTests.{LitmusTest}
 use Rattle.engine_support.specs.Tests.{tests}
 use Rattle.engine_support.specs.inner.Making.{text_and_value}
@@ -10,9 +9,8 @@ use Rattle.callers.proofs.engine.made.Goals as goal
 pub returns : goal.returns
 returns g c =
     read_after tests _ _ text_and_value c.answer.result c.in_ok-test.test c.in_ok-test.ensures.test
-    (made_after (IsCallersGiven g.row.B g.row.M c.args.queue c.args.draw
-    (left_after (c.args.runs.skip * c.args.runs.length) (g.G.Rng.stream c.args.generator.now))
-    c.args.runs.number c.args.runs.length c.in_ok-test.test) text_and_value c.answer.result c.answer.ensures)
+    (made_after (IsCallersGiven (runs_of g.row.B g.row.M g.G.Rng.stream c.args.sample.now) c.args.queue c.in_ok-test.test) text_and_value
+    c.answer.result c.answer.ensures)
 
 pub returns-in_err-test : goal.returns-in_err-test
 returns-in_err-test g c =

@@ -1,5 +1,4 @@
-use Rattle.std.proofs.Common.{◌*◌}
-use Rattle.recorder.specs.Drawing.{left_after}
+use Rattle.drawn_runs.specs.Samples.{runs_of}
 use Rattle.litmus.specs.LitmusTests.{LitmusTest}
 use Rattle.queue_certificates.specs.Certificates.{QueueCertificate}
 use Rattle.engine_support.specs.Tests.{tests}
@@ -7,7 +6,6 @@ use Rattle.engine_support.specs.inner.Making.{text_and_value}
 use Rattle.engine_support.proofs.InputLaws.{made_after, read_after, refused_after}
 use Rattle.certifying.specs.Answers.{IsCertificateAnswer}
 use Rattle.certifying.specs.Inputs.{certificates}
-use Rattle.certifying.specs.Trials.{runs_by}
 use Rattle.certifying.proofs.answering.made.Goals as goal
 
 pub returns-in_err-test-clause-made : goal.returns-in_err-test-clause-made
@@ -28,6 +26,5 @@ returns-clause-made g c =
     let listed = c.in_ok-listed.listed in
     read_after tests _ _ text_and_value c.answer.result test c.in_ok-test.ensures.test
     (read_after certificates _ _ text_and_value c.answer.result listed c.in_ok-listed.ensures
-    (made_after (IsCertificateAnswer
-    (runs_by g.row.B g.row.M c.args.draw (left_after (c.args.runs.skip * c.args.runs.length) (g.G.Rng.stream c.args.generator.now))
-    c.args.runs.number c.args.runs.length) test.opening listed) text_and_value c.answer.result c.answer.ensures))
+    (made_after (IsCertificateAnswer (runs_of g.row.B g.row.M g.G.Rng.stream c.args.sample.now) test.opening listed) text_and_value
+    c.answer.result c.answer.ensures))

@@ -1,33 +1,29 @@
-use Rattle.std.proofs.Common.{rules, ℕ, ◌≡◌, ◌<◌, ◌+◌, ◌*◌, ◌∷◌, [], List, length, sym, ap, subst, ◌∙◌, arith}
+use Rattle.std.proofs.Common.{rules, ℕ, ◌≡◌, ◌<◌, ◌+◌, ◌∷◌, [], List, length, sym, ap, subst, ◌∙◌, arith}
 use Rattle.std.proofs.lemmas.List.{length-append}
 use Rattle.queue_parties.specs.Parties.{all_at}
 use Rattle.queue_certificates.specs.Certificates.{queue_at, start_at}
-use Rattle.recorder.specs.Drawing.{left_after}
+use Rattle.drawn_runs.specs.Samples.{runs_of}
 use Rattle.ownership_runs.specs.declared.runs.Moved.{Moved}
-use Rattle.certifying.specs.Trials.{AllKeep, IsToldOf, QueuesKeep, runs_by, schedule_in}
+use Rattle.certifying.specs.Trials.{AllKeep, IsToldOf, QueuesKeep, trial_schedule}
 use Rattle.certifying.proofs.DrawnLaws.{is-broken, keep-more}
 use Rattle.certifying.proofs.trials.trial_of.Goals as goal
 
 pub returns-in-Flawed : goal.returns-in-Flawed
 returns-in-Flawed g c =
-    let d =
-    runs_by g.row.B g.row.M c.args.draw (left_after (c.args.runs.skip * c.args.runs.length) (g.G.Rng.stream c.args.generator.now))
-    c.args.runs.number c.args.runs.length in
+    let d = runs_of g.row.B g.row.M g.G.Rng.stream c.args.sample.now in
     let o = c.args.opening.now in
     let listed = c.args.certificate.now in
     let i = c.loop-index.index in
     let less : i < length listed.queues = search rules in
     let told = subst (IsToldOf d o listed i) c.in-Flawed.is c.in_ok-moved.ensures in
-    let ends = c.laws_of_judged_runs.ensures.ends g.row.B g.row.M o (queue_at listed i) (all_at (start_at listed i)) (schedule_in d o) c.args.runs.number
+    let ends = c.laws_of_judged_runs.ensures.ends g.row.B g.row.M o (queue_at listed i) (all_at (start_at listed i)) (trial_schedule d o) d.number
     c.in-Flawed.part.items c.in-Flawed.flaw told in
     is-broken d o listed i c.in-Flawed.part.items c.in-Flawed.flaw c.loop-index.kept.items c.in_ok-broken_by-in-Flawed.field-0
     c.in_ok-broken_by-in-Flawed.ensures less c.loop-index.invariant.count c.loop-index.invariant.kept told ends
 
 pub loop-index-preserved : goal.loop-index-preserved
 loop-index-preserved g c =
-    let d =
-    runs_by g.row.B g.row.M c.args.draw (left_after (c.args.runs.skip * c.args.runs.length) (g.G.Rng.stream c.args.generator.now))
-    c.args.runs.number c.args.runs.length in
+    let d = runs_of g.row.B g.row.M g.G.Rng.stream c.args.sample.now in
     let o = c.args.opening.now in
     let listed = c.args.certificate.now in
     let items = c.loop-index.kept.items in

@@ -1,6 +1,7 @@
 use Rattle.std.proofs.Common.{ℕ, Bool, List, Result, Err, refl}
 use Rattle.std.specs.Global.{Global, Vec}
 use Rattle.std.specs.declared.string.String.{String}
+use Rattle.drawn_runs.specs.Samples.{runs_of}
 use Rattle.engine_support.specs.declared.fault.Fault.{Fault}
 use Rattle.engine_support.specs.declared.fault.Role.TheVariants.{Sender, Receiver}
 use Rattle.engine_support.specs.Inputs.After.{read}
@@ -8,7 +9,6 @@ use Rattle.engine_support.specs.inner.Making.{text_and_value}
 use Rattle.engine_support.proofs.InputLaws.{read_after, refused_after}
 use Rattle.channel_engines.specs.Lists.{list_texts}
 use Rattle.channel_engines.specs.Programs.{programs}
-use Rattle.channel_engines.specs.Rings.{draws}
 use Rattle.channel_engines.proofs.RingLaws.{not_drawn}
 use Rattle.channel_engines.proofs.ring.made.Goals as goal
 
@@ -50,5 +50,5 @@ returns-clause-made g c =
     read_after (programs Sender) _ _ text_and_value failed c.in_ok-sender.sender.items c.in_ok-sender.ensures.program
     (read_after (programs Receiver) _ _ text_and_value failed c.in_ok-receiver.receiver.items c.in_ok-receiver.ensures.program
     (read_after list_texts _ _ text_and_value failed _ c.in_ok-lists.ensures
-    (not_drawn (draws g.row.B g.row.M c.args.place c.args.draw (g.G.Rng.stream c.args.generator.now) c.args.runs) _ _ _ text_and_value c.in-Err.why
+    (not_drawn (runs_of g.row.B g.row.M g.G.Rng.stream c.args.sample.now) c.args.place _ _ _ text_and_value c.in-Err.why
     c.channel_fault.result c.channel_fault.ensures c.in-Err.ensures.refused)))

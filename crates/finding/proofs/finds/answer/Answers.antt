@@ -2,7 +2,7 @@ use Rattle.std.proofs.Common.{◌≡◌, ◌∙◌, ◌<◌, ℕ, List, Some, le
 use Rattle.std.specs.Prelude.{IsTrue}
 use Rattle.step_machine.specs.declared.events.Event.{Event}
 use Rattle.recorder.specs.Writing.{canon}
-use Rattle.finding.specs.Find.{Shows}
+use Rattle.surveys.specs.Wanted.{Shows}
 use Rattle.finding.proofs.Witnesses.{witness_of}
 use Rattle.finding.proofs.finds.answer.Goals as goal
 

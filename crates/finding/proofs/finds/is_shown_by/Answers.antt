@@ -1,7 +1,7 @@
 use Rattle.std.proofs.Common.{◌∙◌, ap, subst}
 use Rattle.step_machine.specs.History.{History, at_opening}
 use Rattle.step_machine.specs.Runs.{Run, RunFrom}
-use Rattle.finding.specs.Find.{EndsAsWanted}
+use Rattle.surveys.specs.Wanted.{EndsAsWanted}
 use Rattle.finding.proofs.finds.is_shown_by.Goals as goal
 
 pub returns-in-Ok : goal.returns-in-Ok

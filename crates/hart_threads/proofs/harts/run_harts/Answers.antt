@@ -1,6 +1,6 @@
 -- What is known of the seats that come back, and so of the record, by those that were given.
 use Rattle.std.proofs.Common.{◌≡◌, inr, ℕ, List, length, subst, sym}
-use Rattle.std.specs.Prelude.{map}
+use Rattle.std.specs.Prelude.{map, Result, Err}
 use Rattle.std.specs.List.{AllZip}
 use Rattle.std.proofs.lemmas.Result.{err_from_is_err_and}
 use Rattle.hart_threads.specs.Seats.{SeatView, Continues}
@@ -17,6 +17,22 @@ come_back : {X : Type 0} (seat : X → SeatView) (end : X → Ending) (calls : X
     → AllZip (λ s r. Ran unheld n s (end r) (calls r) (seat r)) given back → seats ≡ map seat back → AllZip (Continues n) given seats
 come_back seat end calls unheld n given seats back ran is =
     subst (AllZip (Continues n) given) (sym is) (came seat end calls unheld n given back ran)
+
+-- an error that is passed on in another result
+same_error : {T U E : Type 0} (r : Result U E) (e f g : E) → r ≡ Err e → e ≡ f → ◌≡◌ {A = Result T E} (Err f) (Err g) → r ≡ Err g
+same_error r e f g is from same = cc
+
+pub returns-in_err-back-clause-missing : goal.returns-in_err-back-clause-missing
+returns-in_err-back-clause-missing g c h first =
+    let p = err_from_is_err_and c.from_residual.result c.from_residual.ensures.1 in
+    same_error _ _ _ _ p.1 p.2 (c.in_err-back.ensures.missing h first)
+
+pub returns-in_err-back-clause-fault : goal.returns-in_err-back-clause-fault
+returns-in_err-back-clause-fault g c =
+    let p = err_from_is_err_and c.from_residual.result c.from_residual.ensures.1 in rw (p.1, p.2) c.in_err-back.ensures.fault
+
+pub returns-in_err-record-clause-missing : goal.returns-in_err-record-clause-missing
+returns-in_err-record-clause-missing g c h first = absurd (none_is_first _ h _ c.in_ok-back.ensures.complete first)
 
 pub returns-in_err-record-clause-fault : goal.returns-in_err-record-clause-fault
 returns-in_err-record-clause-fault g c =
@@ -51,6 +67,9 @@ returns-in-Some-clause-fault g c =
 
 pub returns-in-None-clause-missing : goal.returns-in-None-clause-missing
 returns-in-None-clause-missing g c h first = absurd (none_is_first _ h _ c.in_ok-back.ensures.complete first)
+
+pub returns-in-None-clause-record : goal.returns-in-None-clause-record
+returns-in-None-clause-record g c = c.in_ok-record.ensures.record
 
 pub returns-in-None-clause-merge : goal.returns-in-None-clause-merge
 returns-in-None-clause-merge g c =

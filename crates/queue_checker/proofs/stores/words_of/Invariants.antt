@@ -1,5 +1,0 @@
-use Rattle.std.proofs.Common.{◌≡◌, ◌^◌}
-use Rattle.queue_checker.proofs.stores.words_of.Given as goal
-
-abbrev pub invariant-loop-i : goal.invariant-loop-i
-invariant-loop-i l = l.count ≡ 256 ^ l.i

@@ -1,5 +1,0 @@
-use Rattle.states.proofs.FieldLaws.{number_read}
-use Rattle.states.proofs.layout.Field.number_in.Goals as goal
-
-pub returns : goal.returns
-returns c = number_read c.args.word c.args.self.shift c.args.self.width c.args.self.in_word c.args.self.few

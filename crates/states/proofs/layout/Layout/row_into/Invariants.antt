@@ -1,6 +1,0 @@
-use Rattle.std.proofs.Common.{◌≡◌, take}
-use Rattle.states.specs.Digits.{numbers_of_key}
-use Rattle.states.proofs.layout.Layout.row_into.Given as goal
-
-abbrev pub invariant-loop-place : goal.invariant-loop-place
-invariant-loop-place g l = l.row.items ≡ take l.place (numbers_of_key l.self l.key)

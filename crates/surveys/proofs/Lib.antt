@@ -1,0 +1,16 @@
+-- Lemmas.
+pub mod Compaction
+pub mod FieldLaws
+pub mod KeyLaws
+pub mod LayoutLaws
+pub mod LevelLaws
+pub mod NumberLaws
+pub mod PartLaws
+pub mod PartRows
+pub mod PartSteps
+pub mod PartTables
+pub mod PartWords
+pub mod RowLaws
+pub mod Shortest
+pub mod TreeLaws
+pub mod Zipped
