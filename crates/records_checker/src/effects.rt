@@ -59,6 +59,7 @@ fn filled_by(
         }
         Known::Any => Ok(Effect::Leaves),
         Known::IndexFor(_, _) => Ok(Effect::Leaves),
+        Known::SignedFor(_, _) => Ok(Effect::Leaves),
     }
 }
 

@@ -13,7 +13,7 @@ use Rattle.slot_queue.specs.Queues.{Queue, IsQueue, slot_of}
 use Rattle.queue_parties.specs.Parties.{the_sender, QueueCounts}
 use Rattle.slot_queue.specs.Ownership.{after_access}
 use Rattle.queue_certificates.specs.Forms.{Form, form_value, number, plus, times, is_same, most, fits_in, remainder, InRanges, Bounds}
-use Rattle.queue_certificates.specs.States.{KnownValue, any, linear, index_for, Share, Has, HasShare}
+use Rattle.queue_certificates.specs.States.{KnownValue, any, linear, index_for, signed_for, Share, Has, HasShare}
 use Rattle.queue_certificates.specs.Steps.{position_at, offset_at, is_slot, is_owned, misses}
 use Rattle.queue_certificates.proofs.Forms.{value-plus, value-times, value-number, same-value}
 use Rattle.queue_certificates.proofs.Bounds.{value-below, fits-below, value-remainder}
@@ -87,6 +87,7 @@ module _ (q : Queue) (is : IsQueue q) (c : QueueCounts) (xs : List ℕ) (s : Sha
       → Does q c (filled_by rs q s place width) (store (write a width v)) z
   does-fill any a width v at same = does-leave q c (store (write a width v)) z same
   does-fill (index_for i f) a width v at same = does-leave q c (store (write a width v)) z same
+  does-fill (signed_for i f) a width v at same = does-leave q c (store (write a width v)) z same
   does-fill (linear f) a width v at same = by (is_owned rs q s (linear f) width) refl
     where
       by : (t : Bool) → is_owned rs q s (linear f) width ≡ t

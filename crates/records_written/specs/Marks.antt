@@ -9,7 +9,7 @@ use Rattle.hart.specs.Effects.{store_width}
 use Rattle.step_machine.specs.History.{OpeningValue}
 use Rattle.slot_queue.specs.Queues.{Queue}
 use Rattle.queue_certificates.specs.Forms.{Form, Bounds, most}
-use Rattle.queue_certificates.specs.States.{KnownValue, any, linear, index_for, Share, no_share, KnownState}
+use Rattle.queue_certificates.specs.States.{KnownValue, any, linear, index_for, signed_for, Share, no_share, KnownState}
 use Rattle.queue_certificates.specs.Results.{bounds}
 use Rattle.queue_certificates.specs.Steps.{all_below, last_below, is_just, position_at, offset_at, is_owned, anywhere}
 use Rattle.queue_certificates.specs.Steps.{operand, address_value, addresses, is_own_index, instruction_at}
@@ -35,6 +35,7 @@ published_by d (Some n) = Some (if n == d.constant then Publishes n else Publish
 abbrev pub filled_by : List (Option ℕ) → Queue → Share → (place : KnownValue) → (width : ℕ) → Effect
 filled_by rs q s any width = Leaves
 filled_by rs q s (index_for i f) width = Leaves
+filled_by rs q s (signed_for i f) width = Leaves
 filled_by rs q s (linear f) width = if is_owned rs q s (linear f) width
     then Fills (position_at q s.own.constant f.constant) (offset_at q f.constant) width else Leaves
 
