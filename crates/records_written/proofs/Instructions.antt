@@ -1,0 +1,340 @@
+-- What an instruction of a queue's sender does to its count and to its slots: its effect.
+use Rattle.std.proofs.Common.{ℕ, ℤ, ◌+◌, ◌*◌, ◌/◌, ◌%◌, ◌<◌, ◌≤◌, ◌≡◌, ◌==◌, ◌&&◌, ◌||◌, if◌then◌else◌}
+use Rattle.std.proofs.Common.{Bool, true, false, Option, Some, None, List, length, get_or, refl, sym, ◌∙◌, ap, subst}
+use Rattle.std.specs.Prelude.{nat_lt, slice_index}
+use Rattle.std.specs.List.{slice_get}
+use Rattle.std.proofs.lemmas.Bool.{ltb-true}
+use Rattle.rv_decode.specs.Meaning.{meaning}
+use Rattle.rv_decode.specs.declared.instruction.Reg.{Reg}
+use Rattle.rv_decode.specs.declared.instruction.StoreOp.{StoreOp}
+use Rattle.rv_decode.specs.declared.instruction.StoreOp.TheVariants as store_op
+use Rattle.rv_decode.specs.declared.instruction.AmoOp.{AmoOp}
+use Rattle.rv_decode.specs.declared.instruction.Instr.{Instr}
+use Rattle.rv_decode.specs.declared.instruction.Instr.TheVariants.{Lui, Auipc, Jal, Jalr, Branch, Load, Store}
+use Rattle.rv_decode.specs.declared.instruction.Instr.TheVariants.{Immediate, Shift, Register, Fence, FenceTso, Ecall}
+use Rattle.rv_decode.specs.declared.instruction.Instr.TheVariants.{Ebreak, Amo}
+use Rattle.hart.specs.State.{HartState}
+use Rattle.hart.specs.Steps.{need_of, need_for, advanced, jump_need, access_need, call_need}
+use Rattle.hart.specs.Effects.{register_value, address, is_taken, stored, load_width, store_width, updated}
+use Rattle.hart.specs.declared.status.Stop.{Stop}
+use Rattle.hart.specs.declared.status.Stop.TheVariants as stop
+use Rattle.hart.specs.declared.status.Status.TheVariants as status
+use Rattle.hart.specs.declared.need.Report.TheVariants as report
+use Rattle.hart.specs.declared.need.Need.{Need}
+use Rattle.hart.specs.declared.need.Need.TheVariants as need
+use Rattle.hart.proofs.Instructions.{IsAt, need_at, illegal, stopped}
+use Rattle.memory.specs.Writes.{write}
+use Rattle.step_machine.specs.declared.events.Entry.{Entry}
+use Rattle.step_machine.specs.History.{OpeningValue}
+use Rattle.step_machine.specs.Access.{store, exchange, access_of}
+use Rattle.step_machine.specs.Entries.{hart_of}
+use Rattle.step_machine.specs.Paths.{number_read, entry_of}
+use Rattle.slot_queue.specs.Queues.{Queue, IsQueue, TellsFull, least}
+use Rattle.queue_parties.specs.Parties.{the_sender, the_receiver, QueueCounts, known, with_known}
+use Rattle.slot_queue.specs.Ownership.{index, party_of, after_access}
+use Rattle.owned_run.specs.Certified.{View, AllCounts, ReadsFrom, Acts}
+use Rattle.queue_certificates.specs.Forms.{Form, form_value, most, Bounds}
+use Rattle.queue_certificates.specs.States.{KnownValue, no_share, KnownState, Has, HasShare, MeansAt}
+use Rattle.queue_certificates.specs.Results.{bounds}
+use Rattle.queue_certificates.specs.Steps.{all_below, last_below, is_just, anywhere, misses, is_off, register_at, operand, address_value, addresses}
+use Rattle.queue_certificates.specs.Steps.{is_own_index, value_loaded, updated_value, may_move, may_fill, may_store, leaves_words, shares_moved, moved_share}
+use Rattle.queue_certificates.specs.Steps.{store_by, exchange_by, exchanging, follow, instruction_at}
+use Rattle.queue_certificates.specs.Certificates.{QueueCertificate, queue_at, own_of}
+use Rattle.queue_certificates.proofs.Values.{has-bounds}
+use Rattle.queue_certificates.proofs.Forms.{value-plus}
+use Rattle.queue_certificates.proofs.States.{at-below}
+use Rattle.queue_certificates.proofs.Accesses.{just-is, hart-party}
+use Rattle.queue_certificates.proofs.Steps.{nobody_told, nothing_sent, no-code}
+use Rattle.queue_certificates.proofs.Steps as steps
+use Rattle.records_written.specs.declared.effect.Effect.{Effect}
+use Rattle.records_written.specs.declared.effect.Effect.TheVariants.{Leaves, Publishes, PublishesSome}
+use Rattle.records_written.specs.Marks.{published_by, filled_by, its_sender, moves_head, effect_at, effect_of}
+use Rattle.records_written.proofs.Marked.{left-of, right-of}
+use Rattle.records_written.proofs.Effects.{published_then, Does, does-nothing, does-leave, does-fill, does-move, does-exchange}
+
+-- ---- an instruction that stores nothing
+
+abbrev StoresNothing : Need → Type 0
+StoresNothing (need.Store a width w) = ⊥
+StoresNothing (need.Amo a op w) = ⊥
+StoresNothing n = Unit {0}
+
+either-stores : (t : Bool) (n m : Need) → StoresNothing n → StoresNothing m → StoresNothing (if t then n else m)
+either-stores true n m one two = one
+either-stores false n m one two = two
+
+jump-stores : (target : ℕ) → StoresNothing (jump_need target)
+jump-stores target = either-stores (target % 4 == 0) need.Inner (need.Stop stop.MisalignedJump) tt tt
+
+access-stores : (words width a : ℕ) (n : Need) → StoresNothing n → StoresNothing (access_need words width a n)
+access-stores words width a n none = either-stores (a % width == 0) (if nat_lt a (4 * words) then n else need.Stop stop.OutOfRange)
+    (need.Stop stop.Misaligned) (either-stores (nat_lt a (4 * words)) n (need.Stop stop.OutOfRange) none tt) tt
+
+kept-by : (q : Queue) (c : QueueCounts) (h v : ℕ) (n : Need) → StoresNothing n → published_then q c (access_of (entry_of h n v)) ≡ c.published
+kept-by q c h v (need.Store a width w) none = absurd none
+kept-by q c h v (need.Amo a op w) none = absurd none
+kept-by q c h v (need.Load a width) none = by (a == index q the_receiver && width == q.index_width)
+  where
+    by : (t : Bool) → (if t then with_known the_sender (least q (known the_sender c) v) c else c).published ≡ c.published
+    by true = refl
+    by false = refl
+kept-by q c h v (need.Report (report.Took i w)) none = refl
+kept-by q c h v (need.Report (report.Closed i)) none = refl
+kept-by q c h v n none = refl
+
+call-stores : (x inbox : List ℕ) → StoresNothing (call_need x inbox)
+call-stores x inbox = either-stores (slice_index x 17 == 1) (need.Next (slice_get inbox 0)) _ tt
+    (either-stores (slice_index x 17 == 2) (need.Report (report.Took (slice_index x 10) (slice_index x 11))) _ tt
+    (either-stores (slice_index x 17 == 3) (need.Report (report.Closed (slice_index x 10))) _ tt
+    (either-stores (slice_index x 17 == 93) need.Exit (need.Stop stop.UnknownCall) tt tt)))
+
+chosen : {A : Type 0} (t : Bool) (x y : A) → (if t then Some x else None) ≡ Some y → t ≡ true
+chosen true x y is = refl
+chosen false x y is = absurd (cc)
+
+module _ (M : ℕ) (o : OpeningValue) (c : QueueCertificate) (i : ℕ) (less : i < length c.queues) (xs : List ℕ)
+    (k : KnownState) (s : HartState) (m : View) (cs : AllCounts) (e : Entry)
+    (acts : Acts M o (length c.queues) (queue_at c) nobody_told nothing_sent (its_sender c i) s m cs e) (size : 32 ≤ length s.registers)
+    (fine : (j : ℕ) → j < length c.queues → IsQueue (queue_at c j) × TellsFull (queue_at c j) × ((queue_at c j).index_width ≤ 4))
+    (means : MeansAt (queue_at c) (length c.queues) (own_of c (its_sender c i)) (its_sender c i) xs k s m cs)
+    (past : (g : ℕ) → length c.harts ≤ g → length (own_of c g) ≡ 0) where
+  abbrev q : Queue
+  q = queue_at c i
+
+  abbrev h : ℕ
+  h = (queue_at c i).sender
+
+  has : HasShare (queue_at c i) the_sender (cs i) xs (get_or k.shares i no_share)
+  has = means.shares i less the_sender refl
+
+  -- what is known of a register, where an address points, which index is stored to, and what an AMO stores
+  abbrev held : Reg → KnownValue
+  held r = operand (queue_at c) (length c.queues) (own_of c) (length c.harts) h k r
+
+  abbrev place-of : Reg → ℤ → KnownValue
+  place-of r offset = address_value (queue_at c) (length c.queues) (own_of c) (length c.harts) h k r offset
+
+  abbrev around : Reg → ℤ → Bounds
+  around r offset = addresses (queue_at c) (length c.queues) (own_of c) (length c.harts) h k r offset
+
+  abbrev index-at : Bounds → (width : ℕ) → Option ℕ
+  index-at b width = last_below (length c.queues) (is_own_index (queue_at c) (length c.queues) (own_of c) (length c.harts) h b width)
+
+  abbrev updates : AmoOp → Bounds → Reg → KnownValue
+  updates op b r = updated_value (queue_at c) (length c.queues) (own_of c) (length c.harts) h k.ranges op
+      (value_loaded (queue_at c) (length c.queues) (own_of c) (length c.harts) h k b 4) (register_at k r)
+
+  operand-has : (r : Reg) → Has (queue_at c) xs (held r) (register_value s.registers r)
+  operand-has = steps.operand-has M o (queue_at c) (length c.queues) (own_of c) (length c.harts) h xs k s m cs e acts size fine means
+
+  -- ---- a store, of an instruction or of an AMO
+
+  module _ (d : Form) (op : StoreOp) (a x : ℕ) (vx place : KnownValue) (b : Bounds) (at : Has (queue_at c) xs place a) (low : b.low ≤ a)
+      (high : a ≤ b.high) (has-x : Has (queue_at c) xs vx x)
+      (may : all_below (length c.queues)
+      (may_store (queue_at c) (length c.queues) (own_of c) (length c.harts) h k d vx place b (store_width op)
+      (index-at b (store_width op))) ≡ true)
+      (apart : all_below (length c.harts) (leaves_words (queue_at c) (length c.queues) (own_of c) (length c.harts) h b (store_width op)) ≡ true) where
+    share : HasShare (queue_at c i) the_sender (after_access (queue_at c i) (Some the_sender) (store (write a (store_width op) (stored op x))) (cs i)) xs
+        (get_or (shares_moved (queue_at c) (length c.queues) (own_of c) (length c.harts) h k.shares d (index-at b (store_width op))) i no_share)
+    share =
+        (steps.party-store M o (queue_at c) (length c.queues) (own_of c) (length c.harts) h xs k s m cs e acts size fine
+        means d op a x vx place b (index-at b (store_width op)) at low high
+        has-x refl may apart past i less the_sender refl).share
+
+    stored-does : (f : Effect) (z : HartState) → effect_at c i k d place b (store_width op) ≡ Some f
+        → Does (queue_at c i) (cs i) f (store (write a (store_width op) (stored op x))) z
+    stored-does f z effect = by (moves_head c i b (store_width op)) refl
+        (at-below (length c.queues)
+        (may_store (queue_at c) (length c.queues) (own_of c) (length c.harts) h k d vx place b (store_width op)
+        (index-at b (store_width op))) may i less) effect
+      where
+        moved : is_just (index-at b (store_width op)) i ≡ true → i < length k.shares
+            → get_or (shares_moved (queue_at c) (length c.queues) (own_of c) (length c.harts) h k.shares d
+            (index-at b (store_width op))) i no_share ≡ moved_share (get_or k.shares i no_share) d
+        moved moves short = ap (λ j.
+            get_or (shares_moved (queue_at c) (length c.queues) (own_of c) (length c.harts) h k.shares d j) i no_share)
+            (just-is (index-at b (store_width op)) i moves)
+            ∙ steps.set-share M o (queue_at c) (length c.queues) (own_of c) (length c.harts) h xs k s m cs e acts size fine means k.shares d i short
+
+        bounded : (bound : Option ℕ) → most k.ranges d ≡ bound → is_just (index-at b (store_width op)) i ≡ true → i < length k.shares
+            → published_by d bound ≡ Some f → Does (queue_at c i) (cs i) f (store (write a (store_width op) (stored op x))) z
+        bounded None bound moves short effect = absurd (cc)
+        bounded (Some n) bound moves short effect =
+            subst (λ g. Does (queue_at c i) (cs i) g (store (write a (store_width op) (stored op x))) z)
+            (let same : (if n == d.constant then Publishes n else PublishesSome n) ≡ f = cc in same)
+            (does-move (queue_at c i) (fine i less).0 (cs i) xs (get_or k.shares i no_share) has (queue_at c) k.ranges means.ranges z d
+            (store (write a (store_width op) (stored op x)))
+            (share.own ∙ ap (λ t. form_value t.own xs) (moved moves short) ∙ value-plus (get_or k.shares i no_share).own d xs
+            ∙ ap (λ n. n + form_value d xs) (sym has.own)) n bound)
+
+        by : (t : Bool) → moves_head c i b (store_width op) ≡ t
+            → (if t then may_move (queue_at c) (length c.queues) (own_of c) (length c.harts) h k d vx i (get_or k.shares i no_share)
+            else (is_off (queue_at c i) b (store_width op) || may_fill (queue_at c) (length c.queues) (own_of c)
+            (length c.harts) h k (party_of (queue_at c i) h) place (store_width op) i)) ≡ true
+            → (if t then published_by d (most k.ranges d)
+            else Some (filled_by k.ranges (queue_at c i) (get_or k.shares i no_share) place (store_width op))) ≡ Some f
+            → Does (queue_at c i) (cs i) f (store (write a (store_width op) (stored op x))) z
+        by true moves ok effect = bounded (most k.ranges d) refl moves (ltb-true i (length k.shares) (right-of _ _ ok)) effect
+        by false other ok effect = subst (λ g. Does (queue_at c i) (cs i) g (store (write a (store_width op) (stored op x))) z)
+            (let same : filled_by k.ranges (queue_at c i) (get_or k.shares i no_share) place (store_width op) ≡ f = cc in same)
+            (does-fill (queue_at c i) (fine i less).0 (cs i) xs (get_or k.shares i no_share) has (queue_at c) k.ranges means.ranges z
+            place a (store_width op) (stored op x) at (share.own
+            ∙ ap (λ t. form_value t.own xs)
+            (steps.left-share M o (queue_at c) (length c.queues) (own_of c) (length c.harts) h xs k s m cs e acts
+            size fine means k.shares d (index-at b (store_width op)) i other) ∙ sym has.own))
+
+  -- ---- instructions
+
+  stop-does : (f : Effect) (why : Stop) → need_of s ≡ need.Stop why → Does (queue_at c i) (cs i) f (access_of e) (advanced s (number_read e))
+  stop-does f why needs = subst (λ y. Does (queue_at c i) (cs i) f y (advanced s (number_read e)))
+      (sym (ap access_of (acts.can.made ∙ ap (λ w. entry_of (hart_of e) w (number_read e)) needs)))
+      (does-nothing (queue_at c i) (cs i) f (advanced s (number_read e)) (λ runs.
+      (let no : status.Stopped why ≡ status.Running = ap (λ z. z.status) (sym (stopped s why needs (number_read e))) ∙ runs in cc)))
+
+  quiet-does : (f : Effect) → StoresNothing (need_of s) → ◌≡◌ {A = Option Effect} (Some Leaves) (Some f)
+      → Does (queue_at c i) (cs i) f (access_of e) (advanced s (number_read e))
+  quiet-does f none effect = subst (λ g. Does (queue_at c i) (cs i) g (access_of e) (advanced s (number_read e)))
+      (let same : Leaves ≡ f = cc in same)
+      (does-leave (queue_at c i) (cs i) (access_of e) (advanced s (number_read e))
+      (ap (λ y. published_then (queue_at c i) (cs i) y) (ap access_of acts.can.made)
+      ∙ kept-by (queue_at c i) (cs i) (hart_of e) (number_read e) (need_of s) none))
+
+  access-does : (f : Effect) (width a : ℕ) (n : Need) → need_of s ≡ access_need s.words width a n
+      → (need_of s ≡ n → Does (queue_at c i) (cs i) f (access_of e) (advanced s (number_read e)))
+      → Does (queue_at c i) (cs i) f (access_of e) (advanced s (number_read e))
+  access-does f width a n needs does = by (a % width == 0) needs
+    where
+      inside : (t : Bool) → need_of s ≡ (if t then n else need.Stop stop.OutOfRange)
+          → Does (queue_at c i) (cs i) f (access_of e) (advanced s (number_read e))
+      inside true needs = does needs
+      inside false needs = stop-does f stop.OutOfRange needs
+
+      by : (t : Bool) → need_of s ≡ (if t then (if nat_lt a (4 * s.words) then n else need.Stop stop.OutOfRange) else need.Stop stop.Misaligned)
+          → Does (queue_at c i) (cs i) f (access_of e) (advanced s (number_read e))
+      by true needs = inside (nat_lt a (4 * s.words)) needs
+      by false needs = stop-does f stop.Misaligned needs
+
+  store-does : (d : Form) (f : Effect) (op : StoreOp) (rs1 rs2 : Reg) (offset : ℤ) (ks : List KnownState) → IsAt s (Store op rs1 rs2 offset)
+      → store_by (queue_at c) (length c.queues) (own_of c) (length c.harts) h k d (store_width op)
+      (register_at k rs2) (place-of rs1 offset) (around rs1 offset) (index-at (around rs1 offset) (store_width op))
+      ≡ Some ks
+      → effect_at c i k d (place-of rs1 offset) (around rs1 offset) (store_width op) ≡ Some f
+      → Does (queue_at c i) (cs i) f (access_of e) (advanced s (number_read e))
+  store-does d f op rs1 rs2 offset ks here found effect =
+      let p = steps.points M o (queue_at c) (length c.queues) (own_of c) (length c.harts) h xs k s m cs e acts size fine means rs1 offset in
+      access-does f (store_width op) (address (register_value s.registers rs1) offset)
+      (need.Store (address (register_value s.registers rs1) offset) (store_width op) (stored op (register_value s.registers rs2))) (need_at here) (λ needs.
+      subst (λ y. Does (queue_at c i) (cs i) f y (advanced s (number_read e)))
+      (sym (steps.access-is M o (queue_at c) (length c.queues) (own_of c) (length c.harts) h xs k s m cs e acts size fine means
+      (need.Store (address (register_value s.registers rs1) offset) (store_width op) (stored op (register_value s.registers rs2))) needs))
+      (stored-does d op (address (register_value s.registers rs1) offset) (register_value s.registers rs2) (register_at k rs2)
+      (place-of rs1 offset) (around rs1 offset)
+      (steps.address-has M o (queue_at c) (length c.queues) (own_of c) (length c.harts) h xs k s m cs e acts size
+      fine means rs1 offset) p.0 p.1
+      (steps.register-has M o (queue_at c) (length c.queues) (own_of c) (length c.harts) h xs k s m cs e acts size fine means rs2)
+      (left-of _ _ (chosen _ _ ks found)) (right-of _ _ (chosen _ _ ks found)) f (advanced s (number_read e)) effect))
+
+  -- what is checked of an AMO
+  exchange-checks : (d : Form) (rd : ℕ) (vx place : KnownValue) (b : Bounds) (move : Option ℕ) (ks : List KnownState)
+      → exchange_by (queue_at c) (length c.queues) (own_of c) (length c.harts) h k d rd vx place b move ≡ Some ks
+      → (all_below (length c.queues) (may_store (queue_at c) (length c.queues) (own_of c) (length c.harts) h k d vx place b 4 move) ≡ true)
+      × (all_below (length c.harts) (leaves_words (queue_at c) (length c.queues) (own_of c) (length c.harts) h b 4) ≡ true)
+      × (all_below (length c.queues) (λ j. misses (queue_at c j) (party_of (queue_at c j) h) b 4) ≡ true)
+  exchange-checks d rd vx place b move ks found = (
+    left-of _ _ (left-of _ _ (chosen _ _ ks found)),
+    right-of _ _ (left-of _ _ (chosen _ _ ks found)),
+    right-of _ _ (chosen _ _ ks found),
+  )
+
+  amo-does : (d : Form) (f : Effect) (op : AmoOp) (rd rs1 rs2 : Reg) (aq rl : Bool) (ks : List KnownState) → IsAt s (Amo op rd rs1 rs2 aq rl)
+      → exchanging (queue_at c) (length c.queues) (own_of c) (length c.harts) h k d op rd.number (register_at k rs2)
+      (held rs1) (bounds k.ranges (held rs1)) ≡ Some ks
+      → effect_at c i k d (held rs1) (anywhere (bounds k.ranges (held rs1))) 4 ≡ Some f
+      → Does (queue_at c i) (cs i) f (access_of e) (advanced s (number_read e))
+  amo-does d f op rd rs1 rs2 aq rl ks here found effect = by (bounds k.ranges (held rs1)) refl found effect
+    where
+      go : (b : Bounds) → bounds k.ranges (held rs1) ≡ Some b
+          → exchange_by (queue_at c) (length c.queues) (own_of c) (length c.harts) h k d rd.number (updates op b rs2) (held rs1) b (index-at b 4) ≡ Some ks
+          → effect_at c i k d (held rs1) b 4 ≡ Some f → Does (queue_at c i) (cs i) f (access_of e) (advanced s (number_read e))
+      go b is-b found effect =
+          let p = has-bounds (queue_at c) k.ranges xs (held rs1) (register_value s.registers rs1) b means.ranges is-b (operand-has rs1) in
+          let checks = exchange-checks d rd.number (updates op b rs2) (held rs1) b (index-at b 4) ks found in
+          access-does f 4 (register_value s.registers rs1) (need.Amo (register_value s.registers rs1) op (register_value s.registers rs2)) (need_at here)
+          (λ needs. (let access : access_of e ≡ exchange (register_value s.registers rs1) (number_read e)
+          (updated op (number_read e) (register_value s.registers rs2)) =
+          steps.access-is M o (queue_at c) (length c.queues) (own_of c) (length c.harts) h xs k s m cs e acts size
+          fine means (need.Amo (register_value s.registers rs1) op (register_value s.registers rs2)) needs in
+          let old : Has (queue_at c) xs (value_loaded (queue_at c) (length c.queues) (own_of c) (length c.harts) h k b 4) (number_read e) =
+          steps.value-loaded M o (queue_at c) (length c.queues) (own_of c) (length c.harts) h xs k s m cs e acts
+          size fine means b 4 (register_value s.registers rs1) (number_read e) p.0 p.1
+          (subst (ReadsFrom m) access acts.reads) in
+          subst (λ y. Does (queue_at c i) (cs i) f y (advanced s (number_read e))) (sym access)
+          (does-exchange (queue_at c i) (cs i) f b (register_value s.registers rs1) (number_read e)
+          (updated op (number_read e) (register_value s.registers rs2)) (advanced s (number_read e))
+          (subst (λ t. misses (queue_at c i) t b 4 ≡ true) (hart-party (queue_at c i) (fine i less).0 h the_sender refl)
+          (at-below (length c.queues) (λ j. misses (queue_at c j) (party_of (queue_at c j) h) b 4) checks.2 i less)) p.0 p.1
+          (stored-does d store_op.Word (register_value s.registers rs1) (updated op (number_read e) (register_value s.registers rs2)) (updates op b rs2)
+          (held rs1) b (operand-has rs1) p.0 p.1
+          (steps.updated-has M o (queue_at c) (length c.queues) (own_of c) (length c.harts) h xs k s m cs e acts
+          size fine means op (value_loaded (queue_at c) (length c.queues) (own_of c) (length c.harts) h k b 4)
+          (register_at k rs2) (number_read e)
+          (register_value s.registers rs2) old
+          (steps.register-has M o (queue_at c) (length c.queues) (own_of c) (length c.harts) h xs k s m cs e acts
+          size fine means rs2))
+          checks.0 checks.1 f (advanced s (number_read e)) effect))))
+
+      by : (bs : Option Bounds) → bounds k.ranges (held rs1) ≡ bs
+          → exchanging (queue_at c) (length c.queues) (own_of c) (length c.harts) h k d op rd.number (register_at k rs2) (held rs1) bs ≡ Some ks
+          → effect_at c i k d (held rs1) (anywhere bs) 4 ≡ Some f → Does (queue_at c i) (cs i) f (access_of e) (advanced s (number_read e))
+      by None is-b found effect = absurd (cc)
+      by (Some b) is-b found effect = go b is-b found effect
+
+  -- an instruction that is said to do nothing stores nothing
+  says-nothing : (d : Form) (f : Effect) (j : Instr) → StoresNothing (need_for s j) → IsAt s j → ◌≡◌ {A = Option Effect} (Some Leaves) (Some f)
+      → Does (queue_at c i) (cs i) f (access_of e) (advanced s (number_read e))
+  says-nothing d f j none here effect = quiet-does f (subst StoresNothing (sym (need_at here)) none) effect
+
+  instruction-does : (d : Form) (f : Effect) (j : Instr) (ks : List KnownState) → IsAt s j
+      → follow (queue_at c) (length c.queues) (own_of c) (length c.harts) h k d (Some j) ≡ Some ks
+      → effect_of c i k d (Some j) ≡ Some f → Does (queue_at c i) (cs i) f (access_of e) (advanced s (number_read e))
+  instruction-does d f (Store op rs1 rs2 offset) ks here found effect = store-does d f op rs1 rs2 offset ks here found effect
+  instruction-does d f (Amo op rd rs1 rs2 aq rl) ks here found effect = amo-does d f op rd rs1 rs2 aq rl ks here found effect
+  instruction-does d f (Jal rd offset) ks here found effect = says-nothing d f (Jal rd offset) (jump-stores _) here effect
+  instruction-does d f (Jalr rd rs1 offset) ks here found effect = says-nothing d f (Jalr rd rs1 offset) (jump-stores _) here effect
+  instruction-does d f (Branch op rs1 rs2 offset) ks here found effect = says-nothing d f (Branch op rs1 rs2 offset)
+      (either-stores (is_taken op (register_value s.registers rs1) (register_value s.registers rs2)) (jump_need (address s.pc offset)) need.Inner
+      (jump-stores (address s.pc offset)) tt) here effect
+  instruction-does d f (Load op rd rs1 offset) ks here found effect = says-nothing d f (Load op rd rs1 offset) (access-stores s.words (load_width op)
+      (address (register_value s.registers rs1) offset) (need.Load (address (register_value s.registers rs1) offset) (load_width op)) tt) here effect
+  instruction-does d f Ecall ks here found effect = says-nothing d f Ecall (call-stores s.registers s.inbox) here effect
+  instruction-does d f (Lui rd upper) ks here found effect = says-nothing d f (Lui rd upper) tt here effect
+  instruction-does d f (Auipc rd upper) ks here found effect = says-nothing d f (Auipc rd upper) tt here effect
+  instruction-does d f (Immediate op rd rs1 n) ks here found effect = says-nothing d f (Immediate op rd rs1 n) tt here effect
+  instruction-does d f (Shift op rd rs1 amount) ks here found effect = says-nothing d f (Shift op rd rs1 amount) tt here effect
+  instruction-does d f (Register op rd rs1 rs2) ks here found effect = says-nothing d f (Register op rd rs1 rs2) tt here effect
+  instruction-does d f (Fence pred succ) ks here found effect = says-nothing d f (Fence pred succ) tt here effect
+  instruction-does d f FenceTso ks here found effect = says-nothing d f FenceTso tt here effect
+  instruction-does d f Ebreak ks here found effect = says-nothing d f Ebreak tt here effect
+
+  -- whatever the pc says
+  pub state-does : (d : Form) (f : Effect) (ks : List KnownState)
+      → follow (queue_at c) (length c.queues) (own_of c) (length c.harts) h k d (instruction_at s.code k.pc) ≡ Some ks
+      → effect_of c i k d (instruction_at s.code k.pc) ≡ Some f → Does (queue_at c i) (cs i) f (access_of e) (advanced s (number_read e))
+  state-does d f ks found effect = by (nat_lt s.pc (4 * length s.code)) refl
+      (subst (λ n. follow (queue_at c) (length c.queues) (own_of c) (length c.harts) h k d (instruction_at s.code n) ≡ Some ks) (sym means.pc) found)
+      (subst (λ n. effect_of c i k d (instruction_at s.code n) ≡ Some f) (sym means.pc) effect)
+    where
+      by : (t : Bool) → nat_lt s.pc (4 * length s.code) ≡ t
+          → follow (queue_at c) (length c.queues) (own_of c) (length c.harts) h k d (if t then meaning (slice_index s.code (s.pc / 4)) else None) ≡ Some ks
+          → effect_of c i k d (if t then meaning (slice_index s.code (s.pc / 4)) else None) ≡ Some f
+          → Does (queue_at c i) (cs i) f (access_of e) (advanced s (number_read e))
+      by false out found effect = stop-does f stop.NoCode (no-code s out)
+      by true within found effect = says (meaning (slice_index s.code (s.pc / 4))) refl found effect
+        where
+          says : (j : Option Instr) → meaning (slice_index s.code (s.pc / 4)) ≡ j
+              → follow (queue_at c) (length c.queues) (own_of c) (length c.harts) h k d j ≡ Some ks → effect_of c i k d j ≡ Some f
+              → Does (queue_at c i) (cs i) f (access_of e) (advanced s (number_read e))
+          says None none found effect = stop-does f stop.Illegal (illegal s (ltb-true s.pc (4 * length s.code) within) none)
+          says (Some j) said found effect =
+              instruction-does d f j ks (record { inside = ltb-true s.pc (4 * length s.code) within; says = said }) found effect

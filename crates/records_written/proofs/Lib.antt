@@ -1,0 +1,6 @@
+mod Marked
+mod Effects
+mod Instructions
+mod Leading
+mod Runs
+mod LittleTexts

@@ -1,0 +1,5 @@
+use Rattle.records_written.proofs.Runs.{each_written}
+use Rattle.records_written.proofs.laws_of_written_records.Goals as goal
+
+pub returns : goal.returns
+returns c = record { written = each_written }

@@ -1,0 +1,39 @@
+//! Certificates that show that records are written: whether the sender of a queue stores each byte of a record before it publishes it.
+//!
+//! The protocol of ownership says which slots a sender may write, not that it writes them: a text that publishes slots as it found
+//! them keeps it. Here a certificate of `queue_certificates` has in addition, for each state of the sender, which bytes of the slots
+//! ahead of its count it has surely written since these slots were last published. This crate runs nothing.
+//!
+//! Called by `records_checker`.
+
+#![tactic(auto)]
+
+mod effect;
+
+ghost use Rattle.std.specs.Prelude.{ℕ, ◌≡◌, ◌+◌, ◌<◌, ◌≤◌, List, [], ◌∷◌, ◌++◌, length, true};
+ghost use Rattle.std.specs.List.{Contains};
+ghost use Rattle.step_machine.specs.declared.events.Entry.{Entry};
+ghost use Rattle.step_machine.specs.History.{OpeningValue, history_of};
+ghost use Rattle.step_machine.specs.Legal.{WellFormed};
+ghost use Rattle.queue_parties.specs.Parties.{all_at};
+ghost use Rattle.slot_queue.specs.Queues.{slot_of};
+ghost use Rattle.slot_queue.specs.Ownership.{counts_after};
+ghost use Rattle.queue_certificates.specs.Certificates.{QueueCertificate, queue_at, start_at, accepts};
+ghost use Rattle.records_written.specs.Marks.{Marks, shows_written};
+ghost use Rattle.records_written.specs.Written.{IsWritten};
+
+pub use effect::Effect;
+
+/// Where a certificate is accepted for an opening, and shows with these marks that the sender of a queue writes the bytes of a mask. It
+/// does nothing.
+///
+/// - `written`: in every legal run from the opening, of any length and with store buffers of any size: where the sender moves its head
+///   past a position, it has written each byte of the mask in that position's slot since the record before in that slot was published.
+
+pub fn laws_of_written_records()
+    ensures written { (B M : ℕ) (o : OpeningValue) (c : QueueCertificate) → accepts o c ≡ true → (i : ℕ) → i < length c.queues
+        → (mask : List ℕ) (marks : List Marks) → shows_written o c i mask marks ≡ true → (es : List Entry) (e : Entry)
+        → WellFormed B M (history_of o (es ++ e ∷ [])) → (k : ℕ) → (counts_after (queue_at c i) (all_at (start_at c i)) es).published ≤ k
+        → k < (counts_after (queue_at c i) (all_at (start_at c i)) (es ++ e ∷ [])).published
+        → (b : ℕ) → Contains mask b → IsWritten (queue_at c i) (start_at c i) es k (slot_of (queue_at c i) k + b) }
+{}
