@@ -3,7 +3,8 @@
 ghost use Rattle.std.specs.Prelude.{ℕ, ◌≡◌, List, Option, IfOk};
 ghost use Rattle.queue_certificates.specs.Forms as forms;
 ghost use Rattle.queue_certificates.specs.Forms.{lifted, raised, substituted, times};
-ghost use Rattle.queue_certificates.specs.States.{any, linear, index_for, signed_for, signed_word, value_by, scaled, of_remainder, plain, is_within_plain, is_within};
+ghost use Rattle.queue_certificates.specs.States.{any, linear, index_for, signed_for, signed_word, value_by};
+ghost use Rattle.queue_certificates.specs.States.{scaled, of_remainder, plain, is_within_plain, is_within};
 ghost use Rattle.known_values.specs.Queues.{queue_in};
 ghost use Rattle.known_values.specs.Values.{known_of};
 

@@ -91,7 +91,7 @@ count-all : (p : Party) (n : ℕ) → count p (all_at n) ≡ n
 count-all the_sender n = refl
 count-all the_receiver n = refl
 
-otherwise : (a b : Bool) → a ≡ true → (not a || b) ≡ true → b ≡ true
+pub otherwise : (a b : Bool) → a ≡ true → (not a || b) ≡ true → b ≡ true
 otherwise true b is or = or
 otherwise false b is or = absurd (cc)
 
@@ -124,7 +124,7 @@ module _ (M : ℕ) (o : OpeningValue) (c : QueueCertificate) (ok : accepts o c �
   queue-parts i less = and_parts (is_queue (queue_at c i)) (opens_empty o (queue_at c i) (start_at c i))
       (at-below (length c.queues) (λ i. is_queue (queue_at c i) && opens_empty o (queue_at c i) (start_at c i)) halves.0 i less)
 
-  fine : (i : ℕ) → i < length c.queues → IsQueue (queue_at c i) × TellsFull (queue_at c i) × ((queue_at c i).index_width ≤ 4)
+  pub fine : (i : ℕ) → i < length c.queues → IsQueue (queue_at c i) × TellsFull (queue_at c i) × ((queue_at c i).index_width ≤ 4)
   fine i less = fine-queue (queue_at c i) (queue-parts i less).0
 
   pub accepted-opens : Opens M o c
@@ -142,7 +142,7 @@ module _ (M : ℕ) (o : OpeningValue) (c : QueueCertificate) (ok : accepts o c �
         },
       )
 
-  past : (g : ℕ) → length c.harts ≤ g → length (own_of c g) ≡ 0
+  pub past : (g : ℕ) → length c.harts ≤ g → length (own_of c g) ≡ 0
   past g beyond = ap (λ p. length p.own) (get_or_past c.harts g no_part beyond)
 
   -- what was accepted of a hart
@@ -191,7 +191,7 @@ module _ (M : ℕ) (o : OpeningValue) (c : QueueCertificate) (ok : accepts o c �
                 (form_value (get_or k.shares i no_share).own xs + form_value (get_or k.shares i no_share).owned xs) parts.1;
           }
 
-  opens-means : (h : ℕ) (x : HartOpeningValue) (k : KnownState) (xs : List ℕ) → opens_in o c h x k xs ≡ true
+  pub opens-means : (h : ℕ) (x : HartOpeningValue) (k : KnownState) (xs : List ℕ) → opens_in o c h x k xs ≡ true
       → MeansAt (queue_at c) (length c.queues) (own_of c h) h xs k (opens_as M x) (opening_byte o) (λ i. all_at (start_at c i))
   opens-means h x k xs ok =
       let a = are_in_ranges k.ranges xs in

@@ -184,7 +184,8 @@ module _ (queues : ℕ → Queue) (xs : List ℕ) (rs : List (Option ℕ)) (rang
           → (if u then is_equal_word queues rs i (index_for i f) (index_for j g) else None) ≡ Some t → (x == y) ≡ t
       by false other is = absurd (cc)
       by true same is = ap (λ n. n == y) one
-          ∙ ap (λ n. signed_word (queues i).index_width a == n) (two ∙ ap (λ w. signed_word w b) (sym (eqb-true (queues i).index_width (queues j).index_width same)))
+          ∙ ap (λ n. signed_word (queues i).index_width a == n)
+          (two ∙ ap (λ w. signed_word w b) (sym (eqb-true (queues i).index_width (queues j).index_width same)))
           ∙ signed-equal (queues i).index_width a b t (equal-word i (index_for i f) (index_for j g) a b refl refl t is)
   equal-is (linear f) any x y one two t is = absurd (cc)
   equal-is (linear f) (signed_for i g) x y one two t is = absurd (cc)

@@ -1,12 +1,12 @@
-mod OneSlotQueue
-mod Forms
-mod Bounds
-mod Values
+pub mod OneSlotQueue
+pub mod Forms
+pub mod Bounds
+pub mod Values
 mod Equals
-mod Results
-mod States
-mod Accesses
-mod Stores
-mod Steps
-mod Certified
+pub mod Results
+pub mod States
+pub mod Accesses
+pub mod Stores
+pub mod Steps
+pub mod Certified
 mod EveryRun

@@ -7,19 +7,19 @@ use Rattle.queue_certificates.specs.Forms.{Form, number}
 use Rattle.queue_certificates.specs.States.{KnownValue, any, linear}
 use Rattle.queue_certificates.specs.Certificates.{Arrow, Cases, leaf, split, ListedState, HartPart, QueueCertificate, accepts, accepts_loads}
 
-abbrev form : ℕ → List ℕ → Form
+abbrev pub form : ℕ → List ℕ → Form
 form c ms = record { constant = c; factors = ms }
 
-abbrev listed : ℕ → List (Option ℕ) → List KnownValue → Form → Form → Cases → ListedState
+abbrev pub listed : ℕ → List (Option ℕ) → List KnownValue → Form → Form → Cases → ListedState
 listed pc ranges registers own owned cases = record {
   known = record { pc = pc; ranges = ranges; registers = registers; words = []; shares = (record { own = own; owned = owned }) ∷ [] };
   cases = cases;
 }
 
-abbrev arrow : ℕ → List Form → Arrow
+abbrev pub arrow : ℕ → List Form → Arrow
 arrow to forms = record { to = to; forms = forms }
 
-abbrev part_0 : HartPart
+abbrev pub part_0 : HartPart
 part_0 = record {
   own = [];
   first = 0;
@@ -64,7 +64,7 @@ part_0 = record {
       (leaf (number 0) (arrow 0 ((form 0 (0 ∷ 1 ∷ [])) ∷ (form 0 (0 ∷ 0 ∷ 1 ∷ [])) ∷ []) ∷ [])) ∷ [];
 }
 
-abbrev part_1 : HartPart
+abbrev pub part_1 : HartPart
 part_1 = record {
   own = [];
   first = 0;
@@ -108,7 +108,7 @@ part_1 = record {
       (leaf (number 0) (arrow 0 ((form 0 (0 ∷ 1 ∷ [])) ∷ (form 0 (0 ∷ 0 ∷ 1 ∷ [])) ∷ []) ∷ [])) ∷ [];
 }
 
-abbrev certificate : QueueCertificate
+abbrev pub certificate : QueueCertificate
 certificate = record { queues = (record { queue = q; start = 0 }) ∷ []; harts = part_0 ∷ part_1 ∷ [] }
 
 one_slot_accepted : accepts text certificate ≡ true

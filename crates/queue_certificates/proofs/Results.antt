@@ -184,12 +184,14 @@ module _ (queues : ℕ → Queue) (xs : List ℕ) where
       by false other is = absurd (cc)
       by true ok is =
           let rest = index-rest i f w refl r is in (
-          rest.0,
-          ap (λ y. y % r.by) has
-          ∙ signed-rest (queues i).index_width r.by w rest.0
-          (ap (λ n. 256 ^ (queues i).index_width % n) (index-by (queues i) f r is) ∙ eqb-true (256 ^ (queues i).index_width % ((queues i).scale * (queues i).modulus)) 0 ok)
-          ∙ rest.1,
+            rest.0,
+            ap (λ y. y % r.by) has
+                ∙ signed-rest (queues i).index_width r.by w rest.0
+                (ap (λ n. 256 ^ (queues i).index_width % n) (index-by (queues i) f r is)
+                ∙ eqb-true (256 ^ (queues i).index_width % ((queues i).scale * (queues i).modulus)) 0 ok)
+                ∙ rest.1,
           )
+
   negative-has : (o : Option Rest) (x : ℕ) → HasRest o x → HasRest (negative o) (x * (2 ^ 32 - 1))
   negative-has None x has r is = absurd (cc)
   negative-has (Some a) x has r is =
@@ -524,7 +526,9 @@ module _ (queues : ℕ → Queue) (xs : List ℕ) where
             ∙ sym (scaled-mod (low * n) low n (form_value g xs) (omega (arith, few, one)) refl) in
             let part : x / low % n ≡ form_value g xs % n =
             sym (field_of x (count_ones mask) k)
-            ∙ ap (λ y. x % y / low) (pow-add 2 (count_ones mask) k ∙ (let t : n * low ≡ low * n = mul_comm n low in t)) ∙ ap (λ y. y / low) rest ∙ mul-div_cancel_left (form_value g xs % n) some in
+            ∙ ap (λ y. x % y / low)
+            (pow-add 2 (count_ones mask) k ∙ (let t : n * low ≡ low * n = mul_comm n low in t))
+            ∙ ap (λ y. y / low) rest ∙ mul-div_cancel_left (form_value g xs % n) some in
             let bits : bit_and x mask ≡ form_value g xs % n * low =
             ap (bit_and x) ones ∙ row-bits x k (count_ones mask) ∙ ap (λ y. y * low) part in
             let le : bit_and x mask ≤ mask = and_le_r x mask in

@@ -61,7 +61,8 @@ use Rattle.queue_certificates.specs.Steps.{storable, word_then, words_then, afte
 use Rattle.queue_certificates.proofs.Values.{word-linear, has-plain, known-is, has-bounds, within}
 use Rattle.queue_certificates.proofs.Forms.{same-value}
 use Rattle.queue_certificates.proofs.Results.{word-of-sum, word-small, word-has, sum-has, Gives, just-gives}
-use Rattle.queue_certificates.proofs.Results.{signed-of-bits, signed-fits, or-up-to-gives, exactly-gives, immediate-gives, shift-gives, register-gives, branch-is}
+use Rattle.queue_certificates.proofs.Results.{signed-of-bits, signed-fits, or-up-to-gives, exactly-gives}
+use Rattle.queue_certificates.proofs.Results.{immediate-gives, shift-gives, register-gives, branch-is}
 use Rattle.queue_certificates.proofs.States.{means-result, means-going, means-lifted, means-moved, means-frame, written-has, at-below}
 use Rattle.queue_certificates.proofs.Stores.{stored-low, apart-from, stored-number, left-number, stored-whole, stored-word}
 use Rattle.queue_certificates.proofs.Stores.{keeps-off, Stored, stays-off, stays-filled, moves-on, owned-slots}
@@ -77,7 +78,7 @@ use Rattle.std.proofs.Math.Nat.{mod-lt, pow-le-pow_right}
 use Rattle.rv_decode.specs.declared.instruction.StoreOp.{StoreOp}
 use Rattle.queue_certificates.proofs.Accesses.{found-below, just-is, same-party, party-hart, hart-party, IsWholeIndex, whole-index, missed, Looked, looks, hits}
 
-no-code : (s : HartState) → nat_lt s.pc (4 * length s.code) ≡ false → need_of s ≡ need.Stop stop.NoCode
+pub no-code : (s : HartState) → nat_lt s.pc (4 * length s.code) ≡ false → need_of s ≡ need.Stop stop.NoCode
 unfolding need_of
 no-code s out = rw out refl
 
@@ -225,7 +226,7 @@ module _ (M : ℕ) (o : OpeningValue) (queues : ℕ → Queue) (N : ℕ) (own_of
       (subst (λ w. Goes queues N own_of h owns ks m cs (access_of (entry_of (hart_of e) n v)) w) (sym (after-at here n needs plain v))
       (quiet-goes ks (access_of (entry_of (hart_of e) n v)) (after_instruction s v i) quiet (λ runs. next)))
 
-  register-has : (r : Reg) → Has queues xs (register_at k r) (register_value s.registers r)
+  pub register-has : (r : Reg) → Has queues xs (register_at k r) (register_value s.registers r)
   register-has r = by (r.number == 0) refl
     where
       by : (t : Bool) → (r.number == 0) ≡ t
@@ -482,7 +483,7 @@ module _ (M : ℕ) (o : OpeningValue) (queues : ℕ → Queue) (N : ℕ) (own_of
 
   -- ---- loads and stores: where they point, and that the hart stops where it may not
 
-  address-has : (r : Reg) (offset : ℤ) → Has queues xs (address_value queues N own_of H h k r offset) (address (register_value s.registers r) offset)
+  pub address-has : (r : Reg) (offset : ℤ) → Has queues xs (address_value queues N own_of H h k r offset) (address (register_value s.registers r) offset)
   address-has r offset =
       subst (Has queues xs (sum_of (operand queues N own_of H h k r) (linear (number (word offset)))))
       (sym (word-of-sum (register_value s.registers r) offset))
@@ -568,7 +569,7 @@ module _ (M : ℕ) (o : OpeningValue) (queues : ℕ → Queue) (N : ℕ) (own_of
   extended-has ys load_op.ByteUnsigned w x low has = has
   extended-has ys load_op.HalfUnsigned w x low has = has
 
-  value-loaded : (b : Bounds) (width a x : ℕ) → b.low ≤ a → a ≤ b.high → x ≡ number_seen m a width
+  pub value-loaded : (b : Bounds) (width a x : ℕ) → b.low ≤ a → a ≤ b.high → x ≡ number_seen m a width
       → Has queues xs (value_loaded queues N own_of H h k b width) x
   value-loaded b width a x low high read = index (last_below N (is_own_index queues N own_of H h b width)) refl
     where
@@ -795,11 +796,11 @@ module _ (M : ℕ) (o : OpeningValue) (queues : ℕ → Queue) (N : ℕ) (own_of
 
   -- ---- stores
 
-  set-share : (ss : List Share) (d : Form) (i : ℕ) → i < length ss
+  pub set-share : (ss : List Share) (d : Form) (i : ℕ) → i < length ss
       → get_or (shares_moved queues N own_of H h ss d (Some i)) i no_share ≡ moved_share (get_or ss i no_share) d
   set-share ss d i less = get_or-set_same ss i (moved_share (get_or ss i no_share) d) no_share less
 
-  left-share : (ss : List Share) (d : Form) (move : Option ℕ) (i : ℕ) → is_just move i ≡ false
+  pub left-share : (ss : List Share) (d : Form) (move : Option ℕ) (i : ℕ) → is_just move i ≡ false
       → get_or (shares_moved queues N own_of H h ss d move) i no_share ≡ get_or ss i no_share
   left-share ss d None i not = refl
   left-share ss d (Some n) i not = get_or-set_other ss n i (moved_share (get_or ss n no_share) d) no_share (λ same. eqb-false n i not (sym same))
@@ -852,7 +853,7 @@ module _ (M : ℕ) (o : OpeningValue) (queues : ℕ → Queue) (N : ℕ) (own_of
             (pow-le-pow_right {n = 256} (omega arith) {i = 0} {j = (queues i).index_width} (omega arith))
             (eqb-true ((queues i).scale * (queues i).modulus) (256 ^ (queues i).index_width) p1.0) (ltb-true (queues i).base (queues i).scale p1.1))
 
-    party-store : (i : ℕ) (less : i < N) (p : Party) (mine : h ≡ hart (queues i) p)
+    pub party-store : (i : ℕ) (less : i < N) (p : Party) (mine : h ≡ hart (queues i) p)
         → Stored (queues i) (fine i less).0 p (cs i) xs (get_or k.shares i no_share) (means.shares i less p mine) w
         (get_or (shares_moved queues N own_of H h k.shares d move) i no_share)
     party-store i less p mine = by (is_just move i) refl (at-below N (may_store queues N own_of H h k d vx place b (store_width op) move) may i less)
@@ -1073,7 +1074,7 @@ module _ (M : ℕ) (o : OpeningValue) (queues : ℕ → Queue) (N : ℕ) (own_of
       (subst (λ d. KeepsAccess q (Some p) d (store (write a 4 new))) (sym (missed q (Some p) b a 4 old c off low high))
       may)
 
-  updated-has : (op : AmoOp) (u w : KnownValue) (old x : ℕ) → Has queues xs u old → Has queues xs w x
+  pub updated-has : (op : AmoOp) (u w : KnownValue) (old x : ℕ) → Has queues xs u old → Has queues xs w x
       → Has queues xs (updated_value queues N own_of H h k.ranges op u w) (updated op old x)
   updated-has amo.Swap u w old x one two = two
   updated-has amo.Add u w old x one two = sum-has queues xs (plain queues k.ranges u) (plain queues k.ranges w) old

@@ -9,7 +9,8 @@ ghost use Rattle.queue_certificates.specs.Forms.{Form, number, plus, lifted};
 ghost use Rattle.queue_certificates.specs.States.{KnownState, KnownValue, Share, share_by, no_share, any, index_for};
 ghost use Rattle.queue_certificates.specs.Certificates.{queue_at, own_of};
 ghost use Rattle.queue_certificates.specs.Steps.{all_below, is_one, last_below, is_just, misses, owned_then, looked_share, is_look, is_own_index};
-ghost use Rattle.queue_certificates.specs.Steps.{is_index_below, signed_value, loaded, is_own_word, share_at, word_loaded, index_loaded, value_loaded, extended_value};
+ghost use Rattle.queue_certificates.specs.Steps.{is_index_below, signed_value, loaded, is_own_word, share_at};
+ghost use Rattle.queue_certificates.specs.Steps.{word_loaded, index_loaded, value_loaded, extended_value};
 ghost use Rattle.queue_certificates.specs.Steps.{looked_word, after_look, after_load, may_load, load_by, loading};
 
 use crate::certificate::{KnownState, QueueCertificate, Share};
@@ -204,7 +205,8 @@ fn signed_value(
 {
     let _hart = hart;
     match value.known {
-        Known::IndexFor(i, form) if queue_in(&certificate.queues, i).index_width == width => signed_for(i, form),
+        Known::IndexFor(i, form) if queue_in(&certificate.queues, i).index_width == width =>
+            signed_for(i, form),
         _ => any(),
     }
 }

@@ -30,7 +30,8 @@ words_found None keys d bytes words is back = tt
 words_found (Some number) keys d bytes words is back =
     words-there position_words keys d bytes words number is (λ key same. ap words_in (sym same) ∙ back)
 
-pub words_unknown : (r : Option ℕ) (keys : List (Vec ℕ)) (d : Vec ℕ) (words : List ℕ) → All IsCompact keys → is_some r ≡ list_any (has_items (bytes_of words)) keys
+pub words_unknown : (r : Option ℕ) (keys : List (Vec ℕ)) (d : Vec ℕ) (words : List ℕ) → All IsCompact keys
+    → is_some r ≡ list_any (has_items (bytes_of words)) keys
     → r ≡ None → Contains (map position_words keys) words → ⊥
 words_unknown r keys d words all found none contains =
     words-absent position_words keys d (bytes_of words) words contains.0 (own_bytes keys words all) (ap is_some (sym none) ∙ found)

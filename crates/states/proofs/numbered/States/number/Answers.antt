@@ -26,7 +26,8 @@ returns-clause-numbered g c =
     let keys = c.self.inside.positions.keys in
     let position = c.in_ok-position.position in
     let draft : position.items ≡ c.as_slice.result.now = c.in_ok-position.ensures.items ∙ c.deref.ensures.value ∙ sym c.as_slice.ensures.value in
-    let its : position.items ≡ words = draft ∙ c.as_slice.ensures.value ∙ c.in_ok-pack.ensures.words ∙ ap (λ (ws : List ℕ). ws ++ words) c.clear.ensures.items in
+    let its : position.items ≡ words = draft ∙ c.as_slice.ensures.value ∙ c.in_ok-pack.ensures.words
+    ∙ ap (λ (ws : List ℕ). ws ++ words) c.clear.ensures.items in
     inr (next_is says keys c.insert.new.self.keys position c.args.self.now words c.len-number.result c.self.view_is (λ i key within is. its ∙ sym is) its
     (subst (λ (ws : List ℕ). false ≡ list_any (has_items ws) keys) (sym draft) c.in_default.ensures.found)
     c.in_ok-insert.ensures.keys c.len-number.ensures.len)
