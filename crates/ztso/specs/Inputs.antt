@@ -1,11 +1,24 @@
 -- What is known of the bytes that an input has left.
-use Rattle.std.specs.Prelude.{ℕ, List, [], Option, None, Some}
+use Rattle.std.specs.Prelude.{ℕ, List, [], Option, None, Some, Result, Ok, Err, option_and_then}
+use Rattle.command_line.specs.declared.job.Input.{Input}
+use Rattle.command_line.specs.declared.job.Input.TheVariants as input
 use Rattle.ztso.specs.declared.lazy_input.Opened.{Opened}
 use Rattle.ztso.specs.declared.lazy_input.Opened.TheVariants.{Standard, File, Ended}
 
--- What the reader or the file that was opened tells, and no byte after a file's end. Nothing is known before.
+-- What the reader or the file tells, and no byte after a file's end.
+abbrev pub left_of : {R F D S : Type 0} → (S → Option (List ℕ)) → (F → Option (List ℕ)) → Opened R F D S → Option (List ℕ)
+left_of reader file (Standard opened) = reader opened
+left_of reader file (File opened) = file opened
+left_of reader file Ended = Some []
+
+-- the same of an input that may not be opened yet: nothing is known before
 abbrev pub left_in : {R F D S : Type 0} → (S → Option (List ℕ)) → (F → Option (List ℕ)) → Option (Opened R F D S) → Option (List ℕ)
-left_in reader file None = None
-left_in reader file (Some (Standard opened)) = reader opened
-left_in reader file (Some (File opened)) = file opened
-left_in reader file (Some Ended) = Some []
+left_in reader file opened = option_and_then (left_of reader file) opened
+
+-- Standard input is always opened, and a file may fail to be.
+abbrev pub IsOpening : {R F D S E : Type 0} → Option Input → Result (Opened R F D S) E → Type 0
+IsOpening (Some input.Standard) (Ok (Standard reader)) = Unit {0}
+IsOpening (Some (input.File path)) (Ok (File opened)) = Unit {0}
+IsOpening (Some (input.File path)) (Err error) = Unit {0}
+IsOpening None (Err error) = Unit {0}
+IsOpening asked result = ⊥

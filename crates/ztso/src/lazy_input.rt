@@ -1,6 +1,7 @@
 //! Inputs that are opened at their first read.
 
 ghost use Rattle.std.specs.Prelude.{◌≡◌, None};
+ghost use Rattle.ztso.specs.Inputs.{IsOpening};
 
 use command_line::job::Input;
 use std::io::{ErrorKind, Input as StandardInput, Read};
@@ -38,6 +39,36 @@ impl<'a, R: Files + StandardInput> LazyInput<'a, R> {
     }
 }
 
+/// Opens an input, which fails where there is none.
+fn open<R: Files + StandardInput>(rt: &R, input: Option<Input<'_>>) -> io::Result<Opened<R>>
+    ensures { IsOpening input.entry result }
+{
+    Ok(match input.ok_or(ErrorKind::NotFound)? {
+        Input::Standard => Opened::Standard(rt.reader()),
+        Input::File(path) => Opened::File(fs::open(rt, path)?),
+    })
+}
+
+impl<R: Files + StandardInput> Read for Opened<R> {
+    ghost use Rattle.ztso.specs.Inputs.{left_of};
+
+    ghost remaining = { left_of R.Reader.remaining R.File.remaining };
+
+    fn read(&mut self, buf: &mut [u8]) -> io::Result<usize> {
+        match self {
+            Opened::Standard(reader) => reader.read(buf),
+            Opened::File(file) => {
+                let count = file.read(buf)?;
+                if count == 0 && !buf.is_empty() {
+                    *self = Opened::Ended;
+                }
+                Ok(count)
+            }
+            Opened::Ended => Ok(0),
+        }
+    }
+}
+
 impl<'a, R: Files + StandardInput> Read for LazyInput<'a, R> {
     ghost use Rattle.ztso.specs.Inputs.{left_in};
 
@@ -45,22 +76,11 @@ impl<'a, R: Files + StandardInput> Read for LazyInput<'a, R> {
 
     fn read(&mut self, buf: &mut [u8]) -> io::Result<usize> {
         if self.opened.is_none() {
-            let input = self.input.ok_or(ErrorKind::NotFound)?;
-            self.opened = Some(match input {
-                Input::Standard => Opened::Standard(self.rt.reader()),
-                Input::File(path) => Opened::File(fs::open(self.rt, path)?),
-            });
+            self.opened = Some(open(self.rt, self.input)?);
         }
         match &mut self.opened {
-            Some(Opened::Standard(reader)) => reader.read(buf),
-            Some(Opened::File(file)) => {
-                let count = file.read(buf)?;
-                if count == 0 && !buf.is_empty() {
-                    self.opened = Some(Opened::Ended);
-                }
-                Ok(count)
-            }
-            Some(Opened::Ended) | None => Ok(0),
+            Some(opened) => opened.read(buf),
+            None => Ok(0),
         }
     }
 }
