@@ -9,7 +9,7 @@ sys.path.insert(0, str(ROOT / "scripts"))
 
 from crates import TOP, Crates  # noqa: E402
 
-NAMED = 6  # at most as many callers are named; of more the first and the last
+NAMED = 6  # at most as many callers are named; of more the first and the last, so that a further crate changes no line of those below it
 BEGINS = "//! Called by "
 
 
@@ -36,7 +36,7 @@ def said(name, users, crates):
 def listed(users):
     names = [f"`{user}`" for user in users]
     if len(names) > NAMED:
-        return f"{len(names)} crates, from {names[0]} to {names[-1]}"
+        return f"more than {NAMED} crates, from {names[0]} to {names[-1]}"
     return " and ".join([", ".join(names[:-1]), names[-1]] if len(names) > 1 else names)
 
 

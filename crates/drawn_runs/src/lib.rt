@@ -6,7 +6,7 @@
 //! each by itself or in bursts of one hart, and [`draws::next_by`] one after the other. What is reported through
 //! [`progress::Progress`] no clause says. This crate reads and writes no schedule.
 //!
-//! Called by 9 crates, from `judged_runs` to `ztso`.
+//! Called by more than 6 crates, from `judged_runs` to `ztso`.
 
 #![tactic(auto)]
 

@@ -5,7 +5,7 @@
 //! readers give and what it returns, a refusal with its number and place among it (`Ends` of
 //! `specs/Engines.antt` says it of a whole command). It has no tests: the cases of the program run it.
 //!
-//! Called by 12 crates, from `debugger` to `ztso`.
+//! Called by more than 6 crates, from `debugger` to `ztso`.
 
 #![tactic(auto)]
 

@@ -4,7 +4,7 @@
 //! `specs/Steps.antt`, which say by the manual's words what an instruction does to registers and pc.
 //! This crate knows no memory word, no store buffer and no other hart.
 //!
-//! Called by 12 crates, from `step_machine` to `ztso`.
+//! Called by more than 6 crates, from `step_machine` to `ztso`.
 
 #![tactic(auto)]
 

@@ -6,7 +6,7 @@
 //! words of a machine's history (`specs/Verdicts.antt`).
 //! This crate runs no machine, and nothing in it recurses: a condition may be as deep as memory allows.
 //!
-//! Called by 14 crates, from `shrink` to `ztso`.
+//! Called by more than 6 crates, from `shrink` to `ztso`.
 
 #![tactic(auto)]
 

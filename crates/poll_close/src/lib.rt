@@ -7,7 +7,7 @@
 //! [`reports_of`] and [`whole_reports_of`], which promise the same of them. This crate never looks into a machine: it
 //! stands on its histories.
 //!
-//! Called by 8 crates, from `hart_threads` to `ztso`.
+//! Called by more than 6 crates, from `hart_threads` to `ztso`.
 
 #![tactic(auto)]
 

@@ -3,7 +3,7 @@
 //!
 //! The contract is that of [`laws_of_positions`]. This crate runs nothing, and knows neither an index nor a tag.
 //!
-//! Called by none, and cited by 10 crates, from `slot_queue` to `certifying`.
+//! Called by none, and cited by more than 6 crates, from `slot_queue` to `certifying`.
 
 #![tactic(auto)]
 

@@ -14,7 +14,7 @@
 //! This crate opens no file and judges no run: events of any harts below 64 are read and written,
 //! whether a machine could follow them or not.
 //!
-//! Called by 15 crates, from `drawn_runs` to `certifying`.
+//! Called by more than 6 crates, from `drawn_runs` to `certifying`.
 
 #![tactic(auto)]
 

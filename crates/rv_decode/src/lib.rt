@@ -7,7 +7,7 @@
 //! [`register_named`] answers the register of a name, by the table of `specs/Registers.antt`.
 //! This crate executes nothing, keeps no state and takes no memory.
 //!
-//! Called by 10 crates, from `hart` to `certifying`.
+//! Called by more than 6 crates, from `hart` to `certifying`.
 
 #![tactic(auto)]
 

@@ -5,7 +5,7 @@
 //! the receiver up to `known_published`. It stores what it likes into slots that it owns, and moves its own index on by as many
 //! as it owns. The contract is that of [`laws_of_ownership`]. This crate runs nothing.
 //!
-//! Called by none, and cited by 9 crates, from `queue_layouts` to `certifying`.
+//! Called by none, and cited by more than 6 crates, from `queue_layouts` to `certifying`.
 
 #![tactic(auto)]
 

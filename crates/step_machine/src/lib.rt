@@ -6,7 +6,7 @@
 //! history by definitions that know no machine. This crate reads and prints no text, and nothing above
 //! it names how the history is kept.
 //!
-//! Called by 29 crates, from `ztso_axioms` to `certifying`.
+//! Called by more than 6 crates, from `ztso_axioms` to `certifying`.
 
 #![tactic(auto)]
 

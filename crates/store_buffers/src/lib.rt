@@ -3,7 +3,7 @@
 //!
 //! The contract is that of [`laws_of_store_buffers`]. This crate runs nothing.
 //!
-//! Called by none, and cited by 10 crates, from `slot_queue` to `certifying`.
+//! Called by none, and cited by more than 6 crates, from `slot_queue` to `certifying`.
 
 #![tactic(auto)]
 

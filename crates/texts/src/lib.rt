@@ -7,7 +7,7 @@
 //! `proofs/` has the laws that the grammars above share.
 //! This crate knows no grammar, names no fault and keeps nothing; only [`push_decimal`] takes memory.
 //!
-//! Called by 11 crates, from `assembler` to `channel_engines`.
+//! Called by more than 6 crates, from `assembler` to `channel_engines`.
 
 #![tactic(auto)]
 
