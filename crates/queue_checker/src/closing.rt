@@ -94,7 +94,7 @@ fn put_range(ranges: &mut Vec<Option<u64>>, i: usize, range: Option<u64>)
 }
 
 /// The state where a variable is at most `most`.
-pub(crate) fn with_low(
+pub fn with_low(
     alloc: Global,
     state: &KnownState,
     variable: u32,
@@ -107,7 +107,7 @@ pub(crate) fn with_low(
 }
 
 /// The state where a variable is more.
-pub(crate) fn with_high(
+pub fn with_high(
     alloc: Global,
     state: &KnownState,
     variable: u32,
@@ -137,7 +137,7 @@ fn is_leaf_closed(
 }
 
 /// Whether a variable of the state may be more than `most`.
-pub(crate) fn goes_beyond(state: &KnownState, variable: u32, most: u64) -> bool
+pub fn goes_beyond(state: &KnownState, variable: u32, most: u64) -> bool
     ensures { result ≡ may_exceed most (get_or state.now.ranges variable (Some 0)) }
 {
     may_exceed(most, range_of(&state.ranges, variable))

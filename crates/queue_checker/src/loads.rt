@@ -80,7 +80,7 @@ pub(crate) fn last_look(
 }
 
 /// The last queue whose index, the hart's own, an access is of, whole.
-pub(crate) fn last_own_index(
+pub fn last_own_index(
     certificate: &QueueCertificate,
     hart: u32,
     bounds: Bounds,

@@ -146,7 +146,7 @@ fn unowned_state(
 }
 
 /// The hart's code; none, if there are fewer harts.
-pub(crate) fn code_of(opening: &Opening, hart: u32) -> &[u32]
+pub fn code_of(opening: &Opening, hart: u32) -> &[u32]
     ensures { result.now ≡ (hart_at opening.now hart).code }
 {
     match opening.harts.get(hart as usize) {

@@ -44,7 +44,7 @@ fn quotient_by(n: u64, divisor: u64) -> u64
 }
 
 /// How much further than the own count the position is in whose slot `address` lies.
-pub(crate) fn position_at(queue: Queue, own: u64, address: u64) -> Result<u64, Lack>
+pub fn position_at(queue: Queue, own: u64, address: u64) -> Result<u64, Lack>
     ensures { IfOk result (λ position. position ≡ position_at queue own address) }
 {
     let size = u64::from(queue.size);
@@ -57,7 +57,7 @@ pub(crate) fn position_at(queue: Queue, own: u64, address: u64) -> Result<u64, L
 }
 
 /// How many bytes into its slot `address` lies.
-pub(crate) fn offset_at(queue: Queue, address: u64) -> u64
+pub fn offset_at(queue: Queue, address: u64) -> u64
     ensures { result ≡ offset_at queue address }
 {
     remainder_by(
@@ -67,7 +67,7 @@ pub(crate) fn offset_at(queue: Queue, address: u64) -> u64
 }
 
 /// The bounds, where there are any, and else all of a word's.
-pub(crate) fn anywhere(bounds: Option<Bounds>) -> Bounds
+pub fn anywhere(bounds: Option<Bounds>) -> Bounds
     ensures { result ≡ anywhere bounds }
 {
     match bounds {

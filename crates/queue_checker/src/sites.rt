@@ -7,7 +7,7 @@ use crate::certificate::{ListedState, QueueCertificate};
 use known_values::Lack;
 
 /// A count as a number; that there are more is a lack.
-pub(crate) fn small(count: usize) -> Result<u32, Lack>
+pub fn small(count: usize) -> Result<u32, Lack>
     ensures { IfOk result (λ n. n ≡ count) }
 {
     u32::try_from(count).map_err(|_| Lack::TooLarge)
@@ -31,7 +31,7 @@ pub(crate) fn own_words(certificate: &QueueCertificate, hart: u32) -> &[u32]
 }
 
 /// The hart's states; none, if there are fewer harts.
-pub(crate) fn listed_states(certificate: &QueueCertificate, hart: u32) -> &[ListedState]
+pub fn listed_states(certificate: &QueueCertificate, hart: u32) -> &[ListedState]
     ensures { result.now ≡ (part_of certificate.now hart).states }
 {
     match certificate.harts.get(hart as usize) {

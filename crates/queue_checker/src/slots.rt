@@ -57,7 +57,7 @@ fn is_owned_form(
 }
 
 /// Whether `width` bytes at a value are of the slot of a position that a party with this share owns.
-pub(crate) fn is_owned(
+pub fn is_owned(
     alloc: Global,
     ranges: &[Option<u64>],
     queue: Queue,

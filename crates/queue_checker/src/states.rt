@@ -40,7 +40,7 @@ pub(crate) fn copied_share(alloc: Global, share: &Share) -> Result<Share, Lack>
 }
 
 /// The share of queue `i`; none, if there are fewer.
-pub(crate) fn share_in(alloc: Global, shares: &[Share], i: usize) -> Result<Share, Lack>
+pub fn share_in(alloc: Global, shares: &[Share], i: usize) -> Result<Share, Lack>
     ensures { IfOk result (λ s. s ≡ get_or shares.now i no_share) }
 {
     match shares.get(i) {

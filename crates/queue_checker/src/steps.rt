@@ -36,7 +36,7 @@ fn address(base: u32, offset: i32) -> u32
 }
 
 /// What the pc says.
-pub(crate) fn instruction_at(code: &[u32], pc: u32) -> Option<Instr>
+pub fn instruction_at(code: &[u32], pc: u32) -> Option<Instr>
     ensures { result ≡ instruction_at code.now pc }
 {
     match code.get((pc / 4) as usize) {
@@ -57,7 +57,7 @@ fn register_at(alloc: Global, state: &KnownState, register: Reg) -> Result<Known
 }
 
 /// What a register holds, as a form where it is one.
-pub(crate) fn operand(
+pub fn operand(
     alloc: Global,
     certificate: &QueueCertificate,
     state: &KnownState,
@@ -70,7 +70,7 @@ pub(crate) fn operand(
 }
 
 /// The address `offset` bytes from where a register points.
-pub(crate) fn address_value(
+pub fn address_value(
     alloc: Global,
     certificate: &QueueCertificate,
     state: &KnownState,

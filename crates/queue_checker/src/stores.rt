@@ -29,7 +29,7 @@ use rv_decode::instruction::{AmoOp, StoreOp};
 use std::alloc::Global;
 
 /// How many bytes a store writes.
-pub(crate) fn store_width(op: StoreOp) -> u64
+pub fn store_width(op: StoreOp) -> u64
     ensures { result ≡ store_width op }
 {
     match op {
