@@ -21,7 +21,7 @@ use Rattle.queue_certificates.specs.States.{linear, index_for, signed_for}
 use Rattle.certificate_reader.specs.declared.faults.CertificateFault.{CertificateFault}
 use Rattle.certificate_reader.specs.Numbers.{count_of, round_of}
 use Rattle.certificate_reader.specs.FormTexts.{multiple_of, with_factor, factors_after, form_from, form_of, index_of}
-use Rattle.certificate_reader.specs.FormTexts.{linear_of, known_value_in}
+use Rattle.certificate_reader.specs.FormTexts.{linear_of, index_value, known_value_in}
 use Rattle.certificate_reader.specs.Lists.{forms_in}
 use Rattle.certificate_reader.specs.Writing.{is_written, first_if, multiple_text, multiples, parts_of, parts_text, form_text}
 use Rattle.certificate_reader.specs.Written.{FitsCount, FitsForm}
