@@ -12,7 +12,8 @@ use records_written::Effect;
 fn has_mark(marks: &StateMarks, position: u64, byte: u64) -> bool
     ensures { result ≡ has_mark marks.now position byte }
 {
-    match marks.slots.get(position as usize) {
+    let position = usize::try_from(position).unwrap_or(usize::MAX);
+    match marks.slots.get(position) {
         Some(slot) => slot.bytes.contains(&byte),
         None => false,
     }
