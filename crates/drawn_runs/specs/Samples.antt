@@ -32,6 +32,6 @@ runs_drawn B M draw stream runs = record {
 abbrev pub runs_of : {G : Type 0} → (B M : ℕ) → (stream_of : G → Stream) → Sample G → DrawnRuns
 runs_of B M stream_of sample = runs_drawn B M sample.draw (stream_of sample.generator.now) sample.runs
 
--- the schedule of this number, from 0, of so many harts
+-- the schedule that has this number, from 0; its events are of `harts` harts
 abbrev pub schedule_in : DrawnRuns → (harts number : ℕ) → List Event
 schedule_in d harts number = schedule_by d.draw harts d.size d.stream number

@@ -5,7 +5,7 @@ use Rattle.judged_runs.specs.Telling.{IsTold}
 use Rattle.judged_runs.specs.declared.telling.Told.{Told}
 use Rattle.judged_runs.specs.declared.telling.Told.TheVariants as told
 
--- what is told of runs, of which the good ones are also good in another way
+-- what is told of runs, where each run that is Good is Better too
 pub told_better : {T F : Type 0} (Good Better : List Event → Type 0) (Has : List Event → F → Type 0) (Alike : F → F → Type 0)
     (Counts : List (List Event) → T → Type 0) (schedule : ℕ → List Event) (runs : ℕ) → ((events : List Event) → Good events → Better events)
     → (told : Told T F) → IsTold Good Has Alike Counts schedule runs told → IsTold Better Has Alike Counts schedule runs told

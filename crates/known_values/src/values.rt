@@ -161,7 +161,7 @@ pub fn substituted_value(
     }
 }
 
-/// What a signed load leaves of a number of so many bytes.
+/// What a signed load leaves of a number of `width` bytes.
 pub fn signed_word(width: u32, word: u64) -> Result<u64, Lack>
     ensures { IfOk result (λ n. n ≡ signed_word width word) }
 {

@@ -62,7 +62,7 @@ word-of-difference a (suc b) = word-of-sum a (negsuc b)
 signed-small : (x : ℕ) → x < 2 ^ 31 → signed x ≡ pos x
 signed-small x small = ap (λ t. if t then pos x else pos x -ℤ pos (2 ^ 32)) (lt-ltb x (2 ^ 31) small)
 
--- a signed load of so many bits, of a number that has no more
+-- a signed load of `bits` bits, of a number that has no more
 pub signed-of-bits : (bits width x : ℕ) → 2 ^ (bits - 1) + 2 ^ (bits - 1) ≡ 256 ^ width → 2 ^ bits ≡ 256 ^ width → 256 ^ width ≤ 2 ^ 32
     → x < 256 ^ width → sign_extended bits x ≡ signed_word width x
 signed-of-bits bits width x half all small low = elim (cases_lt x (2 ^ (bits - 1))) [

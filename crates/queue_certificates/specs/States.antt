@@ -52,7 +52,7 @@ state_by t ranges s = record {
 
 -- ---- meaning
 
--- what a signed load leaves of a number of so many bytes
+-- what a signed load leaves of a number of `width` bytes
 abbrev pub signed_word : (width x : ℕ) → ℕ
 signed_word width x = if nat_lt (x + x) (256 ^ width) then x else x + (2 ^ 32 - 256 ^ width)
 

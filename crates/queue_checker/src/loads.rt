@@ -193,7 +193,7 @@ fn extended_value(
     }
 }
 
-/// What a signed load of so many bytes leaves of an index's word of as many.
+/// What a signed load leaves of an index's word; both have `width` bytes.
 fn signed_value(
     certificate: &QueueCertificate,
     hart: u32,

@@ -104,7 +104,7 @@ module _ (q : Queue) (is : IsQueue q) (c : QueueCounts) (xs : List ℕ) (s : Sha
             );
           })
 
-  -- one that moves the count by a form publishes so many
+  -- one that moves the count by a form publishes its number, or at most its bound
   pub does-move : (d : Form) (y : Access) → published_then q c y ≡ c.published + form_value d xs → (n : ℕ) → most rs d ≡ Some n
       → Does q c (if n == d.constant then Publishes n else PublishesSome n) y z
   does-move d y to n bound = by (n == d.constant) refl

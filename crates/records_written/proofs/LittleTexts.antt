@@ -59,7 +59,7 @@ running code = record {
   words = [];
 }
 
--- the state at an instruction that hands over so many positions and goes on to the next
+-- the state at an instruction that hands over `handed` positions and goes on to the next
 abbrev listed : (n own owned : ℕ) → (x1 : KnownValue) → (handed : ℕ) → ListedState
 listed n own owned x1 handed = record {
   known = record { pc = 4 * n; ranges = []; registers = any ∷ x1 ∷ []; words = []; shares = (record { own = number own; owned = number owned }) ∷ [] };

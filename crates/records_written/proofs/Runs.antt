@@ -65,7 +65,7 @@ abbrev AreWritten : Queue → (n : ℕ) → Marks → List Entry → Type 0
 AreWritten q n ms es = (d b : ℕ) → has_mark ms d b ≡ true
     → IsWritten q n es ((counts_after q (all_at n) es).published + d) (slot_of q ((counts_after q (all_at n) es).published + d) + b)
 
--- the position further by an entry that publishes so many
+-- the same position is d further than the count, after an entry that publishes
 written-on : (q : Queue) (n : ℕ) (es : List Entry) (e : Entry) (p d b : ℕ) → (counts_after q (all_at n) (es ++ e ∷ [])).published + d ≡ p
     → IsWritten q n es p (slot_of q p + b) → IsWritten q n (es ++ e ∷ []) ((counts_after q (all_at n) (es ++ e ∷ [])).published + d)
     (slot_of q ((counts_after q (all_at n) (es ++ e ∷ [])).published + d) + b)

@@ -31,7 +31,7 @@ abbrev pub published_by : Form → (bound : Option ℕ) → Option Effect
 published_by d None = None
 published_by d (Some n) = Some (if n == d.constant then Publishes n else PublishesSome n)
 
--- a store there of so many bytes, which moves no index of the queue
+-- a store of `width` bytes there, which moves no index of the queue
 abbrev pub filled_by : List (Option ℕ) → Queue → Share → (place : KnownValue) → (width : ℕ) → Effect
 filled_by rs q s any width = Leaves
 filled_by rs q s (index_for i f) width = Leaves

@@ -11,8 +11,8 @@ pub enum Effect {
         offset: u64,
         width: u64,
     },
-    /// It publishes so many positions.
+    /// It publishes this number of positions.
     Publishes(u64),
-    /// It publishes at most so many positions.
+    /// It publishes at most this number of positions.
     PublishesSome(u64),
 }
