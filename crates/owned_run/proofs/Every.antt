@@ -44,19 +44,19 @@ module _ (B M : ℕ) (o : OpeningValue) (N : ℕ) (queues : ℕ → Queue) (star
     (Sent : (i k : ℕ) → View → Type 0) (Own : ℕ → ℕ → Type 0)
     (P : ℕ → HartState → View → AllCounts → Type 0) (begins : OpenQueues M o N queues Told Sent starts)
     (c : IsCertified M o N queues Told Sent starts Own P) where
-  abbrev At : ℕ → List Entry → HartState → Type 0
+  abbrev pub At : ℕ → List Entry → HartState → Type 0
   At h done s = state_of M (history_of o done) h ≡ Some s
 
   -- what hart h reads at each byte
-  abbrev Sees : ℕ → List Entry → View
+  abbrev pub Sees : ℕ → List Entry → View
   Sees h done = λ x. read_byte o done h x
 
   -- the counts of each queue
-  abbrev Counted : List Entry → AllCounts
+  abbrev pub Counted : List Entry → AllCounts
   Counted done = λ i. counts_after (queues i) (all_at (starts i)) done
 
   -- where the sender of queue i moved its head past position k, and what it read there
-  record WasSent (i k : ℕ) (done : List Entry) : Type 0 where
+  pub record WasSent (i k : ℕ) (done : List Entry) : Type 0 where
     before : List Entry
     publishing : Entry
     since : List Entry
@@ -66,21 +66,21 @@ module _ (B M : ℕ) (o : OpeningValue) (N : ℕ) (queues : ℕ → Queue) (star
     sent : Sent i k (Sees (queues i).sender before)
 
   -- what holds after these entries
-  record Holds (done : List Entry) : Type 0 where
-    follows : (i : ℕ) → i < N → FollowsOwnership B (queues i) (all_at (starts i)) o [] done
-    within : (h : ℕ) (s : HartState) → At h done s → P h s (Sees h done) (Counted done)
-    alone : (h x : ℕ) → Own h x → IsOnlyWriter h x done
-    sent : (i k : ℕ) → i < N → Told i → starts i ≤ k → k < (counts_after (queues i) (all_at (starts i)) done).published → WasSent i k done
-    untouched : (i k x : ℕ) → i < N → Told i → IsByteOf (queues i) k x → LeavesByteAt (queues i).receiver x done
+  pub record Holds (done : List Entry) : Type 0 where
+    pub follows : (i : ℕ) → i < N → FollowsOwnership B (queues i) (all_at (starts i)) o [] done
+    pub within : (h : ℕ) (s : HartState) → At h done s → P h s (Sees h done) (Counted done)
+    pub alone : (h x : ℕ) → Own h x → IsOnlyWriter h x done
+    pub sent : (i k : ℕ) → i < N → Told i → starts i ≤ k → k < (counts_after (queues i) (all_at (starts i)) done).published → WasSent i k done
+    pub untouched : (i k x : ℕ) → i < N → Told i → IsByteOf (queues i) k x → LeavesByteAt (queues i).receiver x done
 
   module _ (done : List Entry) (e : Entry) (run : WellFormed B M (history_of o (done ++ e ∷ []))) (w : Holds done) where
     known : hart_of e < length o.harts
     known = known_hart o done e [] run.of_harts
 
-    allowed : Allowed B o done e
+    pub allowed : Allowed B o done e
     allowed = (LegalAfter-back B o [] done (e ∷ []) run.legal).0
 
-    le : (g : ℕ) → lands g done ≤ length (own_stores g done)
+    pub le : (g : ℕ) → lands g done ≤ length (own_stores g done)
     le g = balanced B (history_of o done) g (LegalAfter-front B o [] done (e ∷ []) run.legal)
 
     reads_view : (h : ℕ) (y : Access) → AllowedBy B (pending h done) (read o done h) y → ReadsFrom (Sees h done) y
@@ -105,7 +105,7 @@ module _ (B M : ℕ) (o : OpeningValue) (N : ℕ) (queues : ℕ → Queue) (star
         (w.untouched i k x less told of_k)) was.sent)
 
     -- its state decides what a hart makes
-    acts : (h : ℕ) (s : HartState) → hart_of e ≡ h → is_land e ≡ false → At h done s → Acts M o N queues Told Sent h s (Sees h done) (Counted done) e
+    pub acts : (h : ℕ) (s : HartState) → hart_of e ≡ h → is_land e ≡ false → At h done s → Acts M o N queues Told Sent h s (Sees h done) (Counted done) e
     acts h s mine act at = opened (slice_get o.harts h) refl
       where
         opened : (x : Option HartOpeningValue) → slice_get o.harts h ≡ x → Acts M o N queues Told Sent h s (Sees h done) (Counted done) e
@@ -129,7 +129,7 @@ module _ (B M : ℕ) (o : OpeningValue) (N : ℕ) (queues : ℕ → Queue) (star
             }
 
     -- the hart of the entry has a state
-    state_known : (h : ℕ) → hart_of e ≡ h → (s : HartState) × At h done s
+    pub state_known : (h : ℕ) → hart_of e ≡ h → (s : HartState) × At h done s
     state_known h mine = by (slice_get o.harts h) refl (subst (λ g. PathOf M (slice_get o.harts g) (own g (done ++ e ∷ []))) mine (run.paths (hart_of e) known))
       where
         by : (x : Option HartOpeningValue) → slice_get o.harts h ≡ x → PathOf M x (own h (done ++ e ∷ [])) → (s : HartState) × At h done s
@@ -175,7 +175,7 @@ module _ (B M : ℕ) (o : OpeningValue) (N : ℕ) (queues : ℕ → Queue) (star
 
     -- ---- each hart's own bytes
 
-    off_others : (h x : ℕ) → Own h x → hart_of e ≢ h → LeavesByteBy x (access_of e)
+    pub off_others : (h x : ℕ) → Own h x → hart_of e ≢ h → LeavesByteBy x (access_of e)
     off_others h x own other = by (is_land e) refl
       where
         by : (l : Bool) → is_land e ≡ l → LeavesByteBy x (access_of e)
@@ -187,10 +187,10 @@ module _ (B M : ℕ) (o : OpeningValue) (N : ℕ) (queues : ℕ → Queue) (star
     view_left : (h x : ℕ) → Own h x → LeavesByteBy x (access_of e) → Sees h (done ++ e ∷ []) x ≡ Sees h done x
     view_left h x own leaves = (kept B o h x done (e ∷ []) le (allowed, tt) (w.alone h x own) (leaves, tt)).0
 
-    view_acted : (h x : ℕ) → hart_of e ≡ h → is_land e ≡ false → Sees h (done ++ e ∷ []) x ≡ view_then (access_of e) (Sees h done) x
+    pub view_acted : (h x : ℕ) → hart_of e ≡ h → is_land e ≡ false → Sees h (done ++ e ∷ []) x ≡ view_then (access_of e) (Sees h done) x
     view_acted h x mine act = own_view B o h x done e (le h) allowed mine act
 
-    view_other : (h x : ℕ) → Own h x → is_own h e ≡ false → Sees h (done ++ e ∷ []) x ≡ Sees h done x
+    pub view_other : (h x : ℕ) → Own h x → is_own h e ≡ false → Sees h (done ++ e ∷ []) x ≡ Sees h done x
     view_other h x own off = at (cases_eq (hart_of e) h) (is_land e) refl
       where
         at : (hart_of e ≡ h) ⊎ (hart_of e ≢ h) → (l : Bool) → is_land e ≡ l → Sees h (done ++ e ∷ []) x ≡ Sees h done x
@@ -203,11 +203,11 @@ module _ (B M : ℕ) (o : OpeningValue) (N : ℕ) (queues : ℕ → Queue) (star
 
     -- ---- the counts
 
-    counts_last : (i : ℕ) → counts_next (queues i) (counts_after (queues i) (all_at (starts i)) done) e
+    pub counts_last : (i : ℕ) → counts_next (queues i) (counts_after (queues i) (all_at (starts i)) done) e
         ≡ counts_after (queues i) (all_at (starts i)) (done ++ e ∷ [])
     counts_last i = sym (counts-append (counts_next (queues i)) (all_at (starts i)) done (e ∷ []))
 
-    counts_left : (h : ℕ) → is_own h e ≡ false → (i : ℕ) → i < N
+    pub counts_left : (h : ℕ) → is_own h e ≡ false → (i : ℕ) → i < N
         → IsSameFor (queues i) h (counts_after (queues i) (all_at (starts i)) done) (counts_after (queues i) (all_at (starts i)) (done ++ e ∷ []))
     counts_left h off i less = same-then (queues i) h (counts_after (queues i) (all_at (starts i)) done)
         (counts_next (queues i) (counts_after (queues i) (all_at (starts i)) done) e)
@@ -215,7 +215,7 @@ module _ (B M : ℕ) (o : OpeningValue) (N : ℕ) (queues : ℕ → Queue) (star
         (left-same (queues i) (begins i less).0 h (counts_after (queues i) (all_at (starts i)) done) e off)
         (counts_last i)
 
-    counts_acted : (h : ℕ) → hart_of e ≡ h → (i : ℕ)
+    pub counts_acted : (h : ℕ) → hart_of e ≡ h → (i : ℕ)
         → IsSameFor (queues i) h (counts_then M o N queues Told Sent h (access_of e) (Counted done) i)
         (counts_after (queues i) (all_at (starts i)) (done ++ e ∷ []))
     counts_acted h mine i = same-then (queues i) h (counts_then M o N queues Told Sent h (access_of e) (Counted done) i)
@@ -335,9 +335,13 @@ module _ (B M : ℕ) (o : OpeningValue) (N : ℕ) (queues : ℕ → Queue) (star
       let whole_run : WellFormed B M (history_of o ((done ++ e ∷ []) ++ rest)) = subst (λ xs. WellFormed B M (history_of o xs)) (sym all) run in
       subst Holds all (from (done ++ e ∷ []) rest whole_run (holds_next done e (kept-front B M o (done ++ e ∷ []) rest whole_run) w))
 
+  -- in every run
+  pub holds : (es : List Entry) → WellFormed B M (history_of o es) → Holds es
+  holds es run = from [] es run first
+
   -- EVERY run, of any length, keeps the protocol of each queue
   pub every_run : (es : List Entry) → WellFormed B M (history_of o es) → (i : ℕ) → i < N → FollowsOwnership B (queues i) (all_at (starts i)) o [] es
-  every_run es run i less = (from [] es run first).follows i less
+  every_run es run i less = (holds es run).follows i less
 
   -- and where the certificate's loads of slots are of owned ones, so are all in every run
   reads-from : (i : ℕ) (p : Party) → LoadsAreOwned M o N queues Told Sent P i p → (done rest : List Entry)
@@ -362,7 +366,7 @@ module _ (B M : ℕ) (o : OpeningValue) (N : ℕ) (queues : ℕ → Queue) (star
       → WellFormed B M (history_of o (es ++ e ∷ [])) → hart_of e ≡ (queues i).receiver → (x : ℕ) → LoadsByte (access_of e) x
       → IsInBytes (queues i).slots ((queues i).size * (queues i).width) x → IsDelivered (queues i) (starts i) o es x
   loads_delivered i less looks es e run mine x loads slots =
-      let w : Holds es = from [] es (kept-front B M o es (e ∷ []) run) first in
+      let w : Holds es = holds es (kept-front B M o es (e ∷ []) run) in
       delivered B (queues i) (starts i) o es (w.follows i less) x (by (access_of e) (loads_next es e run w i the_receiver looks mine) loads)
     where
       by : (y : Access) → LoadsOwned (queues i) the_receiver (counts_after (queues i) (all_at (starts i)) es) y → LoadsByte y x
@@ -377,4 +381,4 @@ module _ (B M : ℕ) (o : OpeningValue) (N : ℕ) (queues : ℕ → Queue) (star
   -- and in every run each hart is in its set
   pub every_state : (es : List Entry) → WellFormed B M (history_of o es) → (h : ℕ) (s : HartState) → state_of M (history_of o es) h ≡ Some s
       → P h s (λ x. read_byte o es h x) (λ i. counts_after (queues i) (all_at (starts i)) es)
-  every_state es run = (from [] es run first).within
+  every_state es run = (holds es run).within
