@@ -73,6 +73,19 @@ module _ (B M : ℕ) (o : OpeningValue) (N : ℕ) (queues : ℕ → Queue) (star
     pub sent : (i k : ℕ) → i < N → Told i → starts i ≤ k → k < (counts_after (queues i) (all_at (starts i)) done).published → WasSent i k done
     pub untouched : (i k x : ℕ) → i < N → Told i → IsByteOf (queues i) k x → LeavesByteAt (queues i).receiver x done
 
+  -- a record that the receiver owns is one that was sent
+  received : (done : List Entry) → Holds done → (i : ℕ) → i < N → Told i → (h : ℕ) → h ≡ (queues i).receiver
+      → (k : ℕ) → (counts_after (queues i) (all_at (starts i)) done).taken ≤ k → k < (counts_after (queues i) (all_at (starts i)) done).known_published → Sent i k (Sees h done)
+  received done w i less told h is k from below =
+      let f : FollowsOwnership B (queues i) (all_at (starts i)) o [] done = w.follows i less in
+      let win : IsWindow (queues i).capacity (counts_after (queues i) (all_at (starts i)) done) = window B (queues i) (all_at (starts i)) o [] done f in
+      let more : starts i ≤ (counts_after (queues i) (all_at (starts i)) done).taken =
+      (grows-after (queues i) (all_at (starts i)) done).counts the_receiver in
+      let was : WasSent i k done = w.sent i k less told (omega (arith, more, from)) (omega (arith, win.known_published, below)) in
+      subst (λ g. Sent i k (Sees g done)) (sym is) (c.record_frame i k less told (Sees (queues i).sender was.before) (Sees (queues i).receiver done)
+      (λ x of_k. handed-at B (queues i) (starts i) o done f k x of_k from below was.before was.publishing was.since was.is was.from was.past
+      (w.untouched i k x less told of_k)) was.sent)
+
   module _ (done : List Entry) (e : Entry) (run : WellFormed B M (history_of o (done ++ e ∷ []))) (w : Holds done) where
     known : hart_of e < length o.harts
     known = known_hart o done e [] run.of_harts
@@ -91,19 +104,6 @@ module _ (B M : ℕ) (o : OpeningValue) (N : ℕ) (queues : ℕ → Queue) (star
     reads_view h (fence full) a = tt
     reads_view h land a = tt
 
-    -- a record that the receiver owns is one that was sent
-    received : (i : ℕ) → i < N → Told i → (h : ℕ) → h ≡ (queues i).receiver → (k : ℕ) → (counts_after (queues i) (all_at (starts i)) done).taken ≤ k
-        → k < (counts_after (queues i) (all_at (starts i)) done).known_published → Sent i k (Sees h done)
-    received i less told h is k from below =
-        let f : FollowsOwnership B (queues i) (all_at (starts i)) o [] done = w.follows i less in
-        let win : IsWindow (queues i).capacity (counts_after (queues i) (all_at (starts i)) done) = window B (queues i) (all_at (starts i)) o [] done f in
-        let more : starts i ≤ (counts_after (queues i) (all_at (starts i)) done).taken =
-        (grows-after (queues i) (all_at (starts i)) done).counts the_receiver in
-        let was : WasSent i k done = w.sent i k less told (omega (arith, more, from)) (omega (arith, win.known_published, below)) in
-        subst (λ g. Sent i k (Sees g done)) (sym is) (c.record_frame i k less told (Sees (queues i).sender was.before) (Sees (queues i).receiver done)
-        (λ x of_k. handed-at B (queues i) (starts i) o done f k x of_k from below was.before was.publishing was.since was.is was.from was.past
-        (w.untouched i k x less told of_k)) was.sent)
-
     -- its state decides what a hart makes
     pub acts : (h : ℕ) (s : HartState) → hart_of e ≡ h → is_land e ≡ false → At h done s → Acts M o N queues Told Sent h s (Sees h done) (Counted done) e
     acts h s mine act at = opened (slice_get o.harts h) refl
@@ -119,7 +119,7 @@ module _ (B M : ℕ) (o : OpeningValue) (N : ℕ) (queues : ℕ → Queue) (star
               reads = reads_view h (access_of e) (subst (λ g. AllowedBy B (pending g done) (read o done g) (access_of e)) mine allowed);
               bytes = λ x. read-below o done h x;
               sees = λ i less p same. seen B (queues i) (starts i) o done (w.follows i less) p h same;
-              received = λ i less told same k from below. received i less told h same k from below;
+              received = λ i less told same k from below. received done w i less told h same k from below;
               opens = x;
               is = is;
               code = keeps.code;
@@ -382,3 +382,9 @@ module _ (B M : ℕ) (o : OpeningValue) (N : ℕ) (queues : ℕ → Queue) (star
   pub every_state : (es : List Entry) → WellFormed B M (history_of o es) → (h : ℕ) (s : HartState) → state_of M (history_of o es) h ≡ Some s
       → P h s (λ x. read_byte o es h x) (λ i. counts_after (queues i) (all_at (starts i)) es)
   every_state es run = (holds es run).within
+
+  -- and of each record that a receiver owns what is said of records is so, in its view
+  pub every_record : (es : List Entry) → WellFormed B M (history_of o es) → (i : ℕ) → i < N → Told i → (k : ℕ)
+      → (counts_after (queues i) (all_at (starts i)) es).taken ≤ k → k < (counts_after (queues i) (all_at (starts i)) es).known_published
+      → Sent i k (Sees (queues i).receiver es)
+  every_record es run i less told k from below = received es (holds es run) i less told (queues i).receiver refl k from below
