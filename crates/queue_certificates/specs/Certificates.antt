@@ -1,20 +1,31 @@
 -- A certificate of the queues of a text: of each hart states that are closed under its instructions. And when it is accepted.
-use Rattle.std.specs.Prelude.{map, ℕ, zero, suc, ◌≡◌, ◌+◌, ◌-◌, ◌*◌, ◌%◌, ◌^◌, ◌<◌, ◌≤◌, ◌==◌, ◌&&◌, ◌||◌, not, nat_le}
+use Rattle.std.specs.Prelude.{map, ℕ, zero, suc, ◌≡◌, ◌⊎◌, ◌+◌, ◌-◌, ◌*◌, ◌%◌, ◌^◌, ◌<◌, ◌≤◌, ◌==◌, ◌&&◌, ◌||◌, not, nat_le}
 use Rattle.std.specs.Prelude.{nat_lt, if◌then◌else◌, Bool, true, false, Option, None, Some, List, [], ◌∷◌, length}
-use Rattle.std.specs.Prelude.{get_or, slice_index, slice_set}
+use Rattle.std.specs.Prelude.{get_or, slice_index, slice_set, All}
+use Rattle.std.specs.List.{list_all}
+use Rattle.rv_decode.specs.declared.instruction.Instr.{Instr}
+use Rattle.rv_decode.specs.declared.instruction.Instr.TheVariants.{Store, Amo}
+use Rattle.hart.specs.Effects.{store_width}
 use Rattle.hart.specs.State.{HartState}
 use Rattle.hart.specs.declared.status.Status.TheVariants as status
 use Rattle.step_machine.specs.History.{HartOpeningValue, OpeningValue}
 use Rattle.step_machine.specs.Entries.{opening_byte}
 use Rattle.store_buffers.specs.StoreBuffers.{memory_number}
 use Rattle.slot_queue.specs.Queues.{Queue, index_word}
-use Rattle.queue_parties.specs.Parties.{Party, all_at}
+use Rattle.queue_parties.specs.Positions.{IsInBytes}
+use Rattle.queue_parties.specs.Parties.{Party, the_sender, the_receiver, all_at}
 use Rattle.slot_queue.specs.Ownership.{party_of, end}
 use Rattle.owned_run.specs.Certified.{View, AllCounts, number_seen, OpenQueues, IsCertified, LoadsAreOwned}
+use Rattle.owned_run.specs.Certificates.{Field, MeetsField}
 use Rattle.queue_certificates.specs.Forms.{Form, form_value, number, substituted, is_same, raised, settled, are_in}
 use Rattle.queue_certificates.specs.States.{KnownValue, any, linear, index_for, signed_for, Share, no_share, KnownState}
 use Rattle.queue_certificates.specs.States.{value_by, state_by, signed_word, is_within, Means}
-use Rattle.queue_certificates.specs.Steps.{all_below, follow, instruction_at, loads_owned}
+use Rattle.queue_certificates.specs.Results.{bounds}
+use Rattle.queue_certificates.specs.Steps.{all_below, is_apart, anywhere, operand, addresses, follow, instruction_at, loads_owned}
+use Rattle.queue_certificates.specs.Fields.{is_field, next_received}
+use Rattle.queue_certificates.specs.Effects.{effect_of, value_stored}
+use Rattle.queue_certificates.specs.Filled.{Filled, is_filled, no_field, is_filled_after, are_so, may_send}
+use Rattle.queue_certificates.specs.declared.effect.Effect.{Effect}
 
 -- where a state goes on: to the state of this number, whose variables are these forms over those of the leaf, after one that comes
 -- with the step
@@ -28,8 +39,11 @@ pub data Cases : Type 0 where
   leaf : (handed : Form) (arrows : List Arrow) → Cases
   split : (j v : ℕ) (low high : Cases) → Cases
 
+-- what is known of a hart at a pc; of each queue to which it sends records with fields, which of them are right ahead of its count; and
+-- where it goes on
 pub record ListedState : Type 0 where
   pub known : KnownState
+  pub filled : List Filled
   pub cases : Cases
 
 -- a hart's part: the addresses of words that no other hart writes, the state in which it opens with the numbers of its variables, and all
@@ -40,9 +54,11 @@ pub record HartPart : Type 0 where
   pub numbers : List ℕ
   pub states : List ListedState
 
+-- a queue, the count with which it opens, and the fields of its records. Where it has some its receiver stores nothing to its slots
 pub record OpenedQueue : Type 0 where
   pub queue : Queue
   pub start : ℕ
+  pub fields : List Field
 
 pub record QueueCertificate : Type 0 where
   pub queues : List OpenedQueue
@@ -66,19 +82,27 @@ no_queue = record {
     modulus = 0;
   };
   start = 0;
+  fields = [];
 }
 
 abbrev pub no_part : HartPart
 no_part = record { own = []; first = 0; numbers = []; states = [] }
 
 abbrev pub nowhere : ListedState
-nowhere = record { known = record { pc = 0; ranges = []; registers = []; words = []; shares = [] }; cases = leaf (number 0) [] }
+nowhere = record {
+  known = record { pc = 0; ranges = []; registers = []; words = []; shares = [] };
+  filled = [];
+  cases = leaf (number 0) [];
+}
 
 abbrev pub queue_at : QueueCertificate → ℕ → Queue
 queue_at c i = (get_or c.queues i no_queue).queue
 
 abbrev pub start_at : QueueCertificate → ℕ → ℕ
 start_at c i = (get_or c.queues i no_queue).start
+
+abbrev pub fields_at : QueueCertificate → ℕ → List Field
+fields_at c i = (get_or c.queues i no_queue).fields
 
 abbrev pub part_of : QueueCertificate → ℕ → HartPart
 part_of c h = get_or c.harts h no_part
@@ -100,14 +124,43 @@ abbrev pub IsInState : QueueCertificate → (h : ℕ) → HartState → View →
 IsInState c h s m cs = s.status ≡ status.Running
     → (n : ℕ) × (n < length (part_of c h).states) × Means (queue_at c) (length c.queues) (own_of c h) h (state_at c h n).known s m cs
 
+-- of queue i's records something is said, and this of the one at position k
+abbrev pub HasFields : QueueCertificate → (i : ℕ) → Type 0
+HasFields c i = 0 < length (fields_at c i)
+
+abbrev pub MeetsFields : QueueCertificate → (i k : ℕ) → View → Type 0
+MeetsFields c i k m = All (MeetsField (queue_at c i) k m) (fields_at c i)
+
+-- the byte at x is of the slots to which hart h alone sends fields, and so no other hart writes it
+abbrev pub IsSentByte : QueueCertificate → (h x : ℕ) → Type 0
+IsSentByte c h x = (i : ℕ) × (i < length c.queues) × HasFields c i × (h ≡ (queue_at c i).sender)
+    × IsInBytes (queue_at c i).slots ((queue_at c i).size * (queue_at c i).width) x
+
+abbrev pub IsOwnByte : QueueCertificate → (h x : ℕ) → Type 0
+IsOwnByte c h x = IsKeptByte c h x ⊎ IsSentByte c h x
+
+abbrev pub field_of : QueueCertificate → (i j : ℕ) → Field
+field_of c i j = get_or (fields_at c i) j no_field
+
+-- what is said to be right is so, of each queue with fields of which hart h is the sender
+abbrev pub AreFilled : QueueCertificate → (h : ℕ) → List Filled → View → AllCounts → Type 0
+AreFilled c h filled m cs = (i : ℕ) → i < length c.queues → HasFields c i → h ≡ (queue_at c i).sender → (d j : ℕ)
+    → is_filled (queue_at c i).size (get_or filled i []) d j ≡ true → MeetsField (queue_at c i) ((cs i).published + d) m (field_of c i j)
+
+-- and of a state in which the hart is that is so too
+abbrev pub IsAtState : QueueCertificate → (h : ℕ) → HartState → View → AllCounts → Type 0
+IsAtState c h s m cs = s.status ≡ status.Running
+    → (n : ℕ) × (n < length (part_of c h).states) × Means (queue_at c) (length c.queues) (own_of c h) h (state_at c h n).known s m cs
+    × AreFilled c h (state_at c h n).filled m cs
+
 abbrev pub Opens : (M : ℕ) → OpeningValue → QueueCertificate → Type 0
-Opens M o c = OpenQueues M o (length c.queues) (queue_at c) (λ i. ⊥) (λ i k m. Unit {0}) (start_at c)
+Opens M o c = OpenQueues M o (length c.queues) (queue_at c) (HasFields c) (MeetsFields c) (start_at c)
 
 abbrev pub Certifies : (M : ℕ) → OpeningValue → QueueCertificate → Type 0
-Certifies M o c = IsCertified M o (length c.queues) (queue_at c) (λ i. ⊥) (λ i k m. Unit {0}) (start_at c) (IsKeptByte c) (IsInState c)
+Certifies M o c = IsCertified M o (length c.queues) (queue_at c) (HasFields c) (MeetsFields c) (start_at c) (IsOwnByte c) (IsAtState c)
 
 abbrev pub CertifiesLoads : (M : ℕ) → OpeningValue → QueueCertificate → (i : ℕ) → Party → Type 0
-CertifiesLoads M o c i p = LoadsAreOwned M o (length c.queues) (queue_at c) (λ i. ⊥) (λ i k m. Unit {0}) (IsInState c) i p
+CertifiesLoads M o c i p = LoadsAreOwned M o (length c.queues) (queue_at c) (HasFields c) (MeetsFields c) (IsAtState c) i p
 
 -- ---- arrows
 
@@ -155,7 +208,8 @@ with_high k j v = state_by (λ f. settled (range_changed k.ranges j (beyond v)) 
 
 module _ (c : QueueCertificate) (h : ℕ) (code : List ℕ) where
   abbrev pub next_states : KnownState → (d : Form) → Option (List KnownState)
-  next_states k d = follow (queue_at c) (length c.queues) (own_of c) (length c.harts) h k d (instruction_at code k.pc)
+  next_states k d = next_received (queue_at c) (fields_at c) (length c.queues) (own_of c) (length c.harts) h k (instruction_at code k.pc)
+      (follow (queue_at c) (length c.queues) (own_of c) (length c.harts) h k d (instruction_at code k.pc))
 
   abbrev pub each_leads : List KnownState → List Arrow → Bool
   each_leads [] arrows = true
@@ -177,6 +231,43 @@ module _ (c : QueueCertificate) (h : ℕ) (code : List ℕ) where
   owns_loads i k (leaf d arrows) = loads_owned (queue_at c) (length c.queues) (own_of c) (length c.harts) h k i (instruction_at code k.pc)
   owns_loads i k (split j v low high) = owns_loads i (with_low k j v) low
       && (not (may_exceed v (get_or k.ranges j (Some 0))) || owns_loads i (with_high k j v) high)
+
+  -- ---- queue i, which has fields
+
+  -- an instruction of its receiver stores nothing to its slots
+  abbrev pub leaves_slots : (i : ℕ) → KnownState → Option Instr → Bool
+  leaves_slots i k (Some (Store op rs1 rs2 offset)) = is_apart (addresses (queue_at c) (length c.queues) (own_of c) (length c.harts) h k rs1 offset)
+      (store_width op) (queue_at c i).slots ((queue_at c i).size * (queue_at c i).width)
+  leaves_slots i k (Some (Amo op rd rs1 rs2 aq rl)) =
+      is_apart (anywhere (bounds k.ranges (operand (queue_at c) (length c.queues) (own_of c) (length c.harts) h k rs1))) 4
+      (queue_at c i).slots ((queue_at c i).size * (queue_at c i).width)
+  leaves_slots i k other = true
+
+  -- what each next state says to be right is so
+  abbrev pub arrows_fill : (i : ℕ) → List Arrow → (ℕ → ℕ → Bool) → Bool
+  arrows_fill i [] f = true
+  arrows_fill i (a ∷ arrows) f = are_so (get_or (state_at c h a.to).filled i []) f && arrows_fill i arrows f
+
+  -- an instruction of its sender publishes no record that isn't right
+  abbrev pub effect_sends : (i : ℕ) → Filled → KnownState → List Arrow → (stored : KnownValue) → Option Effect → Bool
+  effect_sends i ms k arrows v None = false
+  effect_sends i ms k arrows v (Some e) = may_send (queue_at c i).size (fields_at c i) ms e
+      && arrows_fill i arrows (is_filled_after k.ranges (queue_at c i) (fields_at c i) v ms e)
+
+  abbrev pub keeps_records : (i : ℕ) → Option Party → Filled → KnownState → (d : Form) → List Arrow → Option Instr → Bool
+  keeps_records i None ms k d arrows instruction = true
+  keeps_records i (Some the_receiver) ms k d arrows instruction = leaves_slots i k instruction
+  keeps_records i (Some the_sender) ms k d arrows instruction = effect_sends i ms k arrows
+      (value_stored (queue_at c) (length c.queues) (own_of c) (length c.harts) i k instruction)
+      (effect_of (queue_at c) (length c.queues) (own_of c) (length c.harts) i k d instruction)
+
+  abbrev pub keeps_fields : (i : ℕ) → Filled → KnownState → Cases → Bool
+  keeps_fields i ms k (leaf d arrows) = keeps_records i (party_of (queue_at c i) h) ms k d arrows (instruction_at code k.pc)
+  keeps_fields i ms k (split j v low high) = keeps_fields i ms (with_low k j v) low
+      && (not (may_exceed v (get_or k.ranges j (Some 0))) || keeps_fields i ms (with_high k j v) high)
+
+  abbrev pub keeps_all_fields : ListedState → Bool
+  keeps_all_fields t = all_below (length c.queues) (λ i. (length (fields_at c i) == 0) || keeps_fields i (get_or t.filled i []) t.known t.cases)
 
 -- ---- the opening
 
@@ -206,6 +297,10 @@ opens_in o c h x k xs = are_in_ranges k.ranges xs && (k.pc == 0)
     && all_below (length (own_of c h)) (λ j. is_value (queue_at c) xs (get_or k.words j any) (number_seen (opening_byte o) (slice_index (own_of c h) j) 4))
     && all_below (length c.queues) (λ i. opens_share (queue_at c i) (party_of (queue_at c i) h) (start_at c i) (get_or k.shares i no_share) xs)
 
+-- nothing is right yet
+abbrev pub opens_unfilled : QueueCertificate → List Filled → Bool
+opens_unfilled c filled = all_below (length c.queues) (λ i. (length (fields_at c i) == 0) || are_so (get_or filled i []) (λ d j. false))
+
 -- ---- queues
 
 abbrev pub are_apart : (a m b n : ℕ) → Bool
@@ -226,14 +321,16 @@ opens_empty o q start = (memory_number o [] q.head q.index_width == index_word q
 
 abbrev pub accepts_hart : OpeningValue → QueueCertificate → (h : ℕ) → HartOpeningValue → HartPart → Bool
 accepts_hart o c h x part = nat_le 32 (length x.registers) && nat_lt part.first (length part.states)
-    && opens_in o c h x (state_at c h part.first).known part.numbers
-    && all_below (length part.states) (λ n. is_closed c h x.code (state_at c h n).known (state_at c h n).cases)
+    && opens_in o c h x (state_at c h part.first).known part.numbers && opens_unfilled c (state_at c h part.first).filled
+    && all_below (length part.states)
+    (λ n. is_closed c h x.code (state_at c h n).known (state_at c h n).cases && keeps_all_fields c h x.code (state_at c h n))
 
 abbrev pub no_hart : HartOpeningValue
 no_hart = record { code = []; registers = []; inbox = [] }
 
 abbrev pub accepts : OpeningValue → QueueCertificate → Bool
-accepts o c = all_below (length c.queues) (λ i. is_queue (queue_at c i) && opens_empty o (queue_at c i) (start_at c i))
+accepts o c = all_below (length c.queues)
+    (λ i. is_queue (queue_at c i) && opens_empty o (queue_at c i) (start_at c i) && list_all (is_field (queue_at c i)) (fields_at c i))
     && all_below (length o.harts) (λ h. accepts_hart o c h (get_or o.harts h no_hart) (part_of c h))
 
 -- in its states the hart loads of queue i's slots only owned ones

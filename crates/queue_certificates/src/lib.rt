@@ -9,7 +9,9 @@
 
 #![tactic(auto)]
 
-ghost use Rattle.std.specs.Prelude.{ℕ, ◌≡◌, ◌*◌, ◌<◌, List, [], ◌∷◌, ◌++◌, length, Some, true};
+mod effect;
+
+ghost use Rattle.std.specs.Prelude.{ℕ, ◌≡◌, ◌*◌, ◌<◌, ◌≤◌, List, [], ◌∷◌, ◌++◌, length, Some, true};
 ghost use Rattle.step_machine.specs.declared.events.Entry.{Entry};
 ghost use Rattle.step_machine.specs.History.{OpeningValue, history_of};
 ghost use Rattle.step_machine.specs.Access.{access_of};
@@ -24,7 +26,9 @@ ghost use Rattle.slot_queue.specs.Laws.{FollowsOwnership};
 ghost use Rattle.slot_queue.specs.Ownership.{counts_after};
 ghost use Rattle.owned_run.specs.Certified.{LoadsByte, ReadsOwned};
 ghost use Rattle.owned_run.specs.Delivered.{IsDelivered};
-ghost use Rattle.queue_certificates.specs.Certificates.{QueueCertificate, queue_at, start_at, IsInState, accepts, accepts_loads};
+ghost use Rattle.queue_certificates.specs.Certificates.{QueueCertificate, queue_at, start_at, IsInState, MeetsFields, accepts, accepts_loads};
+
+pub use effect::Effect;
 
 /// Where a certificate is accepted for an opening, in every legal run from it, of any length and with store buffers of any size. It
 /// does nothing.
@@ -35,6 +39,8 @@ ghost use Rattle.queue_certificates.specs.Certificates.{QueueCertificate, queue_
 /// - `delivered`: where the receiver's are, each byte of a slot that it loads, by a load or an AMO, is of a position that it owns, and
 ///   as the sender's hart read it where it moved its head past that position, unless the receiver has stored there since.
 /// - `in_states`: a hart that runs is in one of the certificate's states.
+/// - `sent`: of a queue whose records have fields, the receiver reads in the slot of each position that it owns, as each field, one of
+///   the field's numbers.
 #[tactic(auto, using(crate::proofs::EveryRun::accepted_runs, crate::proofs::EveryRun::accepted_loads, crate::proofs::EveryRun::accepted_deliveries, crate::proofs::EveryRun::accepted_states))]
 pub fn laws_of_queue_certificates()
     ensures every_run { (B M : ℕ) (o : OpeningValue) (c : QueueCertificate) → accepts o c ≡ true → (es : List Entry)
@@ -49,4 +55,8 @@ pub fn laws_of_queue_certificates()
     ensures in_states { (B M : ℕ) (o : OpeningValue) (c : QueueCertificate) → accepts o c ≡ true → (es : List Entry)
         → WellFormed B M (history_of o es) → (h : ℕ) (s : HartState) → state_of M (history_of o es) h ≡ Some s
         → IsInState c h s (λ x. read_byte o es h x) (λ i. counts_after (queue_at c i) (all_at (start_at c i)) es) }
+    ensures sent { (B M : ℕ) (o : OpeningValue) (c : QueueCertificate) → accepts o c ≡ true → (i : ℕ) → i < length c.queues → (es : List Entry)
+        → WellFormed B M (history_of o es) → (k : ℕ) → (counts_after (queue_at c i) (all_at (start_at c i)) es).taken ≤ k
+        → k < (counts_after (queue_at c i) (all_at (start_at c i)) es).known_published
+        → MeetsFields c i k (λ x. read_byte o es (queue_at c i).receiver x) }
 {}
