@@ -8,5 +8,10 @@ pub mod States
 pub mod Accesses
 pub mod Stores
 pub mod Steps
+pub mod Received
+pub mod Filled
+pub mod Effects
+pub mod Sends
+pub mod Takes
 pub mod Certified
 mod EveryRun

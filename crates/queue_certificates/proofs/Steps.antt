@@ -611,28 +611,39 @@ module _ (M : ℕ) (o : OpeningValue) (queues : ℕ → Queue) (N : ℕ) (own_of
   load-keeps q None c a width x = tt
   load-keeps q (Some p) c a width x = tt
 
+  pub read-small : (op : LoadOp) (a : ℕ) → v ≡ number_seen m a (load_width op) → v < 256 ^ load_width op
+  read-small op a read =
+      subst (λ n. n < 256 ^ load_width op) (sym read) (joined-below (λ i. m (a + i)) (λ i. acts.bytes (a + i)) (load_width op))
+
+  -- a load that is no look leaves in its register what is known of what it reads
+  pub load-gives : (op : LoadOp) (rd : Reg) (a : ℕ) (b : Bounds) (z : HartState) → b.low ≤ a → a ≤ b.high
+      → may_load queues N own_of H h k b (load_width op) None ≡ true → (r : Result) → Gives queues xs r (extended op v)
+      → z.pc ≡ next_pc k.pc → z.registers ≡ written_at s.registers rd.number (extended op v)
+      → Means queues N (own_of h) h (with_result k rd.number (next_pc k.pc) r) z m
+      (λ i. after_access (queues i) (party_of (queues i) h) (load a (load_width op) v) (cs i))
+  load-gives op rd a b z low high ok r g at regs = (
+    g.0 ∷ xs,
+    means-frame queues N (own_of h) h (g.0 ∷ xs) (with_result k rd.number (next_pc k.pc) r) z m m cs
+        (λ i. after_access (queues i) (party_of (queues i) h) (load a (load_width op) v) (cs i))
+        (means-result queues N (own_of h) h xs k s z m cs rd.number (next_pc k.pc) (extended op v) r
+        means (omega (arith, size, rd.below_32)) g.0 g.1 g.2 at regs) (λ j x less from to. refl)
+        (λ i less.
+        same-then (queues i) h (cs i) (missed (queues i) (party_of (queues i) h) b a (load_width op) v (cs i)
+        (at-below N (λ i. misses (queues i) (party_of (queues i) h) b (load_width op)) ok i less) low high)),
+  )
+    where
+      same-then : (q : Queue) (h : ℕ) (c : QueueCounts) {d : QueueCounts} → d ≡ c → IsSameFor q h c d
+      same-then q h c same = record { count = λ p is. ap (count p) same; known = λ p is. ap (known_of p) same }
+
   load-known : (op : LoadOp) (rd : Reg) (a : ℕ) (b : Bounds) (look : Option ℕ) (z : HartState) → b.low ≤ a → a ≤ b.high → v ≡ number_seen m a (load_width op)
       → last_below N (is_look queues N own_of H h b (load_width op)) ≡ look → may_load queues N own_of H h k b (load_width op) look ≡ true
       → z.pc ≡ next_pc k.pc → z.registers ≡ written_at s.registers rd.number (extended op v)
       → Means queues N (own_of h) h (after_load queues N own_of H h k op rd.number b look) z m
       (λ i. after_access (queues i) (party_of (queues i) h) (load a (load_width op) v) (cs i))
   load-known op rd a b None z low high read is ok at regs =
-      let g = loaded-gives op (value_loaded queues N own_of H h k b (load_width op)) v
-      (subst (λ n. n < 256 ^ load_width op) (sym read) (joined-below (λ i. m (a + i)) (λ i. acts.bytes (a + i)) (load_width op)))
-      (value-loaded b (load_width op) a v low high read) in
-      let z-means = means-result queues N (own_of h) h xs k s z m cs rd.number (next_pc k.pc) (extended op v)
-      (loaded queues N own_of H h op (value_loaded queues N own_of H h k b (load_width op)))
-      means (omega (arith, size, rd.below_32)) g.0 g.1 g.2 at regs in (
-        g.0 ∷ xs,
-        means-frame queues N (own_of h) h (g.0 ∷ xs) (after_load queues N own_of H h k op rd.number b None) z m m cs
-            (λ i. after_access (queues i) (party_of (queues i) h) (load a (load_width op) v) (cs i)) z-means (λ j x less from to. refl)
-            (λ i less.
-            same-then (queues i) h (cs i) (missed (queues i) (party_of (queues i) h) b a (load_width op) v (cs i)
-            (at-below N (λ i. misses (queues i) (party_of (queues i) h) b (load_width op)) ok i less) low high)),
-      )
-    where
-      same-then : (q : Queue) (h : ℕ) (c : QueueCounts) {d : QueueCounts} → d ≡ c → IsSameFor q h c d
-      same-then q h c same = record { count = λ p is. ap (count p) same; known = λ p is. ap (known_of p) same }
+      load-gives op rd a b z low high ok (loaded queues N own_of H h op (value_loaded queues N own_of H h k b (load_width op)))
+      (loaded-gives op (value_loaded queues N own_of H h k b (load_width op)) v (read-small op a read) (value-loaded b (load_width op) a v low high read))
+      at regs
   load-known op rd a b (Some i) z low high read is ok at regs = (
     l.more ∷ xs,
     record {
@@ -759,40 +770,41 @@ module _ (M : ℕ) (o : OpeningValue) (queues : ℕ → Queue) (N : ℕ) (own_of
       (load_width op) (address (register_value s.registers rs1) offset) (address-has rs1 offset) at.0 at.1 i less
       (subst (λ t. loads_owned queues N own_of H h k i t ≡ true) (said-at (Load op rd rs1 offset) here) ok) p mine
 
+  -- it goes on to a state that says what is so after it
+  pub load-leads : (op : LoadOp) (rd rs1 : Reg) (offset : ℤ) (t : KnownState) → IsAt s (Load op rd rs1 offset)
+      → ((z : HartState) → v ≡ number_seen m (address (register_value s.registers rs1) offset) (load_width op) → z.pc ≡ next_pc k.pc
+      → z.registers ≡ written_at s.registers rd.number (extended op v) → Means queues N (own_of h) h t z m
+      (λ i. after_access (queues i) (party_of (queues i) h) (load (address (register_value s.registers rs1) offset) (load_width op) v) (cs i)))
+      → Goes queues N own_of h owns (t ∷ []) m cs (access_of e) (advanced s v)
+  load-leads op rd rs1 offset t here known = access-goes (t ∷ []) (load_width op) (address (register_value s.registers rs1) offset)
+      (need.Load (address (register_value s.registers rs1) offset) (load_width op)) (need_at here) (λ needs.
+      (let access : access_of e ≡ load (address (register_value s.registers rs1) offset) (load_width op) v =
+      access-is (need.Load (address (register_value s.registers rs1) offset) (load_width op)) needs in
+      subst (λ y. Goes queues N own_of h owns (t ∷ []) m cs y (advanced s v)) (sym access)
+      (subst (λ z. Goes queues N own_of h owns (t ∷ []) m cs (load (address (register_value s.registers rs1) offset) (load_width op) v) z)
+      (sym (after-at here (need.Load (address (register_value s.registers rs1) offset) (load_width op)) needs tt v)) (record {
+        next = λ runs. inl (known (after_instruction s v (Load op rd rs1 offset)) (subst (ReadsFrom m) access acts.reads) (ap next_pc means.pc) refl);
+        keeps = λ i less. load-keeps (queues i) (party_of (queues i) h) (cs i) (address (register_value s.registers rs1) offset) (load_width op) v;
+        apart = λ g x far j less from to. tt;
+        loads = λ i less ok p mine. load-owns op rd rs1 offset here i less ok p mine;
+      }))))
+
   load-goes : (op : LoadOp) (rd rs1 : Reg) (offset : ℤ) (ks : List KnownState) → IsAt s (Load op rd rs1 offset)
       → loading queues N own_of H h k op rd.number (addresses queues N own_of H h k rs1 offset) ≡ Some ks
       → Goes queues N own_of h owns ks m cs (access_of e) (advanced s v)
   load-goes op rd rs1 offset ks here found = by (last_below N (is_look queues N own_of H h (addresses queues N own_of H h k rs1 offset) (load_width op))) refl
       (may_load queues N own_of H h k (addresses queues N own_of H h k rs1 offset) (load_width op) _) refl found
     where
-      a : ℕ
-      a = address (register_value s.registers rs1) offset
-
-      b : Bounds
-      b = addresses queues N own_of H h k rs1 offset
-
       by : (look : Option ℕ) → last_below N (is_look queues N own_of H h (addresses queues N own_of H h k rs1 offset) (load_width op)) ≡ look
           → (t : Bool) → may_load queues N own_of H h k (addresses queues N own_of H h k rs1 offset) (load_width op) look ≡ t
           → (if t then Some (after_load queues N own_of H h k op rd.number (addresses queues N own_of H h k rs1 offset) look ∷ []) else None) ≡ Some ks
           → Goes queues N own_of h owns ks m cs (access_of e) (advanced s v)
       by look is false ok found = absurd (cc)
-      by look is true ok found = access-goes ks (load_width op) a (need.Load a (load_width op)) (need_at here) (λ needs.
-          (let access : access_of e ≡ load (address (register_value s.registers rs1) offset) (load_width op) v =
-          access-is (need.Load (address (register_value s.registers rs1) offset) (load_width op)) needs in
-          let p = points rs1 offset in
-          let known = load-known op rd (address (register_value s.registers rs1) offset)
-          (addresses queues N own_of H h k rs1 offset) look (after_instruction s v (Load op rd rs1 offset)) p.0 p.1
-          (subst (ReadsFrom m) access acts.reads) is ok (ap next_pc means.pc) refl in
-          subst (λ y. Goes queues N own_of h owns ks m cs y (advanced s v)) (sym access)
-          (subst (λ z. Goes queues N own_of h owns ks m cs (load (address (register_value s.registers rs1) offset) (load_width op) v) z)
-          (sym (after-at here (need.Load (address (register_value s.registers rs1) offset) (load_width op)) needs tt v)) (record {
-            next = λ runs. subst (λ ts. IsAmong queues N own_of h ts (after_instruction s v (Load op rd rs1 offset)) m
-                (λ i. after_access (queues i) (party_of (queues i) h) (load (address (register_value s.registers rs1) offset) (load_width op) v) (cs i)))
-                (let e : after_load queues N own_of H h k op rd.number (addresses queues N own_of H h k rs1 offset) look ∷ [] ≡ ks = cc in e) (inl known);
-            keeps = λ i less. load-keeps (queues i) (party_of (queues i) h) (cs i) (address (register_value s.registers rs1) offset) (load_width op) v;
-            apart = λ g x far j less from to. tt;
-            loads = λ i less ok p mine. load-owns op rd rs1 offset here i less ok p mine;
-          }))))
+      by look is true ok found = subst (λ ts. Goes queues N own_of h owns ts m cs (access_of e) (advanced s v))
+          (let e : after_load queues N own_of H h k op rd.number (addresses queues N own_of H h k rs1 offset) look ∷ [] ≡ ks = cc in e)
+          (load-leads op rd rs1 offset (after_load queues N own_of H h k op rd.number (addresses queues N own_of H h k rs1 offset) look) here
+          (λ z read at regs. (let p = points rs1 offset in
+          load-known op rd (address (register_value s.registers rs1) offset) (addresses queues N own_of H h k rs1 offset) look z p.0 p.1 read is ok at regs)))
 
   -- ---- stores
 
@@ -814,7 +826,7 @@ module _ (M : ℕ) (o : OpeningValue) (queues : ℕ → Queue) (N : ℕ) (own_of
     abbrev w : Write
     w = write a (store_width op) (stored op x)
 
-    moved-here : (i : ℕ) → is_just move i ≡ true → (p : Party) → h ≡ hart (queues i) p → i < N
+    pub moved-here : (i : ℕ) → is_just move i ≡ true → (p : Party) → h ≡ hart (queues i) p → i < N
         → (b.low ≡ b.high) × (a ≡ index (queues i) p) × (store_width op ≡ (queues i).index_width)
     moved-here i just p mine less =
         let f = found-below N (is_own_index queues N own_of H h b (store_width op)) i (found ∙ just-is move i just) in

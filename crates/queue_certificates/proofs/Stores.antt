@@ -1,10 +1,10 @@
 -- What single stores of a hart come to.
-use Rattle.std.proofs.Common.{ℕ, ◌+◌, ◌-◌, ◌*◌, ◌%◌, ◌^◌, ◌<◌, ◌≤◌, ◌≡◌, ◌&&◌, inl, inr, if◌then◌else◌, Bool, true}
+use Rattle.std.proofs.Common.{ℕ, ◌+◌, ◌-◌, ◌*◌, ◌/◌, ◌%◌, ◌^◌, ◌<◌, ◌≤◌, ◌≡◌, ◌&&◌, inl, inr, if◌then◌else◌, Bool, true}
 use Rattle.std.proofs.Common.{false, Option, Some, None, List, refl, sym, ◌∙◌, ap, subst, arith}
 use Rattle.std.specs.Prelude.{nat_lt, nat_le}
 use Rattle.std.specs.Int.{byte_at}
 use Rattle.std.proofs.lemmas.Bool.{and_parts, or_cases, ltb-true, leb-true}
-use Rattle.std.proofs.Math.Nat.{mod-eq_of_lt}
+use Rattle.std.proofs.Math.Nat.{mod-eq_of_lt, mod-lt}
 use Rattle.rv_decode.specs.declared.instruction.StoreOp.{StoreOp}
 use Rattle.rv_decode.specs.declared.instruction.StoreOp.TheVariants as store_op
 use Rattle.hart.specs.Effects.{stored, store_width}
@@ -105,11 +105,15 @@ module _ (q : Queue) (is : IsQueue q) (p : Party) (c : QueueCounts) (xs : List �
     pub high : a + width ≤ slot_of q position + q.width
 
   module _ (queues : ℕ → Queue) (rs : List (Option ℕ)) (ranges : InRanges rs xs) where
-    pub owned-at : (place : KnownValue) (a width : ℕ) → Has queues xs place a → is_owned rs q s place width ≡ true → Owned a width
-    owned-at any a width at ok = absurd (cc)
-    owned-at (index_for i f) a width at ok = absurd (cc)
-    owned-at (signed_for i f) a width at ok = absurd (cc)
-    owned-at (linear f) a width at ok = by (remainder rs (plus s.own (number j)) q.size) refl p1.1
+    -- of a form: of which owned position the bytes are, and how far into its slot they begin
+    pub record Placed (f : Form) (a width : ℕ) : Type 0 where
+      pub place : a ≡ slot_of q (count p c + position_at q s.own.constant f.constant) + offset_at q f.constant
+      pub before : count p c + position_at q s.own.constant f.constant < end q p c
+      pub near : position_at q s.own.constant f.constant < q.size
+      pub fits : offset_at q f.constant + width ≤ q.width
+
+    pub placed-at : (f : Form) (a width : ℕ) → Has queues xs (linear f) a → is_owned rs q s (linear f) width ≡ true → Placed f a width
+    placed-at f a width at ok = by (remainder rs (plus s.own (number j)) q.size) refl p1.1
       where
         j : ℕ
         j = position_at q s.own.constant f.constant
@@ -121,21 +125,20 @@ module _ (q : Queue) (is : IsQueue q) (p : Party) (c : QueueCounts) (xs : List �
 
         by : (o : Option Form)
             → remainder rs (plus s.own (number (position_at q s.own.constant f.constant))) q.size ≡ o
-            → is_slot rs q f (offset_at q f.constant) o ≡ true → Owned a width
+            → is_slot rs q f (offset_at q f.constant) o ≡ true → Placed f a width
         by None is ok = absurd (cc)
-        by (Some g) is ok =
+        by (Some g) is-g ok =
             let p2 = and_parts (nat_lt (position_at q s.own.constant f.constant) s.owned.constant) (nat_le (offset_at q f.constant + width) q.width) p1.0 in
             let less : position_at q s.own.constant f.constant < s.owned.constant = ltb-true (position_at q s.own.constant f.constant) s.owned.constant p2.0 in
-            let fit : offset_at q f.constant + width ≤ q.width = leb-true (offset_at q f.constant + width) q.width p2.1 in
-            let t : Form = plus (times q.width g) (number (q.slots + offset_at q f.constant)) in
             let p3 = and_parts (is_same (2 ^ 32) f (plus (times q.width g) (number (q.slots + offset_at q f.constant))))
             (fits_in (most rs (plus (times q.width g) (number (q.slots + offset_at q f.constant)))) (Some (2 ^ 32 - 1))) ok in
-            let r = value-remainder rs (plus s.own (number (position_at q s.own.constant f.constant))) q.size g xs ranges is in
+            let r = value-remainder rs (plus s.own (number (position_at q s.own.constant f.constant))) q.size g xs ranges is-g in
             let sum : form_value (plus s.own (number (position_at q s.own.constant f.constant))) xs
-            ≡ form_value s.own xs + position_at q s.own.constant f.constant =
+            ≡ count p c + position_at q s.own.constant f.constant =
             value-plus s.own (number (position_at q s.own.constant f.constant)) xs
-            ∙ ap (λ n. form_value s.own xs + n) (value-number (position_at q s.own.constant f.constant) xs) in
-            let slot : slot_of q (form_value s.own xs + position_at q s.own.constant f.constant) ≡ q.slots + q.width * form_value g xs =
+            ∙ ap (λ n. form_value s.own xs + n) (value-number (position_at q s.own.constant f.constant) xs)
+            ∙ ap (λ n. n + position_at q s.own.constant f.constant) (sym has.own) in
+            let slot : slot_of q (count p c + position_at q s.own.constant f.constant) ≡ q.slots + q.width * form_value g xs =
             ap (λ n. q.slots + q.width * n) (ap (λ n. n % q.size) (sym sum) ∙ sym r.0) in
             let whole : form_value (plus (times q.width g) (number (q.slots + offset_at q f.constant))) xs
             ≡ q.width * form_value g xs + (q.slots + offset_at q f.constant) =
@@ -147,16 +150,27 @@ module _ (q : Queue) (is : IsQueue q) (p : Party) (c : QueueCounts) (xs : List �
             (Some (2 ^ 32 - 1)) (form_value (plus (times q.width g) (number (q.slots + offset_at q f.constant))) xs)
             p3.1
             (λ n at. value-below rs (plus (times q.width g) (number (q.slots + offset_at q f.constant))) xs n ranges at) in
-            let place : a ≡ form_value (plus (times q.width g) (number (q.slots + offset_at q f.constant))) xs =
+            let there : a ≡ form_value (plus (times q.width g) (number (q.slots + offset_at q f.constant))) xs =
             at ∙ same-value (2 ^ 32) f (plus (times q.width g) (number (q.slots + offset_at q f.constant))) xs p3.0
             ∙ mod-eq_of_lt (omega (arith, small)) in
             record {
-              position = form_value s.own xs + position_at q s.own.constant f.constant;
-              from = omega (arith, has.own);
-              before = omega (arith, has.upto, less);
-              low = omega (arith, slot, place, whole);
-              high = omega (arith, slot, place, whole, fit);
+              place = omega (arith, slot, there, whole);
+              before = omega (arith, has.own, has.upto, less);
+              near = mod-lt ((f.constant % 2 ^ 32 - q.slots) / q.width + (q.size - s.own.constant % q.size)) is.some;
+              fits = leb-true (offset_at q f.constant + width) q.width p2.1;
             }
+
+    pub owned-at : (place : KnownValue) (a width : ℕ) → Has queues xs place a → is_owned rs q s place width ≡ true → Owned a width
+    owned-at any a width at ok = absurd (cc)
+    owned-at (index_for i f) a width at ok = absurd (cc)
+    owned-at (signed_for i f) a width at ok = absurd (cc)
+    owned-at (linear f) a width at ok = (let there = placed-at f a width at ok in record {
+      position = count p c + position_at q s.own.constant f.constant;
+      from = omega arith;
+      before = there.before;
+      low = omega (arith, there.place);
+      high = omega (arith, there.place, there.fits);
+    })
 
     pub owned-slots : (place : KnownValue) (a width : ℕ) → Has queues xs place a → is_owned rs q s place width ≡ true → OwnsSlotsOf q p c a width
     owned-slots place a width at ok = let o = owned-at place a width at ok in loads_owned q is p c a width o.position o.from o.before o.low o.high

@@ -10,7 +10,7 @@ use Rattle.slot_queue.specs.Queues.{Queue}
 use Rattle.owned_run.specs.Certificates.{Field}
 use Rattle.queue_certificates.specs.States.{KnownValue, any, linear, index_for, signed_for, no_share, KnownState}
 use Rattle.queue_certificates.specs.Results.{Result}
-use Rattle.queue_certificates.specs.Steps.{offset_at, is_owned, with_result, address_value}
+use Rattle.queue_certificates.specs.Steps.{last_below, offset_at, is_owned, with_result, address_value, addresses, is_look}
 
 -- The field's numbers are low, low + step .. up to this one
 abbrev pub last_number : Field → ℕ
@@ -58,12 +58,14 @@ module _ (queues : ℕ → Queue) (fields : ℕ → List Field) (N : ℕ) (own_o
   field_below k place width (suc n) = field_or (field_in k place width n) (field_below k place width n)
 
   -- The states that follow, where `ks` do if nothing is known of what is received: after a load of a field its register holds one of
-  -- the field's numbers
-  abbrev pub after_field : KnownState → LoadOp → (rd : ℕ) → Option Field → (ks : List KnownState) → List KnownState
-  after_field k op rd None ks = ks
-  after_field k op rd (Some f) ks = if keeps_numbers op f then with_result k rd (next_pc k.pc) (field_number f) ∷ [] else ks
+  -- the field's numbers. A load that is a look at an index is none
+  abbrev pub after_field : KnownState → LoadOp → (rd : ℕ) → (look : Option ℕ) → Option Field → (ks : List KnownState) → List KnownState
+  after_field k op rd (Some i) f ks = ks
+  after_field k op rd None None ks = ks
+  after_field k op rd None (Some f) ks = if keeps_numbers op f then with_result k rd (next_pc k.pc) (field_number f) ∷ [] else ks
 
   abbrev pub next_received : KnownState → Option Instr → Option (List KnownState) → Option (List KnownState)
-  next_received k (Some (Load op rd rs1 offset)) (Some ks) =
-      Some (after_field k op rd.number (field_below k (address_value queues N own_of H h k rs1 offset) (load_width op) N) ks)
+  next_received k (Some (Load op rd rs1 offset)) (Some ks) = Some (after_field k op rd.number
+      (last_below N (is_look queues N own_of H h (addresses queues N own_of H h k rs1 offset) (load_width op)))
+      (field_below k (address_value queues N own_of H h k rs1 offset) (load_width op) N) ks)
   next_received k instruction next = next

@@ -1,0 +1,110 @@
+-- What an access of a queue's sender comes to, where its instruction has an effect: what it publishes, and which fields are right after it.
+use Rattle.std.proofs.Common.{ℕ, ◌+◌, ◌-◌, ◌*◌, ◌^◌, ◌<◌, ◌≤◌, ◌≡◌, ◌==◌, ◌⊎◌, inl, inr, if◌then◌else◌, Bool, true, false, Option, Some, None, List, length}
+use Rattle.std.proofs.Common.{get_or, refl, sym, ◌∙◌, ap, subst, arith}
+use Rattle.std.specs.List.{list_all}
+use Rattle.std.specs.Int.{byte_at}
+use Rattle.std.proofs.lemmas.Bool.{eqb-true}
+use Rattle.hart.specs.State.{HartState}
+use Rattle.hart.specs.declared.status.Status.TheVariants as status
+use Rattle.memory.specs.declared.writes.Write.{Write}
+use Rattle.memory.specs.Writes.{write, covers}
+use Rattle.step_machine.specs.Access.{Access, nothing, store, exchange}
+use Rattle.slot_queue.specs.Queues.{Queue, IsQueue}
+use Rattle.queue_parties.specs.Positions.{IsInBytes}
+use Rattle.queue_parties.specs.Parties.{the_sender, QueueCounts}
+use Rattle.slot_queue.specs.Ownership.{after_access}
+use Rattle.owned_run.specs.Certified.{View, view_then}
+use Rattle.owned_run.specs.Certificates.{Field, MeetsField}
+use Rattle.queue_certificates.specs.Forms.{Form, form_value, most, InRanges, Bounds}
+use Rattle.queue_certificates.specs.States.{KnownValue}
+use Rattle.queue_certificates.specs.Steps.{misses}
+use Rattle.queue_certificates.specs.Fields.{last_number, is_field}
+use Rattle.queue_certificates.specs.Filled.{Filled, is_filled, no_field, is_number_of, is_filled_after, most_published}
+use Rattle.queue_certificates.specs.declared.effect.Effect.{Effect}
+use Rattle.queue_certificates.specs.declared.effect.Effect.TheVariants.{Leaves, Fills, Publishes, PublishesSome}
+use Rattle.queue_certificates.proofs.Bounds.{value-below}
+use Rattle.queue_certificates.proofs.Accesses.{missed}
+use Rattle.queue_certificates.proofs.Filled.{IsNumberOf, IsRight, IsWrittenTo, right-after-store, right-kept}
+
+-- the sender's count after an access of its own
+abbrev pub published_then : Queue → QueueCounts → Access → ℕ
+published_then q c y = (after_access q (Some the_sender) y c).published
+
+-- it leaves the slots in its hart's view
+abbrev pub LeavesSlots : Queue → View → Access → Type 0
+LeavesSlots q m y = (x : ℕ) → IsInBytes q.slots (q.size * q.width) x → view_then y m x ≡ m x
+
+-- it writes a number to bytes of a slot, which is a field's where what is known of it says so
+pub record IsFilling (q : Queue) (c : QueueCounts) (rs : List (Option ℕ)) (u : KnownValue) (m : View) (y : Access) (p offset width : ℕ) : Type 0 where
+  pub written : IsWrittenTo q c.published m (view_then y m) p offset width
+  pub number : (f : Field) → f.width ≡ width → last_number f < 256 ^ f.width → is_number_of rs u f ≡ true → IsNumberOf f written.value
+
+-- of an access from these counts and this view, by which what is known so is stored
+abbrev pub IsDone : Queue → QueueCounts → List (Option ℕ) → KnownValue → View → Effect → Access → Type 0
+IsDone q c rs u m Leaves y = (published_then q c y ≡ c.published) × LeavesSlots q m y
+IsDone q c rs u m (Fills p offset width) y = (published_then q c y ≡ c.published) × IsFilling q c rs u m y p offset width
+IsDone q c rs u m (Publishes n) y = (published_then q c y ≡ c.published + n) × LeavesSlots q m y
+IsDone q c rs u m (PublishesSome n) y = Unit {0}
+
+-- an access by which the hart comes to state z: it publishes no more than the effect says, and where the hart goes on the effect is done
+pub record Does (q : Queue) (c : QueueCounts) (rs : List (Option ℕ)) (u : KnownValue) (m : View) (f : Effect) (y : Access) (z : HartState) : Type 0 where
+  pub upto : published_then q c y ≤ c.published + most_published f
+  pub done : z.status ≡ status.Running → IsDone q c rs u m f y
+
+-- a hart that stops does nothing to the queue
+pub does-nothing : (q : Queue) (c : QueueCounts) (rs : List (Option ℕ)) (u : KnownValue) (m : View) (f : Effect) (z : HartState)
+    → (z.status ≡ status.Running → ⊥) → Does q c rs u m f nothing z
+does-nothing q c rs u m f z stopped = record { upto = omega arith; done = λ runs. absurd (stopped runs) }
+
+pub does-leave : (q : Queue) (c : QueueCounts) (rs : List (Option ℕ)) (u : KnownValue) (m : View) (y : Access) (z : HartState)
+    → published_then q c y ≡ c.published → LeavesSlots q m y → Does q c rs u m Leaves y z
+does-leave q c rs u m y z same leaves = record { upto = omega (arith, same); done = λ runs. (same, leaves) }
+
+-- a store that covers no byte of the slots
+pub store-leaves : (q : Queue) (m : View) (w : Write) → ((x : ℕ) → IsInBytes q.slots (q.size * q.width) x → covers w x ≡ false) → LeavesSlots q m (store w)
+store-leaves q m w off x at = ap (λ t. if t then byte_at (x - w.addr) w.value else m x) (off x at)
+
+-- one that moves the count by a form publishes its number, or at most its bound
+pub does-move : (q : Queue) (c : QueueCounts) (rs : List (Option ℕ)) (xs : List ℕ) → InRanges rs xs → (u : KnownValue) (m : View) (d : Form)
+    (y : Access) (z : HartState) → published_then q c y ≡ c.published + form_value d xs → LeavesSlots q m y → (n : ℕ) → most rs d ≡ Some n
+    → Does q c rs u m (if n == d.constant then Publishes n else PublishesSome n) y z
+does-move q c rs xs ranges u m d y z to leaves n bound = by (n == d.constant) refl
+  where
+    below : form_value d xs ≤ n
+    below = value-below rs d xs n ranges bound
+
+    by : (t : Bool) → (n == d.constant) ≡ t → Does q c rs u m (if t then Publishes n else PublishesSome n) y z
+    by false other = record { upto = omega (arith, to, below); done = λ runs. tt }
+    by true same = (let is : n ≡ d.constant = eqb-true n d.constant same in record {
+      upto = omega (arith, to, below);
+      done = λ runs. ((let low : d.constant ≤ form_value d xs = omega arith in omega (arith, to, below, is, low)), leaves);
+    })
+
+-- an AMO off the other's index does what its store does
+pub does-exchange : (q : Queue) (c : QueueCounts) (rs : List (Option ℕ)) (u : KnownValue) (m : View) (f : Effect) (b : Bounds) (a old new : ℕ) (z : HartState)
+    → misses q (Some the_sender) b 4 ≡ true → b.low ≤ a → a ≤ b.high → Does q c rs u m f (store (write a 4 new)) z → Does q c rs u m f (exchange a old new) z
+does-exchange q c rs u m f b a old new z off low high w = record { upto = omega (arith, same, w.upto); done = λ runs. by f (w.done runs) }
+  where
+    same : published_then q c (exchange a old new) ≡ published_then q c (store (write a 4 new))
+    same = ap (λ d. published_then q d (store (write a 4 new))) (missed q (Some the_sender) b a 4 old c off low high)
+
+    by : (f : Effect) → IsDone q c rs u m f (store (write a 4 new)) → IsDone q c rs u m f (exchange a old new)
+    by Leaves done = (same ∙ done.0, done.1)
+    by (Fills p offset width) done = (same ∙ done.0, record { written = done.1.written; number = done.1.number })
+    by (Publishes n) done = (same ∙ done.0, done.1)
+    by (PublishesSome n) done = tt
+
+-- the fields that are right after an effect
+pub right-after : (q : Queue) → IsQueue q → (fs : List Field) → list_all (is_field q) fs ≡ true → (queues : ℕ → Queue) (c : QueueCounts)
+    (rs : List (Option ℕ)) (u : KnownValue) (m : View) (y : Access) (ms : Filled) (f : Effect) → IsDone q c rs u m f y
+    → ((d j : ℕ) → is_filled q.size ms d j ≡ true → IsRight q fs c.published m d j)
+    → (d j : ℕ) → is_filled_after rs q fs u ms f d j ≡ true → IsRight q fs (published_then q c y) (view_then y m) d j
+right-after q is fs ok queues c rs u m y ms Leaves done right d j so =
+    subst (λ n. IsRight q fs n (view_then y m) d j) (sym done.0) (right-kept q is fs ok c.published m (view_then y m) done.1 d j (right d j so))
+right-after q is fs ok queues c rs u m y ms (Fills p offset width) done right d j so = subst (λ n. IsRight q fs n (view_then y m) d j) (sym done.0)
+    (right-after-store q is fs ok c.published m (view_then y m) p offset width done.1.written queues rs u ms done.1.number right d j so)
+right-after q is fs ok queues c rs u m y ms (Publishes n) done right d j so =
+    subst (λ k. MeetsField q k (view_then y m) (get_or fs j no_field))
+    (let same : c.published + (d + n) ≡ published_then q c y + d = omega (arith, done.0) in same)
+    (right-kept q is fs ok c.published m (view_then y m) done.1 (d + n) j (right (d + n) j so))
+right-after q is fs ok queues c rs u m y ms (PublishesSome n) done right d j so = absurd (cc)
