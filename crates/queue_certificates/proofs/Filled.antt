@@ -1,15 +1,15 @@
 -- A number that is known to be a field's, and the fields that are right after a store.
-use Rattle.std.proofs.Common.{ℕ, zero, suc, ◌+◌, ◌-◌, ◌*◌, ◌/◌, ◌%◌, ◌^◌, ◌<◌, ◌≤◌, ◌≡◌, ◌≢◌, ◌==◌, ◌&&◌, ◌||◌, ◌⊎◌, inl, inr, if◌then◌else◌}
+use Rattle.std.proofs.Common.{ℕ, ◌+◌, ◌-◌, ◌*◌, ◌/◌, ◌%◌, ◌^◌, ◌<◌, ◌≤◌, ◌≡◌, ◌≢◌, ◌==◌, ◌&&◌, ◌⊎◌, inl, inr, if◌then◌else◌}
 use Rattle.std.proofs.Common.{Bool, true, false, Option, Some, None, List, [], ◌∷◌, length, get_or, refl, sym, ◌∙◌, ap, subst, arith}
-use Rattle.std.specs.Prelude.{nat_le, nat_lt, All}
+use Rattle.std.specs.Prelude.{nat_le, nat_lt}
 use Rattle.std.specs.List.{list_all, list_any}
 use Rattle.std.specs.Int.{byte_at}
 use Rattle.std.proofs.lemmas.Bool.{and_parts, or_cases, eqb-true, eqb-false, leb-true, ltb-true, cases_lt, cases_eq}
 use Rattle.std.proofs.lemmas.List.{get_or_past}
-use Rattle.std.proofs.lemmas.List.Elements.{All-get_or, All-from_get_or}
+use Rattle.std.proofs.lemmas.List.Elements.{All-get_or}
 use Rattle.std.proofs.lemmas.List.Sums.{AllPass-from_list_all}
 use Rattle.std.proofs.lemmas.Nat.{mul-le, le-div}
-use Rattle.std.proofs.Math.Nat.{mod-eq_of_lt, mod-add-div, mul-add, zero-mul, le_of_mul-le-mul_left, div-mul-le_self, mul_comm}
+use Rattle.std.proofs.Math.Nat.{mod-eq_of_lt, mod-add-div, mul-add, zero-mul, le_of_mul-le-mul_left, div-mul-le_self}
 use Rattle.memory.specs.Writes.{write, covers, byte_after}
 use Rattle.memory.proofs.Bytes.{joined-same, covers-yes, covers-from}
 use Rattle.memory.proofs.Joined.{joined-bytes}
@@ -18,14 +18,14 @@ use Rattle.queue_parties.proofs.Positions.{ahead, ahead-is, one-slot, slot-withi
 use Rattle.queue_parties.specs.Positions.{IsInBytes}
 use Rattle.owned_run.specs.Certified.{View, number_seen}
 use Rattle.owned_run.specs.Certificates.{Field, MeetsField}
-use Rattle.queue_certificates.specs.Forms.{Form, dot, form_value, InRanges, vanishes, Bounds, risings, fallings, bounds_of}
+use Rattle.queue_certificates.specs.Forms.{dot, form_value, InRanges, vanishes, Bounds, risings, fallings, bounds_of}
 use Rattle.queue_certificates.specs.States.{KnownValue, any, linear, index_for, signed_for, Has}
 use Rattle.queue_certificates.specs.Steps.{all_below}
 use Rattle.queue_certificates.specs.Fields.{last_number, is_field}
 use Rattle.queue_certificates.specs.Filled.{Filled, is_filled, no_field, lies_in, is_number_of, is_beside, is_right_after, is_filled_after, are_so}
 use Rattle.queue_certificates.specs.Filled.{most_published, may_send}
 use Rattle.queue_certificates.specs.declared.effect.Effect.{Effect}
-use Rattle.queue_certificates.specs.declared.effect.Effect.TheVariants.{Leaves, Fills, Publishes, PublishesSome}
+use Rattle.queue_certificates.specs.declared.effect.Effect.TheVariants.{Fills}
 use Rattle.queue_certificates.proofs.Forms.{mod-sum, dot-vanishes}
 use Rattle.queue_certificates.proofs.Bounds.{value-between}
 use Rattle.queue_certificates.proofs.States.{at-below}
@@ -54,8 +54,7 @@ counted f x low high same = by (cases_eq f.step 0)
         let parts : f.step * (f.low / f.step + (x / f.step - f.low / f.step))
         ≡ f.step * (f.low / f.step) + f.step * (x / f.step - f.low / f.step) = mul-add f.step (f.low / f.step) (x / f.step - f.low / f.step) in
         let whole : f.step * (f.low / f.step + (x / f.step - f.low / f.step)) ≡ f.step * (x / f.step) = ap (λ n. f.step * n) sum in
-        let is : x ≡ f.low + f.step * (x / f.step - f.low / f.step) = omega (arith, a, b, parts, whole, same) in
-        (
+        let is : x ≡ f.low + f.step * (x / f.step - f.low / f.step) = omega (arith, a, b, parts, whole, same) in (
           x / f.step - f.low / f.step,
           le_of_mul-le-mul_left (let le : f.step * (x / f.step - f.low / f.step) ≤ f.step * f.count = omega (arith, is, high) in le) positive,
           is,
@@ -105,11 +104,13 @@ field-fits q fs ok j = by (cases_lt j (length fs))
         × (last_number (get_or fs j no_field) < 256 ^ (get_or fs j no_field).width)
     by (inl less) =
         let f : Field = get_or fs j no_field in
-        let one : is_field q (get_or fs j no_field) ≡ true = All-get_or (λ g. is_field q g ≡ true) fs j no_field less (AllPass-from_list_all (is_field q) fs ok) in
+        let one : is_field q (get_or fs j no_field) ≡ true =
+        All-get_or (λ g. is_field q g ≡ true) fs j no_field less (AllPass-from_list_all (is_field q) fs ok) in
         let parts = and_parts (nat_le ((get_or fs j no_field).at + (get_or fs j no_field).width) q.width)
-        (nat_lt (last_number (get_or fs j no_field)) (256 ^ (get_or fs j no_field).width)) one in
-        (leb-true ((get_or fs j no_field).at + (get_or fs j no_field).width) q.width parts.0,
-        ltb-true (last_number (get_or fs j no_field)) (256 ^ (get_or fs j no_field).width) parts.1)
+        (nat_lt (last_number (get_or fs j no_field)) (256 ^ (get_or fs j no_field).width)) one in (
+          leb-true ((get_or fs j no_field).at + (get_or fs j no_field).width) q.width parts.0,
+          ltb-true (last_number (get_or fs j no_field)) (256 ^ (get_or fs j no_field).width) parts.1,
+        )
     by (inr past) = subst (λ f. (f.at + f.width ≤ q.width) × (last_number f < 256 ^ f.width)) (sym (get_or_past fs j no_field past))
         (omega arith, omega arith)
 
@@ -147,7 +148,9 @@ so-at size ms f ok d j filled = by (cases_lt d (length ms))
 
     by : (d < length ms) ⊎ (length ms ≤ d) → f d j ≡ true
     by (inl less) = passes-found (f d) (get_or ms d []) j (at-below (length ms) (λ d. list_all (f d) (get_or ms d [])) ok d less) marked
-    by (inr past) = absurd (let none : list_any (λ a. a == j) [] ≡ true = subst (λ bs. list_any (λ a. a == j) bs ≡ true) (get_or_past ms d [] past) marked in cc)
+    by (inr past) = absurd (let none : list_any (λ a. a == j) [] ≡ true =
+        subst (λ bs. list_any (λ a. a == j) bs ≡ true) (get_or_past ms d [] past) marked in
+        cc)
 
 -- all fields of what may be published
 pub sent-at : (size : ℕ) (fs : List Field) (ms : Filled) (e : Effect) → may_send size fs ms e ≡ true → (d : ℕ) → d < most_published e

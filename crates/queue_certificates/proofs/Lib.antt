@@ -14,4 +14,4 @@ pub mod Effects
 pub mod Sends
 pub mod Takes
 pub mod Certified
-mod EveryRun
+pub mod EveryRun

@@ -13,6 +13,7 @@ form c ms = record { constant = c; factors = ms }
 abbrev pub listed : ℕ → List (Option ℕ) → List KnownValue → Form → Form → Cases → ListedState
 listed pc ranges registers own owned cases = record {
   known = record { pc = pc; ranges = ranges; registers = registers; words = []; shares = (record { own = own; owned = owned }) ∷ [] };
+  filled = [];
   cases = cases;
 }
 
@@ -109,7 +110,7 @@ part_1 = record {
 }
 
 abbrev pub certificate : QueueCertificate
-certificate = record { queues = (record { queue = q; start = 0 }) ∷ []; harts = part_0 ∷ part_1 ∷ [] }
+certificate = record { queues = (record { queue = q; start = 0; fields = [] }) ∷ []; harts = part_0 ∷ part_1 ∷ [] }
 
 one_slot_accepted : accepts text certificate ≡ true
 unfolding meaning

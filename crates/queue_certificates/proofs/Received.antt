@@ -1,5 +1,5 @@
 -- What a receiver's load of a field comes to: one of the field's numbers.
-use Rattle.std.proofs.Common.{ℕ, ℤ, pos, zero, suc, ◌+◌, ◌-◌, ◌*◌, ◌/◌, ◌%◌, ◌^◌, ◌<◌, ◌≤◌, ◌≡◌, ◌==◌, ◌&&◌, if◌then◌else◌}
+use Rattle.std.proofs.Common.{ℕ, ℤ, pos, zero, suc, ◌+◌, ◌*◌, ◌/◌, ◌%◌, ◌^◌, ◌<◌, ◌≤◌, ◌≡◌, ◌==◌, ◌&&◌, if◌then◌else◌}
 use Rattle.std.proofs.Common.{Bool, true, false, Option, Some, None, List, [], ◌∷◌, length, get_or, refl, sym, ◌∙◌, ap, subst, arith}
 use Rattle.std.specs.Prelude.{All, ◌-ℤ◌, nat_lt, slice_index}
 use Rattle.std.proofs.lemmas.Bool.{and_parts, eqb-true, ltb-true, lt-ltb}
@@ -69,7 +69,7 @@ load-small load_op.Word v small = omega (arith, small)
 load-small load_op.ByteUnsigned v small = omega (arith, small)
 load-small load_op.HalfUnsigned v small = omega (arith, small)
 
-none-follows : (queues : ℕ → Queue) (fields : ℕ → List Field) (N : ℕ) (own_of : ℕ → List ℕ) (H h : ℕ) (k : KnownState) (i : Option Instr)
+pub none-follows : (queues : ℕ → Queue) (fields : ℕ → List Field) (N : ℕ) (own_of : ℕ → List ℕ) (H h : ℕ) (k : KnownState) (i : Option Instr)
     (ks : List KnownState) → next_received queues fields N own_of H h k i None ≡ Some ks → ⊥
 none-follows queues fields N own_of H h k None ks is = absurd (cc)
 none-follows queues fields N own_of H h k (Some (Load op rd rs1 offset)) ks is = absurd (cc)
@@ -105,8 +105,7 @@ module _ (M : ℕ) (o : OpeningValue) (queues : ℕ → Queue) (N : ℕ) (own_of
           let found = found-there
           (MeetsField (queues i) ((cs i).taken + position_at (queues i) (get_or k.shares i no_share).own.constant g.constant) m) (fields i)
           (offset_at (queues i) g.constant) width f
-          (got i less mine ((cs i).taken + position_at (queues i) (get_or k.shares i no_share).own.constant g.constant) (omega arith) there.before) is in
-          (
+          (got i less mine ((cs i).taken + position_at (queues i) (get_or k.shares i no_share).own.constant g.constant) (omega arith) there.before) is in (
             found.0.0,
             found.0.1,
             ap (λ n. number_seen m n width) (there.place ∙ ap (λ n. slot_of (queues i) ((cs i).taken + position_at (queues i)

@@ -55,7 +55,7 @@ use Rattle.queue_certificates.proofs.Stores.{keeps-off, stored-whole, placed-at}
 use Rattle.queue_certificates.proofs.Steps.{nobody_told, nothing_sent, no-code}
 use Rattle.queue_certificates.proofs.Steps as steps
 use Rattle.queue_certificates.proofs.Filled.{IsNumberOf, known-number}
-use Rattle.queue_certificates.proofs.Effects.{published_then, LeavesSlots, IsFilling, Does, does-nothing, does-leave, does-move, does-exchange, store-leaves}
+use Rattle.queue_certificates.proofs.Effects.{published_then, LeavesSlots, Does, does-nothing, does-leave, does-move, does-exchange, store-leaves}
 use Rattle.std.proofs.lemmas.Nat.{mul-le}
 
 -- ---- an instruction that stores nothing
@@ -225,7 +225,8 @@ module _ (M : ℕ) (o : OpeningValue) (queues : ℕ → Queue) (N : ℕ) (own_of
                 → is_owned k.ranges (queues i) (get_or k.shares i no_share) (linear g) (store_width op) ≡ t
                 → (is_off (queues i) b (store_width op) ≡ true) ⊎ (t ≡ true)
                 → Does (queues i) (cs i) k.ranges u m
-                (if t then Fills (position_at (queues i) (get_or k.shares i no_share).own.constant g.constant) (offset_at (queues i) g.constant) (store_width op)
+                (if t then Fills (position_at (queues i) (get_or k.shares i no_share).own.constant g.constant)
+                (offset_at (queues i) g.constant) (store_width op)
                 else Leaves) (store (write a (store_width op) (stored op x))) z
             owned-or g at-g false not (inl off) = beside off
             owned-or g at-g false not (inr owned) = absurd (cc)
@@ -234,15 +235,18 @@ module _ (M : ℕ) (o : OpeningValue) (queues : ℕ → Queue) (N : ℕ) (own_of
                 g a (store_width op) at-g owned in
                 record {
                   upto = omega (arith, same);
-                  done = λ runs. (same, record {
-                    written = record {
-                      value = stored op x;
-                      near = there.near;
-                      fits = there.fits;
-                      after = λ y. ap (λ n. byte_after (write n (store_width op) (stored op x)) y (m y)) there.place;
-                    };
-                    number = number-stored;
-                  });
+                  done = λ runs. (
+                    same,
+                    record {
+                      written = record {
+                        value = stored op x;
+                        near = there.near;
+                        fits = there.fits;
+                        after = λ y. ap (λ n. byte_after (write n (store_width op) (stored op x)) y (m y)) there.place;
+                      };
+                      number = number-stored;
+                    },
+                  );
                 }
 
             by-place : (pl : KnownValue) → Has queues xs pl a

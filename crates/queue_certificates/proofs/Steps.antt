@@ -88,6 +88,25 @@ nobody_told i = ⊥
 abbrev pub nothing_sent : (i k : ℕ) → View → Type 0
 nothing_sent i k m = Unit {0}
 
+-- a hart that acts does so whatever is known of what is sent
+pub untold : (M : ℕ) (o : OpeningValue) (N : ℕ) (queues : ℕ → Queue) (Told : ℕ → Type 0) (Sent : (i k : ℕ) → View → Type 0) (h : ℕ) (s : HartState)
+    (m : View) (cs : AllCounts) (e : Entry) → Acts M o N queues Told Sent h s m cs e → Acts M o N queues nobody_told nothing_sent h s m cs e
+untold M o N queues Told Sent h s m cs e a = record {
+  mine = a.mine;
+  act = a.act;
+  can = a.can;
+  reads = a.reads;
+  bytes = a.bytes;
+  sees = a.sees;
+  received = λ i less told. absurd told;
+  opens = a.opens;
+  is = a.is;
+  code = a.code;
+  words = a.words;
+  size = a.size;
+  zero = a.zero;
+}
+
 -- an access that is none of memory
 abbrev pub IsQuiet : Access → Type 0
 IsQuiet nothing = Unit {0}

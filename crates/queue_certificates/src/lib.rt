@@ -41,7 +41,7 @@ pub use effect::Effect;
 /// - `in_states`: a hart that runs is in one of the certificate's states.
 /// - `sent`: of a queue whose records have fields, the receiver reads in the slot of each position that it owns, as each field, one of
 ///   the field's numbers.
-#[tactic(auto, using(crate::proofs::EveryRun::accepted_runs, crate::proofs::EveryRun::accepted_loads, crate::proofs::EveryRun::accepted_deliveries, crate::proofs::EveryRun::accepted_states))]
+#[tactic(auto, using(crate::proofs::EveryRun::accepted_runs, crate::proofs::EveryRun::accepted_loads, crate::proofs::EveryRun::accepted_deliveries, crate::proofs::EveryRun::accepted_states, crate::proofs::EveryRun::accepted_records))]
 pub fn laws_of_queue_certificates()
     ensures every_run { (B M : ℕ) (o : OpeningValue) (c : QueueCertificate) → accepts o c ≡ true → (es : List Entry)
         → WellFormed B M (history_of o es) → (i : ℕ) → i < length c.queues → FollowsOwnership B (queue_at c i) (all_at (start_at c i)) o [] es }

@@ -1,4 +1,4 @@
-use Rattle.queue_certificates.proofs.EveryRun.{accepted_runs, accepted_loads, accepted_deliveries, accepted_states}
+use Rattle.queue_certificates.proofs.EveryRun.{accepted_runs, accepted_loads, accepted_deliveries, accepted_states, accepted_records}
 use Rattle.queue_certificates.proofs.laws_of_queue_certificates.Goals as goal
 
 pub returns-clause-every_run : goal.returns-clause-every_run
@@ -12,3 +12,6 @@ returns-clause-delivered c = accepted_deliveries
 
 pub returns-clause-in_states : goal.returns-clause-in_states
 returns-clause-in_states c = accepted_states
+
+pub returns-clause-sent : goal.returns-clause-sent
+returns-clause-sent c = accepted_records
