@@ -75,7 +75,8 @@ module _ (B M : ℕ) (o : OpeningValue) (N : ℕ) (queues : ℕ → Queue) (star
 
   -- a record that the receiver owns is one that was sent
   received : (done : List Entry) → Holds done → (i : ℕ) → i < N → Told i → (h : ℕ) → h ≡ (queues i).receiver
-      → (k : ℕ) → (counts_after (queues i) (all_at (starts i)) done).taken ≤ k → k < (counts_after (queues i) (all_at (starts i)) done).known_published → Sent i k (Sees h done)
+      → (k : ℕ) → (counts_after (queues i) (all_at (starts i)) done).taken ≤ k
+      → k < (counts_after (queues i) (all_at (starts i)) done).known_published → Sent i k (Sees h done)
   received done w i less told h is k from below =
       let f : FollowsOwnership B (queues i) (all_at (starts i)) o [] done = w.follows i less in
       let win : IsWindow (queues i).capacity (counts_after (queues i) (all_at (starts i)) done) = window B (queues i) (all_at (starts i)) o [] done f in

@@ -1,4 +1,5 @@
 pub mod OneSlotQueue
+mod OneSlotNumbers
 pub mod Forms
 pub mod Bounds
 pub mod Values
