@@ -215,8 +215,11 @@ state_told d c s core ends few_queues few_own few fits = record {
   end = after;
   read = rw (state_begun d c s.known.pc core few fits.pc ends)
       (told-append (begun_state x s.known.pc) known (known_lines s.known) (tree_lines (case_lines s.cases)) known_read ∙ cases_read);
-  core = rw (append-nil (reverse (case_lines s.cases)), cases_again s.cases)
-      (ap (λ (y : Core). record y { states = s ∷ y.states; listed = y.listed + 1 }) core);
+  core =
+      (let made : core_of (state_closed after) ≡ record c { states = record s { filled = [] } ∷ c.states; listed = c.listed + 1 } =
+      rw (append-nil (reverse (case_lines s.cases)), cases_again s.cases)
+      (ap (λ (y : Core). record y { states = record s { filled = [] } ∷ y.states; listed = y.listed + 1 }) core) in
+      made ∙ ap (λ fs. record c { states = record s { filled = fs } ∷ c.states; listed = c.listed + 1 }) (sym fits.unfilled));
   ends = refl;
 }
   where

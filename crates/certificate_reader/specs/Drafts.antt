@@ -75,7 +75,7 @@ one_more most xs x = if nat_le most (length xs) then Err TooMany else Ok (xs ++ 
 -- ---- queues
 
 -- sender, receiver, head, tail, bytes of an index; slots, size, width, capacity, base; scale, offset, modulus, and the count at which
--- it opens
+-- it opens. Nothing is said of its records
 unfoldable pub queue_of : List (List ℕ) → Result OpenedQueue CertificateFault
 queue_of words = do
   a ← five_at words
@@ -98,6 +98,7 @@ queue_of words = do
       modulus = c.2;
     };
     start = c.3;
+    fields = [];
   })
 
 unfoldable pub with_queue : List OpenedQueue → List (List ℕ) → Result (List OpenedQueue) CertificateFault
@@ -117,7 +118,7 @@ known_taken d = record d { ranges = []; registers = []; words = []; shares = [] 
 abbrev pub state_listed : DraftValue → DraftValue
 state_listed d = record (known_taken d) {
   stage = stage.Opened;
-  states = record { known = known_of d; cases = cases_of d.nodes } ∷ d.states;
+  states = record { known = known_of d; filled = []; cases = cases_of d.nodes } ∷ d.states;
   nodes = [];
 }
 

@@ -45,7 +45,8 @@ abbrev pub FitsCases : (n : ℕ) → Cases → Type 0
 FitsCases n (leaf handed arrows) = FitsForm n handed × AllByRecursion (FitsArrow n) arrows
 FitsCases n (split j v low high) = (j < n) × FitsCount v × FitsCases n low × FitsCases n high
 
--- of a hart with `own` own words: a value or none of each register and own word, and a share or none of each queue
+-- of a hart with `own` own words: a value or none of each register and own word, and a share or none of each queue. A text doesn't say
+-- which fields are right
 pub record FitsState (N own : ℕ) (s : ListedState) : Type 0 where
   pub pc : FitsWord s.known.pc
   pub variables : length s.known.ranges ≤ MAX_VARIABLES
@@ -57,6 +58,7 @@ pub record FitsState (N own : ℕ) (s : ListedState) : Type 0 where
   pub all_words : length s.known.words ≡ own
   pub shares : AllByRecursion (FitsShare (length s.known.ranges)) s.known.shares
   pub all_shares : length s.known.shares ≡ N
+  pub unfilled : s.filled ≡ []
   pub cases : FitsCases (length s.known.ranges) s.cases
   pub splits : height s.cases ≤ MAX_SPLITS
 
@@ -68,10 +70,12 @@ pub record FitsPart (N : ℕ) (p : HartPart) : Type 0 where
   pub few_numbers : length p.numbers ≤ MAX_VARIABLES
   pub states : AllByRecursion (FitsState N (length p.own)) p.states
 
+-- a text says nothing of a queue's records
 pub record FitsQueue (o : OpenedQueue) : Type 0 where
   pub places : AllByRecursion FitsWord (o.queue.sender ∷ o.queue.receiver ∷ o.queue.head ∷ o.queue.tail ∷ o.queue.index_width ∷ [])
   pub slots : AllByRecursion FitsWord (o.queue.slots ∷ o.queue.size ∷ o.queue.width ∷ o.queue.capacity ∷ o.queue.base ∷ [])
   pub counts : AllByRecursion FitsCount (o.queue.scale ∷ o.queue.offset ∷ o.queue.modulus ∷ o.start ∷ [])
+  pub fields : o.fields ≡ []
 
 pub record CanBeWritten (c : QueueCertificate) : Type 0 where
   pub queues : AllByRecursion FitsQueue c.queues

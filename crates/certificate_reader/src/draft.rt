@@ -119,7 +119,8 @@ impl Draft {
         let mut nodes = mem::replace(&mut self.nodes, Vec::new(alloc));
         let cases = tree(alloc, &mut nodes)?;
         let known = self.take_known(alloc);
-        self.states.push(ListedState { known, cases })?;
+        let filled = Vec::new(alloc);
+        self.states.push(ListedState { known, filled, cases })?;
         self.stage = Stage::Opened;
         Ok(())
     }
@@ -279,7 +280,7 @@ impl Draft {
         ensures { GivesUpToMemory refusal_of (λ x. draft_value self.new) result (by_keyword (draft_value self.old) keyword (tokens rest.now)) }
     {
         match keyword {
-            Keyword::Queue => add_queue(&mut self.queues, rest),
+            Keyword::Queue => add_queue(alloc, &mut self.queues, rest),
             Keyword::Hart => self.begin_hart(alloc, rest),
             Keyword::Own => self.set_own(alloc, rest),
             Keyword::Open => self.set_opening(alloc, rest),

@@ -21,7 +21,7 @@ use texts::first_token;
 
 /// The queue that the words say, and the count at which it opens.
 #[tactic(auto, unfolding(crate::specs::Drafts::queue_of))]
-fn queue(text: &[u8]) -> Result<OpenedQueue, LineError>
+fn queue(alloc: Global, text: &[u8]) -> Result<OpenedQueue, LineError>
     ensures { GivesUpToMemory refusal_of (λ queue. queue) result (queue_of (tokens text.now)) }
 {
     let ((sender, receiver, head, tail, index_width), rest) = first_five(text)?;
@@ -44,15 +44,20 @@ fn queue(text: &[u8]) -> Result<OpenedQueue, LineError>
             modulus,
         },
         start,
+        fields: Vec::new(alloc),
     })
 }
 
 /// Adds the queue that the words say.
 #[tactic(auto, unfolding(crate::specs::Drafts::with_queue))]
-pub fn add_queue(queues: &mut Vec<OpenedQueue>, text: &[u8]) -> Result<(), LineError>
+pub fn add_queue(
+    alloc: Global,
+    queues: &mut Vec<OpenedQueue>,
+    text: &[u8],
+) -> Result<(), LineError>
     ensures { GivesUpToMemory refusal_of (λ x. queues.new.items) result (with_queue queues.old.items (tokens text.now)) }
 {
-    let queue = queue(text)?;
+    let queue = queue(alloc, text)?;
     if queues.len() >= MAX_QUEUES {
         return Err(TOO_MANY);
     }

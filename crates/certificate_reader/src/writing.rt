@@ -129,8 +129,8 @@ fn push_parts(out: &mut String, parts: &[HartPart]) -> Result<(), AllocError>
 }
 
 /// The numbers of a queue's line, in order.
-fn queue_numbers(opened: OpenedQueue) -> [u64; 14]
-    ensures { result ≡ numbers_of opened }
+fn queue_numbers(opened: &OpenedQueue) -> [u64; 14]
+    ensures { result ≡ numbers_of opened.now }
 {
     let queue = opened.queue;
     [
@@ -151,8 +151,8 @@ fn queue_numbers(opened: OpenedQueue) -> [u64; 14]
     ]
 }
 
-fn push_queue(out: &mut String, opened: OpenedQueue) -> Result<(), AllocError>
-    ensures { OnOk result (string_bytes out.new ≡ string_bytes out.old ++ lines_text [] (queue_line opened ∷ [])) }
+fn push_queue(out: &mut String, opened: &OpenedQueue) -> Result<(), AllocError>
+    ensures { OnOk result (string_bytes out.new ≡ string_bytes out.old ++ lines_text [] (queue_line opened.now ∷ [])) }
 {
     let numbers = queue_numbers(opened);
     out.push_str("queue")?;
@@ -164,7 +164,7 @@ fn push_queues(out: &mut String, queues: &[OpenedQueue]) -> Result<(), AllocErro
     ensures { OnOk result (string_bytes out.new ≡ string_bytes out.old ++ lines_text [] (map queue_line queues.now)) }
 {
     for opened in queues {
-        push_queue(out, *opened)?;
+        push_queue(out, opened)?;
     }
     Ok(())
 }

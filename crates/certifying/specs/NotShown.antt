@@ -34,6 +34,7 @@ queue_fault why.WideIndex = codes " has words that don't fit the bytes of its in
 queue_fault why.FewCounts = codes " has indices that don't tell all slots in use from none"
 queue_fault why.Head = codes " has a head that opens as another word than that of its count"
 queue_fault why.Tail = codes " has a tail that opens as another word than that of its count"
+queue_fault why.WideField = codes " has a field that reaches past its slot, or a number that doesn't fit its bytes"
 
 abbrev pub flaw_line : OpeningValue → QueueCertificate → Flaw → List ℕ
 flaw_line o c (Queue i why) = codes "not shown: queue " ++ decimal i ++ queue_fault why ++ 10 ∷ []

@@ -78,6 +78,9 @@ fn push_queue_fault(out: &mut String, why: QueueFlaw) -> Result<(), AllocError>
         QueueFlaw::Tail => out.push_str(
             " has a tail that opens as another word than that of its count",
         ),
+        QueueFlaw::WideField => out.push_str(
+            " has a field that reaches past its slot, or a number that doesn't fit its bytes",
+        ),
     }
 }
 

@@ -34,7 +34,7 @@ fn gap(modulus: u64, m: u64) -> u64
     modulus.saturating_sub(remainder_by(m, modulus))
 }
 
-fn risings(alloc: Global, modulus: u64, mut factors: &[u64]) -> Result<Vec<u64>, Lack>
+pub(crate) fn risings(alloc: Global, modulus: u64, mut factors: &[u64]) -> Result<Vec<u64>, Lack>
     ensures { IfOk result (λ ms. ms.items ≡ risings modulus factors.now) }
 {
     let mut rising = Vec::new(alloc);
@@ -46,7 +46,7 @@ fn risings(alloc: Global, modulus: u64, mut factors: &[u64]) -> Result<Vec<u64>,
     Ok(rising)
 }
 
-fn fallings(alloc: Global, modulus: u64, mut factors: &[u64]) -> Result<Vec<u64>, Lack>
+pub(crate) fn fallings(alloc: Global, modulus: u64, mut factors: &[u64]) -> Result<Vec<u64>, Lack>
     ensures { IfOk result (λ ms. ms.items ≡ fallings modulus factors.now) }
 {
     let mut falling = Vec::new(alloc);

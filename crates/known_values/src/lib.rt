@@ -10,6 +10,7 @@
 
 pub mod bounds;
 pub mod comparisons;
+pub mod fields;
 pub mod forms;
 pub mod lack;
 pub mod queues;
@@ -20,6 +21,7 @@ pub mod values;
 mod words;
 
 pub use bounds::Bounds;
+pub use fields::Field;
 pub use forms::Form;
 pub use lack::Lack;
 pub use queues::{OpenedQueue, Queue};

@@ -1,17 +1,20 @@
 //! Queues, as a certificate lists them.
 
-ghost use Rattle.std.specs.Prelude.{◌≡◌, ◌^◌, IfOk};
+ghost use Rattle.std.specs.Prelude.{◌≡◌, ◌^◌, IfOk, get_or};
+ghost use Rattle.queue_certificates.specs.Certificates.{no_queue};
 ghost use Rattle.known_values.specs.Queues.{queue_in};
 
+use crate::fields::Field;
 use crate::lack::{Lack, product};
 pub use queue_layouts::Queue;
 use std::marker::Model;
 
-/// A queue, and the count at which both its indices open.
-#[derive(Clone, Copy, PartialEq, Eq)]
+/// A queue, the count at which both its indices open, and the fields of its records.
+#[derive(Drop)]
 pub struct OpenedQueue {
     pub queue: Queue,
     pub start: u64,
+    pub fields: Vec<Field>,
 }
 
 impl Model for OpenedQueue {
@@ -19,9 +22,11 @@ impl Model for OpenedQueue {
 
     ghost Value = { OpenedQueueOf };
 
-    ghost view = { λ o. record { queue = o.queue; start = o.start } };
-
-    ghost inverse = { λ o. record { queue = o.queue; start = o.start } };
+    ghost view = { λ o. record {
+      queue = o.queue;
+      start = o.start;
+      fields = o.fields.items;
+    } };
 }
 
 /// How many numbers as many bytes have.
@@ -57,5 +62,15 @@ pub fn queue_in(queues: &[OpenedQueue], i: u32) -> Queue
             offset: 0,
             modulus: 0,
         },
+    }
+}
+
+/// The fields of queue `i`; none, if there are fewer.
+pub fn fields_in(queues: &[OpenedQueue], i: u32) -> &[Field]
+    ensures { result.now ≡ (get_or queues.now i no_queue).fields }
+{
+    match queues.get(i as usize) {
+        Some(opened) => &opened.fields,
+        None => &[],
     }
 }

@@ -1,13 +1,16 @@
 -- Nothing is found exactly where all holds.
 use Rattle.std.specs.Prelude.{ℕ, zero, suc, ◌≡◌, ◌+◌, ◌-◌, ◌*◌, ◌^◌, ◌==◌, ◌&&◌, ◌↔◌, not, nat_le, nat_lt, Bool, true}
 use Rattle.std.specs.Prelude.{false, Option, None, Some, [], length, get_or, refl}
+use Rattle.std.specs.List.{list_all}
 use Rattle.std.specs.Option.{option_map}
 use Rattle.std.proofs.Common.{sym, ap, subst, ◌∙◌}
+use Rattle.std.proofs.lemmas.Bool.{and_parts}
 use Rattle.slot_queue.specs.Queues.{Queue as SlotQueue, index_word}
 use Rattle.store_buffers.specs.StoreBuffers.{memory_number}
 use Rattle.step_machine.specs.History.{OpeningValue}
 use Rattle.queue_certificates.specs.Steps.{all_below}
-use Rattle.queue_certificates.specs.Certificates.{QueueCertificate, queue_at, start_at, part_of, accepts, accepts_loads, accepts_hart, no_hart}
+use Rattle.queue_certificates.specs.Certificates.{QueueCertificate, queue_at, start_at, fields_at, part_of, accepts, accepts_loads, accepts_hart, no_hart}
+use Rattle.queue_certificates.specs.Fields.{is_field}
 use Rattle.queue_certificates.specs.Certificates.{are_apart, is_queue, opens_empty}
 use Rattle.queue_checker.specs.declared.flaws.Flaw.TheVariants.{Queue, Opening, State}
 use Rattle.queue_checker.specs.declared.flaws.QueueFlaw.TheVariants as flaw
@@ -92,24 +95,30 @@ same-shape q = subst (λ (b : Bool). IsSame b (shape_flaw q)) (sym (is_queue-reg
     (four (nat_le 1 q.index_width) (fits q) (nat_le q.index_width 4) (nat_lt q.capacity q.modulus) flaw.NoIndex flaw.WideIndex flaw.WideIndex flaw.FewCounts))
 
 same-queue : (o : OpeningValue) (c : QueueCertificate) (i : ℕ)
-    → IsSame (is_queue (queue_at c i) && opens_empty o (queue_at c i) (start_at c i)) (flaw_of_queue o c i)
+    → IsSame (is_queue (queue_at c i) && opens_empty o (queue_at c i) (start_at c i) && list_all (is_field (queue_at c i)) (fields_at c i))
+    (flaw_of_queue o c i)
 same-queue o c i =
     let q = queue_at c i in
     let word = index_word q (start_at c i) in
-    same-map (λ why. Queue i why) (is_queue q && opens_empty o q (start_at c i)) (queue_flaw o c i)
+    same-map (λ why. Queue i why) (is_queue q && opens_empty o q (start_at c i) && list_all (is_field q) (fields_at c i)) (queue_flaw o c i)
+    (same-first_of (is_queue q && opens_empty o q (start_at c i)) (list_all (is_field q) (fields_at c i)) _ _
     (same-first_of (is_queue q) (opens_empty o q (start_at c i)) _ _ (same-shape q)
     (same-first_of (memory_number o [] q.head q.index_width == word) (memory_number o [] q.tail q.index_width == word) _ _
     (same-unless (memory_number o [] q.head q.index_width == word) flaw.Head) (same-unless (memory_number o [] q.tail q.index_width == word) flaw.Tail)))
+    (same-unless (list_all (is_field q) (fields_at c i)) flaw.WideField))
 
 pub no_queue_flaw : (o : OpeningValue) (c : QueueCertificate) (i : ℕ) → flaw_of_queue o c i ≡ None
     → (is_queue (queue_at c i) && opens_empty o (queue_at c i) (start_at c i)) ≡ true
-no_queue_flaw o c i = (same-queue o c i).empty
+no_queue_flaw o c i none = (and_parts (is_queue (queue_at c i) && opens_empty o (queue_at c i) (start_at c i))
+    (list_all (is_field (queue_at c i)) (fields_at c i)) ((same-queue o c i).empty none)).0
 
 -- ---- all of it
 
+abbrev queue_holds : OpeningValue → QueueCertificate → (i : ℕ) → Bool
+queue_holds o c i = is_queue (queue_at c i) && opens_empty o (queue_at c i) (start_at c i) && list_all (is_field (queue_at c i)) (fields_at c i)
+
 same-flaw : (o : OpeningValue) (c : QueueCertificate) → IsSame (accepts o c) (first_flaw o c)
-same-flaw o c = same-first_of (all_below (length c.queues) (λ i. is_queue (queue_at c i) && opens_empty o (queue_at c i) (start_at c i))) _ _ _
-    (same-below _ (λ i. is_queue (queue_at c i) && opens_empty o (queue_at c i) (start_at c i)) _ (same-queue o c))
+same-flaw o c = same-first_of (all_below (length c.queues) (queue_holds o c)) _ _ _ (same-below _ (queue_holds o c) _ (same-queue o c))
     (same-below _ (λ h. accepts_hart o c h (get_or o.harts h no_hart) (part_of c h)) _ (same-hart o c))
 
 pub no_flaw : (o : OpeningValue) (c : QueueCertificate) → (first_flaw o c ≡ None) ↔ (accepts o c ≡ true)

@@ -1,9 +1,12 @@
 -- The first part of a certificate that isn't accepted: of the queues first, and then of each hart its opening and its states.
-use Rattle.std.specs.Prelude.{ℕ, zero, suc, ◌+◌, ◌-◌, ◌*◌, ◌^◌, ◌==◌, ◌&&◌, not, nat_le, nat_lt, Bool, true, false, Option, None, Some, [], length, get_or}
+use Rattle.std.specs.Prelude.{ℕ, zero, suc, ◌+◌, ◌-◌, ◌*◌, ◌^◌, ◌==◌, ◌&&◌, not, nat_le, nat_lt, Bool, true, false, Option, None, Some, List, [], length, get_or}
+use Rattle.std.specs.List.{list_all}
 use Rattle.std.specs.Option.{option_map}
 use Rattle.step_machine.specs.History.{HartOpeningValue, OpeningValue}
-use Rattle.queue_certificates.specs.Certificates.{QueueCertificate, queue_at, start_at, part_of, state_at, is_closed, owns_loads, opens_in}
-use Rattle.queue_certificates.specs.Certificates.{are_apart, no_hart}
+use Rattle.queue_certificates.specs.Certificates.{QueueCertificate, queue_at, start_at, fields_at, part_of, state_at, is_closed, owns_loads, opens_in}
+use Rattle.queue_certificates.specs.Certificates.{are_apart, no_hart, opens_unfilled, keeps_all_fields}
+use Rattle.queue_certificates.specs.Fields.{is_field}
+use Rattle.owned_run.specs.Certificates.{Field}
 use Rattle.slot_queue.specs.Queues.{Queue as SlotQueue, index_word}
 use Rattle.store_buffers.specs.StoreBuffers.{memory_number}
 use Rattle.queue_checker.specs.declared.flaws.QueueFlaw.{QueueFlaw}
@@ -19,9 +22,11 @@ hart_at o h = get_or o.harts h no_hart
 abbrev pub opening_holds : OpeningValue → QueueCertificate → (h : ℕ) → Bool
 opening_holds o c h = nat_le 32 (length (hart_at o h).registers) && nat_lt (part_of c h).first (length (part_of c h).states)
     && opens_in o c h (hart_at o h) (state_at c h (part_of c h).first).known (part_of c h).numbers
+    && opens_unfilled c (state_at c h (part_of c h).first).filled
 
 abbrev pub state_holds : OpeningValue → QueueCertificate → (h n : ℕ) → Bool
 state_holds o c h n = is_closed c h (hart_at o h).code (state_at c h n).known (state_at c h n).cases
+    && keeps_all_fields c h (hart_at o h).code (state_at c h n)
 
 abbrev pub loads_hold : OpeningValue → QueueCertificate → (i h n : ℕ) → Bool
 loads_hold o c i h n = owns_loads c h (hart_at o h).code i (state_at c h n).known (state_at c h n).cases
@@ -74,8 +79,12 @@ abbrev pub opening_flaw : OpeningValue → SlotQueue → (start : ℕ) → Optio
 opening_flaw o q start = unless (memory_number o [] q.head q.index_width == index_word q start) flaw.Head
     <|> unless (memory_number o [] q.tail q.index_width == index_word q start) flaw.Tail
 
+-- and what is said of its records
+abbrev pub field_flaw : SlotQueue → List Field → Option QueueFlaw
+field_flaw q fs = unless (list_all (is_field q) fs) flaw.WideField
+
 abbrev pub queue_flaw : OpeningValue → QueueCertificate → (i : ℕ) → Option QueueFlaw
-queue_flaw o c i = shape_flaw (queue_at c i) <|> opening_flaw o (queue_at c i) (start_at c i)
+queue_flaw o c i = shape_flaw (queue_at c i) <|> opening_flaw o (queue_at c i) (start_at c i) <|> field_flaw (queue_at c i) (fields_at c i)
 
 abbrev pub flaw_of_queue : OpeningValue → QueueCertificate → (i : ℕ) → Option Flaw
 flaw_of_queue o c i = option_map (λ why. Queue i why) (queue_flaw o c i)

@@ -93,10 +93,39 @@ impl Model for Cases {
     ghost size_decreases = { λ a h. Prim.grind arith };
 }
 
-/// One state of a hart.
+/// The fields that are right in one slot, by their numbers.
+#[derive(Drop)]
+pub struct FilledSlot {
+    pub fields: Vec<u64>,
+}
+
+impl Model for FilledSlot {
+    ghost use Rattle.std.specs.Prelude.{ℕ, List};
+
+    ghost Value = { List ℕ };
+
+    ghost view = { λ s. s.fields.items };
+}
+
+/// Of each position of a queue from the sender's count on, the fields that are right in its slot.
+#[derive(Drop)]
+pub struct Filled {
+    pub slots: Vec<FilledSlot>,
+}
+
+impl Model for Filled {
+    ghost use Rattle.queue_certificates.specs.Filled.{Filled as FilledOf};
+
+    ghost Value = { FilledOf };
+
+    ghost view = { λ f. f.slots.items };
+}
+
+/// One state of a hart, and of each queue to which it sends records with fields, which of them are right ahead of its count.
 #[derive(Drop)]
 pub struct ListedState {
     pub known: KnownState,
+    pub filled: Vec<Filled>,
     pub cases: Cases,
 }
 
@@ -109,7 +138,7 @@ impl Model for ListedState {
 
     ghost coded = { Prim.hlevel (codes, cases_code) };
 
-    ghost view = { λ s. record { known = s.known; cases = s.cases } };
+    ghost view = { λ s. record { known = s.known; filled = s.filled.items; cases = s.cases } };
 }
 
 /// A hart's part: the addresses of words that it alone writes, the state in which it opens with the numbers of its variables, and

@@ -1,16 +1,17 @@
 //! Whether a certificate is accepted.
 
-ghost use Rattle.std.specs.Prelude.{◌≡◌, ◌<◌, IfOk, length, get_or};
-ghost use Rattle.queue_certificates.specs.Certificates.{part_of};
+ghost use Rattle.std.specs.Prelude.{◌≡◌, ◌<◌, ◌&&◌, IfOk, length, get_or};
+ghost use Rattle.queue_certificates.specs.Certificates.{part_of, is_closed, keeps_all_fields};
 ghost use Rattle.queue_checker.specs.Flaws.{hart_at, flaw_of_queue, state_holds, first_of, first_below, unless, hart_flaw, first_flaw};
 ghost use Rattle.queue_checker.specs.Flaws.{opening_holds};
 ghost use Rattle.queue_checker.specs.declared.flaws.Flaw.TheVariants.{State};
 
-use crate::certificate::QueueCertificate;
+use crate::certificate::{ListedState, QueueCertificate};
 use crate::closing::is_closed;
 use crate::flaws::Flaw;
 use crate::opening::opening_holds;
 use crate::queues::queue_flaw;
+use crate::sending::keeps_all_fields;
 use crate::sites::{listed_states, queue_count, small};
 use known_values::Lack;
 use std::alloc::Global;
@@ -43,6 +44,31 @@ fn first_queue_flaw(opening: &Opening, certificate: &QueueCertificate) -> Result
     Ok(first)
 }
 
+/// Whether a listed state is closed under its hart's instruction, and keeps what is said of records.
+fn state_holds(
+    alloc: Global,
+    certificate: &QueueCertificate,
+    hart: u32,
+    code: &[u32],
+    listed: &ListedState,
+) -> Result<bool, Lack>
+    ensures { IfOk result (λ holds. holds ≡ (is_closed certificate.now hart code.now listed.now.known listed.now.cases && keeps_all_fields certificate.now
+        hart code.now listed.now)) }
+{
+    if is_closed(
+        alloc,
+        certificate,
+        hart,
+        code,
+        &listed.known,
+        &listed.cases,
+    )? {
+        keeps_all_fields(alloc, certificate, hart, code, listed)
+    } else {
+        Ok(false)
+    }
+}
+
 fn state_flaw(
     alloc: Global,
     opening: &Opening,
@@ -60,14 +86,7 @@ fn state_flaw(
         Some(flaw) => Ok(Some(flaw)),
         None => {
             let listed = &listed_states(certificate, hart)[n as usize];
-            if is_closed(
-                alloc,
-                certificate,
-                hart,
-                &its.code,
-                &listed.known,
-                &listed.cases,
-            )? {
+            if state_holds(alloc, certificate, hart, &its.code, listed)? {
                 Ok(None)
             } else {
                 Ok(Some(Flaw::State { hart, state: n }))
@@ -161,7 +180,7 @@ pub fn first_flaw(
 #[cfg(test)]
 mod tests {
     use super::*;
-    use crate::certificate::{Arrow, CaseNode, Cases, HartPart, KnownState, ListedState};
+    use crate::certificate::{Arrow, CaseNode, Cases, HartPart, KnownState};
     use crate::flaws::QueueFlaw;
     use known_values::forms::number;
     use known_values::{OpenedQueue, Queue};
@@ -200,6 +219,7 @@ mod tests {
                 words: Vec::new(alloc),
                 shares: Vec::new(alloc),
             },
+            filled: Vec::new(alloc),
             cases: Cases {
                 node: CaseNode::Leaf(number(alloc, 0), arrows),
             },
@@ -265,6 +285,7 @@ mod tests {
                 modulus: 1 << 32,
             },
             start: 0,
+            fields: Vec::new(rt.alloc()),
         })?;
         let flaw = Flaw::Queue(0, QueueFlaw::OneHart);
         assert!(rt; first_flaw(rt.alloc(), &opening, &certificate) == Ok(Some(flaw)));

@@ -5,6 +5,7 @@ ghost use Rattle.queue_certificates.specs.Certificates.{leaf, at_most, beyond, m
 
 use crate::arrows::all_lead;
 use crate::certificate::{Arrow, CaseNode, Cases, KnownState, QueueCertificate};
+use crate::fields::next_received;
 use crate::states::{high_state, settled_state};
 use crate::steps::{follow, instruction_at};
 use known_values::lack::sum;
@@ -132,7 +133,8 @@ fn is_leaf_closed(
     ensures { IfOk result (λ closed. closed ≡ is_closed certificate.now hart code.now state.now (leaf handed.now arrows.now)) }
 {
     let instruction = instruction_at(code, state.pc);
-    let next = follow(alloc, certificate, hart, state, handed, instruction)?;
+    let known = follow(alloc, certificate, hart, state, handed, instruction)?;
+    let next = next_received(alloc, certificate, hart, state, instruction, known)?;
     all_lead(alloc, certificate, hart, code, &next, arrows)
 }
 

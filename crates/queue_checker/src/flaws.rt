@@ -30,6 +30,8 @@ pub enum QueueFlaw {
     Head,
     /// The same of the tail.
     Tail,
+    /// A field of its records reaches past a slot, or has a number that its bytes don't.
+    WideField,
 }
 
 /// The part of a certificate that isn't accepted: a queue, how a hart opens, or one of a hart's states.

@@ -13,12 +13,16 @@ mod arrows;
 pub mod certificate;
 mod checking;
 pub mod closing;
+pub mod effects;
+mod fields;
+mod filled;
 pub mod flaws;
 pub mod loads;
 mod opening;
 pub mod owning;
 pub mod places;
 mod queues;
+mod sending;
 pub mod sites;
 pub mod slots;
 pub mod states;
@@ -28,7 +32,8 @@ mod successors;
 
 pub use accesses::{SlotAccess, slot_accesses};
 pub use certificate::{
-    Arrow, CaseNode, Cases, HartPart, KnownState, ListedState, QueueCertificate, Share,
+    Arrow, CaseNode, Cases, Filled, FilledSlot, HartPart, KnownState, ListedState,
+    QueueCertificate, Share,
 };
 pub use checking::first_flaw;
 pub use flaws::{Flaw, QueueFlaw, laws_of_flaws};

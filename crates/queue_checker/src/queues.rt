@@ -1,18 +1,21 @@
 //! What of what a certificate says of a queue doesn't hold.
 
 ghost use Rattle.std.specs.Prelude.{◌≡◌, ◌+◌, ◌*◌, ◌-◌, ◌^◌, IfOk, [], nat_lt, nat_le, ◌&&◌, ◌==◌};
+ghost use Rattle.std.specs.List.{list_all};
 ghost use Rattle.slot_queue.specs.Queues.{index_word};
 ghost use Rattle.store_buffers.specs.StoreBuffers.{memory_number};
 ghost use Rattle.queue_certificates.specs.Certificates.{are_apart};
-ghost use Rattle.queue_checker.specs.Flaws.{place_flaw, number_flaw, index_flaw, shape_flaw, opening_flaw, queue_flaw};
+ghost use Rattle.queue_certificates.specs.Fields.{is_field};
+ghost use Rattle.queue_checker.specs.Flaws.{place_flaw, number_flaw, index_flaw, shape_flaw, opening_flaw, field_flaw, queue_flaw};
 
 use crate::certificate::QueueCertificate;
 use crate::flaws::QueueFlaw;
 use crate::opening::{index_word, number_at, start_in};
 use crate::places::slot_bytes;
 use known_values::lack::{product, sum};
-use known_values::queues::queue_in;
-use known_values::{Lack, Queue};
+use known_values::fields::is_field;
+use known_values::queues::{fields_in, queue_in};
+use known_values::{Field, Lack, Queue};
 use step_machine::Opening;
 
 /// Whether `m` bytes at one address and `n` at another have none in common.
@@ -136,6 +139,34 @@ fn shape_flaw(queue: Queue) -> Result<Option<QueueFlaw>, Lack>
     index_flaw(queue)
 }
 
+/// Whether each of these fields lies in a slot of the queue, and its numbers fit its bytes.
+fn are_fields(queue: Queue, mut fields: &[Field]) -> Result<bool, Lack>
+    ensures { IfOk result (λ fit. fit ≡ list_all (is_field queue) fields.now) }
+{
+    'fields: loop {
+        match fields {
+            [] => return Ok(true),
+            [field, others @ ..] => {
+                if !is_field(queue, *field)? {
+                    return Ok(false);
+                }
+                fields = others;
+            }
+        }
+    }
+}
+
+/// What is wrong with the fields of the queue's records.
+fn field_flaw(queue: Queue, fields: &[Field]) -> Result<Option<QueueFlaw>, Lack>
+    ensures { IfOk result (λ flaw. flaw ≡ field_flaw queue fields.now) }
+{
+    if are_fields(queue, fields)? {
+        Ok(None)
+    } else {
+        Ok(Some(QueueFlaw::WideField))
+    }
+}
+
 /// Why queue `i` is none, or opens otherwise than the certificate says.
 pub(crate) fn queue_flaw(
     opening: &Opening,
@@ -145,8 +176,11 @@ pub(crate) fn queue_flaw(
     ensures { IfOk result (λ flaw. flaw ≡ queue_flaw opening.now certificate.now i) }
 {
     let queue = queue_in(&certificate.queues, i);
-    match shape_flaw(queue)? {
-        Some(flaw) => Ok(Some(flaw)),
-        None => opening_flaw(opening, queue, start_in(&certificate.queues, i)),
+    if let Some(flaw) = shape_flaw(queue)? {
+        return Ok(Some(flaw));
     }
+    if let Some(flaw) = opening_flaw(opening, queue, start_in(&certificate.queues, i))? {
+        return Ok(Some(flaw));
+    }
+    field_flaw(queue, fields_in(&certificate.queues, i))
 }

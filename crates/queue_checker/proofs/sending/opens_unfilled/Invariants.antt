@@ -1,0 +1,8 @@
+use Rattle.std.proofs.Common.{◌≡◌, ◌==◌, ◌||◌, [], false, length, get_or}
+use Rattle.queue_certificates.specs.Steps.{all_below}
+use Rattle.queue_certificates.specs.Certificates.{fields_at}
+use Rattle.queue_certificates.specs.Filled.{are_so}
+use Rattle.queue_checker.proofs.sending.opens_unfilled.Given as goal
+
+abbrev pub invariant-loop-i : goal.invariant-loop-i
+invariant-loop-i l = l.all ≡ all_below l.i (λ i. (length (fields_at l.certificate i) == 0) || are_so (get_or l.filled i []) (λ d j. false))

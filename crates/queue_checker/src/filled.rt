@@ -1,0 +1,236 @@
+//! Fields that are right in the slots ahead of a sender's count, before and after an effect.
+
+ghost use Rattle.std.specs.Prelude.{◌≡◌, IfOk, [], false, get_or, length};
+ghost use Rattle.std.specs.List.{list_all};
+ghost use Rattle.queue_certificates.specs.Steps.{all_below};
+ghost use Rattle.queue_certificates.specs.Filled.{is_filled, no_field, is_beside, is_right_after, is_filled_after, are_so, most_published, may_send};
+
+use crate::certificate::{Filled, FilledSlot};
+use known_values::fields::is_number_of;
+use known_values::lack::sum;
+use known_values::{Field, KnownValue, Lack, Queue};
+use queue_certificates::Effect;
+use std::alloc::Global;
+
+/// What is right of queue `i`; nothing, if there are fewer.
+pub(crate) fn filled_in(filled: &[Filled], i: u32) -> &[FilledSlot]
+    ensures { result.now ≡ get_or filled.now i [] }
+{
+    match filled.get(i as usize) {
+        Some(filled) => &filled.slots,
+        None => &[],
+    }
+}
+
+/// Whether a field is right at a position, this far from the count.
+fn is_filled(size: u64, slots: &[FilledSlot], position: u64, field: u64) -> bool
+    ensures { result ≡ is_filled size slots.now position field }
+{
+    let index = usize::try_from(position).unwrap_or(usize::MAX);
+    let listed = match slots.get(index) {
+        Some(slot) => slot.fields.contains(&field),
+        None => false,
+    };
+    position < size && listed
+}
+
+/// The field of this number; one of no byte, if there are fewer.
+fn field_numbered(fields: &[Field], number: u64) -> Field
+    ensures { result ≡ get_or fields.now number no_field }
+{
+    let index = usize::try_from(number).unwrap_or(usize::MAX);
+    match fields.get(index) {
+        Some(field) => *field,
+        None => Field {
+            at: 0,
+            width: 0,
+            low: 0,
+            step: 0,
+            count: 0,
+        },
+    }
+}
+
+/// Whether no byte of the field is among `width` bytes from `offset` on.
+fn is_beside(field: Field, offset: u64, width: u64) -> Result<bool, Lack>
+    ensures { IfOk result (λ beside. beside ≡ is_beside field offset width) }
+{
+    let before = sum(u64::from(field.at), u64::from(field.width))? <= offset;
+    let after = sum(offset, width)? <= u64::from(field.at);
+    Ok(before || after)
+}
+
+/// Whether a field is right after a store of a number to these bytes of its slot.
+fn is_right_after(
+    alloc: Global,
+    ranges: &[Option<u64>],
+    stored: &KnownValue,
+    field: Field,
+    offset: u64,
+    width: u64,
+    was: bool,
+) -> Result<bool, Lack>
+    ensures { IfOk result (λ right. right ≡ is_right_after ranges.now stored.now field offset width was) }
+{
+    if u64::from(field.at) == offset && u64::from(field.width) == width {
+        is_number_of(alloc, ranges, stored, field)
+    } else {
+        Ok(is_beside(field, offset, width)? && was)
+    }
+}
+
+/// Whether a field is right after an effect.
+fn is_filled_after(
+    alloc: Global,
+    ranges: &[Option<u64>],
+    queue: Queue,
+    fields: &[Field],
+    stored: &KnownValue,
+    slots: &[FilledSlot],
+    effect: Effect,
+    position: u64,
+    field: u64,
+) -> Result<bool, Lack>
+    ensures { IfOk result (λ right. right ≡ is_filled_after ranges.now queue fields.now stored.now slots.now effect position field) }
+{
+    let size = u64::from(queue.size);
+    match effect {
+        Effect::Leaves => Ok(is_filled(size, slots, position, field)),
+        Effect::Fills {
+            position: filled,
+            offset,
+            width,
+        } => {
+            let was = is_filled(size, slots, position, field);
+            if filled == position {
+                let its = field_numbered(fields, field);
+                is_right_after(alloc, ranges, stored, its, offset, width, was)
+            } else {
+                Ok(was)
+            }
+        }
+        Effect::Publishes(n) => Ok(is_filled(size, slots, sum(position, n)?, field)),
+        Effect::PublishesSome(_) => Ok(false),
+    }
+}
+
+/// Whether all these fields are.
+fn are_filled_after(
+    alloc: Global,
+    ranges: &[Option<u64>],
+    queue: Queue,
+    fields: &[Field],
+    stored: &KnownValue,
+    slots: &[FilledSlot],
+    effect: Effect,
+    position: u64,
+    mut numbers: &[u64],
+) -> Result<bool, Lack>
+    ensures { IfOk result (λ right. right ≡ list_all (is_filled_after ranges.now queue fields.now stored.now slots.now effect position) numbers.now) }
+{
+    'numbers: loop {
+        match numbers {
+            [] => return Ok(true),
+            [number, others @ ..] => {
+                if !is_filled_after(
+                    alloc,
+                    ranges,
+                    queue,
+                    fields,
+                    stored,
+                    slots,
+                    effect,
+                    position,
+                    *number,
+                )? {
+                    return Ok(false);
+                }
+                numbers = others;
+            }
+        }
+    }
+}
+
+/// Whether all that a next state says to be right is so after an effect.
+pub(crate) fn are_so(
+    alloc: Global,
+    target: &[FilledSlot],
+    ranges: &[Option<u64>],
+    queue: Queue,
+    fields: &[Field],
+    stored: &KnownValue,
+    slots: &[FilledSlot],
+    effect: Effect,
+) -> Result<bool, Lack>
+    ensures { IfOk result (λ so. so ≡ are_so target.now (is_filled_after ranges.now queue fields.now stored.now slots.now effect)) }
+{
+    let mut all = true;
+    for i in 0..target.len() {
+        let numbers = &target[i].fields;
+        all = are_filled_after(
+            alloc,
+            ranges,
+            queue,
+            fields,
+            stored,
+            slots,
+            effect,
+            i as u64,
+            numbers,
+        )? && all;
+    }
+    Ok(all)
+}
+
+/// Whether nothing is said to be right.
+pub(crate) fn says_nothing(slots: &[FilledSlot]) -> bool
+    ensures { result ≡ are_so slots.now (λ d j. false) }
+{
+    let mut all = true;
+    for i in 0..slots.len() {
+        all = is_empty(&slots[i].fields) && all;
+    }
+    all
+}
+
+fn is_empty(numbers: &[u64]) -> bool
+    ensures { result ≡ list_all (λ j. false) numbers.now }
+{
+    match numbers {
+        [] => true,
+        [_, ..] => false,
+    }
+}
+
+fn most_published(effect: Effect) -> u64
+    ensures { result ≡ most_published effect }
+{
+    match effect {
+        Effect::Leaves | Effect::Fills { .. } => 0,
+        Effect::Publishes(n) | Effect::PublishesSome(n) => n,
+    }
+}
+
+/// Whether all fields are right at a position.
+fn is_whole(size: u64, fields: u64, slots: &[FilledSlot], position: u64) -> bool
+    ensures { result ≡ all_below fields (is_filled size slots.now position) }
+{
+    let mut all = true;
+    for field in 0..fields {
+        all = is_filled(size, slots, position, field) && all;
+    }
+    all
+}
+
+/// Whether of what may be published all fields are right.
+pub(crate) fn may_send(size: u64, fields: &[Field], slots: &[FilledSlot], effect: Effect) -> bool
+    ensures { result ≡ may_send size fields.now slots.now effect }
+{
+    let count = fields.len() as u64;
+    for position in 0..most_published(effect) {
+        if !is_whole(size, count, slots, position) {
+            return false;
+        }
+    }
+    true
+}

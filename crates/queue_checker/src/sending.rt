@@ -1,0 +1,319 @@
+//! Whether what a certificate says of the fields of records holds, in the states of senders and receivers.
+
+ghost use Rattle.std.specs.Prelude.{◌≡◌, ◌==◌, ◌||◌, ◌*◌, IfOk, [], false, length, get_or};
+ghost use Rattle.slot_queue.specs.Ownership.{party_of};
+ghost use Rattle.queue_certificates.specs.Steps.{is_apart};
+ghost use Rattle.queue_certificates.specs.Filled.{is_filled_after, are_so};
+ghost use Rattle.queue_certificates.specs.Certificates.{queue_at, fields_at, state_at, leaves_slots, arrows_fill, effect_sends, keeps_records};
+ghost use Rattle.queue_certificates.specs.Certificates.{keeps_fields, keeps_all_fields, opens_unfilled};
+
+use crate::certificate::{
+    Arrow, CaseNode, Cases, Filled, FilledSlot, KnownState, ListedState, QueueCertificate,
+};
+use crate::closing::{goes_beyond, with_high, with_low};
+use crate::effects::{effect_of, value_stored};
+use crate::filled::{are_so, filled_in, may_send, says_nothing};
+use crate::places::{anywhere, is_apart, slot_bytes};
+use crate::sites::{listed_states, queue_count};
+use crate::steps::{address_value, instruction_at, operand};
+use crate::stores::store_width;
+use known_values::queues::{fields_in, queue_in};
+use known_values::results::bounds;
+use known_values::{Bounds, Form, KnownValue, Lack};
+use queue_certificates::Effect;
+use rv_decode::Instr;
+use std::alloc::Global;
+
+/// Whether `width` bytes from somewhere among these addresses on are none of queue `i`'s slots.
+fn misses_slots(
+    certificate: &QueueCertificate,
+    i: u32,
+    bounds: Bounds,
+    width: u64,
+) -> Result<bool, Lack>
+    ensures { IfOk result (λ misses. misses ≡ is_apart bounds width (queue_at certificate.now i).slots ((queue_at certificate.now i).size * (queue_at
+        certificate.now i).width)) }
+{
+    let queue = queue_in(&certificate.queues, i);
+    is_apart(bounds, width, u64::from(queue.slots), slot_bytes(queue)?)
+}
+
+/// Whether an instruction stores nothing to queue `i`'s slots.
+fn leaves_slots(
+    alloc: Global,
+    certificate: &QueueCertificate,
+    hart: u32,
+    code: &[u32],
+    i: u32,
+    state: &KnownState,
+    instruction: Option<Instr>,
+) -> Result<bool, Lack>
+    ensures { IfOk result (λ leaves. leaves ≡ leaves_slots certificate.now hart code.now i state.now instruction) }
+{
+    let _sites = (hart, code);
+    match instruction {
+        Some(
+            Instr::Store {
+                op,
+                rs1,
+                offset,
+                ..
+            },
+        ) => {
+            let place = address_value(alloc, certificate, state, rs1, offset)?;
+            let bounds = anywhere(bounds(alloc, &state.ranges, &place)?);
+            misses_slots(certificate, i, bounds, store_width(op))
+        }
+        Some(Instr::Amo { rs1, .. }) => {
+            let place = operand(alloc, certificate, state, rs1)?;
+            let bounds = anywhere(bounds(alloc, &state.ranges, &place)?);
+            misses_slots(certificate, i, bounds, 4)
+        }
+        _ => Ok(true),
+    }
+}
+
+/// What the hart's state `n` says to be right of queue `i`.
+fn filled_at(certificate: &QueueCertificate, hart: u32, n: u32, i: u32) -> &[FilledSlot]
+    ensures { result.now ≡ get_or (state_at certificate.now hart n).filled i [] }
+{
+    match listed_states(certificate, hart).get(n as usize) {
+        Some(listed) => filled_in(&listed.filled, i),
+        None => &[],
+    }
+}
+
+/// Whether all that each arrow's state says to be right is so after an effect.
+fn arrows_fill(
+    alloc: Global,
+    certificate: &QueueCertificate,
+    hart: u32,
+    code: &[u32],
+    i: u32,
+    ranges: &[Option<u64>],
+    stored: &KnownValue,
+    slots: &[FilledSlot],
+    effect: Effect,
+    mut arrows: &[Arrow],
+) -> Result<bool, Lack>
+    ensures { IfOk result (λ fill. fill ≡ arrows_fill certificate.now hart code.now i arrows.now (is_filled_after ranges.now (queue_at certificate.now i)
+        (fields_at certificate.now i) stored.now slots.now effect)) }
+{
+    let _code = code;
+    'arrows: loop {
+        match arrows {
+            [] => return Ok(true),
+            [arrow, others @ ..] => {
+                if !are_so(
+                    alloc,
+                    filled_at(certificate, hart, arrow.to, i),
+                    ranges,
+                    queue_in(&certificate.queues, i),
+                    fields_in(&certificate.queues, i),
+                    stored,
+                    slots,
+                    effect,
+                )? {
+                    return Ok(false);
+                }
+                arrows = others;
+            }
+        }
+    }
+}
+
+/// Whether an effect of the sender's is allowed, and leads into states that say what is so.
+fn effect_sends(
+    alloc: Global,
+    certificate: &QueueCertificate,
+    hart: u32,
+    code: &[u32],
+    i: u32,
+    slots: &[FilledSlot],
+    state: &KnownState,
+    arrows: &[Arrow],
+    stored: &KnownValue,
+    effect: Option<Effect>,
+) -> Result<bool, Lack>
+    ensures { IfOk result (λ sends. sends ≡ effect_sends certificate.now hart code.now i slots.now state.now arrows.now stored.now effect) }
+{
+    match effect {
+        None => Ok(false),
+        Some(effect) => {
+            let size = u64::from(queue_in(&certificate.queues, i).size);
+            let may = may_send(size, fields_in(&certificate.queues, i), slots, effect);
+            let ranges = &state.ranges;
+            let fill = arrows_fill(
+                alloc,
+                certificate,
+                hart,
+                code,
+                i,
+                ranges,
+                stored,
+                slots,
+                effect,
+                arrows,
+            )?;
+            Ok(may && fill)
+        }
+    }
+}
+
+/// Whether a case of a state keeps what is said of queue `i`'s records.
+fn keeps_records(
+    alloc: Global,
+    certificate: &QueueCertificate,
+    hart: u32,
+    code: &[u32],
+    i: u32,
+    slots: &[FilledSlot],
+    state: &KnownState,
+    handed: &Form,
+    arrows: &[Arrow],
+    instruction: Option<Instr>,
+) -> Result<bool, Lack>
+    ensures { IfOk result (λ keeps. keeps ≡ keeps_records certificate.now hart code.now i (party_of (queue_at certificate.now i) hart) slots.now state.now
+        handed.now arrows.now instruction) }
+{
+    let queue = queue_in(&certificate.queues, i);
+    if hart == queue.sender {
+        let stored = value_stored(alloc, certificate, i, state, instruction)?;
+        let effect = effect_of(alloc, certificate, i, state, handed, instruction)?;
+        effect_sends(
+            alloc,
+            certificate,
+            hart,
+            code,
+            i,
+            slots,
+            state,
+            arrows,
+            &stored,
+            effect,
+        )
+    } else if hart == queue.receiver {
+        leaves_slots(alloc, certificate, hart, code, i, state, instruction)
+    } else {
+        Ok(true)
+    }
+}
+
+/// Whether that holds of a state, by these cases.
+fn keeps_fields(
+    alloc: Global,
+    certificate: &QueueCertificate,
+    hart: u32,
+    code: &[u32],
+    i: u32,
+    slots: &[FilledSlot],
+    state: &KnownState,
+    cases: &Cases,
+) -> Result<bool, Lack>
+    ensures { IfOk result (λ keeps. keeps ≡ keeps_fields certificate.now hart code.now i slots.now state.now cases.now) }
+{
+    match &cases.node {
+        CaseNode::Leaf(handed, arrows) => {
+            let instruction = instruction_at(code, state.pc);
+            keeps_records(
+                alloc,
+                certificate,
+                hart,
+                code,
+                i,
+                slots,
+                state,
+                handed,
+                arrows,
+                instruction,
+            )
+        }
+        CaseNode::Split(variable, most, low, high) => {
+            let below = with_low(alloc, state, *variable, *most)?;
+            let holds = keeps_fields(alloc, certificate, hart, code, i, slots, &below, low)?;
+            if holds {
+                if goes_beyond(state, *variable, *most) {
+                    let above = with_high(alloc, state, *variable, *most)?;
+                    keeps_fields(alloc, certificate, hart, code, i, slots, &above, high)
+                } else {
+                    Ok(true)
+                }
+            } else {
+                Ok(false)
+            }
+        }
+    }
+}
+
+/// Whether queue `i` has no fields.
+fn is_untold(certificate: &QueueCertificate, i: u32) -> bool
+    ensures { result ≡ (length (fields_at certificate.now i) == 0) }
+{
+    fields_in(&certificate.queues, i).is_empty()
+}
+
+/// Whether a listed state keeps what is said of queue `i`'s records, if something is.
+fn keeps_fields_of(
+    alloc: Global,
+    certificate: &QueueCertificate,
+    hart: u32,
+    code: &[u32],
+    listed: &ListedState,
+    i: u32,
+) -> Result<bool, Lack>
+    ensures { IfOk result (λ keeps. keeps ≡ ((length (fields_at certificate.now i) == 0) || keeps_fields certificate.now hart code.now i
+        (get_or listed.now.filled i []) listed.now.known listed.now.cases)) }
+{
+    if is_untold(certificate, i) {
+        Ok(true)
+    } else {
+        let slots = filled_in(&listed.filled, i);
+        keeps_fields(
+            alloc,
+            certificate,
+            hart,
+            code,
+            i,
+            slots,
+            &listed.known,
+            &listed.cases,
+        )
+    }
+}
+
+/// Whether a listed state keeps what is said of all records.
+pub(crate) fn keeps_all_fields(
+    alloc: Global,
+    certificate: &QueueCertificate,
+    hart: u32,
+    code: &[u32],
+    listed: &ListedState,
+) -> Result<bool, Lack>
+    ensures { IfOk result (λ keeps. keeps ≡ keeps_all_fields certificate.now hart code.now listed.now) }
+{
+    let mut all = true;
+    for i in 0..queue_count(certificate)? {
+        all = keeps_fields_of(alloc, certificate, hart, code, listed, i)? && all;
+    }
+    Ok(all)
+}
+
+fn opens_unfilled_of(certificate: &QueueCertificate, filled: &[Filled], i: u32) -> bool
+    ensures { result ≡ ((length (fields_at certificate.now i) == 0) || are_so (get_or filled.now i []) (λ d j. false)) }
+{
+    is_untold(certificate, i) || says_nothing(filled_in(filled, i))
+}
+
+/// Whether no field is said to be right, of the queues that have some.
+pub(crate) fn opens_unfilled(
+    certificate: &QueueCertificate,
+    filled: &[Filled],
+) -> Result<bool, Lack>
+    ensures { IfOk result (λ opens. opens ≡ opens_unfilled certificate.now filled.now) }
+{
+    let mut all = true;
+    for i in 0..queue_count(certificate)? {
+        all = opens_unfilled_of(certificate, filled, i) && all;
+    }
+    Ok(all)
+}
