@@ -1,0 +1,6 @@
+mod AtLeaves
+mod Going
+mod Stopping
+mod Regions
+mod Writing
+mod Safety
