@@ -28,13 +28,13 @@ at-back P (l ∷ ls) ms at = inr (at-back P ls ms at)
 pub at-passing : (P : KnownState → Type 0) (f : KnownState → Bool) (ls : List Leaf) → first_other f ls ≡ None → AtLeaf P ls
     → AtLeaf (λ k. P k × (f k ≡ true)) ls
 at-passing P f [] none at = absurd at
-at-passing P f (l ∷ ls) none at = by (f l.known) refl none at
+at-passing P f (l ∷ ls) none at = by (f l.known) refl none at (at-passing P f ls)
   where
     by : (t : Bool) → f l.known ≡ t → (if t then first_other f ls else Some l.state) ≡ None → (P l.known ⊎ AtLeaf P ls)
-        → AtLeaf (λ k. P k × (f k ≡ true)) (l ∷ ls)
-    by false other none at = absurd (cc)
-    by true passes none (inl here) = inl (here, passes)
-    by true passes none (inr later) = inr (at-passing P f ls none later)
+        → (first_other f ls ≡ None → AtLeaf P ls → AtLeaf (λ k. P k × (f k ≡ true)) ls) → AtLeaf (λ k. P k × (f k ≡ true)) (l ∷ ls)
+    by false other none at rest = absurd (cc)
+    by true passes none (inl here) rest = inl (here, passes)
+    by true passes none (inr later) rest = inr (rest none later)
 
 pub some-leaf : (P : KnownState → Type 0) (ls : List Leaf) → AtLeaf P ls → (k : KnownState) × P k
 some-leaf P [] at = absurd at

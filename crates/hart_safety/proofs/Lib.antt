@@ -1,6 +1,6 @@
 mod AtLeaves
 mod Going
 mod Stopping
-mod Regions
+mod Outside
 mod Writing
 mod Safety
