@@ -3,4 +3,6 @@ mod Going
 mod Stopping
 mod Outside
 mod Writing
+mod InOrder
 mod Safety
+mod LittleTexts

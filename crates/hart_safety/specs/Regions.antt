@@ -59,6 +59,11 @@ abbrev pub IsInNone : (x : ℕ) → List Region → Type 0
 IsInNone x [] = Unit {0}
 IsInNone x (r ∷ rs) = ((x < r.from) ⊎ (r.to < x)) × IsInNone x rs
 
+-- they begin at n at the earliest, in their order, with a byte between each and the next
+abbrev pub AreInOrderFrom : (n : ℕ) → List Region → Type 0
+AreInOrderFrom n [] = Unit {0}
+AreInOrderFrom n (r ∷ rs) = (n ≤ r.from) × (r.from ≤ r.to) × AreInOrderFrom (r.to + 2) rs
+
 -- ---- stores that may go anywhere
 
 -- bounds of where the instruction stores are known

@@ -26,7 +26,7 @@ ghost use Rattle.step_machine.specs.Paths.{state_of};
 ghost use Rattle.store_buffers.specs.StoreBuffers.{LeavesByteBy};
 ghost use Rattle.queue_certificates.specs.Certificates.{QueueCertificate, accepts};
 ghost use Rattle.hart_safety.specs.Stops.{first_stop};
-ghost use Rattle.hart_safety.specs.Regions.{regions_written, IsInNone, first_unbounded};
+ghost use Rattle.hart_safety.specs.Regions.{regions_written, IsInNone, first_unbounded, AreInOrderFrom};
 
 pub use regions::{Region, first_unbounded, regions_written};
 pub use stops::first_stop;
@@ -36,6 +36,7 @@ pub use stops::first_stop;
 ///
 /// - `never_stopped`: a hart whose states all go on is never stopped: by no fault, no `ebreak` and no environment call that isn't one.
 /// - `written_within`: a hart without a store that may go anywhere writes no byte outside of its regions.
+/// - `in_order`: of any certificate, regions are in their order, with a byte between each and the next.
 pub fn laws_of_hart_safety()
     ensures never_stopped { (B M : ℕ) (o : OpeningValue) (c : QueueCertificate) → accepts o c ≡ true → (h : ℕ) → first_stop M o c h ≡ None
         → (es : List Entry) → WellFormed B M (history_of o es) → (s : HartState) → state_of M (history_of o es) h ≡ Some s
@@ -43,4 +44,5 @@ pub fn laws_of_hart_safety()
     ensures written_within { (B M : ℕ) (o : OpeningValue) (c : QueueCertificate) → accepts o c ≡ true → (es : List Entry) (e : Entry)
         → WellFormed B M (history_of o (es ++ e ∷ [])) → is_land e ≡ false → first_unbounded o c (hart_of e) ≡ None
         → (x : ℕ) → IsInNone x (regions_written o c (hart_of e)) → LeavesByteBy x (access_of e) }
+    ensures in_order { (o : OpeningValue) (c : QueueCertificate) (h : ℕ) → AreInOrderFrom 0 (regions_written o c h) }
 {}
