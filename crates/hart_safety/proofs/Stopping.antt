@@ -135,9 +135,9 @@ module _ (M : ℕ) (o : OpeningValue) (c : QueueCertificate) (h : ℕ) (xs : Lis
   pub leaf-goes : goes_on_at M c s.code k ≡ true → IsGoing s → KeepsGoing (need_of s)
   leaf-goes ok going = elim (or_cases (s.pc == 4 * length s.code) (goes_on M c k (instruction_at s.code s.pc))
       (subst (λ pc. ((pc == 4 * length s.code) || goes_on M c k (instruction_at s.code pc)) ≡ true) (sym means.pc) ok)) [
-    | inl past ↦ absurd (going.inside acts.can.running (eqb-true s.pc (4 * length s.code) past))
-    | inr goes ↦ by (nat_lt s.pc (4 * length s.code)) refl goes
-  ]
+        | inl past ↦ absurd (going.inside acts.can.running (eqb-true s.pc (4 * length s.code) past))
+        | inr goes ↦ by (nat_lt s.pc (4 * length s.code)) refl goes
+      ]
     where
       says : (i : Option Instr) → s.pc < 4 * length s.code → meaning (slice_index s.code (s.pc / 4)) ≡ i → goes_on M c k i ≡ true
           → KeepsGoing (need_of s)

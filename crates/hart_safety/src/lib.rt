@@ -12,6 +12,8 @@
 mod leaves;
 mod regions;
 mod stops;
+#[cfg(test)]
+mod tests;
 
 ghost use Rattle.std.specs.Prelude.{ℕ, ◌≡◌, List, [], ◌∷◌, ◌++◌, None, Some, true, false};
 ghost use Rattle.hart.specs.State.{HartState};
