@@ -1,5 +1,5 @@
 -- The leaves of a state by two cases, of which the higher one may be.
-use Rattle.std.proofs.Common.{ℕ, ◌≡◌, ◌++◌, if◌then◌else◌, Bool, true, List, [], Some, get_or, refl, sym, ◌∙◌, ap, append_assoc}
+use Rattle.std.proofs.Common.{ℕ, ◌≡◌, ◌++◌, Bool, true, List, Some, get_or, sym, ◌∙◌, append_assoc}
 use Rattle.queue_certificates.specs.States.{KnownState}
 use Rattle.queue_certificates.specs.Certificates.{Cases, split, with_low, with_high, may_exceed}
 use Rattle.hart_safety.specs.Leaves.{Leaf, leaves_in}
