@@ -17,9 +17,10 @@ CITED = re.compile(r"^\s*(?:pub )?(?:ghost )?use Rattle\.(?P<crate>\w+)\.specs\.
 
 
 # which crates compute what a crate defines
-COMPUTE = {"queue_certificates": {"known_values", "queue_checker", "certificate_reader", "certifying", "records_written", "records_checker"},
-           "known_values": {"queue_checker", "certificate_reader", "certifying", "records_checker"},
-           "queue_checker": {"certifying", "records_checker"},
+COMPUTE = {"queue_certificates": {"known_values", "queue_checker", "certificate_reader", "certifying", "records_written", "records_checker",
+                                  "hart_safety"},
+           "known_values": {"queue_checker", "certificate_reader", "certifying", "records_checker", "hart_safety"},
+           "queue_checker": {"certifying", "records_checker", "hart_safety"},
            "records_written": {"records_checker"}}
 
 
