@@ -20,11 +20,11 @@ use Rattle.store_buffers.specs.StoreBuffers.{LeavesByteBy}
 use Rattle.owned_run.specs.Certified.{View, AllCounts, Acts, IsCertified}
 use Rattle.owned_run.proofs.Every as every
 use Rattle.queue_certificates.specs.Steps.{all_below, instruction_at}
-use Rattle.queue_certificates.specs.Certificates.{QueueCertificate, queue_at, start_at, part_of, state_at, no_hart, IsKeptByte, IsInState}
-use Rattle.queue_certificates.specs.Certificates.{opens_in, is_queue, opens_empty, accepts_hart, accepts}
+use Rattle.queue_certificates.specs.Certificates.{QueueCertificate, queue_at, start_at, no_hart, HasFields, MeetsFields, IsOwnByte, IsAtState, IsInState}
+use Rattle.queue_certificates.specs.Certificates.{part_of, accepts}
 use Rattle.queue_certificates.proofs.States.{at-below}
-use Rattle.queue_certificates.proofs.Steps.{nobody_told, nothing_sent}
-use Rattle.queue_certificates.proofs.Certified.{accepted-opens, accepted-certifies, fine}
+use Rattle.queue_certificates.proofs.Steps.{nobody_told, nothing_sent, untold}
+use Rattle.queue_certificates.proofs.Certified.{accepted-opens, accepted-certifies, fine, of-hart}
 use Rattle.queue_checker.specs.Flaws.{hart_at}
 use Rattle.hart_safety.specs.Leaves.{leaves_of}
 use Rattle.hart_safety.specs.Stops.{goes_on_at, first_stop}
@@ -36,18 +36,14 @@ use Rattle.hart_safety.proofs.Outside.{IsNotStored, outside-at}
 use Rattle.hart_safety.proofs.Writing.{leaf-spares}
 
 module _ (B M : ℕ) (o : OpeningValue) (c : QueueCertificate) (ok : accepts o c ≡ true) where
-  -- each hart was accepted with all its registers
-  wide : (h : ℕ) (x : HartOpeningValue) → slice_get o.harts h ≡ Some x → 32 ≤ length x.registers
-  wide h x is =
-      let all = and_parts (all_below (length c.queues) (λ i. is_queue (queue_at c i) && opens_empty o (queue_at c i) (start_at c i)))
-      (all_below (length o.harts) (λ h. accepts_hart o c h (get_or o.harts h no_hart) (part_of c h))) ok in
-      let at : accepts_hart o c h x (part_of c h) ≡ true = subst (λ y. accepts_hart o c h y (part_of c h) ≡ true) (get_or_from_slice_get o.harts h x no_hart is)
-      (at-below (length o.harts) (λ h. accepts_hart o c h (get_or o.harts h no_hart) (part_of c h)) all.1 h (slice_get_within o.harts h x is)) in
-      let first = and_parts (nat_le 32 (length x.registers) && nat_lt (part_of c h).first (length (part_of c h).states))
-      (opens_in o c h x (state_at c h (part_of c h).first).known (part_of c h).numbers)
-      (and_parts (nat_le 32 (length x.registers) && nat_lt (part_of c h).first (length (part_of c h).states)
-      && opens_in o c h x (state_at c h (part_of c h).first).known (part_of c h).numbers) _ at).0 in
-      leb-true 32 (length x.registers) (and_parts (nat_le 32 (length x.registers)) _ first.0).0
+  -- what is said of records that are sent plays no part here
+  in-state : (h : ℕ) (s : HartState) (m : View) (cs : AllCounts) → IsAtState c h s m cs → IsInState c h s m cs
+  in-state h s m cs in' runs = let w = in' runs in (w.0, w.1, w.2)
+
+  plain : (h : ℕ) (s : HartState) (m : View) (cs : AllCounts) (e : Entry)
+      → Acts M o (length c.queues) (queue_at c) (HasFields c) (MeetsFields c) h s m cs e
+      → Acts M o (length c.queues) (queue_at c) nobody_told nothing_sent h s m cs e
+  plain h s m cs e = untold M o (length c.queues) (queue_at c) (HasFields c) (MeetsFields c) h s m cs e
 
   -- a hart that acts is at one of its leaves
   at-leaf : (h : ℕ) (s : HartState) (m : View) (cs : AllCounts) (e : Entry) → IsInState c h s m cs
@@ -60,13 +56,13 @@ module _ (B M : ℕ) (o : OpeningValue) (c : QueueCertificate) (ok : accepts o c
 
   acts-wide : (h : ℕ) (s : HartState) (m : View) (cs : AllCounts) (e : Entry)
       → Acts M o (length c.queues) (queue_at c) nobody_told nothing_sent h s m cs e → 32 ≤ length s.registers
-  acts-wide h s m cs e acts = subst (λ n. 32 ≤ n) (sym acts.size) (wide h acts.opens acts.is)
+  acts-wide h s m cs e acts = subst (λ n. 32 ≤ n) (sym acts.size) (of-hart M o c ok h acts.opens acts.is).registers
 
   -- ---- no hart is stopped
 
   module _ (h : ℕ) (none : first_stop M o c h ≡ None) where
     abbrev IsSafe : ℕ → HartState → View → AllCounts → Type 0
-    IsSafe g s m cs = IsInState c g s m cs × (g ≡ h → IsGoing s)
+    IsSafe g s m cs = IsAtState c g s m cs × (g ≡ h → IsGoing s)
 
     going-next : (s : HartState) (m : View) (cs : AllCounts) (e : Entry) → IsInState c h s m cs → IsGoing s
         → Acts M o (length c.queues) (queue_at c) nobody_told nothing_sent h s m cs e → IsGoing (advanced s (number_read e))
@@ -77,14 +73,14 @@ module _ (B M : ℕ) (o : OpeningValue) (c : QueueCertificate) (ok : accepts o c
         (leaf-goes M o c h at.1.0.0 at.0 s m cs e acts (acts-wide h s m cs e acts) (fine M o c ok) at.1.0.1
         (subst (λ code. goes_on_at M c code at.0 ≡ true) (acts-code h s m cs e acts) at.1.1) going)
 
-    certified : IsCertified M o (length c.queues) (queue_at c) nobody_told nothing_sent (start_at c) (IsKeptByte c) IsSafe
+    certified : IsCertified M o (length c.queues) (queue_at c) (HasFields c) (MeetsFields c) (start_at c) (IsOwnByte c) IsSafe
     certified = let all = accepted-certifies M o c ok in record {
       frame = λ g s m n cs ds safe bytes same. (all.frame g s m n cs ds safe.0 bytes same, safe.1);
       opens = λ g x is. (all.opens g x is, λ same. settled-going _ refl);
       steps = λ g s m cs e safe acts. (
         all.steps g s m cs e safe.0 acts,
-        λ same. going-next s m cs e (subst (λ i. IsInState c i s m cs) same safe.0) (safe.1 same)
-            (subst (λ i. Acts M o (length c.queues) (queue_at c) nobody_told nothing_sent i s m cs e) same acts),
+        λ same. going-next s m cs e (subst (λ i. IsInState c i s m cs) same (in-state g s m cs safe.0)) (safe.1 same)
+            (subst (λ i. Acts M o (length c.queues) (queue_at c) nobody_told nothing_sent i s m cs e) same (plain g s m cs e acts)),
       );
       writes = λ g s m cs e safe. all.writes g s m cs e safe.0;
       apart = λ g s m cs e safe. all.apart g s m cs e safe.0;
@@ -95,7 +91,7 @@ module _ (B M : ℕ) (o : OpeningValue) (c : QueueCertificate) (ok : accepts o c
 
     pub not_stopped : (es : List Entry) → WellFormed B M (history_of o es) → (s : HartState) → state_of M (history_of o es) h ≡ Some s
         → (why : Stop) → s.status ≡ status.Stopped why → ⊥
-    not_stopped es run s at = ((every.every_state B M o (length c.queues) (queue_at c) (start_at c) nobody_told nothing_sent (IsKeptByte c) IsSafe
+    not_stopped es run s at = ((every.every_state B M o (length c.queues) (queue_at c) (start_at c) (HasFields c) (MeetsFields c) (IsOwnByte c) IsSafe
         (accepted-opens M o c ok) certified es run h s at).1 refl).unstopped
 
   -- ---- what a hart writes
@@ -104,9 +100,9 @@ module _ (B M : ℕ) (o : OpeningValue) (c : QueueCertificate) (ok : accepts o c
       → first_unbounded o c (hart_of e) ≡ None → (x : ℕ) → IsInNone x (regions_written o c (hart_of e)) → LeavesByteBy x (access_of e)
   spares_outside es e run act none x out = by (hart_of e) refl none out
     where
-      holds : every.Holds B M o (length c.queues) (queue_at c) (start_at c) nobody_told nothing_sent (IsKeptByte c) (IsInState c)
+      holds : every.Holds B M o (length c.queues) (queue_at c) (start_at c) (HasFields c) (MeetsFields c) (IsOwnByte c) (IsAtState c)
           (accepted-opens M o c ok) (accepted-certifies M o c ok) es
-      holds = every.holds B M o (length c.queues) (queue_at c) (start_at c) nobody_told nothing_sent (IsKeptByte c) (IsInState c)
+      holds = every.holds B M o (length c.queues) (queue_at c) (start_at c) (HasFields c) (MeetsFields c) (IsOwnByte c) (IsAtState c)
           (accepted-opens M o c ok) (accepted-certifies M o c ok) es (kept-front B M o es (e ∷ []) run)
 
       at : (h : ℕ) (s : HartState) (m : View) (cs : AllCounts) → IsInState c h s m cs
@@ -123,8 +119,8 @@ module _ (B M : ℕ) (o : OpeningValue) (c : QueueCertificate) (ok : accepts o c
 
       by : (h : ℕ) → hart_of e ≡ h → first_unbounded o c h ≡ None → IsInNone x (regions_written o c h) → LeavesByteBy x (access_of e)
       by h mine none out =
-          let known = every.state_known B M o (length c.queues) (queue_at c) (start_at c) nobody_told nothing_sent (IsKeptByte c) (IsInState c)
+          let known = every.state_known B M o (length c.queues) (queue_at c) (start_at c) (HasFields c) (MeetsFields c) (IsOwnByte c) (IsAtState c)
           (accepted-opens M o c ok) (accepted-certifies M o c ok) es e run holds h mine in
-          at h known.0 _ _ (holds.within h known.0 known.1)
-          (every.acts B M o (length c.queues) (queue_at c) (start_at c) nobody_told nothing_sent (IsKeptByte c) (IsInState c)
-          (accepted-opens M o c ok) (accepted-certifies M o c ok) es e run holds h known.0 mine act known.1) none out
+          at h known.0 _ _ (in-state h known.0 _ _ (holds.within h known.0 known.1))
+          (plain h known.0 _ _ e (every.acts B M o (length c.queues) (queue_at c) (start_at c) (HasFields c) (MeetsFields c) (IsOwnByte c) (IsAtState c)
+          (accepted-opens M o c ok) (accepted-certifies M o c ok) es e run holds h known.0 mine act known.1)) none out

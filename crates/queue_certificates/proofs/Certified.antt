@@ -176,15 +176,15 @@ module _ (M : ℕ) (o : OpeningValue) (c : QueueCertificate) (ok : accepts o c �
   past g beyond = ap (λ p. length p.own) (get_or_past c.harts g no_part beyond)
 
   -- what was accepted of a hart
-  record OfHart (h : ℕ) (x : HartOpeningValue) : Type 0 where
-    registers : 32 ≤ length x.registers
-    first : (part_of c h).first < length (part_of c h).states
-    opens : opens_in o c h x (state_at c h (part_of c h).first).known (part_of c h).numbers ≡ true
-    unfilled : opens_unfilled c (state_at c h (part_of c h).first).filled ≡ true
-    closed : (n : ℕ) → n < length (part_of c h).states → is_closed c h x.code (state_at c h n).known (state_at c h n).cases ≡ true
-    keeps : (n : ℕ) → n < length (part_of c h).states → keeps_all_fields c h x.code (state_at c h n) ≡ true
+  pub record OfHart (h : ℕ) (x : HartOpeningValue) : Type 0 where
+    pub registers : 32 ≤ length x.registers
+    pub first : (part_of c h).first < length (part_of c h).states
+    pub opens : opens_in o c h x (state_at c h (part_of c h).first).known (part_of c h).numbers ≡ true
+    pub unfilled : opens_unfilled c (state_at c h (part_of c h).first).filled ≡ true
+    pub closed : (n : ℕ) → n < length (part_of c h).states → is_closed c h x.code (state_at c h n).known (state_at c h n).cases ≡ true
+    pub keeps : (n : ℕ) → n < length (part_of c h).states → keeps_all_fields c h x.code (state_at c h n) ≡ true
 
-  of-hart : (h : ℕ) (x : HartOpeningValue) → slice_get o.harts h ≡ Some x → OfHart h x
+  pub of-hart : (h : ℕ) (x : HartOpeningValue) → slice_get o.harts h ≡ Some x → OfHart h x
   of-hart h x is =
       let at : accepts_hart o c h x (part_of c h) ≡ true = subst (λ y. accepts_hart o c h y (part_of c h) ≡ true) (get_or_from_slice_get o.harts h x no_hart is)
       (at-below (length o.harts) (λ h. accepts_hart o c h (get_or o.harts h no_hart) (part_of c h)) halves.1 h (slice_get_within o.harts h x is)) in
