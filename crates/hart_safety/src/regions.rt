@@ -19,7 +19,7 @@ use std::alloc::Global;
 use step_machine::Opening;
 
 /// The bytes at the addresses from `from` to `to`, both included.
-#[derive(Clone, Copy, PartialEq, Eq, Debug)]
+#[derive(Clone, Copy)]
 pub struct Region {
     pub from: u64,
     pub to: u64,
