@@ -30,7 +30,7 @@ use rv_decode::instruction::LoadOp;
 use std::alloc::Global;
 
 /// How many bytes a load reads.
-pub(crate) fn load_width(op: LoadOp) -> u64
+pub fn load_width(op: LoadOp) -> u64
     ensures { result ≡ load_width op }
 {
     match op {

@@ -21,7 +21,7 @@ pub(crate) fn next_pc(pc: u32) -> u32
 }
 
 /// The value at `i`; any, if there are fewer.
-pub(crate) fn value_in(alloc: Global, values: &[KnownValue], i: usize) -> Result<KnownValue, Lack>
+pub fn value_in(alloc: Global, values: &[KnownValue], i: usize) -> Result<KnownValue, Lack>
     ensures { IfOk result (λ v. v ≡ get_or values.now i any) }
 {
     match values.get(i) {
@@ -185,7 +185,7 @@ pub(crate) fn with_value(
     })
 }
 
-pub(crate) fn copied_state(alloc: Global, state: &KnownState) -> Result<KnownState, Lack>
+pub fn copied_state(alloc: Global, state: &KnownState) -> Result<KnownState, Lack>
     ensures { IfOk result (λ s. s ≡ state.now) }
 {
     let ranges = Vec::from_slice(alloc, &state.ranges)?;

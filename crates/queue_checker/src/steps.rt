@@ -29,7 +29,7 @@ use std::alloc::Global;
 const WORDS: u64 = 1 << 32;
 
 /// Where a jump by `offset` from `base` goes.
-fn address(base: u32, offset: i32) -> u32
+pub fn address(base: u32, offset: i32) -> u32
     ensures { result ≡ address base offset }
 {
     base.wrapping_add(offset.cast_unsigned())

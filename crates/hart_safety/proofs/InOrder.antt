@@ -1,0 +1,112 @@
+-- Regions stay in their order, with a byte between each and the next.
+use Rattle.std.proofs.Common.{ℕ, ◌+◌, ◌-◌, ◌%◌, ◌^◌, ◌<◌, ◌≤◌, ◌≡◌, ◌&&◌, if◌then◌else◌, Bool, true, false, Option, Some, None, List, [], ◌∷◌, refl, subst, arith}
+use Rattle.std.specs.Prelude.{nat_le, nat_lt}
+use Rattle.std.proofs.lemmas.Bool.{leb-true, leb-false, ltb-true}
+use Rattle.rv_decode.specs.declared.instruction.Instr.{Instr}
+use Rattle.rv_decode.specs.declared.instruction.Instr.TheVariants.{Lui, Auipc, Jal, Jalr, Branch, Load, Store}
+use Rattle.rv_decode.specs.declared.instruction.Instr.TheVariants.{Immediate, Shift, Register, Fence, FenceTso, Ecall}
+use Rattle.rv_decode.specs.declared.instruction.Instr.TheVariants.{Ebreak, Amo}
+use Rattle.hart.specs.Effects.{store_width}
+use Rattle.step_machine.specs.History.{OpeningValue}
+use Rattle.queue_certificates.specs.Forms.{Bounds, most_of_sum, risings, fallings, bounds_between, bounds_of}
+use Rattle.queue_certificates.specs.States.{KnownValue, any, linear, index_for, signed_for, KnownState}
+use Rattle.queue_certificates.specs.Results.{bounds}
+use Rattle.queue_certificates.specs.Steps.{instruction_at}
+use Rattle.queue_certificates.specs.Certificates.{QueueCertificate}
+use Rattle.queue_checker.specs.Flaws.{hart_at}
+use Rattle.queue_checker.specs.Operands.{operand_in, address_in}
+use Rattle.hart_safety.specs.declared.regions.Region.{Region}
+use Rattle.hart_safety.specs.Leaves.{Leaf, leaves_of}
+use Rattle.hart_safety.specs.Regions.{region_from, region_stored, ends_before, joined_region, with_region, with_stored, with_leaves}
+use Rattle.hart_safety.specs.Regions.{regions_written, AreInOrderFrom}
+
+-- ---- a region has a byte
+
+bounds-order : (rs : List (Option ℕ)) (v : KnownValue) (b : Bounds) → bounds rs v ≡ Some b → b.low ≤ b.high
+bounds-order rs any b is = absurd (cc)
+bounds-order rs (index_for i f) b is = absurd (cc)
+bounds-order rs (signed_for i f) b is = absurd (cc)
+bounds-order rs (linear f) b is = by (f.constant % 2 ^ 32) (most_of_sum rs (risings (2 ^ 32) f.factors)) (most_of_sum rs (fallings (2 ^ 32) f.factors)) is
+  where
+    made : (c up down : ℕ) (t : Bool) → (if t then Some (record { low = c - down; high = c + up }) else None) ≡ Some b → b.low ≤ b.high
+    made c up down false is = absurd (cc)
+    made c up down true is = subst (λ (d : Bounds). d.low ≤ d.high) (let e : record { low = c - down; high = c + up } ≡ b = cc in e) (omega arith)
+
+    by : (c : ℕ) (up down : Option ℕ) → bounds_between (2 ^ 32) c up down ≡ Some b → b.low ≤ b.high
+    by c None down is = absurd (cc)
+    by c (Some up) None is = absurd (cc)
+    by c (Some up) (Some down) is = made c up down (nat_le down c && nat_le (c + up + 1) (2 ^ 32)) is
+
+abbrev HasByte : Option Region → Type 0
+HasByte None = Unit {0}
+HasByte (Some r) = r.from ≤ r.to
+
+from-has : (bs : Option Bounds) (width : ℕ) → ((b : Bounds) → bs ≡ Some b → b.low ≤ b.high) → HasByte (region_from bs width)
+from-has None width order = tt
+from-has (Some b) width order = let low : b.low ≤ b.high = order b refl in omega (arith, low)
+
+stored-has : (c : QueueCertificate) (k : KnownState) (i : Option Instr) → HasByte (region_stored c k i)
+stored-has c k (Some (Store op rs1 rs2 offset)) =
+    from-has (bounds k.ranges (address_in c k rs1 offset)) (store_width op) (bounds-order k.ranges (address_in c k rs1 offset))
+stored-has c k (Some (Amo op rd rs1 rs2 aq rl)) = from-has (bounds k.ranges (operand_in c k rs1)) 4 (bounds-order k.ranges (operand_in c k rs1))
+stored-has c k None = tt
+stored-has c k (Some (Lui rd upper)) = tt
+stored-has c k (Some (Auipc rd upper)) = tt
+stored-has c k (Some (Jal rd offset)) = tt
+stored-has c k (Some (Jalr rd rs1 offset)) = tt
+stored-has c k (Some (Branch op rs1 rs2 offset)) = tt
+stored-has c k (Some (Load op rd rs1 offset)) = tt
+stored-has c k (Some (Immediate op rd rs1 n)) = tt
+stored-has c k (Some (Shift op rd rs1 amount)) = tt
+stored-has c k (Some (Register op rd rs1 rs2)) = tt
+stored-has c k (Some (Fence pred succ)) = tt
+stored-has c k (Some FenceTso) = tt
+stored-has c k (Some Ecall) = tt
+stored-has c k (Some Ebreak) = tt
+
+-- ---- one more
+
+earlier : (n m : ℕ) (rs : List Region) → n ≤ m → AreInOrderFrom m rs → AreInOrderFrom n rs
+earlier n m [] le order = tt
+earlier n m (r ∷ rs) le order = (let low : m ≤ r.from = order.0 in omega (arith, le, low), order.1, order.2)
+
+joined-order : (n : ℕ) (r s : Region) → n ≤ r.from → r.from ≤ r.to → n ≤ s.from → s.from ≤ s.to
+    → (n ≤ (joined_region r s).from) × ((joined_region r s).from ≤ (joined_region r s).to)
+joined-order n r s low has low-s has-s = by (nat_le r.from s.from) (nat_le r.to s.to) refl refl
+  where
+    by : (t u : Bool) → nat_le r.from s.from ≡ t → nat_le r.to s.to ≡ u
+        → (n ≤ (if t then r.from else s.from)) × ((if t then r.from else s.from) ≤ (if u then s.to else r.to))
+    by true true first last = (low, let le : r.to ≤ s.to = leb-true r.to s.to last in omega (arith, has, le))
+    by true false first last = (low, has)
+    by false true first last = (low-s, has-s)
+    by false false first last = (low-s, let gt : s.from < r.from = leb-false r.from s.from first in omega (arith, gt, has))
+
+with-order : (n : ℕ) (r : Region) (rs : List Region) → n ≤ r.from → r.from ≤ r.to → AreInOrderFrom n rs → AreInOrderFrom n (with_region r rs)
+with-order n r [] low has order = (low, has, tt)
+with-order n r (s ∷ ss) low has order = by (ends_before r s) (ends_before s r) refl refl
+    (λ after. with-order (s.to + 2) r ss after has order.2)
+    (let both = joined-order n r s low has order.0 order.1 in
+    with-order n (joined_region r s) ss both.0 both.1
+    (earlier n (s.to + 2) ss (let s-low : n ≤ s.from = order.0 in let s-has : s.from ≤ s.to = order.1 in omega (arith, s-low, s-has)) order.2))
+  where
+    by : (t u : Bool) → ends_before r s ≡ t → ends_before s r ≡ u → (s.to + 2 ≤ r.from → AreInOrderFrom (s.to + 2) (with_region r ss))
+        → AreInOrderFrom n (with_region (joined_region r s) ss)
+        → AreInOrderFrom n (if t then r ∷ s ∷ ss else (if u then s ∷ with_region r ss else with_region (joined_region r s) ss))
+    by true u first second apart together =
+        let far : r.to + 1 < s.from = ltb-true (r.to + 1) s.from first in (low, has, (omega (arith, far), order.1, order.2))
+    by false true first second apart together =
+        let far : s.to + 1 < r.from = ltb-true (s.to + 1) r.from second in (order.0, order.1, apart (omega (arith, far)))
+    by false false first second apart together = together
+
+stored-order : (r : Option Region) (rs : List Region) → HasByte r → AreInOrderFrom 0 rs → AreInOrderFrom 0 (with_stored r rs)
+stored-order None rs has order = order
+stored-order (Some r) rs has order = with-order 0 r rs (omega arith) has order
+
+leaves-order : (c : QueueCertificate) (code : List ℕ) (ls : List Leaf) (rs : List Region) → AreInOrderFrom 0 rs → AreInOrderFrom 0 (with_leaves c code ls rs)
+leaves-order c code [] rs order = order
+leaves-order c code (l ∷ ls) rs order =
+    leaves-order c code ls (with_stored (region_stored c l.known (instruction_at code l.known.pc)) rs)
+    (stored-order (region_stored c l.known (instruction_at code l.known.pc)) rs (stored-has c l.known (instruction_at code l.known.pc)) order)
+
+pub regions_in_order : (o : OpeningValue) (c : QueueCertificate) (h : ℕ) → AreInOrderFrom 0 (regions_written o c h)
+regions_in_order o c h = leaves-order c (hart_at o h).code (leaves_of c h) [] tt

@@ -1,0 +1,8 @@
+mod AtLeaves
+mod Going
+mod Stopping
+mod Outside
+mod Writing
+mod InOrder
+mod Safety
+mod LittleTexts

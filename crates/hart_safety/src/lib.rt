@@ -1,0 +1,48 @@
+//! What else an accepted certificate of queues shows of a hart: that nothing stops it, and which bytes it writes.
+//!
+//! The contract: [`first_stop`] returns a hart's first state whose instruction isn't shown to go on, and where there is none, nothing
+//! stops the hart in any run ([`laws_of_hart_safety`]). [`first_unbounded`] returns its first state with a store that may go anywhere,
+//! and where there is none, the hart writes no byte outside of [`regions_written`]. This crate checks no certificate, reads no text and
+//! runs no machine.
+//!
+//! Called by `certifying`.
+
+#![tactic(auto)]
+
+mod leaves;
+mod regions;
+mod stops;
+
+ghost use Rattle.std.specs.Prelude.{ℕ, ◌≡◌, List, [], ◌∷◌, ◌++◌, None, Some, true, false};
+ghost use Rattle.hart.specs.State.{HartState};
+ghost use Rattle.hart.specs.declared.status.Stop.{Stop};
+ghost use Rattle.hart.specs.declared.status.Status.TheVariants.{Stopped};
+ghost use Rattle.step_machine.specs.declared.events.Entry.{Entry};
+ghost use Rattle.step_machine.specs.Access.{access_of};
+ghost use Rattle.step_machine.specs.Entries.{hart_of, is_land};
+ghost use Rattle.step_machine.specs.History.{OpeningValue, history_of};
+ghost use Rattle.step_machine.specs.Legal.{WellFormed};
+ghost use Rattle.step_machine.specs.Paths.{state_of};
+ghost use Rattle.store_buffers.specs.StoreBuffers.{LeavesByteBy};
+ghost use Rattle.queue_certificates.specs.Certificates.{QueueCertificate, accepts};
+ghost use Rattle.hart_safety.specs.Stops.{first_stop};
+ghost use Rattle.hart_safety.specs.Regions.{regions_written, IsInNone, first_unbounded, AreInOrderFrom};
+
+pub use regions::{Region, first_unbounded, regions_written};
+pub use stops::first_stop;
+
+/// Where a certificate is accepted for an opening, in every legal run from it, of any length and with store buffers of any size. It
+/// does nothing.
+///
+/// - `never_stopped`: a hart whose states all go on is never stopped: by no fault, no `ebreak` and no environment call that isn't one.
+/// - `written_within`: a hart without a store that may go anywhere writes no byte outside of its regions.
+/// - `in_order`: of any certificate, regions are in their order, with a byte between each and the next.
+pub fn laws_of_hart_safety()
+    ensures never_stopped { (B M : ℕ) (o : OpeningValue) (c : QueueCertificate) → accepts o c ≡ true → (h : ℕ) → first_stop M o c h ≡ None
+        → (es : List Entry) → WellFormed B M (history_of o es) → (s : HartState) → state_of M (history_of o es) h ≡ Some s
+        → (why : Stop) → s.status ≡ Stopped why → ⊥ }
+    ensures written_within { (B M : ℕ) (o : OpeningValue) (c : QueueCertificate) → accepts o c ≡ true → (es : List Entry) (e : Entry)
+        → WellFormed B M (history_of o (es ++ e ∷ [])) → is_land e ≡ false → first_unbounded o c (hart_of e) ≡ None
+        → (x : ℕ) → IsInNone x (regions_written o c (hart_of e)) → LeavesByteBy x (access_of e) }
+    ensures in_order { (o : OpeningValue) (c : QueueCertificate) (h : ℕ) → AreInOrderFrom 0 (regions_written o c h) }
+{}

@@ -1,0 +1,185 @@
+//! Whether a hart surely goes on from where a certificate lists it.
+
+ghost use Rattle.std.specs.Prelude.{◌≡◌, IfOk};
+ghost use Rattle.queue_certificates.specs.Certificates.{queue_at};
+ghost use Rattle.hart_safety.specs.Leaves.{first_other};
+ghost use Rattle.hart_safety.specs.Stops.{is_aligned, is_within_memory, may_be_target, jumps_to_target, is_known_call, call_in};
+ghost use Rattle.hart_safety.specs.Stops.{goes_on, goes_on_at, first_stop};
+
+use crate::leaves::{Leaf, leaves_of};
+use known_values::forms::{is_same, number};
+use known_values::lack::product;
+use known_values::results::{as_number, bounds};
+use known_values::values::plain;
+use known_values::{Bounds, Known, KnownValue, Lack};
+use queue_checker::loads::load_width;
+use queue_checker::owning::code_of;
+use queue_checker::places::anywhere;
+use queue_checker::states::value_in;
+use queue_checker::steps::{address, address_value, instruction_at, operand};
+use queue_checker::stores::store_width;
+use queue_checker::{KnownState, QueueCertificate};
+use rv_decode::Instr;
+use std::alloc::Global;
+use step_machine::Opening;
+
+fn is_aligned(alloc: Global, value: &KnownValue, width: u64) -> bool
+    ensures { result ≡ is_aligned value.now width }
+{
+    match &value.known {
+        Known::Linear(form) => is_same(width, form, &number(alloc, 0)),
+        Known::Any => false,
+        Known::IndexFor(_, _) => false,
+        Known::SignedFor(_, _) => false,
+    }
+}
+
+/// Whether an access at this value, which lies in these bounds, is aligned and within `words` words of memory.
+fn is_within_memory(
+    alloc: Global,
+    words: u64,
+    place: &KnownValue,
+    bounds: Bounds,
+    width: u64,
+) -> Result<bool, Lack>
+    ensures { IfOk result (λ within. within ≡ is_within_memory words place.now bounds width) }
+{
+    let bytes = product(4, words)?;
+    Ok(is_aligned(alloc, place, width) && bounds.high < bytes)
+}
+
+fn may_be_target(pc: u32) -> bool
+    ensures { result ≡ may_be_target pc }
+{
+    pc % 4 == 0
+}
+
+fn jumps_to_target(base: Option<u32>, offset: i32) -> bool
+    ensures { result ≡ jumps_to_target base offset }
+{
+    match base {
+        None => false,
+        Some(base) => may_be_target(address(base, offset) / 2 * 2),
+    }
+}
+
+fn is_known_call(number: Option<u32>) -> bool
+    ensures { result ≡ is_known_call number }
+{
+    matches!(number, Some(1 | 2 | 3 | 93))
+}
+
+/// The number of an environment call, where it is known.
+fn call_in(
+    alloc: Global,
+    certificate: &QueueCertificate,
+    state: &KnownState,
+) -> Result<Option<u32>, Lack>
+    ensures { IfOk result (λ number. number ≡ call_in certificate.now state.now) }
+{
+    let value = value_in(alloc, &state.registers, 17)?;
+    let value = plain(alloc, &certificate.queues, &state.ranges, &value)?;
+    Ok(as_number(&value))
+}
+
+/// Whether the instruction doesn't stop a hart with `words` words of memory.
+fn goes_on(
+    alloc: Global,
+    words: u64,
+    certificate: &QueueCertificate,
+    state: &KnownState,
+    instruction: Option<Instr>,
+) -> Result<bool, Lack>
+    ensures { IfOk result (λ goes. goes ≡ goes_on words certificate.now state.now instruction) }
+{
+    match instruction {
+        None => Ok(false),
+        Some(Instr::Ebreak) => Ok(false),
+        Some(Instr::Ecall) => Ok(is_known_call(call_in(alloc, certificate, state)?)),
+        Some(Instr::Jal { offset, .. }) => Ok(may_be_target(address(state.pc, offset))),
+        Some(Instr::Jalr { rs1, offset, .. }) => {
+            let base = operand(alloc, certificate, state, rs1)?;
+            Ok(jumps_to_target(as_number(&base), offset))
+        }
+        Some(Instr::Branch { offset, .. }) => Ok(may_be_target(address(state.pc, offset))),
+        Some(
+            Instr::Load {
+                op,
+                rs1,
+                offset,
+                ..
+            },
+        ) => {
+            let place = address_value(alloc, certificate, state, rs1, offset)?;
+            let bounds = anywhere(bounds(alloc, &state.ranges, &place)?);
+            is_within_memory(alloc, words, &place, bounds, load_width(op))
+        }
+        Some(
+            Instr::Store {
+                op,
+                rs1,
+                offset,
+                ..
+            },
+        ) => {
+            let place = address_value(alloc, certificate, state, rs1, offset)?;
+            let bounds = anywhere(bounds(alloc, &state.ranges, &place)?);
+            is_within_memory(alloc, words, &place, bounds, store_width(op))
+        }
+        Some(Instr::Amo { rs1, .. }) => {
+            let place = operand(alloc, certificate, state, rs1)?;
+            let bounds = anywhere(bounds(alloc, &state.ranges, &place)?);
+            is_within_memory(alloc, words, &place, bounds, 4)
+        }
+        _ => Ok(true),
+    }
+}
+
+fn goes_on_at(
+    alloc: Global,
+    words: u64,
+    certificate: &QueueCertificate,
+    code: &[u32],
+    state: &KnownState,
+) -> Result<bool, Lack>
+    ensures { IfOk result (λ goes. goes ≡ goes_on_at words certificate.now code.now state.now) }
+{
+    if u64::from(state.pc) == product(4, code.len() as u64)? {
+        Ok(true)
+    } else {
+        let instruction = instruction_at(code, state.pc);
+        goes_on(alloc, words, certificate, state, instruction)
+    }
+}
+
+fn first_stop_in(
+    alloc: Global,
+    words: u64,
+    certificate: &QueueCertificate,
+    code: &[u32],
+    mut leaves: &[Leaf],
+) -> Result<Option<u32>, Lack>
+    ensures { IfOk result (λ state. state ≡ first_other (goes_on_at words certificate.now code.now) leaves.now) }
+{
+    while let [leaf, others @ ..] = leaves {
+        if !goes_on_at(alloc, words, certificate, code, &leaf.known)? {
+            return Ok(Some(leaf.state));
+        }
+        leaves = others;
+    }
+    Ok(None)
+}
+
+/// The hart's first state whose instruction isn't shown to go on, with `words` words of memory.
+pub fn first_stop(
+    alloc: Global,
+    opening: &Opening,
+    certificate: &QueueCertificate,
+    words: u64,
+    hart: u32,
+) -> Result<Option<u32>, Lack>
+    ensures { IfOk result (λ state. state ≡ first_stop words opening.now certificate.now hart) }
+{
+    let leaves = leaves_of(alloc, certificate, hart)?;
+    first_stop_in(alloc, words, certificate, code_of(opening, hart), &leaves)
+}
