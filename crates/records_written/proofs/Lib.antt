@@ -4,3 +4,4 @@ mod Instructions
 mod Leading
 mod Runs
 mod LittleTexts
+pub mod Splits

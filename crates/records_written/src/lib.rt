@@ -2,13 +2,21 @@
 //!
 //! The protocol of ownership says which slots a sender may write, not that it writes them: a text that publishes slots as it found
 //! them keeps it. Here a certificate of `queue_certificates` has in addition, for each state of the sender, which bytes of the slots
-//! ahead of its count it has surely written since these slots were last published. This crate runs nothing.
+//! ahead of its count it has surely written since these slots were last published: its marks.
 //!
-//! Called by `records_checker`.
+//! The contracts: where an accepted certificate shows it with marks, each byte of a mask of each record that is published, in any run,
+//! was written since the record before in its slot ([`laws_of_written_records`]); [`shows_written`] computes whether marks show it. A
+//! [`Lack`](known_values::Lack) decides nothing. This crate reads no text, runs no machine, and never says what a record holds.
+//!
+//! Called by `certifying`.
 
 #![tactic(auto)]
 
 mod effect;
+mod effects;
+mod keeping;
+mod marking;
+mod showing;
 
 ghost use Rattle.std.specs.Prelude.{ℕ, ◌≡◌, ◌+◌, ◌<◌, ◌≤◌, List, [], ◌∷◌, ◌++◌, length, true};
 ghost use Rattle.std.specs.List.{Contains};
@@ -23,13 +31,14 @@ ghost use Rattle.records_written.specs.Marks.{Marks, shows_written};
 ghost use Rattle.records_written.specs.Written.{IsWritten};
 
 pub use effect::Effect;
+pub use marking::{SlotMarks, StateMarks};
+pub use showing::shows_written;
 
 /// Where a certificate is accepted for an opening, and shows with these marks that the sender of a queue writes the bytes of a mask. It
 /// does nothing.
 ///
 /// - `written`: in every legal run from the opening, of any length and with store buffers of any size: where the sender moves its head
 ///   past a position, it has written each byte of the mask in that position's slot since the record before in that slot was published.
-
 pub fn laws_of_written_records()
     ensures written { (B M : ℕ) (o : OpeningValue) (c : QueueCertificate) → accepts o c ≡ true → (i : ℕ) → i < length c.queues
         → (mask : List ℕ) (marks : List Marks) → shows_written o c i mask marks ≡ true → (es : List Entry) (e : Entry)

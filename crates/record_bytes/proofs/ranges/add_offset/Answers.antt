@@ -7,7 +7,7 @@ use Rattle.record_bytes.proofs.ranges.add_offset.Goals.{else-range-offset-via-th
 pub returns-then-offset-range-eq1 : goal.returns-then-offset-range-eq1
 returns-then-offset-range-eq1 c =
     made_longer c.args.ranges.now.items c.pop.new.self.items c.push.new.self.items c.in-Some.range c.args.offset c.in-Some.ensures.items
-    (omega arith) c.push.ensures.items
+    (omega arith) c.in_ok-push-in-Some.ensures.items
 
 pub returns-in_ok-push-in-Some-2 : goal.returns-in_ok-push-in-Some-2
 returns-in_ok-push-in-Some-2 c =

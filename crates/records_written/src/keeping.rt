@@ -7,7 +7,7 @@ ghost use Rattle.records_written.specs.Marks.{has_mark, most_published, may_publ
 use crate::marking::StateMarks;
 use known_values::Lack;
 use known_values::lack::sum;
-use records_written::Effect;
+use crate::effect::Effect;
 
 fn has_mark(marks: &StateMarks, position: u64, byte: u64) -> bool
     ensures { result ≡ has_mark marks.now position byte }

@@ -3,7 +3,7 @@ use Rattle.queue_certificates.specs.Steps.{all_below}
 use Rattle.queue_certificates.specs.Certificates.{state_at}
 use Rattle.queue_checker.specs.Flaws.{hart_at}
 use Rattle.records_written.specs.Marks.{its_sender, keeps_marks}
-use Rattle.records_checker.proofs.showing.states_keep.Given as goal
+use Rattle.records_written.proofs.showing.states_keep.Given as goal
 
 abbrev pub invariant-loop-n : goal.invariant-loop-n
 invariant-loop-n l = l.all ≡ all_below l.n (λ n. keeps_marks l.certificate l.i (hart_at l.opening (its_sender l.certificate l.i)).code l.mask l.marks

@@ -1,7 +1,7 @@
 use Rattle.std.proofs.Common.{sym, ap, ◌∙◌}
 use Rattle.queue_checker.specs.Trees.{tree_of}
-use Rattle.records_checker.proofs.Splits.{kept_high}
-use Rattle.records_checker.proofs.showing.+keeps_marks.Goals as goal
+use Rattle.records_written.proofs.Splits.{kept_high}
+use Rattle.records_written.proofs.showing.+keeps_marks.Goals as goal
 
 pub returns-then-goes_beyond : goal.returns-then-goes_beyond
 returns-then-goes_beyond t c =

@@ -14,7 +14,7 @@ use queue_checker::states::share_in;
 use queue_checker::steps::{address_value, operand};
 use queue_checker::stores::store_width;
 use queue_checker::{KnownState, QueueCertificate, Share};
-use records_written::Effect;
+use crate::effect::Effect;
 use rv_decode::Instr;
 use std::alloc::Global;
 

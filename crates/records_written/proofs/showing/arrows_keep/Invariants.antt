@@ -1,6 +1,6 @@
 use Rattle.std.proofs.Common.{◌≡◌, length}
 use Rattle.records_written.specs.Marks.{arrows_keep, has_mark_after}
-use Rattle.records_checker.proofs.showing.arrows_keep.Given as goal
+use Rattle.records_written.proofs.showing.arrows_keep.Given as goal
 
 abbrev pub invariant-arrows : goal.invariant-arrows
 invariant-arrows l = arrows_keep l.certificate l.i l.code l.mask l.marks l.arrows (has_mark_after l.own l.effect)

@@ -16,7 +16,7 @@ use queue_checker::owning::code_of;
 use queue_checker::sites::{listed_states, small};
 use queue_checker::steps::instruction_at;
 use queue_checker::{Arrow, CaseNode, Cases, KnownState, QueueCertificate};
-use records_written::Effect;
+use crate::effect::Effect;
 use std::alloc::Global;
 use step_machine::Opening;
 
