@@ -42,10 +42,13 @@ regions_line h (range ∷ others) = writes_front h ++ bytes_text (range ∷ othe
 unfoldable pub anywhere_front : (h : ℕ) → List ℕ
 anywhere_front h = codes "hart " ++ decimal h ++ codes ": not shown which bytes it writes: "
 
+abbrev pub anywhere_line : OpeningValue → QueueCertificate → (h n : ℕ) → List ℕ
+anywhere_line o c h n = anywhere_front h ++ pc_place o c h n ++ 10 ∷ []
+
 -- of a hart, of which this is the first state with a store that may go anywhere
 abbrev pub writes_line : OpeningValue → QueueCertificate → (h : ℕ) → Option ℕ → List ℕ
 writes_line o c h None = regions_line h (map range_of_region (regions_written o c h))
-writes_line o c h (Some n) = anywhere_front h ++ pc_place o c h n ++ 10 ∷ []
+writes_line o c h (Some n) = anywhere_line o c h n
 
 -- ---- with M words of memory
 

@@ -4,8 +4,9 @@ ghost use Rattle.std.specs.Prelude.{◌≡◌, ◌++◌, IfOk, OnOk};
 ghost use Rattle.std.specs.String.{string_bytes};
 ghost use Rattle.engine_support.specs.OpeningTexts.{numbered};
 ghost use Rattle.certificate_reader.specs.Known.{known_at};
-ghost use Rattle.certifying.specs.Answers.{asked_lines, flaw_text, kept_line, kept_text, limit_lines, nothing_line, other_bytes_line, progress_line};
-ghost use Rattle.certifying.specs.Answers.{promise_end, protocol_line, protocol_text, reads_line, records_line, records_shown, unread_text, unused_text};
+ghost use Rattle.certifying.specs.Answers.{asked_lines, flaw_text, kept_line, kept_text, limit_lines, limit_of_records, nothing_line};
+ghost use Rattle.certifying.specs.Answers.{other_bytes_line, progress_line, promise_end, protocol_line, protocol_text, reads_line, records_line, records_shown};
+ghost use Rattle.certifying.specs.Answers.{unread_text, unused_text};
 ghost use Rattle.certifying.specs.Asked.{asked_by};
 ghost use Rattle.certifying.specs.Broken.{runs_line};
 ghost use Rattle.certifying.specs.NotShown.{flaw_line, likely_line};
@@ -54,15 +55,22 @@ fn push_other_bytes(out: &mut String) -> Result<(), AllocError>
     )
 }
 
-/// What isn't promised of records and of progress, where bytes of records are shown to be written or not.
+/// What isn't promised of records, where bytes of them are shown to be written or not.
+fn push_limit_of_records(out: &mut String, written: bool) -> Result<(), AllocError>
+    ensures { OnOk result (string_bytes out.new ≡ string_bytes out.old ++ limit_of_records written) }
+{
+    if written {
+        push_other_bytes(out)
+    } else {
+        push_no_record(out)
+    }
+}
+
+/// The same, and of progress.
 fn push_limits(out: &mut String, written: bool) -> Result<(), AllocError>
     ensures { OnOk result (string_bytes out.new ≡ string_bytes out.old ++ limit_lines written) }
 {
-    if written {
-        push_other_bytes(out)?;
-    } else {
-        push_no_record(out)?;
-    }
+    push_limit_of_records(out, written)?;
     push_progress(out)
 }
 

@@ -3,7 +3,7 @@
 ghost use Rattle.std.specs.Prelude.{◌≡◌, ◌++◌, OnOk};
 ghost use Rattle.std.specs.String.{string_bytes};
 ghost use Rattle.record_bytes.specs.declared.ranges.ByteRange.{ByteRange};
-ghost use Rattle.certifying.specs.ByteTexts.{bytes_text, gap_before, is_one_byte, range_text, ranges_text};
+ghost use Rattle.certifying.specs.ByteTexts.{bytes_text, bytes_word, gap_before, is_one_byte, range_text, ranges_text};
 
 use record_bytes::ByteRange;
 use std::alloc::AllocError;
@@ -52,14 +52,20 @@ pub fn is_one_byte(ranges: &[ByteRange]) -> bool
     }
 }
 
+fn push_word(out: &mut String, one: bool) -> Result<(), AllocError>
+    ensures { OnOk result (string_bytes out.new ≡ string_bytes out.old ++ bytes_word one) }
+{
+    if one {
+        out.push_str("byte ")
+    } else {
+        out.push_str("bytes ")
+    }
+}
+
 /// Appends `byte 2`, or `bytes 0-3 and 8`.
 pub fn push_bytes(out: &mut String, ranges: &[ByteRange]) -> Result<(), AllocError>
     ensures { OnOk result (string_bytes out.new ≡ string_bytes out.old ++ bytes_text ranges.now) }
 {
-    if is_one_byte(ranges) {
-        out.push_str("byte ")?;
-    } else {
-        out.push_str("bytes ")?;
-    }
+    push_word(out, is_one_byte(ranges))?;
     push_ranges(out, ranges)
 }

@@ -4,8 +4,8 @@ ghost use Rattle.std.specs.Prelude.{◌≡◌, ◌++◌, IfOk, OnOk, map};
 ghost use Rattle.std.specs.String.{string_bytes};
 ghost use Rattle.record_bytes.specs.declared.ranges.ByteRange.{ByteRange};
 ghost use Rattle.hart_safety.specs.declared.regions.Region.{Region};
-ghost use Rattle.certifying.specs.Harts.{anywhere_front, hart_lines, harts_lines, harts_safe, is_safe, never_line, nothing_written, range_of_region, only_end};
-ghost use Rattle.certifying.specs.Harts.{regions_line, stop_front, stop_line, writes_front, writes_line};
+ghost use Rattle.certifying.specs.Harts.{anywhere_front, anywhere_line, hart_lines, harts_lines, harts_safe, is_safe, never_line, nothing_written};
+ghost use Rattle.certifying.specs.Harts.{only_end, range_of_region, regions_line, stop_front, stop_line, writes_front, writes_line};
 
 use crate::byte_texts::push_bytes;
 use crate::unread::push_pc_place;
@@ -111,6 +111,20 @@ fn push_anywhere_front(out: &mut String, hart: u32) -> Result<(), AllocError>
     write!(out, "hart {hart}: not shown which bytes it writes: ")
 }
 
+fn push_anywhere(
+    out: &mut String,
+    opening: &Opening,
+    certificate: &QueueCertificate,
+    hart: u32,
+    state: u32,
+) -> Result<(), AllocError>
+    ensures { OnOk result (string_bytes out.new ≡ string_bytes out.old ++ anywhere_line opening.now certificate.now hart state) }
+{
+    push_anywhere_front(out, hart)?;
+    push_pc_place(out, opening, certificate, hart, state)?;
+    writeln!(out, "")
+}
+
 /// The line of where a hart writes, of which this is the first state with a store that may go anywhere.
 fn push_writes(
     alloc: Global,
@@ -126,18 +140,14 @@ fn push_writes(
         None => {
             let regions = regions_written(alloc, opening, certificate, hart)?;
             let ranges = ranges_of_regions(alloc, &regions)?;
-            push_ranges(out, hart, &ranges)?;
+            Ok(push_ranges(out, hart, &ranges)?)
         }
-        Some(state) => {
-            push_anywhere_front(out, hart)?;
-            push_pc_place(out, opening, certificate, hart, state)?;
-            writeln!(out, "")?;
-        }
+        Some(state) => Ok(push_anywhere(out, opening, certificate, hart, state)?),
     }
-    Ok(())
 }
 
 /// Appends the lines of a hart, and tells whether both are shown.
+#[tactic(auto, unfolding(crate::specs::Harts::hart_lines, crate::specs::Harts::is_safe))]
 fn push_hart(
     alloc: Global,
     out: &mut String,

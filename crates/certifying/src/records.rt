@@ -7,8 +7,8 @@ ghost use Rattle.engine_support.specs.OpeningTexts.{numbered};
 ghost use Rattle.record_bytes.specs.declared.ranges.ByteRange.{ByteRange};
 ghost use Rattle.record_bytes.specs.Ranges.{ranges_of};
 ghost use Rattle.records_written.specs.declared.finding.Unwritten.{Unwritten};
-ghost use Rattle.certifying.specs.Records.{AreFoundFor, AreFoundFrom, IsFound, asked_bytes, is_shown, none_line, record_line, record_lines, shown_end};
-ghost use Rattle.certifying.specs.Records.{records_front, unshown_front, unwritten_end, written_text};
+ghost use Rattle.certifying.specs.Records.{AreFoundFor, AreFoundFrom, IsFound, asked_bytes, is_shown, none_line, of_each, record_line};
+ghost use Rattle.certifying.specs.Records.{record_lines, records_front, shown_end, unshown_front, unwritten_end, written_text};
 
 use crate::byte_texts::{is_one_byte, push_bytes};
 use crate::unread::push_pc_place;
@@ -41,7 +41,8 @@ fn asked_bytes(
 ) -> Result<Vec<u64>, AllocError>
     ensures { IfOk result (λ mask. mask.items ≡ asked_bytes certificate.now bytes.now index) }
 {
-    offsets_in(alloc, bytes, queue_in(&certificate.queues, index).width)
+    let width = queue_in(&certificate.queues, index).width;
+    offsets_in(alloc, bytes, u64::from(width))
 }
 
 /// What is found of these bytes.
@@ -108,26 +109,41 @@ pub fn found_for(
     }
 }
 
+/// Whether it is shown that the bytes are written.
+fn is_shown(records: Records) -> bool
+    ensures { result ≡ is_shown records }
+{
+    match records {
+        Records::NoBytes => false,
+        Records::Shown => true,
+        Records::NotShown(_) => false,
+    }
+}
+
 /// Whether that is shown of all.
 pub fn are_shown(found: &[Records]) -> bool
     ensures { result ≡ list_all is_shown found.now }
 {
-    found
-        .iter()
-        .all(|records| matches!(records, Records::Shown))
+    found.iter().all(|records| is_shown(*records))
 }
 
 // ---- lines
+
+fn push_of_each(out: &mut String, one: bool) -> Result<(), AllocError>
+    ensures { OnOk result (string_bytes out.new ≡ string_bytes out.old ++ of_each one) }
+{
+    if one {
+        out.push_str(" of each record is written")
+    } else {
+        out.push_str(" of each record are written")
+    }
+}
 
 fn push_written(out: &mut String, ranges: &[ByteRange]) -> Result<(), AllocError>
     ensures { OnOk result (string_bytes out.new ≡ string_bytes out.old ++ written_text ranges.now) }
 {
     push_bytes(out, ranges)?;
-    if is_one_byte(ranges) {
-        out.push_str(" of each record is written")
-    } else {
-        out.push_str(" of each record are written")
-    }
+    push_of_each(out, is_one_byte(ranges))
 }
 
 #[tactic(auto, unfolding(crate::specs::Records::none_line))]

@@ -1,1 +1,2 @@
+pub mod OffsetLaws
 mod RangeLaws

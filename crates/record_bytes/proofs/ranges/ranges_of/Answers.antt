@@ -1,4 +1,4 @@
-use Rattle.std.proofs.Common.{arith, ◌≡◌, ◌∙◌, ℕ, List, ap, sym, take, get_or}
+use Rattle.std.proofs.Common.{arith, ap, take, get_or}
 use Rattle.std.proofs.lemmas.List.{take_more}
 use Rattle.record_bytes.specs.Ranges.{ranges_of}
 use Rattle.record_bytes.proofs.RangeLaws.{ranges_more}
