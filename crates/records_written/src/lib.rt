@@ -41,8 +41,9 @@ pub use showing::shows_written;
 
 /// Where a certificate is accepted for an opening, and shows that the sender of a queue writes the bytes of a mask. It does nothing.
 ///
-/// - `written`: if it shows that with these marks, in every legal run from the opening, of any length and with store buffers of any size: where the sender moves its head
-///   past a position, it has written each byte of the mask in that position's slot since the record before in that slot was published.
+/// - `written`: if it shows that with these marks, in every legal run from the opening, of any length and with store buffers of any
+///   size: where the sender moves its head past a position, it has written each byte of the mask in that position's slot since the
+///   record before in that slot was published.
 /// - `shown`: the same, if it shows that with any marks.
 pub fn laws_of_written_records()
     ensures written { (B M : ℕ) (o : OpeningValue) (c : QueueCertificate) → accepts o c ≡ true → (i : ℕ) → i < length c.queues
