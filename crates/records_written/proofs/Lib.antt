@@ -1,5 +1,5 @@
 mod Marked
-mod Effects
+mod Accesses
 mod Instructions
 mod Leading
 mod Runs

@@ -32,7 +32,7 @@ use Rattle.records_written.specs.declared.effect.Effect.{Effect}
 use Rattle.records_written.specs.declared.effect.Effect.TheVariants.{Leaves, Fills, Publishes, PublishesSome}
 use Rattle.records_written.specs.Marks.{Marks, most_published, has_mark, has_mark_after, shows_written}
 use Rattle.records_written.proofs.Marked.{so-at, whole-at}
-use Rattle.records_written.proofs.Effects.{published_then, IsDone}
+use Rattle.records_written.proofs.Accesses.{published_then, IsDone}
 use Rattle.records_written.proofs.Leading.{of-sender, Leads, leads}
 
 -- ---- a byte that is written stays so

@@ -3,6 +3,7 @@
 ghost use Rattle.std.specs.Prelude.{◌≡◌, IfOk};
 ghost use Rattle.records_written.specs.Marks.{published_by, filled_by, moves_head, effect_at, effect_of};
 
+use crate::effect::Effect;
 use known_values::queues::queue_in;
 use known_values::ranges::most;
 use known_values::results::bounds;
@@ -14,7 +15,6 @@ use queue_checker::states::share_in;
 use queue_checker::steps::{address_value, operand};
 use queue_checker::stores::store_width;
 use queue_checker::{KnownState, QueueCertificate, Share};
-use crate::effect::Effect;
 use rv_decode::Instr;
 use std::alloc::Global;
 

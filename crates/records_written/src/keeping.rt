@@ -4,12 +4,12 @@ ghost use Rattle.std.specs.Prelude.{◌≡◌, IfOk};
 ghost use Rattle.std.specs.List.{list_all};
 ghost use Rattle.records_written.specs.Marks.{has_mark, most_published, may_publish, has_mark_after, are_so};
 
+use crate::effect::Effect;
 use crate::marking::StateMarks;
 use known_values::Lack;
 use known_values::lack::sum;
-use crate::effect::Effect;
 
-fn has_mark(marks: &StateMarks, position: u64, byte: u64) -> bool
+pub(crate) fn has_mark(marks: &StateMarks, position: u64, byte: u64) -> bool
     ensures { result ≡ has_mark marks.now position byte }
 {
     let position = usize::try_from(position).unwrap_or(usize::MAX);
@@ -36,7 +36,7 @@ fn have_marks(marks: &StateMarks, position: u64, mut bytes: &[u64]) -> bool
     }
 }
 
-fn most_published(effect: Effect) -> u64
+pub(crate) fn most_published(effect: Effect) -> u64
     ensures { result ≡ most_published effect }
 {
     match effect {
@@ -58,7 +58,7 @@ pub(crate) fn may_publish(mask: &[u64], marks: &StateMarks, effect: Effect) -> b
 }
 
 /// Whether a byte is marked after an effect.
-fn has_mark_after(
+pub(crate) fn has_mark_after(
     marks: &StateMarks,
     effect: Effect,
     position: u64,

@@ -6,6 +6,7 @@ ghost use Rattle.queue_certificates.specs.Certificates.{part_of, state_at};
 ghost use Rattle.queue_checker.specs.Flaws.{hart_at};
 ghost use Rattle.records_written.specs.Marks.{its_sender, has_mark_after, are_so, arrows_keep, effect_keeps, keeps_marks, shows_written};
 
+use crate::effect::Effect;
 use crate::effects::effect_of;
 use crate::keeping::{are_so, may_publish};
 use crate::marking::StateMarks;
@@ -16,7 +17,6 @@ use queue_checker::owning::code_of;
 use queue_checker::sites::{listed_states, small};
 use queue_checker::steps::instruction_at;
 use queue_checker::{Arrow, CaseNode, Cases, KnownState, QueueCertificate};
-use crate::effect::Effect;
 use std::alloc::Global;
 use step_machine::Opening;
 
@@ -37,16 +37,12 @@ fn target_keeps(
 
 /// Whether the marks of each arrow's state are so after an effect.
 fn arrows_keep(
-    certificate: &QueueCertificate,
-    i: u32,
-    code: &[u32],
-    mask: &[u64],
     marks: &[StateMarks],
     own: &StateMarks,
     effect: Effect,
     mut arrows: &[Arrow],
 ) -> Result<bool, Lack>
-    ensures { IfOk result (λ keep. keep ≡ arrows_keep certificate.now i code.now mask.now marks.now arrows.now (has_mark_after own.now effect)) }
+    ensures { IfOk result (λ keep. keep ≡ arrows_keep marks.now arrows.now (has_mark_after own.now effect)) }
 {
     'arrows: loop {
         match arrows {
@@ -63,21 +59,18 @@ fn arrows_keep(
 
 /// Whether an effect is allowed, and leads into marks that are so.
 fn effect_keeps(
-    certificate: &QueueCertificate,
-    i: u32,
-    code: &[u32],
     mask: &[u64],
     marks: &[StateMarks],
     own: &StateMarks,
     arrows: &[Arrow],
     effect: Option<Effect>,
 ) -> Result<bool, Lack>
-    ensures { IfOk result (λ keeps. keeps ≡ effect_keeps certificate.now i code.now mask.now marks.now own.now arrows.now effect) }
+    ensures { IfOk result (λ keeps. keeps ≡ effect_keeps mask.now marks.now own.now arrows.now effect) }
 {
     match effect {
         None => Ok(false),
         Some(effect) => {
-            let keep = arrows_keep(certificate, i, code, mask, marks, own, effect, arrows)?;
+            let keep = arrows_keep(marks, own, effect, arrows)?;
             Ok(may_publish(mask, own, effect) && keep)
         }
     }
@@ -101,7 +94,7 @@ fn keeps_marks(
         CaseNode::Leaf(handed, arrows) => {
             let instruction = instruction_at(code, state.pc);
             let effect = effect_of(alloc, certificate, i, state, handed, instruction)?;
-            effect_keeps(certificate, i, code, mask, marks, own, arrows, effect)
+            effect_keeps(mask, marks, own, arrows, effect)
         }
         CaseNode::Split(variable, most, low, high) => {
             let below = with_low(alloc, state, *variable, *most)?;
@@ -190,7 +183,7 @@ fn states_keep(
 }
 
 /// The number of the state in which the sender opens.
-fn first_state(certificate: &QueueCertificate, i: u32) -> u32
+pub(crate) fn first_state(certificate: &QueueCertificate, i: u32) -> u32
     ensures { result ≡ (part_of certificate.now (its_sender certificate.now i)).first }
 {
     let hart = queue_in(&certificate.queues, i).sender;
