@@ -1,11 +1,11 @@
 -- What holds of a hart holds by one of the leaves of its state.
-use Rattle.std.proofs.Common.{ℕ, zero, suc, ◌+◌, ◌<◌, ◌≡◌, ◌⊎◌, inl, inr, if◌then◌else◌, Bool, true, false, Option, Some, None}
+use Rattle.std.proofs.Common.{ℕ, zero, suc, ◌+◌, ◌<◌, ◌≡◌, ◌⊎◌, inl, inr, if◌then◌else◌, Bool, true, false, Some, None}
 use Rattle.std.proofs.Common.{List, [], ◌∷◌, ◌++◌, length, get_or, refl, sym, subst, arith}
 use Rattle.std.proofs.lemmas.Bool.{cases_lt, cases_eq}
 use Rattle.hart.specs.State.{HartState}
 use Rattle.owned_run.specs.Certified.{View, AllCounts}
 use Rattle.queue_certificates.specs.States.{KnownState, MeansAt, Means}
-use Rattle.queue_certificates.specs.Certificates.{QueueCertificate, queue_at, own_of, state_at, Cases, leaf, split, with_low, with_high, may_exceed}
+use Rattle.queue_certificates.specs.Certificates.{QueueCertificate, queue_at, own_of, state_at, Cases, leaf, split, with_low, with_high}
 use Rattle.queue_certificates.proofs.Forms.{less_at}
 use Rattle.queue_certificates.proofs.States.{means-low, means-high, exceeds}
 use Rattle.hart_safety.specs.Leaves.{Leaf, leaves_in, leaves_below, first_other}

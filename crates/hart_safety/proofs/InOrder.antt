@@ -1,6 +1,7 @@
 -- Regions stay in their order, with a byte between each and the next.
-use Rattle.std.proofs.Common.{ℕ, ◌+◌, ◌-◌, ◌%◌, ◌^◌, ◌<◌, ◌≤◌, ◌≡◌, ◌&&◌, if◌then◌else◌, Bool, true, false, Option, Some, None, List, [], ◌∷◌, refl, subst, arith}
-use Rattle.std.specs.Prelude.{nat_le, nat_lt}
+use Rattle.std.proofs.Common.{ℕ, ◌+◌, ◌-◌, ◌%◌, ◌^◌, ◌<◌, ◌≤◌, ◌≡◌, ◌&&◌, if◌then◌else◌, Bool, true, false, Option}
+use Rattle.std.proofs.Common.{Some, None, List, [], ◌∷◌, refl, subst, arith}
+use Rattle.std.specs.Prelude.{nat_le}
 use Rattle.std.proofs.lemmas.Bool.{leb-true, leb-false, ltb-true}
 use Rattle.rv_decode.specs.declared.instruction.Instr.{Instr}
 use Rattle.rv_decode.specs.declared.instruction.Instr.TheVariants.{Lui, Auipc, Jal, Jalr, Branch, Load, Store}
@@ -8,7 +9,7 @@ use Rattle.rv_decode.specs.declared.instruction.Instr.TheVariants.{Immediate, Sh
 use Rattle.rv_decode.specs.declared.instruction.Instr.TheVariants.{Ebreak, Amo}
 use Rattle.hart.specs.Effects.{store_width}
 use Rattle.step_machine.specs.History.{OpeningValue}
-use Rattle.queue_certificates.specs.Forms.{Bounds, most_of_sum, risings, fallings, bounds_between, bounds_of}
+use Rattle.queue_certificates.specs.Forms.{Bounds, most_of_sum, risings, fallings, bounds_between}
 use Rattle.queue_certificates.specs.States.{KnownValue, any, linear, index_for, signed_for, KnownState}
 use Rattle.queue_certificates.specs.Results.{bounds}
 use Rattle.queue_certificates.specs.Steps.{instruction_at}

@@ -1,3 +1,4 @@
+mod Splits
 mod AtLeaves
 mod Going
 mod Stopping

@@ -1,5 +1,5 @@
 -- The text of one slot, for ever: its words are the head, the tail and the slot.
-use Rattle.std.proofs.Common.{ℕ, ◌≡◌, List, [], ◌∷◌, Option, Some, None, refl}
+use Rattle.std.proofs.Common.{ℕ, ◌≡◌, [], ◌∷◌, Some, None, refl}
 use Rattle.rv_decode.specs.Meaning.{meaning}
 use Rattle.owned_run.proofs.OneSlotText.{text}
 use Rattle.queue_certificates.proofs.OneSlotQueue.{certificate}

@@ -1,5 +1,6 @@
 -- In every run a hart that goes on from each of its leaves isn't stopped, and it writes within its regions.
-use Rattle.std.proofs.Common.{ℕ, ◌+◌, ◌<◌, ◌≤◌, ◌≡◌, ◌&&◌, ◌*◌, Bool, true, false, Option, Some, None, List, [], ◌∷◌, ◌++◌, length, get_or, refl, sym, ap, subst}
+use Rattle.std.proofs.Common.{ℕ, ◌≤◌, ◌≡◌, ◌&&◌, true, false, Some, None, List, [], ◌∷◌}
+use Rattle.std.proofs.Common.{◌++◌, length, get_or, refl, sym, subst}
 use Rattle.std.specs.Prelude.{nat_le, nat_lt}
 use Rattle.std.specs.List.{slice_get}
 use Rattle.std.proofs.lemmas.Bool.{and_parts, leb-true}
@@ -20,7 +21,7 @@ use Rattle.owned_run.specs.Certified.{View, AllCounts, Acts, IsCertified}
 use Rattle.owned_run.proofs.Every as every
 use Rattle.queue_certificates.specs.Steps.{all_below, instruction_at}
 use Rattle.queue_certificates.specs.Certificates.{QueueCertificate, queue_at, start_at, part_of, state_at, no_hart, IsKeptByte, IsInState}
-use Rattle.queue_certificates.specs.Certificates.{opens_in, is_closed, is_queue, opens_empty, accepts_hart, accepts}
+use Rattle.queue_certificates.specs.Certificates.{opens_in, is_queue, opens_empty, accepts_hart, accepts}
 use Rattle.queue_certificates.proofs.States.{at-below}
 use Rattle.queue_certificates.proofs.Steps.{nobody_told, nothing_sent}
 use Rattle.queue_certificates.proofs.Certified.{accepted-opens, accepted-certifies, fine}

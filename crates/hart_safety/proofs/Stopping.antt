@@ -1,5 +1,5 @@
 -- An instruction that goes on from a leaf doesn't stop its hart.
-use Rattle.std.proofs.Common.{ℕ, ℤ, ◌+◌, ◌*◌, ◌/◌, ◌%◌, ◌^◌, ◌<◌, ◌≤◌, ◌≡◌, ◌==◌, ◌||◌, ◌&&◌, inl, inr, if◌then◌else◌, Bool, true, false}
+use Rattle.std.proofs.Common.{ℕ, ℤ, ◌*◌, ◌/◌, ◌%◌, ◌^◌, ◌<◌, ◌≤◌, ◌≡◌, ◌==◌, ◌||◌, inl, inr, if◌then◌else◌, Bool, true, false}
 use Rattle.std.proofs.Common.{Option, Some, None, List, length, get_or, refl, sym, ◌∙◌, ap, subst, arith}
 use Rattle.std.specs.Prelude.{nat_lt, slice_index}
 use Rattle.std.proofs.lemmas.Bool.{and_parts, or_cases, eqb-true, eq-eqb, ltb-true, lt-ltb}
@@ -17,10 +17,9 @@ use Rattle.rv_decode.specs.declared.instruction.Instr.TheVariants.{Ebreak, Amo}
 use Rattle.hart.specs.State.{HartState}
 use Rattle.hart.specs.Steps.{need_of, need_for, jump_need, access_need}
 use Rattle.hart.specs.Effects.{register_value, address, is_taken, stored, load_width, store_width}
-use Rattle.hart.specs.declared.status.Status.TheVariants as status
 use Rattle.hart.specs.declared.need.Need.{Need}
 use Rattle.hart.specs.declared.need.Need.TheVariants as need
-use Rattle.hart.proofs.Instructions.{IsAt, need_at}
+use Rattle.hart.proofs.Instructions.{need_at}
 use Rattle.step_machine.specs.declared.events.Entry.{Entry}
 use Rattle.step_machine.specs.History.{OpeningValue}
 use Rattle.slot_queue.specs.Queues.{Queue, IsQueue, TellsFull}
@@ -135,9 +134,9 @@ module _ (M : ℕ) (o : OpeningValue) (c : QueueCertificate) (h : ℕ) (xs : Lis
   pub leaf-goes : goes_on_at M c s.code k ≡ true → IsGoing s → KeepsGoing (need_of s)
   leaf-goes ok going = elim (or_cases (s.pc == 4 * length s.code) (goes_on M c k (instruction_at s.code s.pc))
       (subst (λ pc. ((pc == 4 * length s.code) || goes_on M c k (instruction_at s.code pc)) ≡ true) (sym means.pc) ok)) [
-    | inl past ↦ absurd (going.inside acts.can.running (eqb-true s.pc (4 * length s.code) past))
-    | inr goes ↦ by (nat_lt s.pc (4 * length s.code)) refl goes
-  ]
+        | inl past ↦ absurd (going.inside acts.can.running (eqb-true s.pc (4 * length s.code) past))
+        | inr goes ↦ by (nat_lt s.pc (4 * length s.code)) refl goes
+      ]
     where
       says : (i : Option Instr) → s.pc < 4 * length s.code → meaning (slice_index s.code (s.pc / 4)) ≡ i → goes_on M c k i ≡ true
           → KeepsGoing (need_of s)

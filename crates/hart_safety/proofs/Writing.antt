@@ -1,12 +1,11 @@
 -- An instruction writes no byte outside of what its leaf says that it stores.
-use Rattle.std.proofs.Common.{ℕ, ℤ, ◌+◌, ◌-◌, ◌*◌, ◌/◌, ◌%◌, ◌<◌, ◌≤◌, ◌≡◌, ◌==◌, ◌&&◌, inl, inr, if◌then◌else◌, Bool, true, false}
-use Rattle.std.proofs.Common.{Option, Some, None, List, length, refl, sym, ◌∙◌, ap, subst, arith}
-use Rattle.std.specs.Prelude.{nat_lt, nat_le, slice_index}
+use Rattle.std.proofs.Common.{ℕ, ◌*◌, ◌/◌, ◌%◌, ◌<◌, ◌≤◌, ◌≡◌, ◌==◌, inl, inr, if◌then◌else◌, Bool, true, false}
+use Rattle.std.proofs.Common.{Option, Some, None, List, length, refl, sym, subst, arith}
+use Rattle.std.specs.Prelude.{nat_lt, slice_index}
 use Rattle.std.specs.List.{slice_get}
 use Rattle.std.specs.Option.{is_some}
-use Rattle.std.proofs.lemmas.Bool.{ltb-true, both_ways}
+use Rattle.std.proofs.lemmas.Bool.{ltb-true}
 use Rattle.rv_decode.specs.Meaning.{meaning}
-use Rattle.rv_decode.specs.declared.instruction.Reg.{Reg}
 use Rattle.rv_decode.specs.declared.instruction.StoreOp.{StoreOp}
 use Rattle.rv_decode.specs.declared.instruction.StoreOp.TheVariants as store_op
 use Rattle.rv_decode.specs.declared.instruction.Instr.{Instr}
@@ -14,13 +13,13 @@ use Rattle.rv_decode.specs.declared.instruction.Instr.TheVariants.{Lui, Auipc, J
 use Rattle.rv_decode.specs.declared.instruction.Instr.TheVariants.{Immediate, Shift, Register, Fence, FenceTso, Ecall}
 use Rattle.rv_decode.specs.declared.instruction.Instr.TheVariants.{Ebreak, Amo}
 use Rattle.hart.specs.State.{HartState}
-use Rattle.hart.specs.Steps.{need_of, need_for, jump_need, access_need, call_need}
+use Rattle.hart.specs.Steps.{need_of, need_for, jump_need, access_need}
 use Rattle.hart.specs.Effects.{register_value, address, is_taken, stored, load_width, store_width, updated}
 use Rattle.hart.specs.declared.status.Stop.TheVariants as stop
 use Rattle.hart.specs.declared.need.Report.TheVariants as report
 use Rattle.hart.specs.declared.need.Need.{Need}
 use Rattle.hart.specs.declared.need.Need.TheVariants as need
-use Rattle.hart.proofs.Instructions.{IsAt, need_at, illegal}
+use Rattle.hart.proofs.Instructions.{need_at, illegal}
 use Rattle.memory.specs.Writes.{write, covers}
 use Rattle.memory.proofs.Bytes.{covers-from}
 use Rattle.step_machine.specs.declared.events.Entry.{Entry}
@@ -29,7 +28,7 @@ use Rattle.step_machine.specs.Access.{access_of}
 use Rattle.step_machine.specs.Entries.{hart_of}
 use Rattle.step_machine.specs.Paths.{number_read, entry_of}
 use Rattle.store_buffers.specs.StoreBuffers.{LeavesByteBy}
-use Rattle.slot_queue.specs.Queues.{Queue, IsQueue, TellsFull}
+use Rattle.slot_queue.specs.Queues.{IsQueue, TellsFull}
 use Rattle.owned_run.specs.Certified.{View, AllCounts, Acts}
 use Rattle.queue_certificates.specs.Forms.{Bounds}
 use Rattle.queue_certificates.specs.States.{KnownValue, KnownState, Has, MeansAt}

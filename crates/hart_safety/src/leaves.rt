@@ -1,6 +1,6 @@
 //! The leaves of a hart's states, one by one.
 
-ghost use Rattle.std.specs.Prelude.{◌≡◌, ◌<◌, ◌++◌, IfOk, length};
+ghost use Rattle.std.specs.Prelude.{◌≡◌, ◌<◌, ◌++◌, ◌∷◌, [], IfOk, length};
 ghost use Rattle.queue_certificates.specs.Certificates.{part_of, state_at};
 ghost use Rattle.hart_safety.specs.Leaves.{leaves_in, leaves_below, leaves_of};
 

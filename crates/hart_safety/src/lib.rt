@@ -46,3 +46,6 @@ pub fn laws_of_hart_safety()
         → (x : ℕ) → IsInNone x (regions_written o c (hart_of e)) → LeavesByteBy x (access_of e) }
     ensures in_order { (o : OpeningValue) (c : QueueCertificate) (h : ℕ) → AreInOrderFrom 0 (regions_written o c h) }
 {}
+
+#[cfg(test)]
+mod tests;
