@@ -22,10 +22,10 @@ use Rattle.engine_support.specs.Tests.{tests}
 use Rattle.engine_support.proofs.InputLaws.{IsOne, alike_after, is_one, one_litmus_text}
 use Rattle.certifying.specs.Answers.{IsAnswerTo, IsCertificateAnswer, IsFlawAnswer, IsKeptAnswer, IsQueueAnswer, IsTrialAnswer, IsUseAnswer, is_of_queue}
 use Rattle.certifying.specs.Answers.{judged_reads, kept_answer, kept_judgement}
-use Rattle.certifying.specs.Asked.{Asked}
+use Rattle.certifying.specs.Questions.{Questions}
 use Rattle.certifying.specs.Harts.{harts_lines, harts_safe}
 use Rattle.certifying.specs.Inputs.{SaysCertificate, certificate_of, certificates}
-use Rattle.certifying.specs.Kept.{AreAlike, AreJudged, AreQueueAnswers, DifferInRecords, IsPromised, KeepsProtocol, LoadsOwnedSlots}
+use Rattle.certifying.specs.Kept.{AreOneAnswer, AreJudged, AreQueueAnswers, DifferInRecords, IsPromised, KeepsProtocol, LoadsOwnedSlots}
 use Rattle.certifying.specs.Records.{AreFoundFor, is_shown}
 use Rattle.certifying.specs.declared.records.Records.{Records}
 use Rattle.certifying.specs.Unread.{first_unread, unread_by, unread_of}
@@ -49,13 +49,13 @@ read_as text c is = ap (map_err _) is
 one_certificate : IsOne certificates (λ r s. r ≡ s)
 one_certificate = is_one SaysCertificate certificate_of said_once read_as
 
-alike : (a b judged : List ℕ × Judgement) → a ≡ judged → b ≡ judged → AreAlike a b
+alike : (a b judged : List ℕ × Judgement) → a ≡ judged → b ≡ judged → AreOneAnswer a b
 alike a b judged is other = let same : a ≡ b = is ∙ sym other in (ap (λ (x : List ℕ × Judgement). x.1) same, λ shows. ap (λ (x : List ℕ × Judgement). x.0) same)
 
 -- two answers where what is asked is told: one answer, unless records are asked about
-module _ (M : ℕ) (asked : Asked) (o : OpeningValue) (c : QueueCertificate) where
+module _ (M : ℕ) (asked : Questions) (o : OpeningValue) (c : QueueCertificate) where
   one_kept : (written : Option (List ℕ)) → asked.written ≡ written → (a b : List ℕ × Judgement) → IsKeptAnswer M asked o c a
-      → IsKeptAnswer M asked o c b → AreAlike a b ⊎ DifferInRecords M asked a b
+      → IsKeptAnswer M asked o c b → AreOneAnswer a b ⊎ DifferInRecords M asked a b
   one_kept None asks a b is other =
       let none = λ (found : List Records) (are : AreFoundFor o c asked.written found). subst (λ (w : Option (List ℕ)). AreFoundFor o c w found) asks are in
       let same : is.found ≡ other.found = none is.found is.are_found ∙ sym (none other.found other.are_found) in
@@ -74,18 +74,18 @@ module _ (M : ℕ) (asked : Asked) (o : OpeningValue) (c : QueueCertificate) whe
   })
 
   one_use : (u : Option Unused) (a b : List ℕ × Judgement) → IsUseAnswer M asked o c u a → IsUseAnswer M asked o c u b
-      → AreAlike a b ⊎ DifferInRecords M asked a b
+      → AreOneAnswer a b ⊎ DifferInRecords M asked a b
   one_use None a b is other = one_kept asked.written refl a b is other
   one_use (Some unused) a b is other = inl (alike a b _ is other)
 
-module _ (laws : DrawnLaws) (d : DrawnRuns) (asked : Asked) (o : OpeningValue) (c : QueueCertificate) where
+module _ (laws : DrawnLaws) (d : DrawnRuns) (asked : Questions) (o : OpeningValue) (c : QueueCertificate) where
   one_flaw : (f : Flaw) → first_flaw o c ≡ Some f → (of_queue : Bool) → is_of_queue f ≡ of_queue → (a b : List ℕ × Judgement)
-      → IsFlawAnswer d o c f of_queue a → IsFlawAnswer d o c f of_queue b → AreAlike a b
+      → IsFlawAnswer d o c f of_queue a → IsFlawAnswer d o c f of_queue b → AreOneAnswer a b
   one_flaw f first true queue a b is other = alike a b _ is other
   one_flaw f first false none a b is other = one-trial d o c laws (sized o c f first none) f a b is other
 
   one_by : (f : Option Flaw) → first_flaw o c ≡ f → (a b : List ℕ × Judgement) → IsAnswerTo d asked o c f a → IsAnswerTo d asked o c f b
-      → AreAlike a b ⊎ DifferInRecords d.M asked a b
+      → AreOneAnswer a b ⊎ DifferInRecords d.M asked a b
   one_by None first a b is other = one_use d.M asked o c (first_unused o c) a b is other
   one_by (Some f) first a b is other = inl (one_flaw f first (is_of_queue f) refl a b is other)
 
@@ -96,7 +96,7 @@ module _ (laws : DrawnLaws) (d : DrawnRuns) (asked : Asked) (o : OpeningValue) (
   one_judged (Err r) (Ok b) is other = is
   one_judged (Err r) (Err s) is other = ap (λ (x : Refusal). x.number) (is ∙ sym other)
 
-pub one_queue_answer : (laws : DrawnLaws) (d : DrawnRuns) (asked : Asked) (file certificate : List ℕ) (a b : Result (List ℕ × Judgement) Refusal)
+pub one_queue_answer : (laws : DrawnLaws) (d : DrawnRuns) (asked : Questions) (file certificate : List ℕ) (a b : Result (List ℕ × Judgement) Refusal)
     → IsQueueAnswer d asked (Some file) (Some certificate) a → IsQueueAnswer d asked (Some file) (Some certificate) b → AreQueueAnswers d.M asked a b
 one_queue_answer laws d asked file certificate =
     alike_after tests (λ r s. r.number ≡ s.number) one_litmus_text (AreQueueAnswers d.M asked) (λ r s e. e) file _
@@ -141,7 +141,7 @@ module _ (laws : Laws) (o : OpeningValue) (c : QueueCertificate) where
   keeps : first_flaw o c ≡ None → KeepsProtocol o c
   keeps none = laws.every_run o c ((laws.no_flaw o c).0 none)
 
-  module _ (M : ℕ) (asked : Asked) where
+  module _ (M : ℕ) (asked : Questions) where
     promised_all : first_flaw o c ≡ None → first_unread o c ≡ None → (found : List Records) → AreFoundFor o c asked.written found → (all : Bool)
         → (list_all is_shown found && harts_safe M o c asked.harts) ≡ all → IsPromised M asked (kept_judgement all) o c
     promised_all none owned found are true shown =
@@ -165,7 +165,7 @@ module _ (laws : Laws) (o : OpeningValue) (c : QueueCertificate) where
     promised_use none None answer is = rw is.answer_is (promised_reads none is.found is.are_found (first_unread o c) refl)
     promised_use none (Some unused) answer is = rw is tt
 
-  module _ (d : DrawnRuns) (asked : Asked) where
+  module _ (d : DrawnRuns) (asked : Questions) where
     promised_trial : (f : Flaw) → SomeSlots o c → (answer : List ℕ × Judgement) → IsTrialAnswer d o c f answer → IsPromised d.M asked answer.1 o c
     promised_trial f some (text, judgement.NotShown) is = tt
     promised_trial f some (text, judgement.Broken) is = breaks d o c laws.drawn some text is
@@ -186,7 +186,7 @@ module _ (laws : Laws) (o : OpeningValue) (c : QueueCertificate) where
     promised_of : (answer : List ℕ × Judgement) → IsAnswerTo d asked o c (first_flaw o c) answer → IsPromised d.M asked answer.1 o c
     promised_of answer is = promised_by (first_flaw o c) refl answer is
 
-pub promised : (laws : Laws) (d : DrawnRuns) (asked : Asked) (file certificate : Option (List ℕ)) (text : List ℕ) (judgement : Judgement)
+pub promised : (laws : Laws) (d : DrawnRuns) (asked : Questions) (file certificate : Option (List ℕ)) (text : List ℕ) (judgement : Judgement)
     → IsQueueAnswer d asked file certificate (Ok (text, judgement)) → AreJudged file certificate (IsPromised d.M asked judgement)
 promised laws d asked file certificate text judgement (read q _ is_test (read c _ is_certificate is)) = record {
   test = q;

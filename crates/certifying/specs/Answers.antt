@@ -20,7 +20,7 @@ use Rattle.engine_support.specs.declared.fault.Refusal.{Refusal}
 use Rattle.engine_support.specs.Inputs.{After}
 use Rattle.engine_support.specs.Tests.{tests}
 use Rattle.engine_support.specs.OpeningTexts.{numbered}
-use Rattle.certifying.specs.Asked.{Asked}
+use Rattle.certifying.specs.Questions.{Questions}
 use Rattle.certifying.specs.Broken.{broken_text, runs_line}
 use Rattle.certifying.specs.Descriptions.{all_queue_lines}
 use Rattle.certifying.specs.Harts.{harts_lines, harts_safe}
@@ -84,18 +84,18 @@ nothing_line = codes "nothing is claimed" ++ 10 ∷ []
 -- ---- all of it
 
 -- bytes of records were asked about, and are shown to be written
-abbrev pub records_shown : Asked → List Records → Bool
+abbrev pub records_shown : Questions → List Records → Bool
 records_shown asked found = is_some asked.written && list_all is_shown found
 
 -- the lines about what is asked: what is found of records, and the lines of the harts
-abbrev pub asked_lines : OpeningValue → QueueCertificate → Asked → List Records → (harts : List ℕ) → List ℕ
+abbrev pub asked_lines : OpeningValue → QueueCertificate → Questions → List Records → (harts : List ℕ) → List ℕ
 asked_lines o c asked found harts = record_lines o c asked.written found ++ harts
 
-abbrev pub kept_text : OpeningValue → QueueCertificate → Asked → List Records → (harts : List ℕ) → (all : Bool) → List ℕ
+abbrev pub kept_text : OpeningValue → QueueCertificate → Questions → List Records → (harts : List ℕ) → (all : Bool) → List ℕ
 kept_text o c asked found harts all = kept_line all ++ all_queue_lines o c ++ asked_lines o c asked found harts ++ promise_line
     ++ limit_lines (records_shown asked found)
 
-abbrev pub unread_text : OpeningValue → QueueCertificate → Asked → List Records → (harts : List ℕ) → Unread → List ℕ
+abbrev pub unread_text : OpeningValue → QueueCertificate → Questions → List Records → (harts : List ℕ) → Unread → List ℕ
 unread_text o c asked found harts unread = unread_line o c unread ++ all_queue_lines o c ++ asked_lines o c asked found harts ++ protocol_line
     ++ reads_line ++ limit_lines (records_shown asked found)
 
@@ -110,22 +110,22 @@ kept_judgement true = Kept
 kept_judgement false = AskedNotShown
 
 -- where the protocol is shown of queues that are used, with what is found of records, the lines of the harts, and whether all of these is shown
-abbrev pub judged_reads : OpeningValue → QueueCertificate → Asked → List Records → (harts : List ℕ) → (safe : Bool) → Option Unread → List ℕ × Judgement
+abbrev pub judged_reads : OpeningValue → QueueCertificate → Questions → List Records → (harts : List ℕ) → (safe : Bool) → Option Unread → List ℕ × Judgement
 judged_reads o c asked found harts safe None =
     (kept_text o c asked found harts (list_all is_shown found && safe), kept_judgement (list_all is_shown found && safe))
 judged_reads o c asked found harts safe (Some unread) = (unread_text o c asked found harts unread, ReadsNotShown)
 
 -- the same with M words of memory, by what is found of records
-abbrev pub kept_answer : (M : ℕ) → Asked → OpeningValue → QueueCertificate → List Records → List ℕ × Judgement
+abbrev pub kept_answer : (M : ℕ) → Questions → OpeningValue → QueueCertificate → List Records → List ℕ × Judgement
 kept_answer M asked o c found =
     judged_reads o c asked found (harts_lines M o c asked.harts) (harts_safe M o c asked.harts) (first_unread o c)
 
-pub record IsKeptAnswer (M : ℕ) (asked : Asked) (o : OpeningValue) (c : QueueCertificate) (answer : List ℕ × Judgement) : Type 0 where
+pub record IsKeptAnswer (M : ℕ) (asked : Questions) (o : OpeningValue) (c : QueueCertificate) (answer : List ℕ × Judgement) : Type 0 where
   pub found : List Records
   pub are_found : AreFoundFor o c asked.written found
   pub answer_is : answer ≡ kept_answer M asked o c found
 
-abbrev pub IsUseAnswer : (M : ℕ) → Asked → OpeningValue → QueueCertificate → Option Unused → List ℕ × Judgement → Type 0
+abbrev pub IsUseAnswer : (M : ℕ) → Questions → OpeningValue → QueueCertificate → Option Unused → List ℕ × Judgement → Type 0
 IsUseAnswer M asked o c None answer = IsKeptAnswer M asked o c answer
 IsUseAnswer M asked o c (Some unused) answer = answer ≡ (unused_text unused, NotShown)
 
@@ -167,7 +167,7 @@ IsFlawAnswer d o c flaw true answer = answer ≡ (flaw_text o c flaw, NotShown)
 IsFlawAnswer d o c flaw false answer = IsTrialAnswer d o c flaw answer
 
 -- the text and the judgement of an opening and a certificate, whose first flaw is this one
-abbrev pub IsAnswerTo : DrawnRuns → Asked → OpeningValue → QueueCertificate → Option Flaw → List ℕ × Judgement → Type 0
+abbrev pub IsAnswerTo : DrawnRuns → Questions → OpeningValue → QueueCertificate → Option Flaw → List ℕ × Judgement → Type 0
 IsAnswerTo d asked o c None answer = IsUseAnswer d.M asked o c (first_unused o c) answer
 IsAnswerTo d asked o c (Some flaw) answer = IsFlawAnswer d o c flaw (is_of_queue flaw) answer
 
@@ -181,11 +181,11 @@ fault_of lack.Memory = NoMemory
 fault_of lack.TooLarge = Refused undecided
 
 -- what answers them
-abbrev pub IsCertificateAnswer : DrawnRuns → Asked → OpeningValue → QueueCertificate → Result (List ℕ × Judgement) Refusal → Type 0
+abbrev pub IsCertificateAnswer : DrawnRuns → Questions → OpeningValue → QueueCertificate → Result (List ℕ × Judgement) Refusal → Type 0
 IsCertificateAnswer d asked o c (Ok answer) = IsAnswerTo d asked o c (first_flaw o c) answer
 IsCertificateAnswer d asked o c (Err refusal) = refusal ≡ undecided
 
 -- What answers a litmus text and a certificate, which is read after an accepted text only, and what is asked of it.
-abbrev pub IsQueueAnswer : DrawnRuns → Asked → (file certificate : Option (List ℕ)) → Result (List ℕ × Judgement) Refusal → Type 0
+abbrev pub IsQueueAnswer : DrawnRuns → Questions → (file certificate : Option (List ℕ)) → Result (List ℕ × Judgement) Refusal → Type 0
 IsQueueAnswer d asked file certificate =
     After tests file (λ test. After certificates certificate (λ c. IsCertificateAnswer d asked test.opening c))

@@ -24,7 +24,7 @@ use Rattle.engine_support.specs.declared.fault.Refusal.{Refusal}
 use Rattle.engine_support.specs.Inputs.{Reads}
 use Rattle.engine_support.specs.Tests.{tests}
 use Rattle.certifying.specs.Answers.{kept_answer, undecided}
-use Rattle.certifying.specs.Asked.{Asked}
+use Rattle.certifying.specs.Questions.{Questions}
 use Rattle.certifying.specs.Inputs.{certificates}
 use Rattle.certifying.specs.Records.{AreFoundFor}
 use Rattle.certifying.specs.declared.records.Records.{Records}
@@ -88,7 +88,7 @@ pub record AreJudged (file certificate : Option (List ℕ)) (Holds : OpeningValu
   pub holds : Holds test.opening listed
 
 -- what is promised where this is returned, with M words of memory
-abbrev pub IsPromised : (M : ℕ) → Asked → Judgement → OpeningValue → QueueCertificate → Type 0
+abbrev pub IsPromised : (M : ℕ) → Questions → Judgement → OpeningValue → QueueCertificate → Type 0
 IsPromised M asked Kept o c = KeepsProtocol o c × LoadsOwnedSlots o c × WritesRecords asked.written o c × KeepsHarts M asked.harts o c
 IsPromised M asked AskedNotShown o c = KeepsProtocol o c × LoadsOwnedSlots o c
 IsPromised M asked ReadsNotShown o c = KeepsProtocol o c
@@ -97,7 +97,7 @@ IsPromised M asked Broken o c = BreaksProtocol o c
 
 -- Bytes of records are asked about, and the two are answers to one opening and one certificate that differ at most by what is found of the
 -- records.
-pub record DifferInRecords (M : ℕ) (asked : Asked) (a b : List ℕ × Judgement) : Type 0 where
+pub record DifferInRecords (M : ℕ) (asked : Questions) (a b : List ℕ × Judgement) : Type 0 where
   pub bytes : List ℕ
   pub asks : asked.written ≡ Some bytes
   pub opening : OpeningValue
@@ -110,12 +110,12 @@ pub record DifferInRecords (M : ℕ) (asked : Asked) (a b : List ℕ × Judgemen
   pub other_is : b ≡ kept_answer M asked opening listed others
 
 -- one judgement, and one text unless they show a schedule
-abbrev pub AreAlike : (a b : List ℕ × Judgement) → Type 0
-AreAlike a b = (a.1 ≡ b.1) × ((a.1 ≡ Broken → ⊥) → a.0 ≡ b.0)
+abbrev pub AreOneAnswer : (a b : List ℕ × Judgement) → Type 0
+AreOneAnswer a b = (a.1 ≡ b.1) × ((a.1 ≡ Broken → ⊥) → a.0 ≡ b.0)
 
 -- Two answers are alike, or differ in what is found of records, or are refusals of one number, except that a check may be given up undecided.
-abbrev pub AreQueueAnswers : (M : ℕ) → Asked → Result (List ℕ × Judgement) Refusal → Result (List ℕ × Judgement) Refusal → Type 0
-AreQueueAnswers M asked (Ok a) (Ok b) = AreAlike a b ⊎ DifferInRecords M asked a b
+abbrev pub AreQueueAnswers : (M : ℕ) → Questions → Result (List ℕ × Judgement) Refusal → Result (List ℕ × Judgement) Refusal → Type 0
+AreQueueAnswers M asked (Ok a) (Ok b) = AreOneAnswer a b ⊎ DifferInRecords M asked a b
 AreQueueAnswers M asked (Ok a) (Err s) = s ≡ undecided
 AreQueueAnswers M asked (Err r) (Ok b) = r ≡ undecided
 AreQueueAnswers M asked (Err r) (Err s) = r.number ≡ s.number

@@ -3,7 +3,7 @@ pub mod Descriptions
 pub mod Unused
 pub mod Unread
 pub mod NotShown
-pub mod Asked
+pub mod Questions
 pub mod ByteTexts
 pub mod Records
 pub mod Harts

@@ -7,14 +7,14 @@ ghost use Rattle.certificate_reader.specs.Known.{known_at};
 ghost use Rattle.certifying.specs.Answers.{asked_lines, flaw_text, kept_line, kept_text, limit_lines, limit_of_records, nothing_line};
 ghost use Rattle.certifying.specs.Answers.{other_bytes_line, progress_line, promise_end, protocol_line, protocol_text, reads_line, records_line, records_shown};
 ghost use Rattle.certifying.specs.Answers.{unread_text, unused_text};
-ghost use Rattle.certifying.specs.Asked.{asked_by};
+ghost use Rattle.certifying.specs.Questions.{questions_by};
 ghost use Rattle.certifying.specs.Broken.{runs_line};
 ghost use Rattle.certifying.specs.NotShown.{flaw_line, likely_line};
 
-use crate::asked::Asked;
 use crate::breaking::push_runs;
 use crate::descriptions::push_queues;
 use crate::not_shown::{push_flaw, push_likely};
+use crate::questions::Questions;
 use crate::records::{Records, are_shown, push_records};
 use crate::unread::{Unread, push_unread};
 use crate::unused::{Unused, push_unused};
@@ -75,8 +75,8 @@ fn push_limits(out: &mut String, written: bool) -> Result<(), AllocError>
 }
 
 /// Whether bytes of records were asked about, and are shown to be written.
-fn are_records_shown(asked: Asked<'_>, found: &[Records]) -> bool
-    ensures { result ≡ records_shown (asked_by asked.entry) found.now }
+fn are_records_shown(asked: Questions<'_>, found: &[Records]) -> bool
+    ensures { result ≡ records_shown (questions_by asked.entry) found.now }
 {
     asked.written.is_some() && are_shown(found)
 }
@@ -87,11 +87,11 @@ fn push_asked(
     out: &mut String,
     opening: &Opening,
     certificate: &QueueCertificate,
-    asked: Asked<'_>,
+    asked: Questions<'_>,
     found: &[Records],
     harts: &str,
 ) -> Result<(), Lack>
-    ensures { OnOk result (string_bytes out.new ≡ string_bytes out.old ++ asked_lines opening.now certificate.now (asked_by asked.entry) found.now
+    ensures { OnOk result (string_bytes out.new ≡ string_bytes out.old ++ asked_lines opening.now certificate.now (questions_by asked.entry) found.now
         harts.now) }
 {
     push_records(alloc, out, opening, certificate, asked.written, found)?;
@@ -138,12 +138,12 @@ pub fn kept_text(
     alloc: Global,
     opening: &Opening,
     certificate: &QueueCertificate,
-    asked: Asked<'_>,
+    asked: Questions<'_>,
     found: &[Records],
     harts: &str,
     all: bool,
 ) -> Result<String, Lack>
-    ensures { IfOk result (λ text. string_bytes text ≡ kept_text opening.now certificate.now (asked_by asked.entry) found.now harts.now all) }
+    ensures { IfOk result (λ text. string_bytes text ≡ kept_text opening.now certificate.now (questions_by asked.entry) found.now harts.now all) }
 {
     let mut out = String::new(alloc);
     push_kept(&mut out, all)?;
@@ -178,12 +178,12 @@ pub fn unread_text(
     alloc: Global,
     opening: &Opening,
     certificate: &QueueCertificate,
-    asked: Asked<'_>,
+    asked: Questions<'_>,
     found: &[Records],
     harts: &str,
     unread: Unread,
 ) -> Result<String, Lack>
-    ensures { IfOk result (λ text. string_bytes text ≡ unread_text opening.now certificate.now (asked_by asked.entry) found.now harts.now unread) }
+    ensures { IfOk result (λ text. string_bytes text ≡ unread_text opening.now certificate.now (questions_by asked.entry) found.now harts.now unread) }
 {
     let mut out = String::new(alloc);
     push_unread(&mut out, opening, certificate, unread)?;

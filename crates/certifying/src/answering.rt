@@ -15,7 +15,7 @@ ghost use Rattle.queue_certificates.specs.Certificates.{queue_at};
 ghost use Rattle.queue_checker.specs.Flaws.{first_flaw};
 ghost use Rattle.certifying.specs.Answers.{IsAnswerTo, IsCertificateAnswer, IsFlawAnswer, IsKeptAnswer, IsQueueAnswer, IsTrialAnswer, IsUseAnswer};
 ghost use Rattle.certifying.specs.Answers.{fault_of, is_of_queue, judged_reads, kept_judgement, kept_text, nothing_line};
-ghost use Rattle.certifying.specs.Asked.{asked_by};
+ghost use Rattle.certifying.specs.Questions.{questions_by};
 ghost use Rattle.certifying.specs.Broken.{runs_line};
 ghost use Rattle.certifying.specs.NotShown.{flaw_line, likely_line};
 ghost use Rattle.certifying.specs.Answers.{limit_lines, progress_line, promise_end, protocol_line, protocol_text, reads_line, records_line};
@@ -24,11 +24,11 @@ ghost use Rattle.certifying.specs.Unread.{first_unread};
 ghost use Rattle.certifying.specs.Unused.{first_unused};
 
 use crate::answer_texts::{flaw_text, kept_text, tried_text, unread_text, unused_text};
-use crate::asked::Asked;
 use crate::breaking::broken_text;
 use crate::harts::{HartsTold, harts_told};
 use crate::input::read_certificate;
 use crate::judgement::Judgement;
+use crate::questions::Questions;
 use crate::records::{Records, are_shown, found_for};
 use crate::trials::{Trial, trial_of};
 use crate::unread::first_unread;
@@ -75,11 +75,11 @@ fn judged_reads(
     alloc: Global,
     opening: &Opening,
     certificate: &QueueCertificate,
-    asked: Asked<'_>,
+    asked: Questions<'_>,
     found: &[Records],
     told: &HartsTold,
 ) -> Result<(String, Judgement), Lack>
-    ensures { IfOk result (λ answer. text_and_value answer ≡ judged_reads opening.now certificate.now (asked_by asked.entry) found.now
+    ensures { IfOk result (λ answer. text_and_value answer ≡ judged_reads opening.now certificate.now (questions_by asked.entry) found.now
         (string_bytes told.now.lines) told.now.safe (first_unread opening.now certificate.now)) }
 {
     let harts = told.lines.as_str();
@@ -102,9 +102,9 @@ fn judged_asked(
     opening: &Opening,
     certificate: &QueueCertificate,
     words: u64,
-    asked: Asked<'_>,
+    asked: Questions<'_>,
 ) -> Result<(String, Judgement), Lack>
-    ensures { IfOk result (λ answer. IsKeptAnswer words (asked_by asked.entry) opening.now certificate.now (text_and_value answer)) }
+    ensures { IfOk result (λ answer. IsKeptAnswer words (questions_by asked.entry) opening.now certificate.now (text_and_value answer)) }
 {
     let found = found_for(alloc, opening, certificate, asked.written)?;
     let told = harts_told(alloc, opening, certificate, words, asked.harts)?;
@@ -117,9 +117,9 @@ fn judged_use(
     opening: &Opening,
     certificate: &QueueCertificate,
     words: u64,
-    asked: Asked<'_>,
+    asked: Questions<'_>,
 ) -> Result<(String, Judgement), Lack>
-    ensures { IfOk result (λ answer. IsUseAnswer words (asked_by asked.entry) opening.now certificate.now
+    ensures { IfOk result (λ answer. IsUseAnswer words (questions_by asked.entry) opening.now certificate.now
         (first_unused opening.now certificate.now) (text_and_value answer)) }
 {
     match first_unused(alloc, opening, certificate)? {
@@ -220,7 +220,7 @@ fn judged<const B: usize, const M: usize, G: Jump + Sync + Drop, T: Threads + Sy
     alloc: Global,
     opening: &Opening,
     certificate: &QueueCertificate,
-    asked: Asked<'_>,
+    asked: Questions<'_>,
     sample: &Sample<'_, G>,
     progress: &mut P,
 ) -> Result<(String, Judgement), Lack>
@@ -229,7 +229,7 @@ fn judged<const B: usize, const M: usize, G: Jump + Sync + Drop, T: Threads + Sy
     requires some_word { 1 ≤ M }
     requires size { M ≤ 65536 }
     requires fits { FitsIn M opening.now }
-    ensures { IfOk result (λ answer. IsAnswerTo (runs_of B M G.Rng.stream sample.now) (asked_by asked.entry) opening.now certificate.now
+    ensures { IfOk result (λ answer. IsAnswerTo (runs_of B M G.Rng.stream sample.now) (questions_by asked.entry) opening.now certificate.now
         (first_flaw opening.now certificate.now) (text_and_value answer)) }
 {
     match first_flaw(alloc, opening, certificate)? {
@@ -252,7 +252,7 @@ fn answer<const B: usize, const M: usize, G: Jump + Sync + Drop, T: Threads + Sy
     alloc: Global,
     test: &Test,
     certificate: &QueueCertificate,
-    asked: Asked<'_>,
+    asked: Questions<'_>,
     sample: &Sample<'_, G>,
     progress: &mut P,
 ) -> Result<(String, Judgement), Fault>
@@ -260,7 +260,7 @@ fn answer<const B: usize, const M: usize, G: Jump + Sync + Drop, T: Threads + Sy
     requires capacity { B ≤ 64 }
     requires words { MAX_LOCATIONS ≤ M }
     requires size { M ≤ 65536 }
-    ensures { AnswersAs (IsCertificateAnswer (runs_of B M G.Rng.stream sample.now) (asked_by asked.entry) test.now.opening certificate.now)
+    ensures { AnswersAs (IsCertificateAnswer (runs_of B M G.Rng.stream sample.now) (questions_by asked.entry) test.now.opening certificate.now)
         text_and_value result }
 {
     let opening = test.opening(alloc)?;
@@ -282,7 +282,7 @@ fn made<
 >(
     rt: &T,
     alloc: Global,
-    asked: Asked<'_>,
+    asked: Questions<'_>,
     file: &mut F,
     certificate: &mut C,
     sample: &Sample<'_, G>,
@@ -293,7 +293,7 @@ fn made<
     requires words { MAX_LOCATIONS ≤ M }
     requires size { M ≤ 65536 }
     ensures made { FindsUpToReads
-        (IsQueueAnswer (runs_of B M G.Rng.stream sample.now) (asked_by asked.entry) (F.remaining file.old) (C.remaining certificate.old))
+        (IsQueueAnswer (runs_of B M G.Rng.stream sample.now) (questions_by asked.entry) (F.remaining file.old) (C.remaining certificate.old))
         text_and_value result }
     ensures unread { IsRefused tests (F.remaining file.old) → certificate.new ≡ certificate.old }
 {
@@ -328,7 +328,7 @@ pub fn queue_engine<
 >(
     rt: &T,
     alloc: Global,
-    asked: Asked<'_>,
+    asked: Questions<'_>,
     file: &mut F,
     certificate: &mut C,
     sample: &Sample<'_, G>,
@@ -339,7 +339,7 @@ pub fn queue_engine<
     requires capacity { B ≤ 64 }
     requires words { MAX_LOCATIONS ≤ M }
     requires size { M ≤ 65536 }
-    ensures ends { Ends (IsQueueAnswer (runs_of B M G.Rng.stream sample.now) (asked_by asked.entry) (F.remaining file.old)
+    ensures ends { Ends (IsQueueAnswer (runs_of B M G.Rng.stream sample.now) (questions_by asked.entry) (F.remaining file.old)
         (C.remaining certificate.old)) result W.contents writer.old writer.new }
     ensures unread { IsRefused tests (F.remaining file.old) → certificate.new ≡ certificate.old }
 {

@@ -3,7 +3,7 @@
 ghost use Rattle.std.specs.Prelude.{ℕ, List, Option, Result, Ok, Some};
 ghost use Rattle.engine_support.specs.declared.fault.Refusal.{Refusal};
 ghost use Rattle.certifying.specs.Answers.{IsQueueAnswer};
-ghost use Rattle.certifying.specs.Asked.{Asked};
+ghost use Rattle.certifying.specs.Questions.{Questions};
 ghost use Rattle.certifying.specs.Kept.{AreJudged, AreQueueAnswers, IsPromised};
 ghost use Rattle.drawn_runs.specs.Samples.{DrawnRuns};
 ghost use Rattle.certifying.specs.declared.judgement.Judgement.{Judgement};
@@ -27,9 +27,9 @@ use records_written::laws_of_written_records;
 ///   refusals of one number, except that a check may be given up where a number in it passes 2^64 - 1. Where bytes of records are asked
 ///   about, two may differ in what is found of the records. Of a refused litmus text it isn't said on which line its first fault stands.
 pub fn laws_of_answers()
-    ensures promised { (d : DrawnRuns) (asked : Asked) (file certificate : Option (List ℕ)) (text : List ℕ) (judgement : Judgement)
+    ensures promised { (d : DrawnRuns) (asked : Questions) (file certificate : Option (List ℕ)) (text : List ℕ) (judgement : Judgement)
         → IsQueueAnswer d asked file certificate (Ok (text, judgement)) → AreJudged file certificate (IsPromised d.M asked judgement) }
-    ensures one { (d : DrawnRuns) (asked : Asked) (file certificate : List ℕ) (a b : Result (List ℕ × Judgement) Refusal)
+    ensures one { (d : DrawnRuns) (asked : Questions) (file certificate : List ℕ) (a b : Result (List ℕ × Judgement) Refusal)
         → IsQueueAnswer d asked (Some file) (Some certificate) a → IsQueueAnswer d asked (Some file) (Some certificate) b
         → AreQueueAnswers d.M asked a b }
 {

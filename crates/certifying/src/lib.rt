@@ -11,7 +11,6 @@
 
 pub mod answer_texts;
 pub mod answering;
-pub mod asked;
 pub mod breaking;
 pub mod byte_texts;
 pub mod descriptions;
@@ -21,11 +20,12 @@ pub mod instructions;
 pub mod judgement;
 pub mod laws;
 pub mod not_shown;
+pub mod questions;
 pub mod records;
 pub mod trials;
 pub mod unread;
 pub mod unused;
 
 pub use answering::queue_engine;
-pub use asked::Asked;
 pub use judgement::Judgement;
+pub use questions::Questions;

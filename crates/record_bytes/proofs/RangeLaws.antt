@@ -2,16 +2,16 @@
 use Rattle.std.proofs.Common.{arith, ◌≡◌, ◌∙◌, ℕ, ◌+◌, List, [], ◌∷◌, ◌++◌, refl, ap, sym}
 use Rattle.std.proofs.lemmas.Bool.Decides.{nat_tests}
 use Rattle.record_bytes.specs.declared.ranges.ByteRange.{ByteRange}
-use Rattle.record_bytes.specs.Ranges.{one_offset, onto_ranges, ranges_of, with_offset}
+use Rattle.record_bytes.specs.Ranges.{one_offset, onto_ranges, byte_ranges, with_offset}
 
 both_ends : (a b : ℕ) (rs : List ByteRange) → onto_ranges a (with_offset rs b) ≡ with_offset (onto_ranges a rs) b
 both_ends a b [] = grind (arith, nat_tests)
 both_ends a b (r ∷ []) = grind (arith, nat_tests)
 both_ends a b (r ∷ s ∷ rs) = grind (arith, nat_tests)
 
-pub ranges_more : (offsets : List ℕ) (b : ℕ) → ranges_of (offsets ++ b ∷ []) ≡ with_offset (ranges_of offsets) b
+pub ranges_more : (offsets : List ℕ) (b : ℕ) → byte_ranges (offsets ++ b ∷ []) ≡ with_offset (byte_ranges offsets) b
 ranges_more [] b = refl
-ranges_more (a ∷ offsets) b = ap (onto_ranges a) (ranges_more offsets b) ∙ both_ends a b (ranges_of offsets)
+ranges_more (a ∷ offsets) b = ap (onto_ranges a) (ranges_more offsets b) ∙ both_ends a b (byte_ranges offsets)
 
 -- ---- where the last range is known
 

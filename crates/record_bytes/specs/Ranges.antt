@@ -11,9 +11,9 @@ onto_ranges b [] = one_offset b ∷ []
 onto_ranges b (r ∷ rs) = if b + 1 == r.first then record { first = b; last = r.last } ∷ rs else one_offset b ∷ r ∷ rs
 
 -- the shortest list of ranges that has these offsets, in their order
-abbrev pub ranges_of : List ℕ → List ByteRange
-ranges_of [] = []
-ranges_of (b ∷ offsets) = onto_ranges b (ranges_of offsets)
+abbrev pub byte_ranges : List ℕ → List ByteRange
+byte_ranges [] = []
+byte_ranges (b ∷ offsets) = onto_ranges b (byte_ranges offsets)
 
 -- ranges with an offset after them
 abbrev pub with_offset : List ByteRange → ℕ → List ByteRange

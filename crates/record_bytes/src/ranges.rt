@@ -1,7 +1,7 @@
 //! Offsets as ranges.
 
 ghost use Rattle.std.specs.Prelude.{◌≡◌, ◌++◌, ◌∷◌, [], IfOk, OnOk};
-ghost use Rattle.record_bytes.specs.Ranges.{one_offset, ranges_of, with_offset};
+ghost use Rattle.record_bytes.specs.Ranges.{one_offset, byte_ranges, with_offset};
 
 use std::alloc::{AllocError, Global};
 
@@ -44,8 +44,8 @@ fn add_offset(ranges: &mut Vec<ByteRange>, offset: u64) -> Result<(), AllocError
 }
 
 /// The shortest list of ranges that has these offsets, in their order.
-pub fn ranges_of(alloc: Global, offsets: &[u64]) -> Result<Vec<ByteRange>, AllocError>
-    ensures { IfOk result (λ ranges. ranges.items ≡ ranges_of offsets.now) }
+pub fn byte_ranges(alloc: Global, offsets: &[u64]) -> Result<Vec<ByteRange>, AllocError>
+    ensures { IfOk result (λ ranges. ranges.items ≡ byte_ranges offsets.now) }
 {
     let mut ranges = Vec::new(alloc);
     for offset in offsets {

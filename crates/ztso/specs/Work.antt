@@ -29,7 +29,7 @@ use Rattle.run_engines.specs.Replay.{IsReplayAnswer}
 use Rattle.debugger.specs.Transcripts.{EndsInteractive, IsDebugAnswer, IsDebugFront, IsDebugSome, OnStopped, OnUnwritten}
 use Rattle.sampling.specs.Outcomes.{IsTryAnswer}
 use Rattle.certifying.specs.Answers.{IsQueueAnswer}
-use Rattle.certifying.specs.Asked.{Asked}
+use Rattle.certifying.specs.Questions.{Questions}
 use Rattle.callers.specs.Answers.{IsCallersAnswer}
 use Rattle.callers.specs.declared.queue.Queue.{Queue}
 use Rattle.callers.specs.declared.queue.QueueKind.{QueueKind}
@@ -103,7 +103,7 @@ queue_of called = record {
 }
 
 -- what is asked of a certificate besides the protocol
-abbrev pub queue_asked : (written : Option (List ℕ)) → (harts : Bool) → Asked
+abbrev pub queue_asked : (written : Option (List ℕ)) → (harts : Bool) → Questions
 queue_asked written harts = record { written = written; harts = harts }
 
 -- in which form `show` tells a test

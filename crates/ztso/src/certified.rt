@@ -5,11 +5,11 @@ ghost use Rattle.engine_support.specs.Engines.{Ends};
 ghost use Rattle.engine_support.specs.Inputs.{IsRefused};
 ghost use Rattle.engine_support.specs.Tests.{tests};
 ghost use Rattle.certifying.specs.Answers.{IsQueueAnswer};
-ghost use Rattle.certifying.specs.Asked.{asked_by};
+ghost use Rattle.certifying.specs.Questions.{questions_by};
 ghost use Rattle.ztso.specs.Work.{runs_from};
 
 use crate::work::WORDS;
-use certifying::{Asked, Judgement, queue_engine};
+use certifying::{Judgement, Questions, queue_engine};
 use drawn_runs::progress::Progress;
 use drawn_runs::{Draw, Runs, Sample};
 use engine_support::fault::Fault;
@@ -33,7 +33,7 @@ pub fn judge_certificate<
     seed: u64,
     draw: Draw,
     runs: Runs,
-    asked: Asked<'_>,
+    asked: Questions<'_>,
     file: &mut F,
     certificate: &mut C,
     progress: &mut P,
@@ -41,7 +41,7 @@ pub fn judge_certificate<
 ) -> Result<Judgement, Fault>
     requires some_capacity { 1 ≤ B }
     requires capacity { B ≤ 64 }
-    ensures ends { Ends (IsQueueAnswer (runs_from B seed draw runs) (asked_by asked.entry) (F.remaining file.old) (C.remaining certificate.old))
+    ensures ends { Ends (IsQueueAnswer (runs_from B seed draw runs) (questions_by asked.entry) (F.remaining file.old) (C.remaining certificate.old))
         result W.contents writer.old writer.new }
     ensures unread { IsRefused tests (F.remaining file.old) → certificate.new ≡ certificate.old }
 {

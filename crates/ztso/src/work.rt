@@ -23,7 +23,7 @@ ghost use Rattle.channel_engines.specs.Rings.{IsRingAnswer};
 use crate::calling::call_drawn;
 use crate::certified::judge_certificate;
 use crate::failure::{Failure, after, after_judgement, after_run, after_runs, after_search};
-use certifying::Asked;
+use certifying::Questions;
 use channel_engines::channel::channel_engine;
 use channel_engines::ring::ring_engine;
 use channel_engines::user_channel::user_channel_engine;
@@ -446,7 +446,7 @@ where
             seed,
             draw,
             runs,
-            Asked { written, harts },
+            Questions { written, harts },
             &mut streams.first,
             &mut streams.second,
             progress,
@@ -489,8 +489,12 @@ where
     ensures status { IfOk result (λ status. status ≤ greatest_status command) }
 {
     match capacity {
-        Capacity::One => do_buffered::<1, _, _, _, _, _, _>(rt, command, written, streams, progress, search),
-        Capacity::Two => do_buffered::<2, _, _, _, _, _, _>(rt, command, written, streams, progress, search),
+        Capacity::One => do_buffered::<1, _, _, _, _, _, _>(
+            rt, command, written, streams, progress, search,
+        ),
+        Capacity::Two => do_buffered::<2, _, _, _, _, _, _>(
+            rt, command, written, streams, progress, search,
+        ),
         Capacity::Four => {
             do_buffered::<4, _, _, _, _, _, _>(rt, command, written, streams, progress, search)
         }

@@ -12,8 +12,8 @@ returns-then-offset-range-eq1 c =
 pub returns-in_ok-push-in-Some-2 : goal.returns-in_ok-push-in-Some-2
 returns-in_ok-push-in-Some-2 c =
     let other : c.in-Some.range.last + 1 ≡ c.args.offset → ⊥ = λ e. (elim c.else-range-offset.branch [
-      else-range-offset-via-then-range-offset+else-offset-range-eq1 w ↦ absurd (omega (arith, e))
-    | else-range-offset-via-else-range-offset w ↦ absurd (omega (arith, e))
+      | else-range-offset-via-then-range-offset+else-offset-range-eq1 w ↦ absurd (omega (arith, e))
+      | else-range-offset-via-else-range-offset w ↦ absurd (omega (arith, e))
     ]) in
     on_ok_weaker c.push_one-in-Some.result
     (λ pushed. made_more c.args.ranges.now.items c.pop.new.self.items c.push_one-in-Some.new.ranges.items c.in-Some.range c.args.offset
