@@ -4,7 +4,7 @@ _ztso() {
     local at position=0 options='' words='' inputs=()
     for ((at = 2; at < COMP_CWORD; at++)); do
         case ${COMP_WORDS[at]} in
-        --svg | --memory | --steps | --unfinished | --finish) ;;
+        --svg | --memory | --steps | --unfinished | --finish | --harts) ;;
         --*) ((++at)) ;;
         *) ((++position)) ;;
         esac
@@ -24,7 +24,7 @@ _ztso() {
     channel) inputs=('lamport fastforward cached own' '' files) options='--buffer --base --stride --finish --sender --receiver' ;;
     ring) inputs=(files files '') options='--buffer --seed --runs --length --skip --draw --jobs --base --stride' ;;
     callers) inputs=(files) options='--buffer --seed --runs --length --skip --draw --jobs --slots --base --sender --receiver --kind' ;;
-    queue) inputs=(files) options='--buffer --seed --runs --length --skip --draw --jobs --certificate' ;;
+    queue) inputs=(files) options='--buffer --seed --runs --length --skip --draw --jobs --certificate --written --harts' ;;
     steps) inputs=() options='--buffer' ;;
     asm) inputs=() options='' ;;
     dis) inputs=() options='' ;;

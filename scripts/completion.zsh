@@ -154,6 +154,8 @@ _ztso() {
             '--draw[how schedules are drawn, each event by itself or in bursts of one hart: uniform or bursts; bursts if it is left out]:DRAW:(uniform bursts)' \
             '--jobs[J threads share the runs, with the same output, 1 to 64; 1 if it is left out]:J:()' \
             '--certificate[the certificate of the text'\''s queues]:C:_files' \
+            '--written[where the protocol is kept: whether a queue'\''s sender writes each of BYTES of each record, after the record before in that slot was published. BYTES is all, or offsets and ranges as 0-3,8]:BYTES:()' \
+            '--harts[where the protocol is kept: whether each hart is never stopped, and which bytes of memory it writes]' \
             '1:FILE:_files'
         ;;
     steps)

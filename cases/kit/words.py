@@ -17,11 +17,9 @@ CITED = re.compile(r"^\s*(?:pub )?(?:ghost )?use Rattle\.(?P<crate>\w+)\.specs\.
 
 
 # which crates compute what a crate defines
-COMPUTE = {"queue_certificates": {"known_values", "queue_checker", "certificate_reader", "certifying", "records_written", "records_checker",
-                                  "hart_safety"},
-           "known_values": {"queue_checker", "certificate_reader", "certifying", "records_checker", "hart_safety"},
-           "queue_checker": {"certifying", "records_checker", "hart_safety"},
-           "records_written": {"records_checker"}}
+COMPUTE = {"queue_certificates": {"known_values", "queue_checker", "certificate_reader", "certifying", "records_written", "hart_safety"},
+           "known_values": {"queue_checker", "certificate_reader", "certifying", "records_written", "hart_safety"},
+           "queue_checker": {"certifying", "records_written", "hart_safety"}}
 
 
 def definitions():

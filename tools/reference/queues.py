@@ -4,16 +4,19 @@ import certificate_lines
 import certificates
 import ownership
 import programs
+import queue_questions
 import schedules
 import words
 
-KEPT, READS_NOT_SHOWN, NOT_SHOWN, BROKEN = 0, 6, 7, 8
+KEPT, READS_NOT_SHOWN, NOT_SHOWN, BROKEN, ASKED_NOT_SHOWN = 0, 6, 7, 8, 9
 REGISTERS = 32
 PROTOCOL = "promised: in every legal run, of any length and schedule, with store buffers of any size, the protocol of ownership is kept"
 PROMISE = f"{PROTOCOL}, so records arrive in order, each once, with all that was written before"
 READS = "not promised: that what is loaded from a slot is a record that the hart owns"
-LIMITS = ("not promised: that a record was freshly or wholly written, what the code does with it, what memory outside of the queue holds",
-          "not promised: that anything is ever sent or received")
+REST = "what the code does with it, what memory outside of the queue holds"
+RECORDS = {False: f"not promised: that a record was freshly or wholly written, {REST}",
+           True: f"not promised: that other bytes of a record are freshly written, {REST}"}
+PROGRESS = "not promised: that anything is ever sent or received"
 STORES = "likely: it may store to a slot that the hart doesn't own, to another hart's words, or another count to its index"
 LIKELY = {0x23: STORES, 0x2F: STORES,
           0x03: "likely: it may load a part of the other party's index, or leads to a state that isn't listed",
@@ -190,6 +193,10 @@ class Judge:
     def state_place(self, hart, state):
         return f"{self.place(hart, self.pc(hart, state))}, state {state}"
 
+    def pc_place(self, hart, state):
+        """The same after the hart."""
+        return self.state_place(hart, state).removeprefix(f"hart {hart} at ")
+
     def form(self, index):
         queue, start = self.listed.queues[index]
         front = f"queue {index}:"
@@ -206,6 +213,35 @@ class Judge:
                     yield f"queue {index}: stored to by {self.place(hart, pc)}"
                 if loads:
                     yield f"queue {index}: loaded from by {self.place(hart, pc)}"
+
+    # ---- what is asked besides, in lines, each with whether it is shown
+
+    def records(self, index, text):
+        """The line about these bytes of a queue's records."""
+        queue = self.listed.queues[index].queue
+        mask = queue_questions.bytes_named(text, queue.width)
+        if not mask:
+            return f"queue {index}: its records have none of these bytes", False
+        named, is_one = queue_questions.bytes_text(queue_questions.joined((at, at) for at in mask))
+        written = f"{named} of each record {'is' if is_one else 'are'} written"
+        unwritten = queue_questions.Sender(self.opening, self.listed, index).unwritten(mask)
+        if unwritten is None:
+            return f"queue {index}: {written} after the record before in its slot was published", True
+        state, byte = unwritten
+        return f"queue {index}: not shown that {written}: byte {byte}, hart {queue.sender}, {self.pc_place(queue.sender, state)}", False
+
+    def hart(self, number):
+        """The lines about a hart."""
+        hart = queue_questions.Hart(self.opening, self.listed, number)
+        stop, anywhere, written = hart.stop(), hart.anywhere(), hart.written()
+        yield (f"hart {number}: never stopped", True) if stop is None else (
+            f"hart {number}: not shown that it is never stopped: {self.pc_place(number, stop)}", False)
+        if anywhere is not None:
+            yield f"hart {number}: not shown which bytes it writes: {self.pc_place(number, anywhere)}", False
+        elif written:
+            yield f"hart {number}: writes {queue_questions.bytes_text(written)[0]} of memory only", True
+        else:
+            yield f"hart {number}: writes nothing", True
 
     # ---- drawn runs
 
@@ -232,12 +268,22 @@ class Judge:
                          f" {moved[1]} taken")
         return [*flaw, *lines, "nothing is claimed"], NOT_SHOWN
 
-    def answer(self, capacity, number, drawing):
+    def kept(self, written, harts):
+        """The lines, and the exit status, where the protocol is kept: of these bytes of records, if any, and of the harts, if they are asked about."""
+        records = [self.records(index, written) for index in range(len(self.listed.queues))] if written is not None else []
+        told = [*records, *(line for number in range(len(self.opening.harts)) if harts for line in self.hart(number))]
+        lines = [*self.described(), *(line for line, _ in told)]
+        limits = [RECORDS[bool(records) and all(shown for _, shown in records)], PROGRESS]
+        if unread := self.unread():
+            return [unread, *lines, PROTOCOL, READS, *limits], READS_NOT_SHOWN
+        if all(shown for _, shown in told):
+            return ["kept in every run", *lines, PROMISE, *limits], KEPT
+        return ["kept in every run, but not all that was asked is shown", *lines, PROMISE, *limits], ASKED_NOT_SHOWN
+
+    def answer(self, capacity, number, drawing, written=None, harts=False):
         """The lines, and the exit status."""
         if flaw := self.flaw():
             return self.tried(flaw, capacity, number, drawing) if self.may_draw else ([*flaw, "nothing is claimed"], NOT_SHOWN)
         if unused := self.unused():
             return [unused, "nothing is claimed"], NOT_SHOWN
-        if unread := self.unread():
-            return [unread, *self.described(), PROTOCOL, READS, *LIMITS], READS_NOT_SHOWN
-        return ["kept in every run", *self.described(), PROMISE, *LIMITS], KEPT
+        return self.kept(written, harts)

@@ -1,6 +1,8 @@
 -- What answers a litmus text and a certificate is one answer, and what it promises holds.
-use Rattle.std.proofs.Common.{◌≡◌, ℕ, ◌<◌, ◌↔◌, Bool, true, false, List, length, Result, Ok, Err, refl, sym, ap, ◌∙◌}
+use Rattle.std.proofs.Common.{◌≡◌, ◌⊎◌, ◌&&◌, ℕ, ◌<◌, ◌↔◌, Bool, true, false, List, length, Result, Ok, Err, refl, sym, ap, ◌∙◌, subst, inl, inr}
 use Rattle.std.specs.Prelude.{Option, Some, None, option_map}
+use Rattle.std.specs.List.{list_all}
+use Rattle.std.proofs.lemmas.Bool.{and_parts}
 use Rattle.texts.specs.Results.{map_err}
 use Rattle.litmus.specs.LitmusTests.{LitmusTest}
 use Rattle.step_machine.specs.History.{OpeningValue}
@@ -18,16 +20,22 @@ use Rattle.engine_support.specs.declared.fault.Refusal.{Refusal}
 use Rattle.engine_support.specs.Inputs.After.{read}
 use Rattle.engine_support.specs.Tests.{tests}
 use Rattle.engine_support.proofs.InputLaws.{IsOne, alike_after, is_one, one_litmus_text}
-use Rattle.certifying.specs.Answers.{IsAnswerTo, IsCertificateAnswer, IsFlawAnswer, IsQueueAnswer, IsTrialAnswer, is_of_queue, judged_reads, judged_use}
+use Rattle.certifying.specs.Answers.{IsAnswerTo, IsCertificateAnswer, IsFlawAnswer, IsKeptAnswer, IsQueueAnswer, IsTrialAnswer, IsUseAnswer, is_of_queue}
+use Rattle.certifying.specs.Answers.{judged_reads, kept_answer, kept_judgement}
+use Rattle.certifying.specs.Questions.{Questions}
+use Rattle.certifying.specs.Harts.{harts_lines, harts_safe}
 use Rattle.certifying.specs.Inputs.{SaysCertificate, certificate_of, certificates}
-use Rattle.certifying.specs.Kept.{AreJudged, AreQueueAnswers, IsPromised, KeepsProtocol, LoadsOwnedSlots}
+use Rattle.certifying.specs.Kept.{AreOneAnswer, AreJudged, AreQueueAnswers, DifferInRecords, IsPromised, KeepsProtocol, LoadsOwnedSlots}
+use Rattle.certifying.specs.Records.{AreFoundFor, is_shown}
+use Rattle.certifying.specs.declared.records.Records.{Records}
 use Rattle.certifying.specs.Unread.{first_unread, unread_by, unread_of}
 use Rattle.certifying.specs.Unused.{first_unused}
 use Rattle.certifying.specs.declared.judgement.Judgement.{Judgement}
 use Rattle.certifying.specs.declared.judgement.Judgement.TheVariants as judgement
 use Rattle.certifying.specs.declared.unread.Unread.{Unread}
 use Rattle.certifying.specs.declared.unused.Unused.{Unused}
-use Rattle.certifying.proofs.DrawnLaws.{AreAlike, DrawnLaws, SomeSlots, breaks, none-below, one-trial, sized}
+use Rattle.certifying.proofs.AskedLaws.{AskedLaws, keeps-harts, writes}
+use Rattle.certifying.proofs.DrawnLaws.{DrawnLaws, SomeSlots, breaks, none-below, one-trial, sized}
 
 -- ---- one answer
 
@@ -41,30 +49,59 @@ read_as text c is = ap (map_err _) is
 one_certificate : IsOne certificates (λ r s. r ≡ s)
 one_certificate = is_one SaysCertificate certificate_of said_once read_as
 
-alike : (a b judged : List ℕ × Judgement) → a ≡ judged → b ≡ judged → AreAlike a b
+alike : (a b judged : List ℕ × Judgement) → a ≡ judged → b ≡ judged → AreOneAnswer a b
 alike a b judged is other = let same : a ≡ b = is ∙ sym other in (ap (λ (x : List ℕ × Judgement). x.1) same, λ shows. ap (λ (x : List ℕ × Judgement). x.0) same)
 
-module _ (laws : DrawnLaws) (d : DrawnRuns) (o : OpeningValue) (c : QueueCertificate) where
+-- two answers where what is asked is told: one answer, unless records are asked about
+module _ (M : ℕ) (asked : Questions) (o : OpeningValue) (c : QueueCertificate) where
+  one_kept : (written : Option (List ℕ)) → asked.written ≡ written → (a b : List ℕ × Judgement) → IsKeptAnswer M asked o c a
+      → IsKeptAnswer M asked o c b → AreOneAnswer a b ⊎ DifferInRecords M asked a b
+  one_kept None asks a b is other =
+      let none = λ (found : List Records) (are : AreFoundFor o c asked.written found). subst (λ (w : Option (List ℕ)). AreFoundFor o c w found) asks are in
+      let same : is.found ≡ other.found = none is.found is.are_found ∙ sym (none other.found other.are_found) in
+      inl (alike a b (kept_answer M asked o c other.found) (is.answer_is ∙ ap (kept_answer M asked o c) same) other.answer_is)
+  one_kept (Some bytes) asks a b is other = inr (record {
+    bytes = bytes;
+    asks = asks;
+    opening = o;
+    listed = c;
+    found = is.found;
+    others = other.found;
+    are_found = subst (λ (w : Option (List ℕ)). AreFoundFor o c w is.found) asks is.are_found;
+    also_found = subst (λ (w : Option (List ℕ)). AreFoundFor o c w other.found) asks other.are_found;
+    one_is = is.answer_is;
+    other_is = other.answer_is;
+  })
+
+  one_use : (u : Option Unused) (a b : List ℕ × Judgement) → IsUseAnswer M asked o c u a → IsUseAnswer M asked o c u b
+      → AreOneAnswer a b ⊎ DifferInRecords M asked a b
+  one_use None a b is other = one_kept asked.written refl a b is other
+  one_use (Some unused) a b is other = inl (alike a b _ is other)
+
+module _ (laws : DrawnLaws) (d : DrawnRuns) (asked : Questions) (o : OpeningValue) (c : QueueCertificate) where
   one_flaw : (f : Flaw) → first_flaw o c ≡ Some f → (of_queue : Bool) → is_of_queue f ≡ of_queue → (a b : List ℕ × Judgement)
-      → IsFlawAnswer d o c f of_queue a → IsFlawAnswer d o c f of_queue b → AreAlike a b
+      → IsFlawAnswer d o c f of_queue a → IsFlawAnswer d o c f of_queue b → AreOneAnswer a b
   one_flaw f first true queue a b is other = alike a b _ is other
   one_flaw f first false none a b is other = one-trial d o c laws (sized o c f first none) f a b is other
 
-  one_by : (f : Option Flaw) → first_flaw o c ≡ f → (a b : List ℕ × Judgement) → IsAnswerTo d o c f a → IsAnswerTo d o c f b → AreAlike a b
-  one_by None first a b is other = alike a b _ is other
-  one_by (Some f) first a b is other = one_flaw f first (is_of_queue f) refl a b is other
+  one_by : (f : Option Flaw) → first_flaw o c ≡ f → (a b : List ℕ × Judgement) → IsAnswerTo d asked o c f a → IsAnswerTo d asked o c f b
+      → AreOneAnswer a b ⊎ DifferInRecords d.M asked a b
+  one_by None first a b is other = one_use d.M asked o c (first_unused o c) a b is other
+  one_by (Some f) first a b is other = inl (one_flaw f first (is_of_queue f) refl a b is other)
 
-  one_judged : (a b : Result (List ℕ × Judgement) Refusal) → IsCertificateAnswer d o c a → IsCertificateAnswer d o c b → AreQueueAnswers a b
+  one_judged : (a b : Result (List ℕ × Judgement) Refusal) → IsCertificateAnswer d asked o c a → IsCertificateAnswer d asked o c b
+      → AreQueueAnswers d.M asked a b
   one_judged (Ok a) (Ok b) is other = one_by (first_flaw o c) refl a b is other
   one_judged (Ok a) (Err s) is other = other
   one_judged (Err r) (Ok b) is other = is
   one_judged (Err r) (Err s) is other = ap (λ (x : Refusal). x.number) (is ∙ sym other)
 
-pub one_queue_answer : (laws : DrawnLaws) (d : DrawnRuns) (file certificate : List ℕ) (a b : Result (List ℕ × Judgement) Refusal)
-    → IsQueueAnswer d (Some file) (Some certificate) a → IsQueueAnswer d (Some file) (Some certificate) b → AreQueueAnswers a b
-one_queue_answer laws d file certificate = alike_after tests (λ r s. r.number ≡ s.number) one_litmus_text AreQueueAnswers (λ r s e. e) file _
-    (λ (q : LitmusTest). alike_after certificates (λ r s. r ≡ s) one_certificate AreQueueAnswers (λ r s e. ap (λ (x : Refusal). x.number) e) certificate
-    (IsCertificateAnswer d q.opening) (λ c. one_judged laws d q.opening c))
+pub one_queue_answer : (laws : DrawnLaws) (d : DrawnRuns) (asked : Questions) (file certificate : List ℕ) (a b : Result (List ℕ × Judgement) Refusal)
+    → IsQueueAnswer d asked (Some file) (Some certificate) a → IsQueueAnswer d asked (Some file) (Some certificate) b → AreQueueAnswers d.M asked a b
+one_queue_answer laws d asked file certificate =
+    alike_after tests (λ r s. r.number ≡ s.number) one_litmus_text (AreQueueAnswers d.M asked) (λ r s e. e) file _
+    (λ (q : LitmusTest). alike_after certificates (λ r s. r ≡ s) one_certificate (AreQueueAnswers d.M asked)
+    (λ r s e. ap (λ (x : Refusal). x.number) e) certificate (IsCertificateAnswer d asked q.opening) (λ c. one_judged laws d asked q.opening c))
 
 -- ---- what is promised
 
@@ -84,6 +121,7 @@ pub record Laws : Type 0 where
   pub reads_owned : (B M : ℕ) (o : OpeningValue) (c : QueueCertificate) → accepts o c ≡ true → (i : ℕ) (p : Party) → i < length c.queues
       → accepts_loads o c i (hart (queue_at c i) p) ≡ true → (es : List Entry) → WellFormed B M (history_of o es)
       → ReadsOwned (queue_at c i) p (all_at (start_at c i)) es
+  pub asked : AskedLaws
   pub drawn : DrawnLaws
 
 module _ (laws : Laws) (o : OpeningValue) (c : QueueCertificate) where
@@ -103,39 +141,57 @@ module _ (laws : Laws) (o : OpeningValue) (c : QueueCertificate) where
   keeps : first_flaw o c ≡ None → KeepsProtocol o c
   keeps none = laws.every_run o c ((laws.no_flaw o c).0 none)
 
-  promised_reads : first_flaw o c ≡ None → (u : Option Unread) → first_unread o c ≡ u → IsPromised (judged_reads o c u).1 o c
-  promised_reads none None e = (keeps none, loads none e)
-  promised_reads none (Some unread) e = keeps none
+  module _ (M : ℕ) (asked : Questions) where
+    promised_all : first_flaw o c ≡ None → first_unread o c ≡ None → (found : List Records) → AreFoundFor o c asked.written found → (all : Bool)
+        → (list_all is_shown found && harts_safe M o c asked.harts) ≡ all → IsPromised M asked (kept_judgement all) o c
+    promised_all none owned found are true shown =
+        let accepted = (laws.no_flaw o c).0 none in
+        let both = and_parts _ _ shown in (
+          keeps none,
+          loads none owned,
+          writes o c laws.asked accepted asked.written found are both.0,
+          keeps-harts o c laws.asked accepted M asked.harts both.1,
+        )
+    promised_all none owned found are false shown = (keeps none, loads none owned)
 
-  promised_use : first_flaw o c ≡ None → (u : Option Unused) → IsPromised (judged_use o c u).1 o c
-  promised_use none None = promised_reads none (first_unread o c) refl
-  promised_use none (Some unused) = tt
+    promised_reads : first_flaw o c ≡ None → (found : List Records) → AreFoundFor o c asked.written found → (u : Option Unread) → first_unread o c ≡ u
+        → IsPromised M asked (judged_reads o c asked found (harts_lines M o c asked.harts) (harts_safe M o c asked.harts) u).1 o c
+    promised_reads none found are None e =
+        promised_all none e found are (list_all is_shown found && harts_safe M o c asked.harts) refl
+    promised_reads none found are (Some unread) e = keeps none
 
-  module _ (d : DrawnRuns) where
-    promised_trial : (f : Flaw) → SomeSlots o c → (answer : List ℕ × Judgement) → IsTrialAnswer d o c f answer → IsPromised answer.1 o c
+    promised_use : first_flaw o c ≡ None → (u : Option Unused) → (answer : List ℕ × Judgement) → IsUseAnswer M asked o c u answer
+        → IsPromised M asked answer.1 o c
+    promised_use none None answer is = rw is.answer_is (promised_reads none is.found is.are_found (first_unread o c) refl)
+    promised_use none (Some unused) answer is = rw is tt
+
+  module _ (d : DrawnRuns) (asked : Questions) where
+    promised_trial : (f : Flaw) → SomeSlots o c → (answer : List ℕ × Judgement) → IsTrialAnswer d o c f answer → IsPromised d.M asked answer.1 o c
     promised_trial f some (text, judgement.NotShown) is = tt
     promised_trial f some (text, judgement.Broken) is = breaks d o c laws.drawn some text is
     promised_trial f some (text, judgement.Kept) is = absurd is
     promised_trial f some (text, judgement.ReadsNotShown) is = absurd is
+    promised_trial f some (text, judgement.AskedNotShown) is = absurd is
 
     promised_flaw : (f : Flaw) → first_flaw o c ≡ Some f → (of_queue : Bool) → is_of_queue f ≡ of_queue → (answer : List ℕ × Judgement)
-        → IsFlawAnswer d o c f of_queue answer → IsPromised answer.1 o c
+        → IsFlawAnswer d o c f of_queue answer → IsPromised d.M asked answer.1 o c
     promised_flaw f first true queue answer is = rw is tt
     promised_flaw f first false none answer is = promised_trial f (sized o c f first none) answer is
 
-    promised_by : (f : Option Flaw) → first_flaw o c ≡ f → (answer : List ℕ × Judgement) → IsAnswerTo d o c f answer → IsPromised answer.1 o c
-    promised_by None first answer is = rw is (promised_use first (first_unused o c))
+    promised_by : (f : Option Flaw) → first_flaw o c ≡ f → (answer : List ℕ × Judgement) → IsAnswerTo d asked o c f answer
+        → IsPromised d.M asked answer.1 o c
+    promised_by None first answer is = promised_use d.M asked first (first_unused o c) answer is
     promised_by (Some f) first answer is = promised_flaw f first (is_of_queue f) refl answer is
 
-    promised_of : (answer : List ℕ × Judgement) → IsAnswerTo d o c (first_flaw o c) answer → IsPromised answer.1 o c
+    promised_of : (answer : List ℕ × Judgement) → IsAnswerTo d asked o c (first_flaw o c) answer → IsPromised d.M asked answer.1 o c
     promised_of answer is = promised_by (first_flaw o c) refl answer is
 
-pub promised : (laws : Laws) (d : DrawnRuns) (file certificate : Option (List ℕ)) (text : List ℕ) (judgement : Judgement)
-    → IsQueueAnswer d file certificate (Ok (text, judgement)) → AreJudged file certificate (IsPromised judgement)
-promised laws d file certificate text judgement (read q _ is_test (read c _ is_certificate is)) = record {
+pub promised : (laws : Laws) (d : DrawnRuns) (asked : Questions) (file certificate : Option (List ℕ)) (text : List ℕ) (judgement : Judgement)
+    → IsQueueAnswer d asked file certificate (Ok (text, judgement)) → AreJudged file certificate (IsPromised d.M asked judgement)
+promised laws d asked file certificate text judgement (read q _ is_test (read c _ is_certificate is)) = record {
   test = q;
   listed = c;
   file_is = is_test;
   certificate_is = is_certificate;
-  holds = promised_of laws q.opening c d (text, judgement) is;
+  holds = promised_of laws q.opening c d asked (text, judgement) is;
 }

@@ -25,7 +25,7 @@ use Rattle.ownership_runs.specs.Violations.{first_ownership_violation}
 use Rattle.ownership_runs.specs.Runs.{HasKeptRun, HasBrokenRun}
 use Rattle.ownership_runs.proofs.Judged.{moves-one}
 use Rattle.certifying.specs.Answers.{IsBrokenText, IsTriedText, IsTrialAnswer, is_of_queue, tried_text}
-use Rattle.certifying.specs.Kept.{BreaksProtocol}
+use Rattle.certifying.specs.Kept.{AreOneAnswer, BreaksProtocol}
 use Rattle.certifying.specs.Trials.{AllKeep, EndsBroken, IsBrokenBy, IsOfTrial, IsTrialBroken, QueuesKeep, trial_schedule}
 use Rattle.certifying.specs.declared.trials.Trial.{Trial}
 use Rattle.certifying.specs.declared.trials.Trial.TheVariants as trial
@@ -115,10 +115,6 @@ module _ (d : DrawnRuns) (o : OpeningValue) (c : QueueCertificate) where
 
 -- ---- one answer
 
--- the same judgement, and the same text unless it has a schedule
-abbrev pub AreAlike : (a b : List ℕ × Judgement) → Type 0
-AreAlike a b = (a.1 ≡ b.1) × ((a.1 ≡ judgement.Broken → ⊥) → a.0 ≡ b.0)
-
 module _ (d : DrawnRuns) (o : OpeningValue) (c : QueueCertificate) where
   one-moved : (i : ℕ) (moved others : List Moved) → length moved ≡ length others → QueuesKeep d o c i moved → QueuesKeep d o c i others → moved ≡ others
   one-moved i [] [] same kept also = refl
@@ -153,17 +149,20 @@ module _ (d : DrawnRuns) (o : OpeningValue) (c : QueueCertificate) where
         laws.apart d.B d.M o (queue_at c broken.queue) (all_at (start_at c broken.queue)) (trial_schedule d o first.told.number) first.told.flaw
         (some broken.queue first.inside) (kept.good first.told.number (omega arith) flawed.within) flawed.has
 
-    pub one-trial : (f : Flaw) (a b : List ℕ × Judgement) → IsTrialAnswer d o c f a → IsTrialAnswer d o c f b → AreAlike a b
+    pub one-trial : (f : Flaw) (a b : List ℕ × Judgement) → IsTrialAnswer d o c f a → IsTrialAnswer d o c f b → AreOneAnswer a b
     one-trial f (text, judgement.NotShown) (other, judgement.NotShown) is also = (refl, λ shows. one-tried f text other is also)
     one-trial f (text, judgement.NotShown) (other, judgement.Broken) is also = absurd (never-both f text other is also)
     one-trial f (text, judgement.NotShown) (other, judgement.Kept) is also = absurd also
     one-trial f (text, judgement.NotShown) (other, judgement.ReadsNotShown) is also = absurd also
+    one-trial f (text, judgement.NotShown) (other, judgement.AskedNotShown) is also = absurd also
     one-trial f (text, judgement.Broken) (other, judgement.NotShown) is also = absurd (never-both f other text also is)
     one-trial f (text, judgement.Broken) (other, judgement.Broken) is also = (refl, λ no. absurd (no refl))
     one-trial f (text, judgement.Broken) (other, judgement.Kept) is also = absurd also
     one-trial f (text, judgement.Broken) (other, judgement.ReadsNotShown) is also = absurd also
+    one-trial f (text, judgement.Broken) (other, judgement.AskedNotShown) is also = absurd also
     one-trial f (text, judgement.Kept) b is also = absurd is
     one-trial f (text, judgement.ReadsNotShown) b is also = absurd is
+    one-trial f (text, judgement.AskedNotShown) b is also = absurd is
 
     -- ---- a run that breaks the protocol
 

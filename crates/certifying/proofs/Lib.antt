@@ -1,3 +1,4 @@
 mod AnswerLaws
+mod AskedLaws
 mod Certificates
 mod DrawnLaws

@@ -1,5 +1,6 @@
 -- The command `queue`: whether a certificate shows that every run of a litmus text keeps the protocol of its queues, and what is promised then.
-use Rattle.std.specs.Prelude.{ℕ, ◌≡◌, Bool, true, false, List, [], ◌∷◌, ◌++◌, length, get_or, codes, Option, Some, None, Result, Ok, Err}
+use Rattle.std.specs.Prelude.{ℕ, ◌≡◌, ◌&&◌, Bool, true, false, List, [], ◌∷◌, ◌++◌, length, get_or, codes, Option, Some, None, is_some, Result, Ok, Err}
+use Rattle.std.specs.List.{list_all}
 use Rattle.step_machine.specs.History.{OpeningValue}
 use Rattle.step_machine.specs.declared.events.Event.{Event}
 use Rattle.queue_certificates.specs.Certificates.{QueueCertificate, no_queue}
@@ -19,22 +20,28 @@ use Rattle.engine_support.specs.declared.fault.Refusal.{Refusal}
 use Rattle.engine_support.specs.Inputs.{After}
 use Rattle.engine_support.specs.Tests.{tests}
 use Rattle.engine_support.specs.OpeningTexts.{numbered}
+use Rattle.certifying.specs.Questions.{Questions}
 use Rattle.certifying.specs.Broken.{broken_text, runs_line}
 use Rattle.certifying.specs.Descriptions.{all_queue_lines}
+use Rattle.certifying.specs.Harts.{harts_lines, harts_safe}
 use Rattle.certifying.specs.Inputs.{certificates}
 use Rattle.certifying.specs.NotShown.{flaw_line, likely_line}
+use Rattle.certifying.specs.Records.{AreFoundFor, is_shown, record_lines}
 use Rattle.certifying.specs.Trials.{IsFirstBroken, QueuesKeep}
 use Rattle.certifying.specs.Unread.{first_unread, unread_line}
 use Rattle.certifying.specs.Unused.{first_unused, unused_line}
 use Rattle.certifying.specs.declared.judgement.Judgement.{Judgement}
-use Rattle.certifying.specs.declared.judgement.Judgement.TheVariants.{Kept, ReadsNotShown, NotShown, Broken}
+use Rattle.certifying.specs.declared.judgement.Judgement.TheVariants.{Kept, ReadsNotShown, AskedNotShown, NotShown, Broken}
+use Rattle.certifying.specs.declared.records.Records.{Records}
 use Rattle.certifying.specs.declared.unread.Unread.{Unread}
 use Rattle.certifying.specs.declared.unused.Unused.{Unused}
 
 -- ---- what is promised and what isn't
 
-abbrev pub kept_line : List ℕ
-kept_line = codes "kept in every run" ++ 10 ∷ []
+-- where all that was asked is shown, or not
+abbrev pub kept_line : (all : Bool) → List ℕ
+kept_line true = codes "kept in every run" ++ 10 ∷ []
+kept_line false = codes "kept in every run, but not all that was asked is shown" ++ 10 ∷ []
 
 unfoldable pub protocol_text : List ℕ
 protocol_text = codes "promised: in every legal run, of any length and schedule, with store buffers of any size, the protocol of ownership is kept"
@@ -58,20 +65,39 @@ records_line = codes "not promised: that a record was freshly or wholly written,
 unfoldable pub progress_line : List ℕ
 progress_line = codes "not promised: that anything is ever sent or received" ++ 10 ∷ []
 
-abbrev pub limit_lines : List ℕ
-limit_lines = records_line ++ progress_line
+unfoldable pub other_bytes_line : List ℕ
+other_bytes_line =
+    codes "not promised: that other bytes of a record are freshly written, what the code does with it, what memory outside of the queue holds"
+    ++ 10 ∷ []
+
+-- where bytes of records are shown to be written, or not
+abbrev pub limit_of_records : (written : Bool) → List ℕ
+limit_of_records true = other_bytes_line
+limit_of_records false = records_line
+
+abbrev pub limit_lines : (written : Bool) → List ℕ
+limit_lines written = limit_of_records written ++ progress_line
 
 abbrev pub nothing_line : List ℕ
 nothing_line = codes "nothing is claimed" ++ 10 ∷ []
 
 -- ---- all of it
 
-abbrev pub kept_text : OpeningValue → QueueCertificate → List ℕ
-kept_text o c = kept_line ++ all_queue_lines o c ++ promise_line ++ limit_lines
+-- bytes of records were asked about, and are shown to be written
+abbrev pub records_shown : Questions → List Records → Bool
+records_shown asked found = is_some asked.written && list_all is_shown found
 
-abbrev pub unread_text : OpeningValue → QueueCertificate → Unread → List ℕ
-unread_text o c unread =
-    unread_line o c unread ++ all_queue_lines o c ++ protocol_line ++ reads_line ++ limit_lines
+-- the lines about what is asked: what is found of records, and the lines of the harts
+abbrev pub asked_lines : OpeningValue → QueueCertificate → Questions → List Records → (harts : List ℕ) → List ℕ
+asked_lines o c asked found harts = record_lines o c asked.written found ++ harts
+
+abbrev pub kept_text : OpeningValue → QueueCertificate → Questions → List Records → (harts : List ℕ) → (all : Bool) → List ℕ
+kept_text o c asked found harts all = kept_line all ++ all_queue_lines o c ++ asked_lines o c asked found harts ++ promise_line
+    ++ limit_lines (records_shown asked found)
+
+abbrev pub unread_text : OpeningValue → QueueCertificate → Questions → List Records → (harts : List ℕ) → Unread → List ℕ
+unread_text o c asked found harts unread = unread_line o c unread ++ all_queue_lines o c ++ asked_lines o c asked found harts ++ protocol_line
+    ++ reads_line ++ limit_lines (records_shown asked found)
 
 abbrev pub unused_text : Unused → List ℕ
 unused_text unused = unused_line unused ++ nothing_line
@@ -79,14 +105,29 @@ unused_text unused = unused_line unused ++ nothing_line
 abbrev pub flaw_text : OpeningValue → QueueCertificate → Flaw → List ℕ
 flaw_text o c flaw = flaw_line o c flaw ++ likely_line o c flaw ++ nothing_line
 
--- where the protocol is shown of queues that are used
-abbrev pub judged_reads : OpeningValue → QueueCertificate → Option Unread → List ℕ × Judgement
-judged_reads o c None = (kept_text o c, Kept)
-judged_reads o c (Some unread) = (unread_text o c unread, ReadsNotShown)
+abbrev pub kept_judgement : (all : Bool) → Judgement
+kept_judgement true = Kept
+kept_judgement false = AskedNotShown
 
-abbrev pub judged_use : OpeningValue → QueueCertificate → Option Unused → List ℕ × Judgement
-judged_use o c None = judged_reads o c (first_unread o c)
-judged_use o c (Some unused) = (unused_text unused, NotShown)
+-- where the protocol is shown of queues that are used, with what is found of records, the lines of the harts, and whether all of these is shown
+abbrev pub judged_reads : OpeningValue → QueueCertificate → Questions → List Records → (harts : List ℕ) → (safe : Bool) → Option Unread → List ℕ × Judgement
+judged_reads o c asked found harts safe None =
+    (kept_text o c asked found harts (list_all is_shown found && safe), kept_judgement (list_all is_shown found && safe))
+judged_reads o c asked found harts safe (Some unread) = (unread_text o c asked found harts unread, ReadsNotShown)
+
+-- the same with M words of memory, by what is found of records
+abbrev pub kept_answer : (M : ℕ) → Questions → OpeningValue → QueueCertificate → List Records → List ℕ × Judgement
+kept_answer M asked o c found =
+    judged_reads o c asked found (harts_lines M o c asked.harts) (harts_safe M o c asked.harts) (first_unread o c)
+
+pub record IsKeptAnswer (M : ℕ) (asked : Questions) (o : OpeningValue) (c : QueueCertificate) (answer : List ℕ × Judgement) : Type 0 where
+  pub found : List Records
+  pub are_found : AreFoundFor o c asked.written found
+  pub answer_is : answer ≡ kept_answer M asked o c found
+
+abbrev pub IsUseAnswer : (M : ℕ) → Questions → OpeningValue → QueueCertificate → Option Unused → List ℕ × Judgement → Type 0
+IsUseAnswer M asked o c None answer = IsKeptAnswer M asked o c answer
+IsUseAnswer M asked o c (Some unused) answer = answer ≡ (unused_text unused, NotShown)
 
 -- ---- where it isn't shown
 
@@ -126,9 +167,9 @@ IsFlawAnswer d o c flaw true answer = answer ≡ (flaw_text o c flaw, NotShown)
 IsFlawAnswer d o c flaw false answer = IsTrialAnswer d o c flaw answer
 
 -- the text and the judgement of an opening and a certificate, whose first flaw is this one
-abbrev pub IsAnswerTo : DrawnRuns → OpeningValue → QueueCertificate → Option Flaw → List ℕ × Judgement → Type 0
-IsAnswerTo d o c None answer = answer ≡ judged_use o c (first_unused o c)
-IsAnswerTo d o c (Some flaw) answer = IsFlawAnswer d o c flaw (is_of_queue flaw) answer
+abbrev pub IsAnswerTo : DrawnRuns → Questions → OpeningValue → QueueCertificate → Option Flaw → List ℕ × Judgement → Type 0
+IsAnswerTo d asked o c None answer = IsUseAnswer d.M asked o c (first_unused o c) answer
+IsAnswerTo d asked o c (Some flaw) answer = IsFlawAnswer d o c flaw (is_of_queue flaw) answer
 
 -- a certificate of whose check some number passes 2 ^ 64 - 1: it isn't decided
 abbrev pub undecided : Refusal
@@ -140,10 +181,11 @@ fault_of lack.Memory = NoMemory
 fault_of lack.TooLarge = Refused undecided
 
 -- what answers them
-abbrev pub IsCertificateAnswer : DrawnRuns → OpeningValue → QueueCertificate → Result (List ℕ × Judgement) Refusal → Type 0
-IsCertificateAnswer d o c (Ok answer) = IsAnswerTo d o c (first_flaw o c) answer
-IsCertificateAnswer d o c (Err refusal) = refusal ≡ undecided
+abbrev pub IsCertificateAnswer : DrawnRuns → Questions → OpeningValue → QueueCertificate → Result (List ℕ × Judgement) Refusal → Type 0
+IsCertificateAnswer d asked o c (Ok answer) = IsAnswerTo d asked o c (first_flaw o c) answer
+IsCertificateAnswer d asked o c (Err refusal) = refusal ≡ undecided
 
--- What answers a litmus text and a certificate, which is read after an accepted text only.
-abbrev pub IsQueueAnswer : DrawnRuns → (file certificate : Option (List ℕ)) → Result (List ℕ × Judgement) Refusal → Type 0
-IsQueueAnswer d file certificate = After tests file (λ test. After certificates certificate (λ c. IsCertificateAnswer d test.opening c))
+-- What answers a litmus text and a certificate, which is read after an accepted text only, and what is asked of it.
+abbrev pub IsQueueAnswer : DrawnRuns → Questions → (file certificate : Option (List ℕ)) → Result (List ℕ × Judgement) Refusal → Type 0
+IsQueueAnswer d asked file certificate =
+    After tests file (λ test. After certificates certificate (λ c. IsCertificateAnswer d asked test.opening c))

@@ -3,6 +3,10 @@ pub mod Descriptions
 pub mod Unused
 pub mod Unread
 pub mod NotShown
+pub mod Questions
+pub mod ByteTexts
+pub mod Records
+pub mod Harts
 pub mod Trials
 pub mod Broken
 pub mod Answers

@@ -4,7 +4,7 @@ use Rattle.std.specs.Fmt.{decimal}
 use Rattle.step_machine.specs.History.{OpeningValue}
 use Rattle.queue_certificates.specs.Certificates.{QueueCertificate, queue_at, state_at}
 use Rattle.queue_checker.specs.Flaws.{first_below, first_of, first_unowned}
-use Rattle.certifying.specs.Instructions.{instruction_place}
+use Rattle.certifying.specs.Instructions.{instruction_at_pc, instruction_place}
 use Rattle.certifying.specs.declared.unread.Unread.{Unread}
 
 -- the first such state of a hart, of this queue
@@ -26,6 +26,10 @@ first_unread o c = first_below (length c.queues) (unread_of o c)
 -- the instruction of a hart's state, which has this number
 unfoldable pub state_place : OpeningValue → QueueCertificate → (h n : ℕ) → List ℕ
 state_place o c h n = instruction_place o h (state_at c h n).known.pc ++ codes ", state " ++ decimal n
+
+-- the same after its hart's number
+unfoldable pub pc_place : OpeningValue → QueueCertificate → (h n : ℕ) → List ℕ
+pc_place o c h n = instruction_at_pc o h (state_at c h n).known.pc ++ codes ", state " ++ decimal n
 
 unfoldable pub unread_front : List ℕ
 unread_front = codes "kept in every run, but reads not shown: "

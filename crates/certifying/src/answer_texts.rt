@@ -4,14 +4,18 @@ ghost use Rattle.std.specs.Prelude.{◌≡◌, ◌++◌, IfOk, OnOk};
 ghost use Rattle.std.specs.String.{string_bytes};
 ghost use Rattle.engine_support.specs.OpeningTexts.{numbered};
 ghost use Rattle.certificate_reader.specs.Known.{known_at};
-ghost use Rattle.certifying.specs.Answers.{flaw_text, kept_text, limit_lines, nothing_line, progress_line, promise_end, protocol_line, protocol_text};
-ghost use Rattle.certifying.specs.Answers.{reads_line, records_line, unread_text, unused_text};
+ghost use Rattle.certifying.specs.Answers.{asked_lines, flaw_text, kept_line, kept_text, limit_lines, limit_of_records, nothing_line};
+ghost use Rattle.certifying.specs.Answers.{other_bytes_line, progress_line, promise_end, protocol_line, protocol_text, reads_line, records_line, records_shown};
+ghost use Rattle.certifying.specs.Answers.{unread_text, unused_text};
+ghost use Rattle.certifying.specs.Questions.{questions_by};
 ghost use Rattle.certifying.specs.Broken.{runs_line};
 ghost use Rattle.certifying.specs.NotShown.{flaw_line, likely_line};
 
 use crate::breaking::push_runs;
 use crate::descriptions::push_queues;
 use crate::not_shown::{push_flaw, push_likely};
+use crate::questions::Questions;
+use crate::records::{Records, are_shown, push_records};
 use crate::unread::{Unread, push_unread};
 use crate::unused::{Unused, push_unused};
 use certificate_reader::push_known_at;
@@ -24,7 +28,7 @@ use step_machine::Opening;
 
 /// What isn't promised of records.
 #[tactic(auto, unfolding(crate::specs::Answers::records_line))]
-fn push_records(out: &mut String) -> Result<(), AllocError>
+fn push_no_record(out: &mut String) -> Result<(), AllocError>
     ensures { OnOk result (string_bytes out.new ≡ string_bytes out.old ++ records_line) }
 {
     writeln!(
@@ -40,12 +44,72 @@ fn push_progress(out: &mut String) -> Result<(), AllocError>
     writeln!(out, "not promised: that anything is ever sent or received")
 }
 
-/// What isn't promised of records and of progress.
-fn push_limits(out: &mut String) -> Result<(), AllocError>
-    ensures { OnOk result (string_bytes out.new ≡ string_bytes out.old ++ limit_lines) }
+/// What isn't promised of records where bytes of them are shown to be written.
+#[tactic(auto, unfolding(crate::specs::Answers::other_bytes_line))]
+fn push_other_bytes(out: &mut String) -> Result<(), AllocError>
+    ensures { OnOk result (string_bytes out.new ≡ string_bytes out.old ++ other_bytes_line) }
 {
-    push_records(out)?;
+    writeln!(
+        out,
+        "not promised: that other bytes of a record are freshly written, what the code does with it, what memory outside of the queue holds"
+    )
+}
+
+/// What isn't promised of records, where bytes of them are shown to be written or not.
+fn push_limit_of_records(out: &mut String, written: bool) -> Result<(), AllocError>
+    ensures { OnOk result (string_bytes out.new ≡ string_bytes out.old ++ limit_of_records written) }
+{
+    if written {
+        push_other_bytes(out)
+    } else {
+        push_no_record(out)
+    }
+}
+
+/// The same, and of progress.
+fn push_limits(out: &mut String, written: bool) -> Result<(), AllocError>
+    ensures { OnOk result (string_bytes out.new ≡ string_bytes out.old ++ limit_lines written) }
+{
+    push_limit_of_records(out, written)?;
     push_progress(out)
+}
+
+/// Whether bytes of records were asked about, and are shown to be written.
+fn are_records_shown(asked: Questions<'_>, found: &[Records]) -> bool
+    ensures { result ≡ records_shown (questions_by asked.entry) found.now }
+{
+    asked.written.is_some() && are_shown(found)
+}
+
+/// The lines about what is asked.
+fn push_asked(
+    alloc: Global,
+    out: &mut String,
+    opening: &Opening,
+    certificate: &QueueCertificate,
+    asked: Questions<'_>,
+    found: &[Records],
+    harts: &str,
+) -> Result<(), Lack>
+    ensures { OnOk result (string_bytes out.new ≡ string_bytes out.old ++ asked_lines opening.now certificate.now (questions_by asked.entry) found.now
+        harts.now) }
+{
+    push_records(alloc, out, opening, certificate, asked.written, found)?;
+    out.push_str(harts)?;
+    Ok(())
+}
+
+fn push_kept(out: &mut String, all: bool) -> Result<(), AllocError>
+    ensures { OnOk result (string_bytes out.new ≡ string_bytes out.old ++ kept_line all) }
+{
+    if all {
+        writeln!(out, "kept in every run")
+    } else {
+        writeln!(
+            out,
+            "kept in every run, but not all that was asked is shown"
+        )
+    }
 }
 
 #[tactic(auto, unfolding(crate::specs::Answers::protocol_text))]
@@ -68,20 +132,26 @@ fn push_promise_end(out: &mut String) -> Result<(), AllocError>
     )
 }
 
-/// The text where the protocol is kept and the parties load only slots that they own.
+/// The text where the protocol is kept and the parties load only slots that they own, with what is found of records, the lines of the
+/// harts, and whether all of it is shown.
 pub fn kept_text(
     alloc: Global,
     opening: &Opening,
     certificate: &QueueCertificate,
+    asked: Questions<'_>,
+    found: &[Records],
+    harts: &str,
+    all: bool,
 ) -> Result<String, Lack>
-    ensures { IfOk result (λ text. string_bytes text ≡ kept_text opening.now certificate.now) }
+    ensures { IfOk result (λ text. string_bytes text ≡ kept_text opening.now certificate.now (questions_by asked.entry) found.now harts.now all) }
 {
     let mut out = String::new(alloc);
-    writeln!(out, "kept in every run")?;
+    push_kept(&mut out, all)?;
     push_queues(alloc, &mut out, opening, certificate)?;
+    push_asked(alloc, &mut out, opening, certificate, asked, found, harts)?;
     push_protocol(&mut out)?;
     push_promise_end(&mut out)?;
-    push_limits(&mut out)?;
+    push_limits(&mut out, are_records_shown(asked, found))?;
     Ok(out)
 }
 
@@ -108,16 +178,20 @@ pub fn unread_text(
     alloc: Global,
     opening: &Opening,
     certificate: &QueueCertificate,
+    asked: Questions<'_>,
+    found: &[Records],
+    harts: &str,
     unread: Unread,
 ) -> Result<String, Lack>
-    ensures { IfOk result (λ text. string_bytes text ≡ unread_text opening.now certificate.now unread) }
+    ensures { IfOk result (λ text. string_bytes text ≡ unread_text opening.now certificate.now (questions_by asked.entry) found.now harts.now unread) }
 {
     let mut out = String::new(alloc);
     push_unread(&mut out, opening, certificate, unread)?;
     push_queues(alloc, &mut out, opening, certificate)?;
+    push_asked(alloc, &mut out, opening, certificate, asked, found, harts)?;
     push_protocol_line(&mut out)?;
     push_reads(&mut out)?;
-    push_limits(&mut out)?;
+    push_limits(&mut out, are_records_shown(asked, found))?;
     Ok(out)
 }
 

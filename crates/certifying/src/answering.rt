@@ -13,8 +13,9 @@ ghost use Rattle.drawn_runs.specs.Samples.{runs_of};
 ghost use Rattle.step_machine.specs.History.{FitsIn};
 ghost use Rattle.queue_certificates.specs.Certificates.{queue_at};
 ghost use Rattle.queue_checker.specs.Flaws.{first_flaw};
-ghost use Rattle.certifying.specs.Answers.{IsAnswerTo, IsCertificateAnswer, IsFlawAnswer, IsQueueAnswer, IsTrialAnswer, fault_of, is_of_queue};
-ghost use Rattle.certifying.specs.Answers.{judged_reads, judged_use, kept_text, nothing_line};
+ghost use Rattle.certifying.specs.Answers.{IsAnswerTo, IsCertificateAnswer, IsFlawAnswer, IsKeptAnswer, IsQueueAnswer, IsTrialAnswer, IsUseAnswer};
+ghost use Rattle.certifying.specs.Answers.{fault_of, is_of_queue, judged_reads, kept_judgement, kept_text, nothing_line};
+ghost use Rattle.certifying.specs.Questions.{questions_by};
 ghost use Rattle.certifying.specs.Broken.{runs_line};
 ghost use Rattle.certifying.specs.NotShown.{flaw_line, likely_line};
 ghost use Rattle.certifying.specs.Answers.{limit_lines, progress_line, promise_end, protocol_line, protocol_text, reads_line, records_line};
@@ -24,8 +25,11 @@ ghost use Rattle.certifying.specs.Unused.{first_unused};
 
 use crate::answer_texts::{flaw_text, kept_text, tried_text, unread_text, unused_text};
 use crate::breaking::broken_text;
+use crate::harts::{HartsTold, harts_told};
 use crate::input::read_certificate;
 use crate::judgement::Judgement;
+use crate::questions::Questions;
+use crate::records::{Records, are_shown, found_for};
 use crate::trials::{Trial, trial_of};
 use crate::unread::first_unread;
 use crate::unused::first_unused;
@@ -55,21 +59,56 @@ fn fault_of(lack: Lack) -> Fault
     }
 }
 
-/// What is answered where the certificate is accepted, and its queues are used.
+/// What comes of an accepted certificate that owns its loads, where all that was asked is shown or not.
+fn kept_judgement(all: bool) -> Judgement
+    ensures { result ≡ kept_judgement all }
+{
+    if all {
+        Judgement::Kept
+    } else {
+        Judgement::AskedNotShown
+    }
+}
+
+/// What is answered where the certificate is accepted, and its queues are used, with what is found of records and told of harts.
 fn judged_reads(
     alloc: Global,
     opening: &Opening,
     certificate: &QueueCertificate,
+    asked: Questions<'_>,
+    found: &[Records],
+    told: &HartsTold,
 ) -> Result<(String, Judgement), Lack>
-    ensures { IfOk result (λ answer. text_and_value answer ≡ judged_reads opening.now certificate.now (first_unread opening.now certificate.now)) }
+    ensures { IfOk result (λ answer. text_and_value answer ≡ judged_reads opening.now certificate.now (questions_by asked.entry) found.now
+        (string_bytes told.now.lines) told.now.safe (first_unread opening.now certificate.now)) }
 {
+    let harts = told.lines.as_str();
     match first_unread(alloc, opening, certificate)? {
-        None => Ok((kept_text(alloc, opening, certificate)?, Judgement::Kept)),
-        Some(unread) => Ok((
-            unread_text(alloc, opening, certificate, unread)?,
-            Judgement::ReadsNotShown,
-        )),
+        None => {
+            let all = are_shown(found) && told.safe;
+            let text = kept_text(alloc, opening, certificate, asked, found, harts, all)?;
+            Ok((text, kept_judgement(all)))
+        }
+        Some(unread) => {
+            let text = unread_text(alloc, opening, certificate, asked, found, harts, unread)?;
+            Ok((text, Judgement::ReadsNotShown))
+        }
     }
+}
+
+/// The same, on machines with `words` words of memory.
+fn judged_asked(
+    alloc: Global,
+    opening: &Opening,
+    certificate: &QueueCertificate,
+    words: u64,
+    asked: Questions<'_>,
+) -> Result<(String, Judgement), Lack>
+    ensures { IfOk result (λ answer. IsKeptAnswer words (questions_by asked.entry) opening.now certificate.now (text_and_value answer)) }
+{
+    let found = found_for(alloc, opening, certificate, asked.written)?;
+    let told = harts_told(alloc, opening, certificate, words, asked.harts)?;
+    judged_reads(alloc, opening, certificate, asked, &found, &told)
 }
 
 /// What is answered where the certificate is accepted.
@@ -77,11 +116,14 @@ fn judged_use(
     alloc: Global,
     opening: &Opening,
     certificate: &QueueCertificate,
+    words: u64,
+    asked: Questions<'_>,
 ) -> Result<(String, Judgement), Lack>
-    ensures { IfOk result (λ answer. text_and_value answer ≡ judged_use opening.now certificate.now (first_unused opening.now certificate.now)) }
+    ensures { IfOk result (λ answer. IsUseAnswer words (questions_by asked.entry) opening.now certificate.now
+        (first_unused opening.now certificate.now) (text_and_value answer)) }
 {
     match first_unused(alloc, opening, certificate)? {
-        None => judged_reads(alloc, opening, certificate),
+        None => judged_asked(alloc, opening, certificate, words, asked),
         Some(unused) => Ok((unused_text(alloc, unused)?, Judgement::NotShown)),
     }
 }
@@ -178,6 +220,7 @@ fn judged<const B: usize, const M: usize, G: Jump + Sync + Drop, T: Threads + Sy
     alloc: Global,
     opening: &Opening,
     certificate: &QueueCertificate,
+    asked: Questions<'_>,
     sample: &Sample<'_, G>,
     progress: &mut P,
 ) -> Result<(String, Judgement), Lack>
@@ -186,11 +229,11 @@ fn judged<const B: usize, const M: usize, G: Jump + Sync + Drop, T: Threads + Sy
     requires some_word { 1 ≤ M }
     requires size { M ≤ 65536 }
     requires fits { FitsIn M opening.now }
-    ensures { IfOk result (λ answer. IsAnswerTo (runs_of B M G.Rng.stream sample.now) opening.now certificate.now
+    ensures { IfOk result (λ answer. IsAnswerTo (runs_of B M G.Rng.stream sample.now) (questions_by asked.entry) opening.now certificate.now
         (first_flaw opening.now certificate.now) (text_and_value answer)) }
 {
     match first_flaw(alloc, opening, certificate)? {
-        None => judged_use(alloc, opening, certificate),
+        None => judged_use(alloc, opening, certificate, M as u64, asked),
         Some(flaw) => judged_flaw::<B, M, G, T, P>(
             rt,
             alloc,
@@ -209,6 +252,7 @@ fn answer<const B: usize, const M: usize, G: Jump + Sync + Drop, T: Threads + Sy
     alloc: Global,
     test: &Test,
     certificate: &QueueCertificate,
+    asked: Questions<'_>,
     sample: &Sample<'_, G>,
     progress: &mut P,
 ) -> Result<(String, Judgement), Fault>
@@ -216,10 +260,11 @@ fn answer<const B: usize, const M: usize, G: Jump + Sync + Drop, T: Threads + Sy
     requires capacity { B ≤ 64 }
     requires words { MAX_LOCATIONS ≤ M }
     requires size { M ≤ 65536 }
-    ensures { AnswersAs (IsCertificateAnswer (runs_of B M G.Rng.stream sample.now) test.now.opening certificate.now) text_and_value result }
+    ensures { AnswersAs (IsCertificateAnswer (runs_of B M G.Rng.stream sample.now) (questions_by asked.entry) test.now.opening certificate.now)
+        text_and_value result }
 {
     let opening = test.opening(alloc)?;
-    match judged::<B, M, G, T, P>(rt, alloc, &opening, certificate, sample, progress) {
+    match judged::<B, M, G, T, P>(rt, alloc, &opening, certificate, asked, sample, progress) {
         Ok(answer) => Ok(answer),
         Err(lack) => Err(fault_of(lack)),
     }
@@ -237,6 +282,7 @@ fn made<
 >(
     rt: &T,
     alloc: Global,
+    asked: Questions<'_>,
     file: &mut F,
     certificate: &mut C,
     sample: &Sample<'_, G>,
@@ -247,12 +293,13 @@ fn made<
     requires words { MAX_LOCATIONS ≤ M }
     requires size { M ≤ 65536 }
     ensures made { FindsUpToReads
-        (IsQueueAnswer (runs_of B M G.Rng.stream sample.now) (F.remaining file.old) (C.remaining certificate.old)) text_and_value result }
+        (IsQueueAnswer (runs_of B M G.Rng.stream sample.now) (questions_by asked.entry) (F.remaining file.old) (C.remaining certificate.old))
+        text_and_value result }
     ensures unread { IsRefused tests (F.remaining file.old) → certificate.new ≡ certificate.old }
 {
     let test = read_test(alloc, file)?;
     let listed = read_certificate(alloc, certificate)?;
-    answer::<B, M, G, T, P>(rt, alloc, &test, &listed, sample, progress)
+    answer::<B, M, G, T, P>(rt, alloc, &test, &listed, asked, sample, progress)
 }
 
 /// Reads a litmus text and then a certificate, each to its end, and writes whether the certificate shows that every run of the text
@@ -260,8 +307,10 @@ fn made<
 ///
 /// If the certificate isn't accepted, but its queues open at their counts, the runs of the sample are made of the text for each queue,
 /// with store buffers of `B` pairs and `M` words of memory: then it writes a short schedule of the first run that breaks the protocol
-/// of the first such queue, or that all keep it. That depends neither on the jobs nor on the progress. Where the certificate is accepted neither `B` nor `M` is
-/// part of the answer.
+/// of the first such queue, or that all keep it. That depends neither on the jobs nor on the progress. Where the certificate is accepted
+/// `B` isn't part of the answer, and `M` only of what is asked of the harts.
+///
+/// What is asked besides is told only where the certificate is accepted.
 ///
 /// Each input is refused as too large ([`engine_support::fault::TOO_LARGE`]), else as no text
 /// ([`engine_support::fault::NOT_TEXT`]), else as [`litmus_reader::read`] or [`certificate_reader::read_certificate`] says, at the
@@ -279,6 +328,7 @@ pub fn queue_engine<
 >(
     rt: &T,
     alloc: Global,
+    asked: Questions<'_>,
     file: &mut F,
     certificate: &mut C,
     sample: &Sample<'_, G>,
@@ -289,12 +339,12 @@ pub fn queue_engine<
     requires capacity { B ≤ 64 }
     requires words { MAX_LOCATIONS ≤ M }
     requires size { M ≤ 65536 }
-    ensures ends { Ends (IsQueueAnswer (runs_of B M G.Rng.stream sample.now) (F.remaining file.old) (C.remaining certificate.old)) result
-        W.contents writer.old writer.new }
+    ensures ends { Ends (IsQueueAnswer (runs_of B M G.Rng.stream sample.now) (questions_by asked.entry) (F.remaining file.old)
+        (C.remaining certificate.old)) result W.contents writer.old writer.new }
     ensures unread { IsRefused tests (F.remaining file.old) → certificate.new ≡ certificate.old }
 {
     end_with(
-        made::<B, M, F, C, G, T, P>(rt, alloc, file, certificate, sample, progress),
+        made::<B, M, F, C, G, T, P>(rt, alloc, asked, file, certificate, sample, progress),
         writer,
     )
 }

@@ -6,7 +6,7 @@ ghost use Rattle.rv_decode.specs.Fits.{Fits};
 ghost use Rattle.rv_decode.specs.Meaning.{meaning};
 ghost use Rattle.queue_certificates.specs.Steps.{instruction_at};
 ghost use Rattle.queue_checker.specs.Flaws.{hart_at};
-ghost use Rattle.certifying.specs.Instructions.{instruction_place, instruction_text};
+ghost use Rattle.certifying.specs.Instructions.{instruction_at_pc, instruction_place, instruction_text};
 
 use assembler::write_instr;
 use rv_decode::{Instr, decode};
@@ -43,6 +43,14 @@ fn push_instruction(out: &mut String, instr: Option<Instr>) -> Result<(), AllocE
         None => out.push_str("no instruction"),
         Some(instr) => write_instr(&instr, out),
     }
+}
+
+/// Appends an instruction after its pc.
+pub fn push_at_pc(out: &mut String, opening: &Opening, hart: u32, pc: u32) -> Result<(), AllocError>
+    ensures { OnOk result (string_bytes out.new ≡ string_bytes out.old ++ instruction_at_pc opening.now hart pc) }
+{
+    write!(out, "pc {pc}, ")?;
+    push_instruction(out, instruction_of(opening, hart, pc))
 }
 
 /// Appends an instruction with its place.

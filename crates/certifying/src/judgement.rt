@@ -3,10 +3,12 @@
 /// What comes of a certificate.
 #[derive(Clone, Copy)]
 pub enum Judgement {
-    /// Every run keeps the protocol of each queue, and its parties load only slots that they own.
+    /// Every run keeps the protocol of each queue, and its parties load only slots that they own. All that was asked besides is shown.
     Kept,
     /// Every run keeps the protocol of each queue. That its parties load only slots that they own isn't shown.
     ReadsNotShown,
+    /// Every run keeps the protocol of each queue, and its parties load only slots that they own. Not all that was asked besides is shown.
+    AskedNotShown,
     /// Nothing is claimed.
     NotShown,
     /// A run breaks the protocol of a queue.

@@ -3,30 +3,39 @@
 ghost use Rattle.std.specs.Prelude.{ℕ, List, Option, Result, Ok, Some};
 ghost use Rattle.engine_support.specs.declared.fault.Refusal.{Refusal};
 ghost use Rattle.certifying.specs.Answers.{IsQueueAnswer};
+ghost use Rattle.certifying.specs.Questions.{Questions};
 ghost use Rattle.certifying.specs.Kept.{AreJudged, AreQueueAnswers, IsPromised};
 ghost use Rattle.drawn_runs.specs.Samples.{DrawnRuns};
 ghost use Rattle.certifying.specs.declared.judgement.Judgement.{Judgement};
 
+use hart_safety::laws_of_hart_safety;
 use ownership_runs::laws::{laws_of_judged_runs, laws_of_violations};
 use queue_certificates::laws_of_queue_certificates;
 use queue_checker::flaws::laws_of_flaws;
+use records_written::laws_of_written_records;
 
 /// What the command promises. It does nothing.
 ///
 /// - `promised`: where its answer is that the protocol is kept, every legal run of the text, of any length and schedule and with store
 ///   buffers of any size, keeps the protocol of ownership of each queue, so that all that `slot_queue::laws_of_ownership` promises
-///   holds of it; and where its reads are shown too, no party loads a byte of a slot that it doesn't own. Where its answer is that the
-///   protocol is broken, some legal run of the text doesn't keep that of some queue.
+///   holds of it; and where its reads are shown too, no party loads a byte of a slot that it doesn't own. Where all that was asked is shown
+///   too, in each such run the sender of each queue has written each byte that was asked about of each record that it publishes, since
+///   the record before in that slot was published; and if the harts were asked about, none is ever stopped on a machine of this memory,
+///   and each writes only bytes of its regions. Where its answer is that the protocol is broken, some legal run of the text doesn't keep
+///   that of some queue.
 /// - `one`: two answers to one input by the same drawn runs have one judgement, and are one text unless it has a schedule; or they are
-///   refusals of one number, except that a check may be given up where a number in it passes 2^64 - 1. Of a refused litmus text it
-///   isn't said on which line its first fault stands.
+///   refusals of one number, except that a check may be given up where a number in it passes 2^64 - 1. Where bytes of records are asked
+///   about, two may differ in what is found of the records. Of a refused litmus text it isn't said on which line its first fault stands.
 pub fn laws_of_answers()
-    ensures promised { (d : DrawnRuns) (file certificate : Option (List ℕ)) (text : List ℕ) (judgement : Judgement)
-        → IsQueueAnswer d file certificate (Ok (text, judgement)) → AreJudged file certificate (IsPromised judgement) }
-    ensures one { (d : DrawnRuns) (file certificate : List ℕ) (a b : Result (List ℕ × Judgement) Refusal)
-        → IsQueueAnswer d (Some file) (Some certificate) a → IsQueueAnswer d (Some file) (Some certificate) b → AreQueueAnswers a b }
+    ensures promised { (d : DrawnRuns) (asked : Questions) (file certificate : Option (List ℕ)) (text : List ℕ) (judgement : Judgement)
+        → IsQueueAnswer d asked file certificate (Ok (text, judgement)) → AreJudged file certificate (IsPromised d.M asked judgement) }
+    ensures one { (d : DrawnRuns) (asked : Questions) (file certificate : List ℕ) (a b : Result (List ℕ × Judgement) Refusal)
+        → IsQueueAnswer d asked (Some file) (Some certificate) a → IsQueueAnswer d asked (Some file) (Some certificate) b
+        → AreQueueAnswers d.M asked a b }
 {
     laws_of_flaws();
+    laws_of_written_records();
+    laws_of_hart_safety();
     laws_of_queue_certificates();
     laws_of_violations();
     laws_of_judged_runs();

@@ -1,5 +1,5 @@
-//! The command `queue`: whether a certificate shows that every run of a litmus text keeps the protocol of its queues, and otherwise
-//! whether a drawn run breaks it.
+//! The command `queue`: whether a certificate shows that every run of a litmus text keeps the protocol of its queues, then what is asked
+//! of their records and of the harts, and otherwise whether a drawn run breaks it.
 //!
 //! The contract: the engine's clause says what it writes for what its readers tell, byte for byte (`IsQueueAnswer`), and
 //! [`laws::laws_of_answers`] what a `kept` and a `broken` mean. This crate finds no certificate, knows no command line, opens no file and names
@@ -12,15 +12,20 @@
 pub mod answer_texts;
 pub mod answering;
 pub mod breaking;
+pub mod byte_texts;
 pub mod descriptions;
+pub mod harts;
 pub mod input;
 pub mod instructions;
 pub mod judgement;
 pub mod laws;
 pub mod not_shown;
+pub mod questions;
+pub mod records;
 pub mod trials;
 pub mod unread;
 pub mod unused;
 
 pub use answering::queue_engine;
 pub use judgement::Judgement;
+pub use questions::Questions;

@@ -4,9 +4,9 @@ ghost use Rattle.std.specs.Prelude.{◌≡◌, ◌<◌, ◌++◌, IfOk, OnOk, le
 ghost use Rattle.std.specs.String.{string_bytes};
 ghost use Rattle.queue_certificates.specs.Certificates.{state_at};
 ghost use Rattle.queue_checker.specs.Flaws.{first_of};
-ghost use Rattle.certifying.specs.Unread.{first_unread, state_place, unread_between, unread_by, unread_end, unread_front, unread_line, unread_of};
+ghost use Rattle.certifying.specs.Unread.{first_unread, pc_place, state_place, unread_between, unread_by, unread_end, unread_front, unread_line, unread_of};
 
-use crate::instructions::push_place;
+use crate::instructions::{push_at_pc, push_place};
 use crate::unused::number_of;
 use known_values::{Lack, Queue};
 use queue_checker::{QueueCertificate, first_unowned};
@@ -118,6 +118,21 @@ pub fn push_state_place(
     ensures { OnOk result (string_bytes out.new ≡ string_bytes out.old ++ state_place opening.now certificate.now hart state) }
 {
     push_place(out, opening, hart, pc_of(certificate, hart, state))?;
+    write!(out, ", state {state}")
+}
+
+/// Appends the place of the instruction of a hart's state, after the hart's number.
+#[tactic(auto, unfolding(crate::specs::Unread::pc_place))]
+pub fn push_pc_place(
+    out: &mut String,
+    opening: &Opening,
+    certificate: &QueueCertificate,
+    hart: u32,
+    state: u32,
+) -> Result<(), AllocError>
+    ensures { OnOk result (string_bytes out.new ≡ string_bytes out.old ++ pc_place opening.now certificate.now hart state) }
+{
+    push_at_pc(out, opening, hart, pc_of(certificate, hart, state))?;
     write!(out, ", state {state}")
 }
 

@@ -3,6 +3,7 @@ use Rattle.std.specs.Prelude.{ℕ, ◌≡◌, ◌⊎◌, Bool, List, [], ◌∷�
 use Rattle.std.specs.Str.{bytes_eq}
 use Rattle.clap.specs.Words.{Kinds, Row, Text, fault_of, first_of, found_of, rows_of, subcommand_of}
 use Rattle.clap.specs.declared.parser.matches.ArgMatches.{ArgMatches}
+use Rattle.record_bytes.specs.Naming.{is_bytes}
 use Rattle.recorder.specs.declared.reading.TheConstants.{MAX_EVENTS}
 use Rattle.command_line.specs.declared.fault.CommandLineError.{CommandLineError}
 use Rattle.command_line.specs.declared.fault.CommandLineError.TheVariants.{BadCommandLine, NoMemory}
@@ -111,13 +112,19 @@ callers_in options = do
   queue ← queue_in options
   Some (Machine (Callers seed draw runs queue))
 
--- the runs of `queue`, from its options
+-- the runs of `queue`, from its options, and whether the harts are asked about
 abbrev pub certified_in : Found → Option Command
 certified_in options = do
   seed ← seed_in options
   draw ← draw_in options
   runs ← runs_in options
-  Some (Queue seed draw runs)
+  harts ← options (codes "harts")
+  Some (Queue seed draw runs (flag_given harts))
+
+-- the bytes of records that are asked about, if any are; none where the text names no bytes
+abbrev pub bytes_if_given : Option Text → Option (Option Text)
+bytes_if_given None = Some None
+bytes_if_given (Some text) = if is_bytes text then Some (Some text) else None
 
 abbrev pub ring_given : Text → Option Ring
 ring_given text =
@@ -236,7 +243,8 @@ on_file_and_certificate options found = do
   capacity ← capacity_in options
   file ← file_in (codes "file") options
   certificate ← file_in (codes "certificate") options
-  Some (two_inputs command capacity file certificate)
+  written ← bytes_if_given (options (codes "written"))
+  Some (record (two_inputs command capacity file certificate) { written = written })
 
 abbrev pub on_schedule_and_standard : Found → Option Command → Option Wanted
 on_schedule_and_standard options found = do

@@ -59,7 +59,8 @@ commands =
     ∷ row (codes "callers") (file ∷ buffer ∷ seed ∷ runs ∷ length ∷ skip ∷ draw ∷ jobs ∷ required (codes "slots") ∷ base
     ∷ defaulted (codes "sender") (codes "0") ∷ defaulted (codes "receiver") (codes "1") ∷ defaulted (codes "kind") (codes "lamport") ∷ [])
     ∷ row (codes "queue") (file ∷ buffer ∷ defaulted (codes "seed") (codes "1") ∷ defaulted (codes "runs") (codes "1000")
-    ∷ defaulted (codes "length") (codes "1000") ∷ skip ∷ defaulted (codes "draw") (codes "bursts") ∷ jobs ∷ required (codes "certificate") ∷ [])
+    ∷ defaulted (codes "length") (codes "1000") ∷ skip ∷ defaulted (codes "draw") (codes "bursts") ∷ jobs ∷ required (codes "certificate")
+    ∷ optional (codes "written") ∷ flag (codes "harts") ∷ [])
     ∷ row (codes "steps") (buffer ∷ [])
     ∷ row (codes "asm") []
     ∷ row (codes "dis") []

@@ -11,7 +11,7 @@ pub data Input : Type 0 where
   Standard : Input
   File : (path : List ℕ) → Input
 
--- a command, the buffers of its machine, and its inputs in the order in which they are read
+-- a command, the buffers of its machine, its inputs in the order in which they are read, and the bytes that are asked about, if any are
 pub record Wanted : Type 0 where
   pub command : Command
   pub capacity : Capacity
@@ -19,11 +19,12 @@ pub record Wanted : Type 0 where
   pub second : Option Input
   pub third : Option Input
   pub fourth : Option Input
+  pub written : Option (List ℕ)
 
 module _ (command : Command) (capacity : Capacity) where
   abbrev pub wanted_of : (first : Input) → (second third fourth : Option Input) → Wanted
   wanted_of first second third fourth =
-      record { command = command; capacity = capacity; first = first; second = second; third = third; fourth = fourth }
+      record { command = command; capacity = capacity; first = first; second = second; third = third; fourth = fourth; written = None }
 
   abbrev pub one_input : Input → Wanted
   one_input first = wanted_of first None None None
@@ -50,4 +51,5 @@ wanted_by job = record {
   second = option_map input_by job.second;
   third = option_map input_by job.third;
   fourth = option_map input_by job.fourth;
+  written = option_map (λ bytes. bytes.now) job.written;
 }

@@ -117,6 +117,8 @@ pub const COMMANDS: [Row; 18] = [
             Defaulted("draw", "bursts"),
             JOBS,
             Required("certificate"),
+            Optional("written"),
+            Flag("harts"),
         ],
     ),
     ("steps", &[BUFFER]),

@@ -136,17 +136,19 @@ pub enum Command {
         runs: Runs,
         place: BlockPlace,
     },
-    /// To tell whether a certificate shows that every run of a litmus text keeps the protocol of the certificate's queues, and otherwise
-    /// whether one of these runs breaks it, by schedules that are drawn from a generator of this seed.
+    /// To tell whether a certificate shows that every run of a litmus text keeps the protocol of the certificate's queues, then what is
+    /// asked of their records and of the `harts`, and otherwise whether one of these runs breaks it, by schedules that are drawn from a
+    /// generator of this seed.
     Queue {
         seed: u64,
         draw: Draw,
         runs: Runs,
+        harts: bool,
     },
 }
 
-/// What a command line asks for: a command, the buffers of its machine, and its inputs in the order in which they are
-/// read.
+/// What a command line asks for: a command, the buffers of its machine, its inputs in the order in which they are read, and the bytes
+/// that are asked about.
 #[derive(Clone, Copy)]
 pub struct Job<'a> {
     pub command: Command,
@@ -160,4 +162,7 @@ pub struct Job<'a> {
     pub third: Option<Input<'a>>,
     /// `None` for a command with at most three.
     pub fourth: Option<Input<'a>>,
+    /// Which bytes of each record the sender of a queue is to write, as [`record_bytes::is_bytes`] takes them; `None` where none is asked
+    /// about.
+    pub written: Option<&'a str>,
 }

@@ -3,7 +3,7 @@
 ghost use Rattle.std.specs.Prelude.{◌≡◌, ◌∷◌, ℕ, List, IfOk, map, option_and_then, option_map, Some};
 ghost use Rattle.clap.specs.Words.{FailsBy, fault_of, subcommand_of, subcommand_rows_of};
 ghost use Rattle.command_line.specs.CommandLines.{GivesJob, found_by, job_by, capacity_given, capacity_in, job_at, channel_in, chart_in, find_in, flag_given};
-ghost use Rattle.command_line.specs.CommandLines.{callers_in, certified_in, draw_given, queue_in, queue_kind_given};
+ghost use Rattle.command_line.specs.CommandLines.{bytes_if_given, callers_in, certified_in, draw_given, queue_in, queue_kind_given};
 ghost use Rattle.command_line.specs.CommandLines.{show_in, style_given, selection_given, job_given, number_if_given};
 ghost use Rattle.command_line.specs.CommandLines.{number_at, own_in, on_file, on_file_and_schedule, on_channel};
 ghost use Rattle.command_line.specs.CommandLines.{on_file_and_certificate, on_file_and_standard, on_own_channel, on_programs_and_standard};
@@ -24,6 +24,7 @@ use chart::charts::{Selection, Style};
 use clap::ArgMatches;
 use drawn_runs::{Draw, Runs};
 use poll_close::BlockPlace;
+use record_bytes::is_bytes;
 use recorder::MAX_EVENTS;
 use std::alloc::Global;
 use std::convert::AsStr;
@@ -123,6 +124,7 @@ fn on_standard<'a>(options: &ArgMatches<'a>, command: Option<Command>) -> Option
         second: None,
         third: None,
         fourth: None,
+        written: None,
     })
 }
 
@@ -139,6 +141,7 @@ fn on_file<'a>(options: &ArgMatches<'a>, command: Option<Command>) -> Option<Job
         second: None,
         third: None,
         fourth: None,
+        written: None,
     })
 }
 
@@ -156,6 +159,7 @@ fn on_file_and_schedule<'a>(options: &ArgMatches<'a>, command: Option<Command>) 
         second: Some(Input::File(schedule)),
         third: None,
         fourth: None,
+        written: None,
     })
 }
 
@@ -172,6 +176,7 @@ fn on_file_and_standard<'a>(options: &ArgMatches<'a>, command: Option<Command>) 
         second: Some(Input::Standard),
         third: None,
         fourth: None,
+        written: None,
     })
 }
 
@@ -185,6 +190,7 @@ fn on_file_and_certificate<'a>(
     let capacity = capacity_in(options)?;
     let file = word_in(options, "file")?;
     let certificate = word_in(options, "certificate")?;
+    let written = bytes_if_given(word_in(options, "written"))?;
     Some(Job {
         command,
         capacity,
@@ -192,6 +198,7 @@ fn on_file_and_certificate<'a>(
         second: Some(Input::File(certificate)),
         third: None,
         fourth: None,
+        written,
     })
 }
 
@@ -211,6 +218,7 @@ fn on_schedule_and_standard<'a>(
         second: Some(Input::Standard),
         third: None,
         fourth: None,
+        written: None,
     })
 }
 
@@ -232,6 +240,7 @@ fn on_programs_and_standard<'a>(
         second: Some(Input::File(receiver)),
         third: Some(Input::Standard),
         fourth: None,
+        written: None,
     })
 }
 
@@ -265,6 +274,7 @@ fn on_own_channel<'a>(options: &ArgMatches<'a>) -> Option<Job<'a>>
         second: Some(Input::File(receiver)),
         third: Some(Input::File(schedule)),
         fourth: Some(Input::Standard),
+        written: None,
     })
 }
 
@@ -369,14 +379,20 @@ fn callers_in(options: &ArgMatches<'_>) -> Option<Command>
     }))
 }
 
-/// The runs that `queue` is to make where a certificate isn't accepted.
+/// The runs that `queue` is to make where a certificate isn't accepted, and whether the harts are asked about.
 fn certified_in(options: &ArgMatches<'_>) -> Option<Command>
     ensures { result ≡ certified_in (found_by options.now) }
 {
     let seed = seed_in(options)?;
     let draw = draw_of(word_in(options, "draw")?)?;
     let runs = runs_in(options)?;
-    Some(Command::Queue { seed, draw, runs })
+    let harts = flag_of(word_in(options, "harts")?);
+    Some(Command::Queue {
+        seed,
+        draw,
+        runs,
+        harts,
+    })
 }
 
 /// The runs that `ring` is to make, and of which channel.
@@ -480,6 +496,17 @@ fn number_if_given(text: Option<&str>) -> Option<Option<u32>>
 {
     match text {
         Some(asked) => Some(Some(count_of(asked, 0, u32::MAX)?)),
+        None => Some(None),
+    }
+}
+
+/// The bytes that are asked about, if any are; none where the text names no bytes.
+fn bytes_if_given(text: Option<&str>) -> Option<Option<&str>>
+    ensures { option_map (option_map (λ bytes. bytes.now)) result ≡ bytes_if_given (option_map (λ asked. asked.now) text.entry) }
+{
+    match text {
+        Some(asked) if is_bytes(asked) => Some(Some(asked)),
+        Some(_) => None,
         None => Some(None),
     }
 }

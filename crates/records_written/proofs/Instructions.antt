@@ -3,7 +3,7 @@ use Rattle.std.proofs.Common.{ℕ, ℤ, ◌+◌, ◌*◌, ◌/◌, ◌%◌, ◌<
 use Rattle.std.proofs.Common.{Bool, true, false, Option, Some, None, List, length, get_or, refl, sym, ◌∙◌, ap, subst}
 use Rattle.std.specs.Prelude.{nat_lt, slice_index}
 use Rattle.std.specs.List.{slice_get}
-use Rattle.std.proofs.lemmas.Bool.{ltb-true}
+use Rattle.std.proofs.lemmas.Bool.{and_parts, ltb-true}
 use Rattle.rv_decode.specs.Meaning.{meaning}
 use Rattle.rv_decode.specs.declared.instruction.Reg.{Reg}
 use Rattle.rv_decode.specs.declared.instruction.StoreOp.{StoreOp}
@@ -49,8 +49,7 @@ use Rattle.queue_certificates.proofs.Steps as steps
 use Rattle.records_written.specs.declared.effect.Effect.{Effect}
 use Rattle.records_written.specs.declared.effect.Effect.TheVariants.{Leaves, Publishes, PublishesSome}
 use Rattle.records_written.specs.Marks.{published_by, filled_by, its_sender, moves_head, effect_at, effect_of}
-use Rattle.records_written.proofs.Marked.{left-of, right-of}
-use Rattle.records_written.proofs.Effects.{published_then, Does, does-nothing, does-leave, does-fill, does-move, does-exchange}
+use Rattle.records_written.proofs.Accesses.{published_then, Does, does-nothing, does-leave, does-fill, does-move, does-exchange}
 
 -- ---- an instruction that stores nothing
 
@@ -175,7 +174,7 @@ module _ (M : ℕ) (o : OpeningValue) (c : QueueCertificate) (i : ℕ) (less : i
             → (if t then published_by d (most k.ranges d)
             else Some (filled_by k.ranges (queue_at c i) (get_or k.shares i no_share) place (store_width op))) ≡ Some f
             → Does (queue_at c i) (cs i) f (store (write a (store_width op) (stored op x))) z
-        by true moves ok effect = bounded (most k.ranges d) refl moves (ltb-true i (length k.shares) (right-of _ _ ok)) effect
+        by true moves ok effect = bounded (most k.ranges d) refl moves (ltb-true i (length k.shares) (and_parts _ _ ok).1) effect
         by false other ok effect = subst (λ g. Does (queue_at c i) (cs i) g (store (write a (store_width op) (stored op x))) z)
             (let same : filled_by k.ranges (queue_at c i) (get_or k.shares i no_share) place (store_width op) ≡ f = cc in same)
             (does-fill (queue_at c i) (fine i less).0 (cs i) xs (get_or k.shares i no_share) has (queue_at c) k.ranges means.ranges z
@@ -233,7 +232,7 @@ module _ (M : ℕ) (o : OpeningValue) (c : QueueCertificate) (i : ℕ) (less : i
       (steps.address-has M o (queue_at c) (length c.queues) (own_of c) (length c.harts) h xs k s m cs e acts size
       fine means rs1 offset) p.0 p.1
       (steps.register-has M o (queue_at c) (length c.queues) (own_of c) (length c.harts) h xs k s m cs e acts size fine means rs2)
-      (left-of _ _ (chosen _ _ ks found)) (right-of _ _ (chosen _ _ ks found)) f (advanced s (number_read e)) effect))
+      (and_parts _ _ (chosen _ _ ks found)).0 (and_parts _ _ (chosen _ _ ks found)).1 f (advanced s (number_read e)) effect))
 
   -- what is checked of an AMO
   exchange-checks : (d : Form) (rd : ℕ) (vx place : KnownValue) (b : Bounds) (move : Option ℕ) (ks : List KnownState)
@@ -242,9 +241,9 @@ module _ (M : ℕ) (o : OpeningValue) (c : QueueCertificate) (i : ℕ) (less : i
       × (all_below (length c.harts) (leaves_words (queue_at c) (length c.queues) (own_of c) (length c.harts) h b 4) ≡ true)
       × (all_below (length c.queues) (λ j. misses (queue_at c j) (party_of (queue_at c j) h) b 4) ≡ true)
   exchange-checks d rd vx place b move ks found = (
-    left-of _ _ (left-of _ _ (chosen _ _ ks found)),
-    right-of _ _ (left-of _ _ (chosen _ _ ks found)),
-    right-of _ _ (chosen _ _ ks found),
+    (and_parts _ _ (and_parts _ _ (chosen _ _ ks found)).0).0,
+    (and_parts _ _ (and_parts _ _ (chosen _ _ ks found)).0).1,
+    (and_parts _ _ (chosen _ _ ks found)).1,
   )
 
   amo-does : (d : Form) (f : Effect) (op : AmoOp) (rd rs1 rs2 : Reg) (aq rl : Bool) (ks : List KnownState) → IsAt s (Amo op rd rs1 rs2 aq rl)

@@ -4,7 +4,7 @@ use Rattle.std.proofs.Common.{ℕ, ◌+◌, ◌<◌, ◌≤◌, ◌≡◌, inl, 
 use Rattle.std.proofs.Common.{length, get_or, refl, sym, subst}
 use Rattle.std.specs.Prelude.{map}
 use Rattle.std.specs.List.{slice_get}
-use Rattle.std.proofs.lemmas.Bool.{ltb-true, leb-true, cases_lt}
+use Rattle.std.proofs.lemmas.Bool.{and_parts, ltb-true, leb-true, cases_lt}
 use Rattle.std.proofs.lemmas.Option.{get_or_from_slice_get, slice_get_within}
 use Rattle.hart.specs.State.{HartState}
 use Rattle.hart.specs.Steps.{advanced}
@@ -28,8 +28,7 @@ use Rattle.queue_certificates.proofs.Certified.{otherwise, fine, past}
 use Rattle.records_written.specs.declared.effect.Effect.{Effect}
 use Rattle.records_written.specs.Marks.{Marks, effect_of, may_publish, has_mark_after, are_so, arrows_keep, effect_keeps}
 use Rattle.records_written.specs.Marks.{keeps_marks, shows_written}
-use Rattle.records_written.proofs.Marked.{left-of, right-of}
-use Rattle.records_written.proofs.Effects.{Does}
+use Rattle.records_written.proofs.Accesses.{Does}
 use Rattle.records_written.proofs.Instructions.{state-does}
 
 module _ (M : ℕ) (o : OpeningValue) (c : QueueCertificate) (ok : accepts o c ≡ true) (i : ℕ) (less : i < length c.queues)
@@ -52,17 +51,17 @@ module _ (M : ℕ) (o : OpeningValue) (c : QueueCertificate) (ok : accepts o c �
   of-sender x is =
       let its : get_or o.harts h no_hart ≡ x = get_or_from_slice_get o.harts h x no_hart is in
       let at : accepts_hart o c h x (part_of c h) ≡ true = subst (λ y. accepts_hart o c h y (part_of c h) ≡ true) its
-      (at-below (length o.harts) (λ g. accepts_hart o c g (get_or o.harts g no_hart) (part_of c g)) (right-of _ _ ok) h
+      (at-below (length o.harts) (λ g. accepts_hart o c g (get_or o.harts g no_hart) (part_of c g)) (and_parts _ _ ok).1 h
       (slice_get_within o.harts h x is)) in
       record {
-        registers = leb-true 32 (length x.registers) (left-of _ _ (left-of _ _ (left-of _ _ at)));
-        first = ltb-true (part_of c h).first states (right-of _ _ (left-of _ _ (left-of _ _ at)));
-        opens = right-of _ _ (left-of _ _ at);
-        closed = λ n listed. at-below states (λ n. is_closed c h x.code (state_at c h n).known (state_at c h n).cases) (right-of _ _ at) n listed;
+        registers = leb-true 32 (length x.registers) (and_parts _ _ (and_parts _ _ (and_parts _ _ at).0).0).0;
+        first = ltb-true (part_of c h).first states (and_parts _ _ (and_parts _ _ (and_parts _ _ at).0).0).1;
+        opens = (and_parts _ _ (and_parts _ _ at).0).1;
+        closed = λ n listed. at-below states (λ n. is_closed c h x.code (state_at c h n).known (state_at c h n).cases) (and_parts _ _ at).1 n listed;
         keeps = λ n listed. subst
             (λ y. keeps_marks c i y.code mask marks (get_or marks n []) (state_at c h n).known (state_at c h n).cases ≡ true) its
             (at-below states (λ n. keeps_marks c i (get_or o.harts h no_hart).code mask marks (get_or marks n []) (state_at c h n).known
-            (state_at c h n).cases) (right-of _ _ shown) n listed);
+            (state_at c h n).cases) (and_parts _ _ shown).1 n listed);
       }
 
   -- a state of the sender's whose marks are so where f says so
@@ -73,20 +72,20 @@ module _ (M : ℕ) (o : OpeningValue) (c : QueueCertificate) (ok : accepts o c �
     pub so : are_so (get_or marks state []) f ≡ true
 
   found-among : (code : List ℕ) (ks : List KnownState) (arrows : List Arrow) (f : ℕ → ℕ → Bool) (z : HartState) (m : View) (cs : AllCounts)
-      → each_leads c h code ks arrows ≡ true → arrows_keep c i code mask marks arrows f ≡ true
+      → each_leads c h code ks arrows ≡ true → arrows_keep marks arrows f ≡ true
       → IsAmong (queue_at c) (length c.queues) (own_of c) h ks z m cs → Found f z m cs
   found-among code [] arrows f z m cs leads keep w = absurd w
   found-among code (k ∷ ks) [] f z m cs leads keep w = absurd (cc)
   found-among code (k ∷ ks) (a ∷ arrows) f z m cs leads keep (inl w) = record {
     state = a.to;
-    listed = ltb-true a.to states (left-of _ _ (left-of _ _ leads));
+    listed = ltb-true a.to states (and_parts _ _ (and_parts _ _ leads).0).0;
     means = (
       values_of (map (settled k.ranges) a.forms) w.0,
-      means-arrow (queue_at c) (length c.queues) (own_of c h) h w.0 k (state_at c h a.to).known a.forms z m cs (right-of _ _ (left-of _ _ leads)) w.1,
+      means-arrow (queue_at c) (length c.queues) (own_of c h) h w.0 k (state_at c h a.to).known a.forms z m cs (and_parts _ _ (and_parts _ _ leads).0).1 w.1,
     );
-    so = left-of _ _ keep;
+    so = (and_parts _ _ keep).0;
   }
-  found-among code (k ∷ ks) (a ∷ arrows) f z m cs leads keep (inr w) = found-among code ks arrows f z m cs (right-of _ _ leads) (right-of _ _ keep) w
+  found-among code (k ∷ ks) (a ∷ arrows) f z m cs leads keep (inr w) = found-among code ks arrows f z m cs (and_parts _ _ leads).1 (and_parts _ _ keep).1 w
 
   -- what an entry comes to from a state with these marks
   pub record Leads (ms : Marks) (m : View) (cs : AllCounts) (y : Access) (z : HartState) : Type 0 where
@@ -109,7 +108,7 @@ module _ (M : ℕ) (o : OpeningValue) (c : QueueCertificate) (ok : accepts o c �
       by : (ks : Option (List KnownState))
           → follow (queue_at c) (length c.queues) (own_of c) (length c.harts) h k d (instruction_at x.code k.pc) ≡ ks
           → (f : Option Effect) → effect_of c i k d (instruction_at x.code k.pc) ≡ f
-          → all_lead c h x.code ks arrows ≡ true → effect_keeps c i x.code mask marks ms arrows f ≡ true
+          → all_lead c h x.code ks arrows ≡ true → effect_keeps mask marks ms arrows f ≡ true
           → Leads ms m cs (access_of e) (advanced s (number_read e))
       by None found f effect closed keeps = absurd (cc)
       by (Some ks) found None effect closed keeps = absurd (cc)
@@ -124,16 +123,16 @@ module _ (M : ℕ) (o : OpeningValue) (c : QueueCertificate) (ok : accepts o c �
           record {
             effect = f;
             does = state-does M o c i less xs k s m cs e acts wide (fine M o c ok) means (past M o c ok) d f ks found-here effect-here;
-            whole = left-of _ _ keeps;
+            whole = (and_parts _ _ keeps).0;
             next = λ runs. found-among x.code ks arrows (has_mark_after ms f) (advanced s (number_read e)) (view_then (access_of e) m)
-                (λ j. after_access (queue_at c j) (party_of (queue_at c j) h) (access_of e) (cs j)) closed (right-of _ _ keeps) (goes.next runs);
+                (λ j. after_access (queue_at c j) (party_of (queue_at c j) h) (access_of e) (cs j)) closed (and_parts _ _ keeps).1 (goes.next runs);
           }
   leads x of s m cs e acts code size ms k (split j v low high) xs closed keeps means =
       let beyond = exceeds (queue_at c) (length c.queues) (own_of c h) h k.ranges xs j v means.ranges in
       elim (cases_lt v (get_or xs j 0)) [
-        | inr under ↦ leads x of s m cs e acts code size ms (with_low k j v) low xs (left-of _ _ closed) (left-of _ _ keeps)
+        | inr under ↦ leads x of s m cs e acts code size ms (with_low k j v) low xs (and_parts _ _ closed).0 (and_parts _ _ keeps).0
             (means-low (queue_at c) (length c.queues) (own_of c h) h xs k s m cs j v means under)
         | inl over ↦ leads x of s m cs e acts code size ms (with_high k j v) high (less_at j (v + 1) xs)
-            (otherwise _ _ (beyond over) (right-of _ _ closed)) (otherwise _ _ (beyond over) (right-of _ _ keeps))
+            (otherwise _ _ (beyond over) (and_parts _ _ closed).1) (otherwise _ _ (beyond over) (and_parts _ _ keeps).1)
             (means-high (queue_at c) (length c.queues) (own_of c h) h xs k s m cs j v means over)
       ]

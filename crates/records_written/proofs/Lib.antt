@@ -1,6 +1,7 @@
 mod Marked
-mod Effects
+mod Accesses
 mod Instructions
 mod Leading
 mod Runs
 mod LittleTexts
+pub mod Splits

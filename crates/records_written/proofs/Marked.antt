@@ -1,5 +1,5 @@
 -- What the tests of marks say.
-use Rattle.std.proofs.Common.{ℕ, ◌<◌, ◌≤◌, ◌≡◌, ◌==◌, ◌&&◌, ◌⊎◌, inl, inr, Bool, true, List, [], ◌∷◌, length, get_or, sym, ◌∙◌, ap, subst}
+use Rattle.std.proofs.Common.{ℕ, ◌<◌, ◌≤◌, ◌≡◌, ◌==◌, ◌⊎◌, inl, inr, Bool, true, List, [], ◌∷◌, length, get_or, sym, ◌∙◌, ap, subst}
 use Rattle.std.specs.List.{list_all, list_any, Contains}
 use Rattle.std.proofs.lemmas.Bool.{and_parts, or_cases, eqb-true, cases_lt}
 use Rattle.std.proofs.lemmas.List.{get_or_past}
@@ -8,12 +8,6 @@ use Rattle.std.proofs.lemmas.List.Sums.{AllPass-from_list_all}
 use Rattle.queue_certificates.proofs.States.{at-below}
 use Rattle.records_written.specs.declared.effect.Effect.{Effect}
 use Rattle.records_written.specs.Marks.{Marks, has_mark, most_published, may_publish, are_so}
-
-pub left-of : (a b : Bool) → (a && b) ≡ true → a ≡ true
-left-of a b both = (and_parts a b both).0
-
-pub right-of : (a b : Bool) → (a && b) ≡ true → b ≡ true
-right-of a b both = (and_parts a b both).1
 
 pub passes : (f : ℕ → Bool) (bs : List ℕ) (b : ℕ) → list_all f bs ≡ true → Contains bs b → f b ≡ true
 passes f bs b all among = All-contains (λ x. f x ≡ true) bs b (AllPass-from_list_all f bs all) among

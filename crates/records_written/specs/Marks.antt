@@ -1,6 +1,6 @@
 -- Which bytes of slots a queue's sender has surely written at each state of a certificate, and when that shows that it writes each record
 -- before it publishes it.
-use Rattle.std.specs.Prelude.{ℕ, ◌+◌, ◌==◌, ◌&&◌, ◌||◌, not, nat_le, nat_lt, if◌then◌else◌, Bool, true, false, Option, None, Some}
+use Rattle.std.specs.Prelude.{ℕ, ◌≡◌, ◌+◌, ◌==◌, ◌&&◌, ◌||◌, not, nat_le, nat_lt, if◌then◌else◌, Bool, true, false, Option, None, Some}
 use Rattle.std.specs.Prelude.{List, [], ◌∷◌, length, get_or}
 use Rattle.std.specs.List.{list_all, list_any}
 use Rattle.rv_decode.specs.declared.instruction.Instr.{Instr}
@@ -86,17 +86,17 @@ are_so ms f = all_below (length ms) (λ d. list_all (f d) (get_or ms d []))
 
 -- ---- the marks of each state lead along its arrows into those of the next
 
+abbrev pub arrows_keep : (marks : List Marks) → List Arrow → (ℕ → ℕ → Bool) → Bool
+arrows_keep marks [] f = true
+arrows_keep marks (a ∷ arrows) f = are_so (get_or marks a.to []) f && arrows_keep marks arrows f
+
+abbrev pub effect_keeps : (mask : List ℕ) (marks : List Marks) → Marks → List Arrow → Option Effect → Bool
+effect_keeps mask marks ms arrows None = false
+effect_keeps mask marks ms arrows (Some e) = may_publish mask ms e && arrows_keep marks arrows (has_mark_after ms e)
+
 module _ (c : QueueCertificate) (i : ℕ) (code : List ℕ) (mask : List ℕ) (marks : List Marks) where
-  abbrev pub arrows_keep : List Arrow → (ℕ → ℕ → Bool) → Bool
-  arrows_keep [] f = true
-  arrows_keep (a ∷ arrows) f = are_so (get_or marks a.to []) f && arrows_keep arrows f
-
-  abbrev pub effect_keeps : Marks → List Arrow → Option Effect → Bool
-  effect_keeps ms arrows None = false
-  effect_keeps ms arrows (Some e) = may_publish mask ms e && arrows_keep arrows (has_mark_after ms e)
-
   abbrev pub keeps_marks : Marks → KnownState → Cases → Bool
-  keeps_marks ms k (leaf d arrows) = effect_keeps ms arrows (effect_of c i k d (instruction_at code k.pc))
+  keeps_marks ms k (leaf d arrows) = effect_keeps mask marks ms arrows (effect_of c i k d (instruction_at code k.pc))
   keeps_marks ms k (split j v low high) = keeps_marks ms (with_low k j v) low
       && (not (may_exceed v (get_or k.ranges j (Some 0))) || keeps_marks ms (with_high k j v) high)
 
@@ -105,3 +105,7 @@ abbrev pub shows_written : OpeningValue → QueueCertificate → (i : ℕ) → (
 shows_written o c i mask marks = are_so (get_or marks (part_of c (its_sender c i)).first []) (λ d b. false)
     && all_below (length (part_of c (its_sender c i)).states) (λ n. keeps_marks c i (get_or o.harts (its_sender c i) no_hart).code mask marks
     (get_or marks n []) (state_at c (its_sender c i) n).known (state_at c (its_sender c i) n).cases)
+
+-- there are such marks
+abbrev pub IsShownWritten : OpeningValue → QueueCertificate → (i : ℕ) → (mask : List ℕ) → Type 0
+IsShownWritten o c i mask = (marks : List Marks) × (shows_written o c i mask marks ≡ true)

@@ -29,6 +29,7 @@ use Rattle.run_engines.specs.Replay.{IsReplayAnswer}
 use Rattle.debugger.specs.Transcripts.{EndsInteractive, IsDebugAnswer, IsDebugFront, IsDebugSome, OnStopped, OnUnwritten}
 use Rattle.sampling.specs.Outcomes.{IsTryAnswer}
 use Rattle.certifying.specs.Answers.{IsQueueAnswer}
+use Rattle.certifying.specs.Questions.{Questions}
 use Rattle.callers.specs.Answers.{IsCallersAnswer}
 use Rattle.callers.specs.declared.queue.Queue.{Queue}
 use Rattle.callers.specs.declared.queue.QueueKind.{QueueKind}
@@ -101,6 +102,10 @@ queue_of called = record {
   receiver = called.receiver;
 }
 
+-- what is asked of a certificate besides the protocol
+abbrev pub queue_asked : (written : Option (List ℕ)) → (harts : Bool) → Questions
+queue_asked written harts = record { written = written; harts = harts }
+
 -- in which form `show` tells a test
 abbrev pub form_of : (steps : Bool) → Form
 form_of true = form.Steps
@@ -113,13 +118,15 @@ left_of false = left.Counted
 
 -- ---- how a command ends
 
--- What the readers of all inputs tell, in the order in which they are read, and what a user's commands tell.
+-- What the readers of all inputs tell, in the order in which they are read, what a user's commands tell, and the bytes that are asked about, if
+-- any are.
 pub record Given : Type 0 where
   pub first : Option (List ℕ)
   pub second : Option (List ℕ)
   pub third : Option (List ℕ)
   pub fourth : Option (List ℕ)
   pub commands : Option (List ℕ)
+  pub written : Option (List ℕ)
 
 -- An engine ended, whose value or fault makes this exit status or failure: what it wrote and returned is an answer, or
 -- a refusal is and nothing was written (`Ends` says it all).
@@ -166,12 +173,12 @@ Does B (UserChannel place) result given =
     Done done_exit (IsUserAnswer B WORDS (layout_of place []) given.first given.second given.third given.fourth) result
 Does B (Ring seed draw runs place) result given =
     Done good_exit (IsRingAnswer (runs_from B seed draw runs) place given.first given.second given.third) result
-Does B (OfQueues seed draw runs) result given =
-    Done judgement_exit (IsQueueAnswer (runs_from B seed draw runs) given.first given.second) result
+Does B (OfQueues seed draw runs harts) result given =
+    Done judgement_exit (IsQueueAnswer (runs_from B seed draw runs) (queue_asked given.written harts) given.first given.second) result
 
 -- the greatest exit status of a command that doesn't fail
 abbrev pub greatest_status : Command → ℕ
-greatest_status (OfQueues seed draw runs) = 8
+greatest_status (OfQueues seed draw runs harts) = 9
 greatest_status command = 1
 
 -- a command that judges records, one after the other
@@ -202,7 +209,7 @@ refusals (Find states) result = []
 refusals (Threads turns) result = []
 refusals (UserChannel place) result = IsRefused (programs Sender) ∷ IsRefused (programs Receiver) ∷ IsRefused schedules ∷ []
 refusals (Ring seed draw runs place) result = IsRefused (programs Sender) ∷ IsRefused (programs Receiver) ∷ []
-refusals (OfQueues seed draw runs) result = IsRefused tests ∷ []
+refusals (OfQueues seed draw runs harts) result = IsRefused tests ∷ []
 
 -- The input after these is left unread: the command has none there, or one of these is refused.
 abbrev pub LeavesUnread : List (Option (List ℕ) → Type 0) → (before : List (Option (List ℕ))) → Type 0

@@ -105,11 +105,12 @@ pub fn after_runs(ended: Result<bool, Fault>) -> Result<u8, Failure>
 /// The exit status after a certificate was judged.
 pub fn after_judgement(ended: Result<Judgement, Fault>) -> Result<u8, Failure>
     ensures ended { result ≡ judgement_exit ended }
-    ensures status { IfOk result (λ status. status ≤ 8) }
+    ensures status { IfOk result (λ status. status ≤ 9) }
 {
     match ended? {
         Judgement::Kept => Ok(0),
         Judgement::ReadsNotShown => Ok(6),
+        Judgement::AskedNotShown => Ok(9),
         Judgement::NotShown => Ok(7),
         Judgement::Broken => Ok(8),
     }

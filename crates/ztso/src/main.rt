@@ -76,7 +76,7 @@ fn run<R, P: Progress, Q: SearchProgress>(
 where
     R: Env + Files + Input + Clock + Print + Eprint + AllocGlobal + Threads + Wait + Sync,
     R::Reader: IsTerminal,
-    ensures { IfOk result (λ status. status ≤ 8) }
+    ensures { IfOk result (λ status. status ≤ 9) }
 {
     let arguments = env::args(rt).map_err(CommandLineError::of_arguments)?;
     let words: Vec<String> = arguments.collect(rt.alloc())?;
@@ -113,6 +113,7 @@ where
         rt,
         job.command,
         job.capacity,
+        job.written,
         &mut streams,
         progress,
         search,

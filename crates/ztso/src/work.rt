@@ -1,6 +1,6 @@
 //! Which engine does a job.
 
-ghost use Rattle.std.specs.Prelude.{◌≡◌, ◌⊎◌, ℕ, ◌≤◌, List, [], ◌∷◌, max, IfOk, Ok};
+ghost use Rattle.std.specs.Prelude.{◌≡◌, ◌⊎◌, ℕ, ◌≤◌, List, [], ◌∷◌, max, IfOk, Ok, Option, option_map};
 ghost use Rattle.std.specs.Io.KnownBytes.{Appends};
 ghost use Rattle.ztso.specs.declared.work.TheConstants.{WORDS};
 ghost use Rattle.command_line.specs.declared.job.Command.TheVariants.{Code, Machine};
@@ -23,6 +23,7 @@ ghost use Rattle.channel_engines.specs.Rings.{IsRingAnswer};
 use crate::calling::call_drawn;
 use crate::certified::judge_certificate;
 use crate::failure::{Failure, after, after_judgement, after_run, after_runs, after_search};
+use certifying::Questions;
 use channel_engines::channel::channel_engine;
 use channel_engines::ring::ring_engine;
 use channel_engines::user_channel::user_channel_engine;
@@ -259,12 +260,13 @@ fn do_code<I: Read, C: Read, W: Write>(
     command: CodeCommand,
     streams: &mut Streams<I, C, W>,
 ) -> Result<u8, Failure>
-    ensures does { (B : ℕ) → Does B (Code command) result (record {
+    ensures does { (B : ℕ) (written : Option (List ℕ)) → Does B (Code command) result (record {
       first = I.remaining streams.old.first;
       second = I.remaining streams.old.second;
       third = I.remaining streams.old.third;
       fourth = I.remaining streams.old.fourth;
       commands = C.remaining streams.old.commands;
+      written = written;
     }) W.contents streams.old.writer streams.new.writer }
     ensures kept { (streams.new.second ≡ streams.old.second) × (streams.new.third ≡ streams.old.third) × (streams.new.fourth ≡ streams.old.fourth) }
     ensures unasked { streams.new.commands ≡ streams.old.commands }
@@ -288,12 +290,13 @@ fn do_machine<const B: usize, T: Threads + Sync, I: Read, C: Read, W: Write, P: 
 ) -> Result<u8, Failure>
     requires some_capacity { 1 ≤ B }
     requires capacity { B ≤ 64 }
-    ensures does { Does B (Machine command) result (record {
+    ensures does { (written : Option (List ℕ)) → Does B (Machine command) result (record {
       first = I.remaining streams.old.first;
       second = I.remaining streams.old.second;
       third = I.remaining streams.old.third;
       fourth = I.remaining streams.old.fourth;
       commands = C.remaining streams.old.commands;
+      written = written;
     }) W.contents streams.old.writer streams.new.writer }
     ensures unread { LeavesUnread (refusals (Machine command) result) (I.remaining streams.old.first ∷ []) → streams.new.second ≡ streams.old.second }
     ensures kept { (streams.new.third ≡ streams.old.third) × (streams.new.fourth ≡ streams.old.fourth) }
@@ -355,11 +358,12 @@ fn do_machine<const B: usize, T: Threads + Sync, I: Read, C: Read, W: Write, P: 
     }
 }
 
-/// Does a command, over buffers of `B` stores if there is a machine. It may wait, for the lock and for the threads of
-/// `threads`.
+/// Does a command, over buffers of `B` stores if there is a machine, and with these bytes of records if they are asked about. It may wait, for the
+/// lock and for the threads of `threads`.
 fn do_buffered<const B: usize, R, I: Read, C: Read, W: Write, P: Progress, Q: SearchProgress>(
     rt: &R,
     command: Command,
+    written: Option<&str>,
     streams: &mut Streams<I, C, W>,
     progress: &mut P,
     search: &mut Q,
@@ -374,6 +378,7 @@ where
       third = I.remaining streams.old.third;
       fourth = I.remaining streams.old.fourth;
       commands = C.remaining streams.old.commands;
+      written = option_map (λ bytes. bytes.now) written.entry;
     }) W.contents streams.old.writer streams.new.writer }
     ensures unread { LeavesUnread (refusals command result) (I.remaining streams.old.first ∷ []) → streams.new.second ≡ streams.old.second }
     ensures unread_third { LeavesUnread (refusals command result) (I.remaining streams.old.first ∷ I.remaining streams.old.second ∷ [])
@@ -430,19 +435,23 @@ where
             progress,
             &mut streams.writer,
         )),
-        Command::Queue { seed, draw, runs } => {
-            after_judgement(judge_certificate::<B, _, _, _, _, _>(
-                rt,
-                alloc,
-                seed,
-                draw,
-                runs,
-                &mut streams.first,
-                &mut streams.second,
-                progress,
-                &mut streams.writer,
-            ))
-        }
+        Command::Queue {
+            seed,
+            draw,
+            runs,
+            harts,
+        } => after_judgement(judge_certificate::<B, _, _, _, _, _>(
+            rt,
+            alloc,
+            seed,
+            draw,
+            runs,
+            Questions { written, harts },
+            &mut streams.first,
+            &mut streams.second,
+            progress,
+            &mut streams.writer,
+        )),
     }
 }
 
@@ -450,12 +459,13 @@ where
 /// their order, each after an accepted one before it, and a user's commands, and writes what it answers. It answers the exit
 /// status: 0, but 1 where the verdict is that the test fails or is unfinished, the runs that were tried don't show what the
 /// test asks, a record was refused, callers of a queue owe something, or a run of a channel isn't clean, and of a certificate 6
-/// where only its loads aren't shown, 7 where nothing is, or 8 where a run breaks the protocol. `progress` gets the reports of runs
-/// that are tried, and `search` those of a search.
+/// where only its loads aren't shown, 9 where only what is asked besides isn't, 7 where nothing is, or 8 where a run breaks the protocol.
+/// `written` is which bytes of records are asked about. `progress` gets the reports of runs that are tried, and `search` those of a search.
 pub fn do_command<R, I: Read, C: Read, W: Write, P: Progress, Q: SearchProgress>(
     rt: &R,
     command: Command,
     capacity: Capacity,
+    written: Option<&str>,
     streams: &mut Streams<I, C, W>,
     progress: &mut P,
     search: &mut Q,
@@ -468,6 +478,7 @@ where
       third = I.remaining streams.old.third;
       fourth = I.remaining streams.old.fourth;
       commands = C.remaining streams.old.commands;
+      written = option_map (λ bytes. bytes.now) written.entry;
     }) W.contents streams.old.writer streams.new.writer }
     ensures unread { LeavesUnread (refusals command result) (I.remaining streams.old.first ∷ []) → streams.new.second ≡ streams.old.second }
     ensures unread_third { LeavesUnread (refusals command result) (I.remaining streams.old.first ∷ I.remaining streams.old.second ∷ [])
@@ -478,13 +489,17 @@ where
     ensures status { IfOk result (λ status. status ≤ greatest_status command) }
 {
     match capacity {
-        Capacity::One => do_buffered::<1, _, _, _, _, _, _>(rt, command, streams, progress, search),
-        Capacity::Two => do_buffered::<2, _, _, _, _, _, _>(rt, command, streams, progress, search),
+        Capacity::One => do_buffered::<1, _, _, _, _, _, _>(
+            rt, command, written, streams, progress, search,
+        ),
+        Capacity::Two => do_buffered::<2, _, _, _, _, _, _>(
+            rt, command, written, streams, progress, search,
+        ),
         Capacity::Four => {
-            do_buffered::<4, _, _, _, _, _, _>(rt, command, streams, progress, search)
+            do_buffered::<4, _, _, _, _, _, _>(rt, command, written, streams, progress, search)
         }
         Capacity::Sixteen => {
-            do_buffered::<16, _, _, _, _, _, _>(rt, command, streams, progress, search)
+            do_buffered::<16, _, _, _, _, _, _>(rt, command, written, streams, progress, search)
         }
     }
 }

@@ -5,6 +5,7 @@ use Rattle.engine_support.specs.Tests.{tests}
 use Rattle.engine_support.specs.inner.Making.{text_and_value}
 use Rattle.engine_support.proofs.InputLaws.{made_after, read_after, refused_after}
 use Rattle.certifying.specs.Answers.{IsCertificateAnswer}
+use Rattle.certifying.specs.Questions.{questions_by}
 use Rattle.certifying.specs.Inputs.{certificates}
 use Rattle.certifying.proofs.answering.made.Goals as goal
 
@@ -26,5 +27,6 @@ returns-clause-made g c =
     let listed = c.in_ok-listed.listed in
     read_after tests _ _ text_and_value c.answer.result test c.in_ok-test.ensures.test
     (read_after certificates _ _ text_and_value c.answer.result listed c.in_ok-listed.ensures
-    (made_after (IsCertificateAnswer (runs_of g.row.B g.row.M g.G.Rng.stream c.args.sample.now) test.opening listed) text_and_value
+    (made_after
+    (IsCertificateAnswer (runs_of g.row.B g.row.M g.G.Rng.stream c.args.sample.now) (questions_by c.args.asked) test.opening listed) text_and_value
     c.answer.result c.answer.ensures))

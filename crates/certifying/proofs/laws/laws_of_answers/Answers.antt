@@ -7,6 +7,11 @@ returns-clause-promised c = answers.promised (record {
   all_owned = c.laws_of_flaws.ensures.loads;
   every_run = λ o listed accepted B M. c.laws_of_queue_certificates.ensures.every_run B M o listed accepted;
   reads_owned = c.laws_of_queue_certificates.ensures.reads_owned;
+  asked = record {
+    written = λ B M o listed accepted. c.laws_of_written_records.ensures.shown B M o listed accepted;
+    never_stopped = c.laws_of_hart_safety.ensures.never_stopped;
+    written_within = c.laws_of_hart_safety.ensures.written_within;
+  };
   drawn = record { none = c.laws_of_violations.ensures.none; apart = c.laws_of_judged_runs.ensures.apart };
 })
 

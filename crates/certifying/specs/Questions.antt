@@ -1,0 +1,12 @@
+-- What is asked of a certificate besides the protocol.
+use Rattle.std.specs.Prelude.{ℕ, Bool, List, Option, option_map}
+use Rattle.certifying.specs.declared.questions.Questions.{Questions as GivenQuestions}
+
+-- which bytes of each record its sender is to write, by a text, if that is asked; and whether it is asked if each hart is never stopped, and
+-- which bytes it writes
+pub record Questions : Type 0 where
+  pub written : Option (List ℕ)
+  pub harts : Bool
+
+abbrev pub questions_by : GivenQuestions → Questions
+questions_by asked = record { written = option_map (λ bytes. bytes.now) asked.written; harts = asked.harts }

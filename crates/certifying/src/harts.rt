@@ -1,0 +1,207 @@
+//! Whether harts are never stopped, and which bytes they write.
+
+ghost use Rattle.std.specs.Prelude.{◌≡◌, ◌++◌, IfOk, OnOk, map, true};
+ghost use Rattle.std.specs.String.{string_bytes};
+ghost use Rattle.record_bytes.specs.declared.ranges.ByteRange.{ByteRange};
+ghost use Rattle.hart_safety.specs.declared.regions.Region.{Region};
+ghost use Rattle.certifying.specs.Harts.{anywhere_front, anywhere_line, hart_lines, harts_lines, harts_safe, is_safe, never_line, nothing_written};
+ghost use Rattle.certifying.specs.Harts.{only_end, range_of_region, regions_line, stop_front, stop_line, writes_front, writes_line};
+
+use crate::byte_texts::push_bytes;
+use crate::unread::push_pc_place;
+use crate::unused::number_of;
+use hart_safety::{Region, first_stop, first_unbounded, regions_written};
+use known_values::Lack;
+use queue_checker::QueueCertificate;
+use record_bytes::ByteRange;
+use std::alloc::{AllocError, Global};
+use step_machine::Opening;
+
+/// The lines of harts, and whether all of it is shown.
+#[derive(Drop)]
+pub struct HartsTold {
+    pub lines: String,
+    pub safe: bool,
+}
+
+#[tactic(auto, unfolding(crate::specs::Harts::never_line))]
+fn push_never(out: &mut String, hart: u32) -> Result<(), AllocError>
+    ensures { OnOk result (string_bytes out.new ≡ string_bytes out.old ++ never_line hart) }
+{
+    writeln!(out, "hart {hart}: never stopped")
+}
+
+#[tactic(auto, unfolding(crate::specs::Harts::stop_front))]
+fn push_stop_front(out: &mut String, hart: u32) -> Result<(), AllocError>
+    ensures { OnOk result (string_bytes out.new ≡ string_bytes out.old ++ stop_front hart) }
+{
+    write!(out, "hart {hart}: not shown that it is never stopped: ")
+}
+
+/// The line of whether a hart is stopped, of which this is the first state that isn't shown to go on.
+fn push_stop(
+    out: &mut String,
+    opening: &Opening,
+    certificate: &QueueCertificate,
+    hart: u32,
+    stop: Option<u32>,
+) -> Result<(), AllocError>
+    ensures { OnOk result (string_bytes out.new ≡ string_bytes out.old ++ stop_line opening.now certificate.now hart stop) }
+{
+    match stop {
+        None => push_never(out, hart),
+        Some(state) => {
+            push_stop_front(out, hart)?;
+            push_pc_place(out, opening, certificate, hart, state)?;
+            writeln!(out, "")
+        }
+    }
+}
+
+fn ranges_of_regions(alloc: Global, regions: &[Region]) -> Result<Vec<ByteRange>, AllocError>
+    ensures { IfOk result (λ ranges. ranges.items ≡ map range_of_region regions.now) }
+{
+    let mut ranges = Vec::new(alloc);
+    for region in regions {
+        ranges.push(ByteRange {
+            first: region.from,
+            last: region.to,
+        })?;
+    }
+    Ok(ranges)
+}
+
+#[tactic(auto, unfolding(crate::specs::Harts::nothing_written))]
+fn push_nothing(out: &mut String, hart: u32) -> Result<(), AllocError>
+    ensures { OnOk result (string_bytes out.new ≡ string_bytes out.old ++ nothing_written hart) }
+{
+    writeln!(out, "hart {hart}: writes nothing")
+}
+
+#[tactic(auto, unfolding(crate::specs::Harts::writes_front))]
+fn push_writes_front(out: &mut String, hart: u32) -> Result<(), AllocError>
+    ensures { OnOk result (string_bytes out.new ≡ string_bytes out.old ++ writes_front hart) }
+{
+    write!(out, "hart {hart}: writes ")
+}
+
+#[tactic(auto, unfolding(crate::specs::Harts::only_end))]
+fn push_only(out: &mut String) -> Result<(), AllocError>
+    ensures { OnOk result (string_bytes out.new ≡ string_bytes out.old ++ only_end) }
+{
+    writeln!(out, " of memory only")
+}
+
+/// The line of the bytes that a hart writes.
+fn push_ranges(out: &mut String, hart: u32, ranges: &[ByteRange]) -> Result<(), AllocError>
+    ensures { OnOk result (string_bytes out.new ≡ string_bytes out.old ++ regions_line hart ranges.now) }
+{
+    if ranges.is_empty() {
+        return push_nothing(out, hart);
+    }
+    push_writes_front(out, hart)?;
+    push_bytes(out, ranges)?;
+    push_only(out)
+}
+
+#[tactic(auto, unfolding(crate::specs::Harts::anywhere_front))]
+fn push_anywhere_front(out: &mut String, hart: u32) -> Result<(), AllocError>
+    ensures { OnOk result (string_bytes out.new ≡ string_bytes out.old ++ anywhere_front hart) }
+{
+    write!(out, "hart {hart}: not shown which bytes it writes: ")
+}
+
+fn push_anywhere(
+    out: &mut String,
+    opening: &Opening,
+    certificate: &QueueCertificate,
+    hart: u32,
+    state: u32,
+) -> Result<(), AllocError>
+    ensures { OnOk result (string_bytes out.new ≡ string_bytes out.old ++ anywhere_line opening.now certificate.now hart state) }
+{
+    push_anywhere_front(out, hart)?;
+    push_pc_place(out, opening, certificate, hart, state)?;
+    writeln!(out, "")
+}
+
+/// The line of where a hart writes, of which this is the first state with a store that may go anywhere.
+fn push_writes(
+    alloc: Global,
+    out: &mut String,
+    opening: &Opening,
+    certificate: &QueueCertificate,
+    hart: u32,
+    unbounded: Option<u32>,
+) -> Result<(), Lack>
+    ensures { OnOk result (string_bytes out.new ≡ string_bytes out.old ++ writes_line opening.now certificate.now hart unbounded) }
+{
+    match unbounded {
+        None => {
+            let regions = regions_written(alloc, opening, certificate, hart)?;
+            let ranges = ranges_of_regions(alloc, &regions)?;
+            Ok(push_ranges(out, hart, &ranges)?)
+        }
+        Some(state) => Ok(push_anywhere(out, opening, certificate, hart, state)?),
+    }
+}
+
+/// Appends the lines of a hart, and tells whether both are shown.
+#[tactic(auto, unfolding(crate::specs::Harts::hart_lines, crate::specs::Harts::is_safe))]
+fn push_hart(
+    alloc: Global,
+    out: &mut String,
+    opening: &Opening,
+    certificate: &QueueCertificate,
+    words: u64,
+    hart: u32,
+) -> Result<bool, Lack>
+    ensures lines { OnOk result (string_bytes out.new ≡ string_bytes out.old ++ hart_lines words opening.now certificate.now hart) }
+    ensures safe { IfOk result (λ safe. safe ≡ is_safe words opening.now certificate.now hart) }
+{
+    let stop = first_stop(alloc, opening, certificate, words, hart)?;
+    let unbounded = first_unbounded(alloc, opening, certificate, hart)?;
+    push_stop(out, opening, certificate, hart, stop)?;
+    push_writes(alloc, out, opening, certificate, hart, unbounded)?;
+    Ok(stop.is_none() && unbounded.is_none())
+}
+
+fn all_told(
+    alloc: Global,
+    opening: &Opening,
+    certificate: &QueueCertificate,
+    words: u64,
+) -> Result<HartsTold, Lack>
+    ensures lines { IfOk result (λ told. string_bytes told.lines ≡ harts_lines words opening.now certificate.now true) }
+    ensures safe { IfOk result (λ told. told.safe ≡ harts_safe words opening.now certificate.now true) }
+{
+    let mut lines = String::new(alloc);
+    let mut safe = true;
+    for (place, _start) in opening.harts.iter().enumerate() {
+        let hart = number_of(place)?;
+        let shown = push_hart(alloc, &mut lines, opening, certificate, words, hart)?;
+        safe = shown && safe;
+    }
+    Ok(HartsTold { lines, safe })
+}
+
+/// The lines of the harts, if they are asked about, on machines with `words` words of memory.
+pub fn harts_told(
+    alloc: Global,
+    opening: &Opening,
+    certificate: &QueueCertificate,
+    words: u64,
+    asked: bool,
+) -> Result<HartsTold, Lack>
+    ensures lines { IfOk result (λ told. string_bytes told.lines ≡ harts_lines words opening.now certificate.now asked) }
+    ensures safe { IfOk result (λ told. told.safe ≡ harts_safe words opening.now certificate.now asked) }
+{
+    if asked {
+        all_told(alloc, opening, certificate, words)
+    } else {
+        Ok(HartsTold {
+            lines: String::new(alloc),
+            safe: true,
+        })
+    }
+}

@@ -1,0 +1,10 @@
+//! What may be asked of a certificate besides the protocol.
+
+/// What is asked of a certificate besides the protocol.
+#[derive(Clone, Copy)]
+pub struct Questions<'a> {
+    /// Which bytes of each record its sender is to write, as [`record_bytes::is_bytes`] takes them; `None` where that isn't asked.
+    pub written: Option<&'a str>,
+    /// Whether it is asked if each hart is never stopped, and which bytes it writes.
+    pub harts: bool,
+}

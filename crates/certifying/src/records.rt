@@ -1,0 +1,266 @@
+//! Whether the senders of queues write bytes of their records.
+
+ghost use Rattle.std.specs.Prelude.{◌≡◌, ◌<◌, ◌++◌, IfOk, OnOk, length, option_map};
+ghost use Rattle.std.specs.List.{list_all};
+ghost use Rattle.std.specs.String.{string_bytes};
+ghost use Rattle.engine_support.specs.OpeningTexts.{numbered};
+ghost use Rattle.record_bytes.specs.declared.ranges.ByteRange.{ByteRange};
+ghost use Rattle.record_bytes.specs.Ranges.{byte_ranges};
+ghost use Rattle.records_written.specs.declared.finding.Unwritten.{Unwritten};
+ghost use Rattle.certifying.specs.Records.{AreFoundFor, AreFoundFrom, IsFound, questions_bytes, is_shown, none_line, of_each, record_line};
+ghost use Rattle.certifying.specs.Records.{record_lines, records_front, shown_end, unshown_front, unwritten_end, written_text};
+
+use crate::byte_texts::{is_one_byte, push_bytes};
+use crate::unread::push_pc_place;
+use crate::unused::number_of;
+use known_values::Lack;
+use known_values::queues::queue_in;
+use queue_checker::QueueCertificate;
+use record_bytes::{ByteRange, byte_ranges, offsets_in};
+use records_written::{Unwritten, first_unwritten};
+use std::alloc::{AllocError, Global};
+use step_machine::Opening;
+
+/// What is found of the bytes that are asked of a queue's records.
+#[derive(Clone, Copy)]
+pub enum Records {
+    /// The records have none of these bytes.
+    NoBytes,
+    /// The sender writes each of them, in each record.
+    Shown,
+    /// This isn't shown.
+    NotShown(Unwritten),
+}
+
+/// The bytes that are asked of a queue's records, by their offsets.
+fn questions_bytes(
+    alloc: Global,
+    certificate: &QueueCertificate,
+    bytes: &str,
+    index: u32,
+) -> Result<Vec<u64>, AllocError>
+    ensures { IfOk result (λ mask. mask.items ≡ questions_bytes certificate.now bytes.now index) }
+{
+    let width = queue_in(&certificate.queues, index).width;
+    offsets_in(alloc, bytes, u64::from(width))
+}
+
+/// What is found of these bytes.
+fn found_of(
+    alloc: Global,
+    opening: &Opening,
+    certificate: &QueueCertificate,
+    index: u32,
+    mask: &[u64],
+) -> Result<Records, Lack>
+    ensures { IfOk result (IsFound opening.now certificate.now index mask.now) }
+{
+    if mask.is_empty() {
+        return Ok(Records::NoBytes);
+    }
+    match first_unwritten(alloc, opening, certificate, index, mask)? {
+        None => Ok(Records::Shown),
+        Some(unwritten) => Ok(Records::NotShown(unwritten)),
+    }
+}
+
+/// What is found of the bytes that are asked of a queue's records.
+fn found_at(
+    alloc: Global,
+    opening: &Opening,
+    certificate: &QueueCertificate,
+    bytes: &str,
+    index: u32,
+) -> Result<Records, Lack>
+    ensures { IfOk result (IsFound opening.now certificate.now index (questions_bytes certificate.now bytes.now index)) }
+{
+    let mask = questions_bytes(alloc, certificate, bytes, index)?;
+    found_of(alloc, opening, certificate, index, &mask)
+}
+
+fn found_in(
+    alloc: Global,
+    opening: &Opening,
+    certificate: &QueueCertificate,
+    bytes: &str,
+) -> Result<Vec<Records>, Lack>
+    ensures count { IfOk result (λ found. length found.items ≡ length certificate.now.queues) }
+    ensures found { IfOk result (λ found. AreFoundFrom opening.now certificate.now bytes.now 0 found.items) }
+{
+    let mut found = Vec::new(alloc);
+    for index in 0..number_of(certificate.queues.len())? {
+        found.push(found_at(alloc, opening, certificate, bytes, index)?)?;
+    }
+    Ok(found)
+}
+
+/// What is found of the bytes that are asked of each queue's records; nothing where none is asked.
+pub fn found_for(
+    alloc: Global,
+    opening: &Opening,
+    certificate: &QueueCertificate,
+    written: Option<&str>,
+) -> Result<Vec<Records>, Lack>
+    ensures { IfOk result (λ found. AreFoundFor opening.now certificate.now (option_map (λ bytes. bytes.now) written.entry) found.items) }
+{
+    match written {
+        None => Ok(Vec::new(alloc)),
+        Some(bytes) => found_in(alloc, opening, certificate, bytes),
+    }
+}
+
+/// Whether it is shown that the bytes are written.
+fn is_shown(records: Records) -> bool
+    ensures { result ≡ is_shown records }
+{
+    match records {
+        Records::NoBytes => false,
+        Records::Shown => true,
+        Records::NotShown(_) => false,
+    }
+}
+
+/// Whether that is shown of all.
+pub fn are_shown(found: &[Records]) -> bool
+    ensures { result ≡ list_all is_shown found.now }
+{
+    found.iter().all(|records| is_shown(*records))
+}
+
+// ---- lines
+
+fn push_of_each(out: &mut String, one: bool) -> Result<(), AllocError>
+    ensures { OnOk result (string_bytes out.new ≡ string_bytes out.old ++ of_each one) }
+{
+    if one {
+        out.push_str(" of each record is written")
+    } else {
+        out.push_str(" of each record are written")
+    }
+}
+
+fn push_written(out: &mut String, ranges: &[ByteRange]) -> Result<(), AllocError>
+    ensures { OnOk result (string_bytes out.new ≡ string_bytes out.old ++ written_text ranges.now) }
+{
+    push_bytes(out, ranges)?;
+    push_of_each(out, is_one_byte(ranges))
+}
+
+#[tactic(auto, unfolding(crate::specs::Records::none_line))]
+fn push_none(out: &mut String, index: u32) -> Result<(), AllocError>
+    ensures { OnOk result (string_bytes out.new ≡ string_bytes out.old ++ none_line index) }
+{
+    writeln!(out, "queue {index}: its records have none of these bytes")
+}
+
+#[tactic(auto, unfolding(crate::specs::Records::records_front))]
+fn push_front(out: &mut String, index: u32) -> Result<(), AllocError>
+    ensures { OnOk result (string_bytes out.new ≡ string_bytes out.old ++ records_front index) }
+{
+    write!(out, "queue {index}: ")
+}
+
+#[tactic(auto, unfolding(crate::specs::Records::shown_end))]
+fn push_shown_end(out: &mut String) -> Result<(), AllocError>
+    ensures { OnOk result (string_bytes out.new ≡ string_bytes out.old ++ shown_end) }
+{
+    writeln!(out, " after the record before in its slot was published")
+}
+
+#[tactic(auto, unfolding(crate::specs::Records::unshown_front))]
+fn push_unshown_front(out: &mut String, index: u32) -> Result<(), AllocError>
+    ensures { OnOk result (string_bytes out.new ≡ string_bytes out.old ++ unshown_front index) }
+{
+    write!(out, "queue {index}: not shown that ")
+}
+
+fn push_unwritten(
+    out: &mut String,
+    opening: &Opening,
+    certificate: &QueueCertificate,
+    index: u32,
+    unwritten: Unwritten,
+) -> Result<(), AllocError>
+    ensures { OnOk result (string_bytes out.new ≡ string_bytes out.old ++ unwritten_end opening.now certificate.now index unwritten) }
+{
+    let Unwritten { state, byte } = unwritten;
+    let hart = queue_in(&certificate.queues, index).sender;
+    write!(out, ": byte {byte}, hart {hart}, ")?;
+    push_pc_place(out, opening, certificate, hart, state)?;
+    writeln!(out, "")
+}
+
+/// The line of what is found of a queue's records, of these bytes.
+fn push_record(
+    out: &mut String,
+    opening: &Opening,
+    certificate: &QueueCertificate,
+    index: u32,
+    ranges: &[ByteRange],
+    records: Records,
+) -> Result<(), AllocError>
+    ensures { OnOk result (string_bytes out.new ≡ string_bytes out.old ++ record_line opening.now certificate.now index ranges.now records) }
+{
+    match records {
+        Records::NoBytes => push_none(out, index),
+        Records::Shown => {
+            push_front(out, index)?;
+            push_written(out, ranges)?;
+            push_shown_end(out)
+        }
+        Records::NotShown(unwritten) => {
+            push_unshown_front(out, index)?;
+            push_written(out, ranges)?;
+            push_unwritten(out, opening, certificate, index, unwritten)
+        }
+    }
+}
+
+fn asked_ranges(
+    alloc: Global,
+    certificate: &QueueCertificate,
+    bytes: &str,
+    index: u32,
+) -> Result<Vec<ByteRange>, AllocError>
+    ensures { IfOk result (λ ranges. ranges.items ≡ byte_ranges (questions_bytes certificate.now bytes.now index)) }
+{
+    let mask = questions_bytes(alloc, certificate, bytes, index)?;
+    byte_ranges(alloc, &mask)
+}
+
+fn push_found(
+    alloc: Global,
+    out: &mut String,
+    opening: &Opening,
+    certificate: &QueueCertificate,
+    bytes: &str,
+    found: &[Records],
+) -> Result<(), Lack>
+    ensures { OnOk result (string_bytes out.new ≡ string_bytes out.old
+        ++ numbered (λ i. record_line opening.now certificate.now i (byte_ranges (questions_bytes certificate.now bytes.now i))) 0 found.now) }
+{
+    for (place, records) in found.iter().enumerate() {
+        let index = number_of(place)?;
+        let ranges = asked_ranges(alloc, certificate, bytes, index)?;
+        push_record(out, opening, certificate, index, &ranges, *records)?;
+    }
+    Ok(())
+}
+
+/// The lines of what is found of records, if that is asked.
+pub fn push_records(
+    alloc: Global,
+    out: &mut String,
+    opening: &Opening,
+    certificate: &QueueCertificate,
+    written: Option<&str>,
+    found: &[Records],
+) -> Result<(), Lack>
+    ensures { OnOk result (string_bytes out.new ≡ string_bytes out.old
+        ++ record_lines opening.now certificate.now (option_map (λ bytes. bytes.now) written.entry) found.now) }
+{
+    match written {
+        None => Ok(()),
+        Some(bytes) => push_found(alloc, out, opening, certificate, bytes, found),
+    }
+}

@@ -1,0 +1,224 @@
+//! Whether a certificate shows with its marks that records are written.
+
+ghost use Rattle.std.specs.Prelude.{◌≡◌, ◌<◌, IfOk, length, get_or, [], false};
+ghost use Rattle.queue_certificates.specs.Steps.{all_below};
+ghost use Rattle.queue_certificates.specs.Certificates.{part_of, state_at};
+ghost use Rattle.queue_checker.specs.Flaws.{hart_at};
+ghost use Rattle.records_written.specs.Marks.{its_sender, has_mark_after, are_so, arrows_keep, effect_keeps, keeps_marks, shows_written};
+
+use crate::effect::Effect;
+use crate::effects::effect_of;
+use crate::keeping::{are_so, may_publish};
+use crate::marking::StateMarks;
+use known_values::Lack;
+use known_values::queues::queue_in;
+use queue_checker::closing::{goes_beyond, with_high, with_low};
+use queue_checker::owning::code_of;
+use queue_checker::sites::{listed_states, small};
+use queue_checker::steps::instruction_at;
+use queue_checker::{Arrow, CaseNode, Cases, KnownState, QueueCertificate};
+use std::alloc::Global;
+use step_machine::Opening;
+
+/// Whether the marks of this state, if it has any, are so after an effect.
+fn target_keeps(
+    marks: &[StateMarks],
+    to: u32,
+    own: &StateMarks,
+    effect: Effect,
+) -> Result<bool, Lack>
+    ensures { IfOk result (λ keeps. keeps ≡ are_so (get_or marks.now to []) (has_mark_after own.now effect)) }
+{
+    match marks.get(to as usize) {
+        Some(target) => are_so(target, own, effect),
+        None => Ok(true),
+    }
+}
+
+/// Whether the marks of each arrow's state are so after an effect.
+fn arrows_keep(
+    marks: &[StateMarks],
+    own: &StateMarks,
+    effect: Effect,
+    mut arrows: &[Arrow],
+) -> Result<bool, Lack>
+    ensures { IfOk result (λ keep. keep ≡ arrows_keep marks.now arrows.now (has_mark_after own.now effect)) }
+{
+    'arrows: loop {
+        match arrows {
+            [] => return Ok(true),
+            [arrow, others @ ..] => {
+                if !target_keeps(marks, arrow.to, own, effect)? {
+                    return Ok(false);
+                }
+                arrows = others;
+            }
+        }
+    }
+}
+
+/// Whether an effect is allowed, and leads into marks that are so.
+fn effect_keeps(
+    mask: &[u64],
+    marks: &[StateMarks],
+    own: &StateMarks,
+    arrows: &[Arrow],
+    effect: Option<Effect>,
+) -> Result<bool, Lack>
+    ensures { IfOk result (λ keeps. keeps ≡ effect_keeps mask.now marks.now own.now arrows.now effect) }
+{
+    match effect {
+        None => Ok(false),
+        Some(effect) => {
+            let keep = arrows_keep(marks, own, effect, arrows)?;
+            Ok(may_publish(mask, own, effect) && keep)
+        }
+    }
+}
+
+/// Whether that holds of a state with these marks of its own, by these cases.
+fn keeps_marks(
+    alloc: Global,
+    certificate: &QueueCertificate,
+    i: u32,
+    code: &[u32],
+    mask: &[u64],
+    marks: &[StateMarks],
+    own: &StateMarks,
+    state: &KnownState,
+    cases: &Cases,
+) -> Result<bool, Lack>
+    ensures { IfOk result (λ keeps. keeps ≡ keeps_marks certificate.now i code.now mask.now marks.now own.now state.now cases.now) }
+{
+    match &cases.node {
+        CaseNode::Leaf(handed, arrows) => {
+            let instruction = instruction_at(code, state.pc);
+            let effect = effect_of(alloc, certificate, i, state, handed, instruction)?;
+            effect_keeps(mask, marks, own, arrows, effect)
+        }
+        CaseNode::Split(variable, most, low, high) => {
+            let below = with_low(alloc, state, *variable, *most)?;
+            let holds = keeps_marks(alloc, certificate, i, code, mask, marks, own, &below, low)?;
+            if holds {
+                if goes_beyond(state, *variable, *most) {
+                    let above = with_high(alloc, state, *variable, *most)?;
+                    keeps_marks(alloc, certificate, i, code, mask, marks, own, &above, high)
+                } else {
+                    Ok(true)
+                }
+            } else {
+                Ok(false)
+            }
+        }
+    }
+}
+
+/// Whether that holds of the sender's state `n`.
+fn state_keeps(
+    alloc: Global,
+    opening: &Opening,
+    certificate: &QueueCertificate,
+    i: u32,
+    mask: &[u64],
+    marks: &[StateMarks],
+    n: u32,
+) -> Result<bool, Lack>
+    requires { n < length (part_of certificate.now (its_sender certificate.now i)).states }
+    ensures { IfOk result (λ keeps. keeps ≡ keeps_marks certificate.now i (hart_at opening.now (its_sender certificate.now i)).code mask.now marks.now
+        (get_or marks.now n []) (state_at certificate.now (its_sender certificate.now i) n).known (state_at certificate.now (its_sender
+        certificate.now i) n).cases) }
+{
+    let hart = queue_in(&certificate.queues, i).sender;
+    let code = code_of(opening, hart);
+    let listed = &listed_states(certificate, hart)[n as usize];
+    let state = &listed.known;
+    let cases = &listed.cases;
+    match marks.get(n as usize) {
+        Some(own) => keeps_marks(alloc, certificate, i, code, mask, marks, own, state, cases),
+        None => {
+            let none = unmarked(alloc);
+            keeps_marks(
+                alloc,
+                certificate,
+                i,
+                code,
+                mask,
+                marks,
+                &none,
+                state,
+                cases,
+            )
+        }
+    }
+}
+
+/// No byte is marked.
+fn unmarked(alloc: Global) -> StateMarks
+    ensures { result ≡ [] }
+{
+    StateMarks {
+        slots: Vec::new(alloc),
+    }
+}
+
+/// Whether that holds of each of the sender's states.
+fn states_keep(
+    alloc: Global,
+    opening: &Opening,
+    certificate: &QueueCertificate,
+    i: u32,
+    mask: &[u64],
+    marks: &[StateMarks],
+) -> Result<bool, Lack>
+    ensures { IfOk result (λ keep. keep ≡ all_below (length (part_of certificate.now (its_sender certificate.now i)).states) (λ n. keeps_marks
+        certificate.now i (hart_at opening.now (its_sender certificate.now i)).code mask.now marks.now (get_or marks.now n []) (state_at certificate.now
+        (its_sender certificate.now i) n).known (state_at certificate.now (its_sender certificate.now i) n).cases)) }
+{
+    let hart = queue_in(&certificate.queues, i).sender;
+    let mut all = true;
+    for n in 0..small(listed_states(certificate, hart).len())? {
+        all = state_keeps(alloc, opening, certificate, i, mask, marks, n)? && all;
+    }
+    Ok(all)
+}
+
+/// The number of the state in which the sender opens.
+pub(crate) fn first_state(certificate: &QueueCertificate, i: u32) -> u32
+    ensures { result ≡ (part_of certificate.now (its_sender certificate.now i)).first }
+{
+    let hart = queue_in(&certificate.queues, i).sender;
+    match certificate.harts.get(hart as usize) {
+        Some(part) => part.first,
+        None => 0,
+    }
+}
+
+/// Whether no byte is marked where the sender opens.
+fn opens_unmarked(
+    alloc: Global,
+    certificate: &QueueCertificate,
+    i: u32,
+    marks: &[StateMarks],
+) -> Result<bool, Lack>
+    ensures { IfOk result (λ opens. opens ≡ are_so (get_or marks.now (part_of certificate.now (its_sender certificate.now i)).first []) (λ d b. false)) }
+{
+    // after this effect nothing is marked
+    let effect = Effect::PublishesSome(0);
+    target_keeps(marks, first_state(certificate, i), &unmarked(alloc), effect)
+}
+
+/// Whether the certificate shows, with these marks of the states of queue `i`'s sender, that it writes the bytes of the mask of each record.
+pub fn shows_written(
+    alloc: Global,
+    opening: &Opening,
+    certificate: &QueueCertificate,
+    i: u32,
+    mask: &[u64],
+    marks: &[StateMarks],
+) -> Result<bool, Lack>
+    ensures { IfOk result (λ shows. shows ≡ shows_written opening.now certificate.now i mask.now marks.now) }
+{
+    let opens = opens_unmarked(alloc, certificate, i, marks)?;
+    let keep = states_keep(alloc, opening, certificate, i, mask, marks)?;
+    Ok(opens && keep)
+}
