@@ -1,6 +1,7 @@
 -- What a hart reads at each byte, and what an access of its own makes of that.
 use Rattle.std.specs.Prelude.{ℕ, ◌≡◌, ◌+◌, List}
 use Rattle.memory.specs.Writes.{write, byte_after, joined}
+use Rattle.queue_parties.specs.Positions.{IsInBytes}
 use Rattle.step_machine.specs.Access.{Access, load, store, exchange}
 use Rattle.step_machine.specs.History.{OpeningValue}
 use Rattle.step_machine.specs.Entries.{read_byte}
@@ -21,6 +22,12 @@ abbrev pub ReadsFrom : View → Access → Type 0
 ReadsFrom m (load a width v) = v ≡ number_seen m a width
 ReadsFrom m (exchange a old new) = old ≡ number_seen m a 4
 ReadsFrom m other = Unit {0}
+
+-- an access loads the byte at x
+abbrev pub LoadsByte : Access → (x : ℕ) → Type 0
+LoadsByte (load a width v) x = IsInBytes a width x
+LoadsByte (exchange a old new) x = IsInBytes a 4 x
+LoadsByte other x = ⊥
 
 abbrev pub byte_then : Access → (x b : ℕ) → ℕ
 byte_then (store w) x b = byte_after w x b

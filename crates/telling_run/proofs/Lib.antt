@@ -1,0 +1,5 @@
+pub mod Tags
+pub mod Protocol
+pub mod Accesses
+pub mod Arrived
+pub mod EveryRun
