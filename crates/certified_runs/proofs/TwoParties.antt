@@ -15,7 +15,7 @@ use Rattle.queue_parties.proofs.Parties.{Whose, mine, theirs, whose, two, counts
 use Rattle.certified_runs.specs.Views.{View, view_of}
 use Rattle.certified_runs.specs.Certified.{Acts, IsCertified}
 use Rattle.certified_runs.specs.TwoParties.{TwoPartyProtocol, party_in, hart_in, IsSameFor, AllCounts, all_of, next_by, counts_in, KeepsProtocol, EachIs}
-use Rattle.certified_runs.proofs.Every.{IsCounted, Holds, holds, holds_first, each_from, may, acts, state_known}
+use Rattle.certified_runs.proofs.Every.{IsCounted, Holds, holds, holds_first, each_from, acts, state_known}
 
 -- what an access of one party leaves, and what a third hart's and a landing
 pub record IsOfParties (q : TwoPartyProtocol) : Type 0 where
@@ -117,8 +117,10 @@ module _ (B M : ℕ) (o : OpeningValue) (N : ℕ) (queues : ℕ → TwoPartyProt
 
   -- what the sets say of a hart's accesses, by the counts of one queue, is so of each in every run
   module _ (i h : ℕ) (Is : QueueCounts → Access → Type 0) (lands : (d : QueueCounts) → Is d land)
-      (each : (s : HartState) (m : View) (cs : AllCounts) (e : Entry) → P h s m cs → Acts M o h s m e → (all_of N queues).Knows h cs m → Is (cs i) (access_of e)) where
-    is_next : (done : List Entry) (e : Entry) → WellFormed B M (history_of o (done ++ e ∷ [])) → HoldsAt done → hart_of e ≡ h → Is (Counted done i) (access_of e)
+      (each : (s : HartState) (m : View) (cs : AllCounts) (e : Entry) → P h s m cs → Acts M o h s m e
+      → (all_of N queues).Knows h cs m → Is (cs i) (access_of e)) where
+    is_next : (done : List Entry) (e : Entry) → WellFormed B M (history_of o (done ++ e ∷ [])) → HoldsAt done
+        → hart_of e ≡ h → Is (Counted done i) (access_of e)
     is_next done e run w here = by (is_land e) refl
       where
         by : (l : Bool) → is_land e ≡ l → Is (Counted done i) (access_of e)

@@ -1,6 +1,6 @@
 -- What single accesses of a party come to: the queue's side of a checker's transfer. The hart's side is what its instruction wants and
 -- leaves.
-use Rattle.std.proofs.Common.{ℕ, ◌+◌, ◌-◌, ◌%◌, ◌^◌, ◌<◌, ◌≤◌, ◌≡◌, inl, inr, Bool, true, false, if◌then◌else◌, sym, ◌∙◌, ap, arith}
+use Rattle.std.proofs.Common.{ℕ, ◌+◌, ◌-◌, ◌%◌, ◌^◌, ◌<◌, ◌≤◌, ◌≡◌, inl, inr, true, false, if◌then◌else◌, sym, ◌∙◌, ap, arith}
 use Rattle.memory.specs.declared.writes.Write.{Write}
 use Rattle.memory.proofs.Bytes.{covers-from}
 use Rattle.queue_parties.specs.Parties.{Party, other, QueueCounts, count, known, with_known}

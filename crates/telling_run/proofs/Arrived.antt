@@ -1,5 +1,6 @@
 -- Each byte of a slot that the receiver owns waited or was sent, and a load that tells the receiver of a position makes it own that.
-use Rattle.std.proofs.Common.{ℕ, ◌+◌, ◌-◌, ◌%◌, ◌<◌, ◌≤◌, ◌≡◌, ◌⊎◌, inl, inr, Bool, true, false, if◌then◌else◌, List, [], ◌∷◌, ◌++◌, Some, refl, sym, ◌∙◌, ap, subst, arith}
+use Rattle.std.proofs.Common.{ℕ, ◌+◌, ◌<◌, ◌≤◌, ◌≡◌, ◌⊎◌, inl, inr, Bool, true, false, if◌then◌else◌, List, [], ◌∷◌}
+use Rattle.std.proofs.Common.{◌++◌, Some, refl, sym, ◌∙◌, ap, subst, arith}
 use Rattle.std.proofs.lemmas.Bool.{cases_lt}
 use Rattle.step_machine.specs.declared.events.Entry.{Entry}
 use Rattle.step_machine.specs.History.{OpeningValue}
@@ -8,9 +9,8 @@ use Rattle.step_machine.specs.Entries.{hart_of, is_land, pending, read_byte, rea
 use Rattle.step_machine.specs.Legal.{AllowedBy}
 use Rattle.step_machine.proofs.Appended.{LegalAfter-back}
 use Rattle.memory.proofs.Bytes.{joined-same}
-use Rattle.store_buffers.specs.StoreBuffers.{LeavesByteAt}
 use Rattle.store_buffers.proofs.OwnEntries.{land_is}
-use Rattle.queue_parties.specs.Parties.{the_sender, the_receiver, count, with_known, QueueCounts, IsWindow}
+use Rattle.queue_parties.specs.Parties.{the_sender, the_receiver, count, QueueCounts, IsWindow}
 use Rattle.queue_parties.proofs.Parties.{Passed, Whose, mine, theirs, whose, counts-append}
 use Rattle.queue_parties.proofs.Records.{passed}
 use Rattle.certified_runs.specs.Views.{byte_then}

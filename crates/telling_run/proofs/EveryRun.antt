@@ -14,7 +14,7 @@ use Rattle.certified_runs.specs.Views.{View, view_of, LoadsByte}
 use Rattle.certified_runs.specs.Certified.{IsCertified}
 use Rattle.certified_runs.specs.TwoParties.{AllCounts, EachIs}
 use Rattle.certified_runs.proofs.TwoParties as two_parties
-use Rattle.slots_that_tell.specs.Slots.{Slots, IsSlots, RestsAt}
+use Rattle.slots_that_tell.specs.Slots.{Slots}
 use Rattle.slots_that_tell.specs.Telling.{teller_hart, OwnsRest, KeepsTelling}
 use Rattle.slots_that_tell.specs.Laws.{FollowsTelling, counts}
 use Rattle.telling_run.specs.Certified.{SeesTags, telling, all_telling, OpenTellers, IsOfTag, LoadsRestOwned, RestLoadsAreOwned}

@@ -1,7 +1,7 @@
 -- What is asked of a certificate can be met by a queue that is used: for ever, by two harts, in place, through one slot of a word, which
 -- is 0 while it is free and 7 while it is full. Each loads it until it owns it, and stores there what tells the other.
 use Rattle.std.proofs.Common.{ℕ, pos, negsuc, ◌+◌, ◌*◌, ◌%◌, ◌^◌, ◌<◌, ◌≤◌, ◌≡◌, ◌≢◌, ◌==◌, ◌⊎◌, inl, inr, Bool, true, false, if◌then◌else◌}
-use Rattle.std.proofs.Common.{List, [], ◌∷◌, length, Some, refl, sym, ◌∙◌, ap, subst, arith, add-zero}
+use Rattle.std.proofs.Common.{List, [], ◌∷◌, length, Some, refl, sym, ◌∙◌, ap, subst, arith}
 use Rattle.std.specs.Prelude.{map, slice_index}
 use Rattle.std.specs.List.{slice_get}
 use Rattle.std.proofs.lemmas.Bool.{cases_eq, eqb-true, eq-eqb}
@@ -29,7 +29,7 @@ use Rattle.queue_parties.proofs.Parties.{count-set-known}
 use Rattle.certified_runs.specs.Views.{View, ReadsFrom, number_seen}
 use Rattle.certified_runs.specs.Certified.{Acts, IsCertified}
 use Rattle.certified_runs.specs.TwoParties.{AllCounts}
-use Rattle.slots_that_tell.specs.Slots.{Slots, IsSlots, gap, tag_of}
+use Rattle.slots_that_tell.specs.Slots.{Slots, IsSlots, tag_of}
 use Rattle.slots_that_tell.specs.Telling.{teller_of, teller_hart, owned_end, told_access, after_load, TellsAccess}
 use Rattle.telling_run.specs.Certified.{TellsEither, SeesTags, all_telling, LoadsRestOwned, RestLoadsAreOwned}
 use Rattle.telling_run.proofs.Accesses.{knows_of, tag_loaded, told_owns, moves, loads_tag}

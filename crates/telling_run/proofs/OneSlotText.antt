@@ -1,5 +1,5 @@
 -- The same of a text of words: both harts, and the theorem of every run of it.
-use Rattle.std.proofs.Common.{ℕ, zero, suc, ◌*◌, ◌+◌, ◌<◌, ◌≤◌, ◌≡◌, ◌==◌, true, List, [], ◌∷◌, Some, refl, sym, ap, subst, arith}
+use Rattle.std.proofs.Common.{ℕ, zero, suc, ◌*◌, ◌≡◌, ◌==◌, true, List, [], ◌∷◌, Some, refl, sym, ap, subst, arith}
 use Rattle.std.specs.Prelude.{map, option_map}
 use Rattle.std.specs.List.{slice_get}
 use Rattle.std.proofs.lemmas.List.Elements.{All-nil}
@@ -19,7 +19,8 @@ use Rattle.slots_that_tell.specs.Telling.{teller_hart}
 use Rattle.slots_that_tell.specs.Laws.{FollowsTelling, counts}
 use Rattle.telling_run.specs.Certified.{telling, LoadsRestOwned}
 use Rattle.telling_run.proofs.EveryRun.{every_run, every_state, reads_owned}
-use Rattle.telling_run.proofs.OneSlot.{q, is_slots, tag_at, lines, Runs, register, Stands, at_0, at_1, at_2, at_3, Among, IsNobodys, one_slot_is_certified, one_slot_loads}
+use Rattle.telling_run.proofs.OneSlot.{q, is_slots, tag_at, lines, Runs, register, Stands, at_0, at_1, at_2, at_3}
+use Rattle.telling_run.proofs.OneSlot.{Among, IsNobodys, one_slot_is_certified, one_slot_loads}
 
 -- lw x1,0(x0); bne x1,x0,-4; sw x3,0(x0); jal x0,-12
 abbrev sender_text : HartOpeningValue

@@ -7,11 +7,11 @@ use Rattle.step_machine.specs.History.{OpeningValue}
 use Rattle.step_machine.specs.Access.{Access, nothing, load, store, exchange, fence, land}
 use Rattle.step_machine.specs.Entries.{read}
 use Rattle.queue_parties.specs.Parties.{Party, the_sender, the_receiver, other, QueueCounts, count, known, IsWindow}
-use Rattle.queue_parties.proofs.Parties.{twice, count-set-other, known-set-count, count-set-known, known-set-other}
+use Rattle.queue_parties.proofs.Parties.{twice, count-set-other, known-set-count, known-set-other}
 use Rattle.certified_runs.specs.Views.{view_of}
 use Rattle.certified_runs.proofs.TwoParties.{IsOfParties}
 use Rattle.slots_that_tell.specs.Slots.{Slots, IsSlots, gap, tag_of}
-use Rattle.slots_that_tell.specs.Telling.{teller_hart, owned_end, moved, after_load, after_store, told_access, TellsAccess}
+use Rattle.slots_that_tell.specs.Telling.{teller_hart, owned_end, moved, after_load, told_access, TellsAccess}
 use Rattle.slots_that_tell.specs.Laws.{FollowsTelling, counts}
 use Rattle.slots_that_tell.proofs.Looks.{false_tag}
 use Rattle.slots_that_tell.proofs.Owned.{loaded, loaded-count}

@@ -1,6 +1,6 @@
 -- The protocol of slots that tell as one that a certificate shows of single instructions, what a party may take for granted of the
 -- slots that it owns, and what is to be shown of its loads.
-use Rattle.std.specs.Prelude.{ℕ, ◌≡◌, ◌⊎◌, ◌+◌, ◌*◌, ◌<◌, ◌≤◌, true, [], Option}
+use Rattle.std.specs.Prelude.{ℕ, ◌≡◌, ◌⊎◌, ◌+◌, ◌*◌, ◌<◌, ◌≤◌, true, []}
 use Rattle.hart.specs.State.{HartState}
 use Rattle.step_machine.specs.declared.events.Entry.{Entry}
 use Rattle.step_machine.specs.Access.{Access, load, exchange, access_of}
@@ -8,7 +8,7 @@ use Rattle.step_machine.specs.History.{OpeningValue}
 use Rattle.queue_parties.specs.Positions.{IsInBytes}
 use Rattle.queue_parties.specs.Parties.{Party, other, QueueCounts, count}
 use Rattle.certified_runs.specs.Views.{View, number_seen}
-use Rattle.certified_runs.specs.Certified.{Protocol, Acts, IsCertified}
+use Rattle.certified_runs.specs.Certified.{Protocol, Acts}
 use Rattle.certified_runs.specs.TwoParties.{TwoPartyProtocol, AllCounts, all_of}
 use Rattle.slots_that_tell.specs.Slots.{Slots, IsSlots, RestsAt, gap, tag_of, IsTagByte}
 use Rattle.slots_that_tell.specs.Telling.{teller_hart, owned_end, OwnsRest, told_access, TellsAccess}
