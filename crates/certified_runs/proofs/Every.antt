@@ -179,6 +179,19 @@ module _ (B M : ℕ) (o : OpeningValue) (Counts : Type 0) (p : Protocol Counts) 
         alone = λ h x own. alone_next h x done e le (w.alone h x own) (off_others h x own);
       }
 
+    -- what the set says of its hart's accesses is so of this one
+    module _ (h : ℕ) (Is : Counts → Access → Type 0) (lands : (d : Counts) → Is d land)
+        (each : (s : HartState) (m : View) (d : Counts) (e : Entry) → P h s m d → Acts M o h s m e → p.Knows h d m → Is d (access_of e)) where
+      pub is_next : (done : List Entry) (e : Entry) → WellFormed B M (history_of o (done ++ e ∷ [])) → Holds done
+          → hart_of e ≡ h → Is (counted done) (access_of e)
+      is_next done e run w here = by (is_land e) refl
+        where
+          by : (l : Bool) → is_land e ≡ l → Is (counted done) (access_of e)
+          by true landed = subst (Is (counted done)) (sym (land_is (access_of e) landed)) (lands (counted done))
+          by false act =
+              let k = state_known done e run w h here in
+              each k.0 (view_of o done h) (counted done) e (w.within h k.0 k.1) (acts done e run w h k.0 here act k.1) (counts.knows h done w.kept)
+
     -- where the run begins
     pub holds_first : Holds []
     holds_first = record {

@@ -15,7 +15,7 @@ use Rattle.queue_parties.proofs.Parties.{Whose, mine, theirs, whose, two, counts
 use Rattle.certified_runs.specs.Views.{View, view_of}
 use Rattle.certified_runs.specs.Certified.{Acts, IsCertified}
 use Rattle.certified_runs.specs.TwoParties.{TwoPartyProtocol, party_in, hart_in, IsSameFor, AllCounts, all_of, next_by, counts_in, KeepsProtocol, EachIs}
-use Rattle.certified_runs.proofs.Every.{IsCounted, Holds, holds, holds_first, each_from, acts, state_known}
+use Rattle.certified_runs.proofs.Every.{IsCounted, Holds, holds, holds_first, each_from, is_next}
 
 -- what an access of one party leaves, and what a third hart's and a landing
 pub record IsOfParties (q : TwoPartyProtocol) : Type 0 where
@@ -70,7 +70,7 @@ module _ (B M : ℕ) (o : OpeningValue) (N : ℕ) (queues : ℕ → TwoPartyProt
     (is : (i : ℕ) → i < N → IsOfParties (queues i))
     (knows : (i : ℕ) → i < N → (done : List Entry) → Legal B (history_of o done) → KeepsProtocol (queues i) (starts i) done → (p : Party)
     → (queues i).Knows p (counts_in (queues i) (starts i) done) (view_of o done (hart_in (queues i) p)))
-    (Own : ℕ → ℕ → Type 0) (P : ℕ → HartState → View → AllCounts → Type 0) (c : IsCertified M o (all_of N queues) starts Own P) where
+    (P : ℕ → HartState → View → AllCounts → Type 0) where
   -- the counts of each queue
   abbrev pub Counted : List Entry → AllCounts
   Counted done = λ i. counts_in (queues i) (starts i) done
@@ -100,45 +100,32 @@ module _ (B M : ℕ) (o : OpeningValue) (N : ℕ) (queues : ℕ → TwoPartyProt
     };
   }
 
-  abbrev pub HoldsAt : List Entry → Type 0
-  HoldsAt = Holds B M o AllCounts (all_of N queues) starts P Counted Own c Kept is_counted
+  module _ (Own : ℕ → ℕ → Type 0) (c : IsCertified M o (all_of N queues) starts Own P) where
+    all_hold : (es : List Entry) → WellFormed B M (history_of o es) → Holds B M o AllCounts (all_of N queues) starts P Counted Own c Kept is_counted es
+    all_hold = holds B M o AllCounts (all_of N queues) starts P Counted Own c Kept is_counted
 
-  pub holds_at : (es : List Entry) → WellFormed B M (history_of o es) → HoldsAt es
-  holds_at = holds B M o AllCounts (all_of N queues) starts P Counted Own c Kept is_counted
+    -- EVERY run, of any length, keeps the protocol of each queue
+    pub every_run : (es : List Entry) → WellFormed B M (history_of o es) → (i : ℕ) → i < N → KeepsProtocol (queues i) (starts i) es
+    every_run es run = (all_hold es run).kept.keeps
 
-  -- EVERY run, of any length, keeps the protocol of each queue
-  pub every_run : (es : List Entry) → WellFormed B M (history_of o es) → (i : ℕ) → i < N → KeepsProtocol (queues i) (starts i) es
-  every_run es run = (holds_at es run).kept.keeps
+    -- and each hart is in its set
+    pub every_state : (es : List Entry) → WellFormed B M (history_of o es) → (h : ℕ) (s : HartState) → state_of M (history_of o es) h ≡ Some s
+        → P h s (view_of o es h) (Counted es)
+    every_state es run = (all_hold es run).within
 
-  -- and each hart is in its set
-  pub every_state : (es : List Entry) → WellFormed B M (history_of o es) → (h : ℕ) (s : HartState) → state_of M (history_of o es) h ≡ Some s
-      → P h s (view_of o es h) (Counted es)
-  every_state es run = (holds_at es run).within
+    -- what the sets say of a hart's accesses, by the counts of one queue, is so of each in every run
+    module _ (i h : ℕ) (Is : QueueCounts → Access → Type 0) (lands : (d : QueueCounts) → Is d land)
+        (each : (s : HartState) (m : View) (cs : AllCounts) (e : Entry) → P h s m cs → Acts M o h s m e
+        → (all_of N queues).Knows h cs m → Is (cs i) (access_of e)) where
+      pub each_is : (es : List Entry) → WellFormed B M (history_of o es) → EachIs (queues i) h Is (starts i) es
+      each_is es run = each_from B M o AllCounts (all_of N queues) starts P Counted Own c Kept is_counted
+          (λ done rest. EachIs (queues i) h Is (Counted done i) rest) (λ done. tt)
+          (λ done e rest front w more. (
+            is_next B M o AllCounts (all_of N queues) starts P Counted Own c Kept is_counted h (λ cs. Is (cs i)) (λ cs. lands (cs i)) each done e front w,
+            subst (λ d. EachIs (queues i) h Is d rest) (sym (counts_last i done e)) more,
+          )) [] es run (holds_first B M o AllCounts (all_of N queues) starts P Counted Own c Kept is_counted)
 
-  -- what the sets say of a hart's accesses, by the counts of one queue, is so of each in every run
-  module _ (i h : ℕ) (Is : QueueCounts → Access → Type 0) (lands : (d : QueueCounts) → Is d land)
-      (each : (s : HartState) (m : View) (cs : AllCounts) (e : Entry) → P h s m cs → Acts M o h s m e
-      → (all_of N queues).Knows h cs m → Is (cs i) (access_of e)) where
-    is_next : (done : List Entry) (e : Entry) → WellFormed B M (history_of o (done ++ e ∷ [])) → HoldsAt done
-        → hart_of e ≡ h → Is (Counted done i) (access_of e)
-    is_next done e run w here = by (is_land e) refl
-      where
-        by : (l : Bool) → is_land e ≡ l → Is (Counted done i) (access_of e)
-        by true landed = subst (Is (Counted done i)) (sym (land_is (access_of e) landed)) (lands (Counted done i))
-        by false act =
-            let k = state_known B M o AllCounts (all_of N queues) starts P Counted Own c Kept is_counted done e run w h here in
-            each k.0 (view_of o done h) (Counted done) e (w.within h k.0 k.1)
-            (acts B M o AllCounts (all_of N queues) starts P Counted Own c Kept is_counted done e run w h k.0 here act k.1)
-            (is_counted.knows h done w.kept)
-
-    pub each_is : (es : List Entry) → WellFormed B M (history_of o es) → EachIs (queues i) h Is (starts i) es
-    each_is es run = each_from B M o AllCounts (all_of N queues) starts P Counted Own c Kept is_counted
-        (λ done rest. EachIs (queues i) h Is (Counted done i) rest) (λ done. tt)
-        (λ done e rest front w more. (
-          is_next done e front w,
-          subst (λ d. EachIs (queues i) h Is d rest) (sym (counts_last i done e)) more,
-        )) [] es run (holds_first B M o AllCounts (all_of N queues) starts P Counted Own c Kept is_counted)
-
-    -- the next access of that hart
-    pub next_is : (es : List Entry) (e : Entry) → WellFormed B M (history_of o (es ++ e ∷ [])) → hart_of e ≡ h → Is (Counted es i) (access_of e)
-    next_is es e run = is_next es e run (holds_at es (kept-front B M o es (e ∷ []) run))
+      -- the next access of that hart
+      pub next_is : (es : List Entry) (e : Entry) → WellFormed B M (history_of o (es ++ e ∷ [])) → hart_of e ≡ h → Is (Counted es i) (access_of e)
+      next_is es e run = is_next B M o AllCounts (all_of N queues) starts P Counted Own c Kept is_counted h (λ cs. Is (cs i)) (λ cs. lands (cs i)) each es e
+          run (all_hold es (kept-front B M o es (e ∷ []) run))

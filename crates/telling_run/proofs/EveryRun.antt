@@ -35,12 +35,12 @@ module _ (B M : ℕ) (o : OpeningValue) (N : ℕ) (queues : ℕ → Slots) (star
   -- EVERY run, of any length, keeps the protocol of each queue
   pub every_run : (es : List Entry) → WellFormed B M (history_of o es) → (i : ℕ) → i < N → FollowsTelling B (queues i) (starts i) o [] es
   every_run es run i less = follows i less es run.legal
-      (two_parties.every_run B M o N (λ j. telling (queues j)) starts (λ j low. is_of_parties (queues j) (begins j low).0) sees Own P c es run i less)
+      (two_parties.every_run B M o N (λ j. telling (queues j)) starts (λ j low. is_of_parties (queues j) (begins j low).0) sees P Own c es run i less)
 
   -- and each hart is in its set
   pub every_state : (es : List Entry) → WellFormed B M (history_of o es) → (h : ℕ) (s : HartState) → state_of M (history_of o es) h ≡ Some s
       → P h s (view_of o es h) (λ i. counts (queues i) (starts i) es)
-  every_state = two_parties.every_state B M o N (λ j. telling (queues j)) starts (λ j low. is_of_parties (queues j) (begins j low).0) sees Own P c
+  every_state = two_parties.every_state B M o N (λ j. telling (queues j)) starts (λ j low. is_of_parties (queues j) (begins j low).0) sees P Own c
 
   -- and where the sets' loads of slots are of tags or of owned slots, so are all in every run
   module _ (i : ℕ) (p : Party) (looks : RestLoadsAreOwned M o N queues P i p) where
@@ -49,12 +49,12 @@ module _ (B M : ℕ) (o : OpeningValue) (N : ℕ) (queues : ℕ → Slots) (star
 
     pub reads_owned : (es : List Entry) → WellFormed B M (history_of o es)
         → EachIs (telling (queues i)) (teller_hart (queues i) p) (LoadsRestOwned (queues i) p) (starts i) es
-    reads_owned = two_parties.each_is B M o N (λ j. telling (queues j)) starts (λ j low. is_of_parties (queues j) (begins j low).0) sees Own P c
+    reads_owned = two_parties.each_is B M o N (λ j. telling (queues j)) starts (λ j low. is_of_parties (queues j) (begins j low).0) sees P Own c
         i (teller_hart (queues i) p) (LoadsRestOwned (queues i) p) landed looks
 
     pub next_owned : (es : List Entry) (e : Entry) → WellFormed B M (history_of o (es ++ e ∷ [])) → hart_of e ≡ teller_hart (queues i) p
         → LoadsRestOwned (queues i) p (counts (queues i) (starts i) es) (access_of e)
-    next_owned = two_parties.next_is B M o N (λ j. telling (queues j)) starts (λ j low. is_of_parties (queues j) (begins j low).0) sees Own P c
+    next_owned = two_parties.next_is B M o N (λ j. telling (queues j)) starts (λ j low. is_of_parties (queues j) (begins j low).0) sees P Own c
         i (teller_hart (queues i) p) (LoadsRestOwned (queues i) p) landed looks
 
   -- so that what the receiver loads there has arrived
