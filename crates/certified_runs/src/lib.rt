@@ -2,8 +2,9 @@
 //! that each instruction keeps there: whatever the protocol counts, and for store buffers of any size.
 //!
 //! A set may speak of the hart's registers, of the bytes that only this hart writes, and of what the hart knows of the protocol's
-//! counts. The contract is that of [`laws_of_certified_runs`], for sets alone; `proofs/Every.antt` has any protocol, and
-//! `proofs/TwoParties.antt` those of queues between two harts. There are no calls. This crate runs nothing.
+//! counts. The contract is that of [`laws_of_certified_runs`], for sets alone, given by tests. No contract can speak of all sets or
+//! protocols: `proofs/Every.antt` does, and `proofs/TwoParties.antt` of queues between two harts. There are no calls. This crate runs
+//! nothing.
 //!
 //! Called by none, and cited by `telling_run`.
 

@@ -1,5 +1,5 @@
 -- A certificate of a text with queues whose slots tell: which bytes are a hart's own, and which states, with what a hart reads and with
--- the queues' counts, it may be in.
+-- the queues' counts, it may be in. Both are tests here, since no contract can speak of all sets; proofs/EveryRun.antt does.
 use Rattle.std.specs.Prelude.{ℕ, ◌≡◌, Bool, true}
 use Rattle.hart.specs.State.{HartState}
 use Rattle.step_machine.specs.History.{OpeningValue}
