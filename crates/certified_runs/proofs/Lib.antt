@@ -1,0 +1,4 @@
+pub mod Views
+pub mod Every
+pub mod TwoParties
+pub mod EveryRun
