@@ -5,7 +5,7 @@
 //! where each instruction leads from each state into another of them and stores to the queues only what its hart may. The states may
 //! come from anywhere: nothing is assumed of how they were found. This crate runs nothing.
 //!
-//! Called by `certifying`.
+//! Called by `queue_checker` and `certifying`.
 
 #![tactic(auto)]
 
