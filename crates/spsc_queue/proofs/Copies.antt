@@ -15,7 +15,7 @@ use Rattle.step_machine.specs.Access.{Access, store, exchange, access_of}
 use Rattle.step_machine.specs.Entries.{pending, memory_byte, memory_word, read_byte, read, own_stores, lands}
 use Rattle.step_machine.specs.Legal.{Allowed}
 use Rattle.spsc_queue.specs.RingBuffers.{Kind, lamport, fastforward, RingBuffer, IsRingBuffer, IsWordIn, slot_offset, overlaps, writes_to, IsQuiescent}
-use Rattle.spsc_queue.specs.Protocol.{IsWordAt}
+use Rattle.spsc_queue.specs.Protocol.{WritesNothingTo, IsWordAt}
 use Rattle.store_buffers.specs.StoreBuffers.{LeavesByte, LeavesByteBy, IsOnlyWriter}
 use Rattle.spsc_queue.proofs.Words.{is_copy, row_of, copy_at}
 use Rattle.store_buffers.proofs.Reading.{passed_over}
@@ -104,14 +104,15 @@ module _ (B : ℕ) (r : RingBuffer) (is : IsRingBuffer r) (o : OpeningValue) (es
       left_by : (y : ℕ) → c ≤ y → y < c + 4 → LeavesByteBy y (access_of e)
       left_by y from below = subst (LeavesByteBy y) (sym does) (left c y some from below)
 
-  off_left : (w : Write) → overlaps r w ≡ false → (c y : ℕ) → r.copy ≡ Some c → c ≤ y → y < c + 4 → LeavesByte y w
-  off_left w off c y some from below = off_leaves r w y off (omega (arith, from, (is.copy c some).above)) (omega (arith, below, (is.copy c some).below))
-
-  pub off_leave : (w : Write) → access_of e ≡ store w → overlaps r w ≡ false → CopyStays r o es (es ++ e ∷ [])
-  off_leave w does off = leaves (store w) does (off_left w off)
-
-  pub exchange_leave : (a old new : ℕ) → access_of e ≡ exchange a old new → overlaps r (write a 4 new) ≡ false → CopyStays r o es (es ++ e ∷ [])
-  exchange_leave a old new does off = leaves (exchange a old new) does (λ c y some from below. inr (off_left (write a 4 new) off c y some from below))
+  -- one that writes nothing to the block
+  pub off_leave : (x : Access) → access_of e ≡ x → WritesNothingTo r x → CopyStays r o es (es ++ e ∷ [])
+  off_leave x does off = leaves x does (λ c y some from below. left x off y
+      (omega (arith, from, (is.copy c some).above)) (omega (arith, below, (is.copy c some).below)))
+    where
+      left : (x : Access) → WritesNothingTo r x → (y : ℕ) → r.first ≤ y → y < r.end → LeavesByteBy y x
+      left (store w) off y from below = off_leaves r w y off from below
+      left (exchange a old new) off y from below = inr (off_leaves r (write a 4 new) y off from below)
+      left x off y from below = tt
 
   pub word_leave : (w : Write) (p : ℕ) → access_of e ≡ store w → IsWordIn r p → IsWordAt w p → CopyStays r o es (es ++ e ∷ [])
   word_leave w p does word at = leaves (store w) does (λ c y some from below. word_leaves r w p c y word at some from below)

@@ -27,7 +27,7 @@ use Rattle.spsc_queue.proofs.Invariant.{SendingIs, ReceivingIs, Invariant}
 use Rattle.spsc_queue.proofs.Loads.{next_offset, sender-tail, receiver-other}
 use Rattle.spsc_queue.proofs.FastForwardLoads.{receiver-word, sender-free}
 use Rattle.spsc_queue.proofs.Invariants.{earlier, spare_capacity}
-use Rattle.spsc_queue.proofs.Runs.{invariant-of, protocol-small, waiting-small}
+use Rattle.spsc_queue.proofs.Runs.{invariant-of, protocol-grown, waiting-small}
 use Rattle.spsc_queue.proofs.PastRows.{length-spread, row-grows}
 
 -- without a copy no store is to one
@@ -150,7 +150,7 @@ module _ (B : ℕ) (r : RingBuffer) (o : OpeningValue) (before es : List Entry) 
   L = slice_index (parties_after r o before (es ++ e ∷ fs)).sent
 
   small : (j : ℕ) → L j < 2 ^ 32
-  small = protocol-small r (at_start r o before) (es ++ e ∷ fs) t.keeps (waiting-small r t.ring o before t.rest)
+  small = (protocol-grown r (at_start r o before) (es ++ e ∷ fs) t.keeps).2 (waiting-small r t.ring o before t.rest)
 
   inv : Invariant r.kind r L (earlier r before) o (before ++ es) T
   inv = invariant-of B r o before es (e ∷ fs) t
@@ -205,7 +205,7 @@ module _ (B : ℕ) (r : RingBuffer) (o : OpeningValue) (before es fs : List Entr
   first = invariant-of B r o before es (fs ++ e ∷ gs) t
 
   small_words : (j : ℕ) → A j < 2 ^ 32
-  small_words = protocol-small r (at_start r o before) (es ++ (fs ++ e ∷ gs)) t.keeps (waiting-small r t.ring o before t.rest)
+  small_words = (protocol-grown r (at_start r o before) (es ++ (fs ++ e ∷ gs)) t.keeps).2 (waiting-small r t.ring o before t.rest)
 
   abbrev second : Invariant r.kind r (L B r o before (es ++ fs) e gs later) (earlier r before) o (before ++ (es ++ fs)) Z
   second = inv B r o before (es ++ fs) e gs later
@@ -261,8 +261,8 @@ pub room_landed : (B : ℕ) (r : RingBuffer) (o : OpeningValue) (before es : Lis
     → (parties_after r o before es).stored + length (writes_to r (pending r.receiver (before ++ es))) ≤ (parties_after r o before es).taken + capacity r
 room_landed B r o before es t is_lamport =
     never_fuller r t.ring (slice_index (parties_after r o before (es ++ [])).sent)
-    (protocol-small r (at_start r o before) (es ++ [])
-    (subst (KeepsProtocol r (at_start r o before)) (sym (append-nil es)) t.keeps)
+    ((protocol-grown r (at_start r o before) (es ++ [])
+    (subst (KeepsProtocol r (at_start r o before)) (sym (append-nil es)) t.keeps)).2
     (waiting-small r t.ring o before t.rest))
     (earlier r before) o (before ++ es) (parties_after r o before es) r.kind
     (invariant-of B r o before es [] (subst (FollowsSpscProtocol B r o before) (sym (append-nil es)) t)) is_lamport

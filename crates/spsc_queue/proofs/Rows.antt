@@ -7,7 +7,7 @@ use Rattle.memory.specs.declared.writes.Write.{Write}
 use Rattle.memory.specs.Writes.{write, IsWholeWord}
 use Rattle.step_machine.specs.declared.events.Entry.{Entry}
 use Rattle.step_machine.specs.History.{OpeningValue}
-use Rattle.step_machine.specs.Access.{Access, nothing, load, store, exchange, fence, land, access_of}
+use Rattle.step_machine.specs.Access.{Access, store, exchange, land, access_of}
 use Rattle.step_machine.specs.Entries.{hart_of, stored_by, landed_by, written_by, own_store, land_of, write_of, pending, memory_word, own_stores, lands}
 use Rattle.step_machine.proofs.Appended.{stores-append}
 use Rattle.step_machine.proofs.Lists.{some_first}
@@ -146,16 +146,11 @@ module _ (r : RingBuffer) (is : IsRingBuffer r) (o : OpeningValue) (es : List En
     no-store-of : (h : ℕ) → hart_of e ≢ h → own_store h e ≡ []
     no-store-of h other = stores-by h ∙ ap (λ b. stored_by b x) (ne_eqb (hart_of e) h other) ∙ stored_none x
 
-  pub nothing-stays : access_of e ≡ nothing → Stays r o es after
-  nothing-stays does = stays-if (stores-by nothing does) (lands-by nothing does) (λ a word. memory-quiet o es e a (writes-by nothing does))
-
-  pub load-stays : (a width v : ℕ) → access_of e ≡ load a width v → Stays r o es after
-  load-stays a width v does =
-      stays-if (stores-by (load a width v) does) (lands-by (load a width v) does) (λ b word. memory-quiet o es e b (writes-by (load a width v) does))
-
-  pub fence-stays : (full : Bool) → access_of e ≡ fence full → Stays r o es after
-  fence-stays full does =
-      stays-if (stores-by (fence full) does) (lands-by (fence full) does) (λ a word. memory-quiet o es e a (writes-by (fence full) does))
+  -- an access that stores nothing, lands nothing and writes nothing
+  pub still-stays : (x : Access) → access_of e ≡ x → ((h : ℕ) → stored_by (hart_of e == h) x ≡ []) → ((h : ℕ) → landed_by (hart_of e == h) x ≡ 0)
+      → written_by (take 1 (pending (hart_of e) es)) x ≡ [] → Stays r o es after
+  still-stays x does none still unwritten = stays-if (λ h. stores-by x does h ∙ none h) (λ h. lands-by x does h ∙ still h)
+      (λ a word. memory-quiet o es e a (writes-by x does ∙ unwritten))
 
   -- an AMO off the block
   pub exchange-stays : (a old new : ℕ) → access_of e ≡ exchange a old new → shared r (write a 4 new) ≡ false → Stays r o es after

@@ -181,18 +181,16 @@ module _ (K : Kind) (r : RingBuffer) (is : IsRingBuffer r) (L : ℕ → ℕ) (c 
 pub takes-word : (K : Kind) (r : RingBuffer) (is : IsRingBuffer r) (L : ℕ → ℕ) (c : Earlier) (o : OpeningValue) (es : List Entry) (s : ProtocolState)
     (inv : Invariant K r L c o es s) (e : Entry) (even : (h : ℕ) → lands h es ≤ length (own_stores h es)) (w : Write) → access_of e ≡ store w
     → CopyStays r o es (es ++ e ∷ []) → hart_of e ≡ r.receiver → (u v : ℕ) → s.receiving ≡ holding u v → IsTaking K r u w
-    → (shared r w ≡ true) × Invariant K r L c o (es ++ e ∷ []) (receive_store K (holding u v) s)
+    → Invariant K r L c o (es ++ e ∷ []) (receive_store K (holding u v) s)
 takes-word lamport r is L c o es s inv e even w does copied mine u v at keeps =
     let known = subst (ReceivingIs lamport r L s.taken s.consumed inv.landed.heads) at inv.receiving in
     let on : shared r w ≡ true = word_on r w r.tail is.tail keeps.0 in
     let is_next : w ≡ freed_store r (inv.landed.tails + inv.buffers.unread) =
     write-is w r.tail (slot_offset r (s.consumed + 1)) keeps.0 (keeps.1 ∙ next_offset r is u s.consumed known.1)
-    ∙ ap (λ j. write r.tail 4 (slot_offset r (j + 1))) (omega (arith, inv.buffers.theirs_count)) in (
-      on,
-      takes-one lamport r is L c o es s inv e even w does on copied mine is_next idle (s.taken + 1) (s.consumed + 1) (s.received ++ v ∷ []) (omega arith)
-          (omega (arith, known.0), omega (arith, inv.order.theirs.1)) (omega (arith, known.2)) (omega (arith, known.0))
-          (one_received lamport r is L c o es s inv e even w does on copied u v known),
-    )
+    ∙ ap (λ j. write r.tail 4 (slot_offset r (j + 1))) (omega (arith, inv.buffers.theirs_count)) in
+    takes-one lamport r is L c o es s inv e even w does on copied mine is_next idle (s.taken + 1) (s.consumed + 1) (s.received ++ v ∷ []) (omega arith)
+    (omega (arith, known.0), omega (arith, inv.order.theirs.1)) (omega (arith, known.2)) (omega (arith, known.0))
+    (one_received lamport r is L c o es s inv e even w does on copied u v known)
 takes-word fastforward r is L c o es s inv e even w does copied mine u v at keeps =
     let known = subst (ReceivingIs fastforward r L s.taken s.consumed inv.landed.slots) at inv.receiving in
     let word : IsWordAt w (slot_address r s.consumed) = record { place = keeps.0.place ∙ ap (λ x. r.slots + x) known.1; width = keeps.0.width } in
@@ -200,12 +198,10 @@ takes-word fastforward r is L c o es s inv e even w does copied mine u v at keep
     let is_next : w ≡ cleared_store r ((inv.landed.cleared + inv.landed.tails) + inv.buffers.unread) =
     write-is w (slot_address r s.consumed) 0 word keeps.1 ∙ ap (λ j. write (slot_address r j) 4 0) (sym known.0)
     ∙ sym (sent-slot (turned r) zeros ((inv.landed.cleared + inv.landed.tails) + inv.buffers.unread) s.taken
-    (omega (arith, inv.buffers.theirs_count, known.0))) in (
-      on,
-      takes-one fastforward r is L c o es s inv e even w does on copied mine is_next (cleared u) (s.taken + 1) s.consumed (s.received ++ v ∷ []) (omega arith)
-          (row-stores inv.order.theirs known.0) (omega (arith, known.2)) (omega (arith, known.0), known.1, refl)
-          (one_received fastforward r is L c o es s inv e even w does on copied u v known),
-    )
+    (omega (arith, inv.buffers.theirs_count, known.0))) in
+    takes-one fastforward r is L c o es s inv e even w does on copied mine is_next (cleared u) (s.taken + 1) s.consumed (s.received ++ v ∷ []) (omega arith)
+    (row-stores inv.order.theirs known.0) (omega (arith, known.2)) (omega (arith, known.0), known.1, refl)
+    (one_received fastforward r is L c o es s inv e even w does on copied u v known)
 
 -- and then FastForward's the tail
 pub frees : (K : Kind) (r : RingBuffer) (is : IsRingBuffer r) (L : ℕ → ℕ) (c : Earlier) (o : OpeningValue) (es : List Entry) (s : ProtocolState)
