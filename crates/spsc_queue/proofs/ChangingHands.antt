@@ -16,7 +16,7 @@ use Rattle.spsc_queue.specs.Calls.{UsesAsSpscQueue, given_words, block_after, th
 use Rattle.spsc_queue.proofs.Spread.{spread, sent_store}
 use Rattle.spsc_queue.proofs.Rows.{Earlier}
 use Rattle.spsc_queue.proofs.PastRows.{length-spread}
-use Rattle.spsc_queue.proofs.Invariant.{whole-counts, freed, there, their_store, their_landed, they_made, Theirs, Invariant, firsts}
+use Rattle.spsc_queue.proofs.Invariant.{whole-counts, freed, there, their_store, their_landed, they_made, Theirs, unsent, unread, Invariant, firsts}
 use Rattle.queue_parties.specs.Positions.{numbers_from}
 use Rattle.spsc_queue.proofs.Numbers.{numbers-moved, firsts-on}
 use Rattle.spsc_queue.proofs.Words.{row_of}
@@ -65,17 +65,17 @@ quiet : (k : Kind) (r : RingBuffer) (is : IsRingBuffer r) (L : ℕ → ℕ) (c :
 quiet k r is L c o es s inv level whole none =
     let z : ℕ = inv.landed.cleared in
     let t : ℕ = inv.landed.tails in
-    let unsent = none_left (sent_store r L) (inv.landed.slots + inv.landed.heads) inv.buffers.unsent (row_of r (pending r.sender es))
-    inv.buffers.rows.mine.pends (row_none r (pending r.sender es) (none r.sender)) in
-    let unread = none_left (their_store k r) (their_landed k z t) inv.buffers.unread (row_of r (pending r.receiver es))
-    inv.buffers.rows.theirs.pends (row_none r (pending r.receiver es) (none r.receiver)) in
+    let unsent = none_left (sent_store r L) (inv.landed.slots + inv.landed.heads) (unsent s inv.landed) (row_of r (pending r.sender es))
+    inv.rows.mine.pends (row_none r (pending r.sender es) (none r.sender)) in
+    let unread = none_left (their_store k r) (their_landed k z t) (unread k s inv.landed) (row_of r (pending r.receiver es))
+    inv.rows.theirs.pends (row_none r (pending r.receiver es) (none r.receiver)) in
     let sent : (inv.landed.heads ≡ s.stored) × (inv.landed.slots ≡ s.stored) = (
-      omega (arith, unsent, level, inv.buffers.mine_count, inv.order.mine.slots_stored, inv.order.mine.heads_published),
-      omega (arith, unsent, level, inv.buffers.mine_count, inv.order.mine.slots_stored, inv.order.mine.heads_published),
+      omega (arith, unsent, level, inv.rows.mine.landed, inv.order.mine.slots_stored, inv.order.mine.heads_published),
+      omega (arith, unsent, level, inv.rows.mine.landed, inv.order.mine.slots_stored, inv.order.mine.heads_published),
     ) in
     let landed = all_landed k s.taken s.consumed z t inv.order.theirs
     (whole-counts k r L s.taken s.consumed (there k inv.landed.slots inv.landed.heads) s.receiving whole inv.receiving)
-    (omega (arith, unread, inv.buffers.theirs_count)) in
+    (omega (arith, unread, inv.rows.theirs.landed)) in
     let place = copy-quiet k r is o es (s.stored + ready_by_state s.sending) (freed k z t) in
     let facts = known r is L c o es s k inv in
     record {

@@ -17,7 +17,7 @@ use Rattle.spsc_queue.proofs.Spread.{none-there, slot_apart, spread, sent_store,
 use Rattle.spsc_queue.proofs.Rows.{Earlier}
 use Rattle.spsc_queue.proofs.Cases.{by-send-load, by-receive-load}
 use Rattle.spsc_queue.proofs.Invariant.{placed-of, level-counts, whole-counts}
-use Rattle.spsc_queue.proofs.Invariant.{turned, turned_is, zeros, cleared_store, Landed, SendingIs, ReceivingIs, Invariant}
+use Rattle.spsc_queue.proofs.Invariant.{turned, turned_is, zeros, cleared_store, Landed, unsent, unread, SendingIs, ReceivingIs, Invariant}
 use Rattle.spsc_queue.proofs.Loads.{slot_again, slot_word, sender-reads, receiver-reads, sender-head}
 
 -- ---- what a word is after a part of a row
@@ -61,10 +61,10 @@ module _ (r : RingBuffer) (is : IsRingBuffer r) (L : ℕ → ℕ) (small : (j : 
 
   receiver-tail : read o es r.receiver r.tail 4 ≡ slot_offset r s.consumed
   receiver-tail = receiver-reads fastforward r is L small c o es s inv r.tail is.tail
-      ∙ ap (λ v. seen r.tail v (spread (cleared_store r) (d.cleared + d.tails) inv.buffers.unread))
+      ∙ ap (λ v. seen r.tail v (spread (cleared_store r) (d.cleared + d.tails) (unread fastforward s inv.landed)))
       (inv.words.tail ∙ ap (slot_offset r) (omega (arith, inv.order.theirs.heads_slots, inv.order.theirs.slots_heads)))
-      ∙ seen-heads (turned r) (turned_is r is) zeros (d.cleared + d.tails) inv.buffers.unread
-      ∙ ap (slot_offset r) (omega (arith, inv.buffers.theirs_count, inv.order.theirs.published_stored, inv.order.theirs.stored_published))
+      ∙ seen-heads (turned r) (turned_is r is) zeros (d.cleared + d.tails) (unread fastforward s inv.landed)
+      ∙ ap (slot_offset r) (omega (arith, inv.rows.theirs.landed, inv.order.theirs.published_stored, inv.order.theirs.stored_published))
 
   -- the sender finds a word in a slot whose word isn't cleared in memory
   sender-full : s.stored ≡ s.published → s.stored ≡ d.cleared + r.size → read o es r.sender (slot_address r s.stored) 4 ≡ L d.cleared
@@ -72,42 +72,42 @@ module _ (r : RingBuffer) (is : IsRingBuffer r) (L : ℕ → ℕ) (small : (j : 
       sender-reads fastforward r is L small c o es s inv (slot_address r s.stored) (slot_word r is s.stored) ∙ at (cases_lt d.cleared d.slots)
     where
       at : (d.cleared < d.slots) ⊎ (d.slots ≤ d.cleared) → seen (slot_address r s.stored) (memory_word o es (slot_address r s.stored))
-          (spread (sent_store r L) (d.slots + d.heads) inv.buffers.unsent) ≡ L d.cleared
+          (spread (sent_store r L) (d.slots + d.heads) (unsent s inv.landed)) ≡ L d.cleared
       at (inl landed) =
-          none-there (slot_address r s.stored) (memory_word o es (slot_address r s.stored)) (sent_store r L) (d.slots + d.heads) inv.buffers.unsent
+          none-there (slot_address r s.stored) (memory_word o es (slot_address r s.stored)) (sent_store r L) (d.slots + d.heads) (unsent s inv.landed)
           (λ p from below. row_apart r is L p s.stored (λ even. (
-            omega (arith, below, even, level, inv.buffers.mine_count),
+            omega (arith, below, even, level, inv.rows.mine.landed),
             omega (arith, from, even, full, landed, inv.order.mine.heads_slots, inv.order.mine.slots_heads),
           ))) ∙ ap (memory_word o es) (slot_again r is d.cleared s.stored full) ∙ inv.words.full d.cleared (omega arith) landed
       at (inr none) =
           let same : d.cleared ≡ d.slots = omega (arith, none, inv.order.theirs.slots_stored, inv.order.taken_there) in
           last-there (slot_address r s.stored) (L d.cleared) (memory_word o es (slot_address r s.stored))
-          (sent_store r L) (d.slots + d.heads) inv.buffers.unsent
-          (2 * d.cleared) (omega (arith, same, inv.order.mine.heads_slots)) (omega (arith, same, level, full, is.some_slots, inv.buffers.mine_count))
+          (sent_store r L) (d.slots + d.heads) (unsent s inv.landed)
+          (2 * d.cleared) (omega (arith, same, inv.order.mine.heads_slots)) (omega (arith, same, level, full, is.some_slots, inv.rows.mine.landed))
           (sent-slot r L (2 * d.cleared) d.cleared refl ∙ ap (λ a. write a 4 (L d.cleared)) (sym (slot_again r is d.cleared s.stored full)))
-          (λ p from below. row_apart r is L p s.stored (λ even. (omega (arith, below, even, level, inv.buffers.mine_count), omega (arith, from, even, full))))
+          (λ p from below. row_apart r is L p s.stored (λ even. (omega (arith, below, even, level, inv.rows.mine.landed), omega (arith, from, even, full))))
 
   -- and 0 where the slot is free in memory
   pub sender-free : s.stored ≡ s.published → s.stored < d.cleared + r.size → read o es r.sender (slot_address r s.stored) 4 ≡ 0
   sender-free level room =
       sender-reads fastforward r is L small c o es s inv (slot_address r s.stored) (slot_word r is s.stored)
-      ∙ none-there (slot_address r s.stored) (memory_word o es (slot_address r s.stored)) (sent_store r L) (d.slots + d.heads) inv.buffers.unsent
+      ∙ none-there (slot_address r s.stored) (memory_word o es (slot_address r s.stored)) (sent_store r L) (d.slots + d.heads) (unsent s inv.landed)
       (λ p from below. row_apart r is L p s.stored (λ even. (
-        omega (arith, below, even, level, inv.buffers.mine_count),
+        omega (arith, below, even, level, inv.rows.mine.landed),
         omega (arith, from, even, room, inv.order.theirs.slots_stored, inv.order.taken_there, inv.order.mine.heads_slots, inv.order.mine.slots_heads),
       ))) ∙ inv.words.free refl s.stored inv.order.mine.slots_stored room
 
   -- what the receiver reads in its slot
   slot-reads : read o es r.receiver (slot_address r s.taken) 4
-      ≡ seen (slot_address r s.taken) (memory_word o es (slot_address r s.taken)) (spread (cleared_store r) (d.cleared + d.tails) inv.buffers.unread)
+      ≡ seen (slot_address r s.taken) (memory_word o es (slot_address r s.taken)) (spread (cleared_store r) (d.cleared + d.tails) (unread fastforward s inv.landed))
   slot-reads = receiver-reads fastforward r is L small c o es s inv (slot_address r s.taken) (slot_word r is s.taken)
 
   slot-near : s.taken ≡ s.consumed → s.taken < d.cleared + r.size → read o es r.receiver (slot_address r s.taken) 4 ≡ memory_word o es (slot_address r s.taken)
   slot-near level near =
       slot-reads ∙ none-there (slot_address r s.taken) (memory_word o es (slot_address r s.taken)) (cleared_store r)
-      (d.cleared + d.tails) inv.buffers.unread
+      (d.cleared + d.tails) (unread fastforward s inv.landed)
       (λ p from below. row_apart (turned r) (turned_is r is) zeros p s.taken (λ even. (
-        omega (arith, below, even, level, inv.buffers.theirs_count),
+        omega (arith, below, even, level, inv.rows.theirs.landed),
         omega (arith, from, even, near, inv.order.theirs.heads_slots, inv.order.theirs.slots_heads),
       )))
 
@@ -129,11 +129,11 @@ module _ (r : RingBuffer) (is : IsRingBuffer r) (L : ℕ → ℕ) (small : (j : 
           let full : s.taken ≡ d.cleared + r.size = omega (arith, far, inv.order.taken_there, inv.order.mine.slots_stored, inv.order.room) in
           inl (slot-reads
           ∙ last-there (slot_address r s.taken) 0 (memory_word o es (slot_address r s.taken)) (cleared_store r)
-          (d.cleared + d.tails) inv.buffers.unread
-          (2 * d.cleared) (omega (arith, inv.order.theirs.heads_slots)) (omega (arith, level, full, is.some_slots, inv.buffers.theirs_count))
+          (d.cleared + d.tails) (unread fastforward s inv.landed)
+          (2 * d.cleared) (omega (arith, inv.order.theirs.heads_slots)) (omega (arith, level, full, is.some_slots, inv.rows.theirs.landed))
           (sent-slot (turned r) zeros (2 * d.cleared) d.cleared refl ∙ ap (λ a. write a 4 0) (sym (slot_again r is d.cleared s.taken full)))
           (λ p from below. row_apart (turned r) (turned_is r is) zeros p s.taken (λ even.
-          (omega (arith, below, even, level, inv.buffers.theirs_count), omega (arith, from, even, full)))))
+          (omega (arith, below, even, level, inv.rows.theirs.landed), omega (arith, from, even, full)))))
 
   -- ---- loads
 

@@ -1,5 +1,5 @@
 -- What holds of the block, of the pending stores to it and of both parties after every run that keeps the protocol.
-use Rattle.std.proofs.Common.{ℕ, zero, suc, ◌+◌, ◌<◌, ◌≤◌, ◌≡◌, ◌≢◌, List, [], ◌∷◌, ◌++◌, sym, arith}
+use Rattle.std.proofs.Common.{ℕ, zero, suc, ◌+◌, ◌-◌, ◌<◌, ◌≤◌, ◌≡◌, ◌≢◌, List, [], ◌∷◌, ◌++◌, sym, arith}
 use Rattle.memory.specs.declared.writes.Write.{Write}
 use Rattle.step_machine.specs.declared.events.Entry.{Entry}
 use Rattle.step_machine.specs.History.{OpeningValue}
@@ -114,13 +114,12 @@ ReceivingIs K r L taken consumed n (waiting u) = (taken ≡ consumed) × (u ≡ 
 ReceivingIs K r L taken consumed n (holding u w) = (taken ≡ consumed) × (u ≡ slot_offset r consumed) × (taken < n) × (w ≡ L taken)
 ReceivingIs K r L taken consumed n (cleared u) = (taken ≡ consumed + 1) × (u ≡ slot_offset r consumed) × (K ≡ fastforward)
 
--- the stores to the block: the sender's row and the receiver's, and how far each has come
-pub record Buffers (K : Kind) (r : RingBuffer) (L : ℕ → ℕ) (c : Earlier) (es : List Entry) (stored published taken consumed : ℕ) (d : Landed) : Type 0 where
-  pub unsent : ℕ
-  pub unread : ℕ
-  pub rows : Rows r c (sent_store r L) (their_store K r) es (d.slots + d.heads) unsent (their_landed K d.cleared d.tails) unread
-  pub mine_count : unsent + (d.slots + d.heads) ≡ stored + published
-  pub theirs_count : unread + their_landed K d.cleared d.tails ≡ they_made K taken consumed
+-- how many stores of each row are pending
+abbrev pub unsent : ProtocolState → Landed → ℕ
+unsent s d = s.stored + s.published - (d.slots + d.heads)
+
+abbrev pub unread : Kind → ProtocolState → Landed → ℕ
+unread K s d = they_made K s.taken s.consumed - their_landed K d.cleared d.tails
 
 pub record Invariant (K : Kind) (r : RingBuffer) (L : ℕ → ℕ) (c : Earlier) (o : OpeningValue) (es : List Entry) (s : ProtocolState) : Type 0 where
   pub landed : Landed
@@ -129,7 +128,8 @@ pub record Invariant (K : Kind) (r : RingBuffer) (L : ℕ → ℕ) (c : Earlier)
   pub nonzero : K ≡ fastforward → (j : ℕ) → j < s.stored → L j ≢ 0
   pub sending : SendingIs (spare K) r s.stored s.published (freed K landed.cleared landed.tails) s.sending
   pub receiving : ReceivingIs K r L s.taken s.consumed (there K landed.slots landed.heads) s.receiving
-  pub buffers : Buffers K r L c es s.stored s.published s.taken s.consumed landed
+  pub rows : Rows r c (sent_store r L) (their_store K r) es (landed.slots + landed.heads) (s.stored + s.published)
+      (their_landed K landed.cleared landed.tails) (they_made K s.taken s.consumed)
   pub sent : s.sent ≡ firsts L s.stored
   pub received : s.received ≡ firsts L s.taken
   pub copy : Copied K r.copy r o es (s.stored + ready_by_state s.sending) (freed K landed.cleared landed.tails)

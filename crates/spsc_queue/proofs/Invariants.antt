@@ -1,5 +1,5 @@
 -- The invariant of a queue of either kind: what keeps it, and what the laws take from it.
-use Rattle.std.proofs.Common.{ℕ, ◌+◌, ◌^◌, ◌<◌, ◌≤◌, ◌≡◌, List, [], ◌∷◌, ◌++◌, length, refl, sym, ◌∙◌, ap, subst}
+use Rattle.std.proofs.Common.{ℕ, ◌+◌, ◌-◌, ◌^◌, ◌<◌, ◌≤◌, ◌≡◌, List, [], ◌∷◌, ◌++◌, length, refl, sym, ◌∙◌, ap, subst}
 use Rattle.std.proofs.Common.{arith}
 use Rattle.memory.specs.declared.writes.Write.{Write}
 use Rattle.step_machine.specs.declared.events.Entry.{Entry}
@@ -11,7 +11,7 @@ use Rattle.spsc_queue.specs.Protocol.{waiting, holding, cleared, ProtocolState}
 use Rattle.spsc_queue.specs.Protocol.{at_start, send_load, receive_load}
 use Rattle.spsc_queue.specs.Laws.{available_of, ready_by_state}
 use Rattle.queue_parties.proofs.Records.{numbers-same}
-use Rattle.spsc_queue.proofs.Spread.{sent_store}
+use Rattle.spsc_queue.proofs.Spread.{spread, sent_store}
 use Rattle.spsc_queue.proofs.Rows.{row-level, RowOrder, Earlier, Rows, Stays, on_count}
 use Rattle.spsc_queue.proofs.Invariant.{firsts, spare, freed, there, their_store, their_landed, they_made, Theirs, ReceivingIs, Invariant}
 use Rattle.spsc_queue.proofs.Invariant.{IsPlaced, placed-of, freed_taken}
@@ -155,17 +155,12 @@ at_rest k r is L o es quiet first kind =
       nonzero = λ is_k j below. λ zero. quiet.words (kind ∙ is_k) j below (sym (first j below) ∙ zero);
       sending = refl;
       receiving = refl;
-      buffers = record {
-        unsent = 0;
-        unread = 0;
-        rows = subst (λ j. Rows r (earlier r es) (sent_store r L) (their_store k r) es (n + n) 0 j 0) (sym none.1) (record {
-          mine = record { pends = none_row r.sender; made = omega arith };
-          theirs = record { pends = none_row r.receiver; made = omega arith };
-          others = λ h not_sender not_receiver. none_row h;
-        });
-        mine_count = omega arith;
-        theirs_count = omega (arith, none.1, none.2);
-      };
+      rows = subst (λ j. Rows r (earlier r es) (sent_store r L) (their_store k r) es (n + n) (n + n) j (they_made k 0 0)) (sym none.1)
+          (subst (Rows r (earlier r es) (sent_store r L) (their_store k r) es (n + n) (n + n) 0) (sym none.2) (record {
+            mine = record { pends = none_row r.sender ∙ none_left (sent_store r L) (n + n); landed = omega arith; made = omega arith };
+            theirs = record { pends = none_row r.receiver; landed = omega arith; made = omega arith };
+            others = λ h not_sender not_receiver. none_row h;
+          }));
       sent = numbers-same (λ j. memory_word o es (slot_address r j)) L 0 n (λ j from below. sym (first j (omega (arith, below)))) ∙ sym (firsts-numbers L n);
       received = refl;
       copy = copy-at-rest k r is o es (freed k 0 0) quiet kind;
@@ -173,3 +168,6 @@ at_rest k r is L o es quiet first kind =
   where
     none_row : (h : ℕ) → row_of r (pending h es) ≡ []
     none_row h = row_none r (pending h es) (quiet.pending h)
+
+    none_left : (f : ℕ → Write) (m : ℕ) → [] ≡ spread f m (m - m)
+    none_left f m = let none : 0 ≡ m - m = omega arith in ap (spread f m) none

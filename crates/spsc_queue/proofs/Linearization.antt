@@ -1,5 +1,5 @@
 -- A queue that looks empty or full is so, as far as stores have landed, and what has landed is found.
-use Rattle.std.proofs.Common.{ℕ, ◌+◌, ◌/◌, ◌^◌, ◌<◌, ◌≤◌, ◌≡◌, ◌≢◌, not, Bool, true, false, if◌then◌else◌, inl, inr, Option, Some, None, List, []}
+use Rattle.std.proofs.Common.{ℕ, suc, ◌+◌, ◌-◌, ◌/◌, ◌^◌, ◌<◌, ◌≤◌, ◌≡◌, ◌≢◌, not, Bool, true, false, if◌then◌else◌, inl, inr, Option, Some, None, List, []}
 use Rattle.std.proofs.Common.{◌∷◌, ◌++◌, length, refl, sym, ◌∙◌, ap, subst, arith}
 use Rattle.std.proofs.Common.{append-nil, append_assoc}
 use Rattle.std.specs.Prelude.{slice_index, All}
@@ -20,9 +20,9 @@ use Rattle.spsc_queue.specs.Laws.{FollowsSpscProtocol, available_of, available_c
 use Rattle.store_buffers.specs.StoreBuffers.{LeavesByte}
 use Rattle.spsc_queue.proofs.Words.{is_copy, row_counts, copy_apart}
 use Rattle.spsc_queue.proofs.Copies.{Copied, row_whole}
-use Rattle.spsc_queue.proofs.Spread.{offset_apart, sent_store, freed_store, spread-count, counts-heads, counts-slots}
-use Rattle.spsc_queue.proofs.Rows.{Earlier, RowOrder}
-use Rattle.spsc_queue.proofs.Invariant.{turned, turned_is, zeros, cleared_store, Landed, spare, freed, there, their_landed, Theirs}
+use Rattle.spsc_queue.proofs.Spread.{offset_apart, freed_store, spread-count, counts-heads, counts-slots}
+use Rattle.spsc_queue.proofs.Rows.{Earlier, Row, RowOrder}
+use Rattle.spsc_queue.proofs.Invariant.{turned, turned_is, zeros, Landed, spare, freed, there, their_landed, Theirs}
 use Rattle.spsc_queue.proofs.Invariant.{SendingIs, ReceivingIs, Invariant}
 use Rattle.spsc_queue.proofs.Loads.{next_offset, sender-tail, receiver-other}
 use Rattle.spsc_queue.proofs.FastForwardLoads.{receiver-word, sender-free}
@@ -92,46 +92,42 @@ module _ (r : RingBuffer) (is : IsRingBuffer r) (L : ℕ → ℕ) (small : (j : 
       ]
 
   -- the words that are available, and the slots that are freed, are those in memory and those that pending stores hold back
+  held : {h a b : ℕ} {f : ℕ → Write} {i n : ℕ} (P : Write → Bool) (m : ℕ → ℕ) → ((w : Write) → is_copy r.copy w ≡ true → P w ≡ false)
+      → ((p : ℕ) → (if P (f p) then 1 else 0) + m p ≡ m (suc p)) → Row r h a b f es i n → length (filter P (writes_to r (pending h es))) + m i ≡ m n
+  held {h = h} {f = f} {i = i} {n = n} P m off step row =
+      let whole : i + (n - i) ≡ n = omega (arith, row.landed) in
+      ap (λ x. x + m i) (row_counts r P off (pending h es) ∙ ap (λ ws. length (filter P ws)) row.pends) ∙ spread-count P m f step i (n - i) ∙ ap m whole
+
   words_held : (k : Kind) (inv : Invariant k r L c o es T)
       → available_of k T ≡ there k inv.landed.slots inv.landed.heads + length (filter (publishes k r) (writes_to r (pending r.sender es)))
   words_held lamport inv =
-      let held = row_counts r (publishes lamport r) (copy_apart r r.head is.head) (pending r.sender es)
-      ∙ ap (λ ws. length (filter (publishes lamport r) ws)) inv.buffers.rows.mine.pends in
-      let count = spread-count (publishes lamport r) (λ p. p / 2) (sent_store r L) (counts-heads r is L) (inv.landed.slots + inv.landed.heads)
-      inv.buffers.unsent in
+      let count = held (publishes lamport r) (λ p. p / 2) (copy_apart r r.head is.head) (counts-heads r is L) inv.rows.mine in
       let row = inv.order.mine in
-      omega (arith, held, count, inv.buffers.mine_count, row.heads_slots, row.slots_heads, row.published_stored, row.stored_published)
+      omega (arith, count, row.heads_slots, row.slots_heads, row.published_stored, row.stored_published)
   words_held fastforward inv =
-      let held = row_counts r (publishes fastforward r) (λ w. no_copy r (publishes fastforward r w) inv.copy w) (pending r.sender es)
-      ∙ ap (λ ws. length (filter (publishes fastforward r) ws)) inv.buffers.rows.mine.pends in
-      let count = spread-count (publishes fastforward r) (λ p. (p + 1) / 2) (sent_store r L) (counts-slots r is L) (inv.landed.slots + inv.landed.heads)
-      inv.buffers.unsent in
+      let count = held (publishes fastforward r) (λ p. (p + 1) / 2) (λ w. no_copy r (publishes fastforward r w) inv.copy w) (counts-slots r is L) inv.rows.mine in
       let row = inv.order.mine in
-      omega (arith, held, count, inv.buffers.mine_count, row.heads_slots, row.slots_heads, row.published_stored, row.stored_published)
+      omega (arith, count, row.heads_slots, row.slots_heads, row.published_stored, row.stored_published)
 
   slots_held : (k : Kind) (inv : Invariant k r L c o es T)
       → T.taken ≡ freed k inv.landed.cleared inv.landed.tails + length (filter (releases k r) (writes_to r (pending r.receiver es)))
   slots_held lamport inv =
-      let held = row_counts r (releases lamport r) (copy_apart r r.tail is.tail) (pending r.receiver es)
-      ∙ ap (λ ws. length (filter (releases lamport r) ws)) inv.buffers.rows.theirs.pends in
-      let count = spread-count (releases lamport r) (λ p. p) (freed_store r) (λ p. ap (λ b. (if b then 1 else 0) + p) (eq-eqb r.tail r.tail refl) ∙ omega arith)
-      inv.landed.tails inv.buffers.unread in
-      omega (arith, held, count, inv.buffers.theirs_count, inv.order.theirs.0)
+      let count = held (releases lamport r) (λ p. p) (copy_apart r r.tail is.tail)
+      (λ p. ap (λ b. (if b then 1 else 0) + p) (eq-eqb r.tail r.tail refl) ∙ omega arith) inv.rows.theirs in
+      omega (arith, count, inv.order.theirs.0)
   slots_held fastforward inv =
-      let held = row_counts r (releases fastforward r) (λ w. no_copy r (releases fastforward r w) inv.copy w) (pending r.receiver es)
-      ∙ ap (λ ws. length (filter (releases fastforward r) ws)) inv.buffers.rows.theirs.pends in
-      let count = spread-count (releases fastforward r) (λ p. (p + 1) / 2) (cleared_store r) (counts-slots (turned r) (turned_is r is) zeros)
-      (inv.landed.cleared + inv.landed.tails) inv.buffers.unread in
+      let count = held (releases fastforward r) (λ p. (p + 1) / 2) (λ w. no_copy r (releases fastforward r w) inv.copy w)
+      (counts-slots (turned r) (turned_is r is) zeros) inv.rows.theirs in
       let row = inv.order.theirs in
-      omega (arith, held, count, inv.buffers.theirs_count, row.heads_slots, row.slots_heads, row.published_stored, row.stored_published)
+      omega (arith, count, row.heads_slots, row.slots_heads, row.published_stored, row.stored_published)
 
   -- and of Lamport's never more
   never_fuller : (k : Kind) → Invariant k r L c o es T → k ≡ lamport → T.stored + length (writes_to r (pending r.receiver es)) ≤ T.taken + capacity_of k r.size
   never_fuller lamport inv is_lamport =
-      let left : length (writes_to r (pending r.receiver es)) ≡ inv.buffers.unread =
+      let left : length (writes_to r (pending r.receiver es)) ≡ T.consumed - inv.landed.tails =
       row_whole r (pending r.receiver es) (alone r.copy refl inv.copy)
-      ∙ ap length inv.buffers.rows.theirs.pends ∙ length-spread (freed_store r) inv.landed.tails inv.buffers.unread in
-      omega (arith, left, inv.order.theirs.0, inv.order.room, inv.buffers.theirs_count, is.some_slots)
+      ∙ ap length inv.rows.theirs.pends ∙ length-spread (freed_store r) inv.landed.tails (T.consumed - inv.landed.tails) in
+      omega (arith, left, inv.order.theirs.0, inv.order.room, inv.rows.theirs.landed, is.some_slots)
     where
       alone : (q : Option ℕ) → r.copy ≡ q → Copied lamport q r o es (T.stored + ready_by_state T.sending) inv.landed.tails → (a : ℕ) → r.copy ≡ Some a
           → All (LeavesByte a) (pending r.receiver es)
@@ -222,11 +218,11 @@ module _ (B : ℕ) (r : RingBuffer) (o : OpeningValue) (before es fs : List Entr
 
   there_later : there r.kind at.slots at.heads ≤ there r.kind to.slots to.heads
   there_later = more_there r.kind S.stored S.published at.slots at.heads Z.stored Z.published to.slots to.heads first.order.mine second.order.mine
-      (row-grows fs (sym (append_assoc before es fs)) first.buffers.rows.mine second.buffers.rows.mine (even r.sender))
+      (row-grows fs (sym (append_assoc before es fs)) first.rows.mine second.rows.mine (even r.sender))
 
   freed_later : freed r.kind at.cleared at.tails ≤ freed r.kind to.cleared to.tails
   freed_later = more_freed r.kind S.taken S.consumed at.cleared at.tails Z.taken Z.consumed to.cleared to.tails first.order.theirs second.order.theirs
-      (row-grows fs (sym (append_assoc before es fs)) first.buffers.rows.theirs second.buffers.rows.theirs (even r.receiver))
+      (row-grows fs (sym (append_assoc before es fs)) first.rows.theirs second.rows.theirs (even r.receiver))
 
   pub word_found : (u v : ℕ) → hart_of e ≡ r.receiver → access_of e ≡ load (watched_address r.kind r u) 4 v → Z.receiving ≡ asked u
       → Z.taken + unpublished r (pending r.sender (before ++ es)) < available_count r S → says_empty r.kind u v ≡ false

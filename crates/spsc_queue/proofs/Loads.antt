@@ -22,7 +22,7 @@ use Rattle.spsc_queue.proofs.Spread.{spread, spread-all, sent_store, freed_store
 use Rattle.spsc_queue.proofs.Spread.{slot_not_tail}
 use Rattle.spsc_queue.proofs.Effects.{reads-word}
 use Rattle.spsc_queue.proofs.Rows.{Earlier}
-use Rattle.spsc_queue.proofs.Invariant.{Landed, SendingIs, sending-more, placed-of, level-counts}
+use Rattle.spsc_queue.proofs.Invariant.{Landed, unsent, unread, SendingIs, sending-more, placed-of, level-counts}
 use Rattle.spsc_queue.proofs.Invariant.{ReceivingIs, Invariant, turned, turned_is, zeros, their_store, their_landed}
 use Rattle.spsc_queue.proofs.Cases.{by-send-load, by-receive-load}
 
@@ -171,27 +171,27 @@ their-whole fastforward r is p = sent-whole (turned r) (turned_is r is) zeros (�
 module _ (K : Kind) (r : RingBuffer) (is : IsRingBuffer r) (L : ℕ → ℕ) (small : (j : ℕ) → L j < 2 ^ 32) (c : Earlier) (o : OpeningValue) (es : List Entry)
     (s : ProtocolState) (inv : Invariant K r L c o es s) where
   abbrev mine : List Write
-  mine = spread (sent_store r L) (inv.landed.slots + inv.landed.heads) inv.buffers.unsent
+  mine = spread (sent_store r L) (inv.landed.slots + inv.landed.heads) (unsent s inv.landed)
 
   abbrev theirs : List Write
-  theirs = spread (their_store K r) (their_landed K inv.landed.cleared inv.landed.tails) inv.buffers.unread
+  theirs = spread (their_store K r) (their_landed K inv.landed.cleared inv.landed.tails) (unread K s inv.landed)
 
   pub sender-reads : (a : ℕ) → IsWordIn r a → read o es r.sender a 4 ≡ seen a (memory_word o es a) mine
-  sender-reads a word = reads-word r o es r.sender a word (subst (All IsWholeWord) (sym inv.buffers.rows.mine.pends)
-      (spread-all IsWholeWord (sent_store r L) (inv.landed.slots + inv.landed.heads) inv.buffers.unsent (sent-whole r is L small)))
-      ∙ ap (seen a (memory_word o es a)) inv.buffers.rows.mine.pends
+  sender-reads a word = reads-word r o es r.sender a word (subst (All IsWholeWord) (sym inv.rows.mine.pends)
+      (spread-all IsWholeWord (sent_store r L) (inv.landed.slots + inv.landed.heads) (unsent s inv.landed) (sent-whole r is L small)))
+      ∙ ap (seen a (memory_word o es a)) inv.rows.mine.pends
 
   pub receiver-reads : (a : ℕ) → IsWordIn r a → read o es r.receiver a 4 ≡ seen a (memory_word o es a) theirs
-  receiver-reads a word = reads-word r o es r.receiver a word (subst (All IsWholeWord) (sym inv.buffers.rows.theirs.pends)
-      (spread-all IsWholeWord (their_store K r) (their_landed K inv.landed.cleared inv.landed.tails) inv.buffers.unread (their-whole K r is)))
-      ∙ ap (seen a (memory_word o es a)) inv.buffers.rows.theirs.pends
+  receiver-reads a word = reads-word r o es r.receiver a word (subst (All IsWholeWord) (sym inv.rows.theirs.pends)
+      (spread-all IsWholeWord (their_store K r) (their_landed K inv.landed.cleared inv.landed.tails) (unread K s inv.landed) (their-whole K r is)))
+      ∙ ap (seen a (memory_word o es a)) inv.rows.theirs.pends
 
   -- the sender reads its own head
   pub sender-head : read o es r.sender r.head 4 ≡ slot_offset r s.published
   sender-head = sender-reads r.head is.head
       ∙ ap (λ v. seen r.head v mine) (inv.words.head ∙ ap (slot_offset r) (omega (arith, inv.order.mine.heads_slots, inv.order.mine.slots_heads)))
-      ∙ seen-heads r is L (inv.landed.slots + inv.landed.heads) inv.buffers.unsent
-      ∙ ap (slot_offset r) (omega (arith, inv.buffers.mine_count, inv.order.mine.published_stored, inv.order.mine.stored_published))
+      ∙ seen-heads r is L (inv.landed.slots + inv.landed.heads) (unsent s inv.landed)
+      ∙ ap (slot_offset r) (omega (arith, inv.rows.mine.landed, inv.order.mine.published_stored, inv.order.mine.stored_published))
 
 -- ---- Lamport's
 
@@ -203,18 +203,18 @@ module _ (r : RingBuffer) (is : IsRingBuffer r) (L : ℕ → ℕ) (small : (j : 
   -- the sender reads the tail that landed last
   pub sender-tail : read o es r.sender r.tail 4 ≡ slot_offset r d.tails
   sender-tail = sender-reads lamport r is L small c o es s inv r.tail is.tail
-      ∙ none-there r.tail (memory_word o es r.tail) (sent_store r L) (d.slots + d.heads) inv.buffers.unsent (λ p from below. sent-not-tail r is L p)
+      ∙ none-there r.tail (memory_word o es r.tail) (sent_store r L) (d.slots + d.heads) (unsent s inv.landed) (λ p from below. sent-not-tail r is L p)
       ∙ inv.words.tail
 
   -- the receiver reads its own tail, and all else as memory has it
   pub receiver-tail : read o es r.receiver r.tail 4 ≡ slot_offset r s.consumed
   receiver-tail = receiver-reads lamport r is L small c o es s inv r.tail is.tail
-      ∙ ap (λ v. seen r.tail v (spread (freed_store r) d.tails inv.buffers.unread)) inv.words.tail ∙ seen-tails r d.tails inv.buffers.unread
-      ∙ ap (slot_offset r) (omega (arith, inv.buffers.theirs_count))
+      ∙ ap (λ v. seen r.tail v (spread (freed_store r) d.tails (unread lamport s inv.landed))) inv.words.tail ∙ seen-tails r d.tails (unread lamport s inv.landed)
+      ∙ ap (slot_offset r) (omega (arith, inv.rows.theirs.landed))
 
   pub receiver-other : (a : ℕ) → IsWordIn r a → r.tail ≢ a → read o es r.receiver a 4 ≡ memory_word o es a
   receiver-other a word other = receiver-reads lamport r is L small c o es s inv a word
-      ∙ none-there a (memory_word o es a) (freed_store r) d.tails inv.buffers.unread (λ p from below. other)
+      ∙ none-there a (memory_word o es a) (freed_store r) d.tails (unread lamport s inv.landed) (λ p from below. other)
 
   -- the sender's loads, by which it knows more, and has seen more of its copy of the tail
   abbrev Sends : SenderState → Type 0

@@ -43,7 +43,7 @@ module _ (k : Kind) (r : RingBuffer) (is : IsRingBuffer r) (L M : ℕ → ℕ) (
       let n : ℕ = there k later.landed.slots later.landed.heads in
       let more = more_landed k s (known_count z) later.landed.slots later.landed.heads inv.order.mine.published_stored inv.order.mine.stored_published heard
       (known_there k r M z.taken z.consumed n z.receiving later.order.taken_there later.receiving) later.order.mine.heads_slots later.order.mine.slots_heads in
-      row-past fs (sym (append_assoc before es fs)) inv.buffers.rows.mine later.buffers.rows.mine (omega (arith, more, inv.buffers.mine_count))
+      row-past fs (sym (append_assoc before es fs)) inv.rows.mine later.rows.mine more
 
   -- once the sender has used a slot again, or is about to, all that the receiver's hart stored before it freed that slot has
   -- reached memory
@@ -53,7 +53,7 @@ module _ (k : Kind) (r : RingBuffer) (is : IsRingBuffer r) (L M : ℕ → ℕ) (
       let ready : ready_count z + spare k ≤ n + r.size = ready_freed (spare k) r z.stored z.published n z.sending later.order.room later.sending in
       let more = more_freed k s.taken s.consumed inv.landed.cleared inv.landed.tails z.taken z.consumed later.landed.cleared later.landed.tails
       inv.order.theirs later.order.theirs (omega (arith, again, ready, spare_capacity k r.size is.some_slots)) in
-      row-past fs (sym (append_assoc before es fs)) inv.buffers.rows.theirs later.buffers.rows.theirs (omega (arith, more, inv.buffers.theirs_count))
+      row-past fs (sym (append_assoc before es fs)) inv.rows.theirs later.rows.theirs more
 
 module _ (B : ℕ) (r : RingBuffer) (o : OpeningValue) (before es fs : List Entry) (t : FollowsSpscProtocol B r o before (es ++ fs)) where
   abbrev L : ℕ → ℕ

@@ -1,6 +1,6 @@
 -- Rows of stores, of any protocol: each party stores to the block in an order that is known, and what an entry does to the
 -- block is to leave it, to make a party's next store pending, or to land a party's oldest.
-use Rattle.std.proofs.Common.{ℕ, zero, suc, ◌+◌, ◌<◌, ◌≤◌, ◌≡◌, ◌≢◌, ◌==◌, ◌⊎◌, inl, inr, Bool, true, false, if◌then◌else◌, List, [], ◌∷◌, ◌++◌, length, take}
+use Rattle.std.proofs.Common.{ℕ, zero, suc, ◌+◌, ◌-◌, ◌^◌, ◌<◌, ◌≤◌, ◌≡◌, ◌≢◌, ◌==◌, ◌⊎◌, inl, inr, Bool, true, false, if◌then◌else◌, List, [], ◌∷◌, ◌++◌, length, take}
 use Rattle.std.proofs.Common.{refl, sym, ◌∙◌, ap, subst, arith, append-nil, length-append, eq-eqb}
 use Rattle.std.proofs.lemmas.Bool.{cases_eq, ne_eqb}
 use Rattle.memory.specs.declared.writes.Write.{Write}
@@ -38,10 +38,12 @@ pub record Earlier : Type 0 where
 abbrev pub on_count : RingBuffer → (h : ℕ) → List Entry → ℕ
 on_count r h es = length (row_of r (own_stores h es))
 
--- hart h's row is f: i of its stores have landed, and the next n are pending. It had made a others before, and b of these count as its own
+-- hart h's row is f: it has made n of its stores, i of them have landed, and the others are pending. It had made a others before, and b of these
+-- count as its own
 pub record Row (r : RingBuffer) (h a b : ℕ) (f : ℕ → Write) (es : List Entry) (i n : ℕ) : Type 0 where
-  pub pends : row_of r (pending h es) ≡ spread f i n
-  pub made : on_count r h es + b ≡ a + (i + n)
+  pub pends : row_of r (pending h es) ≡ spread f i (n - i)
+  pub landed : i ≤ n
+  pub made : on_count r h es + b ≡ a + n
 
 pub record Rows (r : RingBuffer) (c : Earlier) (f g : ℕ → Write) (es : List Entry) (i n j m : ℕ) : Type 0 where
   pub mine : Row r r.sender c.sender c.ahead f es i n
@@ -89,17 +91,20 @@ pub record Stays (r : RingBuffer) (o : OpeningValue) (es fs : List Entry) : Type
 abbrev pub Lands : RingBuffer → OpeningValue → (es fs : List Entry) → Write → Type 0
 Lands r o es fs w = (a : ℕ) → IsWordIn r a → IsWholeWord w → memory_word o fs a ≡ (if w.addr == a then w.value else memory_word o es a)
 
-pub hit : (r : RingBuffer) (o : OpeningValue) (es fs : List Entry) (w : Write) (a : ℕ) → Lands r o es fs w → IsWordIn r a → IsWholeWord w → w.addr ≡ a
-    → memory_word o fs a ≡ w.value
-hit r o es fs w a is word whole here = is a word whole ∙ ap (λ b. if b then w.value else memory_word o es a) (eq-eqb w.addr a here)
-
-pub miss : (r : RingBuffer) (o : OpeningValue) (es fs : List Entry) (w : Write) (a : ℕ) → Lands r o es fs w → IsWordIn r a → IsWholeWord w → w.addr ≢ a
-    → memory_word o fs a ≡ memory_word o es a
-miss r o es fs w a is word whole there = is a word whole ∙ ap (λ b. if b then w.value else memory_word o es a) (ne_eqb w.addr a there)
+-- so a word of the block is what is written there, and each other one stays
+pub lands-at : (r : RingBuffer) (o : OpeningValue) (es fs : List Entry) (a v : ℕ) → Lands r o es fs (write a 4 v) → IsWordIn r a → v < 2 ^ 32
+    → (memory_word o fs a ≡ v) × ((b : ℕ) → IsWordIn r b → a ≢ b → memory_word o fs b ≡ memory_word o es b)
+lands-at r o es fs a v is word small = (
+  is a word whole ∙ ap (λ t. if t then v else memory_word o es a) (eq-eqb a a refl),
+  λ b other apart. is b other whole ∙ ap (λ t. if t then v else memory_word o es b) (ne_eqb a b apart),
+)
+  where
+    whole : IsWholeWord (write a 4 v)
+    whole = record { whole = refl; aligned = word.aligned; small = small }
 
 row-same : {r : RingBuffer} {h a b : ℕ} {f : ℕ → Write} {es fs : List Entry} {i n : ℕ} → row_of r (pending h fs) ≡ row_of r (pending h es)
     → on_count r h fs ≡ on_count r h es → Row r h a b f es i n → Row r h a b f fs i n
-row-same {b = b} pends made row = record { pends = pends ∙ row.pends; made = ap (λ k. k + b) made ∙ row.made }
+row-same {b = b} pends made row = record { pends = pends ∙ row.pends; landed = row.landed; made = ap (λ k. k + b) made ∙ row.made }
 
 pub rows-stay : {r : RingBuffer} {c : Earlier} {f g : ℕ → Write} {o : OpeningValue} {es fs : List Entry} {i n j m : ℕ}
     → Rows r c f g es i n j m → Stays r o es fs → Rows r c f g fs i n j m
@@ -200,22 +205,28 @@ module _ (r : RingBuffer) (is : IsRingBuffer r) (o : OpeningValue) (es : List En
       one-more h mine = subst (λ g. on_count r g after ≡ on_count r g es + 1) mine
           (made-of (hart_of e) (w ∷ []) stored-of ∙ ap (λ vs. on_count r (hart_of e) es + length vs) (on-one r w on))
 
-      next : {h a b : ℕ} {f : ℕ → Write} {i n : ℕ} → hart_of e ≡ h → Row r h a b f es i n → w ≡ f (i + n) → Row r h a b f after i (suc n)
+      next : {h a b : ℕ} {f : ℕ → Write} {i n : ℕ} → hart_of e ≡ h → Row r h a b f es i n → w ≡ f n → Row r h a b f after i (suc n)
       next {h = h} {f = f} {i = i} {n = n} mine row is_next =
-          record { pends = longer h mine f i n row.pends is_next; made = (let one = one-more h mine in omega (arith, one, row.made)) }
+          let place : n ≡ i + (n - i) = omega (arith, row.landed) in
+          let more : suc (n - i) ≡ suc n - i = omega (arith, row.landed) in
+          record {
+            pends = longer h mine f i (n - i) row.pends (is_next ∙ ap f place) ∙ ap (spread f i) more;
+            landed = omega (arith, row.landed);
+            made = (let one = one-more h mine in omega (arith, one, row.made));
+          }
 
       kept : {h a b : ℕ} {f : ℕ → Write} {i n : ℕ} → hart_of e ≢ h → Row r h a b f es i n → Row r h a b f after i n
       kept {h = h} other row = row-same (same-of h other) (made-none h (no-store-of (store w) does h other)) row
 
       module _ {c : Earlier} {f g : ℕ → Write} {i n j m : ℕ} (rows : Rows r c f g es i n j m) where
-        pub sender-stores : hart_of e ≡ r.sender → w ≡ f (i + n) → Rows r c f g after i (suc n) j m
+        pub sender-stores : hart_of e ≡ r.sender → w ≡ f n → Rows r c f g after i (suc n) j m
         sender-stores mine is_next = record {
           mine = next mine rows.mine is_next;
           theirs = kept (λ same. is.parties (sym mine ∙ same)) rows.theirs;
           others = λ h not_sender not_receiver. same-of h (λ same. not_sender (sym same ∙ mine)) ∙ rows.others h not_sender not_receiver;
         }
 
-        pub receiver-stores : hart_of e ≡ r.receiver → w ≡ g (j + m) → Rows r c f g after i n j (suc m)
+        pub receiver-stores : hart_of e ≡ r.receiver → w ≡ g m → Rows r c f g after i n j (suc m)
         receiver-stores mine is_next = record {
           mine = kept (λ same. is.parties (sym same ∙ mine)) rows.mine;
           theirs = next mine rows.theirs is_next;
@@ -227,8 +238,7 @@ module _ (r : RingBuffer) (is : IsRingBuffer r) (o : OpeningValue) (es : List En
     -- it is off the block, or the next of the sender's row, or the next of the receiver's
     abbrev pub Landing : Type 0
     Landing = Stays r o es after ⊎ (
-        ((k : ℕ) × (n ≡ suc k) × Rows r c f g after (suc i) k j m × Lands r o es after (f i))
-        ⊎ ((k : ℕ) × (m ≡ suc k) × Rows r c f g after i n (suc j) k × Lands r o es after (g j)))
+        ((i < n) × Rows r c f g after (suc i) n j m × Lands r o es after (f i)) ⊎ ((j < m) × Rows r c f g after i n (suc j) m × Lands r o es after (g j)))
 
     module _ (does : access_of e ≡ land) (w : Write) (rest : List Write) (first : pending (hart_of e) es ≡ w ∷ rest) where
       none-stored : (h : ℕ) → own_store h e ≡ []
@@ -265,15 +275,16 @@ module _ (r : RingBuffer) (is : IsRingBuffer r) (o : OpeningValue) (es : List En
 
       -- it is the oldest of its hart's row
       oldest : {h a b : ℕ} {q : ℕ → Write} {p k : ℕ} → hart_of e ≡ h → Row r h a b q es p k → shared r w ≡ true
-          → (l : ℕ) × (k ≡ suc l) × Row r h a b q after (suc p) l × (w ≡ q p)
+          → (p < k) × Row r h a b q after (suc p) k × (w ≡ q p)
       oldest {h = h} {a = a} {b = b} {q = q} {p = p} {k = k} mine row on =
-          let split = split_on r w rest q p k on (row-of h mine (spread q p k) row.pends) in (
-            split.0,
-            split.1,
+          let split = split_on r w rest q p (k - p) on (row-of h mine (spread q p (k - p)) row.pends) in
+          let left : split.0 ≡ k - suc p = omega (arith, split.1) in (
+            omega (arith, split.1),
             record {
-              pends = subst (λ g. row_of r (pending g after) ≡ spread q (suc p) split.0) mine (ap (row_of r) left-of ∙ split.3);
-              made = ap (λ x. x + b) (made-none h (none-stored h)) ∙ row.made
-                  ∙ (let same : a + (p + k) ≡ a + (suc p + split.0) = omega (arith, split.1) in same);
+              pends = subst (λ g. row_of r (pending g after) ≡ spread q (suc p) (k - suc p)) mine
+                  (ap (row_of r) left-of ∙ split.3 ∙ ap (spread q (suc p)) left);
+              landed = omega (arith, split.1);
+              made = ap (λ x. x + b) (made-none h (none-stored h)) ∙ row.made;
             },
             split.2,
           )
@@ -289,25 +300,23 @@ module _ (r : RingBuffer) (is : IsRingBuffer r) (o : OpeningValue) (es : List En
               let one = oldest mine rows.mine on in
               inr (inl (
                 one.0,
-                one.1,
                 record {
-                  mine = one.2;
+                  mine = one.1;
                   theirs = kept-row (λ same. is.parties (sym mine ∙ same)) rows.theirs;
                   others = λ h not_sender not_receiver. kept-of h (λ same. not_sender (sym same ∙ mine)) ∙ rows.others h not_sender not_receiver;
                 },
-                written (f i) one.3,
+                written (f i) one.2,
               ))
           at (inr other) (inl mine) =
               let one = oldest mine rows.theirs on in
               inr (inr (
                 one.0,
-                one.1,
                 record {
                   mine = kept-row other rows.mine;
-                  theirs = one.2;
+                  theirs = one.1;
                   others = λ h not_sender not_receiver. kept-of h (λ same. not_receiver (sym same ∙ mine)) ∙ rows.others h not_sender not_receiver;
                 },
-                written (g j) one.3,
+                written (g j) one.2,
               ))
           at (inr other) (inr another) =
               let none : row_of r (w ∷ rest) ≡ [] = row-of (hart_of e) refl [] (rows.others (hart_of e) other another) in

@@ -160,7 +160,7 @@ module _ (B : ℕ) (r : RingBuffer) (is : IsRingBuffer r) (F : List ℕ) (small 
           → Invariant k r L c o after s
       by (store w) does allowed off copied = rests (off-stays r is o es e even w does (off_shared r w off)) copied
       by (exchange a old new) does allowed off copied = rests (exchange-stays r is o es e even a old new does (off_shared r (write a 4 new) off)) copied
-      by land does allowed off copied = lands-store k r is L small c o es s inv e even copied does allowed
+      by land does allowed off copied = lands-store r is L small c o es s e copied k inv even does allowed
       by x does allowed off copied = rests (still-stays r is o es e even x does (λ h. refl) (λ h. refl) refl) copied
 
   -- a load of a word

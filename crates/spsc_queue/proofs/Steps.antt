@@ -17,7 +17,7 @@ use Rattle.spsc_queue.specs.Protocol.{IsWordAt, IsSendable, IsCopyStore, IsTakin
 use Rattle.spsc_queue.specs.Laws.{ready_by_state}
 use Rattle.spsc_queue.proofs.Words.{is_copy, shared, word_on}
 use Rattle.spsc_queue.proofs.Spread.{sent_store, freed_store, sent-slot, sent-head, offset_low}
-use Rattle.spsc_queue.proofs.Rows.{row-stores, row-publishes, RowOrder, Earlier, Stays, rows-stay, words-stay}
+use Rattle.spsc_queue.proofs.Rows.{row-stores, row-publishes, RowOrder, Earlier, Rows, Stays, rows-stay, words-stay}
 use Rattle.spsc_queue.proofs.Rows.{off-stays, kept-pending, more-of, sender-stores, receiver-stores}
 use Rattle.spsc_queue.proofs.Copies.{Copied, CopyStays, copied-on, own_read}
 use Rattle.spsc_queue.proofs.Invariant.{turned, zeros, cleared_store, Landed, firsts, spare, freed, there, their_store, their_landed, they_made, Theirs, Words}
@@ -61,13 +61,7 @@ module _ (K : Kind) (r : RingBuffer) (is : IsRingBuffer r) (L : ℕ → ℕ) (c 
     nonzero = inv.nonzero;
     sending = sending;
     receiving = receiving;
-    buffers = record {
-      unsent = inv.buffers.unsent;
-      unread = inv.buffers.unread;
-      rows = rows-stay inv.buffers.rows block;
-      mine_count = inv.buffers.mine_count;
-      theirs_count = inv.buffers.theirs_count;
-    };
+    rows = rows-stay inv.rows block;
     sent = inv.sent;
     received = inv.received;
     copy = copy;
@@ -86,8 +80,8 @@ module _ (K : Kind) (r : RingBuffer) (is : IsRingBuffer r) (L : ℕ → ℕ) (c 
     words = words-same (λ a word. words-stay r is o es e even w does a)
 
     -- the sender's next store, after which it stored n words and m heads
-    sends-one : hart_of e ≡ r.sender → w ≡ sent_store r L ((d.slots + d.heads) + inv.buffers.unsent) → (p : SenderState) (n m : ℕ) (got : List ℕ)
-        → n + m ≡ s.stored + s.published + 1 → RowOrder n m d.slots d.heads → n + spare K ≤ freed K d.cleared d.tails + r.size
+    sends-one : hart_of e ≡ r.sender → w ≡ sent_store r L (s.stored + s.published) → (p : SenderState) (n m : ℕ) (got : List ℕ)
+        → suc (s.stored + s.published) ≡ n + m → RowOrder n m d.slots d.heads → n + spare K ≤ freed K d.cleared d.tails + r.size
         → (K ≡ fastforward → (j : ℕ) → j < n → L j ≢ 0) → SendingIs (spare K) r n m (freed K d.cleared d.tails) p → got ≡ firsts L n
         → n + ready_by_state p ≤ s.stored + ready_by_state s.sending
         → Invariant K r L c o after (record s { sending = p; stored = n; published = m; sent = got })
@@ -98,13 +92,8 @@ module _ (K : Kind) (r : RingBuffer) (is : IsRingBuffer r) (L : ℕ → ℕ) (c 
       nonzero = nonzero;
       sending = sending;
       receiving = inv.receiving;
-      buffers = record {
-        unsent = suc inv.buffers.unsent;
-        unread = inv.buffers.unread;
-        rows = sender-stores r is o es e even w does on inv.buffers.rows mine is_next;
-        mine_count = omega (arith, inv.buffers.mine_count, one);
-        theirs_count = inv.buffers.theirs_count;
-      };
+      rows = subst (λ k. Rows r c (sent_store r L) (their_store K r) after (d.slots + d.heads) k (their_landed K d.cleared d.tails)
+          (they_made K s.taken s.consumed)) one (sender-stores r is o es e even w does on inv.rows mine is_next);
       sent = sent;
       received = inv.received;
       copy = copy-stays copied (n + ready_by_state p) few;
@@ -129,10 +118,10 @@ module _ (K : Kind) (r : RingBuffer) (is : IsRingBuffer r) (L : ℕ → ℕ) (c 
           | inr other ↦ inv.nonzero kind j (omega arith)
         ]
 
-        is_next : w ≡ sent_store r L ((d.slots + d.heads) + inv.buffers.unsent)
+        is_next : w ≡ sent_store r L (s.stored + s.published)
         is_next = write-is w (slot_address r s.stored) (L s.stored)
             (record { place = word.place ∙ ap (λ x. r.slots + x) (known.1 ∙ ap (slot_offset r) (sym known.0)); width = word.width }) value
-            ∙ sym (sent-slot r L ((d.slots + d.heads) + inv.buffers.unsent) s.stored (omega (arith, inv.buffers.mine_count, known.0)))
+            ∙ sym (sent-slot r L (s.stored + s.published) s.stored (omega (arith, known.0)))
 
     pub sends-head : hart_of e ≡ r.sender → (u : ℕ) → s.sending ≡ filled u → IsWordAt w r.head → w.value ≡ next r u
         → Invariant K r L c o after (send_store w (filled u) s)
@@ -142,13 +131,13 @@ module _ (K : Kind) (r : RingBuffer) (is : IsRingBuffer r) (L : ℕ → ℕ) (c 
         known : SendingIs (spare K) r s.stored s.published (freed K d.cleared d.tails) (filled u)
         known = subst (SendingIs (spare K) r s.stored s.published (freed K d.cleared d.tails)) at inv.sending
 
-        is_next : w ≡ sent_store r L ((d.slots + d.heads) + inv.buffers.unsent)
+        is_next : w ≡ sent_store r L (s.stored + s.published)
         is_next = write-is w r.head (slot_offset r (s.published + 1)) word (value ∙ next_offset r is u s.published known.1)
-            ∙ sym (sent-head r L ((d.slots + d.heads) + inv.buffers.unsent) s.published (omega (arith, inv.buffers.mine_count, known.0)))
+            ∙ sym (sent-head r L (s.stored + s.published) s.published (omega (arith, known.0)))
 
     -- the receiver's next store, after which it took n words and stored m tails
-    takes-one : hart_of e ≡ r.receiver → w ≡ their_store K r (their_landed K d.cleared d.tails + inv.buffers.unread) → (q : ReceiverState) (n m : ℕ)
-        (got : List ℕ) → they_made K n m ≡ they_made K s.taken s.consumed + 1 → Theirs K n m d.cleared d.tails → n ≤ there K d.slots d.heads
+    takes-one : hart_of e ≡ r.receiver → w ≡ their_store K r (they_made K s.taken s.consumed) → (q : ReceiverState) (n m : ℕ)
+        (got : List ℕ) → suc (they_made K s.taken s.consumed) ≡ they_made K n m → Theirs K n m d.cleared d.tails → n ≤ there K d.slots d.heads
         → ReceivingIs K r L n m (there K d.slots d.heads) q → got ≡ firsts L n
         → Invariant K r L c o after (record s { receiving = q; taken = n; consumed = m; received = got })
     takes-one mine is_next q n m got one theirs taken_there receiving received = record {
@@ -158,13 +147,8 @@ module _ (K : Kind) (r : RingBuffer) (is : IsRingBuffer r) (L : ℕ → ℕ) (c 
       nonzero = inv.nonzero;
       sending = inv.sending;
       receiving = receiving;
-      buffers = record {
-        unsent = inv.buffers.unsent;
-        unread = suc inv.buffers.unread;
-        rows = receiver-stores r is o es e even w does on inv.buffers.rows mine is_next;
-        mine_count = inv.buffers.mine_count;
-        theirs_count = omega (arith, inv.buffers.theirs_count, one);
-      };
+      rows = subst (Rows r c (sent_store r L) (their_store K r) after (d.slots + d.heads) (s.stored + s.published) (their_landed K d.cleared d.tails)) one
+          (receiver-stores r is o es e even w does on inv.rows mine is_next);
       sent = inv.sent;
       received = received;
       copy = copy-stays copied (s.stored + ready_by_state s.sending) (omega arith);
@@ -185,9 +169,7 @@ pub takes-word : (K : Kind) (r : RingBuffer) (is : IsRingBuffer r) (L : ℕ → 
 takes-word lamport r is L c o es s inv e even w does copied mine u v at keeps =
     let known = subst (ReceivingIs lamport r L s.taken s.consumed inv.landed.heads) at inv.receiving in
     let on : shared r w ≡ true = word_on r w r.tail is.tail keeps.0 in
-    let is_next : w ≡ freed_store r (inv.landed.tails + inv.buffers.unread) =
-    write-is w r.tail (slot_offset r (s.consumed + 1)) keeps.0 (keeps.1 ∙ next_offset r is u s.consumed known.1)
-    ∙ ap (λ j. write r.tail 4 (slot_offset r (j + 1))) (omega (arith, inv.buffers.theirs_count)) in
+    let is_next : w ≡ freed_store r s.consumed = write-is w r.tail (slot_offset r (s.consumed + 1)) keeps.0 (keeps.1 ∙ next_offset r is u s.consumed known.1) in
     takes-one lamport r is L c o es s inv e even w does on copied mine is_next idle (s.taken + 1) (s.consumed + 1) (s.received ++ v ∷ []) (omega arith)
     (omega (arith, known.0), omega (arith, inv.order.theirs.1)) (omega (arith, known.2)) (omega (arith, known.0))
     (one_received lamport r is L c o es s inv e even w does on copied u v known)
@@ -195,10 +177,9 @@ takes-word fastforward r is L c o es s inv e even w does copied mine u v at keep
     let known = subst (ReceivingIs fastforward r L s.taken s.consumed inv.landed.slots) at inv.receiving in
     let word : IsWordAt w (slot_address r s.consumed) = record { place = keeps.0.place ∙ ap (λ x. r.slots + x) known.1; width = keeps.0.width } in
     let on : shared r w ≡ true = word_on r w (slot_address r s.consumed) (slot_word r is s.consumed) word in
-    let is_next : w ≡ cleared_store r ((inv.landed.cleared + inv.landed.tails) + inv.buffers.unread) =
+    let is_next : w ≡ cleared_store r (s.taken + s.consumed) =
     write-is w (slot_address r s.consumed) 0 word keeps.1 ∙ ap (λ j. write (slot_address r j) 4 0) (sym known.0)
-    ∙ sym (sent-slot (turned r) zeros ((inv.landed.cleared + inv.landed.tails) + inv.buffers.unread) s.taken
-    (omega (arith, inv.buffers.theirs_count, known.0))) in
+    ∙ sym (sent-slot (turned r) zeros (s.taken + s.consumed) s.taken (omega (arith, known.0))) in
     takes-one fastforward r is L c o es s inv e even w does on copied mine is_next (cleared u) (s.taken + 1) s.consumed (s.received ++ v ∷ []) (omega arith)
     (row-stores inv.order.theirs known.0) (omega (arith, known.2)) (omega (arith, known.0), known.1, refl)
     (one_received fastforward r is L c o es s inv e even w does on copied u v known)
@@ -213,10 +194,9 @@ frees lamport r is L c o es s inv e even w does on copied mine u at word value =
     absurd (let no : lamport ≡ fastforward = known.2 in cc)
 frees fastforward r is L c o es s inv e even w does on copied mine u at word value =
     let known = subst (ReceivingIs fastforward r L s.taken s.consumed inv.landed.slots) at inv.receiving in
-    let is_next : w ≡ cleared_store r ((inv.landed.cleared + inv.landed.tails) + inv.buffers.unread) =
+    let is_next : w ≡ cleared_store r (s.taken + s.consumed) =
     write-is w r.tail (slot_offset r (s.consumed + 1)) word (value ∙ next_offset r is u s.consumed known.1)
-    ∙ sym (sent-head (turned r) zeros ((inv.landed.cleared + inv.landed.tails) + inv.buffers.unread) s.consumed
-    (omega (arith, inv.buffers.theirs_count, known.0))) in
+    ∙ sym (sent-head (turned r) zeros (s.taken + s.consumed) s.consumed (omega (arith, known.0))) in
     takes-one fastforward r is L c o es s inv e even w does on copied mine is_next idle s.taken (s.consumed + 1) s.received (omega arith)
     (row-publishes inv.order.theirs known.0) inv.order.taken_there known.0 inv.received
 
