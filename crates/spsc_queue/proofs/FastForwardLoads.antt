@@ -13,7 +13,7 @@ use Rattle.spsc_queue.specs.Protocol.{SenderState, resting, placed, renewing, ro
 use Rattle.spsc_queue.specs.Protocol.{waiting, holding, cleared, ProtocolState}
 use Rattle.spsc_queue.specs.Protocol.{looks_at, send_look, send_load, receive_look, receive_load}
 use Rattle.spsc_queue.proofs.Words.{seen}
-use Rattle.spsc_queue.proofs.Spread.{none-there, slot_apart, spread, sent_store, sent-slot, sent-head, seen-heads, slot_not_head}
+use Rattle.spsc_queue.proofs.Spread.{none-there, slot_apart, spread, sent_store, sent-slot, sent-cases, seen-heads, slot_not_head}
 use Rattle.spsc_queue.proofs.Rows.{Earlier}
 use Rattle.spsc_queue.proofs.Cases.{by-send-load, by-receive-load}
 use Rattle.spsc_queue.proofs.Invariant.{placed-of, level-counts, whole-counts}
@@ -42,15 +42,19 @@ last-there a x v f i (suc n) q from below is after = at (cases_eq i q)
 -- the addresses of a row: a slot's only where its number is near
 row_apart : (r : RingBuffer) (is : IsRingBuffer r) (L : ℕ → ℕ) (p J : ℕ)
     → (p % 2 ≡ 0 → (p / 2 < J) × (J < p / 2 + r.size)) → (sent_store r L p).addr ≢ slot_address r J
-row_apart r is L p J near = at (cases_eq (p % 2) 0)
-  where
-    at : (p % 2 ≡ 0) ⊎ (p % 2 ≢ 0) → (sent_store r L p).addr ≢ slot_address r J
-    at (inl even) = λ same.
-        let place : (sent_store r L p).addr ≡ slot_address r (p / 2) = ap (λ (w : Write). w.addr) (sent-slot r L p (p / 2) (omega (arith, even))) in
-        slot_apart r is (p / 2) J (near even).0 (near even).1 (sym place ∙ same)
-    at (inr odd) = λ same.
-        let place : (sent_store r L p).addr ≡ r.head = ap (λ (w : Write). w.addr) (sent-head r L p (p / 2) (omega (arith, odd))) in
-        slot_not_head r is J (sym same ∙ place)
+row_apart r is L p J near = sent-cases r is L (λ w. w.addr ≢ slot_address r J) p (λ even. slot_apart r is (p / 2) J (near even).0 (near even).1)
+    (λ odd same. slot_not_head r is J (sym same))
+
+-- what is in a slot after n stores of a row from the i-th on: none goes there, or just one that is a round before
+module _ (r : RingBuffer) (is : IsRingBuffer r) (L : ℕ → ℕ) (J v i n : ℕ) (upto : i + n ≤ 2 * J) where
+  row-past : 2 * J < i + 2 * r.size → seen (slot_address r J) v (spread (sent_store r L) i n) ≡ v
+  row-past near = none-there (slot_address r J) v (sent_store r L) i n (λ p from below. row_apart r is L p J (λ even. (omega (arith, below, even, upto),
+      omega (arith, from, even, near))))
+
+  row-last : (q : ℕ) → J ≡ q + r.size → i ≤ 2 * q → 2 * q < i + n → seen (slot_address r J) v (spread (sent_store r L) i n) ≡ L q
+  row-last q again from below = last-there (slot_address r J) (L q) v (sent_store r L) i n (2 * q) from below
+      (sent-slot r L (2 * q) q refl ∙ ap (λ a. write a 4 (L q)) (sym (slot_again r is q J again)))
+      (λ p after under. row_apart r is L p J (λ even. (omega (arith, under, even, upto), omega (arith, after, even, again))))
 
 -- ---- what each party reads
 
@@ -71,31 +75,30 @@ module _ (r : RingBuffer) (is : IsRingBuffer r) (L : ℕ → ℕ) (small : (j : 
   sender-full level full =
       sender-reads fastforward r is L small c o es s inv (slot_address r s.stored) (slot_word r is s.stored) ∙ at (cases_lt d.cleared d.slots)
     where
-      at : (d.cleared < d.slots) ⊎ (d.slots ≤ d.cleared) → seen (slot_address r s.stored) (memory_word o es (slot_address r s.stored))
-          (spread (sent_store r L) (d.slots + d.heads) (unsent s inv.landed)) ≡ L d.cleared
-      at (inl landed) =
-          none-there (slot_address r s.stored) (memory_word o es (slot_address r s.stored)) (sent_store r L) (d.slots + d.heads) (unsent s inv.landed)
-          (λ p from below. row_apart r is L p s.stored (λ even. (
-            omega (arith, below, even, level, inv.rows.mine.landed),
-            omega (arith, from, even, full, landed, inv.order.mine.heads_slots, inv.order.mine.slots_heads),
-          ))) ∙ ap (memory_word o es) (slot_again r is d.cleared s.stored full) ∙ inv.words.full d.cleared (omega arith) landed
+      v : ℕ
+      v = memory_word o es (slot_address r s.stored)
+
+      upto : (d.slots + d.heads) + unsent s inv.landed ≤ 2 * s.stored
+      upto = omega (arith, level, inv.rows.mine.landed)
+
+      at : (d.cleared < d.slots) ⊎ (d.slots ≤ d.cleared)
+          → seen (slot_address r s.stored) v (spread (sent_store r L) (d.slots + d.heads) (unsent s inv.landed)) ≡ L d.cleared
+      at (inl landed) = row-past r is L s.stored v (d.slots + d.heads) (unsent s inv.landed) upto
+          (omega (arith, full, landed, inv.order.mine.heads_slots, inv.order.mine.slots_heads))
+          ∙ ap (memory_word o es) (slot_again r is d.cleared s.stored full) ∙ inv.words.full d.cleared (omega arith) landed
       at (inr none) =
           let same : d.cleared ≡ d.slots = omega (arith, none, inv.order.theirs.slots_stored, inv.order.taken_there) in
-          last-there (slot_address r s.stored) (L d.cleared) (memory_word o es (slot_address r s.stored))
-          (sent_store r L) (d.slots + d.heads) (unsent s inv.landed)
-          (2 * d.cleared) (omega (arith, same, inv.order.mine.heads_slots)) (omega (arith, same, level, full, is.some_slots, inv.rows.mine.landed))
-          (sent-slot r L (2 * d.cleared) d.cleared refl ∙ ap (λ a. write a 4 (L d.cleared)) (sym (slot_again r is d.cleared s.stored full)))
-          (λ p from below. row_apart r is L p s.stored (λ even. (omega (arith, below, even, level, inv.rows.mine.landed), omega (arith, from, even, full))))
+          row-last r is L s.stored v (d.slots + d.heads) (unsent s inv.landed) upto d.cleared full (omega (arith, same, inv.order.mine.heads_slots))
+          (omega (arith, same, level, full, is.some_slots, inv.rows.mine.landed))
 
   -- and 0 where the slot is free in memory
   pub sender-free : s.stored ≡ s.published → s.stored < d.cleared + r.size → read o es r.sender (slot_address r s.stored) 4 ≡ 0
   sender-free level room =
       sender-reads fastforward r is L small c o es s inv (slot_address r s.stored) (slot_word r is s.stored)
-      ∙ none-there (slot_address r s.stored) (memory_word o es (slot_address r s.stored)) (sent_store r L) (d.slots + d.heads) (unsent s inv.landed)
-      (λ p from below. row_apart r is L p s.stored (λ even. (
-        omega (arith, below, even, level, inv.rows.mine.landed),
-        omega (arith, from, even, room, inv.order.theirs.slots_stored, inv.order.taken_there, inv.order.mine.heads_slots, inv.order.mine.slots_heads),
-      ))) ∙ inv.words.free refl s.stored inv.order.mine.slots_stored room
+      ∙ row-past r is L s.stored (memory_word o es (slot_address r s.stored)) (d.slots + d.heads) (unsent s inv.landed)
+      (omega (arith, level, inv.rows.mine.landed))
+      (omega (arith, room, inv.order.theirs.slots_stored, inv.order.taken_there, inv.order.mine.heads_slots, inv.order.mine.slots_heads))
+      ∙ inv.words.free refl s.stored inv.order.mine.slots_stored room
 
   -- what the receiver reads in its slot
   slot-reads : read o es r.receiver (slot_address r s.taken) 4
@@ -103,13 +106,9 @@ module _ (r : RingBuffer) (is : IsRingBuffer r) (L : ℕ → ℕ) (small : (j : 
   slot-reads = receiver-reads fastforward r is L small c o es s inv (slot_address r s.taken) (slot_word r is s.taken)
 
   slot-near : s.taken ≡ s.consumed → s.taken < d.cleared + r.size → read o es r.receiver (slot_address r s.taken) 4 ≡ memory_word o es (slot_address r s.taken)
-  slot-near level near =
-      slot-reads ∙ none-there (slot_address r s.taken) (memory_word o es (slot_address r s.taken)) (cleared_store r)
-      (d.cleared + d.tails) (unread fastforward s inv.landed)
-      (λ p from below. row_apart (turned r) (turned_is r is) zeros p s.taken (λ even. (
-        omega (arith, below, even, level, inv.rows.theirs.landed),
-        omega (arith, from, even, near, inv.order.theirs.heads_slots, inv.order.theirs.slots_heads),
-      )))
+  slot-near level near = slot-reads
+      ∙ row-past (turned r) (turned_is r is) zeros s.taken (memory_word o es (slot_address r s.taken)) (d.cleared + d.tails) (unread fastforward s inv.landed)
+      (omega (arith, level, inv.rows.theirs.landed)) (omega (arith, near, inv.order.theirs.heads_slots, inv.order.theirs.slots_heads))
 
   -- it finds the word that landed there
   pub receiver-word : s.taken ≡ s.consumed → s.taken < d.slots → read o es r.receiver (slot_address r s.taken) 4 ≡ L s.taken
@@ -128,12 +127,9 @@ module _ (r : RingBuffer) (is : IsRingBuffer r) (L : ℕ → ℕ) (small : (j : 
       at (inr far) c =
           let full : s.taken ≡ d.cleared + r.size = omega (arith, far, inv.order.taken_there, inv.order.mine.slots_stored, inv.order.room) in
           inl (slot-reads
-          ∙ last-there (slot_address r s.taken) 0 (memory_word o es (slot_address r s.taken)) (cleared_store r)
-          (d.cleared + d.tails) (unread fastforward s inv.landed)
-          (2 * d.cleared) (omega (arith, inv.order.theirs.heads_slots)) (omega (arith, level, full, is.some_slots, inv.rows.theirs.landed))
-          (sent-slot (turned r) zeros (2 * d.cleared) d.cleared refl ∙ ap (λ a. write a 4 0) (sym (slot_again r is d.cleared s.taken full)))
-          (λ p from below. row_apart (turned r) (turned_is r is) zeros p s.taken (λ even.
-          (omega (arith, below, even, level, inv.rows.theirs.landed), omega (arith, from, even, full)))))
+          ∙ row-last (turned r) (turned_is r is) zeros s.taken (memory_word o es (slot_address r s.taken)) (d.cleared + d.tails) (unread fastforward s inv.landed)
+          (omega (arith, level, inv.rows.theirs.landed)) d.cleared full (omega (arith, inv.order.theirs.heads_slots))
+          (omega (arith, level, full, is.some_slots, inv.rows.theirs.landed)))
 
   -- ---- loads
 
