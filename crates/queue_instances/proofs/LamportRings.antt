@@ -88,12 +88,16 @@ receiving-more r n k l idle le h = h
 receiving-more r n k l (asked u) le h = h
 receiving-more r n k l (cleared u) le h = h
 
--- the state of the protocol agrees with the counts
-pub record Agrees (r : RingBuffer) (o : OpeningValue) (es : List Entry) (c : QueueCounts) (s : ProtocolState) : Type 0 where
-  pub published : c.published ≡ r.start + s.published
-  pub taken : c.taken ≡ r.start + s.taken
+-- the state of the protocol, in which n words are stored, m published and k taken, agrees with the counts
+pub record Numbers (r : RingBuffer) (c : QueueCounts) (n m k : ℕ) : Type 0 where
+  pub published : c.published ≡ r.start + m
+  pub taken : c.taken ≡ r.start + k
   pub begun : r.start ≤ c.known_taken
-  pub room : s.stored + 1 ≤ freed_known r c + r.size
+  pub room : n + 1 ≤ freed_known r c + r.size
+
+pub record Agrees (r : RingBuffer) (o : OpeningValue) (es : List Entry) (c : QueueCounts) (s : ProtocolState) : Type 0 where
+  pub numbers : Numbers r c s.stored s.published s.taken
+  pub open numbers use *
   pub sending : SendingIs 1 r s.stored s.published (freed_known r c) s.sending
   pub copied : Copied lamport r.copy r o es (s.stored + ready_by_state s.sending) (freed_known r c)
   pub receiving : Receiving r s.taken (c.known_published - r.start) s.receiving
@@ -140,10 +144,12 @@ module _ (r : RingBuffer) (is : IsRingBuffer r) (o : OpeningValue) (es : List En
       let more : c.known_taken ≤ d.known_taken = grows.knows the_sender in
       let heard : c.known_published ≤ d.known_published = grows.knows the_receiver in
       record {
-        published = one ∙ holds.published;
-        taken = two ∙ holds.taken;
-        begun = omega (arith, holds.begun, more);
-        room = omega (arith, holds.room, more);
+        numbers = record {
+          published = one ∙ holds.published;
+          taken = two ∙ holds.taken;
+          begun = omega (arith, holds.begun, more);
+          room = omega (arith, holds.room, more);
+        };
         sending = sending-more 1 r s.stored s.published (freed_known r c) (freed_known r d) s.sending (omega (arith, more)) holds.sending;
         copied = copied-more r.copy r o es (s.stored + ready_by_state s.sending) (freed_known r c)
             (s.stored + ready_by_state s.sending) (freed_known r d) (omega arith) (omega (arith, more)) holds.copied;
@@ -167,10 +173,7 @@ module _ (r : RingBuffer) (is : IsRingBuffer r) (o : OpeningValue) (es : List En
   -- an entry that leaves the copy
   pub onward : (e : Entry) → CopyStays r o es (es ++ e ∷ []) → Agrees r o (es ++ e ∷ []) c s
   onward e copy = record {
-    published = holds.published;
-    taken = holds.taken;
-    begun = holds.begun;
-    room = holds.room;
+    numbers = holds.numbers;
     sending = holds.sending;
     copied = copied-on lamport r.copy r o es (es ++ e ∷ []) (s.stored + ready_by_state s.sending) (freed_known r c)
         (s.stored + ready_by_state s.sending) (freed_known r c) refl copy (omega arith) (omega arith) holds.copied;
@@ -216,10 +219,7 @@ module _ (B : ℕ) (r : RingBuffer) (is : IsRingBuffer r) (o : OpeningValue) (es
   sender-loads : (a v : ℕ) → v ≡ read o es r.sender a 4
       → Agrees r o es (after_load q the_sender a 4 v c) (record s { sending = send_load lamport r a v s.sending })
   sender-loads a v is_read = record {
-    published = old.published;
-    taken = old.taken;
-    begun = old.begun;
-    room = old.room;
+    numbers = old.numbers;
     sending = knows.0;
     copied = knows.1;
     receiving = old.receiving;
@@ -251,10 +251,7 @@ module _ (B : ℕ) (r : RingBuffer) (is : IsRingBuffer r) (o : OpeningValue) (es
   receiver-loads : (a v : ℕ) → v ≡ read o es r.receiver a 4
       → Agrees r o es (after_load q the_receiver a 4 v c) (record s { receiving = receive_load lamport r a v s.receiving })
   receiver-loads a v is_read = record {
-    published = old.published;
-    taken = old.taken;
-    begun = old.begun;
-    room = old.room;
+    numbers = old.numbers;
     sending = old.sending;
     copied = old.copied;
     receiving = by-receive-load lamport r a v Has s.receiving (λ whole here.
@@ -372,10 +369,7 @@ module _ (B : ℕ) (r : RingBuffer) (is : IsRingBuffer r) (o : OpeningValue) (es
           let old : Agrees r o es (after_store q the_sender w c) s = stored r is o es s c holds the_sender w fills in (
             inr fills,
             record {
-              published = old.published;
-              taken = old.taken;
-              begun = old.begun;
-              room = old.room;
+              numbers = old.numbers;
               sending = (h.0, h.1, omega (arith, h.2.2, h.2.3));
               copied = copied-anew r is o es e even w does mine a some keeps.0 (s.stored + ready_by_state s.sending) (freed_known r c) (s.stored + 1)
                   (freed_known r c) h.2.0 holds.copied (keeps.1 ∙ h.2.1) (omega (arith, h.2.2)) h.2.3;
@@ -390,10 +384,7 @@ module _ (B : ℕ) (r : RingBuffer) (is : IsRingBuffer r) (o : OpeningValue) (es
       let ready : ready_by_state s.sending ≡ 1 = ap ready_by_state at in (
         inr fills,
         onward r is o es (send_store w (roomy u) s) (after_store q the_sender w c) (record {
-          published = old.published;
-          taken = old.taken;
-          begun = old.begun;
-          room = omega (arith, h.2);
+          numbers = record { published = old.published; taken = old.taken; begun = old.begun; room = omega (arith, h.2) };
           sending = (omega (arith, h.0), h.1);
           copied = copied-more r.copy r o es (s.stored + ready_by_state s.sending) (freed_known r c)
               (s.stored + 1 + 0) (freed_known r c) (omega (arith, ready)) (omega arith) holds.copied;
@@ -406,10 +397,7 @@ module _ (B : ℕ) (r : RingBuffer) (is : IsRingBuffer r) (o : OpeningValue) (es
       let count : (after_store q the_sender w c).published ≡ c.published + 1 = one.1 in (
         one.0,
         onward r is o es (send_store w (filled u) s) (after_store q the_sender w c) (record {
-          published = omega (arith, count, holds.published);
-          taken = holds.taken;
-          begun = holds.begun;
-          room = holds.room;
+          numbers = record { published = omega (arith, count, holds.published); taken = holds.taken; begun = holds.begun; room = holds.room };
           sending = h.0;
           copied = copied-more r.copy r o es (s.stored + ready_by_state s.sending) (freed_known r c)
               (s.stored + 0) (freed_known r c) (omega arith) (omega arith) holds.copied;
@@ -428,10 +416,7 @@ module _ (B : ℕ) (r : RingBuffer) (is : IsRingBuffer r) (o : OpeningValue) (es
       let count : (after_store q the_receiver w c).taken ≡ c.taken + 1 = one.1 in (
         one.0,
         onward r is o es (receive_store lamport (holding u v) s) (after_store q the_receiver w c) (record {
-          published = holds.published;
-          taken = omega (arith, count, holds.taken);
-          begun = holds.begun;
-          room = holds.room;
+          numbers = record { published = holds.published; taken = omega (arith, count, holds.taken); begun = holds.begun; room = holds.room };
           sending = holds.sending;
           copied = holds.copied;
           receiving = tt;
@@ -505,10 +490,7 @@ lamport_owns B r o before es kind f = record {
 
     begins : Agrees r o before (counts_at_start r) (at_start r o before)
     begins = record {
-      published = refl;
-      taken = omega arith;
-      begun = omega arith;
-      room = omega (arith, fits, f.ring.some_slots);
+      numbers = record { published = refl; taken = omega arith; begun = omega arith; room = omega (arith, fits, f.ring.some_slots) };
       sending = refl;
       copied = copy-at-rest lamport r f.ring o before (r.start - r.start) f.rest kind;
       receiving = tt;

@@ -232,7 +232,7 @@ module _ (n : ℕ) (k : Block) (a b : ℕ) (is : IsRingBuffer (ring_at k a b)) (
       let w : ℕ = slice_index x 11 in
       done_with the_receiver lamport r c x row.frame.left.kept tt w tt u row.copy row.seen (ready-offset k the_receiver u w t row.knows near) tt
       (ready the_receiver lamport r u row.copy row.seen w) (store (write r.tail 4 (next r u)) ∷ []) row.did
-      (chosen (says_empty lamport u row.seen) (looked the_receiver lamport r u row.seen) [] (take_accesses lamport r w u) row.some)
+      (chosen (says_empty lamport u row.seen) (looked the_receiver lamport r u row.seen) [] (take_accesses lamport r w u) row.says)
   ready_done the_receiver fastforward m five seven row =
       let u : ℕ = row.place in
       let w : ℕ = slice_index x 11 in
@@ -249,7 +249,7 @@ module _ (n : ℕ) (k : Block) (a b : ℕ) (is : IsRingBuffer (ring_at k a b)) (
       let index : Access = store (write r.head 4 (next r u)) in
       done_with the_sender K r c x row.frame.left.kept row.word w row.word u row.copy row.seen (stored-offset k the_sender u t row.knows near) tt
       (looks ++ slot ∷ []) (index ∷ []) row.did
-      (append_assoc looks (slot ∷ []) (index ∷ []) ∙ chosen (sees_full r.copy K r u row.copy row.seen) looks [] (slot ∷ index ∷ []) row.some)
+      (append_assoc looks (slot ∷ []) (index ∷ []) ∙ chosen (sees_full r.copy K r u row.copy row.seen) looks [] (slot ∷ index ∷ []) row.says)
 
   half_taken : (m i : ℕ) → Half n the_receiver fastforward k r c m i ws x t → Done the_receiver fastforward r c x
   half_taken m i row =
@@ -257,7 +257,7 @@ module _ (n : ℕ) (k : Block) (a b : ℕ) (is : IsRingBuffer (ring_at k a b)) (
       let w : ℕ = slice_index x 11 in
       done_with the_receiver fastforward r c x row.frame.left.kept tt w tt u row.copy row.seen (stored-offset k the_receiver u t row.knows near) row.found
       (looked the_receiver fastforward r u row.seen ++ store (write (r.slots + u) 4 0) ∷ []) (store (write r.tail 4 (next r u)) ∷ []) row.did
-      (chosen (says_empty fastforward u row.seen) (looked the_receiver fastforward r u row.seen) [] (take_accesses fastforward r w u) row.some)
+      (chosen (says_empty fastforward u row.seen) (looked the_receiver fastforward r u row.seen) [] (take_accesses fastforward r w u) row.says)
 
   finished_done : (p : Party) (K : Kind) (m answer : ℕ) (vs : List ℕ) → Finished n p K k r c m vs x t answer → Done p K r c x
   finished_done p K m answer vs row =

@@ -122,7 +122,7 @@ module _ (M n a b : ℕ) (k : Block) (is : IsBlock M k) (h : ℕ) (s : HartState
         (λ made q. q)
     sends_at at_20 place row = index_stores sending near 8 place (omega arith) (reg_of 5) refl (omega arith)
         (line_at sending 8 place refl) row refl (sender_publishes fastforward r t row.place row.knows)
-        (send_whole fastforward r t row.place row.copy row.seen (slice_index x 11) row.some)
+        (send_whole fastforward r t row.place row.copy row.seen (slice_index x 11) row.says)
     sends_at line place row = absurd row
 
   -- ---- fastforward_receive
@@ -194,5 +194,5 @@ module _ (M n a b : ℕ) (k : Block) (is : IsBlock M k) (h : ℕ) (s : HartState
         (receiver_puts row.place (slice_index x 11) row.knows) (λ made q. q)
     takes_at at_20 place row = index_stores taking near 8 place (omega arith) (reg_of 5) refl (omega arith) (line_at taking 8 place refl) row refl
         (λ made word value. subst (λ q. IsReceiverStore fastforward r q made) (sym row.knows) (word, value))
-        (receive_whole row.place row.seen (slice_index x 11) row.some)
+        (receive_whole row.place row.seen (slice_index x 11) row.says)
     takes_at line place row = absurd row

@@ -177,7 +177,7 @@ module _ (M n a b : ℕ) (k : Block) (is : IsBlock M k) (h : ℕ) (s : HartState
     sends_20 : IsAt s (Store store_op.Word (reg_of 10) (reg_of 7) (pos 0)) → Sends at_20
     sends_20 here place row =
         index_stores sending near 8 place (omega arith) (reg_of 7) refl (omega arith) here row refl
-        (sender_publishes lamport r t row.place row.knows) (send_whole lamport r t row.place row.copy row.seen (slice_index x 11) row.some)
+        (sender_publishes lamport r t row.place row.knows) (send_whole lamport r t row.place row.copy row.seen (slice_index x 11) row.says)
 
     -- try_send
     pub sends_at : k.caches ≡ false → (line : At) → s.pc ≡ 4 * (n + number line) → OwnRow n the_sender lamport k r c ws line x (part the_sender t)
@@ -252,9 +252,8 @@ module _ (M n a b : ℕ) (k : Block) (is : IsBlock M k) (h : ℕ) (s : HartState
             let found : sees_full r.copy lamport r (slice_index x 5) row.copy (slice_index x 6) ≡ true =
             ap (λ q. sees_full q lamport r (slice_index x 5) row.copy (slice_index x 6)) copies ∙ both_full in
             record {
-              place = slice_index x 5;
-              copy = row.copy;
-              seen = slice_index x 6;
+              no = true;
+              choice = record { place = slice_index x 5; copy = row.copy; seen = slice_index x 6; says = found };
               left = more_left (omega (arith, le)) (left_on nothing row.frame.left);
               word = row.word;
               found = tt;
@@ -271,7 +270,7 @@ module _ (M n a b : ℕ) (k : Block) (is : IsBlock M k) (h : ℕ) (s : HartState
                   ∙ ap (λ q. load r.head 4 (slice_index x 5) ∷ load (k.base + 4) 4 row.copy ∷ load r.tail 4 (slice_index x 6)
                   ∷ ((if q then [] else store (write (k.base + 4) 4 (slice_index x 6)) ∷ [])
                   ++ (if q then [] else stores_of r (slice_index x 11) (slice_index x 5)))) full);
-              answers = sym (ap (λ q. if q then 0 else 1) found);
+              answers = refl;
             }
 
         cached_at : (line : At) → s.pc ≡ 4 * (n + number line)
@@ -355,22 +354,21 @@ module _ (M n a b : ℕ) (k : Block) (is : IsBlock M k) (h : ℕ) (s : HartState
             let here : slice_index x 10 + 4 ≡ k.base + 4 = ap (λ y. y + 4) row.0.frame.block in
             let hits : overlaps r made ≡ true = grind (arith, nat_tests, row.0.frame.block) in
             let becomes = copy-stored lamport r made hits t (slice_index x 5) (slice_index x 6) row.0.knows in
+            let some : sees_full r.copy lamport r (slice_index x 5) row.0.copy (slice_index x 6) ≡ false =
+            ap (λ q. sees_full q lamport r (slice_index x 5) row.0.copy (slice_index x 6)) copies
+            ∙ ap (λ q. q && says_full lamport r (slice_index x 5) (slice_index x 6)) row.0.full ∙ row.1 in
             (stores_to sending at_40 (slice_index x 10 + 4) (slice_index x 6)
             (store_line (line_here 15 place refl) (omega (arith, row.0.frame.block, is.aligned)) refl
             (omega (arith, row.0.frame.block, is.inside, has.words)) (omega (arith, has.words, is.small))) (ahead 15 place (omega arith))
             (subst (λ q. IsSenderStore lamport r q made) (sym row.0.knows)
             (subst (λ q. IsCopyStore q (slice_index x 6) made) (sym copies) (record { place = here; width = refl }, refl))) (
               record {
-                place = slice_index x 5;
-                copy = row.0.copy;
-                seen = slice_index x 6;
+                choice = record { place = slice_index x 5; copy = row.0.copy; seen = slice_index x 6; says = some };
                 frame = frame_on (store made) row.0.frame;
                 word = row.0.word;
                 found = tt;
                 knows = ap (λ (y : Part). y.sending) becomes;
                 level = subst Level (sym becomes) (record { sending = tt; receiving = tt });
-                some = ap (λ q. sees_full q lamport r (slice_index x 5) row.0.copy (slice_index x 6)) copies
-                    ∙ ap (λ q. q && says_full lamport r (slice_index x 5) (slice_index x 6)) row.0.full ∙ row.1;
                 x5 = refl;
                 x7 = row.0.after;
                 words = ap (λ (y : Part). y.words) becomes ∙ row.0.words;
@@ -457,15 +455,12 @@ module _ (M n a b : ℕ) (k : Block) (is : IsBlock M k) (h : ℕ) (s : HartState
         let eleven : v ≡ slice_index (slice_set x 11 v) 11 = sym (set-same x 11 v (omega (arith, has.size))) in
         loads_to taking at_14 (slice_index x 7 + 128) (reg_of 11) (load_line (line_at taking 4 place refl) (omega (arith, row.1, is.aligned, bound.1)) refl
         (omega (arith, row.1, bound.0, is.inside, has.words)) (omega (arith, has.words, is.small))) (on taking 4 place (omega arith)) (record {
-          place = u;
-          copy = row.0.seen;
-          seen = row.0.seen;
+          choice = record { place = u; copy = row.0.seen; seen = row.0.seen; says = row.0.some };
           frame = frame_set (load (slice_index x 7 + 128) 4 v) 11 v free_11 (λ e. omega arith) row.0.frame;
           word = tt;
           found = tt;
           knows = word-load lamport r t (slice_index x 7 + 128) v u row.0.knows (λ e. omega (arith, row.1)) (omega (arith, row.1)) ∙ ap (holding u) eleven;
           level = (level-next lamport r the_receiver t (load (slice_index x 7 + 128) 4 v) tt row.0.level).0;
-          some = row.0.some;
           x5 = set-other x 11 5 v (λ e. omega arith);
           x7 = set-other x 11 7 v (λ e. omega arith) ∙ row.1;
           words = row.0.words;
@@ -492,9 +487,8 @@ module _ (M n a b : ℕ) (k : Block) (is : IsBlock M k) (h : ℕ) (s : HartState
         (store_line (line_at taking 8 place refl) (omega (arith, row.frame.block, is.aligned)) refl
         (omega (arith, row.frame.block, is.inside, has.words)) (omega (arith, has.words, is.small))) (on taking 8 place (omega arith))
         (subst (λ q. IsReceiverStore lamport r q made) (sym row.knows) (here, row.x5)) (record {
-          place = u;
-          copy = row.copy;
-          seen = row.seen;
+          no = false;
+          choice = row.choice;
           left = left_on (store made) row.frame.left;
           word = tt;
           found = tt;
@@ -503,8 +497,8 @@ module _ (M n a b : ℕ) (k : Block) (is : IsBlock M k) (h : ℕ) (s : HartState
           words = ap (λ (y : Part). y.words) becomes ∙ ap (λ zs. zs ++ slice_index x 11 ∷ []) row.words;
           did = ap (λ zs. zs ++ store made ∷ []) row.did
               ∙ ap (λ y. looked the_receiver lamport r u row.seen ++ load (r.slots + u) 4 (slice_index x 11) ∷ store y ∷ []) is_made
-              ∙ ap (λ zs. looked the_receiver lamport r u row.seen ++ zs) (if_false (row.seen == u) [] (take_accesses lamport r (slice_index x 11) u) row.some);
-          answers = if_false (row.seen == u) 0 1 row.some;
+              ∙ ap (λ zs. looked the_receiver lamport r u row.seen ++ zs) (if_false (row.seen == u) [] (take_accesses lamport r (slice_index x 11) u) row.says);
+          answers = refl;
         })
 
     pub takes_at : (line : At) → s.pc ≡ 4 * (n + number line)

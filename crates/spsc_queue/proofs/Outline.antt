@@ -178,17 +178,22 @@ pub record Past (n : ℕ) (k : Block) (r : RingBuffer) (c : Course) (m : ℕ) (w
   pub words : t.words ≡ ws
   pub did : c.did ≡ load r.head 4 (slice_index x 5) ∷ load (k.base + 4) 4 copy ∷ since
 
--- it may store, at a place of which x5 and x7 are made
-pub record Ready (n : ℕ) (p : Party) (K : Kind) (k : Block) (r : RingBuffer) (c : Course) (m : ℕ) (ws x : List ℕ) (t : Part) (five seven : ℕ → ℕ) : Type 0 where
+-- its index, what its copy says, what it read last, and whether it so saw that there is no room, or no word
+pub record Choice (p : Party) (K : Kind) (r : RingBuffer) (no : Bool) : Type 0 where
   pub place : ℕ
   pub copy : ℕ
   pub seen : ℕ
+  pub says : says_no p K r place copy seen ≡ no
+
+-- it may store, at a place of which x5 and x7 are made
+pub record Ready (n : ℕ) (p : Party) (K : Kind) (k : Block) (r : RingBuffer) (c : Course) (m : ℕ) (ws x : List ℕ) (t : Part) (five seven : ℕ → ℕ) : Type 0 where
+  pub choice : Choice p K r false
+  pub open choice use *
   pub frame : Frame n p k c m x
   pub word : Word p c.entry (slice_index x 11)
   pub found : Found p K seen (slice_index x 11)
   pub knows : MayStore p place (slice_index x 11) t
   pub level : Level t
-  pub some : says_no p K r place copy seen ≡ false
   pub x5 : slice_index x 5 ≡ five place
   pub x7 : slice_index x 7 ≡ seven place
   pub words : t.words ≡ ws
@@ -196,23 +201,21 @@ pub record Ready (n : ℕ) (p : Party) (K : Kind) (k : Block) (r : RingBuffer) (
 
 -- it has stored to the slot, and the next offset is in register i
 pub record Half (n : ℕ) (p : Party) (K : Kind) (k : Block) (r : RingBuffer) (c : Course) (m i : ℕ) (ws x : List ℕ) (t : Part) : Type 0 where
-  pub place : ℕ
-  pub copy : ℕ
-  pub seen : ℕ
+  pub choice : Choice p K r false
+  pub open choice use *
   pub frame : Frame n p k c m x
   pub word : Word p c.entry (slice_index x 11)
   pub found : Found p K seen (slice_index x 11)
   pub knows : Stored p place t
-  pub some : says_no p K r place copy seen ≡ false
   pub after : slice_index x i ≡ next r place
   pub words : t.words ≡ ws ++ slice_index x 11 ∷ []
   pub did : c.did ≡ ready p K r place copy seen (slice_index x 11) ++ store (write (r.slots + place) 4 (put p (slice_index x 11))) ∷ []
 
 -- all its accesses are made, and it is to answer so
 pub record Finished (n : ℕ) (p : Party) (K : Kind) (k : Block) (r : RingBuffer) (c : Course) (m : ℕ) (ws x : List ℕ) (t : Part) (answer : ℕ) : Type 0 where
-  pub place : ℕ
-  pub copy : ℕ
-  pub seen : ℕ
+  pub no : Bool
+  pub choice : Choice p K r no
+  pub open choice use *
   pub left : Left n p k c m x
   pub word : Word p c.entry (slice_index x 11)
   pub found : Found p K seen (slice_index x 11)
@@ -220,7 +223,7 @@ pub record Finished (n : ℕ) (p : Party) (K : Kind) (k : Block) (r : RingBuffer
   pub among : IsOffset k place
   pub words : t.words ≡ ws
   pub did : c.did ≡ all_accesses p K r (slice_index x 11) place copy seen
-  pub answers : answer ≡ (if says_no p K r place copy seen then 0 else 1)
+  pub answers : answer ≡ (if no then 0 else 1)
 
 -- ---- the lines
 
