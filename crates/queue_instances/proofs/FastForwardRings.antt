@@ -13,7 +13,7 @@ use Rattle.step_machine.specs.History.{OpeningValue}
 use Rattle.step_machine.specs.Access.{Access, load, store, exchange, access_of}
 use Rattle.step_machine.specs.Entries.{hart_of, pending, memory_word}
 use Rattle.spsc_queue.specs.RingBuffers.{lamport, fastforward, RingBuffer, IsRingBuffer, slot_offset, overlaps, slot_address, capacity_of, IsQuiescent}
-use Rattle.spsc_queue.specs.Protocol.{SenderState, resting, placed, renewing, roomy, filled, ReceiverState, idle, asked, waiting, holding, cleared}
+use Rattle.spsc_queue.specs.Protocol.{SenderState, placed, renewing, roomy, filled, ReceiverState, asked, waiting, holding, cleared}
 use Rattle.spsc_queue.specs.Protocol.{ProtocolState, at_start, parties_after, role_of, looks_at}
 use Rattle.spsc_queue.specs.Protocol.{send_look, send_load, send_store, receive_look, receive_load, receive_store, next_by, protocol_next}
 use Rattle.spsc_queue.specs.Protocol.{WritesNothingTo, IsCopyStore, IsSenderStore, IsReceiverStore, KeepsProtocolBy, KeepsProtocol, IsWordAt}
@@ -98,18 +98,12 @@ pub record Agrees (r : RingBuffer) (s : ProtocolState) (c : QueueCounts) : Type 
 more-sending : (size : ℕ) (c d : QueueCounts) (p : SenderState) → c.published ≡ d.published
     → c.known_taken ≤ d.known_taken → Sending size c p → Sending size d p
 more-sending size c d (roomy u) same more h = omega (arith, same, more, h)
-more-sending size c d resting same more h = tt
-more-sending size c d (placed u) same more h = tt
-more-sending size c d (renewing u v) same more h = tt
-more-sending size c d (filled u) same more h = tt
+more-sending size c d p same more h = h
 
 more-receiving : (n m : ℕ) (c d : QueueCounts) (p : ReceiverState) → c.taken ≡ d.taken
     → c.known_published ≤ d.known_published → Receiving n m c p → Receiving n m d p
 more-receiving n m c d (holding u w) same more h = (h.0, omega (arith, same, more, h.1))
-more-receiving n m c d (cleared u) same more h = h
-more-receiving n m c d idle same more h = h
-more-receiving n m c d (asked u) same more h = h
-more-receiving n m c d (waiting u) same more h = h
+more-receiving n m c d p same more h = h
 
 -- a load of the own position's tag that tells
 module _ (r : RingBuffer) (is : IsRingBuffer r) (p : Party) (c : QueueCounts) (v : ℕ) where
@@ -190,10 +184,7 @@ module _ (r : RingBuffer) (is : IsRingBuffer r) (kind : r.kind ≡ fastforward) 
       by true on true free = told-there the_sender a v (eqb-true a (r.slots + u) on ∙ sent_place u (at.1 ∙ ap (slot_offset r) (sym at.0))) free
       by true on false full = tt
       by false off d what = tt
-  sends-look a v resting at h = h
-  sends-look a v (renewing u w) at h = h
-  sends-look a v (roomy u) at h = h
-  sends-look a v (filled u) at h = h
+  sends-look a v p at h = h
 
   takes-look : (a v : ℕ) (p : ReceiverState) → IsAsked r s.consumed p → Receiving s.taken s.consumed (after_load q the_receiver a 4 v c) p
       → Receiving s.taken s.consumed (after_load q the_receiver a 4 v c) (receive_look fastforward r a v p)
@@ -207,9 +198,7 @@ module _ (r : RingBuffer) (is : IsRingBuffer r) (kind : r.kind ≡ fastforward) 
       by true on true free = h
       by false off d what = h
   takes-look a v (waiting u) at h = absurd h
-  takes-look a v idle at h = h
-  takes-look a v (holding u w) at h = h
-  takes-look a v (cleared u) at h = h
+  takes-look a v p at h = h
 
   sender-load : (a v : ℕ) → Agrees r (record s { sending = send_load fastforward r a v s.sending }) (after_load q the_sender a 4 v c)
   sender-load a v = let old = kept-load the_sender a 4 v in record {
@@ -230,11 +219,10 @@ module _ (r : RingBuffer) (is : IsRingBuffer r) (kind : r.kind ≡ fastforward) 
   }
     where
       level : (p : ReceiverState) → IsWhole p → Receiving s.taken s.consumed c p → s.taken ≡ s.consumed
-      level idle whole h = h
-      level (asked u) whole h = h
       level (waiting u) whole h = absurd h
       level (holding u w) whole h = h.0
       level (cleared u) whole h = absurd whole
+      level p whole h = h
 
   kept-store : (p : Party) (w : Write) → KeepsOff (slots_of r) w → Agrees r s (after_store q p w c)
   kept-store the_sender w keeps = kept (after_store q the_sender w c)
@@ -251,8 +239,6 @@ module _ (r : RingBuffer) (is : IsRingBuffer r) (kind : r.kind ≡ fastforward) 
 
   sender-made : (w : Write) (p : SenderState) → IsPlaced r s.stored s.published p → Sending r.size c p → IsSenderStore fastforward r p w
       → MayStore (slots_of r) the_sender c w × Agrees r (send_store w p s) (after_store q the_sender w c)
-  sender-made w resting at h made = absurd made
-  sender-made w (placed u) at h made = absurd made
   sender-made w (renewing u v) at h made = absurd (subst (λ t. IsCopyStore t v w) (no_copy r.copy refl) made)
   sender-made w (filled u) at h made =
       let off : KeepsOff (slots_of r) w = word-off w r.head made.0 is.head_apart in
@@ -274,12 +260,10 @@ module _ (r : RingBuffer) (is : IsRingBuffer r) (kind : r.kind ≡ fastforward) 
     where
       small : w.value < 2 ^ 32 → w.value < 256 ^ 4
       small lt = omega (arith, lt)
+  sender-made w p at h made = absurd made
 
   receiver-made : (w : Write) (p : ReceiverState) → IsAsked r s.consumed p → Receiving s.taken s.consumed c p → IsReceiverStore fastforward r p w
       → MayStore (slots_of r) the_receiver c w × Agrees r (receive_store fastforward p s) (after_store q the_receiver w c)
-  receiver-made w idle at h made = absurd made
-  receiver-made w (asked u) at h made = absurd made
-  receiver-made w (waiting u) at h made = absurd h
   receiver-made w (cleared u) at h made =
       let off : KeepsOff (slots_of r) w = word-off w r.tail made.0 is.tail_apart in
       let old : Agrees r s (after_store q the_receiver w c) = kept-store the_receiver w off in
@@ -297,6 +281,7 @@ module _ (r : RingBuffer) (is : IsRingBuffer r) (kind : r.kind ≡ fastforward) 
           receiving = ap (λ n. n + 1) h.0;
         },
       )
+  receiver-made w p at h made = absurd made
 
 module _ (r : RingBuffer) (is : IsRingBuffer r) (kind : r.kind ≡ fastforward) (s : ProtocolState) (c : QueueCounts) (agrees : Agrees r s c)
     (at_slot : IsPlaced r s.stored s.published s.sending) (at_word : IsAsked r s.consumed s.receiving) where

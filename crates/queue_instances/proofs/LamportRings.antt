@@ -16,7 +16,7 @@ use Rattle.step_machine.proofs.Balanced.{balanced}
 use Rattle.queue_parties.specs.Parties.{Party, the_sender, the_receiver, other, QueueCounts, count, with_known, known}
 use Rattle.queue_parties.proofs.Parties.{harts-apart, count-set, Grows}
 use Rattle.spsc_queue.specs.RingBuffers.{lamport, RingBuffer, IsRingBuffer, slot_offset, slot_address, next, overlaps, capacity_of}
-use Rattle.spsc_queue.specs.Protocol.{SenderState, resting, placed, renewing, roomy, filled, ReceiverState, idle, asked, waiting, holding, cleared}
+use Rattle.spsc_queue.specs.Protocol.{SenderState, renewing, roomy, filled, ReceiverState, idle, asked, waiting, holding, cleared}
 use Rattle.spsc_queue.specs.Protocol.{ProtocolState, at_start, role_of, send_load, send_store, receive_look, receive_load, receive_store, next_by}
 use Rattle.spsc_queue.specs.Protocol.{protocol_next, WritesNothingTo, IsWordAt, IsCopyStore, IsSenderStore, IsReceiverStore, KeepsProtocolBy, KeepsProtocol}
 use Rattle.spsc_queue.specs.Laws.{FollowsSpscProtocol, ready_by_state}
@@ -84,9 +84,7 @@ Receiving r n k (cleared u) = ⊥
 receiving-more : (r : RingBuffer) (n k l : ℕ) (p : ReceiverState) → k ≤ l → Receiving r n k p → Receiving r n l p
 receiving-more r n k l (waiting u) le h = (h.0, omega (arith, le, h.1))
 receiving-more r n k l (holding u w) le h = (h.0, omega (arith, le, h.1))
-receiving-more r n k l idle le h = h
-receiving-more r n k l (asked u) le h = h
-receiving-more r n k l (cleared u) le h = h
+receiving-more r n k l p le h = h
 
 -- the state of the protocol, in which n words are stored, m published and k taken, agrees with the counts
 pub record Numbers (r : RingBuffer) (c : QueueCounts) (n m k : ℕ) : Type 0 where
@@ -358,8 +356,6 @@ module _ (B : ℕ) (r : RingBuffer) (is : IsRingBuffer r) (o : OpeningValue) (es
 
   sender-stores : (w : Write) (p : SenderState) → access_of e ≡ store w → hart_of e ≡ r.sender → s.sending ≡ p
       → SendingIs 1 r s.stored s.published (freed_known r c) p → IsSenderStore lamport r p w → Kept the_sender w (send_store w p s)
-  sender-stores w resting does mine at h keeps = absurd keeps
-  sender-stores w (placed u) does mine at h keeps = absurd keeps
   sender-stores w (renewing u v) does mine at h keeps = by r.copy refl keeps
     where
       by : (t : Option ℕ) → r.copy ≡ t → IsCopyStore t v w → Kept the_sender w (send_store w (renewing u v) s)
@@ -404,12 +400,10 @@ module _ (B : ℕ) (r : RingBuffer) (is : IsRingBuffer r) (o : OpeningValue) (es
           receiving = holds.receiving;
         }) e (word_leave B r is o es e even can w r.head does is.head keeps.0),
       )
+  sender-stores w p does mine at h keeps = absurd keeps
 
   receiver-stores : (w : Write) (p : ReceiverState) → access_of e ≡ store w → Receiving r s.taken (c.known_published - r.start) p
       → IsReceiverStore lamport r p w → Kept the_receiver w (receive_store lamport p s)
-  receiver-stores w idle does h keeps = absurd keeps
-  receiver-stores w (asked u) does h keeps = absurd keeps
-  receiver-stores w (waiting u) does h keeps = absurd keeps
   receiver-stores w (cleared u) does h keeps = absurd h
   receiver-stores w (holding u v) does h keeps =
       let one = moves-one the_receiver w u s.taken keeps.0 keeps.1 h.0 holds.taken (omega (arith, h.1, holds.taken)) in
@@ -422,6 +416,7 @@ module _ (B : ℕ) (r : RingBuffer) (is : IsRingBuffer r) (o : OpeningValue) (es
           receiving = tt;
         }) e (word_leave B r is o es e even can w r.tail does is.tail keeps.0),
       )
+  receiver-stores w p does h keeps = absurd keeps
 
   -- a load of a word
   module _ (p : Party) (a v : ℕ) (does : access_of e ≡ load a 4 v) (t : ProtocolState) where

@@ -5,7 +5,7 @@ use Rattle.memory.specs.declared.writes.Write.{Write}
 use Rattle.step_machine.specs.Access.{Access, load, store}
 use Rattle.queue_parties.specs.Parties.{Party, the_sender, the_receiver, party_among}
 use Rattle.spsc_queue.specs.RingBuffers.{Kind, RingBuffer, overlaps}
-use Rattle.spsc_queue.specs.Protocol.{SenderState, resting, placed, renewing, roomy, filled, ReceiverState, idle, asked, waiting, holding, cleared}
+use Rattle.spsc_queue.specs.Protocol.{SenderState, placed, filled, ReceiverState, asked, cleared}
 use Rattle.spsc_queue.specs.Protocol.{ProtocolState, Role, sends, receives, passes, role_of, send_look, send_load, send_store, receive_look, receive_load}
 use Rattle.spsc_queue.specs.Protocol.{receive_store, next_by, WritesNothingTo, IsSenderStore, IsReceiverStore, KeepsProtocolBy}
 
@@ -45,10 +45,7 @@ module _ (k : Kind) (r : RingBuffer) (a v : ℕ) where
 
       at : (p : SenderState) → (IsLevel p → a ≡ r.head → P (placed v)) → P (send_look k r a v p) → P (send_load k r a v p)
       at (filled u) own look = look
-      at resting own look = or resting (own tt) look
-      at (placed u) own look = or (send_look k r a v (placed u)) (own tt) look
-      at (renewing u w) own look = or (renewing u w) (own tt) look
-      at (roomy u) own look = or (roomy u) (own tt) look
+      at p own look = or (send_look k r a v p) (own tt) look
 
   pub by-receive-load : (P : ReceiverState → Type 0) (p : ReceiverState) → (IsWhole p → a ≡ r.tail → P (asked v)) → P (receive_look k r a v p)
       → P (receive_load k r a v p)
@@ -63,10 +60,7 @@ module _ (k : Kind) (r : RingBuffer) (a v : ℕ) where
 
       at : (p : ReceiverState) → (IsWhole p → a ≡ r.tail → P (asked v)) → P (receive_look k r a v p) → P (receive_load k r a v p)
       at (cleared u) own look = look
-      at idle own look = or idle (own tt) look
-      at (asked u) own look = or (receive_look k r a v (asked u)) (own tt) look
-      at (waiting u) own look = or (receive_look k r a v (waiting u)) (own tt) look
-      at (holding u w) own look = or (holding u w) (own tt) look
+      at p own look = or (receive_look k r a v p) (own tt) look
 
 -- an access of hart h that keeps the protocol writes nothing to the block and leaves the state, or it is a party's load of a word, or a
 -- party's store to the block

@@ -9,8 +9,8 @@ use Rattle.step_machine.specs.declared.events.Entry.{Entry}
 use Rattle.step_machine.specs.History.{OpeningValue}
 use Rattle.step_machine.specs.Entries.{memory_word, read}
 use Rattle.spsc_queue.specs.RingBuffers.{lamport, fastforward, RingBuffer, IsRingBuffer, slot_offset, slot_address}
-use Rattle.spsc_queue.specs.Protocol.{SenderState, resting, placed, renewing, roomy, filled, ReceiverState, idle, asked}
-use Rattle.spsc_queue.specs.Protocol.{waiting, holding, cleared, ProtocolState}
+use Rattle.spsc_queue.specs.Protocol.{SenderState, placed, roomy, ReceiverState, asked}
+use Rattle.spsc_queue.specs.Protocol.{waiting, holding, ProtocolState}
 use Rattle.spsc_queue.specs.Protocol.{looks_at, send_look, send_load, receive_look, receive_load}
 use Rattle.spsc_queue.proofs.Words.{seen}
 use Rattle.spsc_queue.proofs.Spread.{none-there, slot_apart, spread, sent_store, sent-slot, sent-cases, seen-heads, slot_not_head}
@@ -135,7 +135,6 @@ module _ (r : RingBuffer) (is : IsRingBuffer r) (L : ℕ → ℕ) (small : (j : 
 
   send-looked : (a v : ℕ) (p : SenderState) → v ≡ read o es r.sender a 4 → SendingIs 0 r s.stored s.published d.cleared p
       → SendingIs 0 r s.stored s.published d.cleared (send_look fastforward r a v p)
-  send-looked a v resting is_read holds = holds
   send-looked a v (placed u) is_read holds = subst (λ q. SendingIs 0 r s.stored s.published d.cleared (looks_at q fastforward r a u v)) (sym inv.copy)
       (by (a == r.slots + u) refl (v == 0) refl)
     where
@@ -149,9 +148,7 @@ module _ (r : RingBuffer) (is : IsRingBuffer r) (L : ℕ → ℕ) (small : (j : 
           (holds.0, holds.1, omega (arith, other, inv.order.room))
       by true here false some = holds
       by false there c is_c = holds
-  send-looked a v (renewing u w) is_read holds = holds
-  send-looked a v (roomy u) is_read holds = holds
-  send-looked a v (filled u) is_read holds = holds
+  send-looked a v p is_read holds = holds
 
   pub sending-load : (a v : ℕ) (p : SenderState) → v ≡ read o es r.sender a 4 → SendingIs 0 r s.stored s.published d.cleared p
       → SendingIs 0 r s.stored s.published d.cleared (send_load fastforward r a v p)
@@ -163,7 +160,6 @@ module _ (r : RingBuffer) (is : IsRingBuffer r) (L : ℕ → ℕ) (small : (j : 
 
   take-looked : (a v : ℕ) (p : ReceiverState) → v ≡ read o es r.receiver a 4 → ReceivingIs fastforward r L s.taken s.consumed d.slots p
       → ReceivingIs fastforward r L s.taken s.consumed d.slots (receive_look fastforward r a v p)
-  take-looked a v idle is_read holds = holds
   take-looked a v (asked u) is_read holds = by (a == r.slots + u) refl (v == 0) refl
     where
       by : (b : Bool) → (a == r.slots + u) ≡ b → (c : Bool) → (v == 0) ≡ c
@@ -178,8 +174,7 @@ module _ (r : RingBuffer) (is : IsRingBuffer r) (L : ℕ → ℕ) (small : (j : 
           ]
       by false there c is_c = holds
   take-looked a v (waiting u) is_read holds = absurd (let no : fastforward ≡ lamport = holds.3 in cc)
-  take-looked a v (holding u w) is_read holds = holds
-  take-looked a v (cleared u) is_read holds = holds
+  take-looked a v p is_read holds = holds
 
   pub receiving-load : (a v : ℕ) (p : ReceiverState) → v ≡ read o es r.receiver a 4 → ReceivingIs fastforward r L s.taken s.consumed d.slots p
       → ReceivingIs fastforward r L s.taken s.consumed d.slots (receive_load fastforward r a v p)

@@ -175,15 +175,11 @@ placed-of spare r stored published n p h = h
 -- where no word is half sent, and no slot half freed, the counts are level
 pub level-counts : (r : RingBuffer) (stored published : ℕ) (p : SenderState) → IsLevel p → IsPlaced r stored published p → stored ≡ published
 level-counts r stored published resting l h = h
-level-counts r stored published (placed u) l h = h.0
-level-counts r stored published (renewing u v) l h = h.0
-level-counts r stored published (roomy u) l h = h.0
 level-counts r stored published (filled u) l h = absurd l
+level-counts r stored published p l h = h.0
 
 pub whole-counts : (K : Kind) (r : RingBuffer) (L : ℕ → ℕ) (taken consumed n : ℕ) (p : ReceiverState) → IsWhole p → ReceivingIs K r L taken consumed n p
     → taken ≡ consumed
 whole-counts K r L taken consumed n idle whole is = is
-whole-counts K r L taken consumed n (asked u) whole is = is.0
-whole-counts K r L taken consumed n (waiting u) whole is = is.0
-whole-counts K r L taken consumed n (holding u w) whole is = is.0
 whole-counts K r L taken consumed n (cleared u) whole is = absurd whole
+whole-counts K r L taken consumed n p whole is = is.0

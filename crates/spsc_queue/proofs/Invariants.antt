@@ -45,10 +45,7 @@ pub record Known (k : Kind) (r : RingBuffer) (L : ℕ → ℕ) (s : ProtocolStat
 
 asked-of : (K : Kind) (r : RingBuffer) (L : ℕ → ℕ) (taken consumed n : ℕ) (p : ReceiverState) → ReceivingIs K r L taken consumed n p → IsAsked r consumed p
 asked-of K r L taken consumed n idle is = tt
-asked-of K r L taken consumed n (asked u) is = is.1
-asked-of K r L taken consumed n (waiting u) is = is.1
-asked-of K r L taken consumed n (holding u w) is = is.1
-asked-of K r L taken consumed n (cleared u) is = is.1
+asked-of K r L taken consumed n p is = is.1
 
 -- which words are available, and how many the queue holds
 there_available : (K : Kind) (s : ProtocolState) {n h : ℕ} → RowOrder s.stored s.published n h → there K n h ≤ available_of K s

@@ -11,8 +11,8 @@ use Rattle.step_machine.specs.History.{OpeningValue}
 use Rattle.step_machine.specs.Entries.{memory_word, read}
 use Rattle.memory.specs.declared.writes.Write.{Write}
 use Rattle.spsc_queue.specs.RingBuffers.{Kind, lamport, fastforward, RingBuffer, IsRingBuffer, IsWordIn, slot_offset, slot_address, next}
-use Rattle.spsc_queue.specs.Protocol.{SenderState, resting, placed, renewing, roomy, filled, ReceiverState, idle, asked}
-use Rattle.spsc_queue.specs.Protocol.{waiting, holding, cleared, ProtocolState}
+use Rattle.spsc_queue.specs.Protocol.{SenderState, placed, renewing, roomy, ReceiverState, asked}
+use Rattle.spsc_queue.specs.Protocol.{waiting, holding, ProtocolState}
 use Rattle.spsc_queue.specs.Protocol.{looks_for_room, looks_past_copy, looks_at, send_look, send_load, receive_look, receive_load}
 use Rattle.step_machine.proofs.Modulo.{offset_step, offset_wrap}
 use Rattle.spsc_queue.specs.Laws.{ready_by_state}
@@ -150,11 +150,8 @@ module _ (r : RingBuffer) (is : IsRingBuffer r) (o : OpeningValue) (es : List En
       by false other false apart = raised (placed u) holds
 
   send-looked : (p : SenderState) → SendsBy k p → SendsBy l (send_look lamport r a v p)
-  send-looked resting holds = raised resting holds
   send-looked (placed u) holds = looks u r.copy refl holds
-  send-looked (renewing u w) holds = raised (renewing u w) holds
-  send-looked (roomy u) holds = raised (roomy u) holds
-  send-looked (filled u) holds = raised (filled u) holds
+  send-looked p holds = raised p holds
 
   pub knows-more : (p : SenderState) → SendsBy k p → SendsBy l (send_load lamport r a v p)
   knows-more p holds = by-send-load lamport r a v (SendsBy l) p (λ level here. (
@@ -228,7 +225,6 @@ module _ (r : RingBuffer) (is : IsRingBuffer r) (L : ℕ → ℕ) (small : (j : 
   -- the receiver's
   looked : (a v : ℕ) (p : ReceiverState) → v ≡ read o es r.receiver a 4 → ReceivingIs lamport r L s.taken s.consumed d.heads p
       → ReceivingIs lamport r L s.taken s.consumed d.heads (receive_look lamport r a v p)
-  looked a v idle is_read holds = holds
   looked a v (asked u) is_read holds = by (a == r.head) refl (v == u) refl
     where
       by : (b : Bool) → (a == r.head) ≡ b → (c : Bool) → (v == u) ≡ c
@@ -255,8 +251,7 @@ module _ (r : RingBuffer) (is : IsRingBuffer r) (L : ℕ → ℕ) (small : (j : 
                 ∙ inv.words.full s.consumed inv.order.theirs.1 (omega (arith, holds.0, holds.2, inv.order.mine.heads_slots)) ∙ ap L (sym holds.0),
           )
       by false apart = holds
-  looked a v (holding u w) is_read holds = holds
-  looked a v (cleared u) is_read holds = holds
+  looked a v p is_read holds = holds
 
   pub receiving-load : (a v : ℕ) (p : ReceiverState) → v ≡ read o es r.receiver a 4 → ReceivingIs lamport r L s.taken s.consumed d.heads p
       → ReceivingIs lamport r L s.taken s.consumed d.heads (receive_load lamport r a v p)

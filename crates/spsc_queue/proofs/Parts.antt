@@ -146,10 +146,7 @@ module _ (K : Kind) (r : RingBuffer) where
 
       at : (p : SenderState) → IsLevel p → IsLevel (send_look K r a v p)
       at (placed u) l = looks u r.copy
-      at resting l = l
-      at (renewing u w) l = l
-      at (roomy u) l = l
-      at (filled u) l = l
+      at p l = l
 
   whole-receive : (a v : ℕ) (p : ReceiverState) → IsWhole p → IsWhole (receive_load K r a v p)
   whole-receive a v p whole = by-receive-load K r a v IsWhole p (λ l here. tt) (at p whole)
@@ -165,9 +162,7 @@ module _ (K : Kind) (r : RingBuffer) where
       at : (p : ReceiverState) → IsWhole p → IsWhole (receive_look K r a v p)
       at (asked u) l = chosen (a == look_at the_receiver K r u) (looks_for_word K u v) (asked u) (seen K u) tt
       at (waiting u) l = chosen (a == r.slots + u) (holding u v) (waiting u) tt tt
-      at idle l = l
-      at (holding u w) l = l
-      at (cleared u) l = l
+      at p l = l
 
   -- outside of the functions no word becomes half passed, and none is passed
   pub level-next : (p : Party) (t : ProtocolState) (x : Access) → WritesNothingTo r x → Level (part p t)
@@ -283,17 +278,11 @@ module _ (K : Kind) (r : RingBuffer) where
 module _ (k : Block) (a b : ℕ) (is : IsRingBuffer (ring_at k a b)) where
   placed-near : (stored published : ℕ) (p : SenderState) → IsPlaced (ring_at k a b) stored published p → IsNear k p
   placed-near stored published resting h = tt
-  placed-near stored published (placed u) h = (omega (arith, h.1, offset_low (ring_at k a b) is published), omega (arith, h.1))
-  placed-near stored published (renewing u v) h = (omega (arith, h.1, offset_low (ring_at k a b) is published), omega (arith, h.1))
-  placed-near stored published (roomy u) h = (omega (arith, h.1, offset_low (ring_at k a b) is published), omega (arith, h.1))
-  placed-near stored published (filled u) h = (omega (arith, h.1, offset_low (ring_at k a b) is published), omega (arith, h.1))
+  placed-near stored published p h = (omega (arith, h.1, offset_low (ring_at k a b) is published), omega (arith, h.1))
 
   asked-fit : (consumed : ℕ) (p : ReceiverState) → IsAsked (ring_at k a b) consumed p → IsFit k p
   asked-fit consumed idle h = tt
-  asked-fit consumed (asked u) h = (omega (arith, h, offset_low (ring_at k a b) is consumed), omega (arith, h))
-  asked-fit consumed (waiting u) h = (omega (arith, h, offset_low (ring_at k a b) is consumed), omega (arith, h))
-  asked-fit consumed (holding u w) h = (omega (arith, h, offset_low (ring_at k a b) is consumed), omega (arith, h))
-  asked-fit consumed (cleared u) h = (omega (arith, h, offset_low (ring_at k a b) is consumed), omega (arith, h))
+  asked-fit consumed p h = (omega (arith, h, offset_low (ring_at k a b) is consumed), omega (arith, h))
 
   pub near-of : (p : Party) (K : Kind) (L : ℕ → ℕ) (t : ProtocolState) → Known K (ring_at k a b) L t → Near k (part p t)
   near-of the_sender K L t known = record { sending = placed-near t.stored t.published t.sending known.sending; receiving = tt }

@@ -13,8 +13,8 @@ use Rattle.step_machine.specs.Legal.{AllowedBy, Allowed, LegalAfter, Legal}
 use Rattle.step_machine.proofs.Appended.{LegalAfter-front, LegalAfter-back, LegalAfter-append}
 use Rattle.step_machine.proofs.Balanced.{balanced}
 use Rattle.spsc_queue.specs.RingBuffers.{Kind, lamport, fastforward, RingBuffer, IsRingBuffer, IsWordIn, slot_address, waiting_words, IsQuiescent}
-use Rattle.spsc_queue.specs.Protocol.{SenderState, resting, placed, renewing, roomy, filled, ReceiverState, idle, asked}
-use Rattle.spsc_queue.specs.Protocol.{waiting, holding, cleared, ProtocolState, parties_after}
+use Rattle.spsc_queue.specs.Protocol.{SenderState, renewing, roomy, filled, ReceiverState, idle}
+use Rattle.spsc_queue.specs.Protocol.{holding, cleared, ProtocolState, parties_after}
 use Rattle.spsc_queue.specs.Protocol.{at_start, role_of, send_store, receive_store, next_by, protocol_next, protocol_after}
 use Rattle.spsc_queue.specs.Protocol.{WritesNothingTo, IsWordAt, IsSenderStore, IsTaking, IsReceiverStore, KeepsProtocolBy, KeepsProtocol}
 use Rattle.spsc_queue.specs.Laws.{IsPrefix, FollowsSpscProtocol, available_count, available_words}
@@ -116,8 +116,6 @@ module _ (B : ℕ) (r : RingBuffer) (is : IsRingBuffer r) (F : List ℕ) (small 
 
   sender-stores : (w : Write) (p : SenderState) → access_of e ≡ store w → hart_of e ≡ r.sender → s.sending ≡ p → IsSenderStore k r p w
       → (more : List ℕ) × (F ≡ (send_store w p s).sent ++ more) → Invariant k r L c o after (send_store w p s)
-  sender-stores w resting does mine at keeps ahead = absurd keeps
-  sender-stores w (placed u) does mine at keeps ahead = absurd keeps
   sender-stores w (renewing u v) does mine at keeps ahead = copies k r is L c o es s inv e even w does mine u v at r.copy refl keeps
   sender-stores w (roomy u) does mine at keeps ahead =
       sends-word k r is L c o es s inv e even w does (word_on r w (slot_address r s.published) (slot_word r is s.published) word)
@@ -131,6 +129,7 @@ module _ (B : ℕ) (r : RingBuffer) (is : IsRingBuffer r) (F : List ℕ) (small 
       word = record { place = keeps.0.place ∙ ap (λ x. r.slots + x) place.1; width = keeps.0.width }
   sender-stores w (filled u) does mine at keeps ahead = sends-head k r is L c o es s inv e even w does (word_on r w r.head is.head keeps.0)
       (word_leave B r is o es e even can w r.head does is.head keeps.0) mine u at keeps.0 keeps.1
+  sender-stores w p does mine at keeps ahead = absurd keeps
 
   taking : (K : Kind) (u v : ℕ) (w : Write) → ReceivingIs K r L s.taken s.consumed (there K inv.landed.slots inv.landed.heads) (holding u v) → IsTaking K r u w
       → (p : ℕ) × IsWordIn r p × IsWordAt w p
@@ -143,14 +142,12 @@ module _ (B : ℕ) (r : RingBuffer) (is : IsRingBuffer r) (F : List ℕ) (small 
 
   receiver-stores : (w : Write) (p : ReceiverState) → access_of e ≡ store w → hart_of e ≡ r.receiver → s.receiving ≡ p → IsReceiverStore k r p w
       → Invariant k r L c o after (receive_store k p s)
-  receiver-stores w idle does mine at keeps = absurd keeps
-  receiver-stores w (asked u) does mine at keeps = absurd keeps
-  receiver-stores w (waiting u) does mine at keeps = absurd keeps
   receiver-stores w (holding u v) does mine at keeps =
       let word = taking k u v w (subst (ReceivingIs k r L s.taken s.consumed (there k inv.landed.slots inv.landed.heads)) at inv.receiving) keeps in
       takes-word k r is L c o es s inv e even w does (word_leave B r is o es e even can w word.0 does word.1 word.2) mine u v at keeps
   receiver-stores w (cleared u) does mine at keeps = frees k r is L c o es s inv e even w does (word_on r w r.tail is.tail keeps.0)
       (word_leave B r is o es e even can w r.tail does is.tail keeps.0) mine u at keeps.0 keeps.1
+  receiver-stores w p does mine at keeps = absurd keeps
 
   -- an access that writes nothing to the block
   quiet : (x : Access) → access_of e ≡ x → AllowedBy B (pending (hart_of e) es) (read o es (hart_of e)) x → WritesNothingTo r x → Invariant k r L c o after s
