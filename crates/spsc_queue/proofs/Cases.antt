@@ -21,6 +21,15 @@ by-role r h P sender receiver third = at (h == r.sender) refl (h == r.receiver) 
     at false one true two = receiver (eqb-false h r.sender one) (eqb-true h r.receiver two)
     at false one false two = third (eqb-false h r.sender one) (eqb-false h r.receiver two)
 
+-- what holds of both choices holds of the one that is made, and what follows from either follows from it
+pub chosen : {X : Type 0} (P : X → Type 0) (b : Bool) (x y : X) → P x → P y → P (if b then x else y)
+chosen P true x y one two = one
+chosen P false x y one two = two
+
+pub either : {X A : Type 0} (P : X → Type 0) (b : Bool) (x y : X) → (P x → A) → (P y → A) → P (if b then x else y) → A
+either P true x y one two h = one h
+either P false x y one two h = two h
+
 -- no word is half sent, and no slot half freed
 abbrev pub IsLevel : SenderState → Type 0
 IsLevel (filled u) = ⊥

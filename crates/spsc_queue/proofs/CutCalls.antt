@@ -15,6 +15,7 @@ use Rattle.spsc_queue.proofs.Courses.{At, at_00, at_04, at_08, at_0C, at_10, at_
 use Rattle.spsc_queue.proofs.Courses.{at_2C, at_30, at_34, at_38, at_3C, at_40, Course}
 use Rattle.spsc_queue.proofs.Outline.{Part, IsOffset, IsNear, IsFit, Near, first_look, Word, Found, looked, ready, all_accesses}
 use Rattle.spsc_queue.proofs.Outline.{Fresh, Indexed, Seen, Waiting, Past, Ready, Half, Finished, OwnRow, Row}
+use Rattle.spsc_queue.proofs.Cases.{either}
 use Rattle.spsc_queue.proofs.Parts.{knows-offset, looked-offset, ready-offset, stored-offset}
 
 -- ---- the accesses of a call stay in the block
@@ -278,11 +279,8 @@ module _ (n : ℕ) (k : Block) (a b : ℕ) (is : IsRingBuffer (ring_at k a b)) (
       past_done 6 (placed (slice_index x 5)) [] 0 (subst (IsNear k) row.knows near.sending) (inl refl) row
   own_done the_sender lamport at_38 row =
       past_done 7 (looks_past_copy lamport r (slice_index x 5) (slice_index x 6)) (load r.tail 4 (slice_index x 6) ∷ []) (slice_index x 6)
-      (past_at (says_full lamport r (slice_index x 5) (slice_index x 6)) (subst (IsNear k) row.knows near.sending)) (inr refl) row
-    where
-      past_at : (d : Bool) → IsNear k (if d then placed (slice_index x 5) else renewing (slice_index x 5) (slice_index x 6)) → IsOffset k (slice_index x 5)
-      past_at true h = h
-      past_at false h = h
+      (either (IsNear k) (says_full lamport r (slice_index x 5) (slice_index x 6)) (placed (slice_index x 5)) (renewing (slice_index x 5) (slice_index x 6))
+      (λ h. h) (λ h. h) (subst (IsNear k) row.knows near.sending)) (inr refl) row
   own_done the_sender lamport at_3C row =
       past_done 8 (renewing (slice_index x 5) (slice_index x 6)) (load r.tail 4 (slice_index x 6) ∷ []) (slice_index x 6)
       (subst (IsNear k) row.0.knows near.sending) (inr refl) row.0

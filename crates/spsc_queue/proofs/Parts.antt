@@ -15,7 +15,7 @@ use Rattle.spsc_queue.specs.Protocol.{receive_load, receive_store, room_at, says
 use Rattle.spsc_queue.specs.Protocol.{KeepsProtocolBy, KeepsProtocol}
 use Rattle.spsc_queue.specs.Calls.{Block, IsBlock, Party, the_sender, the_receiver, copy_in, ring_at}
 use Rattle.spsc_queue.proofs.Spread.{offset_low}
-use Rattle.spsc_queue.proofs.Cases.{IsLevel, IsWhole, by-send-load, by-receive-load}
+use Rattle.spsc_queue.proofs.Cases.{chosen, either, IsLevel, IsWhole, by-send-load, by-receive-load}
 use Rattle.spsc_queue.proofs.Invariant.{IsPlaced}
 use Rattle.spsc_queue.proofs.Invariants.{IsAsked, Known}
 use Rattle.spsc_queue.proofs.Outline.{Part, part, role, Level, IsOffset, IsNear, IsFit, Near}
@@ -132,17 +132,13 @@ module _ (K : Kind) (r : RingBuffer) where
   level-send : (a v : ℕ) (p : SenderState) → IsLevel p → IsLevel (send_load K r a v p)
   level-send a v p level = by-send-load K r a v IsLevel p (λ l here. tt) (at p level)
     where
-      chosen : (b : Bool) (p q : SenderState) → IsLevel p → IsLevel q → IsLevel (if b then p else q)
-      chosen true p q one two = one
-      chosen false p q one two = two
-
       seen : (u : ℕ) → IsLevel (looks_for_room K r u v)
-      seen u = chosen (says_full K r u v) (placed u) (roomy u) tt tt
+      seen u = chosen IsLevel (says_full K r u v) (placed u) (roomy u) tt tt
 
       looks : (u : ℕ) (q : Option ℕ) → IsLevel (looks_at q K r a u v)
-      looks u None = chosen (a == room_at K r u) (looks_for_room K r u v) (placed u) (seen u) tt
-      looks u (Some c) = chosen (a == c) (looks_for_room K r u v) (if a == room_at K r u then looks_past_copy K r u v else placed u) (seen u)
-          (chosen (a == room_at K r u) (looks_past_copy K r u v) (placed u) (chosen (says_full K r u v) (placed u) (renewing u v) tt tt) tt)
+      looks u None = chosen IsLevel (a == room_at K r u) (looks_for_room K r u v) (placed u) (seen u) tt
+      looks u (Some c) = chosen IsLevel (a == c) (looks_for_room K r u v) (if a == room_at K r u then looks_past_copy K r u v else placed u) (seen u)
+          (chosen IsLevel (a == room_at K r u) (looks_past_copy K r u v) (placed u) (chosen IsLevel (says_full K r u v) (placed u) (renewing u v) tt tt) tt)
 
       at : (p : SenderState) → IsLevel p → IsLevel (send_look K r a v p)
       at (placed u) l = looks u r.copy
@@ -151,17 +147,13 @@ module _ (K : Kind) (r : RingBuffer) where
   whole-receive : (a v : ℕ) (p : ReceiverState) → IsWhole p → IsWhole (receive_load K r a v p)
   whole-receive a v p whole = by-receive-load K r a v IsWhole p (λ l here. tt) (at p whole)
     where
-      chosen : (b : Bool) (p q : ReceiverState) → IsWhole p → IsWhole q → IsWhole (if b then p else q)
-      chosen true p q one two = one
-      chosen false p q one two = two
-
       seen : (k : Kind) (u : ℕ) → IsWhole (looks_for_word k u v)
-      seen lamport u = chosen (says_empty lamport u v) (asked u) (waiting u) tt tt
-      seen fastforward u = chosen (says_empty fastforward u v) (asked u) (holding u v) tt tt
+      seen lamport u = chosen IsWhole (says_empty lamport u v) (asked u) (waiting u) tt tt
+      seen fastforward u = chosen IsWhole (says_empty fastforward u v) (asked u) (holding u v) tt tt
 
       at : (p : ReceiverState) → IsWhole p → IsWhole (receive_look K r a v p)
-      at (asked u) l = chosen (a == look_at the_receiver K r u) (looks_for_word K u v) (asked u) (seen K u) tt
-      at (waiting u) l = chosen (a == r.slots + u) (holding u v) (waiting u) tt tt
+      at (asked u) l = chosen IsWhole (a == look_at the_receiver K r u) (looks_for_word K u v) (asked u) (seen K u) tt
+      at (waiting u) l = chosen IsWhole (a == r.slots + u) (holding u v) (waiting u) tt tt
       at p l = l
 
   -- outside of the functions no word becomes half passed, and none is passed
@@ -295,21 +287,12 @@ module _ (k : Block) where
   knows-offset the_receiver u t knows near = subst (IsFit k) knows near.receiving
 
   pub looked-offset : (p : Party) (K : Kind) (r : RingBuffer) (u v : ℕ) (t : Part) → Looked p K r u v t → Near k t → IsOffset k u
-  looked-offset the_sender K r u v t knows near = at (says_full K r u v) (subst (IsNear k) knows near.sending)
-    where
-      at : (b : Bool) → IsNear k (if b then placed u else roomy u) → IsOffset k u
-      at true h = h
-      at false h = h
-  looked-offset the_receiver lamport r u v t knows near = at (says_empty lamport u v) (subst (IsFit k) knows near.receiving)
-    where
-      at : (b : Bool) → IsFit k (if b then asked u else waiting u) → IsOffset k u
-      at true h = h
-      at false h = h
-  looked-offset the_receiver fastforward r u v t knows near = at (says_empty fastforward u v) (subst (IsFit k) knows near.receiving)
-    where
-      at : (b : Bool) → IsFit k (if b then asked u else holding u v) → IsOffset k u
-      at true h = h
-      at false h = h
+  looked-offset the_sender K r u v t knows near =
+      either (IsNear k) (says_full K r u v) (placed u) (roomy u) (λ h. h) (λ h. h) (subst (IsNear k) knows near.sending)
+  looked-offset the_receiver lamport r u v t knows near =
+      either (IsFit k) (says_empty lamport u v) (asked u) (waiting u) (λ h. h) (λ h. h) (subst (IsFit k) knows near.receiving)
+  looked-offset the_receiver fastforward r u v t knows near =
+      either (IsFit k) (says_empty fastforward u v) (asked u) (holding u v) (λ h. h) (λ h. h) (subst (IsFit k) knows near.receiving)
 
   pub ready-offset : (p : Party) (u w : ℕ) (t : Part) → MayStore p u w t → Near k t → IsOffset k u
   ready-offset the_sender u w t knows near = subst (IsNear k) knows near.sending

@@ -1,15 +1,16 @@
 -- Rows of stores, of any protocol: each party stores to the block in an order that is known, and what an entry does to the
 -- block is to leave it, to make a party's next store pending, or to land a party's oldest.
-use Rattle.std.proofs.Common.{ℕ, zero, suc, ◌+◌, ◌-◌, ◌^◌, ◌<◌, ◌≤◌, ◌≡◌, ◌≢◌, ◌==◌, ◌⊎◌, inl, inr, Bool, true, false, if◌then◌else◌, List, [], ◌∷◌, ◌++◌, length, take}
+use Rattle.std.proofs.Common.{ℕ, zero, suc, ◌+◌, ◌-◌, ◌^◌, ◌<◌, ◌≤◌, ◌≡◌, ◌≢◌, ◌==◌, ◌⊎◌, inl, inr, Bool, true, false, if◌then◌else◌, List, [], ◌∷◌, ◌++◌, length, take, drop}
 use Rattle.std.proofs.Common.{refl, sym, ◌∙◌, ap, subst, arith, append-nil, length-append, eq-eqb}
-use Rattle.std.proofs.lemmas.Bool.{cases_eq, ne_eqb}
+use Rattle.std.proofs.lemmas.Bool.{cases_eq, eqb-true, ne_eqb}
+use Rattle.std.proofs.lemmas.List.{take-append-drop}
 use Rattle.memory.specs.declared.writes.Write.{Write}
 use Rattle.memory.specs.Writes.{write, IsWholeWord}
 use Rattle.step_machine.specs.declared.events.Entry.{Entry}
 use Rattle.step_machine.specs.History.{OpeningValue}
 use Rattle.step_machine.specs.Access.{Access, store, exchange, land, access_of}
 use Rattle.step_machine.specs.Entries.{hart_of, stored_by, landed_by, written_by, own_store, land_of, write_of, pending, memory_word, own_stores, lands}
-use Rattle.step_machine.proofs.Appended.{stores-append}
+use Rattle.step_machine.proofs.Appended.{stores-append, pending-last}
 use Rattle.step_machine.proofs.Lists.{some_first}
 use Rattle.spsc_queue.specs.RingBuffers.{RingBuffer, IsRingBuffer, IsWordIn}
 use Rattle.spsc_queue.proofs.Words.{shared, row_of}
@@ -127,15 +128,6 @@ module _ (r : RingBuffer) (is : IsRingBuffer r) (o : OpeningValue) (es : List En
   made-none : (h : ℕ) → own_store h e ≡ [] → on_count r h after ≡ on_count r h es
   made-none h none = made-of h [] none ∙ (let same : on_count r h es + 0 ≡ on_count r h es = omega arith in same)
 
-  -- an entry that stores nothing and lands nothing, and writes at most off the block
-  stays-if : ((h : ℕ) → own_store h e ≡ []) → ((h : ℕ) → land_of h e ≡ 0)
-      → ((a : ℕ) → IsWordIn r a → memory_word o after a ≡ memory_word o es a) → Stays r o es after
-  stays-if none still words = record {
-    words = words;
-    pends = λ h. ap (row_of r) (pending-quiet es e h (even h) (none h) (still h));
-    made = λ h. made-none h (none h);
-  }
-
   -- what each kind of access does, read off the entry
   module _ (x : Access) (does : access_of e ≡ x) where
     stores-by : (h : ℕ) → own_store h e ≡ stored_by (hart_of e == h) x
@@ -151,15 +143,32 @@ module _ (r : RingBuffer) (is : IsRingBuffer r) (o : OpeningValue) (es : List En
     no-store-of : (h : ℕ) → hart_of e ≢ h → own_store h e ≡ []
     no-store-of h other = stores-by h ∙ ap (λ b. stored_by b x) (ne_eqb (hart_of e) h other) ∙ stored_none x
 
-  -- an access that stores nothing, lands nothing and writes nothing
+  -- an entry whose hart neither stores nor lands on the block, and whose write is off it
+  stays-if : ((h : ℕ) → row_of r (own_store h e) ≡ []) → ((h : ℕ) → row_of r (take (land_of h e) (pending h es ++ own_store h e)) ≡ [])
+      → ((a : ℕ) → IsWordIn r a → memory_word o after a ≡ memory_word o es a) → Stays r o es after
+  stays-if none gone words = record {
+    words = words;
+    pends = λ h.
+        let ws : List Write = pending h es ++ own_store h e in
+        ap (row_of r) (pending-last h es e (even h)) ∙ sym (ap (λ vs. vs ++ row_of r (drop (land_of h e) ws)) (gone h))
+        ∙ sym (on-append r (take (land_of h e) ws) (drop (land_of h e) ws)) ∙ ap (row_of r) (take-append-drop (land_of h e) ws)
+        ∙ on-append r (pending h es) (own_store h e) ∙ ap (λ vs. row_of r (pending h es) ++ vs) (none h) ∙ append-nil (row_of r (pending h es));
+    made = λ h. made-of h (own_store h e) refl ∙ ap (λ vs. on_count r h es + length vs) (none h) ∙ omega arith;
+  }
+
+  -- an access that stores nothing and lands nothing, and writes at most off the block
+  still-if : (x : Access) → access_of e ≡ x → ((h : ℕ) → stored_by (hart_of e == h) x ≡ []) → ((h : ℕ) → landed_by (hart_of e == h) x ≡ 0)
+      → ((a : ℕ) → IsWordIn r a → memory_word o after a ≡ memory_word o es a) → Stays r o es after
+  still-if x does none still words = stays-if (λ h. ap (row_of r) (stores-by x does h ∙ none h))
+      (λ h. ap (λ n. row_of r (take n (pending h es ++ own_store h e))) (lands-by x does h ∙ still h)) words
+
   pub still-stays : (x : Access) → access_of e ≡ x → ((h : ℕ) → stored_by (hart_of e == h) x ≡ []) → ((h : ℕ) → landed_by (hart_of e == h) x ≡ 0)
       → written_by (take 1 (pending (hart_of e) es)) x ≡ [] → Stays r o es after
-  still-stays x does none still unwritten = stays-if (λ h. stores-by x does h ∙ none h) (λ h. lands-by x does h ∙ still h)
-      (λ a word. memory-quiet o es e a (writes-by x does ∙ unwritten))
+  still-stays x does none still unwritten = still-if x does none still (λ a word. memory-quiet o es e a (writes-by x does ∙ unwritten))
 
   -- an AMO off the block
   pub exchange-stays : (a old new : ℕ) → access_of e ≡ exchange a old new → shared r (write a 4 new) ≡ false → Stays r o es after
-  exchange-stays a old new does off = stays-if (stores-by (exchange a old new) does) (lands-by (exchange a old new) does)
+  exchange-stays a old new does off = still-if (exchange a old new) does (λ h. refl) (λ h. refl)
       (λ b word. memory-off o es e r b (write a 4 new) (writes-by (exchange a old new) does) word off)
 
   -- a store, by which the entry's hart gets one more pending store and each other keeps its own
@@ -180,19 +189,12 @@ module _ (r : RingBuffer) (is : IsRingBuffer r) (o : OpeningValue) (es : List En
     words-stay a = memory-quiet o es e a (writes-by (store w) does)
 
     pub off-stays : shared r w ≡ false → Stays r o es after
-    off-stays off = record { words = λ a word. words-stay a; pends = λ h. at h (cases_eq (hart_of e) h); made = λ h. count h (cases_eq (hart_of e) h) }
+    off-stays off = stays-if (λ h. ap (row_of r) (stores-by (store w) does h) ∙ none (hart_of e == h))
+        (λ h. ap (λ n. row_of r (take n (pending h es ++ own_store h e))) (lands-by (store w) does h)) (λ a word. words-stay a)
       where
-        at : (h : ℕ) → (hart_of e ≡ h) ⊎ (hart_of e ≢ h) → row_of r (pending h after) ≡ row_of r (pending h es)
-        at h (inl same) = subst (λ g. row_of r (pending g after) ≡ row_of r (pending g es)) same
-            (ap (row_of r) more-of ∙ on-append r (pending (hart_of e) es) (w ∷ [])
-            ∙ ap (λ vs. row_of r (pending (hart_of e) es) ++ vs) (on-none r w off) ∙ append-nil (row_of r (pending (hart_of e) es)))
-        at h (inr other) = same-of h other
-
-        count : (h : ℕ) → (hart_of e ≡ h) ⊎ (hart_of e ≢ h) → on_count r h after ≡ on_count r h es
-        count h (inl same) = subst (λ g. on_count r g after ≡ on_count r g es) same
-            (made-of (hart_of e) (w ∷ []) stored-of ∙ ap (λ vs. on_count r (hart_of e) es + length vs) (on-none r w off)
-            ∙ (let none : on_count r (hart_of e) es + 0 ≡ on_count r (hart_of e) es = omega arith in none))
-        count h (inr other) = made-none h (no-store-of (store w) does h other)
+        none : (b : Bool) → row_of r (stored_by b (store w)) ≡ []
+        none true = on-none r w off
+        none false = refl
 
     module _ (on : shared r w ≡ true) where
       longer : (h : ℕ) → hart_of e ≡ h → (f : ℕ → Write) (i n : ℕ) → row_of r (pending h es) ≡ spread f i n → w ≡ f (i + n)
@@ -259,16 +261,13 @@ module _ (r : RingBuffer) (is : IsRingBuffer r) (o : OpeningValue) (es : List En
       written x is_it a word whole = memory-whole o es e a x (writes ∙ ap (λ y. y ∷ []) is_it) word.aligned whole
 
       off-lands : shared r w ≡ false → Stays r o es after
-      off-lands off = record {
-        words = λ a word. memory-off o es e r a w writes word off;
-        pends = λ h. at h (cases_eq (hart_of e) h);
-        made = λ h. made-none h (none-stored h);
-      }
+      off-lands off = stays-if (λ h. ap (row_of r) (none-stored h)) (λ h. ap (λ n. row_of r (take n (pending h es ++ own_store h e))) (lands-by land does h)
+          ∙ gone h (hart_of e == h) refl) (λ a word. memory-off o es e r a w writes word off)
         where
-          at : (h : ℕ) → (hart_of e ≡ h) ⊎ (hart_of e ≢ h) → row_of r (pending h after) ≡ row_of r (pending h es)
-          at h (inl same) = subst (λ g. row_of r (pending g after) ≡ row_of r (pending g es)) same
-              (ap (row_of r) left-of ∙ sym (ap (row_of r) first ∙ split_off r w rest off))
-          at h (inr other) = kept-of h other
+          gone : (h : ℕ) (b : Bool) → (hart_of e == h) ≡ b → row_of r (take (landed_by b land) (pending h es ++ own_store h e)) ≡ []
+          gone h false other = refl
+          gone h true mine = ap (λ ws. row_of r (take 1 (ws ++ own_store h e))) (ap (λ g. pending g es) (sym (eqb-true (hart_of e) h mine)) ∙ first)
+              ∙ on-none r w off
 
       row-of : (h : ℕ) → hart_of e ≡ h → (ws : List Write) → row_of r (pending h es) ≡ ws → row_of r (w ∷ rest) ≡ ws
       row-of h mine ws has = ap (row_of r) (sym first) ∙ ap (λ g. row_of r (pending g es)) mine ∙ has
