@@ -1,5 +1,5 @@
 -- The invariant of a queue of either kind: what keeps it, and what the laws take from it.
-use Rattle.std.proofs.Common.{ℕ, ◌+◌, ◌-◌, ◌^◌, ◌<◌, ◌≤◌, ◌≡◌, List, [], ◌∷◌, ◌++◌, length, refl, sym, ◌∙◌, ap, subst}
+use Rattle.std.proofs.Common.{ℕ, ◌+◌, ◌-◌, ◌^◌, ◌<◌, ◌≤◌, ◌≡◌, List, [], ◌∷◌, ◌++◌, length, not, refl, sym, ◌∙◌, ap, subst}
 use Rattle.std.proofs.Common.{arith}
 use Rattle.memory.specs.declared.writes.Write.{Write}
 use Rattle.step_machine.specs.declared.events.Entry.{Entry}
@@ -16,7 +16,8 @@ use Rattle.spsc_queue.proofs.Rows.{row-level, RowOrder, Earlier, Rows, Stays, on
 use Rattle.spsc_queue.proofs.Invariant.{firsts, spare, freed, there, their_store, their_landed, they_made, Theirs, ReceivingIs, Invariant}
 use Rattle.spsc_queue.proofs.Invariant.{IsPlaced, placed-of, freed_taken}
 use Rattle.spsc_queue.proofs.Numbers.{firsts-numbers}
-use Rattle.spsc_queue.proofs.Words.{row_of, row_shorter}
+use Rattle.std.specs.List.{filter}
+use Rattle.spsc_queue.proofs.Words.{is_copy, row_of, rows_are}
 use Rattle.spsc_queue.proofs.Copies.{CopyStays, copied-on, copy-at-rest}
 use Rattle.spsc_queue.proofs.Loads as lamports
 use Rattle.spsc_queue.proofs.FastForwardLoads as fastforwards
@@ -109,11 +110,7 @@ abbrev pub earlier : RingBuffer → List Entry → Earlier
 earlier r es = record { sender = on_count r r.sender es; receiver = on_count r r.receiver es; ahead = r.begins_with + r.begins_with }
 
 pub row_none : (r : RingBuffer) (ws : List Write) → writes_to r ws ≡ [] → row_of r ws ≡ []
-row_none r ws none = at (row_of r ws) (omega (arith, row_shorter r ws, ap length none))
-  where
-    at : (vs : List Write) → length vs ≤ 0 → vs ≡ []
-    at [] le = refl
-    at (v ∷ vs) le = absurd (omega (arith, le))
+row_none r ws none = rows_are r ws ∙ ap (filter (λ w. not (is_copy r.copy w))) none
 
 -- nothing is taken and none of the receiver's stores has landed
 none_theirs : (K : Kind) → Theirs K 0 0 0 0

@@ -34,6 +34,10 @@ use Rattle.spsc_queue.proofs.PastRows.{length-spread, row-grows}
 no_copy : (r : RingBuffer) (b : Bool) → r.copy ≡ None → (w : Write) → is_copy r.copy w ≡ true → b ≡ false
 no_copy r b is w copy = absurd (let no : false ≡ true = sym (ap (λ q. is_copy q w) is) ∙ copy in cc)
 
+never : (b : Bool) → (b ≡ true → ⊥) → b ≡ false
+never true wrong = absurd (wrong refl)
+never false wrong = refl
+
 -- where no less of a row has landed, no fewer words are there, and no fewer slots are freed
 more_there : (K : Kind) (p q n h p2 q2 n2 h2 : ℕ) → RowOrder p q n h → RowOrder p2 q2 n2 h2 → n + h ≤ n2 + h2 → there K n h ≤ there K n2 h2
 more_there lamport p q n h p2 q2 n2 h2 row later le = omega (arith, row.heads_slots, row.slots_heads, later.heads_slots, later.slots_heads, le)
@@ -226,32 +230,24 @@ module _ (B : ℕ) (r : RingBuffer) (o : OpeningValue) (before es fs : List Entr
 
   pub word_found : (u v : ℕ) → hart_of e ≡ r.receiver → access_of e ≡ load (watched_address r.kind r u) 4 v → Z.receiving ≡ asked u
       → Z.taken + unpublished r (pending r.sender (before ++ es)) < available_count r S → says_empty r.kind u v ≡ false
-  word_found u v mine does was more = at_most (says_empty r.kind u v) refl
-    where
-      at_most : (b : Bool) → says_empty r.kind u v ≡ b → b ≡ false
-      at_most true says = absurd (omega (
-        arith,
-        more,
-        words_held r t.ring A small_words (earlier r before) o (before ++ es) S r.kind first,
-        there_later,
-        nothing_there B r o before (es ++ fs) e gs later u v mine does says was,
-      ))
-      at_most false says = refl
+  word_found u v mine does was more = never (says_empty r.kind u v) (λ says. omega (
+    arith,
+    more,
+    words_held r t.ring A small_words (earlier r before) o (before ++ es) S r.kind first,
+    there_later,
+    nothing_there B r o before (es ++ fs) e gs later u v mine does says was,
+  ))
 
   pub room_found : (u v : ℕ) → hart_of e ≡ r.sender → access_of e ≡ load (room_at r.kind r u) 4 v → Z.sending ≡ placed u
       → Z.stored + unreleased r (pending r.receiver (before ++ es)) < S.taken + capacity r → says_full r.kind r u v ≡ false
-  room_found u v mine does was more = at_most (says_full r.kind r u v) refl
-    where
-      at_most : (b : Bool) → says_full r.kind r u v ≡ b → b ≡ false
-      at_most true says = absurd (omega (
-        arith,
-        more,
-        slots_held r t.ring A small_words (earlier r before) o (before ++ es) S r.kind first,
-        freed_later,
-        nothing_free B r o before (es ++ fs) e gs later u v mine does says was,
-        spare_capacity r.kind r.size t.ring.some_slots,
-      ))
-      at_most false says = refl
+  room_found u v mine does was more = never (says_full r.kind r u v) (λ says. omega (
+    arith,
+    more,
+    slots_held r t.ring A small_words (earlier r before) o (before ++ es) S r.kind first,
+    freed_later,
+    nothing_free B r o before (es ++ fs) e gs later u v mine does says was,
+    spare_capacity r.kind r.size t.ring.some_slots,
+  ))
 
 pub room_landed : (B : ℕ) (r : RingBuffer) (o : OpeningValue) (before es : List Entry) → FollowsSpscProtocol B r o before es → r.kind ≡ lamport
     → (parties_after r o before es).stored + length (writes_to r (pending r.receiver (before ++ es))) ≤ (parties_after r o before es).taken + capacity r

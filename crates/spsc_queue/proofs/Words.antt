@@ -61,33 +61,40 @@ word_on r w a word is = ap (λ b. b && not (is_copy r.copy w)) (word_overlaps r 
       | inr l ↦ omega (arith, is.place, e, l)
     ]))
 
--- a row is some of the writes to the block
-pub row_shorter : (r : RingBuffer) (ws : List Write) → length (row_of r ws) ≤ length (writes_to r ws)
-row_shorter r [] = omega arith
-row_shorter r (w ∷ ws) = at (overlaps r w) (not (is_copy r.copy w)) (row_shorter r ws)
+-- a row is what is left of the writes to the block without those to the sender's copy
+pub rows_are : (r : RingBuffer) (ws : List Write) → row_of r ws ≡ filter (λ w. not (is_copy r.copy w)) (writes_to r ws)
+rows_are r [] = refl
+rows_are r (w ∷ ws) = at (overlaps r w) (rows_are r ws)
   where
-    at : (b d : Bool) → length (row_of r ws) ≤ length (writes_to r ws)
-        → length (if b && d then w ∷ row_of r ws else row_of r ws) ≤ length (if b then w ∷ writes_to r ws else writes_to r ws)
-    at true true le = omega (arith, le)
-    at true false le = omega (arith, le)
-    at false d le = le
+    C : Write → Bool
+    C v = not (is_copy r.copy v)
 
--- a row has all such writes to the block, if none of the sender's copy is such
+    at : (b : Bool) → row_of r ws ≡ filter C (writes_to r ws)
+        → (if b && C w then w ∷ row_of r ws else row_of r ws) ≡ filter C (if b then w ∷ writes_to r ws else writes_to r ws)
+    at true same = ap (λ xs. if C w then w ∷ xs else xs) same
+    at false same = same
+
+-- so it has all such writes to the block, if none of the sender's copy is such
 pub row_counts : (r : RingBuffer) (P : Write → Bool) → ((w : Write) → is_copy r.copy w ≡ true → P w ≡ false) → (ws : List Write)
     → length (filter P (writes_to r ws)) ≡ length (filter P (row_of r ws))
-row_counts r P off [] = refl
-row_counts r P off (w ∷ ws) = at (overlaps r w) (is_copy r.copy w) (off w) (P w) refl (row_counts r P off ws)
+row_counts r P off ws = kept (writes_to r ws) ∙ ap (λ xs. length (filter P xs)) (sym (rows_are r ws))
   where
-    at : (b d : Bool) → (d ≡ true → P w ≡ false) → (c : Bool) → P w ≡ c → length (filter P (writes_to r ws)) ≡ length (filter P (row_of r ws))
-        → length (filter P (if b then w ∷ writes_to r ws else writes_to r ws)) ≡ length (filter P (if b && not d then w ∷ row_of r ws else row_of r ws))
-    at true true copy c is same = ap (λ x. length (if x then w ∷ filter P (writes_to r ws) else filter P (writes_to r ws))) (copy refl) ∙ same
-    at true false copy true is same =
-        ap (λ x. length (if x then w ∷ filter P (writes_to r ws) else filter P (writes_to r ws))) is ∙ ap suc same
-        ∙ sym (ap (λ x. length (if x then w ∷ filter P (row_of r ws) else filter P (row_of r ws))) is)
-    at true false copy false is same =
-        ap (λ x. length (if x then w ∷ filter P (writes_to r ws) else filter P (writes_to r ws))) is ∙ same
-        ∙ sym (ap (λ x. length (if x then w ∷ filter P (row_of r ws) else filter P (row_of r ws))) is)
-    at false d copy c is same = same
+    kept : (vs : List Write) → length (filter P vs) ≡ length (filter P (filter (λ w. not (is_copy r.copy w)) vs))
+    kept [] = refl
+    kept (v ∷ vs) = at (is_copy r.copy v) (off v) (kept vs)
+      where
+        rest : List Write
+        rest = filter (λ w. not (is_copy r.copy w)) vs
+
+        longer : (c : Bool) → length (filter P vs) ≡ length (filter P rest)
+            → length (if c then v ∷ filter P vs else filter P vs) ≡ length (if c then v ∷ filter P rest else filter P rest)
+        longer true same = ap suc same
+        longer false same = same
+
+        at : (d : Bool) → (d ≡ true → P v ≡ false) → length (filter P vs) ≡ length (filter P rest)
+            → length (if P v then v ∷ filter P vs else filter P vs) ≡ length (filter P (if not d then v ∷ rest else rest))
+        at true copy same = ap (λ x. length (if x then v ∷ filter P vs else filter P vs)) (copy refl) ∙ same
+        at false copy same = longer (P v) same
 
 -- a store to a word of the block is none to the copy
 pub copy_apart : (r : RingBuffer) (a : ℕ) → IsWordIn r a → (w : Write) → is_copy r.copy w ≡ true → (w.addr == a) ≡ false
@@ -97,10 +104,6 @@ copy_apart r a word w copy =
       | inl l ↦ omega (arith, e, it.2, l)
       | inr l ↦ omega (arith, e, it.2, l)
     ])
-
--- a write that is off the block, or of a whole word
-abbrev pub Tidy : RingBuffer → Write → Type 0
-Tidy r w = (shared r w ≡ false) ⊎ IsWholeWord w
 
 -- the frame: a write off the block covers no byte of a word of the block
 pub off_covers : (r : RingBuffer) (w : Write) (a i : ℕ) → IsWordIn r a → i < 4 → shared r w ≡ false → covers w (a + i) ≡ false
@@ -144,28 +147,23 @@ whole_word w a f aligned is = at (w.addr == a) refl
         let none : covers w (a + i) ≡ false = covers-other w (a + i) (omega arith) (λ q. elsewhere (omega arith)) in
         ap (λ c. if c then byte_at (a + i - w.addr) w.value else f (a + i)) none)
 
--- one write, and then more
-seen-first : (r : RingBuffer) (a v : ℕ) (w : Write) (ws : List Write) (b : Bool) → shared r w ≡ b
-    → seen a v (row_of r (w ∷ ws)) ≡ seen a (if b then (if w.addr == a then w.value else v) else v) (row_of r ws)
-seen-first r a v w ws true on = ap (λ b. seen a v (if b then w ∷ row_of r ws else row_of r ws)) on
-seen-first r a v w ws false on = ap (λ b. seen a v (if b then w ∷ row_of r ws else row_of r ws)) on
-
--- the law of reads: bytes read through tidy writes join to the word that those to the block leave
-pub read_through : (r : RingBuffer) (a : ℕ) (f : ℕ → ℕ) (ws : List Write) → IsWordIn r a → All (Tidy r) ws
+-- the law of reads: bytes read through writes, of which those to the block are of whole words, join to the word that these leave
+pub read_through : (r : RingBuffer) (a : ℕ) (f : ℕ → ℕ) (ws : List Write) → IsWordIn r a → All IsWholeWord (row_of r ws)
     → joined (λ i. unwrap_or (newest_of (a + i) None ws) (f (a + i))) 4 ≡ seen a (joined (λ i. f (a + i)) 4) (row_of r ws)
 read_through r a f [] is all = refl
 read_through r a f (w ∷ ws) is all =
     joined-same (λ i. unwrap_or (newest_of (a + i) None (w ∷ ws)) (f (a + i))) (λ i. unwrap_or (newest_of (a + i) None ws) (byte_after w (a + i) (f (a + i)))) 4
-    (λ i lt. newest-first (a + i) (f (a + i)) w ws) ∙ read_through r a (λ x. byte_after w x (f x)) ws is (All-tail (Tidy r) w ws all)
-    ∙ at (shared r w) refl (All-head (Tidy r) w ws all)
+    (λ i lt. newest-first (a + i) (f (a + i)) w ws) ∙ at (shared r w) refl (λ more. read_through r a (λ x. byte_after w x (f x)) ws is more) all
   where
     v : ℕ
-    v = joined (λ i. f (a + i)) 4
+    v = joined (λ i. byte_after w (a + i) (f (a + i))) 4
 
-    new : ℕ
-    new = joined (λ i. byte_after w (a + i) (f (a + i))) 4
+    read_by : ℕ
+    read_by = joined (λ i. unwrap_or (newest_of (a + i) None ws) (byte_after w (a + i) (f (a + i)))) 4
 
-    at : (b : Bool) → shared r w ≡ b → Tidy r w → seen a new (row_of r ws) ≡ seen a v (row_of r (w ∷ ws))
-    at false off tidy = ap (λ x. seen a x (row_of r ws)) (off_word r w a f is off) ∙ sym (seen-first r a v w ws false off)
-    at true on (inl off) = cc
-    at true on (inr whole) = ap (λ x. seen a x (row_of r ws)) (whole_word w a f is.aligned whole) ∙ sym (seen-first r a v w ws true on)
+    at : (b : Bool) → shared r w ≡ b → (All IsWholeWord (row_of r ws) → read_by ≡ seen a v (row_of r ws))
+        → All IsWholeWord (if b then w ∷ row_of r ws else row_of r ws)
+        → read_by ≡ seen a (joined (λ i. f (a + i)) 4) (if b then w ∷ row_of r ws else row_of r ws)
+    at false off go all = go all ∙ ap (λ x. seen a x (row_of r ws)) (off_word r w a f is off)
+    at true on go all = go (All-tail IsWholeWord w (row_of r ws) all)
+        ∙ ap (λ x. seen a x (row_of r ws)) (whole_word w a f is.aligned (All-head IsWholeWord w (row_of r ws) all))
