@@ -63,107 +63,120 @@ module _ (r : RingBuffer) (is : IsRingBuffer r) (L : ℕ → ℕ) (small : (j : 
   abbrev d : Landed
   d = inv.landed
 
+  -- how many slots hold words that landed, and how many are freed
+  abbrev slots : ℕ
+  slots = (inv.landed.mine + 1) / 2
+
+  abbrev cleared : ℕ
+  cleared = (inv.landed.theirs + 1) / 2
+
+  slots_stored : slots ≤ s.stored
+  slots_stored = omega (arith, inv.rows.mine.landed, inv.order.published_stored)
+
+  cleared_taken : cleared ≤ s.taken
+  cleared_taken = omega (arith, inv.rows.theirs.landed, inv.order.theirs.0)
+
   receiver-tail : read o es r.receiver r.tail 4 ≡ slot_offset r s.consumed
   receiver-tail = receiver-reads fastforward r is L small c o es s inv r.tail is.tail
-      ∙ ap (λ v. seen r.tail v (spread (cleared_store r) (d.cleared + d.tails) (unread fastforward s inv.landed)))
-      (inv.words.tail ∙ ap (slot_offset r) (omega (arith, inv.order.theirs.heads_slots, inv.order.theirs.slots_heads)))
-      ∙ seen-heads (turned r) (turned_is r is) zeros (d.cleared + d.tails) (unread fastforward s inv.landed)
-      ∙ ap (slot_offset r) (omega (arith, inv.rows.theirs.landed, inv.order.theirs.published_stored, inv.order.theirs.stored_published))
+      ∙ ap (λ v. seen r.tail v (spread (cleared_store r) d.theirs (unread fastforward s inv.landed)))
+      inv.words.tail
+      ∙ seen-heads (turned r) (turned_is r is) zeros d.theirs (unread fastforward s inv.landed)
+      ∙ ap (slot_offset r) (omega (arith, inv.rows.theirs.landed, inv.order.theirs.0, inv.order.theirs.1))
 
   -- the sender finds a word in a slot whose word isn't cleared in memory
-  sender-full : s.stored ≡ s.published → s.stored ≡ d.cleared + r.size → read o es r.sender (slot_address r s.stored) 4 ≡ L d.cleared
+  sender-full : s.stored ≡ s.published → s.stored ≡ cleared + r.size → read o es r.sender (slot_address r s.stored) 4 ≡ L cleared
   sender-full level full =
-      sender-reads fastforward r is L small c o es s inv (slot_address r s.stored) (slot_word r is s.stored) ∙ at (cases_lt d.cleared d.slots)
+      sender-reads fastforward r is L small c o es s inv (slot_address r s.stored) (slot_word r is s.stored) ∙ at (cases_lt cleared slots)
     where
       v : ℕ
       v = memory_word o es (slot_address r s.stored)
 
-      upto : (d.slots + d.heads) + unsent s inv.landed ≤ 2 * s.stored
+      upto : d.mine + unsent s inv.landed ≤ 2 * s.stored
       upto = omega (arith, level, inv.rows.mine.landed)
 
-      at : (d.cleared < d.slots) ⊎ (d.slots ≤ d.cleared)
-          → seen (slot_address r s.stored) v (spread (sent_store r L) (d.slots + d.heads) (unsent s inv.landed)) ≡ L d.cleared
-      at (inl landed) = row-past r is L s.stored v (d.slots + d.heads) (unsent s inv.landed) upto
-          (omega (arith, full, landed, inv.order.mine.heads_slots, inv.order.mine.slots_heads))
-          ∙ ap (memory_word o es) (slot_again r is d.cleared s.stored full) ∙ inv.words.full d.cleared (omega arith) landed
+      at : (cleared < slots) ⊎ (slots ≤ cleared)
+          → seen (slot_address r s.stored) v (spread (sent_store r L) d.mine (unsent s inv.landed)) ≡ L cleared
+      at (inl landed) = row-past r is L s.stored v d.mine (unsent s inv.landed) upto
+          (omega (arith, full, landed))
+          ∙ ap (memory_word o es) (slot_again r is cleared s.stored full) ∙ inv.words.full cleared (omega arith) landed
       at (inr none) =
-          let same : d.cleared ≡ d.slots = omega (arith, none, inv.order.theirs.slots_stored, inv.order.taken_there) in
-          row-last r is L s.stored v (d.slots + d.heads) (unsent s inv.landed) upto d.cleared full (omega (arith, same, inv.order.mine.heads_slots))
+          let same : cleared ≡ slots = omega (arith, none, cleared_taken, inv.order.taken_there) in
+          row-last r is L s.stored v d.mine (unsent s inv.landed) upto cleared full (omega (arith, same))
           (omega (arith, same, level, full, is.some_slots, inv.rows.mine.landed))
 
   -- and 0 where the slot is free in memory
-  pub sender-free : s.stored ≡ s.published → s.stored < d.cleared + r.size → read o es r.sender (slot_address r s.stored) 4 ≡ 0
+  pub sender-free : s.stored ≡ s.published → s.stored < cleared + r.size → read o es r.sender (slot_address r s.stored) 4 ≡ 0
   sender-free level room =
       sender-reads fastforward r is L small c o es s inv (slot_address r s.stored) (slot_word r is s.stored)
-      ∙ row-past r is L s.stored (memory_word o es (slot_address r s.stored)) (d.slots + d.heads) (unsent s inv.landed)
+      ∙ row-past r is L s.stored (memory_word o es (slot_address r s.stored)) d.mine (unsent s inv.landed)
       (omega (arith, level, inv.rows.mine.landed))
-      (omega (arith, room, inv.order.theirs.slots_stored, inv.order.taken_there, inv.order.mine.heads_slots, inv.order.mine.slots_heads))
-      ∙ inv.words.free refl s.stored inv.order.mine.slots_stored room
+      (omega (arith, room, cleared_taken, inv.order.taken_there))
+      ∙ inv.words.free refl s.stored slots_stored room
 
   -- what the receiver reads in its slot
   slot-reads : read o es r.receiver (slot_address r s.taken) 4
-      ≡ seen (slot_address r s.taken) (memory_word o es (slot_address r s.taken)) (spread (cleared_store r) (d.cleared + d.tails) (unread fastforward s inv.landed))
+      ≡ seen (slot_address r s.taken) (memory_word o es (slot_address r s.taken)) (spread (cleared_store r) d.theirs (unread fastforward s inv.landed))
   slot-reads = receiver-reads fastforward r is L small c o es s inv (slot_address r s.taken) (slot_word r is s.taken)
 
-  slot-near : s.taken ≡ s.consumed → s.taken < d.cleared + r.size → read o es r.receiver (slot_address r s.taken) 4 ≡ memory_word o es (slot_address r s.taken)
+  slot-near : s.taken ≡ s.consumed → s.taken < cleared + r.size → read o es r.receiver (slot_address r s.taken) 4 ≡ memory_word o es (slot_address r s.taken)
   slot-near level near = slot-reads
-      ∙ row-past (turned r) (turned_is r is) zeros s.taken (memory_word o es (slot_address r s.taken)) (d.cleared + d.tails) (unread fastforward s inv.landed)
-      (omega (arith, level, inv.rows.theirs.landed)) (omega (arith, near, inv.order.theirs.heads_slots, inv.order.theirs.slots_heads))
+      ∙ row-past (turned r) (turned_is r is) zeros s.taken (memory_word o es (slot_address r s.taken)) d.theirs (unread fastforward s inv.landed)
+      (omega (arith, level, inv.rows.theirs.landed)) (omega (arith, near))
 
   -- it finds the word that landed there
-  pub receiver-word : s.taken ≡ s.consumed → s.taken < d.slots → read o es r.receiver (slot_address r s.taken) 4 ≡ L s.taken
-  receiver-word level landed = slot-near level (omega (arith, landed, inv.order.mine.slots_stored, inv.order.room))
-      ∙ inv.words.full s.taken inv.order.theirs.slots_stored landed
+  pub receiver-word : s.taken ≡ s.consumed → s.taken < slots → read o es r.receiver (slot_address r s.taken) 4 ≡ L s.taken
+  receiver-word level landed = slot-near level (omega (arith, landed, slots_stored, inv.order.room))
+      ∙ inv.words.full s.taken cleared_taken landed
 
   -- what the receiver finds in its slot: 0, or the word that landed there
   receiver-slot : s.taken ≡ s.consumed
-      → (read o es r.receiver (slot_address r s.taken) 4 ≡ 0) ⊎ ((s.taken < d.slots) × (read o es r.receiver (slot_address r s.taken) 4 ≡ L s.taken))
-  receiver-slot level = at (cases_lt s.taken (d.cleared + r.size)) (cases_lt s.taken d.slots)
+      → (read o es r.receiver (slot_address r s.taken) 4 ≡ 0) ⊎ ((s.taken < slots) × (read o es r.receiver (slot_address r s.taken) 4 ≡ L s.taken))
+  receiver-slot level = at (cases_lt s.taken (cleared + r.size)) (cases_lt s.taken slots)
     where
-      at : (s.taken < d.cleared + r.size) ⊎ (d.cleared + r.size ≤ s.taken) → (s.taken < d.slots) ⊎ (d.slots ≤ s.taken)
-          → (read o es r.receiver (slot_address r s.taken) 4 ≡ 0) ⊎ ((s.taken < d.slots) × (read o es r.receiver (slot_address r s.taken) 4 ≡ L s.taken))
+      at : (s.taken < cleared + r.size) ⊎ (cleared + r.size ≤ s.taken) → (s.taken < slots) ⊎ (slots ≤ s.taken)
+          → (read o es r.receiver (slot_address r s.taken) 4 ≡ 0) ⊎ ((s.taken < slots) × (read o es r.receiver (slot_address r s.taken) 4 ≡ L s.taken))
       at (inl near) (inl landed) = inr (landed, receiver-word level landed)
       at (inl near) (inr none) = inl (slot-near level near ∙ inv.words.free refl s.taken none near)
       at (inr far) c =
-          let full : s.taken ≡ d.cleared + r.size = omega (arith, far, inv.order.taken_there, inv.order.mine.slots_stored, inv.order.room) in
+          let full : s.taken ≡ cleared + r.size = omega (arith, far, inv.order.taken_there, slots_stored, inv.order.room) in
           inl (slot-reads
-          ∙ row-last (turned r) (turned_is r is) zeros s.taken (memory_word o es (slot_address r s.taken)) (d.cleared + d.tails) (unread fastforward s inv.landed)
-          (omega (arith, level, inv.rows.theirs.landed)) d.cleared full (omega (arith, inv.order.theirs.heads_slots))
+          ∙ row-last (turned r) (turned_is r is) zeros s.taken (memory_word o es (slot_address r s.taken)) d.theirs (unread fastforward s inv.landed)
+          (omega (arith, level, inv.rows.theirs.landed)) cleared full (omega arith)
           (omega (arith, level, full, is.some_slots, inv.rows.theirs.landed)))
 
   -- ---- loads
 
-  send-looked : (a v : ℕ) (p : SenderState) → v ≡ read o es r.sender a 4 → SendingIs 0 r s.stored s.published d.cleared p
-      → SendingIs 0 r s.stored s.published d.cleared (send_look fastforward r a v p)
-  send-looked a v (placed u) is_read holds = subst (λ q. SendingIs 0 r s.stored s.published d.cleared (looks_at q fastforward r a u v)) (sym inv.copy)
+  send-looked : (a v : ℕ) (p : SenderState) → v ≡ read o es r.sender a 4 → SendingIs 0 r s.stored s.published cleared p
+      → SendingIs 0 r s.stored s.published cleared (send_look fastforward r a v p)
+  send-looked a v (placed u) is_read holds = subst (λ q. SendingIs 0 r s.stored s.published cleared (looks_at q fastforward r a u v)) (sym inv.copy)
       (by (a == r.slots + u) refl (v == 0) refl)
     where
       by : (b : Bool) → (a == r.slots + u) ≡ b → (c : Bool) → (v == 0) ≡ c
-          → SendingIs 0 r s.stored s.published d.cleared (if b then (if not c then placed u else roomy u) else placed u)
+          → SendingIs 0 r s.stored s.published cleared (if b then (if not c then placed u else roomy u) else placed u)
       by true here true zero_read =
           let place : a ≡ slot_address r s.stored = eqb-true a (r.slots + u) here ∙ ap (λ x. r.slots + x) (holds.1 ∙ ap (slot_offset r) (sym holds.0)) in
           let none : read o es r.sender (slot_address r s.stored) 4 ≡ 0 = ap (λ x. read o es r.sender x 4) (sym place) ∙ sym is_read ∙ eqb-true v 0 zero_read in
-          let other : s.stored ≢ d.cleared + r.size =
-          λ full. inv.nonzero refl d.cleared (omega (arith, full, is.some_slots)) (sym (sender-full holds.0 full) ∙ none) in
+          let other : s.stored ≢ cleared + r.size =
+          λ full. inv.nonzero refl cleared (omega (arith, full, is.some_slots)) (sym (sender-full holds.0 full) ∙ none) in
           (holds.0, holds.1, omega (arith, other, inv.order.room))
       by true here false some = holds
       by false there c is_c = holds
   send-looked a v p is_read holds = holds
 
-  pub sending-load : (a v : ℕ) (p : SenderState) → v ≡ read o es r.sender a 4 → SendingIs 0 r s.stored s.published d.cleared p
-      → SendingIs 0 r s.stored s.published d.cleared (send_load fastforward r a v p)
-  sending-load a v p is_read holds = by-send-load fastforward r a v (SendingIs 0 r s.stored s.published d.cleared) p
+  pub sending-load : (a v : ℕ) (p : SenderState) → v ≡ read o es r.sender a 4 → SendingIs 0 r s.stored s.published cleared p
+      → SendingIs 0 r s.stored s.published cleared (send_load fastforward r a v p)
+  sending-load a v p is_read holds = by-send-load fastforward r a v (SendingIs 0 r s.stored s.published cleared) p
       (λ level here. (
-        level-counts r s.stored s.published p level (placed-of 0 r s.stored s.published d.cleared p holds),
+        level-counts r s.stored s.published p level (placed-of 0 r s.stored s.published cleared p holds),
         is_read ∙ ap (λ x. read o es r.sender x 4) here ∙ sender-head fastforward r is L small c o es s inv,
       )) (send-looked a v p is_read holds)
 
-  take-looked : (a v : ℕ) (p : ReceiverState) → v ≡ read o es r.receiver a 4 → ReceivingIs fastforward r L s.taken s.consumed d.slots p
-      → ReceivingIs fastforward r L s.taken s.consumed d.slots (receive_look fastforward r a v p)
+  take-looked : (a v : ℕ) (p : ReceiverState) → v ≡ read o es r.receiver a 4 → ReceivingIs fastforward r L s.taken s.consumed slots p
+      → ReceivingIs fastforward r L s.taken s.consumed slots (receive_look fastforward r a v p)
   take-looked a v (asked u) is_read holds = by (a == r.slots + u) refl (v == 0) refl
     where
       by : (b : Bool) → (a == r.slots + u) ≡ b → (c : Bool) → (v == 0) ≡ c
-          → ReceivingIs fastforward r L s.taken s.consumed d.slots (if b then (if c then asked u else holding u v) else asked u)
+          → ReceivingIs fastforward r L s.taken s.consumed slots (if b then (if c then asked u else holding u v) else asked u)
       by true here true zero_read = holds
       by true here false some =
           let place : a ≡ slot_address r s.taken = eqb-true a (r.slots + u) here ∙ ap (λ x. r.slots + x) (holds.1 ∙ ap (slot_offset r) (sym holds.0)) in
@@ -176,10 +189,10 @@ module _ (r : RingBuffer) (is : IsRingBuffer r) (L : ℕ → ℕ) (small : (j : 
   take-looked a v (waiting u) is_read holds = absurd (let no : fastforward ≡ lamport = holds.3 in cc)
   take-looked a v p is_read holds = holds
 
-  pub receiving-load : (a v : ℕ) (p : ReceiverState) → v ≡ read o es r.receiver a 4 → ReceivingIs fastforward r L s.taken s.consumed d.slots p
-      → ReceivingIs fastforward r L s.taken s.consumed d.slots (receive_load fastforward r a v p)
-  receiving-load a v p is_read holds = by-receive-load fastforward r a v (ReceivingIs fastforward r L s.taken s.consumed d.slots) p
+  pub receiving-load : (a v : ℕ) (p : ReceiverState) → v ≡ read o es r.receiver a 4 → ReceivingIs fastforward r L s.taken s.consumed slots p
+      → ReceivingIs fastforward r L s.taken s.consumed slots (receive_load fastforward r a v p)
+  receiving-load a v p is_read holds = by-receive-load fastforward r a v (ReceivingIs fastforward r L s.taken s.consumed slots) p
       (λ whole here. (
-        whole-counts fastforward r L s.taken s.consumed d.slots p whole holds,
+        whole-counts fastforward r L s.taken s.consumed slots p whole holds,
         is_read ∙ ap (λ x. read o es r.receiver x 4) here ∙ receiver-tail,
       )) (take-looked a v p is_read holds)

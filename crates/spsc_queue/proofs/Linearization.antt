@@ -21,9 +21,8 @@ use Rattle.store_buffers.specs.StoreBuffers.{LeavesByte}
 use Rattle.spsc_queue.proofs.Words.{is_copy, row_counts, copy_apart}
 use Rattle.spsc_queue.proofs.Copies.{Copied, row_whole}
 use Rattle.spsc_queue.proofs.Spread.{offset_apart, freed_store, spread-count, counts-heads, counts-slots}
-use Rattle.spsc_queue.proofs.Rows.{Earlier, Row, RowOrder}
-use Rattle.spsc_queue.proofs.Invariant.{turned, turned_is, zeros, Landed, spare, freed, there, their_landed, Theirs}
-use Rattle.spsc_queue.proofs.Invariant.{SendingIs, ReceivingIs, Invariant}
+use Rattle.spsc_queue.proofs.Rows.{Earlier, Row}
+use Rattle.spsc_queue.proofs.Invariant.{turned, turned_is, zeros, Landed, spare, freed, there, SendingIs, ReceivingIs, Invariant, there_more, freed_more}
 use Rattle.spsc_queue.proofs.Loads.{next_offset, sender-tail, receiver-other}
 use Rattle.spsc_queue.proofs.FastForwardLoads.{receiver-word, sender-free}
 use Rattle.spsc_queue.proofs.Invariants.{earlier, spare_capacity}
@@ -38,59 +37,49 @@ never : (b : Bool) → (b ≡ true → ⊥) → b ≡ false
 never true wrong = absurd (wrong refl)
 never false wrong = refl
 
--- where no less of a row has landed, no fewer words are there, and no fewer slots are freed
-more_there : (K : Kind) (p q n h p2 q2 n2 h2 : ℕ) → RowOrder p q n h → RowOrder p2 q2 n2 h2 → n + h ≤ n2 + h2 → there K n h ≤ there K n2 h2
-more_there lamport p q n h p2 q2 n2 h2 row later le = omega (arith, row.heads_slots, row.slots_heads, later.heads_slots, later.slots_heads, le)
-more_there fastforward p q n h p2 q2 n2 h2 row later le = omega (arith, row.heads_slots, row.slots_heads, later.heads_slots, later.slots_heads, le)
-
-more_freed : (K : Kind) (n m z t n2 m2 z2 t2 : ℕ) → Theirs K n m z t → Theirs K n2 m2 z2 t2 → their_landed K z t ≤ their_landed K z2 t2
-    → freed K z t ≤ freed K z2 t2
-more_freed lamport n m z t n2 m2 z2 t2 row later le = le
-more_freed fastforward n m z t n2 m2 z2 t2 row later le = omega (arith, row.heads_slots, row.slots_heads, later.heads_slots, later.slots_heads, le)
-
 module _ (r : RingBuffer) (is : IsRingBuffer r) (L : ℕ → ℕ) (small : (j : ℕ) → L j < 2 ^ 32) (c : Earlier) (o : OpeningValue) (es : List Entry)
     (T : ProtocolState) where
   -- the receiver sees no word: each that is there in memory was taken
   none_there : (k : Kind) (inv : Invariant k r L c o es T) (u v : ℕ) → v ≡ read o es r.receiver (watched_address k r u) 4 → says_empty k u v ≡ true
-      → T.receiving ≡ asked u → there k inv.landed.slots inv.landed.heads ≤ T.taken
+      → T.receiving ≡ asked u → there k inv.landed.mine ≤ T.taken
   none_there lamport inv u v found says was =
-      let known = subst (ReceivingIs lamport r L T.taken T.consumed inv.landed.heads) was inv.receiving in
-      let head : v ≡ slot_offset r inv.landed.heads =
+      let known = subst (ReceivingIs lamport r L T.taken T.consumed (inv.landed.mine / 2)) was inv.receiving in
+      let head : v ≡ slot_offset r (inv.landed.mine / 2) =
       found ∙ receiver-other r is L small c o es T inv r.head is.head (λ q. is.apart (sym q)) ∙ inv.words.head in
-      elim (cases_lt T.consumed inv.landed.heads) [
-        | inl less ↦ absurd (offset_apart r is T.consumed inv.landed.heads less
-            (omega (arith, inv.order.mine.heads_slots, inv.order.mine.slots_stored, inv.order.room, inv.order.theirs.1))
+      elim (cases_lt T.consumed (inv.landed.mine / 2)) [
+        | inl less ↦ absurd (offset_apart r is T.consumed (inv.landed.mine / 2) less
+            (omega (arith, inv.rows.mine.landed, inv.order.published_stored, inv.order.room, inv.rows.theirs.landed))
             (sym known.1 ∙ sym (eqb-true v u says) ∙ head))
         | inr more ↦ omega (arith, more, known.0)
       ]
   none_there fastforward inv u v found says was =
-      let known = subst (ReceivingIs fastforward r L T.taken T.consumed inv.landed.slots) was inv.receiving in
+      let known = subst (ReceivingIs fastforward r L T.taken T.consumed ((inv.landed.mine + 1) / 2)) was inv.receiving in
       let place : r.slots + u ≡ slot_address r T.taken = ap (λ x. r.slots + x) (known.1 ∙ ap (slot_offset r) (sym known.0)) in
       let zero_read : 0 ≡ read o es r.receiver (slot_address r T.taken) 4 = sym (eqb-true v 0 says) ∙ found ∙ ap (λ a. read o es r.receiver a 4) place in
-      elim (cases_lt T.taken inv.landed.slots) [
-        | inl less ↦ absurd (inv.nonzero refl T.taken (omega (arith, less, inv.order.mine.slots_stored))
+      elim (cases_lt T.taken ((inv.landed.mine + 1) / 2)) [
+        | inl less ↦ absurd (inv.nonzero refl T.taken (omega (arith, less, inv.rows.mine.landed, inv.order.published_stored))
             (sym (receiver-word r is L small c o es T inv known.0 less) ∙ sym zero_read))
         | inr more ↦ more
       ]
 
   -- the sender sees no room: as many words as fit are stored after those whose slots are free in memory
   none_free : (k : Kind) (inv : Invariant k r L c o es T) (u v : ℕ) → v ≡ read o es r.sender (room_at k r u) 4 → says_full k r u v ≡ true
-      → T.sending ≡ placed u → freed k inv.landed.cleared inv.landed.tails + r.size ≤ T.stored + spare k
+      → T.sending ≡ placed u → freed k inv.landed.theirs + r.size ≤ T.stored + spare k
   none_free lamport inv u v found says was =
-      let known : (T.stored ≡ T.published) × (u ≡ slot_offset r T.published) = subst (SendingIs 1 r T.stored T.published inv.landed.tails) was inv.sending in
-      let tail : next r u ≡ slot_offset r inv.landed.tails = sym (eqb-true v (next r u) says) ∙ found ∙ sender-tail r is L small c o es T inv in
-      let one : slot_offset r inv.landed.tails ≡ slot_offset r (T.published + 1) = sym tail ∙ next_offset r is u T.published known.1 in
-      let over : inv.landed.tails < T.published + 1 =
-      omega (arith, inv.order.theirs.0, inv.order.theirs.1, inv.order.taken_there, inv.order.mine.heads_published) in
-      elim (cases_lt (T.published + 1) (inv.landed.tails + r.size)) [
-        | inl less ↦ absurd (offset_apart r is inv.landed.tails (T.published + 1) over less one)
+      let known : (T.stored ≡ T.published) × (u ≡ slot_offset r T.published) = subst (SendingIs 1 r T.stored T.published inv.landed.theirs) was inv.sending in
+      let tail : next r u ≡ slot_offset r inv.landed.theirs = sym (eqb-true v (next r u) says) ∙ found ∙ sender-tail r is L small c o es T inv in
+      let one : slot_offset r inv.landed.theirs ≡ slot_offset r (T.published + 1) = sym tail ∙ next_offset r is u T.published known.1 in
+      let over : inv.landed.theirs < T.published + 1 =
+      omega (arith, inv.order.theirs, inv.rows.theirs.landed, inv.order.taken_there, inv.rows.mine.landed, inv.order.stored_published) in
+      elim (cases_lt (T.published + 1) (inv.landed.theirs + r.size)) [
+        | inl less ↦ absurd (offset_apart r is inv.landed.theirs (T.published + 1) over less one)
         | inr more ↦ omega (arith, more, known.0)
       ]
   none_free fastforward inv u v found says was =
-      let known = subst (SendingIs 0 r T.stored T.published inv.landed.cleared) was inv.sending in
+      let known = subst (SendingIs 0 r T.stored T.published ((inv.landed.theirs + 1) / 2)) was inv.sending in
       let place : r.slots + u ≡ slot_address r T.stored = ap (λ x. r.slots + x) (known.1 ∙ ap (slot_offset r) (sym known.0)) in
       let some : v ≢ 0 = λ none. (let no : false ≡ true = sym (ap not (eq-eqb v 0 none)) ∙ says in cc) in
-      elim (cases_lt T.stored (inv.landed.cleared + r.size)) [
+      elim (cases_lt T.stored (((inv.landed.theirs + 1) / 2) + r.size)) [
         | inl less ↦ absurd (some (found ∙ ap (λ a. read o es r.sender a 4) place ∙ sender-free r is L small c o es T inv known.0 less))
         | inr more ↦ omega (arith, more)
       ]
@@ -103,37 +92,34 @@ module _ (r : RingBuffer) (is : IsRingBuffer r) (L : ℕ → ℕ) (small : (j : 
       ap (λ x. x + m i) (row_counts r P off (pending h es) ∙ ap (λ ws. length (filter P ws)) row.pends) ∙ spread-count P m f step i (n - i) ∙ ap m whole
 
   words_held : (k : Kind) (inv : Invariant k r L c o es T)
-      → available_of k T ≡ there k inv.landed.slots inv.landed.heads + length (filter (publishes k r) (writes_to r (pending r.sender es)))
+      → available_of k T ≡ there k inv.landed.mine + length (filter (publishes k r) (writes_to r (pending r.sender es)))
   words_held lamport inv =
       let count = held (publishes lamport r) (λ p. p / 2) (copy_apart r r.head is.head) (counts-heads r is L) inv.rows.mine in
-      let row = inv.order.mine in
-      omega (arith, count, row.heads_slots, row.slots_heads, row.published_stored, row.stored_published)
+      omega (arith, count, inv.order.published_stored, inv.order.stored_published)
   words_held fastforward inv =
       let count = held (publishes fastforward r) (λ p. (p + 1) / 2) (λ w. no_copy r (publishes fastforward r w) inv.copy w) (counts-slots r is L) inv.rows.mine in
-      let row = inv.order.mine in
-      omega (arith, count, row.heads_slots, row.slots_heads, row.published_stored, row.stored_published)
+      omega (arith, count, inv.order.published_stored, inv.order.stored_published)
 
   slots_held : (k : Kind) (inv : Invariant k r L c o es T)
-      → T.taken ≡ freed k inv.landed.cleared inv.landed.tails + length (filter (releases k r) (writes_to r (pending r.receiver es)))
+      → T.taken ≡ freed k inv.landed.theirs + length (filter (releases k r) (writes_to r (pending r.receiver es)))
   slots_held lamport inv =
       let count = held (releases lamport r) (λ p. p) (copy_apart r r.tail is.tail)
       (λ p. ap (λ b. (if b then 1 else 0) + p) (eq-eqb r.tail r.tail refl) ∙ omega arith) inv.rows.theirs in
-      omega (arith, count, inv.order.theirs.0)
+      omega (arith, count, inv.order.theirs)
   slots_held fastforward inv =
       let count = held (releases fastforward r) (λ p. (p + 1) / 2) (λ w. no_copy r (releases fastforward r w) inv.copy w)
       (counts-slots (turned r) (turned_is r is) zeros) inv.rows.theirs in
-      let row = inv.order.theirs in
-      omega (arith, count, row.heads_slots, row.slots_heads, row.published_stored, row.stored_published)
+      omega (arith, count, inv.order.theirs.0, inv.order.theirs.1)
 
   -- and of Lamport's never more
   never_fuller : (k : Kind) → Invariant k r L c o es T → k ≡ lamport → T.stored + length (writes_to r (pending r.receiver es)) ≤ T.taken + capacity_of k r.size
   never_fuller lamport inv is_lamport =
-      let left : length (writes_to r (pending r.receiver es)) ≡ T.consumed - inv.landed.tails =
+      let left : length (writes_to r (pending r.receiver es)) ≡ T.consumed - inv.landed.theirs =
       row_whole r (pending r.receiver es) (alone r.copy refl inv.copy)
-      ∙ ap length inv.rows.theirs.pends ∙ length-spread (freed_store r) inv.landed.tails (T.consumed - inv.landed.tails) in
-      omega (arith, left, inv.order.theirs.0, inv.order.room, inv.rows.theirs.landed, is.some_slots)
+      ∙ ap length inv.rows.theirs.pends ∙ length-spread (freed_store r) inv.landed.theirs (T.consumed - inv.landed.theirs) in
+      omega (arith, left, inv.order.theirs, inv.order.room, inv.rows.theirs.landed, is.some_slots)
     where
-      alone : (q : Option ℕ) → r.copy ≡ q → Copied lamport q r o es (T.stored + ready_by_state T.sending) inv.landed.tails → (a : ℕ) → r.copy ≡ Some a
+      alone : (q : Option ℕ) → r.copy ≡ q → Copied lamport q r o es (T.stored + ready_by_state T.sending) inv.landed.theirs → (a : ℕ) → r.copy ≡ Some a
           → All (LeavesByte a) (pending r.receiver es)
       alone None none copy a some = absurd (let no : Some a ≡ None = sym some ∙ none in cc)
       alone (Some x) is_x copy a some =
@@ -162,19 +148,19 @@ module _ (B : ℕ) (r : RingBuffer) (o : OpeningValue) (before es : List Entry) 
 
   -- the receiver looks for a word and sees none, or the sender for room
   nothing_there : (u v : ℕ) → hart_of e ≡ r.receiver → access_of e ≡ load (watched_address r.kind r u) 4 v → says_empty r.kind u v ≡ true
-      → T.receiving ≡ asked u → there r.kind inv.landed.slots inv.landed.heads ≤ T.taken
+      → T.receiving ≡ asked u → there r.kind inv.landed.mine ≤ T.taken
   nothing_there u v mine does says was =
       none_there r t.ring L small (earlier r before) o (before ++ es) T r.kind inv u v (loaded r.receiver (watched_address r.kind r u) v mine does) says was
 
   nothing_free : (u v : ℕ) → hart_of e ≡ r.sender → access_of e ≡ load (room_at r.kind r u) 4 v → says_full r.kind r u v ≡ true
-      → T.sending ≡ placed u → freed r.kind inv.landed.cleared inv.landed.tails + r.size ≤ T.stored + spare r.kind
+      → T.sending ≡ placed u → freed r.kind inv.landed.theirs + r.size ≤ T.stored + spare r.kind
   nothing_free u v mine does says was =
       none_free r t.ring L small (earlier r before) o (before ++ es) T r.kind inv u v (loaded r.sender (room_at r.kind r u) v mine does) says was
 
-  words_counted : available_count r T ≡ there r.kind inv.landed.slots inv.landed.heads + unpublished r (pending r.sender (before ++ es))
+  words_counted : available_count r T ≡ there r.kind inv.landed.mine + unpublished r (pending r.sender (before ++ es))
   words_counted = words_held r t.ring L small (earlier r before) o (before ++ es) T r.kind inv
 
-  slots_counted : T.taken ≡ freed r.kind inv.landed.cleared inv.landed.tails + unreleased r (pending r.receiver (before ++ es))
+  slots_counted : T.taken ≡ freed r.kind inv.landed.theirs + unreleased r (pending r.receiver (before ++ es))
   slots_counted = slots_held r t.ring L small (earlier r before) o (before ++ es) T r.kind inv
 
   pub empty_landed : (u v : ℕ) → hart_of e ≡ r.receiver → access_of e ≡ load (watched_address r.kind r u) 4 v → says_empty r.kind u v ≡ true
@@ -220,13 +206,11 @@ module _ (B : ℕ) (r : RingBuffer) (o : OpeningValue) (before es fs : List Entr
   abbrev to : Landed
   to = second.landed
 
-  there_later : there r.kind at.slots at.heads ≤ there r.kind to.slots to.heads
-  there_later = more_there r.kind S.stored S.published at.slots at.heads Z.stored Z.published to.slots to.heads first.order.mine second.order.mine
-      (row-grows fs (sym (append_assoc before es fs)) first.rows.mine second.rows.mine (even r.sender))
+  there_later : there r.kind at.mine ≤ there r.kind to.mine
+  there_later = there_more r.kind (row-grows fs (sym (append_assoc before es fs)) first.rows.mine second.rows.mine (even r.sender))
 
-  freed_later : freed r.kind at.cleared at.tails ≤ freed r.kind to.cleared to.tails
-  freed_later = more_freed r.kind S.taken S.consumed at.cleared at.tails Z.taken Z.consumed to.cleared to.tails first.order.theirs second.order.theirs
-      (row-grows fs (sym (append_assoc before es fs)) first.rows.theirs second.rows.theirs (even r.receiver))
+  freed_later : freed r.kind at.theirs ≤ freed r.kind to.theirs
+  freed_later = freed_more r.kind (row-grows fs (sym (append_assoc before es fs)) first.rows.theirs second.rows.theirs (even r.receiver))
 
   pub word_found : (u v : ℕ) → hart_of e ≡ r.receiver → access_of e ≡ load (watched_address r.kind r u) 4 v → Z.receiving ≡ asked u
       → Z.taken + unpublished r (pending r.sender (before ++ es)) < available_count r S → says_empty r.kind u v ≡ false

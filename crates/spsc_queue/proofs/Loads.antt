@@ -1,5 +1,5 @@
 -- What Lamport's parties know after a load, whichever word they load; and offsets of either kind.
-use Rattle.std.proofs.Common.{ℕ, ◌+◌, ◌*◌, ◌%◌, ◌^◌, ◌<◌, ◌≡◌, ◌≢◌, ◌≤◌, ◌==◌, inl, inr, Bool, true, false}
+use Rattle.std.proofs.Common.{ℕ, ◌+◌, ◌*◌, ◌/◌, ◌%◌, ◌^◌, ◌<◌, ◌≡◌, ◌≢◌, ◌≤◌, ◌==◌, inl, inr, Bool, true, false}
 use Rattle.std.proofs.Common.{if◌then◌else◌, Option, Some, None, List, refl, sym, ◌∙◌, ap, subst}
 use Rattle.std.proofs.Common.{arith}
 use Rattle.std.specs.Prelude.{All}
@@ -23,7 +23,7 @@ use Rattle.spsc_queue.proofs.Spread.{slot_not_tail}
 use Rattle.spsc_queue.proofs.Effects.{reads-word}
 use Rattle.spsc_queue.proofs.Rows.{Earlier}
 use Rattle.spsc_queue.proofs.Invariant.{Landed, unsent, unread, SendingIs, sending-more, placed-of, level-counts}
-use Rattle.spsc_queue.proofs.Invariant.{ReceivingIs, Invariant, turned, turned_is, zeros, their_store, their_landed}
+use Rattle.spsc_queue.proofs.Invariant.{ReceivingIs, Invariant, turned, turned_is, zeros, their_store}
 use Rattle.spsc_queue.proofs.Cases.{by-send-load, by-receive-load}
 
 -- the offset after that of word j
@@ -168,27 +168,27 @@ their-whole fastforward r is p = sent-whole (turned r) (turned_is r is) zeros (�
 module _ (K : Kind) (r : RingBuffer) (is : IsRingBuffer r) (L : ℕ → ℕ) (small : (j : ℕ) → L j < 2 ^ 32) (c : Earlier) (o : OpeningValue) (es : List Entry)
     (s : ProtocolState) (inv : Invariant K r L c o es s) where
   abbrev mine : List Write
-  mine = spread (sent_store r L) (inv.landed.slots + inv.landed.heads) (unsent s inv.landed)
+  mine = spread (sent_store r L) inv.landed.mine (unsent s inv.landed)
 
   abbrev theirs : List Write
-  theirs = spread (their_store K r) (their_landed K inv.landed.cleared inv.landed.tails) (unread K s inv.landed)
+  theirs = spread (their_store K r) inv.landed.theirs (unread K s inv.landed)
 
   pub sender-reads : (a : ℕ) → IsWordIn r a → read o es r.sender a 4 ≡ seen a (memory_word o es a) mine
   sender-reads a word = reads-word r o es r.sender a word (subst (All IsWholeWord) (sym inv.rows.mine.pends)
-      (spread-all IsWholeWord (sent_store r L) (inv.landed.slots + inv.landed.heads) (unsent s inv.landed) (sent-whole r is L small)))
+      (spread-all IsWholeWord (sent_store r L) inv.landed.mine (unsent s inv.landed) (sent-whole r is L small)))
       ∙ ap (seen a (memory_word o es a)) inv.rows.mine.pends
 
   pub receiver-reads : (a : ℕ) → IsWordIn r a → read o es r.receiver a 4 ≡ seen a (memory_word o es a) theirs
   receiver-reads a word = reads-word r o es r.receiver a word (subst (All IsWholeWord) (sym inv.rows.theirs.pends)
-      (spread-all IsWholeWord (their_store K r) (their_landed K inv.landed.cleared inv.landed.tails) (unread K s inv.landed) (their-whole K r is)))
+      (spread-all IsWholeWord (their_store K r) inv.landed.theirs (unread K s inv.landed) (their-whole K r is)))
       ∙ ap (seen a (memory_word o es a)) inv.rows.theirs.pends
 
   -- the sender reads its own head
   pub sender-head : read o es r.sender r.head 4 ≡ slot_offset r s.published
   sender-head = sender-reads r.head is.head
-      ∙ ap (λ v. seen r.head v mine) (inv.words.head ∙ ap (slot_offset r) (omega (arith, inv.order.mine.heads_slots, inv.order.mine.slots_heads)))
-      ∙ seen-heads r is L (inv.landed.slots + inv.landed.heads) (unsent s inv.landed)
-      ∙ ap (slot_offset r) (omega (arith, inv.rows.mine.landed, inv.order.mine.published_stored, inv.order.mine.stored_published))
+      ∙ ap (λ v. seen r.head v mine) inv.words.head
+      ∙ seen-heads r is L inv.landed.mine (unsent s inv.landed)
+      ∙ ap (slot_offset r) (omega (arith, inv.rows.mine.landed, inv.order.published_stored, inv.order.stored_published))
 
 -- ---- Lamport's
 
@@ -198,49 +198,49 @@ module _ (r : RingBuffer) (is : IsRingBuffer r) (L : ℕ → ℕ) (small : (j : 
   d = inv.landed
 
   -- the sender reads the tail that landed last
-  pub sender-tail : read o es r.sender r.tail 4 ≡ slot_offset r d.tails
+  pub sender-tail : read o es r.sender r.tail 4 ≡ slot_offset r d.theirs
   sender-tail = sender-reads lamport r is L small c o es s inv r.tail is.tail
-      ∙ none-there r.tail (memory_word o es r.tail) (sent_store r L) (d.slots + d.heads) (unsent s inv.landed) (λ p from below. sent-not-tail r is L p)
+      ∙ none-there r.tail (memory_word o es r.tail) (sent_store r L) d.mine (unsent s inv.landed) (λ p from below. sent-not-tail r is L p)
       ∙ inv.words.tail
 
   -- the receiver reads its own tail, and all else as memory has it
   pub receiver-tail : read o es r.receiver r.tail 4 ≡ slot_offset r s.consumed
   receiver-tail = receiver-reads lamport r is L small c o es s inv r.tail is.tail
-      ∙ ap (λ v. seen r.tail v (spread (freed_store r) d.tails (unread lamport s inv.landed))) inv.words.tail ∙ seen-tails r d.tails (unread lamport s inv.landed)
+      ∙ ap (λ v. seen r.tail v (spread (freed_store r) d.theirs (unread lamport s inv.landed))) inv.words.tail ∙ seen-tails r d.theirs (unread lamport s inv.landed)
       ∙ ap (slot_offset r) (omega (arith, inv.rows.theirs.landed))
 
   pub receiver-other : (a : ℕ) → IsWordIn r a → r.tail ≢ a → read o es r.receiver a 4 ≡ memory_word o es a
   receiver-other a word other = receiver-reads lamport r is L small c o es s inv a word
-      ∙ none-there a (memory_word o es a) (freed_store r) d.tails (unread lamport s inv.landed) (λ p from below. other)
+      ∙ none-there a (memory_word o es a) (freed_store r) d.theirs (unread lamport s inv.landed) (λ p from below. other)
 
   -- the sender's loads, by which it knows more, and has seen more of its copy of the tail
   abbrev Sends : SenderState → Type 0
-  Sends p = SendingIs 1 r s.stored s.published d.tails p × Copied lamport r.copy r o es (s.stored + ready_by_state p) d.tails
+  Sends p = SendingIs 1 r s.stored s.published d.theirs p × Copied lamport r.copy r o es (s.stored + ready_by_state p) d.theirs
 
   pub sending-load : (a v : ℕ) (p : SenderState) → v ≡ read o es r.sender a 4 → Sends p → Sends (send_load lamport r a v p)
-  sending-load a v p is_read holds = knows-more r is o es s.stored s.published d.tails d.tails d.tails a v is_read
+  sending-load a v p is_read holds = knows-more r is o es s.stored s.published d.theirs d.theirs d.theirs a v is_read
       (sender-head lamport r is L small c o es s inv)
       (λ here. (refl, is_read ∙ ap (λ x. read o es r.sender x 4) here ∙ sender-tail)) (omega arith) inv.order.room p holds
 
   -- the receiver's
-  looked : (a v : ℕ) (p : ReceiverState) → v ≡ read o es r.receiver a 4 → ReceivingIs lamport r L s.taken s.consumed d.heads p
-      → ReceivingIs lamport r L s.taken s.consumed d.heads (receive_look lamport r a v p)
+  looked : (a v : ℕ) (p : ReceiverState) → v ≡ read o es r.receiver a 4 → ReceivingIs lamport r L s.taken s.consumed (d.mine / 2) p
+      → ReceivingIs lamport r L s.taken s.consumed (d.mine / 2) (receive_look lamport r a v p)
   looked a v (asked u) is_read holds = by (a == r.head) refl (v == u) refl
     where
       by : (b : Bool) → (a == r.head) ≡ b → (c : Bool) → (v == u) ≡ c
-          → ReceivingIs lamport r L s.taken s.consumed d.heads (if b then (if c then asked u else waiting u) else asked u)
+          → ReceivingIs lamport r L s.taken s.consumed (d.mine / 2) (if b then (if c then asked u else waiting u) else asked u)
       by true same false apart =
           let place : a ≡ r.head = eqb-true a r.head same in
-          let head : v ≡ slot_offset r d.heads = is_read ∙ ap (λ x. read o es r.receiver x 4) place
+          let head : v ≡ slot_offset r (d.mine / 2) = is_read ∙ ap (λ x. read o es r.receiver x 4) place
           ∙ receiver-other r.head is.head (λ e. is.apart (sym e)) ∙ inv.words.head in
           let far : v ≢ u = eqb-false v u apart in
-          let more : s.consumed ≢ d.heads = λ e. far (head ∙ ap (slot_offset r) (sym e) ∙ sym holds.1) in
+          let more : s.consumed ≢ d.mine / 2 = λ e. far (head ∙ ap (slot_offset r) (sym e) ∙ sym holds.1) in
           (holds.0, holds.1, omega (arith, more, holds.0, inv.order.taken_there), refl)
       by true same true x = holds
       by false y c x = holds
   looked a v (waiting u) is_read holds = by (a == r.slots + u) refl
     where
-      by : (b : Bool) → (a == r.slots + u) ≡ b → ReceivingIs lamport r L s.taken s.consumed d.heads (if b then holding u v else waiting u)
+      by : (b : Bool) → (a == r.slots + u) ≡ b → ReceivingIs lamport r L s.taken s.consumed (d.mine / 2) (if b then holding u v else waiting u)
       by true same =
           let place : a ≡ slot_address r s.consumed = eqb-true a (r.slots + u) same ∙ ap (λ x. r.slots + x) holds.1 in (
             holds.0,
@@ -248,12 +248,12 @@ module _ (r : RingBuffer) (is : IsRingBuffer r) (L : ℕ → ℕ) (small : (j : 
             holds.2,
             is_read ∙ ap (λ x. read o es r.receiver x 4) place
                 ∙ receiver-other (slot_address r s.consumed) (slot_word r is s.consumed) (λ e. slot_not_tail r is s.consumed (sym e))
-                ∙ inv.words.full s.consumed inv.order.theirs.1 (omega (arith, holds.0, holds.2, inv.order.mine.heads_slots)) ∙ ap L (sym holds.0),
+                ∙ inv.words.full s.consumed inv.rows.theirs.landed (omega (arith, holds.0, holds.2)) ∙ ap L (sym holds.0),
           )
       by false apart = holds
   looked a v p is_read holds = holds
 
-  pub receiving-load : (a v : ℕ) (p : ReceiverState) → v ≡ read o es r.receiver a 4 → ReceivingIs lamport r L s.taken s.consumed d.heads p
-      → ReceivingIs lamport r L s.taken s.consumed d.heads (receive_load lamport r a v p)
-  receiving-load a v p is_read holds = by-receive-load lamport r a v (ReceivingIs lamport r L s.taken s.consumed d.heads) p
-      (λ whole here. (inv.order.theirs.0, is_read ∙ ap (λ x. read o es r.receiver x 4) here ∙ receiver-tail)) (looked a v p is_read holds)
+  pub receiving-load : (a v : ℕ) (p : ReceiverState) → v ≡ read o es r.receiver a 4 → ReceivingIs lamport r L s.taken s.consumed (d.mine / 2) p
+      → ReceivingIs lamport r L s.taken s.consumed (d.mine / 2) (receive_load lamport r a v p)
+  receiving-load a v p is_read holds = by-receive-load lamport r a v (ReceivingIs lamport r L s.taken s.consumed (d.mine / 2)) p
+      (λ whole here. (inv.order.theirs, is_read ∙ ap (λ x. read o es r.receiver x 4) here ∙ receiver-tail)) (looked a v p is_read holds)

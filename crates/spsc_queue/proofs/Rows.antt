@@ -51,37 +51,6 @@ pub record Rows (r : RingBuffer) (c : Earlier) (f g : ℕ → Write) (es : List 
   pub theirs : Row r r.receiver c.receiver 0 g es j m
   pub others : (h : ℕ) → h ≢ r.sender → h ≢ r.receiver → row_of r (pending h es) ≡ []
 
--- of a party that stores a word into a slot and then its index: how many slots and indices it has stored, and how many of these have landed
-pub record RowOrder (stored published slots heads : ℕ) : Type 0 where
-  pub heads_slots : heads ≤ slots
-  pub slots_heads : slots ≤ heads + 1
-  pub slots_stored : slots ≤ stored
-  pub heads_published : heads ≤ published
-  pub published_stored : published ≤ stored
-  pub stored_published : stored ≤ published + 1
-
-row-order : {p q m n : ℕ} → n ≤ m → m ≤ n + 1 → m ≤ p → n ≤ q → q ≤ p → p ≤ q + 1 → RowOrder p q m n
-row-order a b c d e f =
-    record { heads_slots = a; slots_heads = b; slots_stored = c; heads_published = d; published_stored = e; stored_published = f }
-
-pub row-level : (n : ℕ) → RowOrder n n n n
-row-level n = row-order (omega arith) (omega arith) (omega arith) (omega arith) (omega arith) (omega arith)
-
-pub row-stores : {p q m n : ℕ} → RowOrder p q m n → p ≡ q → RowOrder (p + 1) q m n
-row-stores row level = row-order row.heads_slots row.slots_heads (omega (arith, row.slots_stored)) row.heads_published (omega (arith, level))
-    (omega (arith, level))
-
-pub row-publishes : {p q m n : ℕ} → RowOrder p q m n → p ≡ q + 1 → RowOrder p (q + 1) m n
-row-publishes row odd =
-    row-order row.heads_slots row.slots_heads row.slots_stored (omega (arith, row.heads_published)) (omega (arith, odd)) (omega (arith, odd))
-
-pub slot-landed : {p q m n : ℕ} → RowOrder p q m n → m ≡ n → m < p → RowOrder p q (suc m) n
-slot-landed row level some =
-    row-order (omega (arith, row.heads_slots)) (omega (arith, level)) some row.heads_published row.published_stored row.stored_published
-
-pub head-landed : {p q m n : ℕ} → RowOrder p q m n → m ≡ n + 1 → n < q → RowOrder p q m (suc n)
-head-landed row odd some = row-order (omega (arith, odd)) (omega (arith, odd)) row.slots_stored some row.published_stored row.stored_published
-
 -- from es to fs the words of the block stay, and so do the stores to it
 pub record Stays (r : RingBuffer) (o : OpeningValue) (es fs : List Entry) : Type 0 where
   pub words : (a : ℕ) → IsWordIn r a → memory_word o fs a ≡ memory_word o es a

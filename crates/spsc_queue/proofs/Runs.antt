@@ -131,7 +131,7 @@ module _ (B : ℕ) (r : RingBuffer) (is : IsRingBuffer r) (F : List ℕ) (small 
       (word_leave B r is o es e even can w r.head does is.head keeps.0) mine u at keeps.0 keeps.1
   sender-stores w p does mine at keeps ahead = absurd keeps
 
-  taking : (K : Kind) (u v : ℕ) (w : Write) → ReceivingIs K r L s.taken s.consumed (there K inv.landed.slots inv.landed.heads) (holding u v) → IsTaking K r u w
+  taking : (K : Kind) (u v : ℕ) (w : Write) → ReceivingIs K r L s.taken s.consumed (there K inv.landed.mine) (holding u v) → IsTaking K r u w
       → (p : ℕ) × IsWordIn r p × IsWordAt w p
   taking lamport u v w known keeps = (r.tail, is.tail, keeps.0)
   taking fastforward u v w known keeps = (
@@ -143,7 +143,7 @@ module _ (B : ℕ) (r : RingBuffer) (is : IsRingBuffer r) (F : List ℕ) (small 
   receiver-stores : (w : Write) (p : ReceiverState) → access_of e ≡ store w → hart_of e ≡ r.receiver → s.receiving ≡ p → IsReceiverStore k r p w
       → Invariant k r L c o after (receive_store k p s)
   receiver-stores w (holding u v) does mine at keeps =
-      let word = taking k u v w (subst (ReceivingIs k r L s.taken s.consumed (there k inv.landed.slots inv.landed.heads)) at inv.receiving) keeps in
+      let word = taking k u v w (subst (ReceivingIs k r L s.taken s.consumed (there k inv.landed.mine)) at inv.receiving) keeps in
       takes-word k r is L c o es s inv e even w does (word_leave B r is o es e even can w word.0 does word.1 word.2) mine u v at keeps
   receiver-stores w (cleared u) does mine at keeps = frees k r is L c o es s inv e even w does (word_on r w r.tail is.tail keeps.0)
       (word_leave B r is o es e even can w r.tail does is.tail keeps.0) mine u at keeps.0 keeps.1
