@@ -83,17 +83,13 @@ module _ (K : Kind) (r : RingBuffer) where
   -- ---- what an access leaves of each party's part
 
   sends-leave : (t : ProtocolState) (x : Access) → part the_receiver (next_by K r sends t x) ≡ part the_receiver t
-  sends-leave t (load a width v) = at (width == 4)
+  sends-leave t (load a width v) =
+      chosen (λ z. part the_receiver z ≡ part the_receiver t) (width == 4) (record t { sending = send_load K r a v t.sending }) t refl refl
+  sends-leave t (store w) = chosen (λ z. part the_receiver z ≡ part the_receiver t) (overlaps r w) (send_store w t.sending t) t (at t.sending) refl
     where
-      at : (c : Bool) → part the_receiver (if c then record t { sending = send_load K r a v t.sending } else t) ≡ part the_receiver t
-      at true = refl
-      at false = refl
-  sends-leave t (store w) = at (overlaps r w) t.sending
-    where
-      at : (c : Bool) (p : SenderState) → part the_receiver (if c then send_store w p t else t) ≡ part the_receiver t
-      at true resting = refl
-      at true p = refl
-      at false p = refl
+      at : (p : SenderState) → part the_receiver (send_store w p t) ≡ part the_receiver t
+      at resting = refl
+      at p = refl
   sends-leave t x = refl
 
   store-leaves : (k : Kind) (p : ReceiverState) (t : ProtocolState) → part the_sender (receive_store k p t) ≡ part the_sender t
@@ -103,16 +99,10 @@ module _ (K : Kind) (r : RingBuffer) where
   store-leaves fastforward p t = refl
 
   receives-leave : (t : ProtocolState) (x : Access) → part the_sender (next_by K r receives t x) ≡ part the_sender t
-  receives-leave t (load a width v) = at (width == 4)
-    where
-      at : (c : Bool) → part the_sender (if c then record t { receiving = receive_load K r a v t.receiving } else t) ≡ part the_sender t
-      at true = refl
-      at false = refl
-  receives-leave t (store w) = at (overlaps r w)
-    where
-      at : (c : Bool) → part the_sender (if c then receive_store K t.receiving t else t) ≡ part the_sender t
-      at true = store-leaves K t.receiving t
-      at false = refl
+  receives-leave t (load a width v) =
+      chosen (λ z. part the_sender z ≡ part the_sender t) (width == 4) (record t { receiving = receive_load K r a v t.receiving }) t refl refl
+  receives-leave t (store w) =
+      chosen (λ z. part the_sender z ≡ part the_sender t) (overlaps r w) (receive_store K t.receiving t) t (store-leaves K t.receiving t) refl
   receives-leave t x = refl
 
   -- an access of the other party
@@ -157,27 +147,21 @@ module _ (K : Kind) (r : RingBuffer) where
       at p l = l
 
   -- outside of the functions no word becomes half passed, and none is passed
-  pub level-next : (p : Party) (t : ProtocolState) (x : Access) → WritesNothingTo r x → Level (part p t)
-      → Level (part p (next_by K r (role p) t x)) × ((part p (next_by K r (role p) t x)).words ≡ (part p t).words)
-  level-next the_sender t (load a width v) off level = at (width == 4)
-    where
-      at : (c : Bool) → Level (part the_sender (if c then record t { sending = send_load K r a v t.sending } else t))
-          × ((part the_sender (if c then record t { sending = send_load K r a v t.sending } else t)).words ≡ t.sent)
-      at true = (record { sending = level-send a v t.sending level.sending; receiving = tt }, refl)
-      at false = (level, refl)
+  abbrev StillLevel : Party → (t z : ProtocolState) → Type 0
+  StillLevel p t z = Level (part p z) × ((part p z).words ≡ (part p t).words)
+
+  pub level-next : (p : Party) (t : ProtocolState) (x : Access) → WritesNothingTo r x → Level (part p t) → StillLevel p t (next_by K r (role p) t x)
+  level-next the_sender t (load a width v) off level =
+      chosen (StillLevel the_sender t) (width == 4) (record t { sending = send_load K r a v t.sending }) t
+      (record { sending = level-send a v t.sending level.sending; receiving = tt }, refl) (level, refl)
   level-next the_sender t (store w) off level =
-      subst (λ c. Level (part the_sender (if c then send_store w t.sending t else t))
-      × ((part the_sender (if c then send_store w t.sending t else t)).words ≡ t.sent)) (sym off) (level, refl)
+      subst (λ c. StillLevel the_sender t (if c then send_store w t.sending t else t)) (sym off) (level, refl)
   level-next the_sender t x off level = (level, refl)
-  level-next the_receiver t (load a width v) off level = at (width == 4)
-    where
-      at : (c : Bool) → Level (part the_receiver (if c then record t { receiving = receive_load K r a v t.receiving } else t))
-          × ((part the_receiver (if c then record t { receiving = receive_load K r a v t.receiving } else t)).words ≡ t.received)
-      at true = (record { sending = tt; receiving = whole-receive a v t.receiving level.receiving }, refl)
-      at false = (level, refl)
+  level-next the_receiver t (load a width v) off level =
+      chosen (StillLevel the_receiver t) (width == 4) (record t { receiving = receive_load K r a v t.receiving }) t
+      (record { sending = tt; receiving = whole-receive a v t.receiving level.receiving }, refl) (level, refl)
   level-next the_receiver t (store w) off level =
-      subst (λ c. Level (part the_receiver (if c then receive_store K t.receiving t else t))
-      × ((part the_receiver (if c then receive_store K t.receiving t else t)).words ≡ t.received)) (sym off) (level, refl)
+      subst (λ c. StillLevel the_receiver t (if c then receive_store K t.receiving t else t)) (sym off) (level, refl)
   level-next the_receiver t x off level = (level, refl)
 
   -- a load of a party's own index
@@ -185,19 +169,13 @@ module _ (K : Kind) (r : RingBuffer) where
   first-load the_sender t a v level here = at t.sending level.sending
     where
       at : (q : SenderState) → IsLevel q → send_load K r a v q ≡ placed v
-      at resting l = ap (λ b. if b then placed v else resting) (eq-eqb a r.head here)
-      at (placed u) l = ap (λ b. if b then placed v else send_look K r a v (placed u)) (eq-eqb a r.head here)
-      at (renewing u w) l = ap (λ b. if b then placed v else renewing u w) (eq-eqb a r.head here)
-      at (roomy u) l = ap (λ b. if b then placed v else roomy u) (eq-eqb a r.head here)
       at (filled u) l = absurd l
+      at q l = ap (λ b. if b then placed v else send_look K r a v q) (eq-eqb a r.head here)
   first-load the_receiver t a v level here = at t.receiving level.receiving
     where
       at : (q : ReceiverState) → IsWhole q → receive_load K r a v q ≡ asked v
-      at idle l = ap (λ b. if b then asked v else idle) (eq-eqb a r.tail here)
-      at (asked u) l = ap (λ b. if b then asked v else receive_look K r a v (asked u)) (eq-eqb a r.tail here)
-      at (waiting u) l = ap (λ b. if b then asked v else receive_look K r a v (waiting u)) (eq-eqb a r.tail here)
-      at (holding u w) l = ap (λ b. if b then asked v else holding u w) (eq-eqb a r.tail here)
       at (cleared u) l = absurd l
+      at q l = ap (λ b. if b then asked v else receive_look K r a v q) (eq-eqb a r.tail here)
 
   -- where it looks for room, or for a word
   pub look-load : (p : Party) (t : ProtocolState) (a v u : ℕ) → Knows p u (part p t) → a ≢ index_at p r → a ≡ look_at p K r u
