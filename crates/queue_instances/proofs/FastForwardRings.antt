@@ -1,8 +1,8 @@
 -- Each run that keeps FastForward's protocol keeps that of slots that tell.
-use Rattle.std.proofs.Common.{ℕ, ◌+◌, ◌-◌, ◌*◌, ◌%◌, ◌^◌, ◌<◌, ◌≤◌, ◌≡◌, ◌==◌, ◌⊎◌, inl, inr, Bool, true, false, if◌then◌else◌}
+use Rattle.std.proofs.Common.{ℕ, ◌+◌, ◌-◌, ◌*◌, ◌%◌, ◌^◌, ◌<◌, ◌≤◌, ◌≡◌, ◌==◌, ◌⊎◌, inl, inr, true, false, if◌then◌else◌}
 use Rattle.std.proofs.Common.{List, [], ◌∷◌, ◌++◌, Option, Some, None, refl, sym, ◌∙◌, ap, subst, arith, append_assoc}
 use Rattle.std.specs.Prelude.{not}
-use Rattle.std.proofs.lemmas.Bool.{eqb-true, eq-eqb, ne_eqb}
+use Rattle.std.proofs.lemmas.Bool.{eq-eqb, ne_eqb}
 use Rattle.std.proofs.lemmas.Bool.Decides.{nat_tests}
 use Rattle.std.proofs.Math.Nat.{mod-eq_of_lt}
 use Rattle.memory.specs.declared.writes.Write.{Write}
@@ -18,7 +18,7 @@ use Rattle.spsc_queue.specs.Protocol.{ProtocolState, at_start, parties_after, ro
 use Rattle.spsc_queue.specs.Protocol.{send_look, send_load, send_store, receive_look, receive_load, receive_store, next_by, protocol_next}
 use Rattle.spsc_queue.specs.Protocol.{WritesNothingTo, IsCopyStore, IsSenderStore, IsReceiverStore, KeepsProtocolBy, KeepsProtocol, IsWordAt}
 use Rattle.spsc_queue.specs.Laws.{FollowsSpscProtocol}
-use Rattle.spsc_queue.proofs.Cases.{IsWhole, by-access, by-send-load, by-receive-load}
+use Rattle.spsc_queue.proofs.Cases.{IsWhole, by-test, by-access, by-send-load, by-receive-load}
 use Rattle.spsc_queue.proofs.Copies.{all-off}
 use Rattle.spsc_queue.proofs.Invariant.{IsPlaced}
 use Rattle.spsc_queue.proofs.Invariants.{IsAsked}
@@ -177,26 +177,21 @@ module _ (r : RingBuffer) (is : IsRingBuffer r) (kind : r.kind ≡ fastforward) 
   sends-look : (a v : ℕ) (p : SenderState) → IsPlaced r s.stored s.published p → Sending r.size (after_load q the_sender a 4 v c) p
       → Sending r.size (after_load q the_sender a 4 v c) (send_look fastforward r a v p)
   sends-look a v (placed u) at h = subst (λ t. Sending r.size (after_load q the_sender a 4 v c) (looks_at t fastforward r a u v))
-      (sym (no_copy r.copy refl)) (by (a == r.slots + u) refl (v == 0) refl)
-    where
-      by : (b : Bool) → (a == r.slots + u) ≡ b → (d : Bool) → (v == 0) ≡ d
-          → Sending r.size (after_load q the_sender a 4 v c) (if b then (if not d then placed u else roomy u) else placed u)
-      by true on true free = told-there the_sender a v (eqb-true a (r.slots + u) on ∙ sent_place u (at.1 ∙ ap (slot_offset r) (sym at.0))) free
-      by true on false full = tt
-      by false off d what = tt
+      (sym (no_copy r.copy refl))
+      (by-test (λ b. Sending r.size (after_load q the_sender a 4 v c) (if b then (if not (v == 0) then placed u else roomy u) else placed u)) a (r.slots + u)
+      (λ on. by-test (λ b. Sending r.size (after_load q the_sender a 4 v c) (if not b then placed u else roomy u)) v 0
+      (λ free. told-there the_sender a v (on ∙ sent_place u (at.1 ∙ ap (slot_offset r) (sym at.0))) (eq-eqb v 0 free)) (λ full. tt)) (λ off. tt))
   sends-look a v p at h = h
 
   takes-look : (a v : ℕ) (p : ReceiverState) → IsAsked r s.consumed p → Receiving s.taken s.consumed (after_load q the_receiver a 4 v c) p
       → Receiving s.taken s.consumed (after_load q the_receiver a 4 v c) (receive_look fastforward r a v p)
-  takes-look a v (asked u) at h = by (a == r.slots + u) refl (v == 0) refl
-    where
-      by : (b : Bool) → (a == r.slots + u) ≡ b → (d : Bool) → (v == 0) ≡ d
-          → Receiving s.taken s.consumed (after_load q the_receiver a 4 v c) (if b then (if d then asked u else holding u v) else asked u)
-      by true on false full =
-          let d : (after_load q the_receiver a 4 v c).taken < owned_end (slots_of r) the_receiver (after_load q the_receiver a 4 v c) =
-          told-there the_receiver a v (eqb-true a (r.slots + u) on ∙ taken_place u (at ∙ ap (slot_offset r) (sym h))) (ap not full) in (h, omega (arith, d))
-      by true on true free = h
-      by false off d what = h
+  takes-look a v (asked u) at h =
+      let d : QueueCounts = after_load q the_receiver a 4 v c in
+      by-test (λ b. Receiving s.taken s.consumed d (if b then (if v == 0 then asked u else holding u v) else asked u)) a (r.slots + u)
+      (λ on. by-test (λ b. Receiving s.taken s.consumed d (if b then asked u else holding u v)) v 0 (λ free. h) (λ full.
+      (let owns : d.taken < owned_end (slots_of r) the_receiver d =
+      told-there the_receiver a v (on ∙ taken_place u (at ∙ ap (slot_offset r) (sym h))) (ap not (ne_eqb v 0 full)) in (h, omega (arith, owns)))))
+      (λ off. h)
   takes-look a v (waiting u) at h = absurd h
   takes-look a v p at h = h
 

@@ -1,7 +1,7 @@
 -- Each run that keeps Lamport's protocol, also of a sender that keeps a copy of the tail, keeps the protocol of ownership.
-use Rattle.std.proofs.Common.{ℕ, ◌+◌, ◌-◌, ◌*◌, ◌%◌, ◌<◌, ◌≤◌, ◌≡◌, ◌≢◌, ◌==◌, ◌&&◌, ◌⊎◌, inl, inr, Bool, true, false, if◌then◌else◌}
+use Rattle.std.proofs.Common.{ℕ, ◌+◌, ◌-◌, ◌*◌, ◌%◌, ◌<◌, ◌≤◌, ◌≡◌, ◌≢◌, ◌==◌, ◌&&◌, ◌⊎◌, inl, inr, false, if◌then◌else◌}
 use Rattle.std.proofs.Common.{List, [], ◌∷◌, ◌++◌, length, Option, Some, None, refl, sym, ◌∙◌, ap, subst, arith}
-use Rattle.std.proofs.lemmas.Bool.{cases_lt, eqb-true, eqb-false, eq-eqb}
+use Rattle.std.proofs.lemmas.Bool.{cases_lt, eq-eqb}
 use Rattle.std.proofs.lemmas.Bool.Decides.{nat_tests}
 use Rattle.memory.specs.declared.writes.Write.{Write}
 use Rattle.memory.specs.Writes.{write}
@@ -20,7 +20,7 @@ use Rattle.spsc_queue.specs.Protocol.{SenderState, renewing, roomy, filled, Rece
 use Rattle.spsc_queue.specs.Protocol.{ProtocolState, at_start, role_of, send_load, send_store, receive_look, receive_load, receive_store, next_by}
 use Rattle.spsc_queue.specs.Protocol.{protocol_next, WritesNothingTo, IsWordAt, IsCopyStore, IsSenderStore, IsReceiverStore, KeepsProtocolBy, KeepsProtocol}
 use Rattle.spsc_queue.specs.Laws.{FollowsSpscProtocol, ready_by_state}
-use Rattle.spsc_queue.proofs.Cases.{by-access, by-receive-load}
+use Rattle.spsc_queue.proofs.Cases.{chosen, by-test, by-access, by-receive-load}
 use Rattle.spsc_queue.proofs.Invariant.{SendingIs, sending-more}
 use Rattle.spsc_queue.proofs.Copies.{Copied, CopyStays, copied-on, copied-more, copy-at-rest, all-off, off_leave, word_leave}
 use Rattle.spsc_queue.proofs.Loads.{next_offset, slot_word, knows-more}
@@ -282,17 +282,10 @@ module _ (B : ℕ) (r : RingBuffer) (is : IsRingBuffer r) (o : OpeningValue) (es
           (h, omega (arith, some, knows, holds.taken, high.count_end, low.known_there))
 
       look : (p : ReceiverState) → Had p → Has (receive_look lamport r a v p)
-      look (asked u) h = by (a == r.head) refl (v == u) refl
-        where
-          by : (b : Bool) → (a == r.head) ≡ b → (f : Bool) → (v == u) ≡ f → Has (if b then (if f then asked u else waiting u) else asked u)
-          by true here false apart = there u (eqb-true a r.head here) (eqb-false v u apart) h
-          by true here true level = same (asked u) h
-          by false away f level = same (asked u) h
-      look (waiting u) h = by (a == r.slots + u)
-        where
-          by : (b : Bool) → Has (if b then holding u v else waiting u)
-          by true = same (holding u v) h
-          by false = same (waiting u) h
+      look (asked u) h = by-test (λ b. Has (if b then (if v == u then asked u else waiting u) else asked u)) a r.head
+          (λ here. by-test (λ b. Has (if b then asked u else waiting u)) v u (λ level. same (asked u) h) (λ apart. there u here apart h))
+          (λ away. same (asked u) h)
+      look (waiting u) h = chosen Has (a == r.slots + u) (holding u v) (waiting u) (same (holding u v) h) (same (waiting u) h)
       look idle h = tt
       look (holding u w) h = same (holding u w) h
       look (cleared u) h = absurd h

@@ -30,6 +30,14 @@ pub either : {X A : Type 0} (P : X → Type 0) (b : Bool) (x y : X) → (P x →
 either P true x y one two h = one h
 either P false x y one two h = two h
 
+-- by a test of two numbers
+pub by-test : (P : Bool → Type 0) (a b : ℕ) → (a ≡ b → P true) → (a ≢ b → P false) → P (a == b)
+by-test P a b same other = at (a == b) refl
+  where
+    at : (c : Bool) → (a == b) ≡ c → P c
+    at true is = same (eqb-true a b is)
+    at false is = other (eqb-false a b is)
+
 -- no word is half sent, and no slot half freed
 abbrev pub IsLevel : SenderState → Type 0
 IsLevel (filled u) = ⊥
@@ -43,33 +51,13 @@ IsWhole p = Unit {0}
 module _ (k : Kind) (r : RingBuffer) (a v : ℕ) where
   pub by-send-load : (P : SenderState → Type 0) (p : SenderState) → (IsLevel p → a ≡ r.head → P (placed v)) → P (send_look k r a v p)
       → P (send_load k r a v p)
-  by-send-load P p own look = at p own look
-    where
-      or : (q : SenderState) → (a ≡ r.head → P (placed v)) → P q → P (if a == r.head then placed v else q)
-      or q own look = by (a == r.head) refl
-        where
-          by : (b : Bool) → (a == r.head) ≡ b → P (if b then placed v else q)
-          by true here = own (eqb-true a r.head here)
-          by false away = look
-
-      at : (p : SenderState) → (IsLevel p → a ≡ r.head → P (placed v)) → P (send_look k r a v p) → P (send_load k r a v p)
-      at (filled u) own look = look
-      at p own look = or (send_look k r a v p) (own tt) look
+  by-send-load P (filled u) own look = look
+  by-send-load P p own look = by-test (λ c. P (if c then placed v else send_look k r a v p)) a r.head (own tt) (λ away. look)
 
   pub by-receive-load : (P : ReceiverState → Type 0) (p : ReceiverState) → (IsWhole p → a ≡ r.tail → P (asked v)) → P (receive_look k r a v p)
       → P (receive_load k r a v p)
-  by-receive-load P p own look = at p own look
-    where
-      or : (q : ReceiverState) → (a ≡ r.tail → P (asked v)) → P q → P (if a == r.tail then asked v else q)
-      or q own look = by (a == r.tail) refl
-        where
-          by : (b : Bool) → (a == r.tail) ≡ b → P (if b then asked v else q)
-          by true here = own (eqb-true a r.tail here)
-          by false away = look
-
-      at : (p : ReceiverState) → (IsWhole p → a ≡ r.tail → P (asked v)) → P (receive_look k r a v p) → P (receive_load k r a v p)
-      at (cleared u) own look = look
-      at p own look = or (receive_look k r a v p) (own tt) look
+  by-receive-load P (cleared u) own look = look
+  by-receive-load P p own look = by-test (λ c. P (if c then asked v else receive_look k r a v p)) a r.tail (own tt) (λ away. look)
 
 -- an access of hart h that keeps the protocol writes nothing to the block and leaves the state, or it is a party's load of a word, or a
 -- party's store to the block
@@ -82,11 +70,8 @@ module _ (k : Kind) (r : RingBuffer) (s : ProtocolState) (h : ℕ) (P : Option P
     (receiver-stores : h ≡ r.receiver → (w : Write) → overlaps r w ≡ true → IsReceiverStore k r s.receiving w
     → P (Some the_receiver) (store w) (receive_store k s.receiving s)) where
   loads : (p : Party) (a width v : ℕ) (z : ProtocolState) → P (Some p) (load a 4 v) z → P (Some p) (load a width v) (if width == 4 then z else s)
-  loads p a width v z whole = by (width == 4) refl
-    where
-      by : (b : Bool) → (width == 4) ≡ b → P (Some p) (load a width v) (if b then z else s)
-      by true is_4 = subst (λ n. P (Some p) (load a n v) z) (sym (eqb-true width 4 is_4)) whole
-      by false part = quiet (Some p) (load a width v) tt
+  loads p a width v z whole = by-test (λ c. P (Some p) (load a width v) (if c then z else s)) width 4
+      (λ is_4. subst (λ n. P (Some p) (load a n v) z) (sym is_4) whole) (λ part. quiet (Some p) (load a width v) tt)
 
   stores : (p : Party) (w : Write) (z : ProtocolState) (Made : Type 0) → (overlaps r w ≡ true → Made → P (Some p) (store w) z)
       → (overlaps r w ≡ false) ⊎ Made → P (Some p) (store w) (if overlaps r w then z else s)

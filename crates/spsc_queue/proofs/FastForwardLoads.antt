@@ -1,7 +1,7 @@
 -- What FastForward's parties know after a load, whichever word they load.
-use Rattle.std.proofs.Common.{ℕ, zero, suc, ◌+◌, ◌*◌, ◌/◌, ◌%◌, ◌^◌, ◌<◌, ◌≤◌, ◌≡◌, ◌≢◌, ◌==◌, ◌⊎◌, inl, inr, not, Bool, true, false, if◌then◌else◌, List, refl}
+use Rattle.std.proofs.Common.{ℕ, zero, suc, ◌+◌, ◌*◌, ◌/◌, ◌%◌, ◌^◌, ◌<◌, ◌≤◌, ◌≡◌, ◌≢◌, ◌==◌, ◌⊎◌, inl, inr, not, true, if◌then◌else◌, List, refl}
 use Rattle.std.proofs.Common.{sym, ◌∙◌, ap, subst, arith}
-use Rattle.std.proofs.lemmas.Bool.{cases_eq, cases_lt, eqb-true, eqb-false}
+use Rattle.std.proofs.lemmas.Bool.{cases_eq, cases_lt}
 use Rattle.std.proofs.lemmas.Bool.Decides.{nat_tests}
 use Rattle.memory.specs.declared.writes.Write.{Write}
 use Rattle.memory.specs.Writes.{write}
@@ -15,7 +15,7 @@ use Rattle.spsc_queue.specs.Protocol.{looks_at, send_look, send_load, receive_lo
 use Rattle.spsc_queue.proofs.Words.{seen}
 use Rattle.spsc_queue.proofs.Spread.{none-there, slot_apart, spread, sent_store, sent-slot, sent-cases, seen-heads, slot_not_head}
 use Rattle.spsc_queue.proofs.Rows.{Earlier}
-use Rattle.spsc_queue.proofs.Cases.{by-send-load, by-receive-load}
+use Rattle.spsc_queue.proofs.Cases.{by-test, by-send-load, by-receive-load}
 use Rattle.spsc_queue.proofs.Invariant.{placed-of, level-counts, whole-counts}
 use Rattle.spsc_queue.proofs.Invariant.{turned, turned_is, zeros, cleared_store, Landed, unsent, unread, SendingIs, ReceivingIs, Invariant}
 use Rattle.spsc_queue.proofs.Loads.{slot_again, slot_word, sender-reads, receiver-reads, sender-head}
@@ -146,52 +146,44 @@ module _ (r : RingBuffer) (is : IsRingBuffer r) (L : ℕ → ℕ) (small : (j : 
 
   -- ---- loads
 
-  send-looked : (a v : ℕ) (p : SenderState) → v ≡ read o es r.sender a 4 → SendingIs 0 r s.stored s.published cleared p
-      → SendingIs 0 r s.stored s.published cleared (send_look fastforward r a v p)
-  send-looked a v (placed u) is_read holds = subst (λ q. SendingIs 0 r s.stored s.published cleared (looks_at q fastforward r a u v)) (sym inv.copy)
-      (by (a == r.slots + u) refl (v == 0) refl)
-    where
-      by : (b : Bool) → (a == r.slots + u) ≡ b → (c : Bool) → (v == 0) ≡ c
-          → SendingIs 0 r s.stored s.published cleared (if b then (if not c then placed u else roomy u) else placed u)
-      by true here true zero_read =
-          let place : a ≡ slot_address r s.stored = eqb-true a (r.slots + u) here ∙ ap (λ x. r.slots + x) (holds.1 ∙ ap (slot_offset r) (sym holds.0)) in
-          let none : read o es r.sender (slot_address r s.stored) 4 ≡ 0 = ap (λ x. read o es r.sender x 4) (sym place) ∙ sym is_read ∙ eqb-true v 0 zero_read in
-          let other : s.stored ≢ cleared + r.size =
-          λ full. inv.nonzero refl cleared (omega (arith, full, is.some_slots)) (sym (sender-full holds.0 full) ∙ none) in
-          (holds.0, holds.1, omega (arith, other, inv.order.room))
-      by true here false some = holds
-      by false there c is_c = holds
+  abbrev Sends : SenderState → Type 0
+  Sends p = SendingIs 0 r s.stored s.published cleared p
+
+  send-looked : (a v : ℕ) (p : SenderState) → v ≡ read o es r.sender a 4 → Sends p → Sends (send_look fastforward r a v p)
+  send-looked a v (placed u) is_read holds = subst (λ q. Sends (looks_at q fastforward r a u v)) (sym inv.copy)
+      (by-test (λ b. Sends (if b then (if not (v == 0) then placed u else roomy u) else placed u)) a (r.slots + u)
+      (λ here. by-test (λ b. Sends (if not b then placed u else roomy u)) v 0 (λ zero_read.
+      (let place : a ≡ slot_address r s.stored = here ∙ ap (λ x. r.slots + x) (holds.1 ∙ ap (slot_offset r) (sym holds.0)) in
+      let none : read o es r.sender (slot_address r s.stored) 4 ≡ 0 = ap (λ x. read o es r.sender x 4) (sym place) ∙ sym is_read ∙ zero_read in
+      let other : s.stored ≢ cleared + r.size =
+      λ full. inv.nonzero refl cleared (omega (arith, full, is.some_slots)) (sym (sender-full holds.0 full) ∙ none) in
+      (holds.0, holds.1, omega (arith, other, inv.order.room)))) (λ some. holds)) (λ away. holds))
   send-looked a v p is_read holds = holds
 
-  pub sending-load : (a v : ℕ) (p : SenderState) → v ≡ read o es r.sender a 4 → SendingIs 0 r s.stored s.published cleared p
-      → SendingIs 0 r s.stored s.published cleared (send_load fastforward r a v p)
-  sending-load a v p is_read holds = by-send-load fastforward r a v (SendingIs 0 r s.stored s.published cleared) p
+  pub sending-load : (a v : ℕ) (p : SenderState) → v ≡ read o es r.sender a 4 → Sends p → Sends (send_load fastforward r a v p)
+  sending-load a v p is_read holds = by-send-load fastforward r a v Sends p
       (λ level here. (
         level-counts r s.stored s.published p level (placed-of 0 r s.stored s.published cleared p holds),
         is_read ∙ ap (λ x. read o es r.sender x 4) here ∙ sender-head fastforward r is L small c o es s inv,
       )) (send-looked a v p is_read holds)
 
-  take-looked : (a v : ℕ) (p : ReceiverState) → v ≡ read o es r.receiver a 4 → ReceivingIs fastforward r L s.taken s.consumed slots p
-      → ReceivingIs fastforward r L s.taken s.consumed slots (receive_look fastforward r a v p)
-  take-looked a v (asked u) is_read holds = by (a == r.slots + u) refl (v == 0) refl
-    where
-      by : (b : Bool) → (a == r.slots + u) ≡ b → (c : Bool) → (v == 0) ≡ c
-          → ReceivingIs fastforward r L s.taken s.consumed slots (if b then (if c then asked u else holding u v) else asked u)
-      by true here true zero_read = holds
-      by true here false some =
-          let place : a ≡ slot_address r s.taken = eqb-true a (r.slots + u) here ∙ ap (λ x. r.slots + x) (holds.1 ∙ ap (slot_offset r) (sym holds.0)) in
-          let found : v ≡ read o es r.receiver (slot_address r s.taken) 4 = is_read ∙ ap (λ x. read o es r.receiver x 4) place in
-          elim (receiver-slot holds.0) [
-            | inl none ↦ absurd (eqb-false v 0 some (found ∙ none))
-            | inr word ↦ (holds.0, holds.1, word.0, found ∙ word.1)
-          ]
-      by false there c is_c = holds
+  abbrev Receives : ReceiverState → Type 0
+  Receives p = ReceivingIs fastforward r L s.taken s.consumed slots p
+
+  take-looked : (a v : ℕ) (p : ReceiverState) → v ≡ read o es r.receiver a 4 → Receives p → Receives (receive_look fastforward r a v p)
+  take-looked a v (asked u) is_read holds = by-test (λ b. Receives (if b then (if v == 0 then asked u else holding u v) else asked u)) a (r.slots + u)
+      (λ here. by-test (λ b. Receives (if b then asked u else holding u v)) v 0 (λ zero_read. holds) (λ some.
+      (let place : a ≡ slot_address r s.taken = here ∙ ap (λ x. r.slots + x) (holds.1 ∙ ap (slot_offset r) (sym holds.0)) in
+      let found : v ≡ read o es r.receiver (slot_address r s.taken) 4 = is_read ∙ ap (λ x. read o es r.receiver x 4) place in
+      elim (receiver-slot holds.0) [
+        | inl none ↦ absurd (some (found ∙ none))
+        | inr word ↦ (holds.0, holds.1, word.0, found ∙ word.1)
+      ]))) (λ away. holds)
   take-looked a v (waiting u) is_read holds = absurd (let no : fastforward ≡ lamport = holds.3 in cc)
   take-looked a v p is_read holds = holds
 
-  pub receiving-load : (a v : ℕ) (p : ReceiverState) → v ≡ read o es r.receiver a 4 → ReceivingIs fastforward r L s.taken s.consumed slots p
-      → ReceivingIs fastforward r L s.taken s.consumed slots (receive_load fastforward r a v p)
-  receiving-load a v p is_read holds = by-receive-load fastforward r a v (ReceivingIs fastforward r L s.taken s.consumed slots) p
+  pub receiving-load : (a v : ℕ) (p : ReceiverState) → v ≡ read o es r.receiver a 4 → Receives p → Receives (receive_load fastforward r a v p)
+  receiving-load a v p is_read holds = by-receive-load fastforward r a v Receives p
       (λ whole here. (
         whole-counts fastforward r L s.taken s.consumed slots p whole holds,
         is_read ∙ ap (λ x. read o es r.receiver x 4) here ∙ receiver-tail,

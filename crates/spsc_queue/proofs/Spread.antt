@@ -3,7 +3,7 @@ use Rattle.std.proofs.Common.{ℕ, zero, suc, ◌+◌, ◌*◌, ◌/◌, ◌%◌
 use Rattle.std.proofs.Common.{◌++◌, refl, ◌∙◌, ap, arith, length, zero-add}
 use Rattle.std.specs.Prelude.{All}
 use Rattle.std.specs.List.{filter}
-use Rattle.std.proofs.lemmas.Bool.{eqb-true, eqb-false, eq-eqb, ne_eqb}
+use Rattle.std.proofs.lemmas.Bool.{eq-eqb, ne_eqb}
 use Rattle.std.proofs.lemmas.Bool.Decides.{nat_tests}
 use Rattle.std.proofs.lemmas.Nat.{mod_below}
 use Rattle.std.proofs.lemmas.List.Elements.{All-nil, All-cons}
@@ -11,6 +11,7 @@ use Rattle.memory.specs.declared.writes.Write.{Write}
 use Rattle.memory.specs.Writes.{write, IsWholeWord}
 use Rattle.step_machine.proofs.Modulo.{mod_apart}
 use Rattle.spsc_queue.specs.RingBuffers.{RingBuffer, IsRingBuffer, slot_offset, slot_address, is_in_slots}
+use Rattle.spsc_queue.proofs.Cases.{by-test}
 use Rattle.spsc_queue.proofs.Words.{seen}
 
 -- n of the stores of a row, from the i-th on
@@ -109,11 +110,8 @@ module _ (r : RingBuffer) (is : IsRingBuffer r) where
     -- each store of the sender's row is one of these: of a word into its slot, or of the head after it
     pub sent-cases : (P : Write → Type 0) (p : ℕ) → (p % 2 ≡ 0 → P (write (slot_address r (p / 2)) 4 (L (p / 2))))
         → (p % 2 ≢ 0 → P (write r.head 4 (slot_offset r (p / 2 + 1)))) → P (sent_store r L p)
-    sent-cases P p one two = at (p % 2 == 0) refl
-      where
-        at : (b : Bool) → (p % 2 == 0) ≡ b → P (if b then write (slot_address r (p / 2)) 4 (L (p / 2)) else write r.head 4 (slot_offset r (p / 2 + 1)))
-        at true even = one (eqb-true (p % 2) 0 even)
-        at false odd = two (eqb-false (p % 2) 0 odd)
+    sent-cases P p one two = by-test (λ b. P (if b then write (slot_address r (p / 2)) 4 (L (p / 2)) else write r.head 4 (slot_offset r (p / 2 + 1))))
+        (p % 2) 0 one two
 
     pub sent-not-tail : (p : ℕ) → (sent_store r L p).addr ≢ r.tail
     sent-not-tail p = sent-cases (λ w. w.addr ≢ r.tail) p (λ even. slot_not_tail (p / 2)) (λ odd. is.apart)
