@@ -30,13 +30,17 @@ pub either : {X A : Type 0} (P : X → Type 0) (b : Bool) (x y : X) → (P x →
 either P true x y one two h = one h
 either P false x y one two h = two h
 
+pub never : (b : Bool) → (b ≡ true → ⊥) → b ≡ false
+never true wrong = absurd (wrong refl)
+never false wrong = refl
+
+pub by-bool : (P : Bool → Type 0) (b : Bool) → (b ≡ true → P true) → (b ≡ false → P false) → P b
+by-bool P true on off = on refl
+by-bool P false on off = off refl
+
 -- by a test of two numbers
 pub by-test : (P : Bool → Type 0) (a b : ℕ) → (a ≡ b → P true) → (a ≢ b → P false) → P (a == b)
-by-test P a b same other = at (a == b) refl
-  where
-    at : (c : Bool) → (a == b) ≡ c → P c
-    at true is = same (eqb-true a b is)
-    at false is = other (eqb-false a b is)
+by-test P a b same other = by-bool P (a == b) (λ is. same (eqb-true a b is)) (λ is. other (eqb-false a b is))
 
 -- no word is half sent, and no slot half freed
 abbrev pub IsLevel : SenderState → Type 0

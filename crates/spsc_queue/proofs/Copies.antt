@@ -17,6 +17,7 @@ use Rattle.step_machine.specs.Legal.{Allowed}
 use Rattle.spsc_queue.specs.RingBuffers.{Kind, lamport, fastforward, RingBuffer, IsRingBuffer, IsWordIn, slot_offset, overlaps, writes_to, IsQuiescent}
 use Rattle.spsc_queue.specs.Protocol.{WritesNothingTo, IsWordAt}
 use Rattle.store_buffers.specs.StoreBuffers.{LeavesByte, LeavesByteBy, IsOnlyWriter}
+use Rattle.spsc_queue.proofs.Cases.{never}
 use Rattle.spsc_queue.proofs.Words.{is_copy, row_of, copy_at}
 use Rattle.store_buffers.proofs.Reading.{passed_over}
 use Rattle.store_buffers.proofs.MessagePassing.{kept}
@@ -53,21 +54,14 @@ copied-on lamport (Some c) r o es fs n m n2 m2 e stays le less is =
 
 -- a write off the block, and one of a word of the block, leaves the copy
 pub off_leaves : (r : RingBuffer) (w : Write) (x : ℕ) → overlaps r w ≡ false → r.first ≤ x → x < r.end → LeavesByte x w
-off_leaves r w x off from below = at (covers w x) refl
-  where
-    at : (b : Bool) → covers w x ≡ b → b ≡ false
-    at false c = refl
-    at true c = let part = covers-from w x c in absurd (grind (arith, nat_tests, off))
+off_leaves r w x off from below = never (covers w x) (λ c. (let part = covers-from w x c in grind (arith, nat_tests, off, part.0, part.1, from, below)))
 
 pub word_leaves : (r : RingBuffer) (w : Write) (a c x : ℕ) → IsWordIn r a → IsWordAt w a → r.copy ≡ Some c → c ≤ x → x < c + 4 → LeavesByte x w
-word_leaves r w a c x word is copy from below = at (covers w x) refl
-  where
-    at : (b : Bool) → covers w x ≡ b → b ≡ false
-    at false c = refl
-    at true d = let part = covers-from w x d in absurd (elim (word.no_copy c copy) [
+word_leaves r w a c x word is copy from below = never (covers w x) (λ d. (let part = covers-from w x d in
+    elim (word.no_copy c copy) [
       | inl l ↦ omega (arith, part.0, part.1, is.place, is.width, l, from, below)
       | inr l ↦ omega (arith, part.0, part.1, is.place, is.width, l, from, below)
-    ])
+    ]))
 
 -- the sender's own store of the copy, which it reads from then on
 pub own_read : (o : OpeningValue) (es fs : List Entry) (h c : ℕ) (w : Write) → pending h fs ≡ pending h es ++ w ∷ [] → IsWordAt w c → w.value < 2 ^ 32

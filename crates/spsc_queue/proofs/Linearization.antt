@@ -18,6 +18,7 @@ use Rattle.spsc_queue.specs.RingBuffers.{slot_address, next, capacity_of, capaci
 use Rattle.spsc_queue.specs.Protocol.{placed, asked, ProtocolState, at_start, room_at, says_full, watched_address, says_empty, KeepsProtocol, parties_after}
 use Rattle.spsc_queue.specs.Laws.{FollowsSpscProtocol, available_of, available_count, ready_by_state}
 use Rattle.store_buffers.specs.StoreBuffers.{LeavesByte}
+use Rattle.spsc_queue.proofs.Cases.{never}
 use Rattle.spsc_queue.proofs.Words.{is_copy, row_counts, copy_apart}
 use Rattle.spsc_queue.proofs.Copies.{Copied, row_whole}
 use Rattle.spsc_queue.proofs.Spread.{offset_apart, freed_store, spread-count, counts-heads, counts-slots}
@@ -32,10 +33,6 @@ use Rattle.spsc_queue.proofs.PastRows.{length-spread, row-grows}
 -- without a copy no store is to one
 no_copy : (r : RingBuffer) (b : Bool) → r.copy ≡ None → (w : Write) → is_copy r.copy w ≡ true → b ≡ false
 no_copy r b is w copy = absurd (let no : false ≡ true = sym (ap (λ q. is_copy q w) is) ∙ copy in cc)
-
-never : (b : Bool) → (b ≡ true → ⊥) → b ≡ false
-never true wrong = absurd (wrong refl)
-never false wrong = refl
 
 module _ (r : RingBuffer) (is : IsRingBuffer r) (L : ℕ → ℕ) (small : (j : ℕ) → L j < 2 ^ 32) (c : Earlier) (o : OpeningValue) (es : List Entry)
     (T : ProtocolState) where

@@ -20,6 +20,7 @@ use Rattle.spsc_queue.specs.Calls.{completed_by_entry, given_words, received_wor
 use Rattle.spsc_queue.specs.CallEffects.{longest, sees_full, look_accesses, IsWholeCall, IsCallUnderWay}
 use Rattle.spsc_queue.specs.CallEffects.{IsSend, IsReceive, accesses}
 use Rattle.spsc_queue.specs.CallEffects.{completed_word, take_accesses, FoundFull, FoundEmpty}
+use Rattle.spsc_queue.proofs.Cases.{by-bool}
 use Rattle.spsc_queue.proofs.Words.{both}
 use Rattle.spsc_queue.proofs.Runs.{protocol-append}
 use Rattle.spsc_queue.proofs.Courses.{at_00, Course}
@@ -274,11 +275,7 @@ module _ (B M : ℕ) (o : OpeningValue) (q : SpscQueue) (before es : List Entry)
         }
 
     one_on : So (now ++ e ∷ []) (part_done ++ e ∷ [])
-    one_on = at (is_own h e) refl
-      where
-        at : (b : Bool) → is_own h e ≡ b → So (now ++ e ∷ []) (part_done ++ e ∷ [])
-        at true on = by_own on
-        at false off = by_other off
+    one_on = by-bool (λ b. So (now ++ e ∷ []) (part_done ++ e ∷ [])) (is_own h e) by_own by_other
 
   go : (part next more : List Entry) → call ≡ part ++ (next ++ more) → So (done ++ part) part → So (done ++ (part ++ next)) (part ++ next)
   go part [] more cut so = subst (λ zs. So (done ++ zs) zs) (sym (append-nil part)) so

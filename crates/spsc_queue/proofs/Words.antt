@@ -6,15 +6,16 @@ use Rattle.std.proofs.Common.{refl, sym, ◌∙◌, ap, arith, length}
 use Rattle.std.specs.Prelude.{unwrap_or, All}
 use Rattle.std.specs.List.{filter}
 use Rattle.std.specs.Int.{byte_at}
-use Rattle.std.proofs.lemmas.Bool.{eqb-true, eqb-false, ne_eqb}
+use Rattle.std.proofs.lemmas.Bool.{eqb-true, ne_eqb}
 use Rattle.std.proofs.lemmas.Bool.Decides.{nat_tests}
 use Rattle.std.proofs.lemmas.List.Elements.{All-head, All-tail}
 use Rattle.memory.specs.declared.writes.Write.{Write}
 use Rattle.memory.specs.Writes.{covers, byte_after, newest_of, joined, IsWholeWord}
-use Rattle.memory.proofs.Bytes.{joined-same, word_of_bytes, covers-yes, covers-from, covers-other}
+use Rattle.memory.proofs.Bytes.{joined-same, word_of_bytes, covers-yes, covers-from}
 use Rattle.store_buffers.proofs.Reading.{newest-first}
 use Rattle.spsc_queue.specs.RingBuffers.{RingBuffer, IsWordIn, overlaps, writes_to}
 use Rattle.spsc_queue.specs.Protocol.{IsWordAt}
+use Rattle.spsc_queue.proofs.Cases.{never, by-test}
 
 -- the value of the word at a after these writes of whole words, where it was v before
 abbrev pub seen : ℕ → ℕ → List Write → ℕ
@@ -107,19 +108,16 @@ copy_apart r a word w copy =
 
 -- the frame: a write off the block covers no byte of a word of the block
 pub off_covers : (r : RingBuffer) (w : Write) (a i : ℕ) → IsWordIn r a → i < 4 → shared r w ≡ false → covers w (a + i) ≡ false
-off_covers r w a i is lt off = at (covers w (a + i)) refl (overlaps r w) refl (is_copy r.copy w) refl
+off_covers r w a i is lt off = never (covers w (a + i)) (λ c. at (covers-from w (a + i) c) (overlaps r w) refl (is_copy r.copy w) refl)
   where
-    at : (c : Bool) → covers w (a + i) ≡ c → (b : Bool) → overlaps r w ≡ b → (d : Bool) → is_copy r.copy w ≡ d → c ≡ false
-    at false c b on d copy = refl
-    at true c false out d copy = let from = covers-from w (a + i) c in absurd (grind (arith, nat_tests, is.above, is.below, out))
-    at true c true on false none = absurd (let no : true ≡ false = sym (ap (λ b. b && not (is_copy r.copy w)) on ∙ ap not none) ∙ off in cc)
-    at true c true on true copy =
-        let from = covers-from w (a + i) c in
-        let it = copy_at r.copy w copy in
-        absurd (elim (is.no_copy it.0 it.1) [
+    at : (w.addr ≤ a + i) × (a + i < w.addr + w.width) → (b : Bool) → overlaps r w ≡ b → (d : Bool) → is_copy r.copy w ≡ d → ⊥
+    at from false out d copy = grind (arith, nat_tests, is.above, is.below, out, from.0, from.1, lt)
+    at from true on false none = let no : true ≡ false = sym (ap (λ b. b && not (is_copy r.copy w)) on ∙ ap not none) ∙ off in cc
+    at from true on true copy = let it = copy_at r.copy w copy in
+        elim (is.no_copy it.0 it.1) [
           | inl l ↦ omega (arith, from.0, from.1, it.2, it.3, l, lt)
           | inr l ↦ omega (arith, from.0, from.1, it.2, it.3, l, lt)
-        ])
+        ]
 
 pub off_word : (r : RingBuffer) (w : Write) (a : ℕ) (f : ℕ → ℕ) → IsWordIn r a → shared r w ≡ false
     → joined (λ i. byte_after w (a + i) (f (a + i))) 4 ≡ joined (λ i. f (a + i)) 4
@@ -129,23 +127,16 @@ off_word r w a f is off = joined-same (λ i. byte_after w (a + i) (f (a + i))) (
 -- a write of a whole word
 pub whole_word : (w : Write) (a : ℕ) (f : ℕ → ℕ) → a % 4 ≡ 0 → IsWholeWord w
     → joined (λ i. byte_after w (a + i) (f (a + i))) 4 ≡ (if w.addr == a then w.value else joined (λ i. f (a + i)) 4)
-whole_word w a f aligned is = at (w.addr == a) refl
-  where
-    at : (c : Bool) → (w.addr == a) ≡ c → joined (λ i. byte_after w (a + i) (f (a + i))) 4 ≡ (if c then w.value else joined (λ i. f (a + i)) 4)
-    at true same =
-        let here : w.addr ≡ a = eqb-true w.addr a same in
-        let width : w.width ≡ 4 = is.whole in
-        joined-same (λ i. byte_after w (a + i) (f (a + i))) (λ i. byte_at i w.value) 4 (λ i lt.
-        let held : covers w (a + i) ≡ true = covers-yes w (a + i) (omega arith) (omega arith) in
-        let place : a + i - w.addr ≡ i = omega arith in
-        ap (λ c. if c then byte_at (a + i - w.addr) w.value else f (a + i)) held ∙ ap (λ j. byte_at j w.value) place) ∙ word_of_bytes w.value is.small
-    at false apart =
-        let elsewhere : w.addr ≡ a → ⊥ = eqb-false w.addr a apart in
-        let width : w.width ≡ 4 = is.whole in
-        let base : w.addr % 4 ≡ 0 = is.aligned in
-        joined-same (λ i. byte_after w (a + i) (f (a + i))) (λ i. f (a + i)) 4 (λ i lt.
-        let none : covers w (a + i) ≡ false = covers-other w (a + i) (omega arith) (λ q. elsewhere (omega arith)) in
-        ap (λ c. if c then byte_at (a + i - w.addr) w.value else f (a + i)) none)
+whole_word w a f aligned is =
+    by-test (λ c. joined (λ i. byte_after w (a + i) (f (a + i))) 4 ≡ (if c then w.value else joined (λ i. f (a + i)) 4)) w.addr a
+    (λ here. joined-same (λ i. byte_after w (a + i) (f (a + i))) (λ i. byte_at i w.value) 4 (λ i lt.
+    (let held : covers w (a + i) ≡ true = covers-yes w (a + i) (omega (arith, here)) (omega (arith, here, is.whole, lt)) in
+    let place : a + i - w.addr ≡ i = omega (arith, here) in
+    ap (λ c. if c then byte_at (a + i - w.addr) w.value else f (a + i)) held ∙ ap (λ j. byte_at j w.value) place)) ∙ word_of_bytes w.value is.small)
+    (λ apart. joined-same (λ i. byte_after w (a + i) (f (a + i))) (λ i. f (a + i)) 4 (λ i lt.
+    (let part : covers w (a + i) ≡ true → (w.addr ≤ a + i) × (a + i < w.addr + w.width) = covers-from w (a + i) in
+    ap (λ c. if c then byte_at (a + i - w.addr) w.value else f (a + i))
+    (never (covers w (a + i)) (λ c. apart (omega (arith, (part c).0, (part c).1, is.whole, is.aligned, aligned, lt)))))))
 
 -- the law of reads: bytes read through writes, of which those to the block are of whole words, join to the word that these leave
 pub read_through : (r : RingBuffer) (a : ℕ) (f : ℕ → ℕ) (ws : List Write) → IsWordIn r a → All IsWholeWord (row_of r ws)
