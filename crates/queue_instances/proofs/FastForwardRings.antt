@@ -13,10 +13,9 @@ use Rattle.step_machine.specs.History.{OpeningValue}
 use Rattle.step_machine.specs.Access.{Access, load, store, exchange, access_of}
 use Rattle.step_machine.specs.Entries.{hart_of, pending, memory_word}
 use Rattle.spsc_queue.specs.RingBuffers.{lamport, fastforward, RingBuffer, IsRingBuffer, slot_offset, overlaps, slot_address, capacity_of, IsQuiescent}
-use Rattle.spsc_queue.specs.Protocol.{SenderState, placed, renewing, roomy, filled, ReceiverState, asked, waiting, holding, cleared}
-use Rattle.spsc_queue.specs.Protocol.{ProtocolState, at_start, parties_after, role_of, looks_at}
-use Rattle.spsc_queue.specs.Protocol.{send_look, send_load, send_store, receive_look, receive_load, receive_store, next_by, protocol_next}
-use Rattle.spsc_queue.specs.Protocol.{WritesNothingTo, IsCopyStore, IsSenderStore, IsReceiverStore, KeepsProtocolBy, KeepsProtocol, IsWordAt}
+use Rattle.spsc_queue.specs.Protocol.{SenderState, placed, renewing, roomy, filled, ReceiverState, asked, waiting, holding, cleared, ProtocolState, at_start}
+use Rattle.spsc_queue.specs.Protocol.{parties_after, role_of, looks_at, send_look, send_load, send_store, receive_look, receive_load, receive_store, next_by}
+use Rattle.spsc_queue.specs.Protocol.{protocol_next, WritesNothingTo, IsCopyStore, IsSenderStore, IsReceiverStore, KeepsProtocolBy, KeepsProtocol, IsWordAt}
 use Rattle.spsc_queue.specs.Laws.{FollowsSpscProtocol}
 use Rattle.spsc_queue.proofs.Cases.{IsWhole, by-test, by-access, by-send-load, by-receive-load}
 use Rattle.spsc_queue.proofs.Copies.{all-off}

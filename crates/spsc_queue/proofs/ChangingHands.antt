@@ -1,7 +1,5 @@
 -- A queue that is at rest again, at whichever slot and with whichever words in it, may be used from there on, also by other harts.
-use Rattle.std.proofs.Common.{ℕ, ◌+◌, ◌-◌, ◌*◌, ◌%◌, ◌<◌, ◌≤◌, ◌≡◌, ◌≢◌, false, Some, List, [], ◌++◌, length, sym, ◌∙◌, ap, subst}
-use Rattle.std.proofs.Common.{refl, arith, append-nil}
-use Rattle.std.proofs.Common.{sym, ◌∙◌, ap, subst, refl, arith, append-nil}
+use Rattle.std.proofs.Common.{ℕ, ◌+◌, ◌-◌, ◌*◌, ◌%◌, ◌<◌, ◌≤◌, ◌≡◌, ◌≢◌, false, Some, List, [], ◌++◌, length, sym, ◌∙◌, ap, subst, refl, arith, append-nil}
 use Rattle.std.specs.Prelude.{slice_index}
 use Rattle.memory.specs.declared.writes.Write.{Write}
 use Rattle.step_machine.specs.declared.events.Entry.{Entry}

@@ -32,11 +32,10 @@ use Rattle.spsc_queue.specs.Calls.{Party, the_sender, the_receiver, party_hart, 
 use Rattle.spsc_queue.specs.Calls.{received_words, StandsIn, HasFunction, UsesAsSpscQueue}
 use Rattle.spsc_queue.specs.CallEffects.{IsWholeCall, accesses}
 use Rattle.spsc_queue.specs.Obligations.{obligations_kept}
-use Rattle.spsc_queue.specs.Example.{value_at, entry_in, entry_by, entries_by, fast, kind_of, caches_of, Variant, caching, waiting_of}
-use Rattle.spsc_queue.specs.Example.{Scenario, sends, hits, receives, finds_full, takes_over, plain}
-use Rattle.spsc_queue.specs.Example.{finds_empty, goes_on, variant, sender_of, receiver_of, party, queue}
-use Rattle.spsc_queue.specs.Example.{hart_of_party, opening, first_events, lead_events, call_events, before_entries, lead_entries}
-use Rattle.spsc_queue.specs.Example.{call_entries, entries, state_after, answer, access_count, sent, received}
+use Rattle.spsc_queue.specs.Example.{value_at, entry_in, entry_by, entries_by, fast, kind_of, caches_of, Variant, caching, waiting_of, Scenario, sends, hits}
+use Rattle.spsc_queue.specs.Example.{receives, finds_full, takes_over, plain, finds_empty, goes_on, variant, sender_of, receiver_of, party, queue}
+use Rattle.spsc_queue.specs.Example.{hart_of_party, opening, first_events, lead_events, call_events, before_entries, lead_entries, call_entries, entries}
+use Rattle.spsc_queue.specs.Example.{state_after, answer, access_count, sent, received}
 use Rattle.spsc_queue.proofs.Registers.{thirteen}
 use Rattle.spsc_queue.proofs.Parts.{copied_in}
 use Rattle.spsc_queue.proofs.Words.{both}

@@ -9,9 +9,8 @@ use Rattle.step_machine.specs.declared.events.Entry.{Entry}
 use Rattle.step_machine.specs.History.{OpeningValue}
 use Rattle.step_machine.specs.Entries.{memory_word, read}
 use Rattle.spsc_queue.specs.RingBuffers.{lamport, fastforward, RingBuffer, IsRingBuffer, slot_offset, slot_address}
-use Rattle.spsc_queue.specs.Protocol.{SenderState, placed, roomy, ReceiverState, asked}
-use Rattle.spsc_queue.specs.Protocol.{waiting, holding, ProtocolState}
-use Rattle.spsc_queue.specs.Protocol.{looks_at, send_look, send_load, receive_look, receive_load}
+use Rattle.spsc_queue.specs.Protocol.{SenderState, placed, roomy, ReceiverState, asked, waiting, holding, ProtocolState, looks_at, send_look, send_load}
+use Rattle.spsc_queue.specs.Protocol.{receive_look, receive_load}
 use Rattle.spsc_queue.proofs.Words.{seen}
 use Rattle.spsc_queue.proofs.Spread.{none-there, slot_apart, spread, sent_store, sent-slot, sent-cases, seen-heads, slot_not_head}
 use Rattle.spsc_queue.proofs.Rows.{Earlier}

@@ -4,9 +4,8 @@ use Rattle.hart.specs.State.{HartState}
 use Rattle.spsc_queue.specs.RingBuffers.{Kind, lamport, fastforward, RingBuffer}
 use Rattle.spsc_queue.specs.Protocol.{ProtocolState}
 use Rattle.spsc_queue.specs.Calls.{Block, IsBlock, Party, the_sender, the_receiver, listing_of, ring_at, enters, HasArguments}
-use Rattle.spsc_queue.proofs.Courses.{At, at_00, at_04, at_08, at_0C, at_10, at_14, at_18, at_1C, at_20, at_24, at_28}
-use Rattle.spsc_queue.proofs.Courses.{at_2C, at_30, at_34, at_38, at_3C, at_40, number, Equipped}
-use Rattle.spsc_queue.proofs.Courses.{Course}
+use Rattle.spsc_queue.proofs.Courses.{At, at_00, at_04, at_08, at_0C, at_10, at_14, at_18, at_1C, at_20, at_24, at_28, at_2C, at_30, at_34, at_38, at_3C, at_40}
+use Rattle.spsc_queue.proofs.Courses.{number, Equipped, Course}
 use Rattle.spsc_queue.proofs.Outline.{Part, part, Level, Near, OwnRow, more, Row, Inside, Stands, WordsAre, Moves}
 use Rattle.spsc_queue.proofs.Cases.{by-bool}
 use Rattle.spsc_queue.proofs.Completed.{entered}

@@ -1,14 +1,11 @@
 -- The invariant of a queue of either kind: what keeps it, and what the laws take from it.
-use Rattle.std.proofs.Common.{ℕ, ◌+◌, ◌-◌, ◌^◌, ◌<◌, ◌≤◌, ◌≡◌, List, [], ◌∷◌, ◌++◌, length, not, refl, sym, ◌∙◌, ap, subst}
-use Rattle.std.proofs.Common.{arith}
+use Rattle.std.proofs.Common.{ℕ, ◌+◌, ◌-◌, ◌^◌, ◌<◌, ◌≤◌, ◌≡◌, List, [], ◌∷◌, ◌++◌, length, not, refl, sym, ◌∙◌, ap, subst, arith}
 use Rattle.memory.specs.declared.writes.Write.{Write}
 use Rattle.step_machine.specs.declared.events.Entry.{Entry}
 use Rattle.step_machine.specs.History.{OpeningValue}
 use Rattle.step_machine.specs.Entries.{pending, memory_word, read, own_stores, lands}
 use Rattle.spsc_queue.specs.RingBuffers.{Kind, lamport, fastforward, RingBuffer, IsRingBuffer, slot_offset, slot_address, capacity_of, writes_to, IsQuiescent}
-use Rattle.spsc_queue.specs.Protocol.{SenderState, ReceiverState, idle, asked}
-use Rattle.spsc_queue.specs.Protocol.{waiting, holding, cleared, ProtocolState}
-use Rattle.spsc_queue.specs.Protocol.{at_start, send_load, receive_load}
+use Rattle.spsc_queue.specs.Protocol.{SenderState, ReceiverState, idle, asked, waiting, holding, cleared, ProtocolState, at_start, send_load, receive_load}
 use Rattle.spsc_queue.specs.Laws.{available_of, ready_by_state}
 use Rattle.queue_parties.proofs.Records.{numbers-same}
 use Rattle.spsc_queue.proofs.Spread.{spread, sent_store}

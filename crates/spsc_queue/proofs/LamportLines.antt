@@ -1,7 +1,6 @@
 -- Lamport's functions, line by line: what each line does keeps the protocol, and leads to the next line of the outline.
-use Rattle.std.proofs.Common.{ℕ, pos, negsuc, ◌+◌, ◌*◌, ◌%◌, ◌^◌, ◌<◌, ◌≤◌, ◌≡◌, ◌≢◌, ◌==◌, ◌&&◌, ◌⊎◌, inl, inr, true}
-use Rattle.std.proofs.Common.{false, if◌then◌else◌, List, [], ◌∷◌, ◌++◌}
-use Rattle.std.proofs.Common.{Some, None, refl, sym, ◌∙◌, ap, subst, arith, append-nil}
+use Rattle.std.proofs.Common.{ℕ, pos, negsuc, ◌+◌, ◌*◌, ◌%◌, ◌^◌, ◌<◌, ◌≤◌, ◌≡◌, ◌≢◌, ◌==◌, ◌&&◌, ◌⊎◌, inl, inr, true, false, if◌then◌else◌, List, [], ◌∷◌}
+use Rattle.std.proofs.Common.{◌++◌, Some, None, refl, sym, ◌∙◌, ap, subst, arith, append-nil}
 use Rattle.std.specs.Prelude.{slice_index, slice_set, map}
 use Rattle.std.specs.List.{slice_get}
 use Rattle.std.proofs.lemmas.Bool.{cases_eq, eq-eqb, ne_eqb}
@@ -21,9 +20,8 @@ use Rattle.hart.specs.Effects.{next_pc, address}
 use Rattle.hart.proofs.Instructions.{IsAt}
 use Rattle.step_machine.specs.Access.{Access, nothing, load, store}
 use Rattle.spsc_queue.specs.RingBuffers.{Kind, lamport, fastforward, RingBuffer, IsWordIn, next, overlaps}
-use Rattle.spsc_queue.specs.Protocol.{SenderState, placed, renewing, roomy, asked, waiting, holding, ProtocolState}
-use Rattle.spsc_queue.specs.Protocol.{says_full, looks_past_copy, IsWordAt, IsCopyStore}
-use Rattle.spsc_queue.specs.Protocol.{IsSenderStore, IsReceiverStore}
+use Rattle.spsc_queue.specs.Protocol.{SenderState, placed, renewing, roomy, asked, waiting, holding, ProtocolState, says_full, looks_past_copy, IsWordAt}
+use Rattle.spsc_queue.specs.Protocol.{IsCopyStore, IsSenderStore, IsReceiverStore}
 use Rattle.rv_decode.specs.Listings.{lines_of}
 use Rattle.spsc_queue.specs.Listings.{try_send, try_receive}
 use Rattle.spsc_queue.specs.Cached.{cached_send}
@@ -33,18 +31,14 @@ use Rattle.step_machine.proofs.Lines.{word-plus, add_line, sum_line, load_line, 
 use Rattle.step_machine.proofs.Lines.{goes_to, leaves_in}
 use Rattle.spsc_queue.proofs.Words.{word_overlaps}
 use Rattle.spsc_queue.proofs.Registers.{set-same, set-other, decoded, code_room, next_line, line_on, line_back}
-use Rattle.spsc_queue.proofs.Courses.{At, at_04, at_08, at_0C, at_10, at_14, at_18, at_1C, at_20, at_24}
-use Rattle.spsc_queue.proofs.Courses.{at_2C, at_34, at_38, at_3C, at_40, number}
-use Rattle.spsc_queue.proofs.Courses.{Equipped, Course, went, left_on, frame_on, frame_set, more_left, more_frame, bytes_of, free_6, free_7, free_11}
-use Rattle.spsc_queue.proofs.Outline.{Part, part, Level, IsOffset, IsNear, IsFit, Near, first_look, Looked}
-use Rattle.spsc_queue.proofs.Outline.{looked, Seen, Past, Ready, Finished}
-use Rattle.spsc_queue.proofs.Outline.{detour, OwnRow, Row, Moves}
+use Rattle.spsc_queue.proofs.Courses.{At, at_04, at_08, at_0C, at_10, at_14, at_18, at_1C, at_20, at_24, at_2C, at_34, at_38, at_3C, at_40, number, Equipped}
+use Rattle.spsc_queue.proofs.Courses.{Course, went, left_on, frame_on, frame_set, more_left, more_frame, bytes_of, free_6, free_7, free_11}
+use Rattle.spsc_queue.proofs.Outline.{Part, part, Level, IsOffset, IsNear, IsFit, Near, first_look, Looked, looked, Seen, Past, Ready, Finished, detour, OwnRow}
+use Rattle.spsc_queue.proofs.Outline.{Row, Moves}
 use Rattle.spsc_queue.proofs.Parts.{copied, level-next, past-load, word-load, copy-stored, tail-taken, looked-offset, ready-offset}
-use Rattle.spsc_queue.proofs.AllLines.{Spot, spot, to_line, to_ready, loads_to, stores_to, line_at, line_of, on, over, wraps_not}
-use Rattle.spsc_queue.proofs.AllLines.{wraps, to_seen, to_no, ready_5, ready_on, word_set}
-use Rattle.spsc_queue.proofs.AllLines.{if_false, found_room, looked_once}
-use Rattle.spsc_queue.proofs.CommonLines.{bumps, zeroes, tests, slot_stores, index_stores, sender_puts, sender_publishes}
-use Rattle.spsc_queue.proofs.CommonLines.{send_whole}
+use Rattle.spsc_queue.proofs.AllLines.{Spot, spot, to_line, to_ready, loads_to, stores_to, line_at, line_of, on, over, wraps_not, wraps, to_seen, to_no}
+use Rattle.spsc_queue.proofs.AllLines.{ready_5, ready_on, word_set, if_false, found_room, looked_once}
+use Rattle.spsc_queue.proofs.CommonLines.{bumps, zeroes, tests, slot_stores, index_stores, sender_puts, sender_publishes, send_whole}
 
 abbrev stores_of : RingBuffer → (w u : ℕ) → List Access
 stores_of r w u = store (write (r.slots + u) 4 w) ∷ store (write r.head 4 (next r u)) ∷ []

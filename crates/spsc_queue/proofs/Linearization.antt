@@ -1,7 +1,6 @@
 -- A queue that looks empty or full is so, as far as stores have landed, and what has landed is found.
 use Rattle.std.proofs.Common.{ℕ, suc, ◌+◌, ◌-◌, ◌/◌, ◌^◌, ◌<◌, ◌≤◌, ◌≡◌, ◌≢◌, not, Bool, true, false, if◌then◌else◌, inl, inr, Option, Some, None, List, []}
-use Rattle.std.proofs.Common.{◌∷◌, ◌++◌, length, refl, sym, ◌∙◌, ap, subst, arith}
-use Rattle.std.proofs.Common.{append-nil, append_assoc}
+use Rattle.std.proofs.Common.{◌∷◌, ◌++◌, length, refl, sym, ◌∙◌, ap, subst, arith, append-nil, append_assoc}
 use Rattle.std.specs.Prelude.{slice_index, All}
 use Rattle.std.specs.List.{filter}
 use Rattle.memory.specs.declared.writes.Write.{Write}

@@ -1,7 +1,6 @@
 -- What Lamport's parties know after a load, whichever word they load; and offsets of either kind.
-use Rattle.std.proofs.Common.{ℕ, ◌+◌, ◌*◌, ◌/◌, ◌%◌, ◌^◌, ◌<◌, ◌≡◌, ◌≢◌, ◌≤◌, ◌==◌, inl, inr}
-use Rattle.std.proofs.Common.{if◌then◌else◌, Option, Some, None, List, refl, sym, ◌∙◌, ap, subst}
-use Rattle.std.proofs.Common.{arith}
+use Rattle.std.proofs.Common.{ℕ, ◌+◌, ◌*◌, ◌/◌, ◌%◌, ◌^◌, ◌<◌, ◌≡◌, ◌≢◌, ◌≤◌, ◌==◌, inl, inr, if◌then◌else◌, Option, Some, None, List, refl, sym, ◌∙◌, ap}
+use Rattle.std.proofs.Common.{subst, arith}
 use Rattle.std.specs.Prelude.{All}
 use Rattle.std.proofs.Math.Nat.{add-mod_right}
 use Rattle.memory.specs.Writes.{IsWholeWord}
@@ -10,9 +9,8 @@ use Rattle.step_machine.specs.History.{OpeningValue}
 use Rattle.step_machine.specs.Entries.{memory_word, read}
 use Rattle.memory.specs.declared.writes.Write.{Write}
 use Rattle.spsc_queue.specs.RingBuffers.{Kind, lamport, fastforward, RingBuffer, IsRingBuffer, IsWordIn, slot_offset, slot_address, next}
-use Rattle.spsc_queue.specs.Protocol.{SenderState, placed, renewing, roomy, ReceiverState, asked}
-use Rattle.spsc_queue.specs.Protocol.{waiting, holding, ProtocolState}
-use Rattle.spsc_queue.specs.Protocol.{looks_for_room, looks_past_copy, looks_at, send_look, send_load, receive_look, receive_load}
+use Rattle.spsc_queue.specs.Protocol.{SenderState, placed, renewing, roomy, ReceiverState, asked, waiting, holding, ProtocolState, looks_for_room}
+use Rattle.spsc_queue.specs.Protocol.{looks_past_copy, looks_at, send_look, send_load, receive_look, receive_load}
 use Rattle.step_machine.proofs.Modulo.{offset_step, offset_wrap}
 use Rattle.spsc_queue.specs.Laws.{ready_by_state}
 use Rattle.spsc_queue.proofs.Words.{seen}

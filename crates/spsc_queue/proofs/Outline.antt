@@ -7,16 +7,13 @@ use Rattle.hart.specs.State.{HartState}
 use Rattle.hart.specs.Steps.{need_of, advanced}
 use Rattle.step_machine.specs.Access.{Access, load, store, exchange}
 use Rattle.spsc_queue.specs.RingBuffers.{Kind, lamport, fastforward, RingBuffer, next}
-use Rattle.spsc_queue.specs.Protocol.{SenderState, resting, placed, renewing, roomy, filled, ReceiverState, idle, asked}
-use Rattle.spsc_queue.specs.Protocol.{waiting, holding, cleared, ProtocolState, Role}
-use Rattle.spsc_queue.specs.Protocol.{sends, receives, room_at, says_full, watched_address}
-use Rattle.spsc_queue.specs.Protocol.{says_empty, looks_for_room, looks_past_copy, looks_for_word, next_by}
-use Rattle.spsc_queue.specs.Protocol.{IsSenderStore, IsReceiverStore}
+use Rattle.spsc_queue.specs.Protocol.{SenderState, resting, placed, renewing, roomy, filled, ReceiverState, idle, asked, waiting, holding, cleared}
+use Rattle.spsc_queue.specs.Protocol.{ProtocolState, Role, sends, receives, room_at, says_full, watched_address, says_empty, looks_for_room, looks_past_copy}
+use Rattle.spsc_queue.specs.Protocol.{looks_for_word, next_by, IsSenderStore, IsReceiverStore}
 use Rattle.spsc_queue.specs.Calls.{Block, Party, the_sender, the_receiver}
 use Rattle.spsc_queue.specs.CallEffects.{IsPlainNeed, sees_full, look_accesses, send_accesses, receive_accesses, IsFound, SendEffect, ReceiveEffect}
-use Rattle.spsc_queue.proofs.Courses.{At, at_00, at_04, at_08, at_0C, at_10, at_14, at_18, at_1C, at_20, at_24, at_28}
-use Rattle.spsc_queue.proofs.Courses.{at_2C, at_30, at_34, at_38, at_3C, at_40, number, moved, Course}
-use Rattle.spsc_queue.proofs.Courses.{went, Left, Frame}
+use Rattle.spsc_queue.proofs.Courses.{At, at_00, at_04, at_08, at_0C, at_10, at_14, at_18, at_1C, at_20, at_24, at_28, at_2C, at_30, at_34, at_38, at_3C, at_40}
+use Rattle.spsc_queue.proofs.Courses.{number, moved, Course, went, Left, Frame}
 use Rattle.spsc_queue.proofs.Cases.{IsLevel, IsWhole}
 
 -- a party's part of the protocol's state

@@ -7,20 +7,17 @@ use Rattle.step_machine.specs.declared.events.Entry.{Entry}
 use Rattle.step_machine.specs.Access.{Access, nothing, load, store, exchange, land, access_of}
 use Rattle.step_machine.specs.Entries.{hart_of}
 use Rattle.spsc_queue.specs.RingBuffers.{Kind, lamport, fastforward, RingBuffer, IsRingBuffer, overlaps}
-use Rattle.spsc_queue.specs.Protocol.{SenderState, resting, placed, renewing, roomy, filled, ReceiverState, idle, asked}
-use Rattle.spsc_queue.specs.Protocol.{waiting, holding, cleared, ProtocolState, Role}
-use Rattle.spsc_queue.specs.Protocol.{sends, receives, passes, role_of, looks_for_room, looks_past_copy, looks_at}
-use Rattle.spsc_queue.specs.Protocol.{looks_for_word, send_look, send_load, send_store, receive_look}
-use Rattle.spsc_queue.specs.Protocol.{receive_load, receive_store, room_at, says_full, says_empty, next_by, protocol_next, protocol_after, WritesNothingTo}
-use Rattle.spsc_queue.specs.Protocol.{KeepsProtocolBy, KeepsProtocol}
+use Rattle.spsc_queue.specs.Protocol.{SenderState, resting, placed, renewing, roomy, filled, ReceiverState, idle, asked, waiting, holding, cleared}
+use Rattle.spsc_queue.specs.Protocol.{ProtocolState, Role, sends, receives, passes, role_of, looks_for_room, looks_past_copy, looks_at, looks_for_word}
+use Rattle.spsc_queue.specs.Protocol.{send_look, send_load, send_store, receive_look, receive_load, receive_store, room_at, says_full, says_empty, next_by}
+use Rattle.spsc_queue.specs.Protocol.{protocol_next, protocol_after, WritesNothingTo, KeepsProtocolBy, KeepsProtocol}
 use Rattle.spsc_queue.specs.Calls.{Block, IsBlock, Party, the_sender, the_receiver, copy_in, ring_at}
 use Rattle.spsc_queue.proofs.Spread.{offset_low}
 use Rattle.spsc_queue.proofs.Cases.{chosen, either, IsLevel, IsWhole, by-send-load, by-receive-load}
 use Rattle.spsc_queue.proofs.Invariant.{IsPlaced}
 use Rattle.spsc_queue.proofs.Invariants.{IsAsked, Known}
-use Rattle.spsc_queue.proofs.Outline.{Part, part, role, Level, IsOffset, IsNear, IsFit, Near}
-use Rattle.spsc_queue.proofs.Outline.{first_look, index_at, look_at, Knows, Looked, MayStore}
-use Rattle.spsc_queue.proofs.Outline.{Stored, Does}
+use Rattle.spsc_queue.proofs.Outline.{Part, part, role, Level, IsOffset, IsNear, IsFit, Near, first_look, index_at, look_at, Knows, Looked, MayStore, Stored}
+use Rattle.spsc_queue.proofs.Outline.{Does}
 
 -- a copy lies 4 bytes after the base of a block of Lamport's
 pub copied_in : (K : Kind) (caches : Bool) (base c : ℕ) → copy_in K caches base ≡ Some c → (c ≡ base + 4) × (K ≡ lamport) × (caches ≡ true)

@@ -5,8 +5,7 @@ use Rattle.step_machine.specs.declared.events.Entry.{Entry}
 use Rattle.step_machine.specs.History.{OpeningValue}
 use Rattle.step_machine.specs.Entries.{own_stores, lands}
 use Rattle.spsc_queue.specs.RingBuffers.{Kind, lamport, fastforward, RingBuffer, IsRingBuffer, capacity_of, capacity}
-use Rattle.spsc_queue.specs.Protocol.{SenderState, roomy, ReceiverState}
-use Rattle.spsc_queue.specs.Protocol.{waiting, holding, ProtocolState, parties_after}
+use Rattle.spsc_queue.specs.Protocol.{SenderState, roomy, ReceiverState, waiting, holding, ProtocolState, parties_after}
 use Rattle.spsc_queue.specs.Laws.{FollowsSpscProtocol, available_of, available_count, known_count, known_by_state, ready_count, ready_by_state}
 use Rattle.spsc_queue.proofs.Rows.{Earlier}
 use Rattle.spsc_queue.proofs.Invariant.{spare, freed, there, they_made, Theirs, SendingIs, ReceivingIs, Invariant}

@@ -1,6 +1,5 @@
 -- A hart that a run leads to a state runs there, except where it wants to stop or to end.
-use Rattle.std.proofs.Common.{arith, ℕ, ◌*◌, ◌≡◌, ◌==◌, ◌⊎◌, inl, inr, false, if◌then◌else◌, List, [], ◌∷◌}
-use Rattle.std.proofs.Common.{length, Option, Some, None, refl, sym, subst}
+use Rattle.std.proofs.Common.{arith, ℕ, ◌*◌, ◌≡◌, ◌==◌, ◌⊎◌, inl, inr, false, if◌then◌else◌, List, [], ◌∷◌, length, Option, Some, None, refl, sym, subst}
 use Rattle.std.specs.Prelude.{nat_lt}
 use Rattle.std.proofs.lemmas.Bool.{eqb-true}
 use Rattle.std.proofs.lemmas.Bool.Decides.{nat_tests}

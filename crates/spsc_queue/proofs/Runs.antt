@@ -13,10 +13,9 @@ use Rattle.step_machine.specs.Legal.{AllowedBy, Allowed, LegalAfter, Legal}
 use Rattle.step_machine.proofs.Appended.{LegalAfter-front, LegalAfter-back, LegalAfter-append}
 use Rattle.step_machine.proofs.Balanced.{balanced}
 use Rattle.spsc_queue.specs.RingBuffers.{Kind, lamport, fastforward, RingBuffer, IsRingBuffer, IsWordIn, slot_address, waiting_words, IsQuiescent}
-use Rattle.spsc_queue.specs.Protocol.{SenderState, renewing, roomy, filled, ReceiverState, idle}
-use Rattle.spsc_queue.specs.Protocol.{holding, cleared, ProtocolState, parties_after}
-use Rattle.spsc_queue.specs.Protocol.{at_start, role_of, send_store, receive_store, next_by, protocol_next, protocol_after}
-use Rattle.spsc_queue.specs.Protocol.{WritesNothingTo, IsWordAt, IsSenderStore, IsTaking, IsReceiverStore, KeepsProtocolBy, KeepsProtocol}
+use Rattle.spsc_queue.specs.Protocol.{SenderState, renewing, roomy, filled, ReceiverState, idle, holding, cleared, ProtocolState, parties_after, at_start}
+use Rattle.spsc_queue.specs.Protocol.{role_of, send_store, receive_store, next_by, protocol_next, protocol_after, WritesNothingTo, IsWordAt, IsSenderStore}
+use Rattle.spsc_queue.specs.Protocol.{IsTaking, IsReceiverStore, KeepsProtocolBy, KeepsProtocol}
 use Rattle.spsc_queue.specs.Laws.{IsPrefix, FollowsSpscProtocol, available_count, available_words}
 use Rattle.store_buffers.proofs.Effects.{read-below}
 use Rattle.memory.proofs.Joined.{joined-below}

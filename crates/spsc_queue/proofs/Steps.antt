@@ -11,14 +11,12 @@ use Rattle.step_machine.specs.Access.{store, access_of}
 use Rattle.step_machine.specs.Entries.{hart_of, pending, memory_word, own_stores, lands}
 use Rattle.spsc_queue.specs.RingBuffers.{Kind, lamport, fastforward, RingBuffer, IsRingBuffer, IsWordIn, slot_offset, slot_address, next, overlaps}
 use Rattle.store_buffers.specs.StoreBuffers.{LeavesByte}
-use Rattle.spsc_queue.specs.Protocol.{SenderState, resting, renewing, roomy, filled, ReceiverState, idle, holding}
-use Rattle.spsc_queue.specs.Protocol.{cleared, ProtocolState, send_store, receive_store}
-use Rattle.spsc_queue.specs.Protocol.{IsWordAt, IsSendable, IsCopyStore, IsTaking}
+use Rattle.spsc_queue.specs.Protocol.{SenderState, resting, renewing, roomy, filled, ReceiverState, idle, holding, cleared, ProtocolState, send_store}
+use Rattle.spsc_queue.specs.Protocol.{receive_store, IsWordAt, IsSendable, IsCopyStore, IsTaking}
 use Rattle.spsc_queue.specs.Laws.{ready_by_state}
 use Rattle.spsc_queue.proofs.Words.{is_copy, shared, word_on}
 use Rattle.spsc_queue.proofs.Spread.{sent_store, freed_store, sent-slot, sent-head, offset_low}
-use Rattle.spsc_queue.proofs.Rows.{Earlier, Rows, Stays, rows-stay, words-stay}
-use Rattle.spsc_queue.proofs.Rows.{off-stays, kept-pending, more-of, sender-stores, receiver-stores}
+use Rattle.spsc_queue.proofs.Rows.{Earlier, Rows, Stays, rows-stay, words-stay, off-stays, kept-pending, more-of, sender-stores, receiver-stores}
 use Rattle.spsc_queue.proofs.Copies.{Copied, CopyStays, copied-on, own_read}
 use Rattle.spsc_queue.proofs.Invariant.{turned, zeros, cleared_store, Landed, firsts, spare, freed, there, their_store, they_made, Theirs, Words}
 use Rattle.spsc_queue.proofs.Invariant.{SendingIs, ReceivingIs, Invariant}

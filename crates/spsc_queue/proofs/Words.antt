@@ -1,8 +1,7 @@
 -- What a word of the block is after writes, of which those to the block are of whole words: whatever the others are,
 -- bytes or words, they leave it.
-use Rattle.std.proofs.Common.{ℕ, suc, ◌+◌, ◌-◌, ◌%◌, ◌<◌, ◌≤◌, ◌≡◌, ◌==◌, ◌&&◌, not, ◌⊎◌, inl, inr, Bool, true, false}
-use Rattle.std.proofs.Common.{if◌then◌else◌, List, [], ◌∷◌, Option, Some, None}
-use Rattle.std.proofs.Common.{refl, sym, ◌∙◌, ap, arith, length}
+use Rattle.std.proofs.Common.{ℕ, suc, ◌+◌, ◌-◌, ◌%◌, ◌<◌, ◌≤◌, ◌≡◌, ◌==◌, ◌&&◌, not, ◌⊎◌, inl, inr, Bool, true, false, if◌then◌else◌, List, [], ◌∷◌, Option}
+use Rattle.std.proofs.Common.{Some, None, refl, sym, ◌∙◌, ap, arith, length}
 use Rattle.std.specs.Prelude.{unwrap_or, All}
 use Rattle.std.specs.List.{filter}
 use Rattle.std.specs.Int.{byte_at}
