@@ -422,10 +422,16 @@ module _ (B : ℕ) (r : RingBuffer) (is : IsRingBuffer r) (o : OpeningValue) (es
   keeps-one keeps = by-access lamport r s (hart_of e) (λ t x z. access_of e ≡ x → AllowedBy B (pending (hart_of e) es) (read o es (hart_of e)) x
       → KeepsAccess q t c x × Agrees r o after (after_access q t x c) z)
       (λ t x off does allowed. quiet t x does off)
-      (λ mine a v does allowed. (tt, loads the_sender a v does (record s { sending = send_load lamport r a v s.sending })
-      (sender-loads a v (allowed ∙ ap (λ h. read o es h a 4) mine))))
-      (λ mine a v does allowed. (tt, loads the_receiver a v does (record s { receiving = receive_load lamport r a v s.receiving })
-      (receiver-loads a v (allowed ∙ ap (λ h. read o es h a 4) mine))))
+      (λ mine a v does allowed. (
+        tt,
+        loads the_sender a v does (record s { sending = send_load lamport r a v s.sending })
+            (sender-loads a v (allowed ∙ ap (λ h. read o es h a 4) mine)),
+      ))
+      (λ mine a v does allowed. (
+        tt,
+        loads the_receiver a v does (record s { receiving = receive_load lamport r a v s.receiving })
+            (receiver-loads a v (allowed ∙ ap (λ h. read o es h a 4) mine)),
+      ))
       (λ mine w on made does allowed. sender-stores w s.sending does mine refl holds.sending made)
       (λ mine w on made does allowed. receiver-stores w s.receiving does holds.receiving made)
       (access_of e) keeps refl can

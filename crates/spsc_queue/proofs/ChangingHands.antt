@@ -79,7 +79,8 @@ quiet k r is L c o es s inv level whole none =
       nonzero = inv.nonzero;
       free = λ kind j from below. inv.words.free kind j (omega (arith, from, all)) (omega (arith, below, landed.0));
       copy = λ a some.
-          let at = place a some (none r.sender) (subst (λ q. Copied k q r o es (s.stored + ready_by_state s.sending) (freed k inv.landed.theirs)) some inv.copy) in
+          let at = place a some (none r.sender)
+          (subst (λ q. Copied k q r o es (s.stored + ready_by_state s.sending) (freed k inv.landed.theirs)) some inv.copy) in
           (at.0, omega (arith, at.1), omega (arith, at.2, landed.0), at.3);
     }
 

@@ -47,8 +47,10 @@ row_apart r is L p J near = sent-cases r is L (λ w. w.addr ≢ slot_address r J
 -- what is in a slot after n stores of a row from the i-th on: none goes there, or just one that is a round before
 module _ (r : RingBuffer) (is : IsRingBuffer r) (L : ℕ → ℕ) (J v i n : ℕ) (upto : i + n ≤ 2 * J) where
   row-past : 2 * J < i + 2 * r.size → seen (slot_address r J) v (spread (sent_store r L) i n) ≡ v
-  row-past near = none-there (slot_address r J) v (sent_store r L) i n (λ p from below. row_apart r is L p J (λ even. (omega (arith, below, even, upto),
-      omega (arith, from, even, near))))
+  row-past near = none-there (slot_address r J) v (sent_store r L) i n (λ p from below. row_apart r is L p J (λ even. (
+    omega (arith, below, even, upto),
+    omega (arith, from, even, near),
+  )))
 
   row-last : (q : ℕ) → J ≡ q + r.size → i ≤ 2 * q → 2 * q < i + n → seen (slot_address r J) v (spread (sent_store r L) i n) ≡ L q
   row-last q again from below = last-there (slot_address r J) (L q) v (sent_store r L) i n (2 * q) from below

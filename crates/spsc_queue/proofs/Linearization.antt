@@ -93,7 +93,8 @@ module _ (r : RingBuffer) (is : IsRingBuffer r) (L : ℕ → ℕ) (small : (j : 
       let count = held (publishes lamport r) (λ p. p / 2) (copy_apart r r.head is.head) (counts-heads r is L) inv.rows.mine in
       omega (arith, count, inv.order.published_stored, inv.order.stored_published)
   words_held fastforward inv =
-      let count = held (publishes fastforward r) (λ p. (p + 1) / 2) (λ w. no_copy r (publishes fastforward r w) inv.copy w) (counts-slots r is L) inv.rows.mine in
+      let count = held (publishes fastforward r) (λ p. (p + 1) / 2) (λ w. no_copy r (publishes fastforward r w) inv.copy w) (counts-slots r is L)
+      inv.rows.mine in
       omega (arith, count, inv.order.published_stored, inv.order.stored_published)
 
   slots_held : (k : Kind) (inv : Invariant k r L c o es T)

@@ -173,7 +173,8 @@ module _ (r : RingBuffer) (is : IsRingBuffer r) (L : ℕ → ℕ) (small : (j : 
   -- the receiver reads its own tail, and all else as memory has it
   pub receiver-tail : read o es r.receiver r.tail 4 ≡ slot_offset r s.consumed
   receiver-tail = receiver-reads lamport r is L small c o es s inv r.tail is.tail
-      ∙ ap (λ v. seen r.tail v (spread (freed_store r) d.theirs (unread lamport s inv.landed))) inv.words.tail ∙ seen-tails r d.theirs (unread lamport s inv.landed)
+      ∙ ap (λ v. seen r.tail v (spread (freed_store r) d.theirs (unread lamport s inv.landed))) inv.words.tail
+      ∙ seen-tails r d.theirs (unread lamport s inv.landed)
       ∙ ap (slot_offset r) (omega (arith, inv.rows.theirs.landed))
 
   pub receiver-other : (a : ℕ) → IsWordIn r a → r.tail ≢ a → read o es r.receiver a 4 ≡ memory_word o es a

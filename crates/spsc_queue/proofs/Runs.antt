@@ -210,7 +210,8 @@ waiting-small r is o es quiet j = numbers-small (λ i. memory_word o es (slot_ad
 pub invariant-of : (B : ℕ) (r : RingBuffer) (o : OpeningValue) (before es fs : List Entry) → FollowsSpscProtocol B r o before (es ++ fs)
     → Invariant r.kind r (slice_index (parties_after r o before (es ++ fs)).sent) (earlier r before) o (before ++ es) (parties_after r o before es)
 invariant-of B r o before es fs t =
-    holds-after B r t.ring F (all.2 (waiting-small r t.ring o before t.rest)) (earlier r before) o before (at_start r o before) es (at_rest r.kind r t.ring (slice_index F) o before t.rest first refl)
+    holds-after B r t.ring F (all.2 (waiting-small r t.ring o before t.rest)) (earlier r before) o before (at_start r o before) es
+    (at_rest r.kind r t.ring (slice_index F) o before t.rest first refl)
     (LegalAfter-front B o [] before (es ++ fs) t.legal) (LegalAfter-front B o before es fs (LegalAfter-back B o [] before (es ++ fs) t.legal))
     (keeps-front r (at_start r o before) es fs t.keeps) (grown.0, is)
   where

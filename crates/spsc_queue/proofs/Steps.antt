@@ -129,7 +129,8 @@ module _ (K : Kind) (r : RingBuffer) (is : IsRingBuffer r) (L : ℕ → ℕ) (c 
 
     pub sends-head : hart_of e ≡ r.sender → (u : ℕ) → s.sending ≡ filled u → IsWordAt w r.head → w.value ≡ next r u
         → Invariant K r L c o after (send_store w (filled u) s)
-    sends-head mine u at word value = sends-one mine is_next resting s.stored (s.published + 1) s.sent (omega arith) (omega (arith, known.0)) (omega (arith, known.0))
+    sends-head mine u at word value =
+        sends-one mine is_next resting s.stored (s.published + 1) s.sent (omega arith) (omega (arith, known.0)) (omega (arith, known.0))
         inv.order.room inv.nonzero known.0 inv.sent (omega arith)
       where
         known : SendingIs (spare K) r s.stored s.published (freed K d.theirs) (filled u)
