@@ -84,10 +84,14 @@ Theirs fastforward n m = (m ≤ n) × (n ≤ m + 1)
 
 -- ---- the invariant
 
-pub record Order (K : Kind) (r : RingBuffer) (stored published taken consumed : ℕ) (d : Landed) : Type 0 where
+pub record Levels (K : Kind) (stored published taken consumed : ℕ) : Type 0 where
   pub published_stored : published ≤ stored
   pub stored_published : stored ≤ published + 1
   pub theirs : Theirs K taken consumed
+
+pub record Order (K : Kind) (r : RingBuffer) (stored published taken consumed : ℕ) (d : Landed) : Type 0 where
+  pub levels : Levels K stored published taken consumed
+  pub open levels use *
   pub taken_there : taken ≤ there K d.mine
   pub room : stored + spare K ≤ freed K d.theirs + r.size
 

@@ -132,9 +132,7 @@ at_rest k r is L o es quiet first kind =
     record {
       landed = record { mine = n + n; theirs = 0 };
       order = record {
-        published_stored = omega arith;
-        stored_published = omega arith;
-        theirs = none_theirs k;
+        levels = record { published_stored = omega arith; stored_published = omega arith; theirs = none_theirs k };
         taken_there = omega arith;
         room = omega (
           arith,

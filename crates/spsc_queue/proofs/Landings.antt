@@ -48,13 +48,7 @@ module _ (K : Kind) (r : RingBuffer) (is : IsRingBuffer r) (L : ℕ → ℕ) (sm
     mine-land : Words K r L (record { mine = suc d.mine; theirs = d.theirs }) (memory_word o after) → Invariant K r L c o after s
     mine-land words = record {
       landed = record { mine = suc d.mine; theirs = d.theirs };
-      order = record {
-        published_stored = inv.order.published_stored;
-        stored_published = inv.order.stored_published;
-        theirs = inv.order.theirs;
-        taken_there = omega (arith, inv.order.taken_there, more);
-        room = inv.order.room;
-      };
+      order = record { levels = inv.order.levels; taken_there = omega (arith, inv.order.taken_there, more); room = inv.order.room };
       words = words;
       nonzero = inv.nonzero;
       sending = inv.sending;
@@ -115,13 +109,7 @@ module _ (K : Kind) (r : RingBuffer) (is : IsRingBuffer r) (L : ℕ → ℕ) (sm
     pub theirs-land : Words K r L (record { mine = d.mine; theirs = suc d.theirs }) (memory_word o after) → Invariant K r L c o after s
     theirs-land words = record {
       landed = record { mine = d.mine; theirs = suc d.theirs };
-      order = record {
-        published_stored = inv.order.published_stored;
-        stored_published = inv.order.stored_published;
-        theirs = inv.order.theirs;
-        taken_there = inv.order.taken_there;
-        room = omega (arith, more, inv.order.room);
-      };
+      order = record { levels = inv.order.levels; taken_there = inv.order.taken_there; room = omega (arith, more, inv.order.room) };
       words = words;
       nonzero = inv.nonzero;
       sending = sending-more (spare K) r s.stored s.published n_freed (freed K (suc d.theirs)) s.sending more inv.sending;

@@ -86,9 +86,7 @@ module _ (K : Kind) (r : RingBuffer) (is : IsRingBuffer r) (L : ℕ → ℕ) (c 
     sends-one mine is_next p n m got one less near room nonzero sending sent few = record {
       landed = d;
       order = record {
-        published_stored = less;
-        stored_published = near;
-        theirs = inv.order.theirs;
+        levels = record { published_stored = less; stored_published = near; theirs = inv.order.theirs };
         taken_there = inv.order.taken_there;
         room = room;
       };
@@ -148,9 +146,7 @@ module _ (K : Kind) (r : RingBuffer) (is : IsRingBuffer r) (L : ℕ → ℕ) (c 
     takes-one mine is_next q n m got one theirs taken_there receiving received = record {
       landed = d;
       order = record {
-        published_stored = inv.order.published_stored;
-        stored_published = inv.order.stored_published;
-        theirs = theirs;
+        levels = record { published_stored = inv.order.published_stored; stored_published = inv.order.stored_published; theirs = theirs };
         taken_there = taken_there;
         room = inv.order.room;
       };
