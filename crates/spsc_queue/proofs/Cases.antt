@@ -30,6 +30,7 @@ pub either : {X A : Type 0} (P : X → Type 0) (b : Bool) (x y : X) → (P x →
 either P true x y one two h = one h
 either P false x y one two h = two h
 
+-- a truth value that can't be true, and one by cases
 pub never : (b : Bool) → (b ≡ true → ⊥) → b ≡ false
 never true wrong = absurd (wrong refl)
 never false wrong = refl

@@ -84,6 +84,7 @@ Theirs fastforward n m = (m ≤ n) × (n ≤ m + 1)
 
 -- ---- the invariant
 
+-- how a party's two counts may differ
 pub record Levels (K : Kind) (stored published taken consumed : ℕ) : Type 0 where
   pub published_stored : published ≤ stored
   pub stored_published : stored ≤ published + 1

@@ -143,10 +143,11 @@ module _ (K : Kind) (r : RingBuffer) where
       at (waiting u) l = chosen IsWhole (a == r.slots + u) (holding u v) (waiting u) tt tt
       at p l = l
 
-  -- outside of the functions no word becomes half passed, and none is passed
+  -- from t to z no word becomes half passed, and none is passed
   abbrev StillLevel : Party → (t z : ProtocolState) → Type 0
   StillLevel p t z = Level (part p z) × ((part p z).words ≡ (part p t).words)
 
+  -- so outside of the functions
   pub level-next : (p : Party) (t : ProtocolState) (x : Access) → WritesNothingTo r x → Level (part p t) → StillLevel p t (next_by K r (role p) t x)
   level-next the_sender t (load a width v) off level =
       chosen (StillLevel the_sender t) (width == 4) (record t { sending = send_load K r a v t.sending }) t
