@@ -27,9 +27,6 @@ split_on r w rest f i n on is = at n refl (sym (ap (λ b. if b then w ∷ row_of
     at zero e same = cc
     at (suc m) e same = (m, e, (let one : w ≡ f i = cc in one), (let more : row_of r rest ≡ spread f (suc i) m = cc in more))
 
-split_off : (r : RingBuffer) (w : Write) (rest : List Write) → shared r w ≡ false → row_of r (w ∷ rest) ≡ row_of r rest
-split_off r w rest off = ap (λ b. if b then w ∷ row_of r rest else row_of r rest) off
-
 -- how many stores to the block the parties had made before a run, and how many a sender makes of the words that waited there
 pub record Earlier : Type 0 where
   pub sender : ℕ

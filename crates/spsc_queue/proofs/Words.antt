@@ -41,9 +41,6 @@ pub copy_at : (o : Option ℕ) (w : Write) → is_copy o w ≡ true → (c : ℕ
 copy_at None w is = absurd (cc)
 copy_at (Some c) w is = let parts = both (w.addr == c) (w.width == 4) is in (c, refl, eqb-true w.addr c parts.0, eqb-true w.width 4 parts.1)
 
-pub shared_on : (r : RingBuffer) (w : Write) → shared r w ≡ true → overlaps r w ≡ true
-shared_on r w is = (both (overlaps r w) (not (is_copy r.copy w)) is).0
-
 pub off_shared : (r : RingBuffer) (w : Write) → overlaps r w ≡ false → shared r w ≡ false
 off_shared r w off = ap (λ b. b && not (is_copy r.copy w)) off
 
