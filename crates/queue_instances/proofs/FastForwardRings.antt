@@ -1,25 +1,23 @@
 -- Each run that keeps FastForward's protocol keeps that of slots that tell.
-use Rattle.std.proofs.Common.{ℕ, ◌+◌, ◌-◌, ◌*◌, ◌%◌, ◌^◌, ◌<◌, ◌≤◌, ◌≡◌, ◌==◌, ◌⊎◌, inl, inr, Bool, true, false, if◌then◌else◌}
+use Rattle.std.proofs.Common.{ℕ, ◌+◌, ◌-◌, ◌*◌, ◌%◌, ◌^◌, ◌<◌, ◌≤◌, ◌≡◌, ◌==◌, ◌⊎◌, inl, inr, true, false, if◌then◌else◌}
 use Rattle.std.proofs.Common.{List, [], ◌∷◌, ◌++◌, Option, Some, None, refl, sym, ◌∙◌, ap, subst, arith, append_assoc}
 use Rattle.std.specs.Prelude.{not}
-use Rattle.std.proofs.lemmas.Bool.{eqb-true, eq-eqb, ne_eqb}
+use Rattle.std.proofs.lemmas.Bool.{eq-eqb, ne_eqb}
 use Rattle.std.proofs.lemmas.Bool.Decides.{nat_tests}
-use Rattle.std.proofs.Math.Nat.{mod-lt, mod-eq_of_lt}
+use Rattle.std.proofs.Math.Nat.{mod-eq_of_lt}
 use Rattle.memory.specs.declared.writes.Write.{Write}
 use Rattle.memory.specs.Writes.{write}
 use Rattle.memory.proofs.Bytes.{covers-from}
 use Rattle.step_machine.specs.declared.events.Entry.{Entry}
 use Rattle.step_machine.specs.History.{OpeningValue}
-use Rattle.step_machine.specs.Access.{Access, nothing, load, store, exchange, fence, land, access_of}
+use Rattle.step_machine.specs.Access.{Access, load, store, exchange, access_of}
 use Rattle.step_machine.specs.Entries.{hart_of, pending, memory_word}
 use Rattle.spsc_queue.specs.RingBuffers.{lamport, fastforward, RingBuffer, IsRingBuffer, slot_offset, overlaps, slot_address, capacity_of, IsQuiescent}
-use Rattle.spsc_queue.specs.Protocol.{SenderState, resting, placed, renewing, roomy, filled, ReceiverState, idle, asked, waiting, holding, cleared}
-use Rattle.spsc_queue.specs.Protocol.{ProtocolState, at_start, parties_after, Role, sends, receives, passes, role_of, looks_at}
-use Rattle.spsc_queue.specs.Protocol.{send_look, send_load, send_store, receive_look, receive_load, receive_store, next_by, protocol_next}
-use Rattle.spsc_queue.specs.Protocol.{IsCopyStore, IsSenderStore}
-use Rattle.spsc_queue.specs.Protocol.{IsReceiverStore, KeepsProtocolBy, KeepsProtocol, IsWordAt}
+use Rattle.spsc_queue.specs.Protocol.{SenderState, placed, renewing, roomy, filled, ReceiverState, asked, waiting, holding, cleared, ProtocolState, at_start}
+use Rattle.spsc_queue.specs.Protocol.{parties_after, role_of, looks_at, send_look, send_load, send_store, receive_look, receive_load, receive_store, next_by}
+use Rattle.spsc_queue.specs.Protocol.{protocol_next, WritesNothingTo, IsCopyStore, IsSenderStore, IsReceiverStore, KeepsProtocolBy, KeepsProtocol, IsWordAt}
 use Rattle.spsc_queue.specs.Laws.{FollowsSpscProtocol}
-use Rattle.spsc_queue.proofs.Cases.{IsWhole, by-role, by-send-load, by-receive-load}
+use Rattle.spsc_queue.proofs.Cases.{IsWhole, by-test, by-access, by-send-load, by-receive-load}
 use Rattle.spsc_queue.proofs.Copies.{all-off}
 use Rattle.spsc_queue.proofs.Invariant.{IsPlaced}
 use Rattle.spsc_queue.proofs.Invariants.{IsAsked}
@@ -99,18 +97,12 @@ pub record Agrees (r : RingBuffer) (s : ProtocolState) (c : QueueCounts) : Type 
 more-sending : (size : ℕ) (c d : QueueCounts) (p : SenderState) → c.published ≡ d.published
     → c.known_taken ≤ d.known_taken → Sending size c p → Sending size d p
 more-sending size c d (roomy u) same more h = omega (arith, same, more, h)
-more-sending size c d resting same more h = tt
-more-sending size c d (placed u) same more h = tt
-more-sending size c d (renewing u v) same more h = tt
-more-sending size c d (filled u) same more h = tt
+more-sending size c d p same more h = h
 
 more-receiving : (n m : ℕ) (c d : QueueCounts) (p : ReceiverState) → c.taken ≡ d.taken
     → c.known_published ≤ d.known_published → Receiving n m c p → Receiving n m d p
 more-receiving n m c d (holding u w) same more h = (h.0, omega (arith, same, more, h.1))
-more-receiving n m c d (cleared u) same more h = h
-more-receiving n m c d idle same more h = h
-more-receiving n m c d (asked u) same more h = h
-more-receiving n m c d (waiting u) same more h = h
+more-receiving n m c d p same more h = h
 
 -- a load of the own position's tag that tells
 module _ (r : RingBuffer) (is : IsRingBuffer r) (p : Party) (c : QueueCounts) (v : ℕ) where
@@ -184,76 +176,47 @@ module _ (r : RingBuffer) (is : IsRingBuffer r) (kind : r.kind ≡ fastforward) 
   sends-look : (a v : ℕ) (p : SenderState) → IsPlaced r s.stored s.published p → Sending r.size (after_load q the_sender a 4 v c) p
       → Sending r.size (after_load q the_sender a 4 v c) (send_look fastforward r a v p)
   sends-look a v (placed u) at h = subst (λ t. Sending r.size (after_load q the_sender a 4 v c) (looks_at t fastforward r a u v))
-      (sym (no_copy r.copy refl)) (by (a == r.slots + u) refl (v == 0) refl)
-    where
-      by : (b : Bool) → (a == r.slots + u) ≡ b → (d : Bool) → (v == 0) ≡ d
-          → Sending r.size (after_load q the_sender a 4 v c) (if b then (if not d then placed u else roomy u) else placed u)
-      by true on true free = told-there the_sender a v (eqb-true a (r.slots + u) on ∙ sent_place u (at.1 ∙ ap (slot_offset r) (sym at.0))) free
-      by true on false full = tt
-      by false off d what = tt
-  sends-look a v resting at h = h
-  sends-look a v (renewing u w) at h = h
-  sends-look a v (roomy u) at h = h
-  sends-look a v (filled u) at h = h
+      (sym (no_copy r.copy refl))
+      (by-test (λ b. Sending r.size (after_load q the_sender a 4 v c) (if b then (if not (v == 0) then placed u else roomy u) else placed u)) a (r.slots + u)
+      (λ on. by-test (λ b. Sending r.size (after_load q the_sender a 4 v c) (if not b then placed u else roomy u)) v 0
+      (λ free. told-there the_sender a v (on ∙ sent_place u (at.1 ∙ ap (slot_offset r) (sym at.0))) (eq-eqb v 0 free)) (λ full. tt)) (λ off. tt))
+  sends-look a v p at h = h
 
   takes-look : (a v : ℕ) (p : ReceiverState) → IsAsked r s.consumed p → Receiving s.taken s.consumed (after_load q the_receiver a 4 v c) p
       → Receiving s.taken s.consumed (after_load q the_receiver a 4 v c) (receive_look fastforward r a v p)
-  takes-look a v (asked u) at h = by (a == r.slots + u) refl (v == 0) refl
-    where
-      by : (b : Bool) → (a == r.slots + u) ≡ b → (d : Bool) → (v == 0) ≡ d
-          → Receiving s.taken s.consumed (after_load q the_receiver a 4 v c) (if b then (if d then asked u else holding u v) else asked u)
-      by true on false full =
-          let d : (after_load q the_receiver a 4 v c).taken < owned_end (slots_of r) the_receiver (after_load q the_receiver a 4 v c) =
-          told-there the_receiver a v (eqb-true a (r.slots + u) on ∙ taken_place u (at ∙ ap (slot_offset r) (sym h))) (ap not full) in (h, omega (arith, d))
-      by true on true free = h
-      by false off d what = h
+  takes-look a v (asked u) at h =
+      let d : QueueCounts = after_load q the_receiver a 4 v c in
+      by-test (λ b. Receiving s.taken s.consumed d (if b then (if v == 0 then asked u else holding u v) else asked u)) a (r.slots + u)
+      (λ on. by-test (λ b. Receiving s.taken s.consumed d (if b then asked u else holding u v)) v 0 (λ free. h) (λ full.
+      (let owns : d.taken < owned_end (slots_of r) the_receiver d =
+      told-there the_receiver a v (on ∙ taken_place u (at ∙ ap (slot_offset r) (sym h))) (ap not (ne_eqb v 0 full)) in (h, omega (arith, owns)))))
+      (λ off. h)
   takes-look a v (waiting u) at h = absurd h
-  takes-look a v idle at h = h
-  takes-look a v (holding u w) at h = h
-  takes-look a v (cleared u) at h = h
+  takes-look a v p at h = h
 
-  sender-load : (a width v : ℕ) → Agrees r (next_by fastforward r sends s (load a width v)) (after_load q the_sender a width v c)
-  sender-load a width v = by (width == 4) refl
+  sender-load : (a v : ℕ) → Agrees r (record s { sending = send_load fastforward r a v s.sending }) (after_load q the_sender a 4 v c)
+  sender-load a v = let old = kept-load the_sender a 4 v in record {
+    published = old.published;
+    taken = old.taken;
+    sending = by-send-load fastforward r a v (Sending r.size (after_load q the_sender a 4 v c)) s.sending (λ level here. tt)
+        (sends-look a v s.sending at_slot old.sending);
+    receiving = old.receiving;
+  }
+
+  receiver-load : (a v : ℕ) → Agrees r (record s { receiving = receive_load fastforward r a v s.receiving }) (after_load q the_receiver a 4 v c)
+  receiver-load a v = let old = kept-load the_receiver a 4 v in record {
+    published = old.published;
+    taken = old.taken;
+    sending = old.sending;
+    receiving = by-receive-load fastforward r a v (Receiving s.taken s.consumed (after_load q the_receiver a 4 v c)) s.receiving
+        (λ whole here. level s.receiving whole agrees.receiving) (takes-look a v s.receiving at_word old.receiving);
+  }
     where
-      old : (k : ℕ) → Agrees r s (after_load q the_sender a k v c)
-      old k = kept-load the_sender a k v
-
-      by : (b : Bool) → (width == 4) ≡ b
-          → Agrees r (if b then record s { sending = send_load fastforward r a v s.sending } else s) (after_load q the_sender a width v c)
-      by false off = old width
-      by true on = subst (λ k. Agrees r (record s { sending = send_load fastforward r a v s.sending }) (after_load q the_sender a k v c))
-          (sym (eqb-true width 4 on)) (record {
-            published = (old 4).published;
-            taken = (old 4).taken;
-            sending = by-send-load fastforward r a v (Sending r.size (after_load q the_sender a 4 v c)) s.sending (λ level here. tt)
-                (sends-look a v s.sending at_slot (old 4).sending);
-            receiving = (old 4).receiving;
-          })
-
-  receiver-load : (a width v : ℕ) → Agrees r (next_by fastforward r receives s (load a width v)) (after_load q the_receiver a width v c)
-  receiver-load a width v = by (width == 4) refl
-    where
-      old : (k : ℕ) → Agrees r s (after_load q the_receiver a k v c)
-      old k = kept-load the_receiver a k v
-
       level : (p : ReceiverState) → IsWhole p → Receiving s.taken s.consumed c p → s.taken ≡ s.consumed
-      level idle whole h = h
-      level (asked u) whole h = h
       level (waiting u) whole h = absurd h
       level (holding u w) whole h = h.0
       level (cleared u) whole h = absurd whole
-
-      by : (b : Bool) → (width == 4) ≡ b
-          → Agrees r (if b then record s { receiving = receive_load fastforward r a v s.receiving } else s) (after_load q the_receiver a width v c)
-      by false off = old width
-      by true on = subst (λ k. Agrees r (record s { receiving = receive_load fastforward r a v s.receiving }) (after_load q the_receiver a k v c))
-          (sym (eqb-true width 4 on)) (record {
-            published = (old 4).published;
-            taken = (old 4).taken;
-            sending = (old 4).sending;
-            receiving = by-receive-load fastforward r a v (Receiving s.taken s.consumed (after_load q the_receiver a 4 v c)) s.receiving
-                (λ whole here. level s.receiving whole agrees.receiving) (takes-look a v s.receiving at_word (old 4).receiving);
-          })
+      level p whole h = h
 
   kept-store : (p : Party) (w : Write) → KeepsOff (slots_of r) w → Agrees r s (after_store q p w c)
   kept-store the_sender w keeps = kept (after_store q the_sender w c)
@@ -268,137 +231,77 @@ module _ (r : RingBuffer) (is : IsRingBuffer r) (kind : r.kind ≡ fastforward) 
         | inr l ↦ omega (arith, l, part.0, part.1, word.place, word.width, within.0, within.1)
       ]
 
-  on-block : (w : Write) (a : ℕ) → IsWordAt w a → r.first ≤ a → a + 4 ≤ r.end → overlaps r w ≡ true
-  on-block w a word above below = grind (arith, nat_tests, above, below, word.place, word.width)
-
-  slot-on : (n : ℕ) (w : Write) → IsWordAt w (tag_of (slots_of r) n) → overlaps r w ≡ true
-  slot-on n w word =
-      let low : n % r.size < r.size = mod-lt n (omega (arith, is.some_slots)) in
-      on-block w (tag_of (slots_of r) n) word (omega (arith, is.slots_above)) (omega (arith, low, is.slots_below))
-
   sender-made : (w : Write) (p : SenderState) → IsPlaced r s.stored s.published p → Sending r.size c p → IsSenderStore fastforward r p w
-      → MayStore (slots_of r) the_sender c w × Agrees r (if overlaps r w then send_store w p s else s) (after_store q the_sender w c)
-  sender-made w resting at h made = absurd made
-  sender-made w (placed u) at h made = absurd made
+      → MayStore (slots_of r) the_sender c w × Agrees r (send_store w p s) (after_store q the_sender w c)
   sender-made w (renewing u v) at h made = absurd (subst (λ t. IsCopyStore t v w) (no_copy r.copy refl) made)
   sender-made w (filled u) at h made =
       let off : KeepsOff (slots_of r) w = word-off w r.head made.0 is.head_apart in
-      let old : Agrees r s (after_store q the_sender w c) = kept-store the_sender w off in (
-        inr (λ x on. inl (off x on)),
-        subst (λ b. Agrees r (if b then send_store w (filled u) s else s) (after_store q the_sender w c))
-            (sym (on-block w r.head made.0 is.head.above is.head.below))
-            (record { published = old.published; taken = old.taken; sending = tt; receiving = old.receiving }),
-      )
+      let old : Agrees r s (after_store q the_sender w c) = kept-store the_sender w off in
+      (inr (λ x on. inl (off x on)), record { published = old.published; taken = old.taken; sending = tt; receiving = old.receiving })
   sender-made w (roomy u) at h made =
       let place : w.addr ≡ tag_of (slots_of r) c.published = made.0.place ∙ sent_place u (at.1 ∙ ap (slot_offset r) (sym at.0)) in
       let tells : not (w.value % 256 ^ 4 == 0) ≡ true = ap (λ v. not (v == 0)) (mod-eq_of_lt (small made.1)) ∙ ap not (ne_eqb w.value 0 made.2) in
       let tag : IsTagStore (slots_of r) the_sender c.published w = record { place = place; width = made.0.width; word = tells } in
       let more : moved (slots_of r) c.published w ≡ c.published + 1 = moved-tag (slots_of r) good the_sender c.published c.published w tag in (
         inl (record { tag = tag; owned = h }),
-        subst (λ b. Agrees r (if b then send_store w (roomy u) s else s) (after_store q the_sender w c))
-            (sym (slot-on c.published w (record { place = place; width = made.0.width })))
-            (record {
-              published = more ∙ (let n : c.published ≡ r.start + s.stored = agrees.published in omega (arith, n));
-              taken = agrees.taken;
-              sending = tt;
-              receiving = more-receiving s.taken s.consumed c (after_store q the_sender w c) s.receiving refl (omega arith) agrees.receiving;
-            }),
+        record {
+          published = more ∙ (let n : c.published ≡ r.start + s.stored = agrees.published in omega (arith, n));
+          taken = agrees.taken;
+          sending = tt;
+          receiving = more-receiving s.taken s.consumed c (after_store q the_sender w c) s.receiving refl (omega arith) agrees.receiving;
+        },
       )
     where
       small : w.value < 2 ^ 32 → w.value < 256 ^ 4
       small lt = omega (arith, lt)
+  sender-made w p at h made = absurd made
 
   receiver-made : (w : Write) (p : ReceiverState) → IsAsked r s.consumed p → Receiving s.taken s.consumed c p → IsReceiverStore fastforward r p w
-      → MayStore (slots_of r) the_receiver c w × Agrees r (if overlaps r w then receive_store fastforward p s else s) (after_store q the_receiver w c)
-  receiver-made w idle at h made = absurd made
-  receiver-made w (asked u) at h made = absurd made
-  receiver-made w (waiting u) at h made = absurd h
+      → MayStore (slots_of r) the_receiver c w × Agrees r (receive_store fastforward p s) (after_store q the_receiver w c)
   receiver-made w (cleared u) at h made =
       let off : KeepsOff (slots_of r) w = word-off w r.tail made.0 is.tail_apart in
-      let old : Agrees r s (after_store q the_receiver w c) = kept-store the_receiver w off in (
-        inr (λ x on. inl (off x on)),
-        subst (λ b. Agrees r (if b then receive_store fastforward (cleared u) s else s) (after_store q the_receiver w c))
-            (sym (on-block w r.tail made.0 is.tail.above is.tail.below))
-            (record { published = old.published; taken = old.taken; sending = old.sending; receiving = h }),
-      )
+      let old : Agrees r s (after_store q the_receiver w c) = kept-store the_receiver w off in
+      (inr (λ x on. inl (off x on)), record { published = old.published; taken = old.taken; sending = old.sending; receiving = h })
   receiver-made w (holding u v) at h made =
       let place : w.addr ≡ tag_of (slots_of r) c.taken = made.0.place ∙ taken_place u (at ∙ ap (slot_offset r) (sym h.0)) in
       let tells : (w.value % 256 ^ 4 == 0) ≡ true = ap (λ v. v % 256 ^ 4 == 0) made.1 in
       let tag : IsTagStore (slots_of r) the_receiver c.taken w = record { place = place; width = made.0.width; word = tells } in
       let more : moved (slots_of r) c.taken w ≡ c.taken + 1 = moved-tag (slots_of r) good the_receiver c.taken c.taken w tag in (
         inl (record { tag = tag; owned = omega (arith, h.1) }),
-        subst
-            (λ b. Agrees r (if b then receive_store fastforward (holding u v) s else s) (after_store q the_receiver w c))
-            (sym (slot-on c.taken w (record { place = place; width = made.0.width })))
-            (record {
-              published = agrees.published;
-              taken = more ∙ (let n : c.taken ≡ r.start + s.taken = agrees.taken in omega (arith, n));
-              sending = more-sending r.size c (after_store q the_receiver w c) s.sending refl (omega arith) agrees.sending;
-              receiving = ap (λ n. n + 1) h.0;
-            }),
+        record {
+          published = agrees.published;
+          taken = more ∙ (let n : c.taken ≡ r.start + s.taken = agrees.taken in omega (arith, n));
+          sending = more-sending r.size c (after_store q the_receiver w c) s.sending refl (omega arith) agrees.sending;
+          receiving = ap (λ n. n + 1) h.0;
+        },
       )
-
-  sender-store : (w : Write) → (overlaps r w ≡ false) ⊎ IsSenderStore fastforward r s.sending w
-      → MayStore (slots_of r) the_sender c w × Agrees r (if overlaps r w then send_store w s.sending s else s) (after_store q the_sender w c)
-  sender-store w (inr made) = sender-made w s.sending at_slot agrees.sending made
-  sender-store w (inl off) = (
-    inr (λ x on. inl (off-keeps r is w off x on)),
-    subst (λ b. Agrees r (if b then send_store w s.sending s else s) (after_store q the_sender w c)) (sym off) (kept-store the_sender w (off-keeps r is w off)),
-  )
-
-  receiver-store : (w : Write) → (overlaps r w ≡ false) ⊎ IsReceiverStore fastforward r s.receiving w
-      → MayStore (slots_of r) the_receiver c w × Agrees r (if overlaps r w then receive_store fastforward s.receiving s else s) (after_store q the_receiver w c)
-  receiver-store w (inr made) = receiver-made w s.receiving at_word agrees.receiving made
-  receiver-store w (inl off) = (
-    inr (λ x on. inl (off-keeps r is w off x on)),
-    subst (λ b. Agrees r (if b then receive_store fastforward s.receiving s else s) (after_store q the_receiver w c))
-        (sym off) (kept-store the_receiver w (off-keeps r is w off)),
-  )
+  receiver-made w p at h made = absurd made
 
 module _ (r : RingBuffer) (is : IsRingBuffer r) (kind : r.kind ≡ fastforward) (s : ProtocolState) (c : QueueCounts) (agrees : Agrees r s c)
     (at_slot : IsPlaced r s.stored s.published s.sending) (at_word : IsAsked r s.consumed s.receiving) where
-  exchanged : (p : Party) (a old new : ℕ) → overlaps r (write a 4 new) ≡ false
-      → MayStore (slots_of r) p (after_load (slots_of r) p a 4 old c) (write a 4 new)
-      × Agrees r s (after_store (slots_of r) p (write a 4 new) (after_load (slots_of r) p a 4 old c))
-  exchanged p a old new off = (
+  abbrev Kept : Option Party → Access → ProtocolState → Type 0
+  Kept t x z = TellsAccess (slots_of r) t c x × Agrees r z (told_access (slots_of r) t x c)
+
+  -- an access that writes nothing to the block
+  quiet : (t : Option Party) (x : Access) → WritesNothingTo r x → Kept t x s
+  quiet (Some p) (load a width v) off = (tt, kept-load r is kind s c agrees at_slot at_word p a width v)
+  quiet (Some p) (store w) off =
+      (inr (λ x on. inl (off-keeps r is w off x on)), kept-store r is kind s c agrees at_slot at_word p w (off-keeps r is w off))
+  quiet (Some p) (exchange a old new) off = (
     inr (λ x on. inl (off-keeps r is (write a 4 new) off x on)),
     kept-store r is kind s (after_load (slots_of r) p a 4 old c) (kept-load r is kind s c agrees at_slot at_word p a 4 old) at_slot at_word p (write a 4 new)
         (off-keeps r is (write a 4 new) off),
   )
-
-  abbrev Kept : Role → Option Party → Access → Type 0
-  Kept role t x = TellsAccess (slots_of r) t c x × Agrees r (next_by fastforward r role s x) (told_access (slots_of r) t x c)
-
-  sender-keeps : (x : Access) → KeepsProtocolBy fastforward r sends s x → Kept sends (Some the_sender) x
-  sender-keeps nothing keeps = (tt, agrees)
-  sender-keeps (load a width v) keeps = (tt, sender-load r is kind s c agrees at_slot at_word a width v)
-  sender-keeps (store w) keeps = sender-store r is kind s c agrees at_slot at_word w keeps
-  sender-keeps (exchange a old new) keeps = exchanged the_sender a old new keeps
-  sender-keeps (fence full) keeps = (tt, agrees)
-  sender-keeps land keeps = (tt, agrees)
-
-  receiver-keeps : (x : Access) → KeepsProtocolBy fastforward r receives s x → Kept receives (Some the_receiver) x
-  receiver-keeps nothing keeps = (tt, agrees)
-  receiver-keeps (load a width v) keeps = (tt, receiver-load r is kind s c agrees at_slot at_word a width v)
-  receiver-keeps (store w) keeps = receiver-store r is kind s c agrees at_slot at_word w keeps
-  receiver-keeps (exchange a old new) keeps = exchanged the_receiver a old new keeps
-  receiver-keeps (fence full) keeps = (tt, agrees)
-  receiver-keeps land keeps = (tt, agrees)
-
-  passes-keep : (x : Access) → KeepsProtocolBy fastforward r passes s x → Kept passes None x
-  passes-keep nothing keeps = (tt, agrees)
-  passes-keep (load a width v) keeps = (tt, agrees)
-  passes-keep (store w) keeps = (off-keeps r is w keeps, agrees)
-  passes-keep (exchange a old new) keeps = (off-keeps r is (write a 4 new) keeps, agrees)
-  passes-keep (fence full) keeps = (tt, agrees)
-  passes-keep land keeps = (tt, agrees)
+  quiet None (store w) off = (off-keeps r is w off, agrees)
+  quiet None (exchange a old new) off = (off-keeps r is (write a 4 new) off, agrees)
+  quiet t x off = (tt, agrees)
 
   keeps-one : (e : Entry) → KeepsProtocolBy fastforward r (role_of r (hart_of e)) s (access_of e)
-      → TellsAccess (slots_of r) (teller_of (slots_of r) (hart_of e)) c (access_of e)
-      × Agrees r (next_by fastforward r (role_of r (hart_of e)) s (access_of e)) (after_entry (slots_of r) c e)
-  keeps-one e = by-role r (hart_of e) (λ role t. KeepsProtocolBy fastforward r role s (access_of e) → Kept role t (access_of e))
-      (λ at. sender-keeps (access_of e)) (λ other at. receiver-keeps (access_of e))
-      (λ other another. passes-keep (access_of e))
+      → Kept (teller_of (slots_of r) (hart_of e)) (access_of e) (next_by fastforward r (role_of r (hart_of e)) s (access_of e))
+  keeps-one e = by-access fastforward r s (hart_of e) Kept quiet (λ mine a v. (tt, sender-load r is kind s c agrees at_slot at_word a v))
+      (λ mine a v. (tt, receiver-load r is kind s c agrees at_slot at_word a v))
+      (λ mine w on made. sender-made r is kind s c agrees at_slot at_word w s.sending at_slot agrees.sending made)
+      (λ mine w on made. receiver-made r is kind s c agrees at_slot at_word w s.receiving at_word agrees.receiving made) (access_of e)
 
 keeps-all : (B : ℕ) (r : RingBuffer) (o : OpeningValue) (before done es : List Entry) (c : QueueCounts)
     → r.kind ≡ fastforward → FollowsSpscProtocol B r o before (done ++ es)

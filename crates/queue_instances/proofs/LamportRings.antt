@@ -1,31 +1,28 @@
 -- Each run that keeps Lamport's protocol, also of a sender that keeps a copy of the tail, keeps the protocol of ownership.
-use Rattle.std.proofs.Common.{ℕ, ◌+◌, ◌-◌, ◌*◌, ◌%◌, ◌<◌, ◌≤◌, ◌≡◌, ◌≢◌, ◌==◌, ◌&&◌, ◌⊎◌, inl, inr, Bool, true, false, if◌then◌else◌}
+use Rattle.std.proofs.Common.{ℕ, ◌+◌, ◌-◌, ◌*◌, ◌%◌, ◌<◌, ◌≤◌, ◌≡◌, ◌≢◌, ◌==◌, ◌&&◌, ◌⊎◌, inl, inr, false, if◌then◌else◌}
 use Rattle.std.proofs.Common.{List, [], ◌∷◌, ◌++◌, length, Option, Some, None, refl, sym, ◌∙◌, ap, subst, arith}
-use Rattle.std.proofs.lemmas.Bool.{cases_lt, eqb-true, eqb-false, eq-eqb}
+use Rattle.std.proofs.lemmas.Bool.{cases_lt, eq-eqb}
 use Rattle.std.proofs.lemmas.Bool.Decides.{nat_tests}
 use Rattle.memory.specs.declared.writes.Write.{Write}
 use Rattle.memory.specs.Writes.{write}
 use Rattle.memory.proofs.Bytes.{covers-from}
 use Rattle.step_machine.specs.declared.events.Entry.{Entry}
 use Rattle.step_machine.specs.History.{OpeningValue, history_of}
-use Rattle.step_machine.specs.Access.{Access, nothing, load, store, exchange, fence, land, access_of}
+use Rattle.step_machine.specs.Access.{Access, load, store, exchange, access_of}
 use Rattle.step_machine.specs.Entries.{hart_of, pending, memory_byte, read, own_stores, lands, write_of}
 use Rattle.step_machine.specs.Legal.{AllowedBy, Allowed, LegalAfter, Legal}
 use Rattle.step_machine.proofs.Appended.{LegalAfter-front, LegalAfter-back, LegalAfter-append}
 use Rattle.step_machine.proofs.Balanced.{balanced}
-use Rattle.store_buffers.specs.StoreBuffers.{LeavesByteBy}
 use Rattle.queue_parties.specs.Parties.{Party, the_sender, the_receiver, other, QueueCounts, count, with_known, known}
 use Rattle.queue_parties.proofs.Parties.{harts-apart, count-set, Grows}
 use Rattle.spsc_queue.specs.RingBuffers.{lamport, RingBuffer, IsRingBuffer, slot_offset, slot_address, next, overlaps, capacity_of}
-use Rattle.spsc_queue.specs.Protocol.{SenderState, resting, placed, renewing, roomy, filled, ReceiverState, idle, asked, waiting, holding, cleared}
-use Rattle.spsc_queue.specs.Protocol.{ProtocolState, at_start, sends, receives, passes, role_of, send_load, send_store, receive_look, receive_load}
-use Rattle.spsc_queue.specs.Protocol.{receive_store, next_by, protocol_next, IsWordAt, IsCopyStore, IsSenderStore, IsReceiverStore, KeepsProtocolBy}
-use Rattle.spsc_queue.specs.Protocol.{KeepsProtocol}
+use Rattle.spsc_queue.specs.Protocol.{SenderState, renewing, roomy, filled, ReceiverState, idle, asked, waiting, holding, cleared}
+use Rattle.spsc_queue.specs.Protocol.{ProtocolState, at_start, role_of, send_load, send_store, receive_look, receive_load, receive_store, next_by}
+use Rattle.spsc_queue.specs.Protocol.{protocol_next, WritesNothingTo, IsWordAt, IsCopyStore, IsSenderStore, IsReceiverStore, KeepsProtocolBy, KeepsProtocol}
 use Rattle.spsc_queue.specs.Laws.{FollowsSpscProtocol, ready_by_state}
-use Rattle.spsc_queue.proofs.Cases.{by-role, by-receive-load}
-use Rattle.spsc_queue.proofs.Words.{word_overlaps}
+use Rattle.spsc_queue.proofs.Cases.{chosen, by-test, by-access, by-receive-load}
 use Rattle.spsc_queue.proofs.Invariant.{SendingIs, sending-more}
-use Rattle.spsc_queue.proofs.Copies.{Copied, CopyStays, copied-on, copied-more, copy-at-rest, all-off, leaves, off_leave, exchange_leave, word_leave}
+use Rattle.spsc_queue.proofs.Copies.{Copied, CopyStays, copied-on, copied-more, copy-at-rest, all-off, off_leave, word_leave}
 use Rattle.spsc_queue.proofs.Loads.{next_offset, slot_word, knows-more}
 use Rattle.spsc_queue.proofs.Steps.{copied-anew}
 use Rattle.slot_queue.specs.Queues.{Queue, index_word, least, IsQueue, KeepsOff, IsAtRest}
@@ -87,16 +84,18 @@ Receiving r n k (cleared u) = ⊥
 receiving-more : (r : RingBuffer) (n k l : ℕ) (p : ReceiverState) → k ≤ l → Receiving r n k p → Receiving r n l p
 receiving-more r n k l (waiting u) le h = (h.0, omega (arith, le, h.1))
 receiving-more r n k l (holding u w) le h = (h.0, omega (arith, le, h.1))
-receiving-more r n k l idle le h = h
-receiving-more r n k l (asked u) le h = h
-receiving-more r n k l (cleared u) le h = h
+receiving-more r n k l p le h = h
 
--- the state of the protocol agrees with the counts
-pub record Agrees (r : RingBuffer) (o : OpeningValue) (es : List Entry) (c : QueueCounts) (s : ProtocolState) : Type 0 where
-  pub published : c.published ≡ r.start + s.published
-  pub taken : c.taken ≡ r.start + s.taken
+-- the state of the protocol, in which n words are stored, m published and k taken, agrees with the counts
+pub record Numbers (r : RingBuffer) (c : QueueCounts) (n m k : ℕ) : Type 0 where
+  pub published : c.published ≡ r.start + m
+  pub taken : c.taken ≡ r.start + k
   pub begun : r.start ≤ c.known_taken
-  pub room : s.stored + 1 ≤ freed_known r c + r.size
+  pub room : n + 1 ≤ freed_known r c + r.size
+
+pub record Agrees (r : RingBuffer) (o : OpeningValue) (es : List Entry) (c : QueueCounts) (s : ProtocolState) : Type 0 where
+  pub numbers : Numbers r c s.stored s.published s.taken
+  pub open numbers use *
   pub sending : SendingIs 1 r s.stored s.published (freed_known r c) s.sending
   pub copied : Copied lamport r.copy r o es (s.stored + ready_by_state s.sending) (freed_known r c)
   pub receiving : Receiving r s.taken (c.known_published - r.start) s.receiving
@@ -143,10 +142,12 @@ module _ (r : RingBuffer) (is : IsRingBuffer r) (o : OpeningValue) (es : List En
       let more : c.known_taken ≤ d.known_taken = grows.knows the_sender in
       let heard : c.known_published ≤ d.known_published = grows.knows the_receiver in
       record {
-        published = one ∙ holds.published;
-        taken = two ∙ holds.taken;
-        begun = omega (arith, holds.begun, more);
-        room = omega (arith, holds.room, more);
+        numbers = record {
+          published = one ∙ holds.published;
+          taken = two ∙ holds.taken;
+          begun = omega (arith, holds.begun, more);
+          room = omega (arith, holds.room, more);
+        };
         sending = sending-more 1 r s.stored s.published (freed_known r c) (freed_known r d) s.sending (omega (arith, more)) holds.sending;
         copied = copied-more r.copy r o es (s.stored + ready_by_state s.sending) (freed_known r c)
             (s.stored + ready_by_state s.sending) (freed_known r d) (omega arith) (omega (arith, more)) holds.copied;
@@ -170,10 +171,7 @@ module _ (r : RingBuffer) (is : IsRingBuffer r) (o : OpeningValue) (es : List En
   -- an entry that leaves the copy
   pub onward : (e : Entry) → CopyStays r o es (es ++ e ∷ []) → Agrees r o (es ++ e ∷ []) c s
   onward e copy = record {
-    published = holds.published;
-    taken = holds.taken;
-    begun = holds.begun;
-    room = holds.room;
+    numbers = holds.numbers;
     sending = holds.sending;
     copied = copied-on lamport r.copy r o es (es ++ e ∷ []) (s.stored + ready_by_state s.sending) (freed_known r c)
         (s.stored + ready_by_state s.sending) (freed_known r c) refl copy (omega arith) (omega arith) holds.copied;
@@ -219,10 +217,7 @@ module _ (B : ℕ) (r : RingBuffer) (is : IsRingBuffer r) (o : OpeningValue) (es
   sender-loads : (a v : ℕ) → v ≡ read o es r.sender a 4
       → Agrees r o es (after_load q the_sender a 4 v c) (record s { sending = send_load lamport r a v s.sending })
   sender-loads a v is_read = record {
-    published = old.published;
-    taken = old.taken;
-    begun = old.begun;
-    room = old.room;
+    numbers = old.numbers;
     sending = knows.0;
     copied = knows.1;
     receiving = old.receiving;
@@ -254,10 +249,7 @@ module _ (B : ℕ) (r : RingBuffer) (is : IsRingBuffer r) (o : OpeningValue) (es
   receiver-loads : (a v : ℕ) → v ≡ read o es r.receiver a 4
       → Agrees r o es (after_load q the_receiver a 4 v c) (record s { receiving = receive_load lamport r a v s.receiving })
   receiver-loads a v is_read = record {
-    published = old.published;
-    taken = old.taken;
-    begun = old.begun;
-    room = old.room;
+    numbers = old.numbers;
     sending = old.sending;
     copied = old.copied;
     receiving = by-receive-load lamport r a v Has s.receiving (λ whole here.
@@ -290,17 +282,10 @@ module _ (B : ℕ) (r : RingBuffer) (is : IsRingBuffer r) (o : OpeningValue) (es
           (h, omega (arith, some, knows, holds.taken, high.count_end, low.known_there))
 
       look : (p : ReceiverState) → Had p → Has (receive_look lamport r a v p)
-      look (asked u) h = by (a == r.head) refl (v == u) refl
-        where
-          by : (b : Bool) → (a == r.head) ≡ b → (f : Bool) → (v == u) ≡ f → Has (if b then (if f then asked u else waiting u) else asked u)
-          by true here false apart = there u (eqb-true a r.head here) (eqb-false v u apart) h
-          by true here true level = same (asked u) h
-          by false away f level = same (asked u) h
-      look (waiting u) h = by (a == r.slots + u)
-        where
-          by : (b : Bool) → Has (if b then holding u v else waiting u)
-          by true = same (holding u v) h
-          by false = same (waiting u) h
+      look (asked u) h = by-test (λ b. Has (if b then (if v == u then asked u else waiting u) else asked u)) a r.head
+          (λ here. by-test (λ b. Has (if b then asked u else waiting u)) v u (λ level. same (asked u) h) (λ apart. there u here apart h))
+          (λ away. same (asked u) h)
+      look (waiting u) h = chosen Has (a == r.slots + u) (holding u v) (waiting u) (same (holding u v) h) (same (waiting u) h)
       look idle h = tt
       look (holding u w) h = same (holding u w) h
       look (cleared u) h = absurd h
@@ -340,180 +325,116 @@ module _ (B : ℕ) (r : RingBuffer) (is : IsRingBuffer r) (o : OpeningValue) (es
         byte = (omega (arith, part.0, at.place, here), omega (arith, part.1, at.place, at.width, here));
       })
 
-  abbrev Kept : Party → Access → ProtocolState → Type 0
-  Kept p x t = KeepsAccess q (Some p) c x × Agrees r o after (after_access q (Some p) x c) t
+  -- an access that writes nothing to the block
+  quiet : (t : Option Party) (x : Access) → access_of e ≡ x → WritesNothingTo r x → KeepsAccess q t c x × Agrees r o after (after_access q t x c) s
+  quiet t x does off = (may t x off, onward r is o es s (after_access q t x c) (same t x off) e (off_leave B r is o es e even can x does off))
+    where
+      may : (t : Option Party) (x : Access) → WritesNothingTo r x → KeepsAccess q t c x
+      may (Some p) (store w) off = inr (off-fills p c w off)
+      may (Some p) (exchange a old new) off = inr (inr (off-fills p (after_load q p a 4 old c) (write a 4 new) off))
+      may None (store w) off = off-keeps r is w off
+      may None (exchange a old new) off = inr (off-keeps r is (write a 4 new) off)
+      may t x off = tt
+
+      same : (t : Option Party) (x : Access) → WritesNothingTo r x → Agrees r o es (after_access q t x c) s
+      same (Some p) (load a width v) off = loaded r is o es s c holds p a width v
+      same (Some p) (store w) off = stored r is o es s c holds p w (off-fills p c w off)
+      same (Some p) (exchange a old new) off =
+          let looks : QueueCounts = after_load q p a 4 old c in
+          stored r is o es s looks (loaded r is o es s c holds p a 4 old) p (write a 4 new) (off-fills p looks (write a 4 new) off)
+      same t x off = holds
+
+  abbrev Kept : Party → Write → ProtocolState → Type 0
+  Kept p w t = MayStore q p c w × Agrees r o after (after_store q p w c) t
 
   sender-stores : (w : Write) (p : SenderState) → access_of e ≡ store w → hart_of e ≡ r.sender → s.sending ≡ p
-      → SendingIs 1 r s.stored s.published (freed_known r c) p → (overlaps r w ≡ false) ⊎ IsSenderStore lamport r p w
-      → Kept the_sender (store w) (if overlaps r w then send_store w p s else s)
-  sender-stores w p does mine at h (inl off) = (
-    inr (off-fills the_sender c w off),
-    subst (λ b. Agrees r o after (after_store q the_sender w c) (if b then send_store w p s else s)) (sym off)
-        (onward r is o es s (after_store q the_sender w c) (stored r is o es s c holds the_sender w (off-fills the_sender c w off)) e
-        (off_leave B r is o es e even can w does off)),
-  )
-  sender-stores w resting does mine at h (inr keeps) = absurd keeps
-  sender-stores w (placed u) does mine at h (inr keeps) = absurd keeps
-  sender-stores w (renewing u v) does mine at h (inr keeps) = by r.copy refl keeps
+      → SendingIs 1 r s.stored s.published (freed_known r c) p → IsSenderStore lamport r p w → Kept the_sender w (send_store w p s)
+  sender-stores w (renewing u v) does mine at h keeps = by r.copy refl keeps
     where
-      by : (t : Option ℕ) → r.copy ≡ t → IsCopyStore t v w → Kept the_sender (store w) (if overlaps r w then send_store w (renewing u v) s else s)
+      by : (t : Option ℕ) → r.copy ≡ t → IsCopyStore t v w → Kept the_sender w (send_store w (renewing u v) s)
       by None none keeps = absurd keeps
       by (Some a) some keeps =
           let fills : FillsOwned q the_sender c w = λ x on. inl (copy-keeps r is w a some keeps.0 x on) in
-          let old : Agrees r o es (after_store q the_sender w c) s = stored r is o es s c holds the_sender w fills in
-          let on : overlaps r w ≡ true = grind (arith, nat_tests, (is.copy a some).above, (is.copy a some).below, keeps.0.place, keeps.0.width) in (
+          let old : Agrees r o es (after_store q the_sender w c) s = stored r is o es s c holds the_sender w fills in (
             inr fills,
-            subst (λ b. Agrees r o after (after_store q the_sender w c) (if b then send_store w (renewing u v) s else s)) (sym on) (record {
-              published = old.published;
-              taken = old.taken;
-              begun = old.begun;
-              room = old.room;
+            record {
+              numbers = old.numbers;
               sending = (h.0, h.1, omega (arith, h.2.2, h.2.3));
               copied = copied-anew r is o es e even w does mine a some keeps.0 (s.stored + ready_by_state s.sending) (freed_known r c) (s.stored + 1)
                   (freed_known r c) h.2.0 holds.copied (keeps.1 ∙ h.2.1) (omega (arith, h.2.2)) h.2.3;
               receiving = old.receiving;
-            }),
+            },
           )
-  sender-stores w (roomy u) does mine at h (inr keeps) =
+  sender-stores w (roomy u) does mine at h keeps =
       let word : IsWordAt w (slot_address r s.published) = record { place = keeps.0.place ∙ ap (λ x. r.slots + x) h.1; width = keeps.0.width } in
       let fills : FillsOwned q the_sender c w =
       fills-slot w u keeps.0 h.1 (omega (arith, h.0, h.2, holds.published, holds.begun)) in
       let old : Agrees r o es (after_store q the_sender w c) s = stored r is o es s c holds the_sender w fills in
-      let ready : ready_by_state s.sending ≡ 1 = ap ready_by_state at in
-      let new : Agrees r o es (after_store q the_sender w c) (send_store w (roomy u) s) = record {
-        published = old.published;
-        taken = old.taken;
-        begun = old.begun;
-        room = omega (arith, h.2);
-        sending = (omega (arith, h.0), h.1);
-        copied = copied-more r.copy r o es (s.stored + ready_by_state s.sending) (freed_known r c)
-            (s.stored + 1 + 0) (freed_known r c) (omega (arith, ready)) (omega arith) holds.copied;
-        receiving = old.receiving;
-      } in (
+      let ready : ready_by_state s.sending ≡ 1 = ap ready_by_state at in (
         inr fills,
-        subst (λ b. Agrees r o after (after_store q the_sender w c) (if b then send_store w (roomy u) s else s))
-            (sym (word_overlaps r w (slot_address r s.published) (slot_word r is s.published) word))
-            (onward r is o es (send_store w (roomy u) s) (after_store q the_sender w c) new e
-            (word_leave B r is o es e even can w (slot_address r s.published) does (slot_word r is s.published) word)),
+        onward r is o es (send_store w (roomy u) s) (after_store q the_sender w c) (record {
+          numbers = record { published = old.published; taken = old.taken; begun = old.begun; room = omega (arith, h.2) };
+          sending = (omega (arith, h.0), h.1);
+          copied = copied-more r.copy r o es (s.stored + ready_by_state s.sending) (freed_known r c)
+              (s.stored + 1 + 0) (freed_known r c) (omega (arith, ready)) (omega arith) holds.copied;
+          receiving = old.receiving;
+        }) e (word_leave B r is o es e even can w (slot_address r s.published) does (slot_word r is s.published) word),
       )
-  sender-stores w (filled u) does mine at h (inr keeps) =
+  sender-stores w (filled u) does mine at h keeps =
       let one = moves-one the_sender w u s.published keeps.0 keeps.1 h.1 holds.published
       (omega (arith, h.0, holds.room, holds.published, holds.begun)) in
-      let count : (after_store q the_sender w c).published ≡ c.published + 1 = one.1 in
-      let new : Agrees r o es (after_store q the_sender w c) (send_store w (filled u) s) = record {
-        published = omega (arith, count, holds.published);
-        taken = holds.taken;
-        begun = holds.begun;
-        room = holds.room;
-        sending = h.0;
-        copied = copied-more r.copy r o es (s.stored + ready_by_state s.sending) (freed_known r c)
-            (s.stored + 0) (freed_known r c) (omega arith) (omega arith) holds.copied;
-        receiving = holds.receiving;
-      } in (
+      let count : (after_store q the_sender w c).published ≡ c.published + 1 = one.1 in (
         one.0,
-        subst (λ b. Agrees r o after (after_store q the_sender w c) (if b then send_store w (filled u) s else s))
-            (sym (word_overlaps r w r.head is.head keeps.0))
-            (onward r is o es (send_store w (filled u) s) (after_store q the_sender w c) new e
-            (word_leave B r is o es e even can w r.head does is.head keeps.0)),
+        onward r is o es (send_store w (filled u) s) (after_store q the_sender w c) (record {
+          numbers = record { published = omega (arith, count, holds.published); taken = holds.taken; begun = holds.begun; room = holds.room };
+          sending = h.0;
+          copied = copied-more r.copy r o es (s.stored + ready_by_state s.sending) (freed_known r c)
+              (s.stored + 0) (freed_known r c) (omega arith) (omega arith) holds.copied;
+          receiving = holds.receiving;
+        }) e (word_leave B r is o es e even can w r.head does is.head keeps.0),
       )
+  sender-stores w p does mine at h keeps = absurd keeps
 
   receiver-stores : (w : Write) (p : ReceiverState) → access_of e ≡ store w → Receiving r s.taken (c.known_published - r.start) p
-      → (overlaps r w ≡ false) ⊎ IsReceiverStore lamport r p w → Kept the_receiver (store w) (if overlaps r w then receive_store lamport p s else s)
-  receiver-stores w p does h (inl off) = (
-    inr (off-fills the_receiver c w off),
-    subst (λ b. Agrees r o after (after_store q the_receiver w c) (if b then receive_store lamport p s else s)) (sym off)
-        (onward r is o es s (after_store q the_receiver w c) (stored r is o es s c holds the_receiver w (off-fills the_receiver c w off)) e
-        (off_leave B r is o es e even can w does off)),
-  )
-  receiver-stores w idle does h (inr keeps) = absurd keeps
-  receiver-stores w (asked u) does h (inr keeps) = absurd keeps
-  receiver-stores w (waiting u) does h (inr keeps) = absurd keeps
-  receiver-stores w (cleared u) does h (inr keeps) = absurd h
-  receiver-stores w (holding u v) does h (inr keeps) =
+      → IsReceiverStore lamport r p w → Kept the_receiver w (receive_store lamport p s)
+  receiver-stores w (cleared u) does h keeps = absurd h
+  receiver-stores w (holding u v) does h keeps =
       let one = moves-one the_receiver w u s.taken keeps.0 keeps.1 h.0 holds.taken (omega (arith, h.1, holds.taken)) in
-      let count : (after_store q the_receiver w c).taken ≡ c.taken + 1 = one.1 in
-      let new : Agrees r o es (after_store q the_receiver w c) (receive_store lamport (holding u v) s) = record {
-        published = holds.published;
-        taken = omega (arith, count, holds.taken);
-        begun = holds.begun;
-        room = holds.room;
-        sending = holds.sending;
-        copied = holds.copied;
-        receiving = tt;
-      } in (
+      let count : (after_store q the_receiver w c).taken ≡ c.taken + 1 = one.1 in (
         one.0,
-        subst (λ b. Agrees r o after (after_store q the_receiver w c) (if b then receive_store lamport (holding u v) s else s))
-            (sym (word_overlaps r w r.tail is.tail keeps.0))
-            (onward r is o es (receive_store lamport (holding u v) s) (after_store q the_receiver w c) new e
-            (word_leave B r is o es e even can w r.tail does is.tail keeps.0)),
+        onward r is o es (receive_store lamport (holding u v) s) (after_store q the_receiver w c) (record {
+          numbers = record { published = holds.published; taken = omega (arith, count, holds.taken); begun = holds.begun; room = holds.room };
+          sending = holds.sending;
+          copied = holds.copied;
+          receiving = tt;
+        }) e (word_leave B r is o es e even can w r.tail does is.tail keeps.0),
       )
+  receiver-stores w p does h keeps = absurd keeps
 
-  -- ---- any access
-
-  quiet : (x : Access) → access_of e ≡ x → ((b y : ℕ) → LeavesByteBy y x) → Agrees r o after c s
-  quiet x does left = onward r is o es s c holds e (leaves B r is o es e even can x does (λ b y some from below. left b y))
-
-  exchanges : (p : Party) (a old new : ℕ) → access_of e ≡ exchange a old new → overlaps r (write a 4 new) ≡ false → Kept p (exchange a old new) s
-  exchanges p a old new does off =
-      let looks : QueueCounts = after_load q p a 4 old c in (
-        inr (inr (off-fills p looks (write a 4 new) off)),
-        onward r is o es s (after_store q p (write a 4 new) looks)
-            (stored r is o es s looks (loaded r is o es s c holds p a 4 old) p (write a 4 new) (off-fills p looks (write a 4 new) off)) e
-            (exchange_leave B r is o es e even can a old new does off),
-      )
-
-  -- a load, by what one of a whole word makes of the state
-  loads : (p : Party) (a width v : ℕ) (t : ProtocolState) → access_of e ≡ load a width v
-      → (width ≡ 4 → Agrees r o es (after_load q p a 4 v c) t) → Kept p (load a width v) (if width == 4 then t else s)
-  loads p a width v t does whole = (tt, by (width == 4) refl)
-    where
-      copy : CopyStays r o es after
-      copy = leaves B r is o es e even can (load a width v) does (λ b y some from below. tt)
-
-      by : (b : Bool) → (width == 4) ≡ b → Agrees r o after (after_load q p a width v c) (if b then t else s)
-      by true four =
-          let is_four : width ≡ 4 = eqb-true width 4 four in
-          onward r is o es t (after_load q p a width v c) (subst (λ k. Agrees r o es (after_load q p a k v c) t) (sym is_four) (whole is_four)) e copy
-      by false part = onward r is o es s (after_load q p a width v c) (loaded r is o es s c holds p a width v) e copy
-
-  sender-keeps : (x : Access) → access_of e ≡ x → hart_of e ≡ r.sender → KeepsProtocolBy lamport r sends s x
-      → AllowedBy B (pending r.sender es) (read o es r.sender) x → Kept the_sender x (next_by lamport r sends s x)
-  sender-keeps nothing does mine keeps allowed = (tt, quiet nothing does (λ b y. tt))
-  sender-keeps (load a width v) does mine keeps allowed = loads the_sender a width v (record s { sending = send_load lamport r a v s.sending }) does
-      (λ four. sender-loads a v (allowed ∙ ap (read o es r.sender a) four))
-  sender-keeps (store w) does mine keeps allowed = sender-stores w s.sending does mine refl holds.sending keeps
-  sender-keeps (exchange a old new) does mine keeps allowed = exchanges the_sender a old new does keeps
-  sender-keeps (fence full) does mine keeps allowed = (tt, quiet (fence full) does (λ b y. tt))
-  sender-keeps land does mine keeps allowed = (tt, quiet land does (λ b y. tt))
-
-  receiver-keeps : (x : Access) → access_of e ≡ x → KeepsProtocolBy lamport r receives s x → AllowedBy B (pending r.receiver es) (read o es r.receiver) x
-      → Kept the_receiver x (next_by lamport r receives s x)
-  receiver-keeps nothing does keeps allowed = (tt, quiet nothing does (λ b y. tt))
-  receiver-keeps (load a width v) does keeps allowed = loads the_receiver a width v (record s { receiving = receive_load lamport r a v s.receiving }) does
-      (λ four. receiver-loads a v (allowed ∙ ap (read o es r.receiver a) four))
-  receiver-keeps (store w) does keeps allowed = receiver-stores w s.receiving does holds.receiving keeps
-  receiver-keeps (exchange a old new) does keeps allowed = exchanges the_receiver a old new does keeps
-  receiver-keeps (fence full) does keeps allowed = (tt, quiet (fence full) does (λ b y. tt))
-  receiver-keeps land does keeps allowed = (tt, quiet land does (λ b y. tt))
-
-  passes-keep : (x : Access) → access_of e ≡ x → KeepsProtocolBy lamport r passes s x
-      → KeepsAccess q None c x × Agrees r o after c (next_by lamport r passes s x)
-  passes-keep nothing does keeps = (tt, quiet nothing does (λ b y. tt))
-  passes-keep (load a width v) does keeps = (tt, quiet (load a width v) does (λ b y. tt))
-  passes-keep (store w) does keeps = (off-keeps r is w keeps, onward r is o es s c holds e (off_leave B r is o es e even can w does keeps))
-  passes-keep (exchange a old new) does keeps =
-      (inr (off-keeps r is (write a 4 new) keeps), onward r is o es s c holds e (exchange_leave B r is o es e even can a old new does keeps))
-  passes-keep (fence full) does keeps = (tt, quiet (fence full) does (λ b y. tt))
-  passes-keep land does keeps = (tt, quiet land does (λ b y. tt))
+  -- a load of a word
+  module _ (p : Party) (a v : ℕ) (does : access_of e ≡ load a 4 v) (t : ProtocolState) where
+    loads : Agrees r o es (after_load q p a 4 v c) t → Agrees r o after (after_load q p a 4 v c) t
+    loads knows = onward r is o es t (after_load q p a 4 v c) knows e (off_leave B r is o es e even can (load a 4 v) does tt)
 
   pub keeps-one : KeepsProtocolBy lamport r (role_of r (hart_of e)) s (access_of e)
       → KeepsAccess q (party_of q (hart_of e)) c (access_of e)
       × Agrees r o after (counts_next q c e) (next_by lamport r (role_of r (hart_of e)) s (access_of e))
-  keeps-one = by-role r (hart_of e) (λ role t. KeepsProtocolBy lamport r role s (access_of e)
-      → KeepsAccess q t c (access_of e) × Agrees r o after (after_access q t (access_of e) c) (next_by lamport r role s (access_of e)))
-      (λ at keeps. sender-keeps (access_of e) refl at keeps (subst (λ h. AllowedBy B (pending h es) (read o es h) (access_of e)) at can))
-      (λ other at keeps. receiver-keeps (access_of e) refl keeps (subst (λ h. AllowedBy B (pending h es) (read o es h) (access_of e)) at can))
-      (λ other another. passes-keep (access_of e) refl)
+  keeps-one keeps = by-access lamport r s (hart_of e) (λ t x z. access_of e ≡ x → AllowedBy B (pending (hart_of e) es) (read o es (hart_of e)) x
+      → KeepsAccess q t c x × Agrees r o after (after_access q t x c) z)
+      (λ t x off does allowed. quiet t x does off)
+      (λ mine a v does allowed. (
+        tt,
+        loads the_sender a v does (record s { sending = send_load lamport r a v s.sending })
+            (sender-loads a v (allowed ∙ ap (λ h. read o es h a 4) mine)),
+      ))
+      (λ mine a v does allowed. (
+        tt,
+        loads the_receiver a v does (record s { receiving = receive_load lamport r a v s.receiving })
+            (receiver-loads a v (allowed ∙ ap (λ h. read o es h a 4) mine)),
+      ))
+      (λ mine w on made does allowed. sender-stores w s.sending does mine refl holds.sending made)
+      (λ mine w on made does allowed. receiver-stores w s.receiving does holds.receiving made)
+      (access_of e) keeps refl can
 
 -- ---- whole runs
 
@@ -563,10 +484,7 @@ lamport_owns B r o before es kind f = record {
 
     begins : Agrees r o before (counts_at_start r) (at_start r o before)
     begins = record {
-      published = refl;
-      taken = omega arith;
-      begun = omega arith;
-      room = omega (arith, fits, f.ring.some_slots);
+      numbers = record { published = refl; taken = omega arith; begun = omega arith; room = omega (arith, fits, f.ring.some_slots) };
       sending = refl;
       copied = copy-at-rest lamport r f.ring o before (r.start - r.start) f.rest kind;
       receiving = tt;

@@ -3,7 +3,7 @@
 use Rattle.std.proofs.Common.{ℕ, ◌+◌, ◌≡◌, ◌≢◌, ◌⊎◌, inl, inr, Bool, true, false, if◌then◌else◌, List, [], ◌∷◌, ◌++◌, length, refl, sym, ◌∙◌, ap, subst, arith}
 use Rattle.std.proofs.Common.{append-nil, append_assoc}
 use Rattle.step_machine.specs.declared.events.Entry.{Entry}
-use Rattle.step_machine.specs.Access.{Access, nothing, load, store, exchange, fence, land, access_of}
+use Rattle.step_machine.specs.Access.{Access, nothing, access_of}
 use Rattle.step_machine.specs.Entries.{hart_of, is_land, is_own, own}
 use Rattle.spsc_queue.specs.RingBuffers.{Kind, RingBuffer}
 use Rattle.spsc_queue.specs.Protocol.{ProtocolState, role_of, next_by, protocol_next, protocol_after}
@@ -89,11 +89,7 @@ first_access h (e ∷ es) x xs is = at (is_own h e) refl (access_of e) refl (fir
     at : (b : Bool) → is_own h e ≡ b → (y : Access) → access_of e ≡ y → (accesses h es ≡ x ∷ xs → First h es x xs) → First h (e ∷ es) x xs
     at false off y does go = later (off_silent h e off) (go (sym (off_silent h e off es) ∙ is))
     at true on nothing does go = later (own_first h e nothing on does) (go (sym (own_first h e nothing on does es) ∙ is))
-    at true on (load a width v) does go = now (load a width v) on does (sym (own_first h e (load a width v) on does es) ∙ is)
-    at true on (store w) does go = now (store w) on does (sym (own_first h e (store w) on does es) ∙ is)
-    at true on (exchange a old new) does go = now (exchange a old new) on does (sym (own_first h e (exchange a old new) on does es) ∙ is)
-    at true on (fence full) does go = now (fence full) on does (sym (own_first h e (fence full) on does es) ∙ is)
-    at true on land does go = now land on does (sym (own_first h e land on does es) ∙ is)
+    at true on y does go = now y on does (sym (own_first h e y on does es) ∙ is)
 
 -- ---- a party that accesses nothing
 

@@ -1,7 +1,6 @@
 -- What the functions' lines share: how a line's effect leads to the next line's row, and the returns.
-use Rattle.std.proofs.Common.{ℕ, pos, ◌+◌, ◌*◌, ◌/◌, ◌%◌, ◌^◌, ◌<◌, ◌≤◌, ◌≡◌, ◌≢◌, ◌==◌, ◌&&◌, Bool, true, false}
-use Rattle.std.proofs.Common.{if◌then◌else◌, Option, Some, None, List, [], ◌∷◌, ◌++◌, refl, sym}
-use Rattle.std.proofs.Common.{◌∙◌, ap, subst, arith, append-nil, append_assoc}
+use Rattle.std.proofs.Common.{ℕ, pos, ◌+◌, ◌*◌, ◌/◌, ◌%◌, ◌^◌, ◌<◌, ◌≤◌, ◌≡◌, ◌≢◌, ◌==◌, ◌&&◌, Bool, true, false, if◌then◌else◌, Option, Some, None, List, []}
+use Rattle.std.proofs.Common.{◌∷◌, ◌++◌, refl, sym, ◌∙◌, ap, subst, arith, append-nil, append_assoc}
 use Rattle.std.specs.Prelude.{slice_index, slice_set, map}
 use Rattle.std.specs.List.{slice_get}
 use Rattle.std.proofs.lemmas.Bool.{eq-eqb, ne_eqb}
@@ -235,9 +234,8 @@ module _ {p : Party} {K : Kind} (g : Spot p K) where
       → Found p K (slice_index x i) (slice_index x 11)
       → IsOffset k (slice_index x 5) → Seen n p K k r c m i ws x (part p t) → Finished n p K k r (went c nothing) 8 ws x (part p t) 0
   to_no {m} {i} le plain says found among f = record {
-    place = slice_index x 5;
-    copy = slice_index x i;
-    seen = slice_index x i;
+    no = true;
+    choice = record { place = slice_index x 5; copy = slice_index x i; seen = slice_index x i; says = says };
     left = more_left le (left_on nothing f.frame.left);
     word = f.word;
     found = found;
@@ -245,7 +243,7 @@ module _ {p : Party} {K : Kind} (g : Spot p K) where
     among = among;
     words = f.words;
     did = append-nil c.did ∙ f.did ∙ none_more p K r (slice_index x 11) (slice_index x 5) (slice_index x i) plain says;
-    answers = if_true (says_no p K r (slice_index x 5) (slice_index x i) (slice_index x i)) 0 1 says;
+    answers = refl;
   }
 
   -- or that there is one, and it may store
@@ -254,15 +252,12 @@ module _ {p : Party} {K : Kind} (g : Spot p K) where
       → looked p K r (slice_index x 5) (slice_index x i) ≡ ready p K r (slice_index x 5) (slice_index x i) (slice_index x i) (slice_index x 11)
       → Seen n p K k r c m i ws x (part p t) → Ready n p K k r (went c nothing) l ws x (part p t) (λ u. u) seven
   to_ready {m} {i} seven l le some found knows x7 same f = record {
-    place = slice_index x 5;
-    copy = slice_index x i;
-    seen = slice_index x i;
+    choice = record { place = slice_index x 5; copy = slice_index x i; seen = slice_index x i; says = some };
     frame = more_frame le (frame_on nothing f.frame);
     word = f.word;
     found = found;
     knows = knows;
     level = f.level;
-    some = some;
     x5 = refl;
     x7 = x7;
     words = f.words;
@@ -275,15 +270,12 @@ module _ {p : Party} {K : Kind} (g : Spot p K) where
   ready_5 five seven new w q is_new =
       let same : slice_index x 11 ≡ slice_index (slice_set x 5 w) 11 = eleven 5 w (λ e. omega arith) in
       record {
-        place = q.place;
-        copy = q.copy;
-        seen = q.seen;
+        choice = q.choice;
         frame = frame_set nothing 5 w free_5 (λ e. omega arith) q.frame;
         word = word_set 5 w (λ e. omega arith) q.word;
         found = subst (Found p K q.seen) same q.found;
         knows = subst (λ y. MayStore p q.place y (part p t)) same q.knows;
         level = q.level;
-        some = q.some;
         x5 = set-same x 5 w (omega (arith, has.size)) ∙ is_new;
         x7 = set-other x 5 7 w (λ e. omega arith) ∙ q.x7;
         words = q.words;
@@ -293,15 +285,12 @@ module _ {p : Party} {K : Kind} (g : Spot p K) where
   pub ready_on : {m l : ℕ} (five seven new : ℕ → ℕ) → m + 1 ≤ l → (q : Ready n p K k r c m ws x (part p t) five seven) → five q.place ≡ new q.place
       → Ready n p K k r (went c nothing) l ws x (part p t) new seven
   ready_on five seven new le q same = record {
-    place = q.place;
-    copy = q.copy;
-    seen = q.seen;
+    choice = q.choice;
     frame = more_frame le (frame_on nothing q.frame);
     word = q.word;
     found = q.found;
     knows = q.knows;
     level = q.level;
-    some = q.some;
     x5 = q.x5 ∙ same;
     x7 = q.x7;
     words = q.words;
@@ -315,14 +304,11 @@ module _ {p : Party} {K : Kind} (g : Spot p K) where
       → (part p (next_by K r (role p) t (store made))).words ≡ (part p t).words ++ slice_index x 11 ∷ []
       → Half n p K k r (went c (store made)) l i ws x (part p (next_by K r (role p) t (store made)))
   to_half l le made i five seven q is_made after knows words = record {
-    place = q.place;
-    copy = q.copy;
-    seen = q.seen;
+    choice = q.choice;
     frame = more_frame le (frame_on (store made) q.frame);
     word = q.word;
     found = q.found;
     knows = knows;
-    some = q.some;
     after = after;
     words = words ∙ ap (λ ys. ys ++ slice_index x 11 ∷ []) q.words;
     did = ap (λ ys. ys ++ store made ∷ []) q.did ∙ ap (λ y. ready p K r q.place q.copy q.seen (slice_index x 11) ++ store y ∷ []) is_made;
@@ -337,9 +323,8 @@ module _ {p : Party} {K : Kind} (g : Spot p K) where
   to_finished l le made hits q is_made among whole =
       let becomes = index-stored K r made hits p t q.place q.knows in
       record {
-        place = q.place;
-        copy = q.copy;
-        seen = q.seen;
+        no = false;
+        choice = q.choice;
         left = more_left le (left_on (store made) q.frame.left);
         word = q.word;
         found = q.found;
@@ -350,7 +335,7 @@ module _ {p : Party} {K : Kind} (g : Spot p K) where
             (store (write (r.slots + q.place) 4 (put p (slice_index x 11))) ∷ []) (store made ∷ [])
             ∙ ap (λ y. ready p K r q.place q.copy q.seen (slice_index x 11)
             ++ store (write (r.slots + q.place) 4 (put p (slice_index x 11))) ∷ store y ∷ []) is_made ∙ whole;
-        answers = if_false (says_no p K r q.place q.copy q.seen) 0 1 q.some;
+        answers = refl;
       }
 
   -- a0 is written
@@ -359,9 +344,8 @@ module _ {p : Party} {K : Kind} (g : Spot p K) where
   answers_on l le y f =
       let same : slice_index x 11 ≡ slice_index (slice_set x 10 y) 11 = eleven 10 y (λ e. omega arith) in
       record {
-        place = f.place;
-        copy = f.copy;
-        seen = f.seen;
+        no = f.no;
+        choice = f.choice;
         left = more_left le (left_set nothing 10 y free_10 f.left);
         word = word_set 10 y (λ e. omega arith) f.word;
         found = subst (Found p K f.seen) same f.found;
@@ -404,7 +388,7 @@ module _ {p : Party} {K : Kind} (g : Spot p K) where
         (subst (λ y. y / 2 * 2 % 4 ≡ 0) (sym (back_of f.0.left)) f.0.left.args.back_aligned)
 
     effect : Effect p K r c.entry back (c.count + 1) (c.did ++ [])
-    effect = at p K le f.0.left f.0.word f.0.found f.0.did f.0.answers
+    effect = at p K le f.0.left f.0.word f.0.found f.0.did (f.0.answers ∙ ap (λ b. if b then 0 else 1) (sym f.0.says))
       where
         at : (p2 : Party) (K : Kind) → m < longest p2 r → Left n p k c m x → Word p2 c.entry (slice_index x 11) → Found p2 K f.0.seen (slice_index x 11)
             → c.did ≡ all_accesses p2 K r (slice_index x 11) f.0.place f.0.copy f.0.seen

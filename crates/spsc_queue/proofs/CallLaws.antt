@@ -12,9 +12,7 @@ use Rattle.step_machine.specs.Entries.{hart_of, own_stores, lands, pending, read
 use Rattle.step_machine.specs.Paths.{state_of}
 use Rattle.step_machine.specs.Legal.{Legal}
 use Rattle.spsc_queue.specs.RingBuffers.{Kind, lamport, fastforward, RingBuffer, capacity, unpublished, unreleased}
-use Rattle.spsc_queue.specs.Protocol.{placed, asked, ProtocolState}
-use Rattle.spsc_queue.specs.Protocol.{room_at, says_full, watched_address}
-use Rattle.spsc_queue.specs.Protocol.{says_empty, parties_after}
+use Rattle.spsc_queue.specs.Protocol.{placed, asked, ProtocolState, room_at, says_full, watched_address, says_empty, parties_after}
 use Rattle.spsc_queue.specs.Laws.{IsPrefix, FollowsSpscProtocol, available_of, available_count, available_words}
 use Rattle.store_buffers.specs.StoreBuffers.{IsOnlyWriter, AllLeaveByte}
 use Rattle.spsc_queue.specs.Calls.{SpscQueue, Party, the_sender, the_receiver, party_line, buffer, is_sender_in_call, is_receiver_in_call, given_words}

@@ -1,7 +1,5 @@
 -- A queue that is at rest again, at whichever slot and with whichever words in it, may be used from there on, also by other harts.
-use Rattle.std.proofs.Common.{ℕ, ◌+◌, ◌-◌, ◌*◌, ◌%◌, ◌<◌, ◌≤◌, ◌≡◌, ◌≢◌, false, Some, List, [], ◌++◌, length, sym, ◌∙◌, ap, subst}
-use Rattle.std.proofs.Common.{refl, arith, append-nil}
-use Rattle.std.proofs.Common.{sym, ◌∙◌, ap, subst, refl, arith, append-nil}
+use Rattle.std.proofs.Common.{ℕ, ◌+◌, ◌-◌, ◌*◌, ◌%◌, ◌<◌, ◌≤◌, ◌≡◌, ◌≢◌, false, Some, List, [], ◌++◌, length, sym, ◌∙◌, ap, subst, refl, arith, append-nil}
 use Rattle.std.specs.Prelude.{slice_index}
 use Rattle.memory.specs.declared.writes.Write.{Write}
 use Rattle.step_machine.specs.declared.events.Entry.{Entry}
@@ -16,7 +14,7 @@ use Rattle.spsc_queue.specs.Calls.{UsesAsSpscQueue, given_words, block_after, th
 use Rattle.spsc_queue.proofs.Spread.{spread, sent_store}
 use Rattle.spsc_queue.proofs.Rows.{Earlier}
 use Rattle.spsc_queue.proofs.PastRows.{length-spread}
-use Rattle.spsc_queue.proofs.Invariant.{whole-counts, freed, there, their_store, their_landed, they_made, Theirs, Invariant, firsts}
+use Rattle.spsc_queue.proofs.Invariant.{whole-counts, freed, tails, there, their_store, they_made, Theirs, unsent, unread, Invariant, firsts}
 use Rattle.queue_parties.specs.Positions.{numbers_from}
 use Rattle.spsc_queue.proofs.Numbers.{numbers-moved, firsts-on}
 use Rattle.spsc_queue.proofs.Words.{row_of}
@@ -32,10 +30,9 @@ none_left : (f : ℕ → Write) (i n : ℕ) (ws : List Write) → ws ≡ spread 
 none_left f i n ws is none = sym (length-spread f i n) ∙ ap length (sym is ∙ none)
 
 -- where all that it made has landed, so have its zeros and tails
-all_landed : (K : Kind) (n m z t : ℕ) → Theirs K n m z t → n ≡ m → their_landed K z t ≡ they_made K n m → (freed K z t ≡ n) × (t ≡ n)
-all_landed lamport n m z t is level all = (omega (arith, is.0, all), omega (arith, is.0, all))
-all_landed fastforward n m z t is level all =
-    (omega (arith, level, all, is.slots_stored, is.heads_published), omega (arith, level, all, is.slots_stored, is.heads_published))
+all_landed : (K : Kind) (n m j : ℕ) → Theirs K n m → n ≡ m → j ≡ they_made K n m → (freed K j ≡ n) × (tails K j ≡ n)
+all_landed lamport n m j is level all = (omega (arith, level, all), omega (arith, level, all))
+all_landed fastforward n m j is level all = (omega (arith, level, all), omega (arith, level, all))
 
 -- the words of the block where no store to it is pending, and the words from m to n wait
 record IsQuiet (k : Kind) (r : RingBuffer) (L : ℕ → ℕ) (o : OpeningValue) (es : List Entry) (m n : ℕ) : Type 0 where
@@ -63,31 +60,27 @@ quiet : (k : Kind) (r : RingBuffer) (is : IsRingBuffer r) (L : ℕ → ℕ) (c :
     → Invariant k r L c o es s → s.stored ≡ s.published → IsWhole s.receiving → ((h : ℕ) → writes_to r (pending h es) ≡ [])
     → IsQuiet k r L o es s.taken s.stored
 quiet k r is L c o es s inv level whole none =
-    let z : ℕ = inv.landed.cleared in
-    let t : ℕ = inv.landed.tails in
-    let unsent = none_left (sent_store r L) (inv.landed.slots + inv.landed.heads) inv.buffers.unsent (row_of r (pending r.sender es))
-    inv.buffers.rows.mine.pends (row_none r (pending r.sender es) (none r.sender)) in
-    let unread = none_left (their_store k r) (their_landed k z t) inv.buffers.unread (row_of r (pending r.receiver es))
-    inv.buffers.rows.theirs.pends (row_none r (pending r.receiver es) (none r.receiver)) in
-    let sent : (inv.landed.heads ≡ s.stored) × (inv.landed.slots ≡ s.stored) = (
-      omega (arith, unsent, level, inv.buffers.mine_count, inv.order.mine.slots_stored, inv.order.mine.heads_published),
-      omega (arith, unsent, level, inv.buffers.mine_count, inv.order.mine.slots_stored, inv.order.mine.heads_published),
-    ) in
-    let landed = all_landed k s.taken s.consumed z t inv.order.theirs
-    (whole-counts k r L s.taken s.consumed (there k inv.landed.slots inv.landed.heads) s.receiving whole inv.receiving)
-    (omega (arith, unread, inv.buffers.theirs_count)) in
-    let place = copy-quiet k r is o es (s.stored + ready_by_state s.sending) (freed k z t) in
+    let unsent = none_left (sent_store r L) inv.landed.mine (unsent s inv.landed) (row_of r (pending r.sender es))
+    inv.rows.mine.pends (row_none r (pending r.sender es) (none r.sender)) in
+    let unread = none_left (their_store k r) inv.landed.theirs (unread k s inv.landed) (row_of r (pending r.receiver es))
+    inv.rows.theirs.pends (row_none r (pending r.receiver es) (none r.receiver)) in
+    let landed = all_landed k s.taken s.consumed inv.landed.theirs inv.order.theirs
+    (whole-counts k r L s.taken s.consumed (there k inv.landed.mine) s.receiving whole inv.receiving)
+    (omega (arith, unread, inv.rows.theirs.landed)) in
+    let all : inv.landed.mine ≡ s.stored + s.stored = omega (arith, unsent, level, inv.rows.mine.landed) in
+    let place = copy-quiet k r is o es (s.stored + ready_by_state s.sending) (freed k inv.landed.theirs) in
     let facts = known r is L c o es s k inv in
     record {
-      head = inv.words.head ∙ ap (slot_offset r) sent.0;
+      head = inv.words.head ∙ ap (slot_offset r) (omega (arith, all));
       tail = inv.words.tail ∙ ap (slot_offset r) landed.1;
       least = omega (arith, facts.taken_available, facts.available_stored);
       most = facts.room;
-      full = λ j from below. inv.words.full j (omega (arith, from, landed.0)) (omega (arith, below, sent.1));
+      full = λ j from below. inv.words.full j (omega (arith, from, landed.0)) (omega (arith, below, all));
       nonzero = inv.nonzero;
-      free = λ kind j from below. inv.words.free kind j (omega (arith, from, sent.1)) (omega (arith, below, landed.0));
+      free = λ kind j from below. inv.words.free kind j (omega (arith, from, all)) (omega (arith, below, landed.0));
       copy = λ a some.
-          let at = place a some (none r.sender) (subst (λ q. Copied k q r o es (s.stored + ready_by_state s.sending) (freed k z t)) some inv.copy) in
+          let at = place a some (none r.sender)
+          (subst (λ q. Copied k q r o es (s.stored + ready_by_state s.sending) (freed k inv.landed.theirs)) some inv.copy) in
           (at.0, omega (arith, at.1), omega (arith, at.2, landed.0), at.3);
     }
 

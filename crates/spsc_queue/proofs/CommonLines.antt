@@ -25,12 +25,10 @@ use Rattle.spsc_queue.specs.CallEffects.{sees_full, look_accesses, send_accesses
 use Rattle.step_machine.proofs.Lines.{word-plus, add_line, load_line, store_line, other_jumps, same_goes_on, goes_to, leaves_in}
 use Rattle.spsc_queue.proofs.Courses.{At, at_00, at_04, at_24, at_28, at_2C, at_30, number, went, bytes_of}
 use Rattle.spsc_queue.proofs.Words.{word_overlaps}
-use Rattle.spsc_queue.proofs.Outline.{part, role, IsOffset, Near, index_at, ready, put, all_accesses, Ready, Half, Row}
-use Rattle.spsc_queue.proofs.Outline.{IsStore, Moves, Part, Stored, more}
+use Rattle.spsc_queue.proofs.Outline.{part, role, IsOffset, Near, index_at, ready, put, all_accesses, Ready, Half, Row, IsStore, Moves, Part, Stored, more}
 use Rattle.spsc_queue.proofs.Parts.{copied, ready-offset, stored-offset, slot-sent}
-use Rattle.spsc_queue.proofs.AllLines.{Spot, to_line, loads_to, stores_to, line_at, on, over, wraps_not, wraps}
-use Rattle.spsc_queue.proofs.AllLines.{to_indexed, ready_5, ready_on, to_half, to_finished}
-use Rattle.spsc_queue.proofs.AllLines.{if_false, short, Answered, none, returns_1, returns_0, answers_1, answers_0}
+use Rattle.spsc_queue.proofs.AllLines.{Spot, to_line, loads_to, stores_to, line_at, on, over, wraps_not, wraps, to_indexed, ready_5, ready_on, to_half}
+use Rattle.spsc_queue.proofs.AllLines.{to_finished, if_false, short, Answered, none, returns_1, returns_0, answers_1, answers_0}
 
 -- where a party's index lies in the block
 abbrev pub gap : Party → ℕ

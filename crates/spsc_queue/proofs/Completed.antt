@@ -1,14 +1,14 @@
 -- Whether a hart is in a call and what its calls completed, at the end of a list of entries.
-use Rattle.std.proofs.Common.{ℕ, ◌*◌, ◌≡◌, ◌==◌, ◌&&◌, Bool, true, false, if◌then◌else◌, List, [], ◌∷◌, ◌++◌, Some, refl, sym, ◌∙◌, ap, append-nil}
+use Rattle.std.proofs.Common.{ℕ, ◌*◌, ◌≡◌, Bool, true, false, if◌then◌else◌, List, [], ◌∷◌, ◌++◌, Some, sym, ◌∙◌, ap, append-nil}
 use Rattle.std.proofs.Common.{append_assoc}
 use Rattle.std.specs.Prelude.{slice_index}
-use Rattle.std.proofs.lemmas.Bool.{eqb-true}
 use Rattle.hart.specs.State.{HartState}
 use Rattle.hart.specs.Steps.{advanced}
 use Rattle.step_machine.specs.declared.events.Entry.{Entry}
 use Rattle.step_machine.specs.History.{OpeningValue, history_of}
 use Rattle.step_machine.specs.Entries.{is_own}
 use Rattle.step_machine.specs.Paths.{number_read, state_of}
+use Rattle.queue_parties.proofs.Parties.{both-equal}
 use Rattle.spsc_queue.specs.Calls.{Block, enters, is_in_call_after, is_in_call_by, is_in_call_with, is_in_call_from, completed_at, completed_in}
 use Rattle.spsc_queue.specs.Calls.{completed_by_entry, completed_words_from}
 
@@ -53,11 +53,4 @@ own_call M o h n k b front e s own at =
 
 -- where a hart enters
 pub entered : (n : ℕ) (k : Block) (s : HartState) → enters n k s ≡ true → (s.pc ≡ 4 * n) × (slice_index s.registers 10 ≡ k.base)
-entered n k s is = at (s.pc == 4 * n) refl (slice_index s.registers 10 == k.base) refl
-  where
-    at : (b : Bool) → (s.pc == 4 * n) ≡ b → (c : Bool) → (slice_index s.registers 10 == k.base) ≡ c → (s.pc ≡ 4 * n) × (slice_index s.registers 10 ≡ k.base)
-    at true one true two = (eqb-true s.pc (4 * n) one, eqb-true (slice_index s.registers 10) k.base two)
-    at true one false two =
-        let no : false ≡ true = sym (ap (λ c. c && (slice_index s.registers 10 == k.base)) one ∙ two) ∙ is in cc
-    at false one c two =
-        let no : false ≡ true = sym (ap (λ c. c && (slice_index s.registers 10 == k.base)) one) ∙ is in cc
+entered n k s is = both-equal s.pc (4 * n) (slice_index s.registers 10) k.base is

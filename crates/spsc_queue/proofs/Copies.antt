@@ -15,8 +15,9 @@ use Rattle.step_machine.specs.Access.{Access, store, exchange, access_of}
 use Rattle.step_machine.specs.Entries.{pending, memory_byte, memory_word, read_byte, read, own_stores, lands}
 use Rattle.step_machine.specs.Legal.{Allowed}
 use Rattle.spsc_queue.specs.RingBuffers.{Kind, lamport, fastforward, RingBuffer, IsRingBuffer, IsWordIn, slot_offset, overlaps, writes_to, IsQuiescent}
-use Rattle.spsc_queue.specs.Protocol.{IsWordAt}
+use Rattle.spsc_queue.specs.Protocol.{WritesNothingTo, IsWordAt}
 use Rattle.store_buffers.specs.StoreBuffers.{LeavesByte, LeavesByteBy, IsOnlyWriter}
+use Rattle.spsc_queue.proofs.Cases.{never}
 use Rattle.spsc_queue.proofs.Words.{is_copy, row_of, copy_at}
 use Rattle.store_buffers.proofs.Reading.{passed_over}
 use Rattle.store_buffers.proofs.MessagePassing.{kept}
@@ -53,21 +54,14 @@ copied-on lamport (Some c) r o es fs n m n2 m2 e stays le less is =
 
 -- a write off the block, and one of a word of the block, leaves the copy
 pub off_leaves : (r : RingBuffer) (w : Write) (x : ℕ) → overlaps r w ≡ false → r.first ≤ x → x < r.end → LeavesByte x w
-off_leaves r w x off from below = at (covers w x) refl
-  where
-    at : (b : Bool) → covers w x ≡ b → b ≡ false
-    at false c = refl
-    at true c = let part = covers-from w x c in absurd (grind (arith, nat_tests, off))
+off_leaves r w x off from below = never (covers w x) (λ c. (let part = covers-from w x c in grind (arith, nat_tests, off, part.0, part.1, from, below)))
 
 pub word_leaves : (r : RingBuffer) (w : Write) (a c x : ℕ) → IsWordIn r a → IsWordAt w a → r.copy ≡ Some c → c ≤ x → x < c + 4 → LeavesByte x w
-word_leaves r w a c x word is copy from below = at (covers w x) refl
-  where
-    at : (b : Bool) → covers w x ≡ b → b ≡ false
-    at false c = refl
-    at true d = let part = covers-from w x d in absurd (elim (word.no_copy c copy) [
+word_leaves r w a c x word is copy from below = never (covers w x) (λ d. (let part = covers-from w x d in
+    elim (word.no_copy c copy) [
       | inl l ↦ omega (arith, part.0, part.1, is.place, is.width, l, from, below)
       | inr l ↦ omega (arith, part.0, part.1, is.place, is.width, l, from, below)
-    ])
+    ]))
 
 -- the sender's own store of the copy, which it reads from then on
 pub own_read : (o : OpeningValue) (es fs : List Entry) (h c : ℕ) (w : Write) → pending h fs ≡ pending h es ++ w ∷ [] → IsWordAt w c → w.value < 2 ^ 32
@@ -104,14 +98,15 @@ module _ (B : ℕ) (r : RingBuffer) (is : IsRingBuffer r) (o : OpeningValue) (es
       left_by : (y : ℕ) → c ≤ y → y < c + 4 → LeavesByteBy y (access_of e)
       left_by y from below = subst (LeavesByteBy y) (sym does) (left c y some from below)
 
-  off_left : (w : Write) → overlaps r w ≡ false → (c y : ℕ) → r.copy ≡ Some c → c ≤ y → y < c + 4 → LeavesByte y w
-  off_left w off c y some from below = off_leaves r w y off (omega (arith, from, (is.copy c some).above)) (omega (arith, below, (is.copy c some).below))
-
-  pub off_leave : (w : Write) → access_of e ≡ store w → overlaps r w ≡ false → CopyStays r o es (es ++ e ∷ [])
-  off_leave w does off = leaves (store w) does (off_left w off)
-
-  pub exchange_leave : (a old new : ℕ) → access_of e ≡ exchange a old new → overlaps r (write a 4 new) ≡ false → CopyStays r o es (es ++ e ∷ [])
-  exchange_leave a old new does off = leaves (exchange a old new) does (λ c y some from below. inr (off_left (write a 4 new) off c y some from below))
+  -- one that writes nothing to the block
+  pub off_leave : (x : Access) → access_of e ≡ x → WritesNothingTo r x → CopyStays r o es (es ++ e ∷ [])
+  off_leave x does off = leaves x does (λ c y some from below. left x off y
+      (omega (arith, from, (is.copy c some).above)) (omega (arith, below, (is.copy c some).below)))
+    where
+      left : (x : Access) → WritesNothingTo r x → (y : ℕ) → r.first ≤ y → y < r.end → LeavesByteBy y x
+      left (store w) off y from below = off_leaves r w y off from below
+      left (exchange a old new) off y from below = inr (off_leaves r (write a 4 new) y off from below)
+      left x off y from below = tt
 
   pub word_leave : (w : Write) (p : ℕ) → access_of e ≡ store w → IsWordIn r p → IsWordAt w p → CopyStays r o es (es ++ e ∷ [])
   word_leave w p does word at = leaves (store w) does (λ c y some from below. word_leaves r w p c y word at some from below)

@@ -15,6 +15,7 @@ use Rattle.spsc_queue.proofs.Courses.{At, at_00, at_04, at_08, at_0C, at_10, at_
 use Rattle.spsc_queue.proofs.Courses.{at_2C, at_30, at_34, at_38, at_3C, at_40, Course}
 use Rattle.spsc_queue.proofs.Outline.{Part, IsOffset, IsNear, IsFit, Near, first_look, Word, Found, looked, ready, all_accesses}
 use Rattle.spsc_queue.proofs.Outline.{Fresh, Indexed, Seen, Waiting, Past, Ready, Half, Finished, OwnRow, Row}
+use Rattle.spsc_queue.proofs.Cases.{either}
 use Rattle.spsc_queue.proofs.Parts.{knows-offset, looked-offset, ready-offset, stored-offset}
 
 -- ---- the accesses of a call stay in the block
@@ -232,7 +233,7 @@ module _ (n : ℕ) (k : Block) (a b : ℕ) (is : IsRingBuffer (ring_at k a b)) (
       let w : ℕ = slice_index x 11 in
       done_with the_receiver lamport r c x row.frame.left.kept tt w tt u row.copy row.seen (ready-offset k the_receiver u w t row.knows near) tt
       (ready the_receiver lamport r u row.copy row.seen w) (store (write r.tail 4 (next r u)) ∷ []) row.did
-      (chosen (says_empty lamport u row.seen) (looked the_receiver lamport r u row.seen) [] (take_accesses lamport r w u) row.some)
+      (chosen (says_empty lamport u row.seen) (looked the_receiver lamport r u row.seen) [] (take_accesses lamport r w u) row.says)
   ready_done the_receiver fastforward m five seven row =
       let u : ℕ = row.place in
       let w : ℕ = slice_index x 11 in
@@ -249,7 +250,7 @@ module _ (n : ℕ) (k : Block) (a b : ℕ) (is : IsRingBuffer (ring_at k a b)) (
       let index : Access = store (write r.head 4 (next r u)) in
       done_with the_sender K r c x row.frame.left.kept row.word w row.word u row.copy row.seen (stored-offset k the_sender u t row.knows near) tt
       (looks ++ slot ∷ []) (index ∷ []) row.did
-      (append_assoc looks (slot ∷ []) (index ∷ []) ∙ chosen (sees_full r.copy K r u row.copy row.seen) looks [] (slot ∷ index ∷ []) row.some)
+      (append_assoc looks (slot ∷ []) (index ∷ []) ∙ chosen (sees_full r.copy K r u row.copy row.seen) looks [] (slot ∷ index ∷ []) row.says)
 
   half_taken : (m i : ℕ) → Half n the_receiver fastforward k r c m i ws x t → Done the_receiver fastforward r c x
   half_taken m i row =
@@ -257,7 +258,7 @@ module _ (n : ℕ) (k : Block) (a b : ℕ) (is : IsRingBuffer (ring_at k a b)) (
       let w : ℕ = slice_index x 11 in
       done_with the_receiver fastforward r c x row.frame.left.kept tt w tt u row.copy row.seen (stored-offset k the_receiver u t row.knows near) row.found
       (looked the_receiver fastforward r u row.seen ++ store (write (r.slots + u) 4 0) ∷ []) (store (write r.tail 4 (next r u)) ∷ []) row.did
-      (chosen (says_empty fastforward u row.seen) (looked the_receiver fastforward r u row.seen) [] (take_accesses fastforward r w u) row.some)
+      (chosen (says_empty fastforward u row.seen) (looked the_receiver fastforward r u row.seen) [] (take_accesses fastforward r w u) row.says)
 
   finished_done : (p : Party) (K : Kind) (m answer : ℕ) (vs : List ℕ) → Finished n p K k r c m vs x t answer → Done p K r c x
   finished_done p K m answer vs row =
@@ -278,11 +279,8 @@ module _ (n : ℕ) (k : Block) (a b : ℕ) (is : IsRingBuffer (ring_at k a b)) (
       past_done 6 (placed (slice_index x 5)) [] 0 (subst (IsNear k) row.knows near.sending) (inl refl) row
   own_done the_sender lamport at_38 row =
       past_done 7 (looks_past_copy lamport r (slice_index x 5) (slice_index x 6)) (load r.tail 4 (slice_index x 6) ∷ []) (slice_index x 6)
-      (past_at (says_full lamport r (slice_index x 5) (slice_index x 6)) (subst (IsNear k) row.knows near.sending)) (inr refl) row
-    where
-      past_at : (d : Bool) → IsNear k (if d then placed (slice_index x 5) else renewing (slice_index x 5) (slice_index x 6)) → IsOffset k (slice_index x 5)
-      past_at true h = h
-      past_at false h = h
+      (either (IsNear k) (says_full lamport r (slice_index x 5) (slice_index x 6)) (placed (slice_index x 5)) (renewing (slice_index x 5) (slice_index x 6))
+      (λ h. h) (λ h. h) (subst (IsNear k) row.knows near.sending)) (inr refl) row
   own_done the_sender lamport at_3C row =
       past_done 8 (renewing (slice_index x 5) (slice_index x 6)) (load r.tail 4 (slice_index x 6) ∷ []) (slice_index x 6)
       (subst (IsNear k) row.0.knows near.sending) (inr refl) row.0

@@ -1,8 +1,8 @@
 -- What an entry does to the words of the block and to the pending stores that go to it: only a landing or a store of
 -- the block's own does anything. So whatever else runs, the block is as it was.
-use Rattle.std.proofs.Common.{ℕ, ◌+◌, ◌%◌, ◌≡◌, ◌==◌, inl, inr, Bool, true, false, if◌then◌else◌, List, [], ◌∷◌, ◌++◌, refl, ◌∙◌, ap, subst}
+use Rattle.std.proofs.Common.{ℕ, ◌+◌, ◌%◌, ◌≡◌, ◌==◌, true, false, if◌then◌else◌, List, [], ◌∷◌, ◌++◌, ◌∙◌, ap}
 use Rattle.std.specs.Prelude.{All}
-use Rattle.std.proofs.lemmas.List.Elements.{filter-append, All-head, All-tail, All-nil, All-cons}
+use Rattle.std.proofs.lemmas.List.Elements.{filter-append}
 use Rattle.memory.specs.declared.writes.Write.{Write}
 use Rattle.memory.specs.Writes.{byte_after, joined, IsWholeWord}
 use Rattle.step_machine.specs.declared.events.Entry.{Entry}
@@ -10,7 +10,7 @@ use Rattle.step_machine.specs.History.{OpeningValue}
 use Rattle.step_machine.specs.Entries.{write_of, pending, memory_byte, memory_word, read}
 use Rattle.store_buffers.proofs.Effects.{number-quiet, number-after}
 use Rattle.spsc_queue.specs.RingBuffers.{RingBuffer, IsWordIn}
-use Rattle.spsc_queue.proofs.Words.{shared, row_of, seen, Tidy, off_word, whole_word, read_through}
+use Rattle.spsc_queue.proofs.Words.{shared, row_of, seen, off_word, whole_word, read_through}
 
 -- ---- words of memory
 
@@ -41,19 +41,7 @@ on-one r w on = ap (λ b. if b then w ∷ [] else []) on
 pub on-none : (r : RingBuffer) (w : Write) → shared r w ≡ false → row_of r (w ∷ []) ≡ []
 on-none r w off = ap (λ b. if b then w ∷ [] else []) off
 
--- where what goes to the block is of whole words, all is tidy
-pub tidy-from : (r : RingBuffer) (ws : List Write) → All IsWholeWord (row_of r ws) → All (Tidy r) ws
-tidy-from r [] all = All-nil (Tidy r)
-tidy-from r (w ∷ ws) all = at (shared r w) refl (λ more. tidy-from r ws more)
-  where
-    at : (b : Bool) → shared r w ≡ b → (All IsWholeWord (row_of r ws) → All (Tidy r) ws) → All (Tidy r) (w ∷ ws)
-    at false off rest =
-        All-cons (Tidy r) w ws (inl off) (rest (subst (All IsWholeWord) (ap (λ b. if b then w ∷ row_of r ws else row_of r ws) off) all))
-    at true on rest =
-        let both : All IsWholeWord (w ∷ row_of r ws) = subst (All IsWholeWord) (ap (λ b. if b then w ∷ row_of r ws else row_of r ws) on) all in
-        All-cons (Tidy r) w ws (inr (All-head IsWholeWord w (row_of r ws) both)) (rest (All-tail IsWholeWord w (row_of r ws) both))
-
 -- what a hart reads in a word of the block: the last of its own pending stores there, else the word of memory
 pub reads-word : (r : RingBuffer) (o : OpeningValue) (es : List Entry) (h a : ℕ) → IsWordIn r a → All IsWholeWord (row_of r (pending h es))
     → read o es h a 4 ≡ seen a (memory_word o es a) (row_of r (pending h es))
-reads-word r o es h a is all = read_through r a (memory_byte o es) (pending h es) is (tidy-from r (pending h es) all)
+reads-word r o es h a is all = read_through r a (memory_byte o es) (pending h es) is all

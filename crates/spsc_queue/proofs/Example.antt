@@ -32,11 +32,10 @@ use Rattle.spsc_queue.specs.Calls.{Party, the_sender, the_receiver, party_hart, 
 use Rattle.spsc_queue.specs.Calls.{received_words, StandsIn, HasFunction, UsesAsSpscQueue}
 use Rattle.spsc_queue.specs.CallEffects.{IsWholeCall, accesses}
 use Rattle.spsc_queue.specs.Obligations.{obligations_kept}
-use Rattle.spsc_queue.specs.Example.{value_at, entry_in, entry_by, entries_by, fast, kind_of, caches_of, Variant, caching, waiting_of}
-use Rattle.spsc_queue.specs.Example.{Scenario, sends, hits, receives, finds_full, takes_over, plain}
-use Rattle.spsc_queue.specs.Example.{finds_empty, goes_on, variant, sender_of, receiver_of, party, queue}
-use Rattle.spsc_queue.specs.Example.{hart_of_party, opening, first_events, lead_events, call_events, before_entries, lead_entries}
-use Rattle.spsc_queue.specs.Example.{call_entries, entries, state_after, answer, access_count, sent, received}
+use Rattle.spsc_queue.specs.Example.{value_at, entry_in, entry_by, entries_by, fast, kind_of, caches_of, Variant, caching, waiting_of, Scenario, sends, hits}
+use Rattle.spsc_queue.specs.Example.{receives, finds_full, takes_over, plain, finds_empty, goes_on, variant, sender_of, receiver_of, party, queue}
+use Rattle.spsc_queue.specs.Example.{hart_of_party, opening, first_events, lead_events, call_events, before_entries, lead_entries, call_entries, entries}
+use Rattle.spsc_queue.specs.Example.{state_after, answer, access_count, sent, received}
 use Rattle.spsc_queue.proofs.Registers.{thirteen}
 use Rattle.spsc_queue.proofs.Parts.{copied_in}
 use Rattle.spsc_queue.proofs.Words.{both}
@@ -245,25 +244,15 @@ copy_range caching a some = refl
 copy_range fast a some = cc
 
 copy_past : (x : Scenario) → variant x ≡ caching → waiting_of x < copy_place x
-copy_past (sends v) is = omega arith
-copy_past hits is = omega arith
-copy_past (receives v) is = omega arith
-copy_past (finds_full v) is = omega arith
-copy_past (finds_empty v) is = omega arith
-copy_past goes_on is = omega arith
 copy_past (takes_over plain) is = absurd (cc)
-copy_past (takes_over caching) is = omega arith
 copy_past (takes_over fast) is = absurd (cc)
+copy_past x is = omega arith
 
 copy_near : (x : Scenario) → copy_place x ≤ 2
-copy_near hits = omega arith
-copy_near goes_on = omega arith
 copy_near (takes_over caching) = omega arith
 copy_near x = omega arith
 
 few_wait : (x : Scenario) → waiting_of x ≤ capacity (buffer (queue x))
-few_wait (takes_over plain) = omega arith
-few_wait (takes_over caching) = omega arith
 few_wait (takes_over fast) = omega arith
 few_wait x = omega arith
 
@@ -284,19 +273,15 @@ rest x = record {
 }
   where
     few_wait_all : (x : Scenario) → waiting_of x ≤ 2
-    few_wait_all (takes_over plain) = omega arith
-    few_wait_all (takes_over caching) = omega arith
     few_wait_all (takes_over fast) = omega arith
     few_wait_all x = omega arith
 
 sender_there : (x : Scenario) → slice_get (opening x).harts (sender_of x) ≡ Some (hart_of_party (variant x) the_sender)
 sender_there goes_on = refl
-sender_there (takes_over v) = refl
 sender_there x = refl
 
 receiver_there : (x : Scenario) → slice_get (opening x).harts (receiver_of x) ≡ Some (hart_of_party (variant x) the_receiver)
 receiver_there goes_on = refl
-receiver_there (takes_over v) = refl
 receiver_there x = refl
 
 has : (x : Scenario) (p : Party) → HasFunction (opening x) (party_hart (queue x) p) (party_line (queue x) p)
@@ -340,7 +325,6 @@ uses x = record {
   where
     apart : (x : Scenario) → sender_of x ≢ receiver_of x
     apart goes_on = λ e. omega (arith, e)
-    apart (takes_over v) = λ e. omega (arith, e)
     apart x = λ e. omega (arith, e)
 
 pub is_call : (x : Scenario)

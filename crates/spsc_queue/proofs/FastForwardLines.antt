@@ -1,7 +1,6 @@
 -- FastForward's functions, line by line: what each line does keeps the protocol, and leads to the next line of the outline.
-use Rattle.std.proofs.Common.{ℕ, pos, ◌+◌, ◌*◌, ◌%◌, ◌^◌, ◌<◌, ◌≤◌, ◌≡◌, ◌≢◌, ◌==◌, not, ◌⊎◌, inl, inr, true, false}
-use Rattle.std.proofs.Common.{if◌then◌else◌, None, List, [], ◌∷◌, ◌++◌, refl}
-use Rattle.std.proofs.Common.{sym, ◌∙◌, ap, subst, arith}
+use Rattle.std.proofs.Common.{ℕ, pos, ◌+◌, ◌*◌, ◌%◌, ◌^◌, ◌<◌, ◌≤◌, ◌≡◌, ◌≢◌, ◌==◌, not, ◌⊎◌, inl, inr, true, false, if◌then◌else◌, None, List, [], ◌∷◌, ◌++◌}
+use Rattle.std.proofs.Common.{refl, sym, ◌∙◌, ap, subst, arith}
 use Rattle.std.specs.Prelude.{slice_index}
 use Rattle.std.proofs.lemmas.Bool.{cases_eq, eq-eqb, ne_eqb}
 use Rattle.rv_decode.specs.Meaning.{reg_of}
@@ -20,17 +19,12 @@ use Rattle.spsc_queue.specs.Calls.{Block, IsBlock, Party, the_sender, the_receiv
 use Rattle.spsc_queue.specs.CallEffects.{sees_full, take_accesses, receive_accesses}
 use Rattle.step_machine.proofs.Lines.{sum_line, load_line, same_jumps, other_goes_on, other_jumps, same_goes_on, goes_to, leaves_in}
 use Rattle.spsc_queue.proofs.Registers.{set-same, set-other}
-use Rattle.spsc_queue.proofs.Courses.{At, at_04, at_08, at_0C, at_10, at_14, at_18, at_1C, at_20}
-use Rattle.spsc_queue.proofs.Courses.{at_2C, number, Equipped}
-use Rattle.spsc_queue.proofs.Courses.{Course}
-use Rattle.spsc_queue.proofs.Courses.{free_6, free_11}
+use Rattle.spsc_queue.proofs.Courses.{At, at_04, at_08, at_0C, at_10, at_14, at_18, at_1C, at_20, at_2C, number, Equipped, Course, free_6, free_11}
 use Rattle.spsc_queue.proofs.Outline.{Part, part, IsOffset, Near, first_look, Stored, IsStore, OwnRow, Row, Moves}
 use Rattle.spsc_queue.proofs.Parts.{slot-taken, knows-offset, looked-offset}
-use Rattle.spsc_queue.proofs.AllLines.{Spot, spot, to_line, to_ready, loads_to, line_at, on, over, indexed_7, to_seen}
-use Rattle.spsc_queue.proofs.AllLines.{to_no, word_set, if_false, found_room, looked_once}
-use Rattle.spsc_queue.proofs.AllLines.{}
-use Rattle.spsc_queue.proofs.CommonLines.{bumps, zeroes, tests, slot_stores, index_stores, sender_puts, sender_publishes}
-use Rattle.spsc_queue.proofs.CommonLines.{send_whole}
+use Rattle.spsc_queue.proofs.AllLines.{Spot, spot, to_line, to_ready, loads_to, line_at, on, over, indexed_7, to_seen, to_no, word_set, if_false, found_room}
+use Rattle.spsc_queue.proofs.AllLines.{looked_once}
+use Rattle.spsc_queue.proofs.CommonLines.{bumps, zeroes, tests, slot_stores, index_stores, sender_puts, sender_publishes, send_whole}
 
 module _ (M n a b : ℕ) (k : Block) (is : IsBlock M k) (h : ℕ) (s : HartState) (t : ProtocolState) (v : ℕ) where
   abbrev r : RingBuffer
@@ -122,7 +116,7 @@ module _ (M n a b : ℕ) (k : Block) (is : IsBlock M k) (h : ℕ) (s : HartState
         (λ made q. q)
     sends_at at_20 place row = index_stores sending near 8 place (omega arith) (reg_of 5) refl (omega arith)
         (line_at sending 8 place refl) row refl (sender_publishes fastforward r t row.place row.knows)
-        (send_whole fastforward r t row.place row.copy row.seen (slice_index x 11) row.some)
+        (send_whole fastforward r t row.place row.copy row.seen (slice_index x 11) row.says)
     sends_at line place row = absurd row
 
   -- ---- fastforward_receive
@@ -194,5 +188,5 @@ module _ (M n a b : ℕ) (k : Block) (is : IsBlock M k) (h : ℕ) (s : HartState
         (receiver_puts row.place (slice_index x 11) row.knows) (λ made q. q)
     takes_at at_20 place row = index_stores taking near 8 place (omega arith) (reg_of 5) refl (omega arith) (line_at taking 8 place refl) row refl
         (λ made word value. subst (λ q. IsReceiverStore fastforward r q made) (sym row.knows) (word, value))
-        (receive_whole row.place row.seen (slice_index x 11) row.some)
+        (receive_whole row.place row.seen (slice_index x 11) row.says)
     takes_at line place row = absurd row

@@ -4,10 +4,10 @@ use Rattle.hart.specs.State.{HartState}
 use Rattle.spsc_queue.specs.RingBuffers.{Kind, lamport, fastforward, RingBuffer}
 use Rattle.spsc_queue.specs.Protocol.{ProtocolState}
 use Rattle.spsc_queue.specs.Calls.{Block, IsBlock, Party, the_sender, the_receiver, listing_of, ring_at, enters, HasArguments}
-use Rattle.spsc_queue.proofs.Courses.{At, at_00, at_04, at_08, at_0C, at_10, at_14, at_18, at_1C, at_20, at_24, at_28}
-use Rattle.spsc_queue.proofs.Courses.{at_2C, at_30, at_34, at_38, at_3C, at_40, number, Equipped}
-use Rattle.spsc_queue.proofs.Courses.{Course}
+use Rattle.spsc_queue.proofs.Courses.{At, at_00, at_04, at_08, at_0C, at_10, at_14, at_18, at_1C, at_20, at_24, at_28, at_2C, at_30, at_34, at_38, at_3C, at_40}
+use Rattle.spsc_queue.proofs.Courses.{number, Equipped, Course}
 use Rattle.spsc_queue.proofs.Outline.{Part, part, Level, Near, OwnRow, more, Row, Inside, Stands, WordsAre, Moves}
+use Rattle.spsc_queue.proofs.Cases.{by-bool}
 use Rattle.spsc_queue.proofs.Completed.{entered}
 use Rattle.spsc_queue.specs.CallEffects.{longest}
 use Rattle.spsc_queue.proofs.AllLines.{spot, short, Answered, none}
@@ -18,11 +18,10 @@ use Rattle.spsc_queue.proofs.FastForwardLines as fastforwards
 own_moves : (M n a b : ℕ) (p : Party) (K : Kind) (k : Block) (is : IsBlock M k) (h : ℕ) (s : HartState) (t : ProtocolState) (v : ℕ) → k.kind ≡ K
     → (has : Equipped M n (listing_of K k.caches p) s) → Near k (part p t) → (c : Course) (ws : List ℕ) (line : At) → s.pc ≡ 4 * (n + number line)
     → OwnRow n p K k (ring_at k a b) c ws line s.registers (part p t) → Moves n p K k (ring_at k a b) true ws c h s t v
-own_moves M n a b the_sender lamport k is h s t v kind has near c ws line place row = at k.caches refl
-  where
-    at : (b2 : Bool) → k.caches ≡ b2 → Moves n the_sender lamport k (ring_at k a b) true ws c h s t v
-    at false plain = lamports.sends_at M n a b k is h s t v has near c ws plain line place row
-    at true keeps = lamports.caches_at M n a b k is h s t v has near c ws keeps kind line place row
+own_moves M n a b the_sender lamport k is h s t v kind has near c ws line place row =
+    by-bool (λ b2. Moves n the_sender lamport k (ring_at k a b) true ws c h s t v) k.caches
+    (λ keeps. lamports.caches_at M n a b k is h s t v has near c ws keeps kind line place row)
+    (λ plain. lamports.sends_at M n a b k is h s t v has near c ws plain line place row)
 own_moves M n a b the_receiver lamport k is h s t v kind has near c ws line place row = lamports.takes_at M n a b k is h s t v has near c ws line place row
 own_moves M n a b the_sender fastforward k is h s t v kind has near c ws line place row =
     fastforwards.sends_at M n a b k is h s t v kind has near c ws line place row

@@ -1,5 +1,5 @@
 -- What holds of the block, of the pending stores to it and of both parties after every run that keeps the protocol.
-use Rattle.std.proofs.Common.{ℕ, zero, suc, ◌+◌, ◌<◌, ◌≤◌, ◌≡◌, ◌≢◌, List, [], ◌∷◌, ◌++◌, sym, arith}
+use Rattle.std.proofs.Common.{ℕ, zero, suc, ◌+◌, ◌-◌, ◌/◌, ◌<◌, ◌≤◌, ◌≡◌, ◌≢◌, List, [], ◌∷◌, ◌++◌, sym, arith}
 use Rattle.memory.specs.declared.writes.Write.{Write}
 use Rattle.step_machine.specs.declared.events.Entry.{Entry}
 use Rattle.step_machine.specs.History.{OpeningValue}
@@ -11,7 +11,7 @@ use Rattle.spsc_queue.specs.Laws.{ready_by_state}
 use Rattle.spsc_queue.proofs.Spread.{sent_store, freed_store}
 use Rattle.spsc_queue.proofs.Cases.{IsLevel, IsWhole}
 use Rattle.spsc_queue.proofs.Copies.{Copied}
-use Rattle.spsc_queue.proofs.Rows.{Earlier, Rows, RowOrder}
+use Rattle.spsc_queue.proofs.Rows.{Earlier, Rows}
 
 -- FastForward's receiver's row is the sender's of another ring: its index is the tail, its words are 0
 abbrev pub turned : RingBuffer → RingBuffer
@@ -39,63 +39,69 @@ zeros j = 0
 abbrev pub cleared_store : RingBuffer → ℕ → Write
 cleared_store r p = sent_store (turned r) zeros p
 
--- how many of the block's stores have landed: words in their slots, heads, FastForward's zeros, tails
+-- how many stores of the sender's row and of the receiver's have landed. Of i stores that go to a slot and to the index after it by turns,
+-- (i + 1) / 2 went to slots, and i / 2 to the index
 pub record Landed : Type 0 where
-  pub slots : ℕ
-  pub heads : ℕ
-  pub cleared : ℕ
-  pub tails : ℕ
+  pub mine : ℕ
+  pub theirs : ℕ
 
 -- the first n words of L
 abbrev pub firsts : (ℕ → ℕ) → ℕ → List ℕ
 firsts L zero = []
 firsts L (suc n) = firsts L n ++ L n ∷ []
 
--- ---- in what the kinds differ: how many slots stay free, how many slots are freed in memory, how many words are there in memory
+-- ---- in what the kinds differ: how many slots stay free, how many slots are freed in memory, of how many words the tail is there, and how
+-- many words are there in memory
 
 abbrev pub spare : Kind → ℕ
 spare lamport = 1
 spare fastforward = 0
 
-abbrev pub freed : Kind → (cleared tails : ℕ) → ℕ
-freed lamport z t = t
-freed fastforward z t = z
+abbrev pub freed : Kind → (theirs : ℕ) → ℕ
+freed lamport j = j
+freed fastforward j = (j + 1) / 2
 
-abbrev pub there : Kind → (slots heads : ℕ) → ℕ
-there lamport n h = h
-there fastforward n h = n
+abbrev pub tails : Kind → (theirs : ℕ) → ℕ
+tails lamport j = j
+tails fastforward j = j / 2
 
--- the receiver's row, how many of its stores have landed and how many it made, and in which order
+abbrev pub there : Kind → (mine : ℕ) → ℕ
+there lamport i = i / 2
+there fastforward i = (i + 1) / 2
+
+-- the receiver's row, how many of its stores it made, and how its counts are
 abbrev pub their_store : Kind → RingBuffer → ℕ → Write
 their_store lamport r p = freed_store r p
 their_store fastforward r p = cleared_store r p
-
-abbrev pub their_landed : Kind → (cleared tails : ℕ) → ℕ
-their_landed lamport z t = t
-their_landed fastforward z t = z + t
 
 abbrev pub they_made : Kind → (taken consumed : ℕ) → ℕ
 they_made lamport n m = m
 they_made fastforward n m = n + m
 
-abbrev pub Theirs : Kind → (taken consumed cleared tails : ℕ) → Type 0
-Theirs lamport n m z t = (n ≡ m) × (t ≤ m)
-Theirs fastforward n m z t = RowOrder n m z t
+abbrev pub Theirs : Kind → (taken consumed : ℕ) → Type 0
+Theirs lamport n m = n ≡ m
+Theirs fastforward n m = (m ≤ n) × (n ≤ m + 1)
 
 -- ---- the invariant
 
+-- how a party's two counts may differ
+pub record Levels (K : Kind) (stored published taken consumed : ℕ) : Type 0 where
+  pub published_stored : published ≤ stored
+  pub stored_published : stored ≤ published + 1
+  pub theirs : Theirs K taken consumed
+
 pub record Order (K : Kind) (r : RingBuffer) (stored published taken consumed : ℕ) (d : Landed) : Type 0 where
-  pub mine : RowOrder stored published d.slots d.heads
-  pub theirs : Theirs K taken consumed d.cleared d.tails
-  pub taken_there : taken ≤ there K d.slots d.heads
-  pub room : stored + spare K ≤ freed K d.cleared d.tails + r.size
+  pub levels : Levels K stored published taken consumed
+  pub open levels use *
+  pub taken_there : taken ≤ there K d.mine
+  pub room : stored + spare K ≤ freed K d.theirs + r.size
 
 -- the words of the block: its slots hold the words that landed and that aren't freed in memory, and FastForward's else 0
 pub record Words (K : Kind) (r : RingBuffer) (L : ℕ → ℕ) (d : Landed) (word : ℕ → ℕ) : Type 0 where
-  pub head : word r.head ≡ slot_offset r d.heads
-  pub tail : word r.tail ≡ slot_offset r d.tails
-  pub full : (j : ℕ) → freed K d.cleared d.tails ≤ j → j < d.slots → word (slot_address r j) ≡ L j
-  pub free : K ≡ fastforward → (j : ℕ) → d.slots ≤ j → j < freed K d.cleared d.tails + r.size → word (slot_address r j) ≡ 0
+  pub head : word r.head ≡ slot_offset r (d.mine / 2)
+  pub tail : word r.tail ≡ slot_offset r (tails K d.theirs)
+  pub full : (j : ℕ) → freed K d.theirs ≤ j → j < (d.mine + 1) / 2 → word (slot_address r j) ≡ L j
+  pub free : K ≡ fastforward → (j : ℕ) → (d.mine + 1) / 2 ≤ j → j < freed K d.theirs + r.size → word (slot_address r j) ≡ 0
 
 -- what the sender knows, where n slots have been freed in memory and this many stay free
 abbrev pub SendingIs : (spare : ℕ) → RingBuffer → (stored published n : ℕ) → SenderState → Type 0
@@ -114,25 +120,24 @@ ReceivingIs K r L taken consumed n (waiting u) = (taken ≡ consumed) × (u ≡ 
 ReceivingIs K r L taken consumed n (holding u w) = (taken ≡ consumed) × (u ≡ slot_offset r consumed) × (taken < n) × (w ≡ L taken)
 ReceivingIs K r L taken consumed n (cleared u) = (taken ≡ consumed + 1) × (u ≡ slot_offset r consumed) × (K ≡ fastforward)
 
--- the stores to the block: the sender's row and the receiver's, and how far each has come
-pub record Buffers (K : Kind) (r : RingBuffer) (L : ℕ → ℕ) (c : Earlier) (es : List Entry) (stored published taken consumed : ℕ) (d : Landed) : Type 0 where
-  pub unsent : ℕ
-  pub unread : ℕ
-  pub rows : Rows r c (sent_store r L) (their_store K r) es (d.slots + d.heads) unsent (their_landed K d.cleared d.tails) unread
-  pub mine_count : unsent + (d.slots + d.heads) ≡ stored + published
-  pub theirs_count : unread + their_landed K d.cleared d.tails ≡ they_made K taken consumed
+-- how many stores of each row are pending
+abbrev pub unsent : ProtocolState → Landed → ℕ
+unsent s d = s.stored + s.published - d.mine
+
+abbrev pub unread : Kind → ProtocolState → Landed → ℕ
+unread K s d = they_made K s.taken s.consumed - d.theirs
 
 pub record Invariant (K : Kind) (r : RingBuffer) (L : ℕ → ℕ) (c : Earlier) (o : OpeningValue) (es : List Entry) (s : ProtocolState) : Type 0 where
   pub landed : Landed
   pub order : Order K r s.stored s.published s.taken s.consumed landed
   pub words : Words K r L landed (memory_word o es)
   pub nonzero : K ≡ fastforward → (j : ℕ) → j < s.stored → L j ≢ 0
-  pub sending : SendingIs (spare K) r s.stored s.published (freed K landed.cleared landed.tails) s.sending
-  pub receiving : ReceivingIs K r L s.taken s.consumed (there K landed.slots landed.heads) s.receiving
-  pub buffers : Buffers K r L c es s.stored s.published s.taken s.consumed landed
+  pub sending : SendingIs (spare K) r s.stored s.published (freed K landed.theirs) s.sending
+  pub receiving : ReceivingIs K r L s.taken s.consumed (there K landed.mine) s.receiving
+  pub rows : Rows r c (sent_store r L) (their_store K r) es landed.mine (s.stored + s.published) landed.theirs (they_made K s.taken s.consumed)
   pub sent : s.sent ≡ firsts L s.stored
   pub received : s.received ≡ firsts L s.taken
-  pub copy : Copied K r.copy r o es (s.stored + ready_by_state s.sending) (freed K landed.cleared landed.tails)
+  pub copy : Copied K r.copy r o es (s.stored + ready_by_state s.sending) (freed K landed.theirs)
 
 pub sending-more : (spare : ℕ) (r : RingBuffer) (stored published n m : ℕ) (p : SenderState) → n ≤ m → SendingIs spare r stored published n p
     → SendingIs spare r stored published m p
@@ -146,18 +151,22 @@ receiving-more K r L taken consumed g h (waiting u) le is = (is.0, is.1, omega (
 receiving-more K r L taken consumed g h (holding u w) le is = (is.0, is.1, omega (arith, le, is.2), is.3)
 receiving-more K r L taken consumed g h p le is = is
 
--- what is freed was taken, what is there is in its slot, and more is there where more has landed
-pub freed_taken : (K : Kind) (n m z t : ℕ) → Theirs K n m z t → freed K z t ≤ n
-freed_taken lamport n m z t is = omega (arith, is.0, is.1)
-freed_taken fastforward n m z t is = is.slots_stored
+-- what is freed was taken, what is there is in its slot, and more is there, and freed, where more has landed
+pub freed_taken : (K : Kind) (n m j : ℕ) → Theirs K n m → j ≤ they_made K n m → freed K j ≤ n
+freed_taken lamport n m j is le = omega (arith, is, le)
+freed_taken fastforward n m j is le = omega (arith, is.0, le)
 
-pub there_slots : (K : Kind) {n h : ℕ} → h ≤ n → there K n h ≤ n
-there_slots lamport le = le
-there_slots fastforward le = omega arith
+pub there_slots : (K : Kind) (i : ℕ) → there K i ≤ (i + 1) / 2
+there_slots lamport i = omega arith
+there_slots fastforward i = omega arith
 
-pub there_more : (K : Kind) {n h n2 h2 : ℕ} → n ≤ n2 → h ≤ h2 → there K n h ≤ there K n2 h2
-there_more lamport le le2 = le2
-there_more fastforward le le2 = le
+pub there_more : (K : Kind) {i i2 : ℕ} → i ≤ i2 → there K i ≤ there K i2
+there_more lamport le = omega (arith, le)
+there_more fastforward le = omega (arith, le)
+
+pub freed_more : (K : Kind) {j j2 : ℕ} → j ≤ j2 → freed K j ≤ freed K j2
+freed_more lamport le = le
+freed_more fastforward le = omega (arith, le)
 
 -- the sender's place, and whether a word is half sent
 abbrev pub IsPlaced : RingBuffer → (stored published : ℕ) → SenderState → Type 0
@@ -175,15 +184,11 @@ placed-of spare r stored published n p h = h
 -- where no word is half sent, and no slot half freed, the counts are level
 pub level-counts : (r : RingBuffer) (stored published : ℕ) (p : SenderState) → IsLevel p → IsPlaced r stored published p → stored ≡ published
 level-counts r stored published resting l h = h
-level-counts r stored published (placed u) l h = h.0
-level-counts r stored published (renewing u v) l h = h.0
-level-counts r stored published (roomy u) l h = h.0
 level-counts r stored published (filled u) l h = absurd l
+level-counts r stored published p l h = h.0
 
 pub whole-counts : (K : Kind) (r : RingBuffer) (L : ℕ → ℕ) (taken consumed n : ℕ) (p : ReceiverState) → IsWhole p → ReceivingIs K r L taken consumed n p
     → taken ≡ consumed
 whole-counts K r L taken consumed n idle whole is = is
-whole-counts K r L taken consumed n (asked u) whole is = is.0
-whole-counts K r L taken consumed n (waiting u) whole is = is.0
-whole-counts K r L taken consumed n (holding u w) whole is = is.0
 whole-counts K r L taken consumed n (cleared u) whole is = absurd whole
+whole-counts K r L taken consumed n p whole is = is.0

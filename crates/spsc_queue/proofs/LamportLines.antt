@@ -1,7 +1,6 @@
 -- Lamport's functions, line by line: what each line does keeps the protocol, and leads to the next line of the outline.
-use Rattle.std.proofs.Common.{ℕ, pos, negsuc, ◌+◌, ◌*◌, ◌%◌, ◌^◌, ◌<◌, ◌≤◌, ◌≡◌, ◌≢◌, ◌==◌, ◌&&◌, ◌⊎◌, inl, inr, true}
-use Rattle.std.proofs.Common.{false, if◌then◌else◌, List, [], ◌∷◌, ◌++◌}
-use Rattle.std.proofs.Common.{Some, None, refl, sym, ◌∙◌, ap, subst, arith, append-nil}
+use Rattle.std.proofs.Common.{ℕ, pos, negsuc, ◌+◌, ◌*◌, ◌%◌, ◌^◌, ◌<◌, ◌≤◌, ◌≡◌, ◌≢◌, ◌==◌, ◌&&◌, ◌⊎◌, inl, inr, true, false, if◌then◌else◌, List, [], ◌∷◌}
+use Rattle.std.proofs.Common.{◌++◌, Some, None, refl, sym, ◌∙◌, ap, subst, arith, append-nil}
 use Rattle.std.specs.Prelude.{slice_index, slice_set, map}
 use Rattle.std.specs.List.{slice_get}
 use Rattle.std.proofs.lemmas.Bool.{cases_eq, eq-eqb, ne_eqb}
@@ -21,9 +20,8 @@ use Rattle.hart.specs.Effects.{next_pc, address}
 use Rattle.hart.proofs.Instructions.{IsAt}
 use Rattle.step_machine.specs.Access.{Access, nothing, load, store}
 use Rattle.spsc_queue.specs.RingBuffers.{Kind, lamport, fastforward, RingBuffer, IsWordIn, next, overlaps}
-use Rattle.spsc_queue.specs.Protocol.{SenderState, placed, renewing, roomy, asked, waiting, holding, ProtocolState}
-use Rattle.spsc_queue.specs.Protocol.{says_full, looks_past_copy, IsWordAt, IsCopyStore}
-use Rattle.spsc_queue.specs.Protocol.{IsSenderStore, IsReceiverStore}
+use Rattle.spsc_queue.specs.Protocol.{SenderState, placed, renewing, roomy, asked, waiting, holding, ProtocolState, says_full, looks_past_copy, IsWordAt}
+use Rattle.spsc_queue.specs.Protocol.{IsCopyStore, IsSenderStore, IsReceiverStore}
 use Rattle.rv_decode.specs.Listings.{lines_of}
 use Rattle.spsc_queue.specs.Listings.{try_send, try_receive}
 use Rattle.spsc_queue.specs.Cached.{cached_send}
@@ -33,18 +31,14 @@ use Rattle.step_machine.proofs.Lines.{word-plus, add_line, sum_line, load_line, 
 use Rattle.step_machine.proofs.Lines.{goes_to, leaves_in}
 use Rattle.spsc_queue.proofs.Words.{word_overlaps}
 use Rattle.spsc_queue.proofs.Registers.{set-same, set-other, decoded, code_room, next_line, line_on, line_back}
-use Rattle.spsc_queue.proofs.Courses.{At, at_04, at_08, at_0C, at_10, at_14, at_18, at_1C, at_20, at_24}
-use Rattle.spsc_queue.proofs.Courses.{at_2C, at_34, at_38, at_3C, at_40, number}
-use Rattle.spsc_queue.proofs.Courses.{Equipped, Course, went, left_on, frame_on, frame_set, more_left, more_frame, bytes_of, free_6, free_7, free_11}
-use Rattle.spsc_queue.proofs.Outline.{Part, part, Level, IsOffset, IsNear, IsFit, Near, first_look, Looked}
-use Rattle.spsc_queue.proofs.Outline.{looked, Seen, Past, Ready, Finished}
-use Rattle.spsc_queue.proofs.Outline.{detour, OwnRow, Row, Moves}
+use Rattle.spsc_queue.proofs.Courses.{At, at_04, at_08, at_0C, at_10, at_14, at_18, at_1C, at_20, at_24, at_2C, at_34, at_38, at_3C, at_40, number, Equipped}
+use Rattle.spsc_queue.proofs.Courses.{Course, went, left_on, frame_on, frame_set, more_left, more_frame, bytes_of, free_6, free_7, free_11}
+use Rattle.spsc_queue.proofs.Outline.{Part, part, Level, IsOffset, IsNear, IsFit, Near, first_look, Looked, looked, Seen, Past, Ready, Finished, detour, OwnRow}
+use Rattle.spsc_queue.proofs.Outline.{Row, Moves}
 use Rattle.spsc_queue.proofs.Parts.{copied, level-next, past-load, word-load, copy-stored, tail-taken, looked-offset, ready-offset}
-use Rattle.spsc_queue.proofs.AllLines.{Spot, spot, to_line, to_ready, loads_to, stores_to, line_at, line_of, on, over, wraps_not}
-use Rattle.spsc_queue.proofs.AllLines.{wraps, to_seen, to_no, ready_5, ready_on, word_set}
-use Rattle.spsc_queue.proofs.AllLines.{if_false, found_room, looked_once}
-use Rattle.spsc_queue.proofs.CommonLines.{bumps, zeroes, tests, slot_stores, index_stores, sender_puts, sender_publishes}
-use Rattle.spsc_queue.proofs.CommonLines.{send_whole}
+use Rattle.spsc_queue.proofs.AllLines.{Spot, spot, to_line, to_ready, loads_to, stores_to, line_at, line_of, on, over, wraps_not, wraps, to_seen, to_no}
+use Rattle.spsc_queue.proofs.AllLines.{ready_5, ready_on, word_set, if_false, found_room, looked_once}
+use Rattle.spsc_queue.proofs.CommonLines.{bumps, zeroes, tests, slot_stores, index_stores, sender_puts, sender_publishes, send_whole}
 
 abbrev stores_of : RingBuffer → (w u : ℕ) → List Access
 stores_of r w u = store (write (r.slots + u) 4 w) ∷ store (write r.head 4 (next r u)) ∷ []
@@ -177,7 +171,7 @@ module _ (M n a b : ℕ) (k : Block) (is : IsBlock M k) (h : ℕ) (s : HartState
     sends_20 : IsAt s (Store store_op.Word (reg_of 10) (reg_of 7) (pos 0)) → Sends at_20
     sends_20 here place row =
         index_stores sending near 8 place (omega arith) (reg_of 7) refl (omega arith) here row refl
-        (sender_publishes lamport r t row.place row.knows) (send_whole lamport r t row.place row.copy row.seen (slice_index x 11) row.some)
+        (sender_publishes lamport r t row.place row.knows) (send_whole lamport r t row.place row.copy row.seen (slice_index x 11) row.says)
 
     -- try_send
     pub sends_at : k.caches ≡ false → (line : At) → s.pc ≡ 4 * (n + number line) → OwnRow n the_sender lamport k r c ws line x (part the_sender t)
@@ -252,9 +246,8 @@ module _ (M n a b : ℕ) (k : Block) (is : IsBlock M k) (h : ℕ) (s : HartState
             let found : sees_full r.copy lamport r (slice_index x 5) row.copy (slice_index x 6) ≡ true =
             ap (λ q. sees_full q lamport r (slice_index x 5) row.copy (slice_index x 6)) copies ∙ both_full in
             record {
-              place = slice_index x 5;
-              copy = row.copy;
-              seen = slice_index x 6;
+              no = true;
+              choice = record { place = slice_index x 5; copy = row.copy; seen = slice_index x 6; says = found };
               left = more_left (omega (arith, le)) (left_on nothing row.frame.left);
               word = row.word;
               found = tt;
@@ -271,7 +264,7 @@ module _ (M n a b : ℕ) (k : Block) (is : IsBlock M k) (h : ℕ) (s : HartState
                   ∙ ap (λ q. load r.head 4 (slice_index x 5) ∷ load (k.base + 4) 4 row.copy ∷ load r.tail 4 (slice_index x 6)
                   ∷ ((if q then [] else store (write (k.base + 4) 4 (slice_index x 6)) ∷ [])
                   ++ (if q then [] else stores_of r (slice_index x 11) (slice_index x 5)))) full);
-              answers = sym (ap (λ q. if q then 0 else 1) found);
+              answers = refl;
             }
 
         cached_at : (line : At) → s.pc ≡ 4 * (n + number line)
@@ -355,22 +348,21 @@ module _ (M n a b : ℕ) (k : Block) (is : IsBlock M k) (h : ℕ) (s : HartState
             let here : slice_index x 10 + 4 ≡ k.base + 4 = ap (λ y. y + 4) row.0.frame.block in
             let hits : overlaps r made ≡ true = grind (arith, nat_tests, row.0.frame.block) in
             let becomes = copy-stored lamport r made hits t (slice_index x 5) (slice_index x 6) row.0.knows in
+            let some : sees_full r.copy lamport r (slice_index x 5) row.0.copy (slice_index x 6) ≡ false =
+            ap (λ q. sees_full q lamport r (slice_index x 5) row.0.copy (slice_index x 6)) copies
+            ∙ ap (λ q. q && says_full lamport r (slice_index x 5) (slice_index x 6)) row.0.full ∙ row.1 in
             (stores_to sending at_40 (slice_index x 10 + 4) (slice_index x 6)
             (store_line (line_here 15 place refl) (omega (arith, row.0.frame.block, is.aligned)) refl
             (omega (arith, row.0.frame.block, is.inside, has.words)) (omega (arith, has.words, is.small))) (ahead 15 place (omega arith))
             (subst (λ q. IsSenderStore lamport r q made) (sym row.0.knows)
             (subst (λ q. IsCopyStore q (slice_index x 6) made) (sym copies) (record { place = here; width = refl }, refl))) (
               record {
-                place = slice_index x 5;
-                copy = row.0.copy;
-                seen = slice_index x 6;
+                choice = record { place = slice_index x 5; copy = row.0.copy; seen = slice_index x 6; says = some };
                 frame = frame_on (store made) row.0.frame;
                 word = row.0.word;
                 found = tt;
                 knows = ap (λ (y : Part). y.sending) becomes;
                 level = subst Level (sym becomes) (record { sending = tt; receiving = tt });
-                some = ap (λ q. sees_full q lamport r (slice_index x 5) row.0.copy (slice_index x 6)) copies
-                    ∙ ap (λ q. q && says_full lamport r (slice_index x 5) (slice_index x 6)) row.0.full ∙ row.1;
                 x5 = refl;
                 x7 = row.0.after;
                 words = ap (λ (y : Part). y.words) becomes ∙ row.0.words;
@@ -457,15 +449,12 @@ module _ (M n a b : ℕ) (k : Block) (is : IsBlock M k) (h : ℕ) (s : HartState
         let eleven : v ≡ slice_index (slice_set x 11 v) 11 = sym (set-same x 11 v (omega (arith, has.size))) in
         loads_to taking at_14 (slice_index x 7 + 128) (reg_of 11) (load_line (line_at taking 4 place refl) (omega (arith, row.1, is.aligned, bound.1)) refl
         (omega (arith, row.1, bound.0, is.inside, has.words)) (omega (arith, has.words, is.small))) (on taking 4 place (omega arith)) (record {
-          place = u;
-          copy = row.0.seen;
-          seen = row.0.seen;
+          choice = record { place = u; copy = row.0.seen; seen = row.0.seen; says = row.0.some };
           frame = frame_set (load (slice_index x 7 + 128) 4 v) 11 v free_11 (λ e. omega arith) row.0.frame;
           word = tt;
           found = tt;
           knows = word-load lamport r t (slice_index x 7 + 128) v u row.0.knows (λ e. omega (arith, row.1)) (omega (arith, row.1)) ∙ ap (holding u) eleven;
           level = (level-next lamport r the_receiver t (load (slice_index x 7 + 128) 4 v) tt row.0.level).0;
-          some = row.0.some;
           x5 = set-other x 11 5 v (λ e. omega arith);
           x7 = set-other x 11 7 v (λ e. omega arith) ∙ row.1;
           words = row.0.words;
@@ -492,9 +481,8 @@ module _ (M n a b : ℕ) (k : Block) (is : IsBlock M k) (h : ℕ) (s : HartState
         (store_line (line_at taking 8 place refl) (omega (arith, row.frame.block, is.aligned)) refl
         (omega (arith, row.frame.block, is.inside, has.words)) (omega (arith, has.words, is.small))) (on taking 8 place (omega arith))
         (subst (λ q. IsReceiverStore lamport r q made) (sym row.knows) (here, row.x5)) (record {
-          place = u;
-          copy = row.copy;
-          seen = row.seen;
+          no = false;
+          choice = row.choice;
           left = left_on (store made) row.frame.left;
           word = tt;
           found = tt;
@@ -503,8 +491,8 @@ module _ (M n a b : ℕ) (k : Block) (is : IsBlock M k) (h : ℕ) (s : HartState
           words = ap (λ (y : Part). y.words) becomes ∙ ap (λ zs. zs ++ slice_index x 11 ∷ []) row.words;
           did = ap (λ zs. zs ++ store made ∷ []) row.did
               ∙ ap (λ y. looked the_receiver lamport r u row.seen ++ load (r.slots + u) 4 (slice_index x 11) ∷ store y ∷ []) is_made
-              ∙ ap (λ zs. looked the_receiver lamport r u row.seen ++ zs) (if_false (row.seen == u) [] (take_accesses lamport r (slice_index x 11) u) row.some);
-          answers = if_false (row.seen == u) 0 1 row.some;
+              ∙ ap (λ zs. looked the_receiver lamport r u row.seen ++ zs) (if_false (row.seen == u) [] (take_accesses lamport r (slice_index x 11) u) row.says);
+          answers = refl;
         })
 
     pub takes_at : (line : At) → s.pc ≡ 4 * (n + number line)

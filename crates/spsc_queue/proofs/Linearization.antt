@@ -1,7 +1,6 @@
 -- A queue that looks empty or full is so, as far as stores have landed, and what has landed is found.
-use Rattle.std.proofs.Common.{ℕ, ◌+◌, ◌/◌, ◌^◌, ◌<◌, ◌≤◌, ◌≡◌, ◌≢◌, not, Bool, true, false, if◌then◌else◌, inl, inr, Option, Some, None, List, []}
-use Rattle.std.proofs.Common.{◌∷◌, ◌++◌, length, refl, sym, ◌∙◌, ap, subst, arith}
-use Rattle.std.proofs.Common.{append-nil, append_assoc}
+use Rattle.std.proofs.Common.{ℕ, suc, ◌+◌, ◌-◌, ◌/◌, ◌^◌, ◌<◌, ◌≤◌, ◌≡◌, ◌≢◌, not, Bool, true, false, if◌then◌else◌, inl, inr, Option, Some, None, List, []}
+use Rattle.std.proofs.Common.{◌∷◌, ◌++◌, length, refl, sym, ◌∙◌, ap, subst, arith, append-nil, append_assoc}
 use Rattle.std.specs.Prelude.{slice_index, All}
 use Rattle.std.specs.List.{filter}
 use Rattle.memory.specs.declared.writes.Write.{Write}
@@ -18,122 +17,106 @@ use Rattle.spsc_queue.specs.RingBuffers.{slot_address, next, capacity_of, capaci
 use Rattle.spsc_queue.specs.Protocol.{placed, asked, ProtocolState, at_start, room_at, says_full, watched_address, says_empty, KeepsProtocol, parties_after}
 use Rattle.spsc_queue.specs.Laws.{FollowsSpscProtocol, available_of, available_count, ready_by_state}
 use Rattle.store_buffers.specs.StoreBuffers.{LeavesByte}
+use Rattle.spsc_queue.proofs.Cases.{never}
 use Rattle.spsc_queue.proofs.Words.{is_copy, row_counts, copy_apart}
 use Rattle.spsc_queue.proofs.Copies.{Copied, row_whole}
-use Rattle.spsc_queue.proofs.Spread.{offset_apart, sent_store, freed_store, spread-count, counts-heads, counts-slots}
-use Rattle.spsc_queue.proofs.Rows.{Earlier, RowOrder}
-use Rattle.spsc_queue.proofs.Invariant.{turned, turned_is, zeros, cleared_store, Landed, spare, freed, there, their_landed, Theirs}
-use Rattle.spsc_queue.proofs.Invariant.{SendingIs, ReceivingIs, Invariant}
+use Rattle.spsc_queue.proofs.Spread.{offset_apart, freed_store, spread-count, counts-heads, counts-slots}
+use Rattle.spsc_queue.proofs.Rows.{Earlier, Row}
+use Rattle.spsc_queue.proofs.Invariant.{turned, turned_is, zeros, Landed, spare, freed, there, SendingIs, ReceivingIs, Invariant, there_more, freed_more}
 use Rattle.spsc_queue.proofs.Loads.{next_offset, sender-tail, receiver-other}
 use Rattle.spsc_queue.proofs.FastForwardLoads.{receiver-word, sender-free}
 use Rattle.spsc_queue.proofs.Invariants.{earlier, spare_capacity}
-use Rattle.spsc_queue.proofs.Runs.{invariant-of, protocol-small, waiting-small}
+use Rattle.spsc_queue.proofs.Runs.{invariant-of, protocol-grown, waiting-small}
 use Rattle.spsc_queue.proofs.PastRows.{length-spread, row-grows}
 
 -- without a copy no store is to one
 no_copy : (r : RingBuffer) (b : Bool) → r.copy ≡ None → (w : Write) → is_copy r.copy w ≡ true → b ≡ false
 no_copy r b is w copy = absurd (let no : false ≡ true = sym (ap (λ q. is_copy q w) is) ∙ copy in cc)
 
--- where no less of a row has landed, no fewer words are there, and no fewer slots are freed
-more_there : (K : Kind) (p q n h p2 q2 n2 h2 : ℕ) → RowOrder p q n h → RowOrder p2 q2 n2 h2 → n + h ≤ n2 + h2 → there K n h ≤ there K n2 h2
-more_there lamport p q n h p2 q2 n2 h2 row later le = omega (arith, row.heads_slots, row.slots_heads, later.heads_slots, later.slots_heads, le)
-more_there fastforward p q n h p2 q2 n2 h2 row later le = omega (arith, row.heads_slots, row.slots_heads, later.heads_slots, later.slots_heads, le)
-
-more_freed : (K : Kind) (n m z t n2 m2 z2 t2 : ℕ) → Theirs K n m z t → Theirs K n2 m2 z2 t2 → their_landed K z t ≤ their_landed K z2 t2
-    → freed K z t ≤ freed K z2 t2
-more_freed lamport n m z t n2 m2 z2 t2 row later le = le
-more_freed fastforward n m z t n2 m2 z2 t2 row later le = omega (arith, row.heads_slots, row.slots_heads, later.heads_slots, later.slots_heads, le)
-
 module _ (r : RingBuffer) (is : IsRingBuffer r) (L : ℕ → ℕ) (small : (j : ℕ) → L j < 2 ^ 32) (c : Earlier) (o : OpeningValue) (es : List Entry)
     (T : ProtocolState) where
   -- the receiver sees no word: each that is there in memory was taken
   none_there : (k : Kind) (inv : Invariant k r L c o es T) (u v : ℕ) → v ≡ read o es r.receiver (watched_address k r u) 4 → says_empty k u v ≡ true
-      → T.receiving ≡ asked u → there k inv.landed.slots inv.landed.heads ≤ T.taken
+      → T.receiving ≡ asked u → there k inv.landed.mine ≤ T.taken
   none_there lamport inv u v found says was =
-      let known = subst (ReceivingIs lamport r L T.taken T.consumed inv.landed.heads) was inv.receiving in
-      let head : v ≡ slot_offset r inv.landed.heads =
+      let known = subst (ReceivingIs lamport r L T.taken T.consumed (inv.landed.mine / 2)) was inv.receiving in
+      let head : v ≡ slot_offset r (inv.landed.mine / 2) =
       found ∙ receiver-other r is L small c o es T inv r.head is.head (λ q. is.apart (sym q)) ∙ inv.words.head in
-      elim (cases_lt T.consumed inv.landed.heads) [
-        | inl less ↦ absurd (offset_apart r is T.consumed inv.landed.heads less
-            (omega (arith, inv.order.mine.heads_slots, inv.order.mine.slots_stored, inv.order.room, inv.order.theirs.1))
+      elim (cases_lt T.consumed (inv.landed.mine / 2)) [
+        | inl less ↦ absurd (offset_apart r is T.consumed (inv.landed.mine / 2) less
+            (omega (arith, inv.rows.mine.landed, inv.order.published_stored, inv.order.room, inv.rows.theirs.landed))
             (sym known.1 ∙ sym (eqb-true v u says) ∙ head))
         | inr more ↦ omega (arith, more, known.0)
       ]
   none_there fastforward inv u v found says was =
-      let known = subst (ReceivingIs fastforward r L T.taken T.consumed inv.landed.slots) was inv.receiving in
+      let known = subst (ReceivingIs fastforward r L T.taken T.consumed ((inv.landed.mine + 1) / 2)) was inv.receiving in
       let place : r.slots + u ≡ slot_address r T.taken = ap (λ x. r.slots + x) (known.1 ∙ ap (slot_offset r) (sym known.0)) in
       let zero_read : 0 ≡ read o es r.receiver (slot_address r T.taken) 4 = sym (eqb-true v 0 says) ∙ found ∙ ap (λ a. read o es r.receiver a 4) place in
-      elim (cases_lt T.taken inv.landed.slots) [
-        | inl less ↦ absurd (inv.nonzero refl T.taken (omega (arith, less, inv.order.mine.slots_stored))
+      elim (cases_lt T.taken ((inv.landed.mine + 1) / 2)) [
+        | inl less ↦ absurd (inv.nonzero refl T.taken (omega (arith, less, inv.rows.mine.landed, inv.order.published_stored))
             (sym (receiver-word r is L small c o es T inv known.0 less) ∙ sym zero_read))
         | inr more ↦ more
       ]
 
   -- the sender sees no room: as many words as fit are stored after those whose slots are free in memory
   none_free : (k : Kind) (inv : Invariant k r L c o es T) (u v : ℕ) → v ≡ read o es r.sender (room_at k r u) 4 → says_full k r u v ≡ true
-      → T.sending ≡ placed u → freed k inv.landed.cleared inv.landed.tails + r.size ≤ T.stored + spare k
+      → T.sending ≡ placed u → freed k inv.landed.theirs + r.size ≤ T.stored + spare k
   none_free lamport inv u v found says was =
-      let known : (T.stored ≡ T.published) × (u ≡ slot_offset r T.published) = subst (SendingIs 1 r T.stored T.published inv.landed.tails) was inv.sending in
-      let tail : next r u ≡ slot_offset r inv.landed.tails = sym (eqb-true v (next r u) says) ∙ found ∙ sender-tail r is L small c o es T inv in
-      let one : slot_offset r inv.landed.tails ≡ slot_offset r (T.published + 1) = sym tail ∙ next_offset r is u T.published known.1 in
-      let over : inv.landed.tails < T.published + 1 =
-      omega (arith, inv.order.theirs.0, inv.order.theirs.1, inv.order.taken_there, inv.order.mine.heads_published) in
-      elim (cases_lt (T.published + 1) (inv.landed.tails + r.size)) [
-        | inl less ↦ absurd (offset_apart r is inv.landed.tails (T.published + 1) over less one)
+      let known : (T.stored ≡ T.published) × (u ≡ slot_offset r T.published) = subst (SendingIs 1 r T.stored T.published inv.landed.theirs) was inv.sending in
+      let tail : next r u ≡ slot_offset r inv.landed.theirs = sym (eqb-true v (next r u) says) ∙ found ∙ sender-tail r is L small c o es T inv in
+      let one : slot_offset r inv.landed.theirs ≡ slot_offset r (T.published + 1) = sym tail ∙ next_offset r is u T.published known.1 in
+      let over : inv.landed.theirs < T.published + 1 =
+      omega (arith, inv.order.theirs, inv.rows.theirs.landed, inv.order.taken_there, inv.rows.mine.landed, inv.order.stored_published) in
+      elim (cases_lt (T.published + 1) (inv.landed.theirs + r.size)) [
+        | inl less ↦ absurd (offset_apart r is inv.landed.theirs (T.published + 1) over less one)
         | inr more ↦ omega (arith, more, known.0)
       ]
   none_free fastforward inv u v found says was =
-      let known = subst (SendingIs 0 r T.stored T.published inv.landed.cleared) was inv.sending in
+      let known = subst (SendingIs 0 r T.stored T.published ((inv.landed.theirs + 1) / 2)) was inv.sending in
       let place : r.slots + u ≡ slot_address r T.stored = ap (λ x. r.slots + x) (known.1 ∙ ap (slot_offset r) (sym known.0)) in
       let some : v ≢ 0 = λ none. (let no : false ≡ true = sym (ap not (eq-eqb v 0 none)) ∙ says in cc) in
-      elim (cases_lt T.stored (inv.landed.cleared + r.size)) [
+      elim (cases_lt T.stored (((inv.landed.theirs + 1) / 2) + r.size)) [
         | inl less ↦ absurd (some (found ∙ ap (λ a. read o es r.sender a 4) place ∙ sender-free r is L small c o es T inv known.0 less))
         | inr more ↦ omega (arith, more)
       ]
 
   -- the words that are available, and the slots that are freed, are those in memory and those that pending stores hold back
+  held : {h a b : ℕ} {f : ℕ → Write} {i n : ℕ} (P : Write → Bool) (m : ℕ → ℕ) → ((w : Write) → is_copy r.copy w ≡ true → P w ≡ false)
+      → ((p : ℕ) → (if P (f p) then 1 else 0) + m p ≡ m (suc p)) → Row r h a b f es i n → length (filter P (writes_to r (pending h es))) + m i ≡ m n
+  held {h = h} {f = f} {i = i} {n = n} P m off step row =
+      let whole : i + (n - i) ≡ n = omega (arith, row.landed) in
+      ap (λ x. x + m i) (row_counts r P off (pending h es) ∙ ap (λ ws. length (filter P ws)) row.pends) ∙ spread-count P m f step i (n - i) ∙ ap m whole
+
   words_held : (k : Kind) (inv : Invariant k r L c o es T)
-      → available_of k T ≡ there k inv.landed.slots inv.landed.heads + length (filter (publishes k r) (writes_to r (pending r.sender es)))
+      → available_of k T ≡ there k inv.landed.mine + length (filter (publishes k r) (writes_to r (pending r.sender es)))
   words_held lamport inv =
-      let held = row_counts r (publishes lamport r) (copy_apart r r.head is.head) (pending r.sender es)
-      ∙ ap (λ ws. length (filter (publishes lamport r) ws)) inv.buffers.rows.mine.pends in
-      let count = spread-count (publishes lamport r) (λ p. p / 2) (sent_store r L) (counts-heads r is L) (inv.landed.slots + inv.landed.heads)
-      inv.buffers.unsent in
-      let row = inv.order.mine in
-      omega (arith, held, count, inv.buffers.mine_count, row.heads_slots, row.slots_heads, row.published_stored, row.stored_published)
+      let count = held (publishes lamport r) (λ p. p / 2) (copy_apart r r.head is.head) (counts-heads r is L) inv.rows.mine in
+      omega (arith, count, inv.order.published_stored, inv.order.stored_published)
   words_held fastforward inv =
-      let held = row_counts r (publishes fastforward r) (λ w. no_copy r (publishes fastforward r w) inv.copy w) (pending r.sender es)
-      ∙ ap (λ ws. length (filter (publishes fastforward r) ws)) inv.buffers.rows.mine.pends in
-      let count = spread-count (publishes fastforward r) (λ p. (p + 1) / 2) (sent_store r L) (counts-slots r is L) (inv.landed.slots + inv.landed.heads)
-      inv.buffers.unsent in
-      let row = inv.order.mine in
-      omega (arith, held, count, inv.buffers.mine_count, row.heads_slots, row.slots_heads, row.published_stored, row.stored_published)
+      let count = held (publishes fastforward r) (λ p. (p + 1) / 2) (λ w. no_copy r (publishes fastforward r w) inv.copy w) (counts-slots r is L)
+      inv.rows.mine in
+      omega (arith, count, inv.order.published_stored, inv.order.stored_published)
 
   slots_held : (k : Kind) (inv : Invariant k r L c o es T)
-      → T.taken ≡ freed k inv.landed.cleared inv.landed.tails + length (filter (releases k r) (writes_to r (pending r.receiver es)))
+      → T.taken ≡ freed k inv.landed.theirs + length (filter (releases k r) (writes_to r (pending r.receiver es)))
   slots_held lamport inv =
-      let held = row_counts r (releases lamport r) (copy_apart r r.tail is.tail) (pending r.receiver es)
-      ∙ ap (λ ws. length (filter (releases lamport r) ws)) inv.buffers.rows.theirs.pends in
-      let count = spread-count (releases lamport r) (λ p. p) (freed_store r) (λ p. ap (λ b. (if b then 1 else 0) + p) (eq-eqb r.tail r.tail refl) ∙ omega arith)
-      inv.landed.tails inv.buffers.unread in
-      omega (arith, held, count, inv.buffers.theirs_count, inv.order.theirs.0)
+      let count = held (releases lamport r) (λ p. p) (copy_apart r r.tail is.tail)
+      (λ p. ap (λ b. (if b then 1 else 0) + p) (eq-eqb r.tail r.tail refl) ∙ omega arith) inv.rows.theirs in
+      omega (arith, count, inv.order.theirs)
   slots_held fastforward inv =
-      let held = row_counts r (releases fastforward r) (λ w. no_copy r (releases fastforward r w) inv.copy w) (pending r.receiver es)
-      ∙ ap (λ ws. length (filter (releases fastforward r) ws)) inv.buffers.rows.theirs.pends in
-      let count = spread-count (releases fastforward r) (λ p. (p + 1) / 2) (cleared_store r) (counts-slots (turned r) (turned_is r is) zeros)
-      (inv.landed.cleared + inv.landed.tails) inv.buffers.unread in
-      let row = inv.order.theirs in
-      omega (arith, held, count, inv.buffers.theirs_count, row.heads_slots, row.slots_heads, row.published_stored, row.stored_published)
+      let count = held (releases fastforward r) (λ p. (p + 1) / 2) (λ w. no_copy r (releases fastforward r w) inv.copy w)
+      (counts-slots (turned r) (turned_is r is) zeros) inv.rows.theirs in
+      omega (arith, count, inv.order.theirs.0, inv.order.theirs.1)
 
   -- and of Lamport's never more
   never_fuller : (k : Kind) → Invariant k r L c o es T → k ≡ lamport → T.stored + length (writes_to r (pending r.receiver es)) ≤ T.taken + capacity_of k r.size
   never_fuller lamport inv is_lamport =
-      let left : length (writes_to r (pending r.receiver es)) ≡ inv.buffers.unread =
+      let left : length (writes_to r (pending r.receiver es)) ≡ T.consumed - inv.landed.theirs =
       row_whole r (pending r.receiver es) (alone r.copy refl inv.copy)
-      ∙ ap length inv.buffers.rows.theirs.pends ∙ length-spread (freed_store r) inv.landed.tails inv.buffers.unread in
-      omega (arith, left, inv.order.theirs.0, inv.order.room, inv.buffers.theirs_count, is.some_slots)
+      ∙ ap length inv.rows.theirs.pends ∙ length-spread (freed_store r) inv.landed.theirs (T.consumed - inv.landed.theirs) in
+      omega (arith, left, inv.order.theirs, inv.order.room, inv.rows.theirs.landed, is.some_slots)
     where
-      alone : (q : Option ℕ) → r.copy ≡ q → Copied lamport q r o es (T.stored + ready_by_state T.sending) inv.landed.tails → (a : ℕ) → r.copy ≡ Some a
+      alone : (q : Option ℕ) → r.copy ≡ q → Copied lamport q r o es (T.stored + ready_by_state T.sending) inv.landed.theirs → (a : ℕ) → r.copy ≡ Some a
           → All (LeavesByte a) (pending r.receiver es)
       alone None none copy a some = absurd (let no : Some a ≡ None = sym some ∙ none in cc)
       alone (Some x) is_x copy a some =
@@ -150,7 +133,7 @@ module _ (B : ℕ) (r : RingBuffer) (o : OpeningValue) (before es : List Entry) 
   L = slice_index (parties_after r o before (es ++ e ∷ fs)).sent
 
   small : (j : ℕ) → L j < 2 ^ 32
-  small = protocol-small r (at_start r o before) (es ++ e ∷ fs) t.keeps (waiting-small r t.ring o before t.rest)
+  small = (protocol-grown r (at_start r o before) (es ++ e ∷ fs) t.keeps).2 (waiting-small r t.ring o before t.rest)
 
   inv : Invariant r.kind r L (earlier r before) o (before ++ es) T
   inv = invariant-of B r o before es (e ∷ fs) t
@@ -162,19 +145,19 @@ module _ (B : ℕ) (r : RingBuffer) (o : OpeningValue) (before es : List Entry) 
 
   -- the receiver looks for a word and sees none, or the sender for room
   nothing_there : (u v : ℕ) → hart_of e ≡ r.receiver → access_of e ≡ load (watched_address r.kind r u) 4 v → says_empty r.kind u v ≡ true
-      → T.receiving ≡ asked u → there r.kind inv.landed.slots inv.landed.heads ≤ T.taken
+      → T.receiving ≡ asked u → there r.kind inv.landed.mine ≤ T.taken
   nothing_there u v mine does says was =
       none_there r t.ring L small (earlier r before) o (before ++ es) T r.kind inv u v (loaded r.receiver (watched_address r.kind r u) v mine does) says was
 
   nothing_free : (u v : ℕ) → hart_of e ≡ r.sender → access_of e ≡ load (room_at r.kind r u) 4 v → says_full r.kind r u v ≡ true
-      → T.sending ≡ placed u → freed r.kind inv.landed.cleared inv.landed.tails + r.size ≤ T.stored + spare r.kind
+      → T.sending ≡ placed u → freed r.kind inv.landed.theirs + r.size ≤ T.stored + spare r.kind
   nothing_free u v mine does says was =
       none_free r t.ring L small (earlier r before) o (before ++ es) T r.kind inv u v (loaded r.sender (room_at r.kind r u) v mine does) says was
 
-  words_counted : available_count r T ≡ there r.kind inv.landed.slots inv.landed.heads + unpublished r (pending r.sender (before ++ es))
+  words_counted : available_count r T ≡ there r.kind inv.landed.mine + unpublished r (pending r.sender (before ++ es))
   words_counted = words_held r t.ring L small (earlier r before) o (before ++ es) T r.kind inv
 
-  slots_counted : T.taken ≡ freed r.kind inv.landed.cleared inv.landed.tails + unreleased r (pending r.receiver (before ++ es))
+  slots_counted : T.taken ≡ freed r.kind inv.landed.theirs + unreleased r (pending r.receiver (before ++ es))
   slots_counted = slots_held r t.ring L small (earlier r before) o (before ++ es) T r.kind inv
 
   pub empty_landed : (u v : ℕ) → hart_of e ≡ r.receiver → access_of e ≡ load (watched_address r.kind r u) 4 v → says_empty r.kind u v ≡ true
@@ -205,7 +188,7 @@ module _ (B : ℕ) (r : RingBuffer) (o : OpeningValue) (before es fs : List Entr
   first = invariant-of B r o before es (fs ++ e ∷ gs) t
 
   small_words : (j : ℕ) → A j < 2 ^ 32
-  small_words = protocol-small r (at_start r o before) (es ++ (fs ++ e ∷ gs)) t.keeps (waiting-small r t.ring o before t.rest)
+  small_words = (protocol-grown r (at_start r o before) (es ++ (fs ++ e ∷ gs)) t.keeps).2 (waiting-small r t.ring o before t.rest)
 
   abbrev second : Invariant r.kind r (L B r o before (es ++ fs) e gs later) (earlier r before) o (before ++ (es ++ fs)) Z
   second = inv B r o before (es ++ fs) e gs later
@@ -220,49 +203,39 @@ module _ (B : ℕ) (r : RingBuffer) (o : OpeningValue) (before es fs : List Entr
   abbrev to : Landed
   to = second.landed
 
-  there_later : there r.kind at.slots at.heads ≤ there r.kind to.slots to.heads
-  there_later = more_there r.kind S.stored S.published at.slots at.heads Z.stored Z.published to.slots to.heads first.order.mine second.order.mine
-      (row-grows fs (sym (append_assoc before es fs)) first.buffers.rows.mine second.buffers.rows.mine (even r.sender))
+  there_later : there r.kind at.mine ≤ there r.kind to.mine
+  there_later = there_more r.kind (row-grows fs (sym (append_assoc before es fs)) first.rows.mine second.rows.mine (even r.sender))
 
-  freed_later : freed r.kind at.cleared at.tails ≤ freed r.kind to.cleared to.tails
-  freed_later = more_freed r.kind S.taken S.consumed at.cleared at.tails Z.taken Z.consumed to.cleared to.tails first.order.theirs second.order.theirs
-      (row-grows fs (sym (append_assoc before es fs)) first.buffers.rows.theirs second.buffers.rows.theirs (even r.receiver))
+  freed_later : freed r.kind at.theirs ≤ freed r.kind to.theirs
+  freed_later = freed_more r.kind (row-grows fs (sym (append_assoc before es fs)) first.rows.theirs second.rows.theirs (even r.receiver))
 
   pub word_found : (u v : ℕ) → hart_of e ≡ r.receiver → access_of e ≡ load (watched_address r.kind r u) 4 v → Z.receiving ≡ asked u
       → Z.taken + unpublished r (pending r.sender (before ++ es)) < available_count r S → says_empty r.kind u v ≡ false
-  word_found u v mine does was more = at_most (says_empty r.kind u v) refl
-    where
-      at_most : (b : Bool) → says_empty r.kind u v ≡ b → b ≡ false
-      at_most true says = absurd (omega (
-        arith,
-        more,
-        words_held r t.ring A small_words (earlier r before) o (before ++ es) S r.kind first,
-        there_later,
-        nothing_there B r o before (es ++ fs) e gs later u v mine does says was,
-      ))
-      at_most false says = refl
+  word_found u v mine does was more = never (says_empty r.kind u v) (λ says. omega (
+    arith,
+    more,
+    words_held r t.ring A small_words (earlier r before) o (before ++ es) S r.kind first,
+    there_later,
+    nothing_there B r o before (es ++ fs) e gs later u v mine does says was,
+  ))
 
   pub room_found : (u v : ℕ) → hart_of e ≡ r.sender → access_of e ≡ load (room_at r.kind r u) 4 v → Z.sending ≡ placed u
       → Z.stored + unreleased r (pending r.receiver (before ++ es)) < S.taken + capacity r → says_full r.kind r u v ≡ false
-  room_found u v mine does was more = at_most (says_full r.kind r u v) refl
-    where
-      at_most : (b : Bool) → says_full r.kind r u v ≡ b → b ≡ false
-      at_most true says = absurd (omega (
-        arith,
-        more,
-        slots_held r t.ring A small_words (earlier r before) o (before ++ es) S r.kind first,
-        freed_later,
-        nothing_free B r o before (es ++ fs) e gs later u v mine does says was,
-        spare_capacity r.kind r.size t.ring.some_slots,
-      ))
-      at_most false says = refl
+  room_found u v mine does was more = never (says_full r.kind r u v) (λ says. omega (
+    arith,
+    more,
+    slots_held r t.ring A small_words (earlier r before) o (before ++ es) S r.kind first,
+    freed_later,
+    nothing_free B r o before (es ++ fs) e gs later u v mine does says was,
+    spare_capacity r.kind r.size t.ring.some_slots,
+  ))
 
 pub room_landed : (B : ℕ) (r : RingBuffer) (o : OpeningValue) (before es : List Entry) → FollowsSpscProtocol B r o before es → r.kind ≡ lamport
     → (parties_after r o before es).stored + length (writes_to r (pending r.receiver (before ++ es))) ≤ (parties_after r o before es).taken + capacity r
 room_landed B r o before es t is_lamport =
     never_fuller r t.ring (slice_index (parties_after r o before (es ++ [])).sent)
-    (protocol-small r (at_start r o before) (es ++ [])
-    (subst (KeepsProtocol r (at_start r o before)) (sym (append-nil es)) t.keeps)
+    ((protocol-grown r (at_start r o before) (es ++ [])
+    (subst (KeepsProtocol r (at_start r o before)) (sym (append-nil es)) t.keeps)).2
     (waiting-small r t.ring o before t.rest))
     (earlier r before) o (before ++ es) (parties_after r o before es) r.kind
     (invariant-of B r o before es [] (subst (FollowsSpscProtocol B r o before) (sym (append-nil es)) t)) is_lamport

@@ -1,7 +1,6 @@
 -- Several queues at once: where blocks don't meet, a call for one stays off the others, so each queue is used rightly.
-use Rattle.std.proofs.Common.{ℕ, zero, suc, ◌+◌, ◌*◌, ◌<◌, ◌≤◌, ◌≡◌, ◌≢◌, ◌⊎◌, inl, inr, Option, Some, None, Bool, true}
-use Rattle.std.proofs.Common.{false, List, [], ◌∷◌, ◌++◌, refl, sym, ◌∙◌, subst, arith}
-use Rattle.std.proofs.Common.{append-nil, append_assoc}
+use Rattle.std.proofs.Common.{ℕ, zero, suc, ◌+◌, ◌*◌, ◌<◌, ◌≤◌, ◌≡◌, ◌≢◌, ◌⊎◌, inl, inr, Option, Some, None, Bool, true, false, List, [], ◌∷◌, ◌++◌, refl, sym}
+use Rattle.std.proofs.Common.{◌∙◌, subst, arith, append-nil, append_assoc}
 use Rattle.std.proofs.lemmas.Bool.{cases_eq}
 use Rattle.std.proofs.lemmas.Bool.Decides.{nat_tests}
 use Rattle.memory.specs.declared.writes.Write.{Write}
@@ -10,12 +9,10 @@ use Rattle.step_machine.specs.History.{OpeningValue}
 use Rattle.step_machine.specs.Access.{Access, store, exchange, access_of}
 use Rattle.step_machine.specs.Entries.{hart_of, is_land}
 use Rattle.spsc_queue.specs.RingBuffers.{Kind, lamport, fastforward, RingBuffer, overlaps}
-use Rattle.spsc_queue.specs.Protocol.{SenderState, resting, placed, renewing, roomy, filled, ReceiverState, idle, asked}
-use Rattle.spsc_queue.specs.Protocol.{waiting, holding, cleared, ProtocolState}
-use Rattle.spsc_queue.specs.Protocol.{WritesNothingTo, IsCopyStore, IsSenderStore, IsTaking, IsReceiverStore, parties_after}
-use Rattle.spsc_queue.specs.Calls.{Block, SpscQueue, Party, the_sender, the_receiver, party_hart, copy_in, ring_at}
-use Rattle.spsc_queue.specs.Calls.{buffer, is_sender_in_call, is_receiver_in_call}
-use Rattle.spsc_queue.specs.Calls.{CallerObligation, UsesAsSpscQueue}
+use Rattle.spsc_queue.specs.Protocol.{SenderState, renewing, roomy, filled, ReceiverState, holding, cleared, ProtocolState, WritesNothingTo, IsCopyStore}
+use Rattle.spsc_queue.specs.Protocol.{IsSenderStore, IsTaking, IsReceiverStore, parties_after}
+use Rattle.spsc_queue.specs.Calls.{Block, SpscQueue, Party, the_sender, the_receiver, party_hart, copy_in, ring_at, buffer, is_sender_in_call}
+use Rattle.spsc_queue.specs.Calls.{is_receiver_in_call, CallerObligation, UsesAsSpscQueue}
 use Rattle.spsc_queue.specs.ManyQueues.{IsIdle, UsesManyQueues}
 use Rattle.spsc_queue.proofs.Outline.{part, IsOffset, IsNear, IsFit, Near, Does}
 use Rattle.spsc_queue.proofs.Parts.{copied}
@@ -33,8 +30,6 @@ elsewhere k r w (inr above) from upto = grind (arith, nat_tests)
 
 module _ (K : Kind) (k : Block) (a b : ℕ) (r : RingBuffer) (apart : IsApart k r) where
   sent_off : (w : Write) (p : SenderState) → IsNear k p → IsSenderStore K (ring_at k a b) p w → overlaps r w ≡ false
-  sent_off w resting near does = absurd does
-  sent_off w (placed u) near does = absurd does
   sent_off w (renewing u v) near does = at (copy_in k.kind k.caches k.base) refl does
     where
       at : (o : Option ℕ) → copy_in k.kind k.caches k.base ≡ o → IsCopyStore o v w → overlaps r w ≡ false
@@ -44,17 +39,16 @@ module _ (K : Kind) (k : Block) (a b : ℕ) (r : RingBuffer) (apart : IsApart k 
           elsewhere k r w apart (omega (arith, does.0.place, place)) (omega (arith, does.0.place, does.0.width, place))
   sent_off w (roomy u) near does = elsewhere k r w apart (omega (arith, does.0.place)) (omega (arith, does.0.place, does.0.width, near.0))
   sent_off w (filled u) near does = elsewhere k r w apart (omega (arith, does.0.place)) (omega (arith, does.0.place, does.0.width))
+  sent_off w p near does = absurd does
 
   taken_off : (K : Kind) (w : Write) (u : ℕ) → IsOffset k u → IsTaking K (ring_at k a b) u w → overlaps r w ≡ false
   taken_off lamport w u near does = elsewhere k r w apart (omega (arith, does.0.place)) (omega (arith, does.0.place, does.0.width))
   taken_off fastforward w u near does = elsewhere k r w apart (omega (arith, does.0.place)) (omega (arith, does.0.place, does.0.width, near.0))
 
   freed_off : (w : Write) (p : ReceiverState) → IsFit k p → IsReceiverStore K (ring_at k a b) p w → overlaps r w ≡ false
-  freed_off w idle near does = absurd does
-  freed_off w (asked u) near does = absurd does
-  freed_off w (waiting u) near does = absurd does
   freed_off w (holding u v) near does = taken_off K w u near does
   freed_off w (cleared u) near does = elsewhere k r w apart (omega (arith, does.0.place)) (omega (arith, does.0.place, does.0.width))
+  freed_off w p near does = absurd does
 
   call_off : (p : Party) (t : ProtocolState) (x : Access) → Does p K (ring_at k a b) t x × Near k (part p t) → WritesNothingTo r x
   call_off the_sender t (store w) does = sent_off w t.sending does.1.sending does.0

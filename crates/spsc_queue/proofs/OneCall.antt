@@ -1,7 +1,6 @@
 -- One whole call: what it does, what it completes, and what it has found where it returns 0.
-use Rattle.std.proofs.Common.{ℕ, ◌+◌, ◌<◌, ◌≡◌, ◌≢◌, ◌&&◌, ◌⊎◌, inl, inr, Option, Some, None, Bool, true, false, if◌then◌else◌, List, [], ◌∷◌, ◌++◌}
-use Rattle.std.proofs.Common.{length, refl, sym, ◌∙◌, ap, subst, arith}
-use Rattle.std.proofs.Common.{append-nil, append_assoc}
+use Rattle.std.proofs.Common.{ℕ, ◌+◌, ◌<◌, ◌≡◌, ◌≢◌, ◌&&◌, ◌⊎◌, inl, inr, Option, Some, None, Bool, true, false, if◌then◌else◌, List, [], ◌∷◌, ◌++◌, length}
+use Rattle.std.proofs.Common.{refl, sym, ◌∙◌, ap, subst, arith, append-nil, append_assoc}
 use Rattle.std.specs.Prelude.{slice_index}
 use Rattle.hart.specs.State.{HartState}
 use Rattle.hart.specs.Steps.{advanced}
@@ -14,18 +13,15 @@ use Rattle.step_machine.specs.Paths.{number_read, state_of}
 use Rattle.spsc_queue.specs.RingBuffers.{Kind, RingBuffer, IsRingBuffer, next, capacity, unpublished, unreleased}
 use Rattle.spsc_queue.specs.Protocol.{placed, roomy, ProtocolState, at_start, role_of, next_by, protocol_next}
 use Rattle.spsc_queue.specs.Protocol.{room_at, says_full, watched_address, says_empty, parties_after}
-use Rattle.spsc_queue.specs.Calls.{Block, SpscQueue, Party, the_sender, the_receiver, party_hart, party_line}
-use Rattle.spsc_queue.specs.Calls.{listing_of, buffer, is_in_call, is_in_call_with, enters}
-use Rattle.spsc_queue.specs.Calls.{completed_by_entry, given_words, received_words, UsesAsSpscQueue}
-use Rattle.spsc_queue.specs.CallEffects.{longest, sees_full, look_accesses, IsWholeCall, IsCallUnderWay}
-use Rattle.spsc_queue.specs.CallEffects.{IsSend, IsReceive, accesses}
-use Rattle.spsc_queue.specs.CallEffects.{completed_word, take_accesses, FoundFull, FoundEmpty}
+use Rattle.spsc_queue.specs.Calls.{Block, SpscQueue, Party, the_sender, the_receiver, party_hart, party_line, listing_of, buffer, is_in_call, is_in_call_with}
+use Rattle.spsc_queue.specs.Calls.{enters, completed_by_entry, given_words, received_words, UsesAsSpscQueue}
+use Rattle.spsc_queue.specs.CallEffects.{longest, sees_full, look_accesses, IsWholeCall, IsCallUnderWay, IsSend, IsReceive, accesses, completed_word}
+use Rattle.spsc_queue.specs.CallEffects.{take_accesses, FoundFull, FoundEmpty}
+use Rattle.spsc_queue.proofs.Cases.{by-bool}
 use Rattle.spsc_queue.proofs.Words.{both}
 use Rattle.spsc_queue.proofs.Runs.{protocol-append}
 use Rattle.spsc_queue.proofs.Courses.{at_00, Course}
-use Rattle.spsc_queue.proofs.Outline.{Part, part, role, Level, first_look, index_at, Knows, Effect}
-use Rattle.spsc_queue.proofs.Outline.{Fresh, Row, Inside, Outside, CourseStands}
-use Rattle.spsc_queue.proofs.Outline.{Stands}
+use Rattle.spsc_queue.proofs.Outline.{Part, part, role, Level, first_look, index_at, Knows, Effect, Fresh, Row, Inside, Outside, CourseStands, Stands}
 use Rattle.spsc_queue.proofs.Parts.{ring_is, first-load, look-load, load-words}
 use Rattle.spsc_queue.proofs.Functions.{facts, begins}
 use Rattle.spsc_queue.proofs.OwnEntries.{own_parts, state_here, here_same, here_next}
@@ -274,11 +270,7 @@ module _ (B M : ℕ) (o : OpeningValue) (q : SpscQueue) (before es : List Entry)
         }
 
     one_on : So (now ++ e ∷ []) (part_done ++ e ∷ [])
-    one_on = at (is_own h e) refl
-      where
-        at : (b : Bool) → is_own h e ≡ b → So (now ++ e ∷ []) (part_done ++ e ∷ [])
-        at true on = by_own on
-        at false off = by_other off
+    one_on = by-bool (λ b. So (now ++ e ∷ []) (part_done ++ e ∷ [])) (is_own h e) by_own by_other
 
   go : (part next more : List Entry) → call ≡ part ++ (next ++ more) → So (done ++ part) part → So (done ++ (part ++ next)) (part ++ next)
   go part [] more cut so = subst (λ zs. So (done ++ zs) zs) (sym (append-nil part)) so

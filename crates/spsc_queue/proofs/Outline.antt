@@ -7,16 +7,13 @@ use Rattle.hart.specs.State.{HartState}
 use Rattle.hart.specs.Steps.{need_of, advanced}
 use Rattle.step_machine.specs.Access.{Access, load, store, exchange}
 use Rattle.spsc_queue.specs.RingBuffers.{Kind, lamport, fastforward, RingBuffer, next}
-use Rattle.spsc_queue.specs.Protocol.{SenderState, resting, placed, renewing, roomy, filled, ReceiverState, idle, asked}
-use Rattle.spsc_queue.specs.Protocol.{waiting, holding, cleared, ProtocolState, Role}
-use Rattle.spsc_queue.specs.Protocol.{sends, receives, room_at, says_full, watched_address}
-use Rattle.spsc_queue.specs.Protocol.{says_empty, looks_for_room, looks_past_copy, looks_for_word, next_by}
-use Rattle.spsc_queue.specs.Protocol.{IsSenderStore, IsReceiverStore}
+use Rattle.spsc_queue.specs.Protocol.{SenderState, resting, placed, renewing, roomy, filled, ReceiverState, idle, asked, waiting, holding, cleared}
+use Rattle.spsc_queue.specs.Protocol.{ProtocolState, Role, sends, receives, room_at, says_full, watched_address, says_empty, looks_for_room, looks_past_copy}
+use Rattle.spsc_queue.specs.Protocol.{looks_for_word, next_by, IsSenderStore, IsReceiverStore}
 use Rattle.spsc_queue.specs.Calls.{Block, Party, the_sender, the_receiver}
 use Rattle.spsc_queue.specs.CallEffects.{IsPlainNeed, sees_full, look_accesses, send_accesses, receive_accesses, IsFound, SendEffect, ReceiveEffect}
-use Rattle.spsc_queue.proofs.Courses.{At, at_00, at_04, at_08, at_0C, at_10, at_14, at_18, at_1C, at_20, at_24, at_28}
-use Rattle.spsc_queue.proofs.Courses.{at_2C, at_30, at_34, at_38, at_3C, at_40, number, moved, Course}
-use Rattle.spsc_queue.proofs.Courses.{went, Left, Frame}
+use Rattle.spsc_queue.proofs.Courses.{At, at_00, at_04, at_08, at_0C, at_10, at_14, at_18, at_1C, at_20, at_24, at_28, at_2C, at_30, at_34, at_38, at_3C, at_40}
+use Rattle.spsc_queue.proofs.Courses.{number, moved, Course, went, Left, Frame}
 use Rattle.spsc_queue.proofs.Cases.{IsLevel, IsWhole}
 
 -- a party's part of the protocol's state
@@ -178,17 +175,22 @@ pub record Past (n : ℕ) (k : Block) (r : RingBuffer) (c : Course) (m : ℕ) (w
   pub words : t.words ≡ ws
   pub did : c.did ≡ load r.head 4 (slice_index x 5) ∷ load (k.base + 4) 4 copy ∷ since
 
--- it may store, at a place of which x5 and x7 are made
-pub record Ready (n : ℕ) (p : Party) (K : Kind) (k : Block) (r : RingBuffer) (c : Course) (m : ℕ) (ws x : List ℕ) (t : Part) (five seven : ℕ → ℕ) : Type 0 where
+-- its index, what its copy says, what it read last, and whether it so saw that there is no room, or no word
+pub record Choice (p : Party) (K : Kind) (r : RingBuffer) (no : Bool) : Type 0 where
   pub place : ℕ
   pub copy : ℕ
   pub seen : ℕ
+  pub says : says_no p K r place copy seen ≡ no
+
+-- it may store, at a place of which x5 and x7 are made
+pub record Ready (n : ℕ) (p : Party) (K : Kind) (k : Block) (r : RingBuffer) (c : Course) (m : ℕ) (ws x : List ℕ) (t : Part) (five seven : ℕ → ℕ) : Type 0 where
+  pub choice : Choice p K r false
+  pub open choice use *
   pub frame : Frame n p k c m x
   pub word : Word p c.entry (slice_index x 11)
   pub found : Found p K seen (slice_index x 11)
   pub knows : MayStore p place (slice_index x 11) t
   pub level : Level t
-  pub some : says_no p K r place copy seen ≡ false
   pub x5 : slice_index x 5 ≡ five place
   pub x7 : slice_index x 7 ≡ seven place
   pub words : t.words ≡ ws
@@ -196,23 +198,21 @@ pub record Ready (n : ℕ) (p : Party) (K : Kind) (k : Block) (r : RingBuffer) (
 
 -- it has stored to the slot, and the next offset is in register i
 pub record Half (n : ℕ) (p : Party) (K : Kind) (k : Block) (r : RingBuffer) (c : Course) (m i : ℕ) (ws x : List ℕ) (t : Part) : Type 0 where
-  pub place : ℕ
-  pub copy : ℕ
-  pub seen : ℕ
+  pub choice : Choice p K r false
+  pub open choice use *
   pub frame : Frame n p k c m x
   pub word : Word p c.entry (slice_index x 11)
   pub found : Found p K seen (slice_index x 11)
   pub knows : Stored p place t
-  pub some : says_no p K r place copy seen ≡ false
   pub after : slice_index x i ≡ next r place
   pub words : t.words ≡ ws ++ slice_index x 11 ∷ []
   pub did : c.did ≡ ready p K r place copy seen (slice_index x 11) ++ store (write (r.slots + place) 4 (put p (slice_index x 11))) ∷ []
 
 -- all its accesses are made, and it is to answer so
 pub record Finished (n : ℕ) (p : Party) (K : Kind) (k : Block) (r : RingBuffer) (c : Course) (m : ℕ) (ws x : List ℕ) (t : Part) (answer : ℕ) : Type 0 where
-  pub place : ℕ
-  pub copy : ℕ
-  pub seen : ℕ
+  pub no : Bool
+  pub choice : Choice p K r no
+  pub open choice use *
   pub left : Left n p k c m x
   pub word : Word p c.entry (slice_index x 11)
   pub found : Found p K seen (slice_index x 11)
@@ -220,7 +220,7 @@ pub record Finished (n : ℕ) (p : Party) (K : Kind) (k : Block) (r : RingBuffer
   pub among : IsOffset k place
   pub words : t.words ≡ ws
   pub did : c.did ≡ all_accesses p K r (slice_index x 11) place copy seen
-  pub answers : answer ≡ (if says_no p K r place copy seen then 0 else 1)
+  pub answers : answer ≡ (if no then 0 else 1)
 
 -- ---- the lines
 

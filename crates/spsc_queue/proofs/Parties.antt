@@ -5,8 +5,7 @@ use Rattle.step_machine.specs.History.{OpeningValue}
 use Rattle.spsc_queue.specs.RingBuffers.{waiting_words}
 use Rattle.spsc_queue.specs.Protocol.{passes, role_of}
 use Rattle.spsc_queue.specs.Calls.{SpscQueue, Party, the_sender, the_receiver, party_hart, party_line, listing_of, buffer, is_in_call, completed_words}
-use Rattle.spsc_queue.specs.Calls.{completed_by_entry}
-use Rattle.spsc_queue.specs.Calls.{HasFunction, PartyObligation, CallerObligation, SharesQueue}
+use Rattle.spsc_queue.specs.Calls.{completed_by_entry, HasFunction, PartyObligation, CallerObligation, SharesQueue}
 use Rattle.spsc_queue.proofs.Cases.{by-role}
 use Rattle.spsc_queue.proofs.Outline.{role}
 use Rattle.spsc_queue.proofs.Completed.{completed-last}

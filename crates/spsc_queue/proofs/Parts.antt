@@ -7,20 +7,17 @@ use Rattle.step_machine.specs.declared.events.Entry.{Entry}
 use Rattle.step_machine.specs.Access.{Access, nothing, load, store, exchange, land, access_of}
 use Rattle.step_machine.specs.Entries.{hart_of}
 use Rattle.spsc_queue.specs.RingBuffers.{Kind, lamport, fastforward, RingBuffer, IsRingBuffer, overlaps}
-use Rattle.spsc_queue.specs.Protocol.{SenderState, resting, placed, renewing, roomy, filled, ReceiverState, idle, asked}
-use Rattle.spsc_queue.specs.Protocol.{waiting, holding, cleared, ProtocolState, Role}
-use Rattle.spsc_queue.specs.Protocol.{sends, receives, passes, role_of, looks_for_room, looks_past_copy, looks_at}
-use Rattle.spsc_queue.specs.Protocol.{looks_for_word, send_look, send_load, send_store, receive_look}
-use Rattle.spsc_queue.specs.Protocol.{receive_load, receive_store, room_at, says_full, says_empty, next_by, protocol_next, protocol_after, WritesNothingTo}
-use Rattle.spsc_queue.specs.Protocol.{KeepsProtocolBy, KeepsProtocol}
+use Rattle.spsc_queue.specs.Protocol.{SenderState, resting, placed, renewing, roomy, filled, ReceiverState, idle, asked, waiting, holding, cleared}
+use Rattle.spsc_queue.specs.Protocol.{ProtocolState, Role, sends, receives, passes, role_of, looks_for_room, looks_past_copy, looks_at, looks_for_word}
+use Rattle.spsc_queue.specs.Protocol.{send_look, send_load, send_store, receive_look, receive_load, receive_store, room_at, says_full, says_empty, next_by}
+use Rattle.spsc_queue.specs.Protocol.{protocol_next, protocol_after, WritesNothingTo, KeepsProtocolBy, KeepsProtocol}
 use Rattle.spsc_queue.specs.Calls.{Block, IsBlock, Party, the_sender, the_receiver, copy_in, ring_at}
 use Rattle.spsc_queue.proofs.Spread.{offset_low}
-use Rattle.spsc_queue.proofs.Cases.{IsLevel, IsWhole, by-send-load, by-receive-load}
+use Rattle.spsc_queue.proofs.Cases.{chosen, either, IsLevel, IsWhole, by-send-load, by-receive-load}
 use Rattle.spsc_queue.proofs.Invariant.{IsPlaced}
 use Rattle.spsc_queue.proofs.Invariants.{IsAsked, Known}
-use Rattle.spsc_queue.proofs.Outline.{Part, part, role, Level, IsOffset, IsNear, IsFit, Near}
-use Rattle.spsc_queue.proofs.Outline.{first_look, index_at, look_at, Knows, Looked, MayStore}
-use Rattle.spsc_queue.proofs.Outline.{Stored, Does}
+use Rattle.spsc_queue.proofs.Outline.{Part, part, role, Level, IsOffset, IsNear, IsFit, Near, first_look, index_at, look_at, Knows, Looked, MayStore, Stored}
+use Rattle.spsc_queue.proofs.Outline.{Does}
 
 -- a copy lies 4 bytes after the base of a block of Lamport's
 pub copied_in : (K : Kind) (caches : Bool) (base c : ℕ) → copy_in K caches base ≡ Some c → (c ≡ base + 4) × (K ≡ lamport) × (caches ≡ true)
@@ -83,17 +80,13 @@ module _ (K : Kind) (r : RingBuffer) where
   -- ---- what an access leaves of each party's part
 
   sends-leave : (t : ProtocolState) (x : Access) → part the_receiver (next_by K r sends t x) ≡ part the_receiver t
-  sends-leave t (load a width v) = at (width == 4)
+  sends-leave t (load a width v) =
+      chosen (λ z. part the_receiver z ≡ part the_receiver t) (width == 4) (record t { sending = send_load K r a v t.sending }) t refl refl
+  sends-leave t (store w) = chosen (λ z. part the_receiver z ≡ part the_receiver t) (overlaps r w) (send_store w t.sending t) t (at t.sending) refl
     where
-      at : (c : Bool) → part the_receiver (if c then record t { sending = send_load K r a v t.sending } else t) ≡ part the_receiver t
-      at true = refl
-      at false = refl
-  sends-leave t (store w) = at (overlaps r w) t.sending
-    where
-      at : (c : Bool) (p : SenderState) → part the_receiver (if c then send_store w p t else t) ≡ part the_receiver t
-      at true resting = refl
-      at true p = refl
-      at false p = refl
+      at : (p : SenderState) → part the_receiver (send_store w p t) ≡ part the_receiver t
+      at resting = refl
+      at p = refl
   sends-leave t x = refl
 
   store-leaves : (k : Kind) (p : ReceiverState) (t : ProtocolState) → part the_sender (receive_store k p t) ≡ part the_sender t
@@ -103,16 +96,10 @@ module _ (K : Kind) (r : RingBuffer) where
   store-leaves fastforward p t = refl
 
   receives-leave : (t : ProtocolState) (x : Access) → part the_sender (next_by K r receives t x) ≡ part the_sender t
-  receives-leave t (load a width v) = at (width == 4)
-    where
-      at : (c : Bool) → part the_sender (if c then record t { receiving = receive_load K r a v t.receiving } else t) ≡ part the_sender t
-      at true = refl
-      at false = refl
-  receives-leave t (store w) = at (overlaps r w)
-    where
-      at : (c : Bool) → part the_sender (if c then receive_store K t.receiving t else t) ≡ part the_sender t
-      at true = store-leaves K t.receiving t
-      at false = refl
+  receives-leave t (load a width v) =
+      chosen (λ z. part the_sender z ≡ part the_sender t) (width == 4) (record t { receiving = receive_load K r a v t.receiving }) t refl refl
+  receives-leave t (store w) =
+      chosen (λ z. part the_sender z ≡ part the_sender t) (overlaps r w) (receive_store K t.receiving t) t (store-leaves K t.receiving t) refl
   receives-leave t x = refl
 
   -- an access of the other party
@@ -132,65 +119,47 @@ module _ (K : Kind) (r : RingBuffer) where
   level-send : (a v : ℕ) (p : SenderState) → IsLevel p → IsLevel (send_load K r a v p)
   level-send a v p level = by-send-load K r a v IsLevel p (λ l here. tt) (at p level)
     where
-      chosen : (b : Bool) (p q : SenderState) → IsLevel p → IsLevel q → IsLevel (if b then p else q)
-      chosen true p q one two = one
-      chosen false p q one two = two
-
       seen : (u : ℕ) → IsLevel (looks_for_room K r u v)
-      seen u = chosen (says_full K r u v) (placed u) (roomy u) tt tt
+      seen u = chosen IsLevel (says_full K r u v) (placed u) (roomy u) tt tt
 
       looks : (u : ℕ) (q : Option ℕ) → IsLevel (looks_at q K r a u v)
-      looks u None = chosen (a == room_at K r u) (looks_for_room K r u v) (placed u) (seen u) tt
-      looks u (Some c) = chosen (a == c) (looks_for_room K r u v) (if a == room_at K r u then looks_past_copy K r u v else placed u) (seen u)
-          (chosen (a == room_at K r u) (looks_past_copy K r u v) (placed u) (chosen (says_full K r u v) (placed u) (renewing u v) tt tt) tt)
+      looks u None = chosen IsLevel (a == room_at K r u) (looks_for_room K r u v) (placed u) (seen u) tt
+      looks u (Some c) = chosen IsLevel (a == c) (looks_for_room K r u v) (if a == room_at K r u then looks_past_copy K r u v else placed u) (seen u)
+          (chosen IsLevel (a == room_at K r u) (looks_past_copy K r u v) (placed u) (chosen IsLevel (says_full K r u v) (placed u) (renewing u v) tt tt) tt)
 
       at : (p : SenderState) → IsLevel p → IsLevel (send_look K r a v p)
       at (placed u) l = looks u r.copy
-      at resting l = l
-      at (renewing u w) l = l
-      at (roomy u) l = l
-      at (filled u) l = l
+      at p l = l
 
   whole-receive : (a v : ℕ) (p : ReceiverState) → IsWhole p → IsWhole (receive_load K r a v p)
   whole-receive a v p whole = by-receive-load K r a v IsWhole p (λ l here. tt) (at p whole)
     where
-      chosen : (b : Bool) (p q : ReceiverState) → IsWhole p → IsWhole q → IsWhole (if b then p else q)
-      chosen true p q one two = one
-      chosen false p q one two = two
-
       seen : (k : Kind) (u : ℕ) → IsWhole (looks_for_word k u v)
-      seen lamport u = chosen (says_empty lamport u v) (asked u) (waiting u) tt tt
-      seen fastforward u = chosen (says_empty fastforward u v) (asked u) (holding u v) tt tt
+      seen lamport u = chosen IsWhole (says_empty lamport u v) (asked u) (waiting u) tt tt
+      seen fastforward u = chosen IsWhole (says_empty fastforward u v) (asked u) (holding u v) tt tt
 
       at : (p : ReceiverState) → IsWhole p → IsWhole (receive_look K r a v p)
-      at (asked u) l = chosen (a == look_at the_receiver K r u) (looks_for_word K u v) (asked u) (seen K u) tt
-      at (waiting u) l = chosen (a == r.slots + u) (holding u v) (waiting u) tt tt
-      at idle l = l
-      at (holding u w) l = l
-      at (cleared u) l = l
+      at (asked u) l = chosen IsWhole (a == look_at the_receiver K r u) (looks_for_word K u v) (asked u) (seen K u) tt
+      at (waiting u) l = chosen IsWhole (a == r.slots + u) (holding u v) (waiting u) tt tt
+      at p l = l
 
-  -- outside of the functions no word becomes half passed, and none is passed
-  pub level-next : (p : Party) (t : ProtocolState) (x : Access) → WritesNothingTo r x → Level (part p t)
-      → Level (part p (next_by K r (role p) t x)) × ((part p (next_by K r (role p) t x)).words ≡ (part p t).words)
-  level-next the_sender t (load a width v) off level = at (width == 4)
-    where
-      at : (c : Bool) → Level (part the_sender (if c then record t { sending = send_load K r a v t.sending } else t))
-          × ((part the_sender (if c then record t { sending = send_load K r a v t.sending } else t)).words ≡ t.sent)
-      at true = (record { sending = level-send a v t.sending level.sending; receiving = tt }, refl)
-      at false = (level, refl)
+  -- from t to z no word becomes half passed, and none is passed
+  abbrev StillLevel : Party → (t z : ProtocolState) → Type 0
+  StillLevel p t z = Level (part p z) × ((part p z).words ≡ (part p t).words)
+
+  -- so outside of the functions
+  pub level-next : (p : Party) (t : ProtocolState) (x : Access) → WritesNothingTo r x → Level (part p t) → StillLevel p t (next_by K r (role p) t x)
+  level-next the_sender t (load a width v) off level =
+      chosen (StillLevel the_sender t) (width == 4) (record t { sending = send_load K r a v t.sending }) t
+      (record { sending = level-send a v t.sending level.sending; receiving = tt }, refl) (level, refl)
   level-next the_sender t (store w) off level =
-      subst (λ c. Level (part the_sender (if c then send_store w t.sending t else t))
-      × ((part the_sender (if c then send_store w t.sending t else t)).words ≡ t.sent)) (sym off) (level, refl)
+      subst (λ c. StillLevel the_sender t (if c then send_store w t.sending t else t)) (sym off) (level, refl)
   level-next the_sender t x off level = (level, refl)
-  level-next the_receiver t (load a width v) off level = at (width == 4)
-    where
-      at : (c : Bool) → Level (part the_receiver (if c then record t { receiving = receive_load K r a v t.receiving } else t))
-          × ((part the_receiver (if c then record t { receiving = receive_load K r a v t.receiving } else t)).words ≡ t.received)
-      at true = (record { sending = tt; receiving = whole-receive a v t.receiving level.receiving }, refl)
-      at false = (level, refl)
+  level-next the_receiver t (load a width v) off level =
+      chosen (StillLevel the_receiver t) (width == 4) (record t { receiving = receive_load K r a v t.receiving }) t
+      (record { sending = tt; receiving = whole-receive a v t.receiving level.receiving }, refl) (level, refl)
   level-next the_receiver t (store w) off level =
-      subst (λ c. Level (part the_receiver (if c then receive_store K t.receiving t else t))
-      × ((part the_receiver (if c then receive_store K t.receiving t else t)).words ≡ t.received)) (sym off) (level, refl)
+      subst (λ c. StillLevel the_receiver t (if c then receive_store K t.receiving t else t)) (sym off) (level, refl)
   level-next the_receiver t x off level = (level, refl)
 
   -- a load of a party's own index
@@ -198,19 +167,13 @@ module _ (K : Kind) (r : RingBuffer) where
   first-load the_sender t a v level here = at t.sending level.sending
     where
       at : (q : SenderState) → IsLevel q → send_load K r a v q ≡ placed v
-      at resting l = ap (λ b. if b then placed v else resting) (eq-eqb a r.head here)
-      at (placed u) l = ap (λ b. if b then placed v else send_look K r a v (placed u)) (eq-eqb a r.head here)
-      at (renewing u w) l = ap (λ b. if b then placed v else renewing u w) (eq-eqb a r.head here)
-      at (roomy u) l = ap (λ b. if b then placed v else roomy u) (eq-eqb a r.head here)
       at (filled u) l = absurd l
+      at q l = ap (λ b. if b then placed v else send_look K r a v q) (eq-eqb a r.head here)
   first-load the_receiver t a v level here = at t.receiving level.receiving
     where
       at : (q : ReceiverState) → IsWhole q → receive_load K r a v q ≡ asked v
-      at idle l = ap (λ b. if b then asked v else idle) (eq-eqb a r.tail here)
-      at (asked u) l = ap (λ b. if b then asked v else receive_look K r a v (asked u)) (eq-eqb a r.tail here)
-      at (waiting u) l = ap (λ b. if b then asked v else receive_look K r a v (waiting u)) (eq-eqb a r.tail here)
-      at (holding u w) l = ap (λ b. if b then asked v else holding u w) (eq-eqb a r.tail here)
       at (cleared u) l = absurd l
+      at q l = ap (λ b. if b then asked v else receive_look K r a v q) (eq-eqb a r.tail here)
 
   -- where it looks for room, or for a word
   pub look-load : (p : Party) (t : ProtocolState) (a v u : ℕ) → Knows p u (part p t) → a ≢ index_at p r → a ≡ look_at p K r u
@@ -283,17 +246,11 @@ module _ (K : Kind) (r : RingBuffer) where
 module _ (k : Block) (a b : ℕ) (is : IsRingBuffer (ring_at k a b)) where
   placed-near : (stored published : ℕ) (p : SenderState) → IsPlaced (ring_at k a b) stored published p → IsNear k p
   placed-near stored published resting h = tt
-  placed-near stored published (placed u) h = (omega (arith, h.1, offset_low (ring_at k a b) is published), omega (arith, h.1))
-  placed-near stored published (renewing u v) h = (omega (arith, h.1, offset_low (ring_at k a b) is published), omega (arith, h.1))
-  placed-near stored published (roomy u) h = (omega (arith, h.1, offset_low (ring_at k a b) is published), omega (arith, h.1))
-  placed-near stored published (filled u) h = (omega (arith, h.1, offset_low (ring_at k a b) is published), omega (arith, h.1))
+  placed-near stored published p h = (omega (arith, h.1, offset_low (ring_at k a b) is published), omega (arith, h.1))
 
   asked-fit : (consumed : ℕ) (p : ReceiverState) → IsAsked (ring_at k a b) consumed p → IsFit k p
   asked-fit consumed idle h = tt
-  asked-fit consumed (asked u) h = (omega (arith, h, offset_low (ring_at k a b) is consumed), omega (arith, h))
-  asked-fit consumed (waiting u) h = (omega (arith, h, offset_low (ring_at k a b) is consumed), omega (arith, h))
-  asked-fit consumed (holding u w) h = (omega (arith, h, offset_low (ring_at k a b) is consumed), omega (arith, h))
-  asked-fit consumed (cleared u) h = (omega (arith, h, offset_low (ring_at k a b) is consumed), omega (arith, h))
+  asked-fit consumed p h = (omega (arith, h, offset_low (ring_at k a b) is consumed), omega (arith, h))
 
   pub near-of : (p : Party) (K : Kind) (L : ℕ → ℕ) (t : ProtocolState) → Known K (ring_at k a b) L t → Near k (part p t)
   near-of the_sender K L t known = record { sending = placed-near t.stored t.published t.sending known.sending; receiving = tt }
@@ -306,21 +263,12 @@ module _ (k : Block) where
   knows-offset the_receiver u t knows near = subst (IsFit k) knows near.receiving
 
   pub looked-offset : (p : Party) (K : Kind) (r : RingBuffer) (u v : ℕ) (t : Part) → Looked p K r u v t → Near k t → IsOffset k u
-  looked-offset the_sender K r u v t knows near = at (says_full K r u v) (subst (IsNear k) knows near.sending)
-    where
-      at : (b : Bool) → IsNear k (if b then placed u else roomy u) → IsOffset k u
-      at true h = h
-      at false h = h
-  looked-offset the_receiver lamport r u v t knows near = at (says_empty lamport u v) (subst (IsFit k) knows near.receiving)
-    where
-      at : (b : Bool) → IsFit k (if b then asked u else waiting u) → IsOffset k u
-      at true h = h
-      at false h = h
-  looked-offset the_receiver fastforward r u v t knows near = at (says_empty fastforward u v) (subst (IsFit k) knows near.receiving)
-    where
-      at : (b : Bool) → IsFit k (if b then asked u else holding u v) → IsOffset k u
-      at true h = h
-      at false h = h
+  looked-offset the_sender K r u v t knows near =
+      either (IsNear k) (says_full K r u v) (placed u) (roomy u) (λ h. h) (λ h. h) (subst (IsNear k) knows near.sending)
+  looked-offset the_receiver lamport r u v t knows near =
+      either (IsFit k) (says_empty lamport u v) (asked u) (waiting u) (λ h. h) (λ h. h) (subst (IsFit k) knows near.receiving)
+  looked-offset the_receiver fastforward r u v t knows near =
+      either (IsFit k) (says_empty fastforward u v) (asked u) (holding u v) (λ h. h) (λ h. h) (subst (IsFit k) knows near.receiving)
 
   pub ready-offset : (p : Party) (u w : ℕ) (t : Part) → MayStore p u w t → Near k t → IsOffset k u
   ready-offset the_sender u w t knows near = subst (IsNear k) knows near.sending

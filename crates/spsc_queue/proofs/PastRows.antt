@@ -1,6 +1,6 @@
 -- How far a party's landings have come, by its row alone: a store of which a later store of the same hart has landed has
 -- landed.
-use Rattle.std.proofs.Common.{ℕ, zero, suc, ◌+◌, ◌<◌, ◌≤◌, ◌≡◌, inl, inr, List, ◌++◌, length, take, drop, refl, sym, ◌∙◌, ap, subst, arith, length-append}
+use Rattle.std.proofs.Common.{ℕ, zero, suc, ◌+◌, ◌-◌, ◌<◌, ◌≤◌, ◌≡◌, inl, inr, List, ◌++◌, length, take, drop, refl, sym, ◌∙◌, ap, subst, arith, length-append}
 use Rattle.std.proofs.lemmas.Bool.{cases_lt}
 use Rattle.std.proofs.lemmas.List.{take-append-drop, take-append-le}
 use Rattle.std.proofs.Math.Seq.{take-add}
@@ -56,12 +56,13 @@ landed-grows r h es fs whole is even =
 reached : {r : RingBuffer} {h a b : ℕ} {f : ℕ → Write} {es : List Entry} {i n : ℕ} → Row r h a b f es i n
     → length (row_of r (take (lands h es) (own_stores h es))) + b ≡ a + i
 reached {r = r} {h = h} {f = f} {es = es} {i = i} {n = n} row =
-    let count : length (row_of r (pending h es)) ≡ n = ap length row.pends ∙ length-spread f i n in omega (arith, landed-on r h es, count, row.made)
+    let count : length (row_of r (pending h es)) ≡ n - i = ap length row.pends ∙ length-spread f i (n - i) in
+    omega (arith, landed-on r h es, count, row.made, row.landed)
 
 module _ {r : RingBuffer} {h a b : ℕ} {f p : ℕ → Write} {es whole : List Entry} {i n j m : ℕ} (fs : List Entry) (is : whole ≡ es ++ fs)
     (row : Row r h a b f es i n) (later : Row r h a b p whole j m) where
   -- once more of a row has landed than its hart had stored at a point, all that the hart had stored there has landed
-  pub row-past : i + n < j → length (own_stores h es) < lands h whole
+  pub row-past : n < j → length (own_stores h es) < lands h whole
   row-past more = beyond r (own_stores h es) (own_stores h fs) (lands h whole)
       (subst (λ ws. length (row_of r (own_stores h es)) < length (row_of r (take (lands h whole) ws)))
       (ap (own_stores h) is ∙ stores-append h es fs) (omega (arith, reached later, row.made, more)))

@@ -1,15 +1,16 @@
 -- Rows of stores, of any protocol: each party stores to the block in an order that is known, and what an entry does to the
 -- block is to leave it, to make a party's next store pending, or to land a party's oldest.
-use Rattle.std.proofs.Common.{ℕ, zero, suc, ◌+◌, ◌<◌, ◌≤◌, ◌≡◌, ◌≢◌, ◌==◌, ◌⊎◌, inl, inr, Bool, true, false, if◌then◌else◌, List, [], ◌∷◌, ◌++◌, length, take}
-use Rattle.std.proofs.Common.{refl, sym, ◌∙◌, ap, subst, arith, append-nil, length-append, eq-eqb}
-use Rattle.std.proofs.lemmas.Bool.{cases_eq, ne_eqb}
+use Rattle.std.proofs.Common.{ℕ, zero, suc, ◌+◌, ◌-◌, ◌^◌, ◌<◌, ◌≤◌, ◌≡◌, ◌≢◌, ◌==◌, ◌⊎◌, inl, inr, Bool, true, false, if◌then◌else◌, List, [], ◌∷◌, ◌++◌}
+use Rattle.std.proofs.Common.{length, take, drop, refl, sym, ◌∙◌, ap, subst, arith, append-nil, length-append, eq-eqb}
+use Rattle.std.proofs.lemmas.Bool.{cases_eq, eqb-true, ne_eqb}
+use Rattle.std.proofs.lemmas.List.{take-append-drop}
 use Rattle.memory.specs.declared.writes.Write.{Write}
 use Rattle.memory.specs.Writes.{write, IsWholeWord}
 use Rattle.step_machine.specs.declared.events.Entry.{Entry}
 use Rattle.step_machine.specs.History.{OpeningValue}
-use Rattle.step_machine.specs.Access.{Access, nothing, load, store, exchange, fence, land, access_of}
+use Rattle.step_machine.specs.Access.{Access, store, exchange, land, access_of}
 use Rattle.step_machine.specs.Entries.{hart_of, stored_by, landed_by, written_by, own_store, land_of, write_of, pending, memory_word, own_stores, lands}
-use Rattle.step_machine.proofs.Appended.{stores-append}
+use Rattle.step_machine.proofs.Appended.{stores-append, pending-last}
 use Rattle.step_machine.proofs.Lists.{some_first}
 use Rattle.spsc_queue.specs.RingBuffers.{RingBuffer, IsRingBuffer, IsWordIn}
 use Rattle.spsc_queue.proofs.Words.{shared, row_of}
@@ -26,9 +27,6 @@ split_on r w rest f i n on is = at n refl (sym (ap (λ b. if b then w ∷ row_of
     at zero e same = cc
     at (suc m) e same = (m, e, (let one : w ≡ f i = cc in one), (let more : row_of r rest ≡ spread f (suc i) m = cc in more))
 
-split_off : (r : RingBuffer) (w : Write) (rest : List Write) → shared r w ≡ false → row_of r (w ∷ rest) ≡ row_of r rest
-split_off r w rest off = ap (λ b. if b then w ∷ row_of r rest else row_of r rest) off
-
 -- how many stores to the block the parties had made before a run, and how many a sender makes of the words that waited there
 pub record Earlier : Type 0 where
   pub sender : ℕ
@@ -38,46 +36,17 @@ pub record Earlier : Type 0 where
 abbrev pub on_count : RingBuffer → (h : ℕ) → List Entry → ℕ
 on_count r h es = length (row_of r (own_stores h es))
 
--- hart h's row is f: i of its stores have landed, and the next n are pending. It had made a others before, and b of these count as its own
+-- hart h's row is f: it has made n of its stores, i of them have landed, and the others are pending. It had made a others before, and b of these
+-- count as its own
 pub record Row (r : RingBuffer) (h a b : ℕ) (f : ℕ → Write) (es : List Entry) (i n : ℕ) : Type 0 where
-  pub pends : row_of r (pending h es) ≡ spread f i n
-  pub made : on_count r h es + b ≡ a + (i + n)
+  pub pends : row_of r (pending h es) ≡ spread f i (n - i)
+  pub landed : i ≤ n
+  pub made : on_count r h es + b ≡ a + n
 
 pub record Rows (r : RingBuffer) (c : Earlier) (f g : ℕ → Write) (es : List Entry) (i n j m : ℕ) : Type 0 where
   pub mine : Row r r.sender c.sender c.ahead f es i n
   pub theirs : Row r r.receiver c.receiver 0 g es j m
   pub others : (h : ℕ) → h ≢ r.sender → h ≢ r.receiver → row_of r (pending h es) ≡ []
-
--- of a party that stores a word into a slot and then its index: how many slots and indices it has stored, and how many of these have landed
-pub record RowOrder (stored published slots heads : ℕ) : Type 0 where
-  pub heads_slots : heads ≤ slots
-  pub slots_heads : slots ≤ heads + 1
-  pub slots_stored : slots ≤ stored
-  pub heads_published : heads ≤ published
-  pub published_stored : published ≤ stored
-  pub stored_published : stored ≤ published + 1
-
-row-order : {p q m n : ℕ} → n ≤ m → m ≤ n + 1 → m ≤ p → n ≤ q → q ≤ p → p ≤ q + 1 → RowOrder p q m n
-row-order a b c d e f =
-    record { heads_slots = a; slots_heads = b; slots_stored = c; heads_published = d; published_stored = e; stored_published = f }
-
-pub row-level : (n : ℕ) → RowOrder n n n n
-row-level n = row-order (omega arith) (omega arith) (omega arith) (omega arith) (omega arith) (omega arith)
-
-pub row-stores : {p q m n : ℕ} → RowOrder p q m n → p ≡ q → RowOrder (p + 1) q m n
-row-stores row level = row-order row.heads_slots row.slots_heads (omega (arith, row.slots_stored)) row.heads_published (omega (arith, level))
-    (omega (arith, level))
-
-pub row-publishes : {p q m n : ℕ} → RowOrder p q m n → p ≡ q + 1 → RowOrder p (q + 1) m n
-row-publishes row odd =
-    row-order row.heads_slots row.slots_heads row.slots_stored (omega (arith, row.heads_published)) (omega (arith, odd)) (omega (arith, odd))
-
-pub slot-landed : {p q m n : ℕ} → RowOrder p q m n → m ≡ n → m < p → RowOrder p q (suc m) n
-slot-landed row level some =
-    row-order (omega (arith, row.heads_slots)) (omega (arith, level)) some row.heads_published row.published_stored row.stored_published
-
-pub head-landed : {p q m n : ℕ} → RowOrder p q m n → m ≡ n + 1 → n < q → RowOrder p q m (suc n)
-head-landed row odd some = row-order (omega (arith, odd)) (omega (arith, odd)) row.slots_stored some row.published_stored row.stored_published
 
 -- from es to fs the words of the block stay, and so do the stores to it
 pub record Stays (r : RingBuffer) (o : OpeningValue) (es fs : List Entry) : Type 0 where
@@ -89,17 +58,20 @@ pub record Stays (r : RingBuffer) (o : OpeningValue) (es fs : List Entry) : Type
 abbrev pub Lands : RingBuffer → OpeningValue → (es fs : List Entry) → Write → Type 0
 Lands r o es fs w = (a : ℕ) → IsWordIn r a → IsWholeWord w → memory_word o fs a ≡ (if w.addr == a then w.value else memory_word o es a)
 
-pub hit : (r : RingBuffer) (o : OpeningValue) (es fs : List Entry) (w : Write) (a : ℕ) → Lands r o es fs w → IsWordIn r a → IsWholeWord w → w.addr ≡ a
-    → memory_word o fs a ≡ w.value
-hit r o es fs w a is word whole here = is a word whole ∙ ap (λ b. if b then w.value else memory_word o es a) (eq-eqb w.addr a here)
-
-pub miss : (r : RingBuffer) (o : OpeningValue) (es fs : List Entry) (w : Write) (a : ℕ) → Lands r o es fs w → IsWordIn r a → IsWholeWord w → w.addr ≢ a
-    → memory_word o fs a ≡ memory_word o es a
-miss r o es fs w a is word whole there = is a word whole ∙ ap (λ b. if b then w.value else memory_word o es a) (ne_eqb w.addr a there)
+-- so a word of the block is what is written there, and each other one stays
+pub lands-at : (r : RingBuffer) (o : OpeningValue) (es fs : List Entry) (a v : ℕ) → Lands r o es fs (write a 4 v) → IsWordIn r a → v < 2 ^ 32
+    → (memory_word o fs a ≡ v) × ((b : ℕ) → IsWordIn r b → a ≢ b → memory_word o fs b ≡ memory_word o es b)
+lands-at r o es fs a v is word small = (
+  is a word whole ∙ ap (λ t. if t then v else memory_word o es a) (eq-eqb a a refl),
+  λ b other apart. is b other whole ∙ ap (λ t. if t then v else memory_word o es b) (ne_eqb a b apart),
+)
+  where
+    whole : IsWholeWord (write a 4 v)
+    whole = record { whole = refl; aligned = word.aligned; small = small }
 
 row-same : {r : RingBuffer} {h a b : ℕ} {f : ℕ → Write} {es fs : List Entry} {i n : ℕ} → row_of r (pending h fs) ≡ row_of r (pending h es)
     → on_count r h fs ≡ on_count r h es → Row r h a b f es i n → Row r h a b f fs i n
-row-same {b = b} pends made row = record { pends = pends ∙ row.pends; made = ap (λ k. k + b) made ∙ row.made }
+row-same {b = b} pends made row = record { pends = pends ∙ row.pends; landed = row.landed; made = ap (λ k. k + b) made ∙ row.made }
 
 pub rows-stay : {r : RingBuffer} {c : Earlier} {f g : ℕ → Write} {o : OpeningValue} {es fs : List Entry} {i n j m : ℕ}
     → Rows r c f g es i n j m → Stays r o es fs → Rows r c f g fs i n j m
@@ -122,15 +94,6 @@ module _ (r : RingBuffer) (is : IsRingBuffer r) (o : OpeningValue) (es : List En
   made-none : (h : ℕ) → own_store h e ≡ [] → on_count r h after ≡ on_count r h es
   made-none h none = made-of h [] none ∙ (let same : on_count r h es + 0 ≡ on_count r h es = omega arith in same)
 
-  -- an entry that stores nothing and lands nothing, and writes at most off the block
-  stays-if : ((h : ℕ) → own_store h e ≡ []) → ((h : ℕ) → land_of h e ≡ 0)
-      → ((a : ℕ) → IsWordIn r a → memory_word o after a ≡ memory_word o es a) → Stays r o es after
-  stays-if none still words = record {
-    words = words;
-    pends = λ h. ap (row_of r) (pending-quiet es e h (even h) (none h) (still h));
-    made = λ h. made-none h (none h);
-  }
-
   -- what each kind of access does, read off the entry
   module _ (x : Access) (does : access_of e ≡ x) where
     stores-by : (h : ℕ) → own_store h e ≡ stored_by (hart_of e == h) x
@@ -146,20 +109,32 @@ module _ (r : RingBuffer) (is : IsRingBuffer r) (o : OpeningValue) (es : List En
     no-store-of : (h : ℕ) → hart_of e ≢ h → own_store h e ≡ []
     no-store-of h other = stores-by h ∙ ap (λ b. stored_by b x) (ne_eqb (hart_of e) h other) ∙ stored_none x
 
-  pub nothing-stays : access_of e ≡ nothing → Stays r o es after
-  nothing-stays does = stays-if (stores-by nothing does) (lands-by nothing does) (λ a word. memory-quiet o es e a (writes-by nothing does))
+  -- an entry whose hart neither stores nor lands on the block, and whose write is off it
+  stays-if : ((h : ℕ) → row_of r (own_store h e) ≡ []) → ((h : ℕ) → row_of r (take (land_of h e) (pending h es ++ own_store h e)) ≡ [])
+      → ((a : ℕ) → IsWordIn r a → memory_word o after a ≡ memory_word o es a) → Stays r o es after
+  stays-if none gone words = record {
+    words = words;
+    pends = λ h.
+        let ws : List Write = pending h es ++ own_store h e in
+        ap (row_of r) (pending-last h es e (even h)) ∙ sym (ap (λ vs. vs ++ row_of r (drop (land_of h e) ws)) (gone h))
+        ∙ sym (on-append r (take (land_of h e) ws) (drop (land_of h e) ws)) ∙ ap (row_of r) (take-append-drop (land_of h e) ws)
+        ∙ on-append r (pending h es) (own_store h e) ∙ ap (λ vs. row_of r (pending h es) ++ vs) (none h) ∙ append-nil (row_of r (pending h es));
+    made = λ h. made-of h (own_store h e) refl ∙ ap (λ vs. on_count r h es + length vs) (none h) ∙ omega arith;
+  }
 
-  pub load-stays : (a width v : ℕ) → access_of e ≡ load a width v → Stays r o es after
-  load-stays a width v does =
-      stays-if (stores-by (load a width v) does) (lands-by (load a width v) does) (λ b word. memory-quiet o es e b (writes-by (load a width v) does))
+  -- an access that stores nothing and lands nothing, and writes at most off the block
+  still-if : (x : Access) → access_of e ≡ x → ((h : ℕ) → stored_by (hart_of e == h) x ≡ []) → ((h : ℕ) → landed_by (hart_of e == h) x ≡ 0)
+      → ((a : ℕ) → IsWordIn r a → memory_word o after a ≡ memory_word o es a) → Stays r o es after
+  still-if x does none still words = stays-if (λ h. ap (row_of r) (stores-by x does h ∙ none h))
+      (λ h. ap (λ n. row_of r (take n (pending h es ++ own_store h e))) (lands-by x does h ∙ still h)) words
 
-  pub fence-stays : (full : Bool) → access_of e ≡ fence full → Stays r o es after
-  fence-stays full does =
-      stays-if (stores-by (fence full) does) (lands-by (fence full) does) (λ a word. memory-quiet o es e a (writes-by (fence full) does))
+  pub still-stays : (x : Access) → access_of e ≡ x → ((h : ℕ) → stored_by (hart_of e == h) x ≡ []) → ((h : ℕ) → landed_by (hart_of e == h) x ≡ 0)
+      → written_by (take 1 (pending (hart_of e) es)) x ≡ [] → Stays r o es after
+  still-stays x does none still unwritten = still-if x does none still (λ a word. memory-quiet o es e a (writes-by x does ∙ unwritten))
 
   -- an AMO off the block
   pub exchange-stays : (a old new : ℕ) → access_of e ≡ exchange a old new → shared r (write a 4 new) ≡ false → Stays r o es after
-  exchange-stays a old new does off = stays-if (stores-by (exchange a old new) does) (lands-by (exchange a old new) does)
+  exchange-stays a old new does off = still-if (exchange a old new) does (λ h. refl) (λ h. refl)
       (λ b word. memory-off o es e r b (write a 4 new) (writes-by (exchange a old new) does) word off)
 
   -- a store, by which the entry's hart gets one more pending store and each other keeps its own
@@ -180,19 +155,12 @@ module _ (r : RingBuffer) (is : IsRingBuffer r) (o : OpeningValue) (es : List En
     words-stay a = memory-quiet o es e a (writes-by (store w) does)
 
     pub off-stays : shared r w ≡ false → Stays r o es after
-    off-stays off = record { words = λ a word. words-stay a; pends = λ h. at h (cases_eq (hart_of e) h); made = λ h. count h (cases_eq (hart_of e) h) }
+    off-stays off = stays-if (λ h. ap (row_of r) (stores-by (store w) does h) ∙ none (hart_of e == h))
+        (λ h. ap (λ n. row_of r (take n (pending h es ++ own_store h e))) (lands-by (store w) does h)) (λ a word. words-stay a)
       where
-        at : (h : ℕ) → (hart_of e ≡ h) ⊎ (hart_of e ≢ h) → row_of r (pending h after) ≡ row_of r (pending h es)
-        at h (inl same) = subst (λ g. row_of r (pending g after) ≡ row_of r (pending g es)) same
-            (ap (row_of r) more-of ∙ on-append r (pending (hart_of e) es) (w ∷ [])
-            ∙ ap (λ vs. row_of r (pending (hart_of e) es) ++ vs) (on-none r w off) ∙ append-nil (row_of r (pending (hart_of e) es)))
-        at h (inr other) = same-of h other
-
-        count : (h : ℕ) → (hart_of e ≡ h) ⊎ (hart_of e ≢ h) → on_count r h after ≡ on_count r h es
-        count h (inl same) = subst (λ g. on_count r g after ≡ on_count r g es) same
-            (made-of (hart_of e) (w ∷ []) stored-of ∙ ap (λ vs. on_count r (hart_of e) es + length vs) (on-none r w off)
-            ∙ (let none : on_count r (hart_of e) es + 0 ≡ on_count r (hart_of e) es = omega arith in none))
-        count h (inr other) = made-none h (no-store-of (store w) does h other)
+        none : (b : Bool) → row_of r (stored_by b (store w)) ≡ []
+        none true = on-none r w off
+        none false = refl
 
     module _ (on : shared r w ≡ true) where
       longer : (h : ℕ) → hart_of e ≡ h → (f : ℕ → Write) (i n : ℕ) → row_of r (pending h es) ≡ spread f i n → w ≡ f (i + n)
@@ -205,22 +173,28 @@ module _ (r : RingBuffer) (is : IsRingBuffer r) (o : OpeningValue) (es : List En
       one-more h mine = subst (λ g. on_count r g after ≡ on_count r g es + 1) mine
           (made-of (hart_of e) (w ∷ []) stored-of ∙ ap (λ vs. on_count r (hart_of e) es + length vs) (on-one r w on))
 
-      next : {h a b : ℕ} {f : ℕ → Write} {i n : ℕ} → hart_of e ≡ h → Row r h a b f es i n → w ≡ f (i + n) → Row r h a b f after i (suc n)
+      next : {h a b : ℕ} {f : ℕ → Write} {i n : ℕ} → hart_of e ≡ h → Row r h a b f es i n → w ≡ f n → Row r h a b f after i (suc n)
       next {h = h} {f = f} {i = i} {n = n} mine row is_next =
-          record { pends = longer h mine f i n row.pends is_next; made = (let one = one-more h mine in omega (arith, one, row.made)) }
+          let place : n ≡ i + (n - i) = omega (arith, row.landed) in
+          let more : suc (n - i) ≡ suc n - i = omega (arith, row.landed) in
+          record {
+            pends = longer h mine f i (n - i) row.pends (is_next ∙ ap f place) ∙ ap (spread f i) more;
+            landed = omega (arith, row.landed);
+            made = (let one = one-more h mine in omega (arith, one, row.made));
+          }
 
       kept : {h a b : ℕ} {f : ℕ → Write} {i n : ℕ} → hart_of e ≢ h → Row r h a b f es i n → Row r h a b f after i n
       kept {h = h} other row = row-same (same-of h other) (made-none h (no-store-of (store w) does h other)) row
 
       module _ {c : Earlier} {f g : ℕ → Write} {i n j m : ℕ} (rows : Rows r c f g es i n j m) where
-        pub sender-stores : hart_of e ≡ r.sender → w ≡ f (i + n) → Rows r c f g after i (suc n) j m
+        pub sender-stores : hart_of e ≡ r.sender → w ≡ f n → Rows r c f g after i (suc n) j m
         sender-stores mine is_next = record {
           mine = next mine rows.mine is_next;
           theirs = kept (λ same. is.parties (sym mine ∙ same)) rows.theirs;
           others = λ h not_sender not_receiver. same-of h (λ same. not_sender (sym same ∙ mine)) ∙ rows.others h not_sender not_receiver;
         }
 
-        pub receiver-stores : hart_of e ≡ r.receiver → w ≡ g (j + m) → Rows r c f g after i n j (suc m)
+        pub receiver-stores : hart_of e ≡ r.receiver → w ≡ g m → Rows r c f g after i n j (suc m)
         receiver-stores mine is_next = record {
           mine = kept (λ same. is.parties (sym same ∙ mine)) rows.mine;
           theirs = next mine rows.theirs is_next;
@@ -232,8 +206,7 @@ module _ (r : RingBuffer) (is : IsRingBuffer r) (o : OpeningValue) (es : List En
     -- it is off the block, or the next of the sender's row, or the next of the receiver's
     abbrev pub Landing : Type 0
     Landing = Stays r o es after ⊎ (
-        ((k : ℕ) × (n ≡ suc k) × Rows r c f g after (suc i) k j m × Lands r o es after (f i))
-        ⊎ ((k : ℕ) × (m ≡ suc k) × Rows r c f g after i n (suc j) k × Lands r o es after (g j)))
+        ((i < n) × Rows r c f g after (suc i) n j m × Lands r o es after (f i)) ⊎ ((j < m) × Rows r c f g after i n (suc j) m × Lands r o es after (g j)))
 
     module _ (does : access_of e ≡ land) (w : Write) (rest : List Write) (first : pending (hart_of e) es ≡ w ∷ rest) where
       none-stored : (h : ℕ) → own_store h e ≡ []
@@ -254,31 +227,29 @@ module _ (r : RingBuffer) (is : IsRingBuffer r) (o : OpeningValue) (es : List En
       written x is_it a word whole = memory-whole o es e a x (writes ∙ ap (λ y. y ∷ []) is_it) word.aligned whole
 
       off-lands : shared r w ≡ false → Stays r o es after
-      off-lands off = record {
-        words = λ a word. memory-off o es e r a w writes word off;
-        pends = λ h. at h (cases_eq (hart_of e) h);
-        made = λ h. made-none h (none-stored h);
-      }
+      off-lands off = stays-if (λ h. ap (row_of r) (none-stored h)) (λ h. ap (λ n. row_of r (take n (pending h es ++ own_store h e))) (lands-by land does h)
+          ∙ gone h (hart_of e == h) refl) (λ a word. memory-off o es e r a w writes word off)
         where
-          at : (h : ℕ) → (hart_of e ≡ h) ⊎ (hart_of e ≢ h) → row_of r (pending h after) ≡ row_of r (pending h es)
-          at h (inl same) = subst (λ g. row_of r (pending g after) ≡ row_of r (pending g es)) same
-              (ap (row_of r) left-of ∙ sym (ap (row_of r) first ∙ split_off r w rest off))
-          at h (inr other) = kept-of h other
+          gone : (h : ℕ) (b : Bool) → (hart_of e == h) ≡ b → row_of r (take (landed_by b land) (pending h es ++ own_store h e)) ≡ []
+          gone h false other = refl
+          gone h true mine = ap (λ ws. row_of r (take 1 (ws ++ own_store h e))) (ap (λ g. pending g es) (sym (eqb-true (hart_of e) h mine)) ∙ first)
+              ∙ on-none r w off
 
       row-of : (h : ℕ) → hart_of e ≡ h → (ws : List Write) → row_of r (pending h es) ≡ ws → row_of r (w ∷ rest) ≡ ws
       row-of h mine ws has = ap (row_of r) (sym first) ∙ ap (λ g. row_of r (pending g es)) mine ∙ has
 
       -- it is the oldest of its hart's row
       oldest : {h a b : ℕ} {q : ℕ → Write} {p k : ℕ} → hart_of e ≡ h → Row r h a b q es p k → shared r w ≡ true
-          → (l : ℕ) × (k ≡ suc l) × Row r h a b q after (suc p) l × (w ≡ q p)
+          → (p < k) × Row r h a b q after (suc p) k × (w ≡ q p)
       oldest {h = h} {a = a} {b = b} {q = q} {p = p} {k = k} mine row on =
-          let split = split_on r w rest q p k on (row-of h mine (spread q p k) row.pends) in (
-            split.0,
-            split.1,
+          let split = split_on r w rest q p (k - p) on (row-of h mine (spread q p (k - p)) row.pends) in
+          let left : split.0 ≡ k - suc p = omega (arith, split.1) in (
+            omega (arith, split.1),
             record {
-              pends = subst (λ g. row_of r (pending g after) ≡ spread q (suc p) split.0) mine (ap (row_of r) left-of ∙ split.3);
-              made = ap (λ x. x + b) (made-none h (none-stored h)) ∙ row.made
-                  ∙ (let same : a + (p + k) ≡ a + (suc p + split.0) = omega (arith, split.1) in same);
+              pends = subst (λ g. row_of r (pending g after) ≡ spread q (suc p) (k - suc p)) mine
+                  (ap (row_of r) left-of ∙ split.3 ∙ ap (spread q (suc p)) left);
+              landed = omega (arith, split.1);
+              made = ap (λ x. x + b) (made-none h (none-stored h)) ∙ row.made;
             },
             split.2,
           )
@@ -294,25 +265,23 @@ module _ (r : RingBuffer) (is : IsRingBuffer r) (o : OpeningValue) (es : List En
               let one = oldest mine rows.mine on in
               inr (inl (
                 one.0,
-                one.1,
                 record {
-                  mine = one.2;
+                  mine = one.1;
                   theirs = kept-row (λ same. is.parties (sym mine ∙ same)) rows.theirs;
                   others = λ h not_sender not_receiver. kept-of h (λ same. not_sender (sym same ∙ mine)) ∙ rows.others h not_sender not_receiver;
                 },
-                written (f i) one.3,
+                written (f i) one.2,
               ))
           at (inr other) (inl mine) =
               let one = oldest mine rows.theirs on in
               inr (inr (
                 one.0,
-                one.1,
                 record {
                   mine = kept-row other rows.mine;
-                  theirs = one.2;
+                  theirs = one.1;
                   others = λ h not_sender not_receiver. kept-of h (λ same. not_receiver (sym same ∙ mine)) ∙ rows.others h not_sender not_receiver;
                 },
-                written (g j) one.3,
+                written (g j) one.2,
               ))
           at (inr other) (inr another) =
               let none : row_of r (w ∷ rest) ≡ [] = row-of (hart_of e) refl [] (rows.others (hart_of e) other another) in

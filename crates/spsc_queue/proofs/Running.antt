@@ -1,6 +1,5 @@
 -- A hart that a run leads to a state runs there, except where it wants to stop or to end.
-use Rattle.std.proofs.Common.{arith, ℕ, ◌*◌, ◌≡◌, ◌==◌, ◌⊎◌, inl, inr, Bool, true, false, if◌then◌else◌, List, [], ◌∷◌}
-use Rattle.std.proofs.Common.{length, Option, Some, None, refl, sym, ◌∙◌, ap, subst}
+use Rattle.std.proofs.Common.{arith, ℕ, ◌*◌, ◌≡◌, ◌==◌, ◌⊎◌, inl, inr, false, if◌then◌else◌, List, [], ◌∷◌, length, Option, Some, None, refl, sym, subst}
 use Rattle.std.specs.Prelude.{nat_lt}
 use Rattle.std.proofs.lemmas.Bool.{eqb-true}
 use Rattle.std.proofs.lemmas.Bool.Decides.{nat_tests}
@@ -21,6 +20,7 @@ use Rattle.step_machine.specs.Legal.{WellFormed}
 use Rattle.rv_decode.specs.Listings.{Listed}
 use Rattle.spsc_queue.specs.Calls.{HasFunction}
 use Rattle.spsc_queue.specs.CallEffects.{IsPlainNeed}
+use Rattle.spsc_queue.proofs.Cases.{by-bool}
 use Rattle.spsc_queue.proofs.OwnEntries.{state_here}
 
 abbrev IsHalt : Need → Type 0
@@ -40,11 +40,8 @@ unfolding need_of
 halts_still s x halts = halts
 
 settles : (s : HartState) → s.status ≡ status.Running → RunsOrHalts (settled s)
-settles s runs = at (s.pc == 4 * length s.code) refl
-  where
-    at : (b : Bool) → (s.pc == 4 * length s.code) ≡ b → RunsOrHalts (settled s)
-    at true end = inr (past_code (settled s) (eqb-true s.pc (4 * length s.code) end))
-    at false on = inl (ap (λ b. if b then status.Ended else s.status) on ∙ runs)
+settles s runs = by-bool (λ b. RunsOrHalts (record s { status = if b then status.Ended else s.status })) (s.pc == 4 * length s.code)
+    (λ end. inr (past_code (record s { status = status.Ended }) (eqb-true s.pc (4 * length s.code) end))) (λ on. inl runs)
 
 by_meaning : (s : HartState) (v : ℕ) (i : Option Instr) → s.status ≡ status.Running → RunsOrHalts (after_meaning s v i)
 by_meaning s v None runs = inl runs

@@ -1,9 +1,9 @@
 -- Rows of stores: those of a party to the block, in order, and what a word is after some of them.
-use Rattle.std.proofs.Common.{ℕ, zero, suc, ◌+◌, ◌*◌, ◌/◌, ◌%◌, ◌^◌, ◌<◌, ◌≤◌, ◌≡◌, ◌≢◌, ◌==◌, ◌⊎◌, inl, inr, if◌then◌else◌, Bool, true, false, List, [], ◌∷◌}
+use Rattle.std.proofs.Common.{ℕ, zero, suc, ◌+◌, ◌*◌, ◌/◌, ◌%◌, ◌^◌, ◌<◌, ◌≤◌, ◌≡◌, ◌≢◌, ◌==◌, inl, inr, if◌then◌else◌, Bool, true, false, List, [], ◌∷◌}
 use Rattle.std.proofs.Common.{◌++◌, refl, ◌∙◌, ap, arith, length, zero-add}
 use Rattle.std.specs.Prelude.{All}
 use Rattle.std.specs.List.{filter}
-use Rattle.std.proofs.lemmas.Bool.{cases_eq, ne_eqb}
+use Rattle.std.proofs.lemmas.Bool.{eq-eqb, ne_eqb}
 use Rattle.std.proofs.lemmas.Bool.Decides.{nat_tests}
 use Rattle.std.proofs.lemmas.Nat.{mod_below}
 use Rattle.std.proofs.lemmas.List.Elements.{All-nil, All-cons}
@@ -11,6 +11,7 @@ use Rattle.memory.specs.declared.writes.Write.{Write}
 use Rattle.memory.specs.Writes.{write, IsWholeWord}
 use Rattle.step_machine.proofs.Modulo.{mod_apart}
 use Rattle.spsc_queue.specs.RingBuffers.{RingBuffer, IsRingBuffer, slot_offset, slot_address, is_in_slots}
+use Rattle.spsc_queue.proofs.Cases.{by-test}
 use Rattle.spsc_queue.proofs.Words.{seen}
 
 -- n of the stores of a row, from the i-th on
@@ -106,35 +107,24 @@ module _ (r : RingBuffer) (is : IsRingBuffer r) where
   ]
 
   module _ (L : ℕ → ℕ) where
-    -- each store of the sender's row is one of these
-    pub sent-cases : (P : Write → Type 0) (p : ℕ) → ((j : ℕ) → P (write (slot_address r j) 4 (L j))) → ((j : ℕ) → P (write r.head 4 (slot_offset r j)))
-        → P (sent_store r L p)
-    sent-cases P p one two = at (p % 2 == 0)
-      where
-        at : (b : Bool) → P (if b then write (slot_address r (p / 2)) 4 (L (p / 2)) else write r.head 4 (slot_offset r (p / 2 + 1)))
-        at true = one (p / 2)
-        at false = two (p / 2 + 1)
+    -- each store of the sender's row is one of these: of a word into its slot, or of the head after it
+    pub sent-cases : (P : Write → Type 0) (p : ℕ) → (p % 2 ≡ 0 → P (write (slot_address r (p / 2)) 4 (L (p / 2))))
+        → (p % 2 ≢ 0 → P (write r.head 4 (slot_offset r (p / 2 + 1)))) → P (sent_store r L p)
+    sent-cases P p one two = by-test (λ b. P (if b then write (slot_address r (p / 2)) 4 (L (p / 2)) else write r.head 4 (slot_offset r (p / 2 + 1))))
+        (p % 2) 0 one two
 
     pub sent-not-tail : (p : ℕ) → (sent_store r L p).addr ≢ r.tail
-    sent-not-tail p = sent-cases (λ w. w.addr ≢ r.tail) p slot_not_tail (λ j. is.apart)
+    sent-not-tail p = sent-cases (λ w. w.addr ≢ r.tail) p (λ even. slot_not_tail (p / 2)) (λ odd. is.apart)
 
     pub sent-whole : ((j : ℕ) → L j < 2 ^ 32) → (p : ℕ) → IsWholeWord (sent_store r L p)
-    sent-whole small p = sent-cases IsWholeWord p (λ j. record { whole = refl; aligned = omega (arith, is.slots_aligned); small = small j })
-        (λ j. record { whole = refl; aligned = is.head.aligned; small = omega (arith, offset_low j, is.small) })
+    sent-whole small p = sent-cases IsWholeWord p (λ even. record { whole = refl; aligned = omega (arith, is.slots_aligned); small = small (p / 2) })
+        (λ odd. record { whole = refl; aligned = is.head.aligned; small = omega (arith, offset_low (p / 2 + 1), is.small) })
 
     -- of a row's stores each other one is of the head, and the others are into slots
     pub counts-heads : (p : ℕ) → (if (sent_store r L p).addr == r.head then 1 else 0) + p / 2 ≡ suc p / 2
-    counts-heads p = at (cases_eq (p % 2) 0)
-      where
-        at : (p % 2 ≡ 0) ⊎ (p % 2 ≢ 0) → (if (sent_store r L p).addr == r.head then 1 else 0) + p / 2 ≡ suc p / 2
-        at (inl even) =
-            let j : ℕ = p / 2 in
-            ap (λ (x : Write). (if x.addr == r.head then 1 else 0) + p / 2) (sent-slot r L p j (omega arith))
-            ∙ ap (λ b. (if b then 1 else 0) + p / 2) (ne_eqb (slot_address r j) r.head (slot_not_head j)) ∙ omega arith
-        at (inr odd) =
-            let on : (r.head == r.head) ≡ true = grind (arith, nat_tests) in
-            ap (λ (x : Write). (if x.addr == r.head then 1 else 0) + p / 2) (sent-head r L p (p / 2) (omega arith))
-            ∙ ap (λ b. (if b then 1 else 0) + p / 2) on ∙ omega arith
+    counts-heads p = sent-cases (λ w. (if w.addr == r.head then 1 else 0) + p / 2 ≡ suc p / 2) p
+        (λ even. ap (λ b. (if b then 1 else 0) + p / 2) (ne_eqb (slot_address r (p / 2)) r.head (slot_not_head (p / 2))) ∙ omega arith)
+        (λ odd. ap (λ b. (if b then 1 else 0) + p / 2) (eq-eqb r.head r.head refl) ∙ omega arith)
 
     slot-on : (j : ℕ) → is_in_slots r (write (slot_address r j) 4 (L j)) ≡ true
     slot-on j = let low = offset_low j in grind (arith, nat_tests)
@@ -146,35 +136,17 @@ module _ (r : RingBuffer) (is : IsRingBuffer r) where
     ]
 
     pub counts-slots : (p : ℕ) → (if is_in_slots r (sent_store r L p) then 1 else 0) + (p + 1) / 2 ≡ (suc p + 1) / 2
-    counts-slots p = at (cases_eq (p % 2) 0)
-      where
-        at : (p % 2 ≡ 0) ⊎ (p % 2 ≢ 0) → (if is_in_slots r (sent_store r L p) then 1 else 0) + (p + 1) / 2 ≡ (suc p + 1) / 2
-        at (inl even) =
-            ap (λ (x : Write). (if is_in_slots r x then 1 else 0) + (p + 1) / 2) (sent-slot r L p (p / 2) (omega arith))
-            ∙ ap (λ b. (if b then 1 else 0) + (p + 1) / 2) (slot-on (p / 2)) ∙ omega arith
-        at (inr odd) =
-            ap (λ (x : Write). (if is_in_slots r x then 1 else 0) + (p + 1) / 2) (sent-head r L p (p / 2) (omega arith))
-            ∙ ap (λ b. (if b then 1 else 0) + (p + 1) / 2) (head-off (p / 2 + 1)) ∙ omega arith
+    counts-slots p = sent-cases (λ w. (if is_in_slots r w then 1 else 0) + (p + 1) / 2 ≡ (suc p + 1) / 2) p
+        (λ even. ap (λ b. (if b then 1 else 0) + (p + 1) / 2) (slot-on (p / 2)) ∙ omega arith)
+        (λ odd. ap (λ b. (if b then 1 else 0) + (p + 1) / 2) (head-off (p / 2 + 1)) ∙ omega arith)
 
     -- the sender finds the head after its last store of one
     pub seen-heads : (p n : ℕ) → seen r.head (slot_offset r (p / 2)) (spread (sent_store r L) p n) ≡ slot_offset r ((p + n) / 2)
     seen-heads p zero = ap (slot_offset r) (omega arith)
-    seen-heads p (suc n) =
-        ap (λ v. seen r.head v (spread (sent_store r L) (suc p) n)) (one (cases_eq (p % 2) 0)) ∙ seen-heads (suc p) n ∙ ap (slot_offset r) (omega arith)
+    seen-heads p (suc n) = ap (λ v. seen r.head v (spread (sent_store r L) (suc p) n)) one ∙ seen-heads (suc p) n ∙ ap (slot_offset r) (omega arith)
       where
-        w : Write
-        w = sent_store r L p
-
-        one : (p % 2 ≡ 0) ⊎ (p % 2 ≢ 0) → (if w.addr == r.head then w.value else slot_offset r (p / 2)) ≡ slot_offset r (suc p / 2)
-        one (inl even) =
-            let is : sent_store r L p ≡ write (slot_address r (p / 2)) 4 (L (p / 2)) = sent-slot r L p (p / 2) (omega arith) in
-            let apart : slot_address r (p / 2) ≢ r.head = slot_not_head (p / 2) in
-            let off : (slot_address r (p / 2) == r.head) ≡ false = grind (arith, nat_tests) in
-            ap (λ (x : Write). if x.addr == r.head then x.value else slot_offset r (p / 2)) is ∙ ap (λ b. if b then L (p / 2) else slot_offset r (p / 2)) off
-            ∙ ap (slot_offset r) (omega arith)
-        one (inr odd) =
-            let is : sent_store r L p ≡ write r.head 4 (slot_offset r (p / 2 + 1)) = sent-head r L p (p / 2) (omega arith) in
-            let on : (r.head == r.head) ≡ true = grind (arith, nat_tests) in
-            ap (λ (x : Write). if x.addr == r.head then x.value else slot_offset r (p / 2)) is
-            ∙ ap (λ b. if b then slot_offset r (p / 2 + 1) else slot_offset r (p / 2)) on
-            ∙ ap (slot_offset r) (omega arith)
+        one : (if (sent_store r L p).addr == r.head then (sent_store r L p).value else slot_offset r (p / 2)) ≡ slot_offset r (suc p / 2)
+        one = sent-cases (λ w. (if w.addr == r.head then w.value else slot_offset r (p / 2)) ≡ slot_offset r (suc p / 2)) p
+            (λ even. ap (λ b. if b then L (p / 2) else slot_offset r (p / 2)) (ne_eqb (slot_address r (p / 2)) r.head (slot_not_head (p / 2)))
+            ∙ ap (slot_offset r) (omega arith))
+            (λ odd. ap (λ b. if b then slot_offset r (p / 2 + 1) else slot_offset r (p / 2)) (eq-eqb r.head r.head refl) ∙ ap (slot_offset r) (omega arith))

@@ -8,9 +8,7 @@ use Rattle.step_machine.specs.Access.{access_of}
 use Rattle.step_machine.specs.Entries.{is_own, own}
 use Rattle.spsc_queue.specs.Calls.{Block, Party, MayPass, HasArguments}
 use Rattle.spsc_queue.specs.CallEffects.{accesses, memory_access}
-use Rattle.spsc_queue.proofs.Courses.{At, at_00}
-use Rattle.spsc_queue.proofs.Courses.{number, Course}
-use Rattle.spsc_queue.proofs.Courses.{went}
+use Rattle.spsc_queue.proofs.Courses.{At, at_00, number, Course, went}
 use Rattle.spsc_queue.proofs.Accesses.{other-accesses, other-own, mine-accesses, mine-own}
 
 -- where a hart stands at the entry, in a call, it stands at the first line

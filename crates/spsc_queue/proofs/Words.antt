@@ -1,20 +1,20 @@
 -- What a word of the block is after writes, of which those to the block are of whole words: whatever the others are,
 -- bytes or words, they leave it.
-use Rattle.std.proofs.Common.{ℕ, suc, ◌+◌, ◌-◌, ◌%◌, ◌<◌, ◌≤◌, ◌≡◌, ◌==◌, ◌&&◌, not, ◌⊎◌, inl, inr, Bool, true, false}
-use Rattle.std.proofs.Common.{if◌then◌else◌, List, [], ◌∷◌, Option, Some, None}
-use Rattle.std.proofs.Common.{refl, sym, ◌∙◌, ap, arith, length}
+use Rattle.std.proofs.Common.{ℕ, suc, ◌+◌, ◌-◌, ◌%◌, ◌<◌, ◌≤◌, ◌≡◌, ◌==◌, ◌&&◌, not, ◌⊎◌, inl, inr, Bool, true, false, if◌then◌else◌, List, [], ◌∷◌, Option}
+use Rattle.std.proofs.Common.{Some, None, refl, sym, ◌∙◌, ap, arith, length}
 use Rattle.std.specs.Prelude.{unwrap_or, All}
 use Rattle.std.specs.List.{filter}
 use Rattle.std.specs.Int.{byte_at}
-use Rattle.std.proofs.lemmas.Bool.{eqb-true, eqb-false, ne_eqb}
+use Rattle.std.proofs.lemmas.Bool.{eqb-true, ne_eqb}
 use Rattle.std.proofs.lemmas.Bool.Decides.{nat_tests}
 use Rattle.std.proofs.lemmas.List.Elements.{All-head, All-tail}
 use Rattle.memory.specs.declared.writes.Write.{Write}
 use Rattle.memory.specs.Writes.{covers, byte_after, newest_of, joined, IsWholeWord}
-use Rattle.memory.proofs.Bytes.{joined-same, word_of_bytes, covers-yes, covers-from, covers-other}
+use Rattle.memory.proofs.Bytes.{joined-same, word_of_bytes, covers-yes, covers-from}
 use Rattle.store_buffers.proofs.Reading.{newest-first}
 use Rattle.spsc_queue.specs.RingBuffers.{RingBuffer, IsWordIn, overlaps, writes_to}
 use Rattle.spsc_queue.specs.Protocol.{IsWordAt}
+use Rattle.spsc_queue.proofs.Cases.{never, by-test}
 
 -- the value of the word at a after these writes of whole words, where it was v before
 abbrev pub seen : ℕ → ℕ → List Write → ℕ
@@ -41,9 +41,6 @@ pub copy_at : (o : Option ℕ) (w : Write) → is_copy o w ≡ true → (c : ℕ
 copy_at None w is = absurd (cc)
 copy_at (Some c) w is = let parts = both (w.addr == c) (w.width == 4) is in (c, refl, eqb-true w.addr c parts.0, eqb-true w.width 4 parts.1)
 
-pub shared_on : (r : RingBuffer) (w : Write) → shared r w ≡ true → overlaps r w ≡ true
-shared_on r w is = (both (overlaps r w) (not (is_copy r.copy w)) is).0
-
 pub off_shared : (r : RingBuffer) (w : Write) → overlaps r w ≡ false → shared r w ≡ false
 off_shared r w off = ap (λ b. b && not (is_copy r.copy w)) off
 
@@ -61,33 +58,40 @@ word_on r w a word is = ap (λ b. b && not (is_copy r.copy w)) (word_overlaps r 
       | inr l ↦ omega (arith, is.place, e, l)
     ]))
 
--- a row is some of the writes to the block
-pub row_shorter : (r : RingBuffer) (ws : List Write) → length (row_of r ws) ≤ length (writes_to r ws)
-row_shorter r [] = omega arith
-row_shorter r (w ∷ ws) = at (overlaps r w) (not (is_copy r.copy w)) (row_shorter r ws)
+-- a row is what is left of the writes to the block without those to the sender's copy
+pub rows_are : (r : RingBuffer) (ws : List Write) → row_of r ws ≡ filter (λ w. not (is_copy r.copy w)) (writes_to r ws)
+rows_are r [] = refl
+rows_are r (w ∷ ws) = at (overlaps r w) (rows_are r ws)
   where
-    at : (b d : Bool) → length (row_of r ws) ≤ length (writes_to r ws)
-        → length (if b && d then w ∷ row_of r ws else row_of r ws) ≤ length (if b then w ∷ writes_to r ws else writes_to r ws)
-    at true true le = omega (arith, le)
-    at true false le = omega (arith, le)
-    at false d le = le
+    C : Write → Bool
+    C v = not (is_copy r.copy v)
 
--- a row has all such writes to the block, if none of the sender's copy is such
+    at : (b : Bool) → row_of r ws ≡ filter C (writes_to r ws)
+        → (if b && C w then w ∷ row_of r ws else row_of r ws) ≡ filter C (if b then w ∷ writes_to r ws else writes_to r ws)
+    at true same = ap (λ xs. if C w then w ∷ xs else xs) same
+    at false same = same
+
+-- so it has all such writes to the block, if none of the sender's copy is such
 pub row_counts : (r : RingBuffer) (P : Write → Bool) → ((w : Write) → is_copy r.copy w ≡ true → P w ≡ false) → (ws : List Write)
     → length (filter P (writes_to r ws)) ≡ length (filter P (row_of r ws))
-row_counts r P off [] = refl
-row_counts r P off (w ∷ ws) = at (overlaps r w) (is_copy r.copy w) (off w) (P w) refl (row_counts r P off ws)
+row_counts r P off ws = kept (writes_to r ws) ∙ ap (λ xs. length (filter P xs)) (sym (rows_are r ws))
   where
-    at : (b d : Bool) → (d ≡ true → P w ≡ false) → (c : Bool) → P w ≡ c → length (filter P (writes_to r ws)) ≡ length (filter P (row_of r ws))
-        → length (filter P (if b then w ∷ writes_to r ws else writes_to r ws)) ≡ length (filter P (if b && not d then w ∷ row_of r ws else row_of r ws))
-    at true true copy c is same = ap (λ x. length (if x then w ∷ filter P (writes_to r ws) else filter P (writes_to r ws))) (copy refl) ∙ same
-    at true false copy true is same =
-        ap (λ x. length (if x then w ∷ filter P (writes_to r ws) else filter P (writes_to r ws))) is ∙ ap suc same
-        ∙ sym (ap (λ x. length (if x then w ∷ filter P (row_of r ws) else filter P (row_of r ws))) is)
-    at true false copy false is same =
-        ap (λ x. length (if x then w ∷ filter P (writes_to r ws) else filter P (writes_to r ws))) is ∙ same
-        ∙ sym (ap (λ x. length (if x then w ∷ filter P (row_of r ws) else filter P (row_of r ws))) is)
-    at false d copy c is same = same
+    kept : (vs : List Write) → length (filter P vs) ≡ length (filter P (filter (λ w. not (is_copy r.copy w)) vs))
+    kept [] = refl
+    kept (v ∷ vs) = at (is_copy r.copy v) (off v) (kept vs)
+      where
+        rest : List Write
+        rest = filter (λ w. not (is_copy r.copy w)) vs
+
+        longer : (c : Bool) → length (filter P vs) ≡ length (filter P rest)
+            → length (if c then v ∷ filter P vs else filter P vs) ≡ length (if c then v ∷ filter P rest else filter P rest)
+        longer true same = ap suc same
+        longer false same = same
+
+        at : (d : Bool) → (d ≡ true → P v ≡ false) → length (filter P vs) ≡ length (filter P rest)
+            → length (if P v then v ∷ filter P vs else filter P vs) ≡ length (filter P (if not d then v ∷ rest else rest))
+        at true copy same = ap (λ x. length (if x then v ∷ filter P vs else filter P vs)) (copy refl) ∙ same
+        at false copy same = longer (P v) same
 
 -- a store to a word of the block is none to the copy
 pub copy_apart : (r : RingBuffer) (a : ℕ) → IsWordIn r a → (w : Write) → is_copy r.copy w ≡ true → (w.addr == a) ≡ false
@@ -98,25 +102,18 @@ copy_apart r a word w copy =
       | inr l ↦ omega (arith, e, it.2, l)
     ])
 
--- a write that is off the block, or of a whole word
-abbrev pub Tidy : RingBuffer → Write → Type 0
-Tidy r w = (shared r w ≡ false) ⊎ IsWholeWord w
-
 -- the frame: a write off the block covers no byte of a word of the block
 pub off_covers : (r : RingBuffer) (w : Write) (a i : ℕ) → IsWordIn r a → i < 4 → shared r w ≡ false → covers w (a + i) ≡ false
-off_covers r w a i is lt off = at (covers w (a + i)) refl (overlaps r w) refl (is_copy r.copy w) refl
+off_covers r w a i is lt off = never (covers w (a + i)) (λ c. at (covers-from w (a + i) c) (overlaps r w) refl (is_copy r.copy w) refl)
   where
-    at : (c : Bool) → covers w (a + i) ≡ c → (b : Bool) → overlaps r w ≡ b → (d : Bool) → is_copy r.copy w ≡ d → c ≡ false
-    at false c b on d copy = refl
-    at true c false out d copy = let from = covers-from w (a + i) c in absurd (grind (arith, nat_tests, is.above, is.below, out))
-    at true c true on false none = absurd (let no : true ≡ false = sym (ap (λ b. b && not (is_copy r.copy w)) on ∙ ap not none) ∙ off in cc)
-    at true c true on true copy =
-        let from = covers-from w (a + i) c in
-        let it = copy_at r.copy w copy in
-        absurd (elim (is.no_copy it.0 it.1) [
+    at : (w.addr ≤ a + i) × (a + i < w.addr + w.width) → (b : Bool) → overlaps r w ≡ b → (d : Bool) → is_copy r.copy w ≡ d → ⊥
+    at from false out d copy = grind (arith, nat_tests, is.above, is.below, out, from.0, from.1, lt)
+    at from true on false none = let no : true ≡ false = sym (ap (λ b. b && not (is_copy r.copy w)) on ∙ ap not none) ∙ off in cc
+    at from true on true copy = let it = copy_at r.copy w copy in
+        elim (is.no_copy it.0 it.1) [
           | inl l ↦ omega (arith, from.0, from.1, it.2, it.3, l, lt)
           | inr l ↦ omega (arith, from.0, from.1, it.2, it.3, l, lt)
-        ])
+        ]
 
 pub off_word : (r : RingBuffer) (w : Write) (a : ℕ) (f : ℕ → ℕ) → IsWordIn r a → shared r w ≡ false
     → joined (λ i. byte_after w (a + i) (f (a + i))) 4 ≡ joined (λ i. f (a + i)) 4
@@ -126,46 +123,34 @@ off_word r w a f is off = joined-same (λ i. byte_after w (a + i) (f (a + i))) (
 -- a write of a whole word
 pub whole_word : (w : Write) (a : ℕ) (f : ℕ → ℕ) → a % 4 ≡ 0 → IsWholeWord w
     → joined (λ i. byte_after w (a + i) (f (a + i))) 4 ≡ (if w.addr == a then w.value else joined (λ i. f (a + i)) 4)
-whole_word w a f aligned is = at (w.addr == a) refl
-  where
-    at : (c : Bool) → (w.addr == a) ≡ c → joined (λ i. byte_after w (a + i) (f (a + i))) 4 ≡ (if c then w.value else joined (λ i. f (a + i)) 4)
-    at true same =
-        let here : w.addr ≡ a = eqb-true w.addr a same in
-        let width : w.width ≡ 4 = is.whole in
-        joined-same (λ i. byte_after w (a + i) (f (a + i))) (λ i. byte_at i w.value) 4 (λ i lt.
-        let held : covers w (a + i) ≡ true = covers-yes w (a + i) (omega arith) (omega arith) in
-        let place : a + i - w.addr ≡ i = omega arith in
-        ap (λ c. if c then byte_at (a + i - w.addr) w.value else f (a + i)) held ∙ ap (λ j. byte_at j w.value) place) ∙ word_of_bytes w.value is.small
-    at false apart =
-        let elsewhere : w.addr ≡ a → ⊥ = eqb-false w.addr a apart in
-        let width : w.width ≡ 4 = is.whole in
-        let base : w.addr % 4 ≡ 0 = is.aligned in
-        joined-same (λ i. byte_after w (a + i) (f (a + i))) (λ i. f (a + i)) 4 (λ i lt.
-        let none : covers w (a + i) ≡ false = covers-other w (a + i) (omega arith) (λ q. elsewhere (omega arith)) in
-        ap (λ c. if c then byte_at (a + i - w.addr) w.value else f (a + i)) none)
+whole_word w a f aligned is =
+    by-test (λ c. joined (λ i. byte_after w (a + i) (f (a + i))) 4 ≡ (if c then w.value else joined (λ i. f (a + i)) 4)) w.addr a
+    (λ here. joined-same (λ i. byte_after w (a + i) (f (a + i))) (λ i. byte_at i w.value) 4 (λ i lt.
+    (let held : covers w (a + i) ≡ true = covers-yes w (a + i) (omega (arith, here)) (omega (arith, here, is.whole, lt)) in
+    let place : a + i - w.addr ≡ i = omega (arith, here) in
+    ap (λ c. if c then byte_at (a + i - w.addr) w.value else f (a + i)) held ∙ ap (λ j. byte_at j w.value) place)) ∙ word_of_bytes w.value is.small)
+    (λ apart. joined-same (λ i. byte_after w (a + i) (f (a + i))) (λ i. f (a + i)) 4 (λ i lt.
+    (let part : covers w (a + i) ≡ true → (w.addr ≤ a + i) × (a + i < w.addr + w.width) = covers-from w (a + i) in
+    ap (λ c. if c then byte_at (a + i - w.addr) w.value else f (a + i))
+    (never (covers w (a + i)) (λ c. apart (omega (arith, (part c).0, (part c).1, is.whole, is.aligned, aligned, lt)))))))
 
--- one write, and then more
-seen-first : (r : RingBuffer) (a v : ℕ) (w : Write) (ws : List Write) (b : Bool) → shared r w ≡ b
-    → seen a v (row_of r (w ∷ ws)) ≡ seen a (if b then (if w.addr == a then w.value else v) else v) (row_of r ws)
-seen-first r a v w ws true on = ap (λ b. seen a v (if b then w ∷ row_of r ws else row_of r ws)) on
-seen-first r a v w ws false on = ap (λ b. seen a v (if b then w ∷ row_of r ws else row_of r ws)) on
-
--- the law of reads: bytes read through tidy writes join to the word that those to the block leave
-pub read_through : (r : RingBuffer) (a : ℕ) (f : ℕ → ℕ) (ws : List Write) → IsWordIn r a → All (Tidy r) ws
+-- the law of reads: bytes read through writes, of which those to the block are of whole words, join to the word that these leave
+pub read_through : (r : RingBuffer) (a : ℕ) (f : ℕ → ℕ) (ws : List Write) → IsWordIn r a → All IsWholeWord (row_of r ws)
     → joined (λ i. unwrap_or (newest_of (a + i) None ws) (f (a + i))) 4 ≡ seen a (joined (λ i. f (a + i)) 4) (row_of r ws)
 read_through r a f [] is all = refl
 read_through r a f (w ∷ ws) is all =
     joined-same (λ i. unwrap_or (newest_of (a + i) None (w ∷ ws)) (f (a + i))) (λ i. unwrap_or (newest_of (a + i) None ws) (byte_after w (a + i) (f (a + i)))) 4
-    (λ i lt. newest-first (a + i) (f (a + i)) w ws) ∙ read_through r a (λ x. byte_after w x (f x)) ws is (All-tail (Tidy r) w ws all)
-    ∙ at (shared r w) refl (All-head (Tidy r) w ws all)
+    (λ i lt. newest-first (a + i) (f (a + i)) w ws) ∙ at (shared r w) refl (λ more. read_through r a (λ x. byte_after w x (f x)) ws is more) all
   where
     v : ℕ
-    v = joined (λ i. f (a + i)) 4
+    v = joined (λ i. byte_after w (a + i) (f (a + i))) 4
 
-    new : ℕ
-    new = joined (λ i. byte_after w (a + i) (f (a + i))) 4
+    read_by : ℕ
+    read_by = joined (λ i. unwrap_or (newest_of (a + i) None ws) (byte_after w (a + i) (f (a + i)))) 4
 
-    at : (b : Bool) → shared r w ≡ b → Tidy r w → seen a new (row_of r ws) ≡ seen a v (row_of r (w ∷ ws))
-    at false off tidy = ap (λ x. seen a x (row_of r ws)) (off_word r w a f is off) ∙ sym (seen-first r a v w ws false off)
-    at true on (inl off) = cc
-    at true on (inr whole) = ap (λ x. seen a x (row_of r ws)) (whole_word w a f is.aligned whole) ∙ sym (seen-first r a v w ws true on)
+    at : (b : Bool) → shared r w ≡ b → (All IsWholeWord (row_of r ws) → read_by ≡ seen a v (row_of r ws))
+        → All IsWholeWord (if b then w ∷ row_of r ws else row_of r ws)
+        → read_by ≡ seen a (joined (λ i. f (a + i)) 4) (if b then w ∷ row_of r ws else row_of r ws)
+    at false off go all = go all ∙ ap (λ x. seen a x (row_of r ws)) (off_word r w a f is off)
+    at true on go all = go (All-tail IsWholeWord w (row_of r ws) all)
+        ∙ ap (λ x. seen a x (row_of r ws)) (whole_word w a f is.aligned (All-head IsWholeWord w (row_of r ws) all))

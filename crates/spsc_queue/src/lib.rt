@@ -9,7 +9,7 @@
 //! of loads and stores alone, of any program that keeps the queue's protocol. The crate gives the words of the functions and
 //! runs none.
 //!
-//! `proofs/` is read best in this order. Loads and stores: `Cases` (whose entry, which load), `Parts` (what an access makes of the protocol's
+//! `proofs/` is read best in this order. Loads and stores: `Cases` (whose entry, which access), `Parts` (what an access makes of the protocol's
 //! state), `Rows`, `Spread` and `Effects` (who stored what, in order), `Invariant`; then `Steps`, `Landings` and `Loads`, which keep it, and what
 //! follows from it: `Publication`, `Runs`, `Linearization`. Functions: `Outline` (what holds at each line) and `Functions`; `CommonLines`,
 //! `LamportLines` and `FastForwardLines`, which lead from line to line; `Calls`, which joins both halves. The laws: `CallLaws`, `OneCall`,
