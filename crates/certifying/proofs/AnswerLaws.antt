@@ -25,7 +25,7 @@ use Rattle.certifying.specs.Answers.{judged_reads, kept_answer, kept_judgement}
 use Rattle.certifying.specs.Questions.{Questions}
 use Rattle.certifying.specs.Harts.{harts_lines, harts_safe}
 use Rattle.certifying.specs.Inputs.{SaysCertificate, certificate_of, certificates}
-use Rattle.certifying.specs.Kept.{AreOneAnswer, AreJudged, AreQueueAnswers, DifferInRecords, IsPromised, KeepsProtocol, LoadsOwnedSlots}
+use Rattle.certifying.specs.Kept.{AreSameAnswers, AreJudged, AreQueueAnswers, DifferInRecords, IsPromised, KeepsProtocol, LoadsOwnedSlots}
 use Rattle.certifying.specs.Records.{AreFoundFor, is_shown}
 use Rattle.certifying.specs.declared.records.Records.{Records}
 use Rattle.certifying.specs.Unread.{first_unread, unread_by, unread_of}
@@ -49,13 +49,13 @@ read_as text c is = ap (map_err _) is
 one_certificate : IsOne certificates (λ r s. r ≡ s)
 one_certificate = is_one SaysCertificate certificate_of said_once read_as
 
-alike : (a b judged : List ℕ × Judgement) → a ≡ judged → b ≡ judged → AreOneAnswer a b
+alike : (a b judged : List ℕ × Judgement) → a ≡ judged → b ≡ judged → AreSameAnswers a b
 alike a b judged is other = let same : a ≡ b = is ∙ sym other in (ap (λ (x : List ℕ × Judgement). x.1) same, λ shows. ap (λ (x : List ℕ × Judgement). x.0) same)
 
 -- two answers where what is asked is told: one answer, unless records are asked about
 module _ (M : ℕ) (asked : Questions) (o : OpeningValue) (c : QueueCertificate) where
   one_kept : (written : Option (List ℕ)) → asked.written ≡ written → (a b : List ℕ × Judgement) → IsKeptAnswer M asked o c a
-      → IsKeptAnswer M asked o c b → AreOneAnswer a b ⊎ DifferInRecords M asked a b
+      → IsKeptAnswer M asked o c b → AreSameAnswers a b ⊎ DifferInRecords M asked a b
   one_kept None asks a b is other =
       let none = λ (found : List Records) (are : AreFoundFor o c asked.written found). subst (λ (w : Option (List ℕ)). AreFoundFor o c w found) asks are in
       let same : is.found ≡ other.found = none is.found is.are_found ∙ sym (none other.found other.are_found) in
@@ -74,18 +74,18 @@ module _ (M : ℕ) (asked : Questions) (o : OpeningValue) (c : QueueCertificate)
   })
 
   one_use : (u : Option Unused) (a b : List ℕ × Judgement) → IsUseAnswer M asked o c u a → IsUseAnswer M asked o c u b
-      → AreOneAnswer a b ⊎ DifferInRecords M asked a b
+      → AreSameAnswers a b ⊎ DifferInRecords M asked a b
   one_use None a b is other = one_kept asked.written refl a b is other
   one_use (Some unused) a b is other = inl (alike a b _ is other)
 
 module _ (laws : DrawnLaws) (d : DrawnRuns) (asked : Questions) (o : OpeningValue) (c : QueueCertificate) where
   one_flaw : (f : Flaw) → first_flaw o c ≡ Some f → (of_queue : Bool) → is_of_queue f ≡ of_queue → (a b : List ℕ × Judgement)
-      → IsFlawAnswer d o c f of_queue a → IsFlawAnswer d o c f of_queue b → AreOneAnswer a b
+      → IsFlawAnswer d o c f of_queue a → IsFlawAnswer d o c f of_queue b → AreSameAnswers a b
   one_flaw f first true queue a b is other = alike a b _ is other
   one_flaw f first false none a b is other = one-trial d o c laws (sized o c f first none) f a b is other
 
   one_by : (f : Option Flaw) → first_flaw o c ≡ f → (a b : List ℕ × Judgement) → IsAnswerTo d asked o c f a → IsAnswerTo d asked o c f b
-      → AreOneAnswer a b ⊎ DifferInRecords d.M asked a b
+      → AreSameAnswers a b ⊎ DifferInRecords d.M asked a b
   one_by None first a b is other = one_use d.M asked o c (first_unused o c) a b is other
   one_by (Some f) first a b is other = inl (one_flaw f first (is_of_queue f) refl a b is other)
 

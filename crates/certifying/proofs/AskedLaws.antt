@@ -1,6 +1,6 @@
 -- What is shown of records and of harts, where the certificate is accepted.
-use Rattle.std.proofs.Common.{arith, ◌≡◌, ℕ, zero, suc, ◌+◌, ◌&&◌, ◌<◌, ◌≤◌, Bool, true, false, not, List, [], ◌∷◌, ◌++◌, length, Some, None, refl, sym}
-use Rattle.std.proofs.Common.{ap, ◌∙◌, subst}
+use Rattle.std.proofs.Common.{arith, ◌≡◌, ℕ, zero, suc, ◌+◌, ◌<◌, ◌≤◌, Bool, true, false, not, List, [], ◌∷◌, ◌++◌, length, Some, None, refl}
+use Rattle.std.proofs.Common.{subst}
 use Rattle.std.specs.Prelude.{Option, is_some}
 use Rattle.std.specs.List.{Contains, list_all}
 use Rattle.std.proofs.lemmas.Bool.{and_parts}
@@ -25,7 +25,7 @@ use Rattle.hart_safety.specs.Regions.{IsInNone, first_unbounded, regions_written
 use Rattle.hart_safety.specs.Stops.{first_stop}
 use Rattle.certifying.specs.Harts.{harts_safe, is_safe}
 use Rattle.certifying.specs.Kept.{KeepsHarts, WritesRecords, published_after}
-use Rattle.certifying.specs.Records.{AreFoundFor, AreFoundFrom, IsFound, questions_bytes, is_shown}
+use Rattle.certifying.specs.Records.{AreFoundFor, AreFoundFrom, IsFound, asked_bytes, is_shown}
 use Rattle.certifying.specs.declared.records.Records.{Records}
 use Rattle.certifying.specs.declared.records.Records.TheVariants.{NoBytes, Shown, NotShown}
 
@@ -46,9 +46,9 @@ pub record AskedLaws : Type 0 where
 
 module _ (o : OpeningValue) (c : QueueCertificate) where
   abbrev IsWhole : (bytes : List ℕ) → (i : ℕ) → Type 0
-  IsWhole bytes i = (questions_bytes c bytes i ≡ [] → ⊥) × IsShownWritten o c i (questions_bytes c bytes i)
+  IsWhole bytes i = (asked_bytes c bytes i ≡ [] → ⊥) × IsShownWritten o c i (asked_bytes c bytes i)
 
-  one-shown : (bytes : List ℕ) (i : ℕ) (r : Records) → IsFound o c i (questions_bytes c bytes i) r → is_shown r ≡ true → IsWhole bytes i
+  one-shown : (bytes : List ℕ) (i : ℕ) (r : Records) → IsFound o c i (asked_bytes c bytes i) r → is_shown r ≡ true → IsWhole bytes i
   one-shown bytes i NoBytes is shown = absurd (cc)
   one-shown bytes i Shown is shown = is
   one-shown bytes i (NotShown unwritten) is shown = absurd (cc)
@@ -65,12 +65,12 @@ module _ (o : OpeningValue) (c : QueueCertificate) where
 
   -- what is found, with one more
   pub found-more : (bytes : List ℕ) (first : ℕ) (found : List Records) (r : Records) → AreFoundFrom o c bytes first found
-      → IsFound o c (first + length found) (questions_bytes c bytes (first + length found)) r → AreFoundFrom o c bytes first (found ++ r ∷ [])
+      → IsFound o c (first + length found) (asked_bytes c bytes (first + length found)) r → AreFoundFrom o c bytes first (found ++ r ∷ [])
   found-more bytes first [] r are next =
-      let same : first + 0 ≡ first = omega arith in (subst (λ (i : ℕ). IsFound o c i (questions_bytes c bytes i) r) same next, tt)
+      let same : first + 0 ≡ first = omega arith in (subst (λ (i : ℕ). IsFound o c i (asked_bytes c bytes i) r) same next, tt)
   found-more bytes first (s ∷ found) r are next =
       let same : first + length (s ∷ found) ≡ first + 1 + length found = omega arith in
-      (are.0, found-more bytes (first + 1) found r are.1 (subst (λ (i : ℕ). IsFound o c i (questions_bytes c bytes i) r) same next))
+      (are.0, found-more bytes (first + 1) found r are.1 (subst (λ (i : ℕ). IsFound o c i (asked_bytes c bytes i) r) same next))
 
   module _ (laws : AskedLaws) (accepted : accepts o c ≡ true) where
     whole : (bytes : List ℕ) (found : List Records) → AreFoundFor o c (Some bytes) found → list_all is_shown found ≡ true → (i : ℕ) → i < length c.queues
@@ -82,7 +82,7 @@ module _ (o : OpeningValue) (c : QueueCertificate) where
     writes None found are shown = tt
     writes (Some bytes) found are shown = (
       λ i less. some-offset (names_byte bytes) (queue_at c i).width (whole bytes found are shown i less).0,
-      λ B M es e formed i less k low high b within named. (laws.written B M o c accepted i less (questions_bytes c bytes i)
+      λ B M es e formed i less k low high b within named. (laws.written B M o c accepted i less (asked_bytes c bytes i)
           (whole bytes found are shown i less).1 es e formed k low high b (offset-within (names_byte bytes) (queue_at c i).width b within named)),
     )
 

@@ -25,7 +25,7 @@ use Rattle.ownership_runs.specs.Violations.{first_ownership_violation}
 use Rattle.ownership_runs.specs.Runs.{HasKeptRun, HasBrokenRun}
 use Rattle.ownership_runs.proofs.Judged.{moves-one}
 use Rattle.certifying.specs.Answers.{IsBrokenText, IsTriedText, IsTrialAnswer, is_of_queue, tried_text}
-use Rattle.certifying.specs.Kept.{AreOneAnswer, BreaksProtocol}
+use Rattle.certifying.specs.Kept.{AreSameAnswers, BreaksProtocol}
 use Rattle.certifying.specs.Trials.{AllKeep, EndsBroken, IsBrokenBy, IsOfTrial, IsTrialBroken, QueuesKeep, trial_schedule}
 use Rattle.certifying.specs.declared.trials.Trial.{Trial}
 use Rattle.certifying.specs.declared.trials.Trial.TheVariants as trial
@@ -149,7 +149,7 @@ module _ (d : DrawnRuns) (o : OpeningValue) (c : QueueCertificate) where
         laws.apart d.B d.M o (queue_at c broken.queue) (all_at (start_at c broken.queue)) (trial_schedule d o first.told.number) first.told.flaw
         (some broken.queue first.inside) (kept.good first.told.number (omega arith) flawed.within) flawed.has
 
-    pub one-trial : (f : Flaw) (a b : List ℕ × Judgement) → IsTrialAnswer d o c f a → IsTrialAnswer d o c f b → AreOneAnswer a b
+    pub one-trial : (f : Flaw) (a b : List ℕ × Judgement) → IsTrialAnswer d o c f a → IsTrialAnswer d o c f b → AreSameAnswers a b
     one-trial f (text, judgement.NotShown) (other, judgement.NotShown) is also = (refl, λ shows. one-tried f text other is also)
     one-trial f (text, judgement.NotShown) (other, judgement.Broken) is also = absurd (never-both f text other is also)
     one-trial f (text, judgement.NotShown) (other, judgement.Kept) is also = absurd also

@@ -13,7 +13,7 @@ use Rattle.certifying.specs.ByteTexts.{bytes_text}
 use Rattle.certifying.specs.Unread.{pc_place}
 
 unfoldable pub never_line : (h : ℕ) → List ℕ
-never_line h = codes "hart " ++ decimal h ++ codes ": never stopped" ++ 10 ∷ []
+never_line h = codes "hart " ++ (decimal h ++ (codes ": never stopped" ++ 10 ∷ []))
 
 unfoldable pub stop_front : (h : ℕ) → List ℕ
 stop_front h = codes "hart " ++ decimal h ++ codes ": not shown that it is never stopped: "
@@ -27,7 +27,7 @@ abbrev pub range_of_region : Region → ByteRange
 range_of_region region = record { first = region.from; last = region.to }
 
 unfoldable pub nothing_written : (h : ℕ) → List ℕ
-nothing_written h = codes "hart " ++ decimal h ++ codes ": writes nothing" ++ 10 ∷ []
+nothing_written h = codes "hart " ++ (decimal h ++ (codes ": writes nothing" ++ 10 ∷ []))
 
 unfoldable pub writes_front : (h : ℕ) → List ℕ
 writes_front h = codes "hart " ++ decimal h ++ codes ": writes "

@@ -110,12 +110,12 @@ pub record DifferInRecords (M : ℕ) (asked : Questions) (a b : List ℕ × Judg
   pub other_is : b ≡ kept_answer M asked opening listed others
 
 -- one judgement, and one text unless they show a schedule
-abbrev pub AreOneAnswer : (a b : List ℕ × Judgement) → Type 0
-AreOneAnswer a b = (a.1 ≡ b.1) × ((a.1 ≡ Broken → ⊥) → a.0 ≡ b.0)
+abbrev pub AreSameAnswers : (a b : List ℕ × Judgement) → Type 0
+AreSameAnswers a b = (a.1 ≡ b.1) × ((a.1 ≡ Broken → ⊥) → a.0 ≡ b.0)
 
 -- Two answers are alike, or differ in what is found of records, or are refusals of one number, except that a check may be given up undecided.
 abbrev pub AreQueueAnswers : (M : ℕ) → Questions → Result (List ℕ × Judgement) Refusal → Result (List ℕ × Judgement) Refusal → Type 0
-AreQueueAnswers M asked (Ok a) (Ok b) = AreOneAnswer a b ⊎ DifferInRecords M asked a b
+AreQueueAnswers M asked (Ok a) (Ok b) = AreSameAnswers a b ⊎ DifferInRecords M asked a b
 AreQueueAnswers M asked (Ok a) (Err s) = s ≡ undecided
 AreQueueAnswers M asked (Err r) (Ok b) = r ≡ undecided
 AreQueueAnswers M asked (Err r) (Err s) = r.number ≡ s.number

@@ -15,8 +15,8 @@ use Rattle.certifying.specs.declared.records.Records.{Records}
 use Rattle.certifying.specs.declared.records.Records.TheVariants.{NoBytes, Shown, NotShown}
 
 -- the bytes that a text asks of the records of queue i, by their offsets
-abbrev pub questions_bytes : QueueCertificate → (bytes : List ℕ) → (i : ℕ) → List ℕ
-questions_bytes c bytes i = offsets_below (names_byte bytes) (queue_at c i).width
+abbrev pub asked_bytes : QueueCertificate → (bytes : List ℕ) → (i : ℕ) → List ℕ
+asked_bytes c bytes i = offsets_below (names_byte bytes) (queue_at c i).width
 
 -- ---- what is found. Which byte isn't shown, and at which state, depends on the search
 
@@ -29,7 +29,7 @@ module _ (o : OpeningValue) (c : QueueCertificate) where
   -- from queue i on, one queue for each of these
   abbrev pub AreFoundFrom : (bytes : List ℕ) → (i : ℕ) → List Records → Type 0
   AreFoundFrom bytes i [] = Unit {0}
-  AreFoundFrom bytes i (records ∷ more) = IsFound i (questions_bytes c bytes i) records × AreFoundFrom bytes (i + 1) more
+  AreFoundFrom bytes i (records ∷ more) = IsFound i (asked_bytes c bytes i) records × AreFoundFrom bytes (i + 1) more
 
   -- of each queue, if that is asked
   abbrev pub AreFoundFor : (written : Option (List ℕ)) → List Records → Type 0
@@ -51,7 +51,7 @@ abbrev pub written_text : List ByteRange → List ℕ
 written_text ranges = bytes_text ranges ++ of_each (is_one_byte ranges)
 
 unfoldable pub none_line : (i : ℕ) → List ℕ
-none_line i = codes "queue " ++ decimal i ++ codes ": its records have none of these bytes" ++ 10 ∷ []
+none_line i = codes "queue " ++ (decimal i ++ (codes ": its records have none of these bytes" ++ 10 ∷ []))
 
 unfoldable pub records_front : (i : ℕ) → List ℕ
 records_front i = codes "queue " ++ decimal i ++ codes ": "
@@ -75,4 +75,4 @@ record_line o c i ranges (NotShown unwritten) = unshown_front i ++ written_text 
 -- a line for each queue, if that is asked
 abbrev pub record_lines : OpeningValue → QueueCertificate → (written : Option (List ℕ)) → List Records → List ℕ
 record_lines o c None found = []
-record_lines o c (Some bytes) found = numbered (λ i. record_line o c i (byte_ranges (questions_bytes c bytes i))) 0 found
+record_lines o c (Some bytes) found = numbered (λ i. record_line o c i (byte_ranges (asked_bytes c bytes i))) 0 found

@@ -7,7 +7,7 @@ ghost use Rattle.engine_support.specs.OpeningTexts.{numbered};
 ghost use Rattle.record_bytes.specs.declared.ranges.ByteRange.{ByteRange};
 ghost use Rattle.record_bytes.specs.Ranges.{byte_ranges};
 ghost use Rattle.records_written.specs.declared.finding.Unwritten.{Unwritten};
-ghost use Rattle.certifying.specs.Records.{AreFoundFor, AreFoundFrom, IsFound, questions_bytes, is_shown, none_line, of_each, record_line};
+ghost use Rattle.certifying.specs.Records.{AreFoundFor, AreFoundFrom, IsFound, asked_bytes, is_shown, none_line, of_each, record_line};
 ghost use Rattle.certifying.specs.Records.{record_lines, records_front, shown_end, unshown_front, unwritten_end, written_text};
 
 use crate::byte_texts::{is_one_byte, push_bytes};
@@ -33,13 +33,13 @@ pub enum Records {
 }
 
 /// The bytes that are asked of a queue's records, by their offsets.
-fn questions_bytes(
+fn asked_bytes(
     alloc: Global,
     certificate: &QueueCertificate,
     bytes: &str,
     index: u32,
 ) -> Result<Vec<u64>, AllocError>
-    ensures { IfOk result (λ mask. mask.items ≡ questions_bytes certificate.now bytes.now index) }
+    ensures { IfOk result (λ mask. mask.items ≡ asked_bytes certificate.now bytes.now index) }
 {
     let width = queue_in(&certificate.queues, index).width;
     offsets_in(alloc, bytes, u64::from(width))
@@ -72,9 +72,9 @@ fn found_at(
     bytes: &str,
     index: u32,
 ) -> Result<Records, Lack>
-    ensures { IfOk result (IsFound opening.now certificate.now index (questions_bytes certificate.now bytes.now index)) }
+    ensures { IfOk result (IsFound opening.now certificate.now index (asked_bytes certificate.now bytes.now index)) }
 {
-    let mask = questions_bytes(alloc, certificate, bytes, index)?;
+    let mask = asked_bytes(alloc, certificate, bytes, index)?;
     found_of(alloc, opening, certificate, index, &mask)
 }
 
@@ -222,9 +222,9 @@ fn asked_ranges(
     bytes: &str,
     index: u32,
 ) -> Result<Vec<ByteRange>, AllocError>
-    ensures { IfOk result (λ ranges. ranges.items ≡ byte_ranges (questions_bytes certificate.now bytes.now index)) }
+    ensures { IfOk result (λ ranges. ranges.items ≡ byte_ranges (asked_bytes certificate.now bytes.now index)) }
 {
-    let mask = questions_bytes(alloc, certificate, bytes, index)?;
+    let mask = asked_bytes(alloc, certificate, bytes, index)?;
     byte_ranges(alloc, &mask)
 }
 
@@ -237,7 +237,7 @@ fn push_found(
     found: &[Records],
 ) -> Result<(), Lack>
     ensures { OnOk result (string_bytes out.new ≡ string_bytes out.old
-        ++ numbered (λ i. record_line opening.now certificate.now i (byte_ranges (questions_bytes certificate.now bytes.now i))) 0 found.now) }
+        ++ numbered (λ i. record_line opening.now certificate.now i (byte_ranges (asked_bytes certificate.now bytes.now i))) 0 found.now) }
 {
     for (place, records) in found.iter().enumerate() {
         let index = number_of(place)?;
