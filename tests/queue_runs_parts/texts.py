@@ -12,7 +12,7 @@ import words
 from certify_parts import certificates as writer
 from certify_parts import harts
 from certify_parts import queues as descriptions
-from certify_parts import texts
+from certify_parts import sent, texts
 
 TOP = Path(__file__).resolve().parents[2]
 REGISTERS = 32
@@ -120,7 +120,7 @@ def searched(test, queues, is_quick):
         harts.SECONDS = ((FEW_SECONDS,) * FEW_WAYS,)
     harts.TURNS = [(0, at) for at in range(len(harts.SECONDS[0]))]
     try:
-        return harts.Harts(test, queues).found()
+        return sent.found_of(test, queues)
     finally:
         harts.SECONDS, harts.TURNS = whole
 

@@ -95,10 +95,10 @@ class Followed:
 
     def arrows(self, h, at):
         """For each leaf, and each state that follows it: its pc, what finds the new variable, which state is listed, and its numbers."""
-        steps, code = certificates.steps_of(self.certificate, h), self.opening.harts[h][0]
-        known, cases = self.certificate.harts[h].states[at]
+        code = self.opening.harts[h][0]
+        known, cases, _ = self.certificate.harts[h].states[at]
         for k, leaf in certificates.leaves(known, cases):
-            following = steps.follow(k, leaf.handed, certificates.instruction_at(code, k.pc))
+            following = certificates.next_states(self.certificate, h, code, k, leaf.handed)
             yield id(leaf), [(each.pc, self.new_variable(each), arrow.to,
                               function("n", f"({''.join(written(form) + ', ' for form in arrow.forms)})")) for each, arrow in zip(following, leaf.arrows)]
 
@@ -110,8 +110,8 @@ class Followed:
                 if share.owned.factors[:1] == (1,):
                     return function("n, pc, r, read, s", f"s[{i}][1] - ({written(share.owned)})")
             for j, v in enumerate(state.registers):
-                if isinstance(v, certificates.Linear) and v.form.factors[:1] == (1,):
-                    return function("n, pc, r, read, s", f"r[{j}] - ({written(v.form)}) & {MASK}")
+                if isinstance(v, certificates.Linear) and v.form.factors[:1] not in ((), (0,)):
+                    return function("n, pc, r, read, s", f"(r[{j}] - ({written(v.form)}) & {MASK}) // {v.form.factors[0]}")
         return function("n, pc, r, read, s", "0")
 
 

@@ -4,6 +4,7 @@ A certificate's variables begin at 0; a step adds one, which comes first. docs/q
 """
 
 from .forms import SIZE, Word, signed
+from .sent import marked
 
 
 def written(constant, terms):
@@ -99,6 +100,7 @@ class Writer:
         self.states = search.reached()
         self.numbers = {state: at for at, state in enumerate(self.states)}
         self.layouts = [Layout(program, state) for state in self.states]
+        self.marked = marked(program, search)
 
     def covering(self, state):
         return self.numbers[self.search.covering(state)]
@@ -112,6 +114,7 @@ class Writer:
         for state, layout in zip(self.states, self.layouts):
             yield f"state {state.pc}"
             yield from layout.lines()
+            yield from self.marked.get(state, ())
             yield from self.tree(self.program.tree(state), layout)
 
     def opening(self, variable, at):
@@ -160,7 +163,9 @@ class Writer:
 
 def text(queues, found):
     """The certificate of all queues and harts. A hart that isn't covered has no states."""
-    lines = ["ztso-queues 1", *(queue.text() for queue in queues)]
+    lines, records = ["ztso-queues 1"], found[0].program.records
+    for which, queue in enumerate(queues):
+        lines += [queue.text(), *(records.lines(which) if records else ())]
     for hart in found:
         lines += ["hart", "open 0"] if hart.refused else Writer(hart.program, hart.search).lines()
     return "\n".join(lines) + "\n"

@@ -33,8 +33,8 @@ class FoundHart(NamedTuple):
 
 
 class Harts:
-    def __init__(self, test, queues):
-        self.test, self.queues = test, queues
+    def __init__(self, test, queues, records=None):
+        self.test, self.queues, self.records = test, queues, records
         self.needed = [needed_of(hart.code) for hart in test.harts]
         self.flows = [flow_of(hart.code) for hart in test.harts]
         self.turns, self.copies = [0] * len(test.harts), [frozenset()] * len(test.harts)
@@ -67,7 +67,7 @@ class Harts:
                 refused = found
             if not found.refused or found.refused.pc is not None:
                 ended.add(asked)
-            if not found.refused and not found.program.unowned:
+            if not found.refused and not found.program.unowned and (not self.records or self.records.are_shown(found.program, found.search)):
                 # a further round begins here
                 self.turns[hart] = TURNS.index((turn, at))
                 return found
@@ -80,7 +80,7 @@ class Harts:
         mode, with_bytes, order, loosens = way
         queues = [queue.counting() for queue in self.queues] if loosens else self.queues
         while True:
-            program = Program(self.test, queues, hart, kept, self.needed[hart], with_bytes, loosens)
+            program = Program(self.test, queues, hart, kept, self.needed[hart], with_bytes, loosens, self.records)
             search = Search(program, mode, self.copies[hart], order, seconds, self.flows[hart])
             try:
                 search.run_by_path() if mode == Mode.BY_PATH else search.run()

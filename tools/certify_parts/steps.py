@@ -46,7 +46,7 @@ class Next(NamedTuple):
 class Program(Values):
     """One hart's code with what holds of all its states."""
 
-    def __init__(self, test, queues, hart, kept, needed, with_bytes=False, loosens=True):
+    def __init__(self, test, queues, hart, kept, needed, with_bytes=False, loosens=True, records=None):
         self.hart, self.code = hart, test.harts[hart].code
         super().__init__(queues, hart, loosens)
         self.other_indices = [self.looked(which) for which in range(len(queues))]
@@ -57,6 +57,10 @@ class Program(Values):
         self.needed, self.edges = needed, {}
         self.dropped = {}      # by a word: the pcs of its stores of which the value was left out
         self.unowned = {}      # by a queue: the first pc of which a load of its slots isn't shown to be of owned ones
+        self.slot_loads = set()  # the pcs of loads of slots
+        self.records = records   # what is known of records, where that is asked
+        if records:
+            records.begin(self)
         registers = tuple(number(test.harts[hart].registers.get(which, 0)) if which in needed.registers[0] or not which else None for which in range(32))
         words = tuple(number(test.words.get(place, 0)) for place in kept)
         shares = tuple(None if party is None else Share(queue.start, *[queue.start % queue.period()] * 2, *[queue.first_owned(party)] * 2,
@@ -150,6 +154,7 @@ class Program(Values):
             if party is None or not queue.meets(low, high - low + width):
                 continue
             if queue.meets_slots(low, high - low + width):
+                self.slot_loads.add(state.pc)
                 is_inside = queue.slots <= low and high + width <= queue.slots + queue.size * queue.width
                 if not is_inside or not self.owns(which, value, width, state):
                     self.unowned.setdefault(which, state.pc)
@@ -203,6 +208,8 @@ class Program(Values):
             if not self.owns(which, value_of_place, width, state):
                 raise Refused(state.pc, f"a store to a slot that isn't known to be owned, where the own position is "
                               f"{self.told(share.first, share.last)} and {self.told(share.low, share.high)} are known to be owned")
+            if self.records:
+                self.records.stores(self, which, state, value_of_place, width, value)
             return state.words, None
         if low == high:
             self.stored.update(range(low & ~3, low + width, 4))
@@ -309,7 +316,10 @@ class Program(Values):
             return self.branched(state, word, third, x, y)
         if kind == LOAD:
             width = 1 << (third & 3)
-            value, looked = self.loaded(state, self.offset(x, given, state), width, third < 2)
+            place = self.offset(x, given, state)
+            value, looked = self.loaded(state, place, width, third < 2)
+            if self.records and value is None and looked is None and (found := self.records.received(self, state, place, width, third < 2)) is not None:
+                return [self.put(state, to, found[0], fresh=found[1])] if found else []
             is_range = self.with_bytes and value is None and looked is None and third > 3
             return [self.put(state, to, value, fresh=(0, 256 ** width - 1) if is_range else None, looked=looked)]
         if kind == STORE:
@@ -370,7 +380,7 @@ class Program(Values):
             words = tuple(self.without(each, old, share) for each in words)
             shares[looked] = share._replace(high=self.queues[looked].capacity)
         if to:
-            registers[to] = value
+            registers[to] = self.records.forgotten(value) if self.records else value
         if move:
             which, step = move
             share, period, all_turns = shares[which], self.queues[which].period(), self.queues[which].turns()

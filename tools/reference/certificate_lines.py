@@ -8,9 +8,9 @@ from digits import of_digits
 from faults import at_line
 
 HEAD, LINE, PLACE, LIMIT, UNFINISHED = 45, 46, 47, 48, 49
-QUEUES, HARTS, OWN, STATES, VARIABLES, SPLITS = 16, 64, 64, 16_384, 64, 1024
-NAMES = ("queue", "hart", "own", "open", "state", "most", "reg", "word", "share", "split", "leaf", "to")
-KNOWN = ("reg", "word", "share")
+QUEUES, FIELDS, POSITIONS, HARTS, OWN, STATES, VARIABLES, SPLITS = 16, 16, 64, 64, 64, 16_384, 64, 1024
+NAMES = ("queue", "field", "hart", "own", "open", "state", "most", "reg", "word", "share", "filled", "split", "leaf", "to")
+KNOWN = ("reg", "word", "share", "filled")
 ROUND = 2**32
 
 sys.setrecursionlimit(10_000)
@@ -91,7 +91,10 @@ class Reader:
             raise self.fault(HEAD)
         self.at, harts = 1, []
         while self.name() == "queue":
-            self.queues.append(self.take(("queue",), self.queue, lambda found: len(self.queues) < QUEUES))
+            self.queues.append((self.take(("queue",), self.queue, lambda found: len(self.queues) < QUEUES), []))
+            fields = self.queues[-1][1]
+            while self.name() == "field":
+                fields.append(self.take(("field",), self.field, lambda found: len(fields) < FIELDS))  # pylint: disable=cell-var-from-loop
         while not harts or self.name():
             harts.append(self.hart(len(harts)))
         return self.queues, harts
@@ -99,6 +102,11 @@ class Reader:
     def queue(self, *given):
         need(len(given) == 14)
         return [*map(number, given[:10]), *map(count, given[10:])]
+
+    @staticmethod
+    def field(*given):
+        need(len(given) == 5)
+        return [*map(number, given[:2]), *map(count, given[2:])]
 
     def hart(self, before):
         expected = ("hart",) if before or self.name() == "hart" or not self.name() else ("queue", "hart")
@@ -114,15 +122,16 @@ class Reader:
     def state(self):
         pc = self.take(("state",), number, lambda found: self.listed < STATES)
         self.listed += 1
-        self.most, known, self.splits = [], {}, 0
+        self.most, known, filled, self.splits = [], {}, {}, 0
         if self.name() == "most":
             self.most = self.take(("most",), lambda *given: [None if word == "-" else count(word) for word in given],
                                   lambda found: len(found) <= VARIABLES)
         while self.name() in KNOWN:
             name = self.name()
-            place, what = self.take(KNOWN, self.share if name == "share" else self.value_of(name))
-            known[name, place] = what
-        return pc, self.most, known, self.case((*KNOWN, "split", "leaf"))
+            made = {"share": self.share, "filled": self.filled}.get(name) or self.value_of(name)
+            place, what = self.take(KNOWN, made)
+            (filled if name == "filled" else known)[(name, place) if name != "filled" else place] = what
+        return pc, self.most, known, filled, self.case((*KNOWN, "split", "leaf"))
 
     def value_of(self, name):
         def made(place, word):
@@ -138,6 +147,11 @@ class Reader:
     def share(self, queue, own, owned):
         need(number(queue) < len(self.queues))
         return number(queue), (form(own, len(self.most)), form(owned, len(self.most)))
+
+    def filled(self, queue, further, *given):
+        queue, further, fields = number(queue), number(further), [*map(count, given)]
+        need(fields and further < POSITIONS and queue < len(self.queues) and all(field < len(self.queues[queue][1]) for field in fields))
+        return (queue, further), fields
 
     def split(self, variable, most):
         need(number(variable) < len(self.most))
@@ -156,5 +170,5 @@ class Reader:
 
 
 def read(text):
-    """What a text says: the numbers of each queue, and of each hart its own words, how it opens, and its states."""
+    """What a text says: the numbers of each queue with those of its fields, and of each hart its own words, how it opens, and its states."""
     return Reader(text).certificate()

@@ -1,6 +1,6 @@
 """Certificates of queues: when one is accepted for a text. Definition by definition, and by the same names, what crates/queue_certificates/specs
-defines, so that the two can be read side by side: Forms, States, Results, Steps and Certificates in this order. Numbers have no limit. Nothing
-here searches; docs/queues.md has what a certificate says, and certificate_lines.py reads its text.
+defines, so that the two can be read side by side: Forms, States, Results, Steps and Certificates in this order; sent.py has Fields, Effects and
+Filled. Numbers have no limit. Nothing here searches; docs/queues.md has what a certificate says, and certificate_lines.py reads its text.
 
 A list is a tuple, `None` is no number, and what the definitions take from a module around them (the queues, the hart) comes first, or as `self`.
 """
@@ -8,6 +8,7 @@ A list is a tuple, `None` is no number, and what the definitions take from a mod
 from functools import cache
 from typing import NamedTuple
 
+import sent
 import words
 
 M32 = 1 << 32
@@ -1035,8 +1036,11 @@ class Split(NamedTuple):
 
 
 class ListedState(NamedTuple):
+    """What is known, where it goes on, and of each queue to which the hart sends records with fields, which are right ahead of its count."""
+
     known: KnownState
     cases: object
+    filled: tuple = ()
 
 
 class HartPart(NamedTuple):
@@ -1049,6 +1053,7 @@ class HartPart(NamedTuple):
 class OpenedQueue(NamedTuple):
     queue: Queue
     start: int
+    fields: tuple = ()
 
 
 class QueueCertificate(NamedTuple):
@@ -1072,6 +1077,12 @@ def number_seen(opening, a, width):
 
 def part_of(c, h):
     return get_or(c.harts, h, NO_PART)
+
+
+def filled_at(c, h, n):
+    """What is right ahead of the counts in a state, or nothing past their end."""
+    listed = part_of(c, h).states
+    return listed[n].filled if n < len(listed) else ()
 
 
 def steps_of(c, h):
@@ -1145,10 +1156,14 @@ def each_leads(c, h, states, arrows):
         a.to < len(listed) and arrow_leads(queues, k, listed[a.to].known, a.forms) for k, a in zip(states, arrows))
 
 
+def next_states(c, h, code, k, handed):
+    steps, instruction = steps_of(c, h), instruction_at(code, k.pc)
+    return sent.next_received(steps, [each.fields for each in c.queues], k, instruction, steps.follow(k, handed, instruction))
+
+
 def is_closed(c, h, code, k, cases):
-    steps = steps_of(c, h)
     for leaf, (handed, arrows) in leaves(k, cases):
-        following = steps.follow(leaf, handed, instruction_at(code, leaf.pc))
+        following = next_states(c, h, code, leaf, handed)
         if following is None or not each_leads(c, h, following, arrows):
             return False
     return True
@@ -1212,7 +1227,8 @@ def opens_empty(opening, q, start):
 def opens_hart(opening, c, h):
     """What `accepts_hart` asks of where a hart opens."""
     part, registers = part_of(c, h), opening.harts[h][1]
-    return len(registers) >= 32 and part.first < len(part.states) and opens_in(opening, c, h, registers, part.states[part.first].known, part.numbers)
+    return len(registers) >= 32 and part.first < len(part.states) \
+        and opens_in(opening, c, h, registers, part.states[part.first].known, part.numbers) and sent.opens_unfilled(c, part.states[part.first].filled)
 
 
 class Flaw(NamedTuple):
@@ -1226,13 +1242,13 @@ class Flaw(NamedTuple):
 def flaws(opening, c):
     """All that isn't accepted, in order: of queues, and then of each hart its opening and its states."""
     for i, each in enumerate(c.queues):
-        if not (is_queue(each.queue) and opens_empty(opening, each.queue, each.start)):
+        if not (is_queue(each.queue) and opens_empty(opening, each.queue, each.start) and all(sent.is_field(each.queue, f) for f in each.fields)):
             yield Flaw("queue", i)
     for h, (code, _) in enumerate(opening.harts):
         if not opens_hart(opening, c, h):
             yield Flaw("opening", h)
-        for n, (known, cases) in enumerate(part_of(c, h).states):
-            if not is_closed(c, h, code, known, cases):
+        for n, listed in enumerate(part_of(c, h).states):
+            if not (is_closed(c, h, code, listed.known, listed.cases) and sent.keeps_all_fields(c, h, code, listed)):
                 yield Flaw("state", h, n)
 
 
@@ -1247,7 +1263,7 @@ def accepts(opening, c):
 def first_unowned(opening, c, i, h):
     """The first state of the hart with a load of queue i's slots that isn't shown to be of owned ones."""
     code = opening.harts[h][0]
-    return next((n for n, (known, cases) in enumerate(part_of(c, h).states) if not owns_loads(c, h, code, i, known, cases)), None)
+    return next((n for n, (known, cases, _) in enumerate(part_of(c, h).states) if not owns_loads(c, h, code, i, known, cases)), None)
 
 
 def accepts_loads(opening, c, i, h):
@@ -1259,7 +1275,7 @@ def slot_accesses(opening, c, i):
     found, q = {}, c.queues[i].queue
     for h, (code, _) in enumerate(opening.harts):
         steps = steps_of(c, h)
-        for known, cases in part_of(c, h).states:
+        for known, cases, _ in part_of(c, h).states:
             for leaf, _ in leaves(known, cases):
                 access = steps.accessed(leaf, instruction_at(code, leaf.pc))
                 if access and not is_apart(access[1], access[2], q.slots, q.size * q.width):

@@ -6,6 +6,7 @@ import ownership
 import programs
 import queue_questions
 import schedules
+import sent
 import words
 
 KEPT, READS_NOT_SHOWN, NOT_SHOWN, BROKEN, ASKED_NOT_SHOWN = 0, 6, 7, 8, 9
@@ -55,21 +56,31 @@ def cases_of(found):
     return certificates.Leaf(form_of(handed), tuple(certificates.Arrow(to, tuple(map(form_of, forms))) for to, forms in arrows))
 
 
+def filled_of(found):
+    """For each queue, and each position from the own count on, the fields that are right."""
+    ends = {}
+    for queue, further in found:
+        ends[queue] = max(further + 1, ends.get(queue, 0))
+    return tuple(tuple(tuple(found.get((queue, further), ())) for further in range(ends.get(queue, 0))) for queue in range(max(ends, default=-1) + 1))
+
+
 def read(text):
     """The certificate of a text, as certificates.py takes it."""
     queues, harts = certificate_lines.read(text)
 
-    def state(own, pc, most, known, cases):
+    def state(own, pc, most, known, filled, cases):
         def listed(name, number, made, other):
             return tuple(made(known[name, at]) if (name, at) in known else other for at in range(number))
 
         shares = listed("share", len(queues), lambda forms: certificates.Share(*map(form_of, forms)), certificates.NO_SHARE)
         registers = listed("reg", REGISTERS, value_of, certificates.ANY)
         return certificates.ListedState(
-            certificates.KnownState(pc, tuple(most), registers, listed("word", len(own), value_of, certificates.ANY), shares), cases_of(cases))
+            certificates.KnownState(pc, tuple(most), registers, listed("word", len(own), value_of, certificates.ANY), shares), cases_of(cases),
+            filled_of(filled))
 
     return certificates.QueueCertificate(
-        tuple(certificates.OpenedQueue(certificates.Queue(*numbers[:13]), numbers[13]) for numbers in queues),
+        tuple(certificates.OpenedQueue(certificates.Queue(*numbers[:13]), numbers[13], tuple(sent.Field(*field) for field in fields))
+              for numbers, fields in queues),
         tuple(certificates.HartPart(tuple(own), first, tuple(numbers), tuple(state(own, *each) for each in states))
               for own, (first, numbers), states in harts))
 
@@ -78,7 +89,7 @@ def read(text):
 
 def queue_fault(opening, opened):
     """What is wrong with a queue that isn't accepted."""
-    q, start = opened
+    q, start, fields = opened
     width, slots = q.index_width, q.size * q.width
     opens = [certificates.number_seen(opening, place, width) == q.index_word(start) if q.modulus else False for place in (q.head, q.tail)]
     holds = (
@@ -94,6 +105,7 @@ def queue_fault(opening, opened):
         (q.capacity < q.modulus, "indices that don't tell all slots in use from none"),
         (opens[0], "a head that opens as another word than that of its count"),
         (opens[1], "a tail that opens as another word than that of its count"),
+        (all(sent.is_field(q, field) for field in fields), "a field that isn't of its slots, or whose numbers don't fit its bytes"),
     )
     return next(fault for is_so, fault in holds if not is_so)
 
@@ -156,7 +168,7 @@ class Judge:
         """Why the certificate says nothing of the text, or None."""
         if not self.listed.queues:
             return "not shown: the certificate has no queue"
-        for index, (queue, _) in enumerate(self.listed.queues):
+        for index, (queue, *_) in enumerate(self.listed.queues):
             if not queue.width:
                 return f"not shown: queue {index} has slots without a byte"
             if not queue.capacity:
@@ -169,7 +181,7 @@ class Judge:
 
     def unread(self):
         """The first load of a slot that isn't shown to be of an owned one, as a line; or None."""
-        for index, (queue, _) in enumerate(self.listed.queues):
+        for index, (queue, *_) in enumerate(self.listed.queues):
             for hart in (queue.sender, queue.receiver):
                 state = certificates.first_unowned(self.opening, self.listed, index, hart)
                 if state is not None:
@@ -198,7 +210,7 @@ class Judge:
         return self.state_place(hart, state).removeprefix(f"hart {hart} at ")
 
     def form(self, index):
-        queue, start = self.listed.queues[index]
+        queue, start, _ = self.listed.queues[index]
         front = f"queue {index}:"
         yield f"{front} hart {queue.sender} sends and hart {queue.receiver} receives"
         yield f"{front} its head is the {queue.index_width} bytes at {queue.head}, its tail those at {queue.tail}"
@@ -260,7 +272,7 @@ class Judge:
     def tried(self, flaw, capacity, number, drawing):
         """What drawn runs show where the certificate has this flaw."""
         lines = []
-        for index, (queue, start) in enumerate(self.listed.queues):
+        for index, (queue, start, _) in enumerate(self.listed.queues):
             shown, moved = ownership.trial(ownership.Runs(self.test, capacity, queue, start), number, drawing)
             if shown:
                 return self.broken(index, *shown, capacity), BROKEN

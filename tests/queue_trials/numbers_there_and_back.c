@@ -1,0 +1,54 @@
+/* Numbers of buffers, which go there full and come back free: as they are used without a mask, each queue needs what the other one sends.
+   queue: head=full_sent,tail=full_taken,slots=full_word,size=2
+   queue: head=free_sent,tail=free_taken,slots=free_word,size=2,sender=1,receiver=0
+   answer: covered */
+#include <stdatomic.h>
+
+#define SLOTS 2
+
+struct queue {
+  atomic_uint sent, taken;
+  unsigned word[SLOTS];
+} full, free;
+
+int buffer[SLOTS];
+
+static int send(struct queue *q, unsigned word) {
+  unsigned n = atomic_load_explicit(&q->sent, memory_order_relaxed);
+  if (n - atomic_load_explicit(&q->taken, memory_order_acquire) == SLOTS)
+    return 0;
+  q->word[n % SLOTS] = word;
+  atomic_store_explicit(&q->sent, n + 1, memory_order_release);
+  return 1;
+}
+
+static int receive(struct queue *q, unsigned *word) {
+  unsigned n = atomic_load_explicit(&q->taken, memory_order_relaxed);
+  if (n == atomic_load_explicit(&q->sent, memory_order_acquire))
+    return 0;
+  *word = q->word[n % SLOTS];
+  atomic_store_explicit(&q->taken, n + 1, memory_order_release);
+  return 1;
+}
+
+void P0(void) {
+  unsigned at;
+  for (int i = 0;; i++) {
+    while (!receive(&free, &at)) {}
+    buffer[at] = i;
+    while (!send(&full, at)) {}
+  }
+}
+
+int P1(void) {
+  unsigned at;
+  for (at = 0; at < SLOTS; at++)
+    send(&free, at);
+  for (int sum = 0; sum >= 0;) {
+    while (!receive(&full, &at)) {}
+    sum += buffer[at];
+    while (!send(&free, at)) {}
+  }
+  return 0;
+}
+// exists (1:a0=1)

@@ -1,0 +1,328 @@
+"""What is sent: fields of a queue's records, of which the receiver's loads are known numbers, and where these are right ahead of a sender's count.
+
+Fields are sought only where a hart isn't covered without. At first no record is sent, and each round takes in what the stores to slots
+may store, until nothing new is stored: so numbers may go there and come back by another queue. Of a field the marks are those alone that a
+store of the head may need. Like the whole search this is trusted with nothing.
+"""
+
+from math import gcd
+from typing import NamedTuple
+
+from .forms import Form, number, numbers_of, signed, variable_of
+from .harts import Harts
+from .live import followers, returns_of
+from .steps import AMO, BRANCH, IMMEDIATE, JALR, LOAD, REGISTER, STORE, Matters, Refused, leaves
+
+# in so many rounds the numbers of a part may grow
+MOST_GROWN = 12
+# positions ahead of a count of which a certificate may say something
+MOST_POSITIONS = 64
+# a value is forgotten that is made of more numbers than these, so that a sum of what is received doesn't go on and on
+MOST_NUMBERS = 2
+
+
+class Part(NamedTuple):
+    """Bytes of each record of a queue."""
+
+    which: int
+    at: int
+    width: int
+
+
+class Numbers(NamedTuple):
+    """low, low + step .. high."""
+
+    low: int
+    step: int
+    high: int
+
+    def joined(self, other):
+        step = gcd(self.step * (self.low < self.high), other.step * (other.low < other.high), self.low - other.low)
+        return Numbers(min(self.low, other.low), step or 1, max(self.high, other.high))
+
+    def count(self):
+        return (self.high - self.low) // self.step
+
+    def has(self, other):
+        return self.joined(other) == self
+
+
+def numbers_stored(program, value, state, width):
+    """The numbers that a value may be, or None where they aren't known or don't fit the bytes."""
+    found, ranges = program.known(value, state), program.ranges(state)
+    low, high = (found, found) if found is not None else isinstance(value, Form) and numbers_of(value, ranges) or (0, 256 ** width)
+    if high >= 256 ** width:
+        return None
+    step = gcd(*(signed(m) for variable, m in value.terms if ranges[variable][0] < ranges[variable][1])) if low < high else 1
+    return Numbers(low, step, high)
+
+
+class Log:
+    """What one hart's program does to records: which parts it loads, what it stores to which, and to which slots it stores as their receiver."""
+
+    def __init__(self):
+        self.loaded, self.stored, self.spoiled = set(), {}, set()
+
+
+class Records:
+    """What is known of the records of all queues: of the parts that are known, which numbers are sent in them, or None as long as nothing is.
+    A part that isn't here is any number; while it seeks, nothing is sent in it at first."""
+
+    def __init__(self, numbers=None, seeks=False):
+        self.numbers, self.seeks = dict(numbers or {}), seeks
+        self.lost, self.grown = set(), {}
+
+    def lose(self, part):
+        """Of a part nothing is known after all."""
+        self.lost.add(part)
+        self.numbers.pop(part, None)
+
+    def fields(self, which):
+        """The parts of a queue with their numbers, in order."""
+        return sorted((part, numbers) for part, numbers in self.numbers.items() if part.which == which and numbers)
+
+    def lines(self, which):
+        """The lines of a queue's fields."""
+        return [" ".join(map(str, ("field", part.at, part.width, numbers.low, numbers.step, numbers.count()))) for part, numbers in self.fields(which)]
+
+    # ---- what a program asks
+
+    def begin(self, program):
+        program.log, program.address_loads = Log(), address_loads(program.code, program.needed.matters)
+
+    def received(self, program, state, place, width, is_signed):
+        """What a load leaves in its register if it is of a record of which something is known: a value and the range of a new variable; or None.
+        () where nothing is sent yet, so that the hart doesn't go on from there."""
+        low, high = program.limits(place, state)
+        for which, (queue, party) in enumerate(zip(program.queues, program.parties)):
+            if party == 1 and queue.slots <= low and high + width <= queue.slots + queue.size * queue.width:
+                if state.pc not in program.address_loads or not program.owns(which, place, width, state):
+                    return None
+                part = Part(which, slot_of(program, which, place, state)[1], width)
+                program.log.loaded.add(part)
+                if part not in self.numbers:
+                    return () if self.seeks and part not in self.lost else None
+                return self.as_loaded(self.numbers[part], part, state, is_signed)
+        return None
+
+    @staticmethod
+    def as_loaded(numbers, part, state, is_signed):
+        """What a load of numbers leaves in a register, as `received` says it."""
+        if numbers is None:
+            return ()
+        if is_signed and part.width < 4 and numbers.high >= 256 ** part.width // 2:
+            return None
+        return variable_of("z", len(state.others), numbers.step, numbers.low), (0, numbers.count())
+
+    def stores(self, program, which, state, place, width, value):
+        """Takes down what is stored to a slot."""
+        if program.parties[which]:
+            program.log.spoiled.add(which)
+            if self.fields(which) and not self.seeks:
+                raise Refused(state.pc, "a store to a slot by the receiver, of which the sender says what its records hold")
+            return
+        _, offset = slot_of(program, which, place, state)
+        for part in self.numbers:
+            if part.which != which or part.at + part.width <= offset or offset + width <= part.at:
+                continue
+            if state.pc not in program.needed.matters:
+                raise Matters({state.pc})
+            is_whole = (part.at, part.width) == (offset, width) and program.code[state.pc // 4] & 127 == STORE
+            numbers = numbers_stored(program, value, state, width) if is_whole else None
+            old = program.log.stored.get(part, numbers)
+            program.log.stored[part] = old and numbers and old.joined(numbers)
+
+    def are_shown(self, program, search):
+        """Whether all numbers that a hart stores to parts are known; and where nothing more is sought, its fields are right."""
+        if None in program.log.stored.values():
+            return False
+        try:
+            return self.seeks or marked(program, search) is not None
+        except Unshown:
+            return False
+
+    @staticmethod
+    def forgotten(value):
+        """The value, or None if it is made of too many numbers."""
+        return None if isinstance(value, Form) and sum(kind == "z" for kind, _ in value.variables()) > MOST_NUMBERS else value
+
+
+def slot_of(program, which, place, state):
+    """The position, from the own count on, and the offset in its slot, of an access of a queue's slots that are owned."""
+    queue = program.queues[which]
+    return program.positions(which, place, 1, state)[0], (program.limits(place, state)[0] - queue.slots) % queue.width
+
+
+def slot_store(program, which, state):
+    """Of a store to a queue's slots: position and offset, the bytes, and the value as far as it is known; or None."""
+    if state.pc >= 4 * len(program.code):
+        return None
+    word = program.code[state.pc // 4]
+    kind, x, y = word & 127, state.registers[word >> 15 & 31], state.registers[word >> 20 & 31]
+    if kind == STORE:
+        place, width, value = program.offset(x, signed(word >> 25 << 5 | word >> 7 & 31, 12), state), 1 << (word >> 12 & 7), y
+    elif kind == AMO:
+        place, width, value = number(program.place(x, state)), 4, None
+    else:
+        return None
+    low, high = program.limits(place, state)
+    queue = program.queues[which]
+    return (slot_of(program, which, place, state), width, value) if queue.meets_slots(low, high - low + width) else None
+
+
+# ---- which loads are of numbers that an address may be made of
+
+def address_parts(word, after, matters):
+    """The registers that an address is made of before an instruction, by those after it."""
+    kind, to, x, y = word & 127, word >> 7 & 31, word >> 15 & 31, word >> 20 & 31
+    read = {x} if kind in (LOAD, JALR, STORE, AMO) or kind in (IMMEDIATE, REGISTER) and to in after else set()
+    if kind in (STORE, AMO) and matters or kind == REGISTER and to in after:
+        read.add(y)
+    return (after if kind in (STORE, BRANCH) else after - {to}) | read - {0}
+
+
+def address_loads(code, matters):
+    """The places of loads whose numbers an address may be made of, or what is stored where that matters."""
+    returns = returns_of(code)
+    goals = [returns if following is None else following for following in (followers(4 * at, word) for at, word in enumerate(code))]
+    live, changed = [frozenset()] * (len(code) + 1), True
+    while changed:
+        changed = False
+        for at in range(len(code) - 1, -1, -1):
+            after = frozenset().union(*(live[goal // 4] for goal in goals[at] if 0 <= goal <= 4 * len(code)))
+            now = frozenset(address_parts(code[at], after, 4 * at in matters))
+            changed |= now != live[at]
+            live[at] = now
+    return {4 * at for at, word in enumerate(code) if word & 127 == LOAD and any(
+        word >> 7 & 31 in live[goal // 4] for goal in goals[at] if goal <= 4 * len(code))}
+
+
+# ---- which fields are right
+
+class Unshown(Exception):
+    """A field that isn't shown to be right at a publishing."""
+
+    def __init__(self, which, at):
+        super().__init__(which, at)
+        self.which, self.at = which, at
+
+
+def needed_before(program, which, leaf, following, after):
+    """The marks, each a position and a field, that must stand before a leaf so that these stand after it and what it publishes is right."""
+    queue, fields = program.queues[which], program.records.fields(which)
+    moved = following[0].moved[which] if following else 0
+    if moved:
+        found = {(d, j) for d in range(moved) for j in range(len(fields))} | {(d + moved, j) for d, j in after}
+        for d, j in found:
+            if d >= min(queue.size, MOST_POSITIONS):
+                raise Unshown(which, j)
+        return found
+    store = slot_store(program, which, leaf)
+    if store is None:
+        return after
+    (position, offset), width, value = store
+    found = set()
+    for d, j in after:
+        part, numbers = fields[j]
+        if d != position or part.at + part.width <= offset or offset + width <= part.at:
+            found.add((d, j))
+        elif (part.at, part.width) != (offset, width) or not (stored := numbers_stored(program, value, leaf, width)) or not numbers.has(stored):
+            raise Unshown(which, j)
+    return found
+
+
+def marks_of(program, search, which):
+    """For each state that is reached the marks that it needs of a queue to which the hart sends; Unshown where some can't stand."""
+    states = search.reached()
+    trees = {state: list(leaves(program.tree(state))) for state in states}
+    marks, before = {state: set() for state in states}, {}
+    for state in states:
+        for _, _, after in trees[state]:
+            for following in after:
+                before.setdefault(search.covering(following.state), set()).add(state)
+    todo = list(states)
+    while todo:
+        state = todo.pop()
+        found = set()
+        for _, leaf, after in trees[state]:
+            found |= needed_before(program, which, leaf, after, set().union(*(marks[search.covering(each.state)] for each in after)))
+        if found != marks[state]:
+            marks[state] = found
+            todo += before.get(state, ())
+    for _, j in marks[search.covering(program.start)]:
+        raise Unshown(which, j)
+    return marks
+
+
+def marked(program, search):
+    """For each state, the lines of the marks that it needs."""
+    lines = {}
+    for which, party in enumerate(program.parties):
+        if party == 0 and program.records and program.records.fields(which):
+            for state, marks in marks_of(program, search, which).items():
+                for d in sorted({d for d, _ in marks}):
+                    numbers = sorted(j for other, j in marks if other == d)
+                    lines.setdefault(state, []).append(" ".join(map(str, ("filled", which, d, *numbers))))
+    return lines
+
+
+# ---- the fields of all queues
+
+def seek(records, found):
+    """Takes in what the harts store to the parts that are loaded; returns whether anything is new."""
+    before = dict(records.numbers)
+    parts = {part for hart in found for part in hart.program.log.loaded} | set(before)
+    spoiled = {which for hart in found for which in hart.program.log.spoiled}
+    for part in sorted(parts - records.lost):
+        sender = next(hart for hart in found if hart.program.parties[part.which] == 0)
+        old = records.numbers.setdefault(part, None)
+        numbers = sender.program.log.stored.get(part)
+        is_unknown = part in sender.program.log.stored and not numbers
+        if is_unknown or sender.refused or part.which in spoiled:
+            records.lose(part)
+        elif numbers and not (old and old.has(numbers)):
+            records.numbers[part] = old.joined(numbers) if old else numbers
+            records.grown[part] = records.grown.get(part, 0) + 1
+            if records.grown[part] > MOST_GROWN:
+                records.lose(part)
+    return records.numbers != before
+
+
+def sought(test, queues):
+    """The fields that loads of records need and that all stores to them keep, or nothing."""
+    records = Records(seeks=True)
+    harts = Harts(test, queues, records)
+    while seek(records, harts.found()):
+        pass
+    return Records({part: numbers for part, numbers in records.numbers.items() if numbers})
+
+
+def kept(test, queues, records):
+    """What is found of each hart with these fields, less those that aren't right wherever they are published."""
+    while True:
+        found = Harts(test, queues, records).found()
+        try:
+            for hart in found:
+                if not hart.refused:
+                    marked(hart.program, hart.search)
+            return found
+        except Unshown as why:
+            records = Records(records.numbers)
+            records.lose(records.fields(why.which)[why.at][0])
+
+
+def needs_records(hart):
+    """Whether the hart isn't covered, and loads from slots what an address may be made of."""
+    return hart.refused and not hart.program.slot_loads.isdisjoint(address_loads(hart.program.code, hart.program.needed.matters))
+
+
+def found_of(test, queues):
+    """What is found of each hart: without fields, or where some hart isn't covered so, with the fields that it needs."""
+    found = Harts(test, queues).found()
+    if not any(map(needs_records, found)):
+        return found
+    records = sought(test, queues)
+    if not records.numbers:
+        return found
+    other = kept(test, queues, records)
+    return found if any(hart.refused for hart in other) else other
