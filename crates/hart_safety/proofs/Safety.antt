@@ -1,16 +1,13 @@
 -- In every run a hart that goes on from each of its leaves isn't stopped, and it writes within its regions.
-use Rattle.std.proofs.Common.{ℕ, ◌≤◌, ◌≡◌, ◌&&◌, true, false, Some, None, List, [], ◌∷◌}
-use Rattle.std.proofs.Common.{◌++◌, length, get_or, refl, sym, subst}
-use Rattle.std.specs.Prelude.{nat_le, nat_lt}
-use Rattle.std.specs.List.{slice_get}
-use Rattle.std.proofs.lemmas.Bool.{and_parts, leb-true}
-use Rattle.std.proofs.lemmas.Option.{get_or_from_slice_get, slice_get_within}
+use Rattle.std.proofs.Common.{ℕ, ◌≤◌, ◌≡◌, true, false, Some, None, List, [], ◌∷◌}
+use Rattle.std.proofs.Common.{◌++◌, length, refl, sym, subst}
+use Rattle.std.proofs.lemmas.Option.{get_or_from_slice_get}
 use Rattle.hart.specs.State.{HartState}
 use Rattle.hart.specs.Steps.{advanced}
 use Rattle.hart.specs.declared.status.Stop.{Stop}
 use Rattle.hart.specs.declared.status.Status.TheVariants as status
 use Rattle.step_machine.specs.declared.events.Entry.{Entry}
-use Rattle.step_machine.specs.History.{HartOpeningValue, OpeningValue, history_of}
+use Rattle.step_machine.specs.History.{OpeningValue, history_of}
 use Rattle.step_machine.specs.Access.{access_of}
 use Rattle.step_machine.specs.Entries.{hart_of, is_land}
 use Rattle.step_machine.specs.Legal.{WellFormed}
@@ -19,10 +16,9 @@ use Rattle.step_machine.proofs.OwnRuns.{kept-front}
 use Rattle.store_buffers.specs.StoreBuffers.{LeavesByteBy}
 use Rattle.owned_run.specs.Certified.{View, AllCounts, Acts, IsCertified}
 use Rattle.owned_run.proofs.Every as every
-use Rattle.queue_certificates.specs.Steps.{all_below, instruction_at}
+use Rattle.queue_certificates.specs.Steps.{instruction_at}
 use Rattle.queue_certificates.specs.Certificates.{QueueCertificate, queue_at, start_at, no_hart, HasFields, MeetsFields, IsOwnByte, IsAtState, IsInState}
 use Rattle.queue_certificates.specs.Certificates.{part_of, accepts}
-use Rattle.queue_certificates.proofs.States.{at-below}
 use Rattle.queue_certificates.proofs.Steps.{nobody_told, nothing_sent, untold}
 use Rattle.queue_certificates.proofs.Certified.{accepted-opens, accepted-certifies, fine, of-hart}
 use Rattle.queue_checker.specs.Flaws.{hart_at}
