@@ -18,12 +18,15 @@ use Rattle.certificate_reader.specs.Stages.{keyword_named, stage_after, is_queue
 use Rattle.certificate_reader.specs.Drafts.{DraftValue, no_draft, by_words, by_keyword, with_queue, with_pc, with_state, state_closed}
 use Rattle.certificate_reader.specs.Drafts.{state_closed_at, hart_closed, hart_closed_at, hart_listed, with_hart, own_of, hart_opening, with_value, finished}
 use Rattle.certificate_reader.specs.Reading.{certificate_from, certificate_at}
-use Rattle.certificate_reader.specs.Writing.{LineOfWords, line_if, range_text, value_lines, share_lines, known_lines, tree_lines, state_lines, part_lines}
-use Rattle.certificate_reader.specs.Writing.{numbers_of, queue_line, certificate_lines, certificate_text}
+use Rattle.certificate_reader.specs.Writing.{LineOfWords, line_if, range_text, value_lines, share_lines, known_lines, filled_lines, described_lines}
+use Rattle.certificate_reader.specs.Writing.{tree_lines, state_lines, part_lines}
+use Rattle.certificate_reader.specs.Writing.{numbers_of, queue_lines, certificate_lines, certificate_text}
 use Rattle.certificate_reader.specs.Written.{FitsWord, FitsCount, FitsValue, FitsState, FitsPart, FitsQueue, CanBeWritten}
 use Rattle.certificate_reader.proofs.Growing.{cases_again}
 use Rattle.certificate_reader.proofs.NumbersAgain.{only_word_again, first_word_again, queue_again, words_again, counts_again}
 use Rattle.certificate_reader.proofs.LinesAgain.{told, told-append, told_lines, lines_again, by_name}
+use Rattle.certificate_reader.proofs.FieldsAgain.{with_queues, fields_told, AreFew, are_few, with_all_filled, after_filled, filled_told, filled_described}
+use Rattle.certificate_reader.proofs.FieldsAgain.{from_none}
 use Rattle.certificate_reader.proofs.StatesAgain.{after_ranges, ranges_told, after_values, described_after, values_told, after_shares, shares_told}
 use Rattle.certificate_reader.proofs.StatesAgain.{reverse_first, cases_told}
 use Rattle.certificate_reader.proofs.SolidLines.{certificate_solid}
@@ -121,7 +124,7 @@ words_told : (d : DraftValue) (values : List KnownValue) (s : Stage) → length 
 words_told d values s few small fewer is all = values_told (length d.queues) (length d.ranges) 0 (codes "word") (with_words d) (omega arith)
     small (omega arith) (word_line d) [] values 0 s refl (omega arith) is (λ low. absurd (omega arith)) all
 
-known_told : (d : DraftValue) (s : ListedState) → length d.queues ≤ 16 → length d.own ≤ 64 → FitsState (length d.queues) (length d.own) s
+known_told : (d : DraftValue) (s : ListedState) → length d.queues ≤ 16 → length d.own ≤ 64 → FitsState d.queues (length d.own) s
     → told (begun_state d s.known.pc) (known_lines s.known) ≡ Ok (known_draft d s.known (after_known s.known))
 known_told d s few few_own fits =
     told-append start three (most ++ registers ++ words) shares
@@ -174,6 +177,20 @@ known_told d s few few_own fits =
         (shares_told three [] k.shares 0 three.stage (omega (arith, fits.variables)) refl (omega (arith, fits.all_shares))
         (described_after two.stage k.words described) fits.shares)
 
+abbrev described_draft : DraftValue → ListedState → DraftValue
+described_draft d s = with_all_filled (known_draft d s.known (after_known s.known)) s.filled (after_filled (after_known s.known) s.filled)
+
+described_told : (d : DraftValue) (s : ListedState) → AreFew d.queues → length d.own ≤ 64 → FitsState d.queues (length d.own) s
+    → told (begun_state d s.known.pc) (described_lines s) ≡ Ok (described_draft d s)
+described_told d s few few_own fits =
+    told-append (begun_state d s.known.pc) known (known_lines s.known) (filled_lines 0 s.filled) (known_told d s few.queues few_own fits)
+    ∙ filled_told known [] s.filled 0 (after_known s.known) few (known_described s.known) (omega arith) (omega (arith, fits.few_filled, few.queues))
+    fits.full_filled fits.filled
+    ∙ ap (λ filled. Ok (with_all_filled known filled (after_filled (after_known s.known) s.filled))) (from_none s.filled)
+  where
+    known : DraftValue
+    known = known_draft d s.known (after_known s.known)
+
 -- ---- a state
 
 pub record Reads (d : DraftValue) (ls : List LineOfWords) (c : Core) : Type 0 where
@@ -207,19 +224,17 @@ described_wants stage.State is = refl
 described_wants stage.Known is = refl
 described_wants other is = absurd cc
 
-state_told : (d : DraftValue) (c : Core) (s : ListedState) → core_of (state_closed d) ≡ c → may_end d.stage ≡ true → length c.queues ≤ 16
-    → length c.own ≤ 64 → c.listed < 16384 → FitsState (length c.queues) (length c.own) s
+state_told : (d : DraftValue) (c : Core) (s : ListedState) → core_of (state_closed d) ≡ c → may_end d.stage ≡ true → AreFew c.queues
+    → length c.own ≤ 64 → c.listed < 16384 → FitsState c.queues (length c.own) s
     → Reads d (state_lines s) (record c { states = s ∷ c.states; listed = c.listed + 1 })
 unfolding state_closed
 state_told d c s core ends few_queues few_own few fits = record {
   end = after;
   read = rw (state_begun d c s.known.pc core few fits.pc ends)
-      (told-append (begun_state x s.known.pc) known (known_lines s.known) (tree_lines (case_lines s.cases)) known_read ∙ cases_read);
+      (told-append (begun_state x s.known.pc) known (described_lines s) (tree_lines (case_lines s.cases)) known_read ∙ cases_read);
   core =
-      (let made : core_of (state_closed after) ≡ record c { states = record s { filled = [] } ∷ c.states; listed = c.listed + 1 } =
       rw (append-nil (reverse (case_lines s.cases)), cases_again s.cases)
-      (ap (λ (y : Core). record y { states = record s { filled = [] } ∷ y.states; listed = y.listed + 1 }) core) in
-      made ∙ ap (λ fs. record c { states = record s { filled = fs } ∷ c.states; listed = c.listed + 1 }) (sym fits.unfilled));
+      (ap (λ (y : Core). record y { states = s ∷ y.states; listed = y.listed + 1 }) core);
   ends = refl;
 }
   where
@@ -227,24 +242,27 @@ state_told d c s core ends few_queues few_own few fits = record {
     x = state_closed d
 
     known : DraftValue
-    known = known_draft x s.known (after_known s.known)
+    known = described_draft x s
 
     after : DraftValue
     after = record known { nodes = reverse (case_lines s.cases) ++ []; splits = 0 + height s.cases; stage = stage.Leaf 0 }
 
-    fits_x : FitsState (length x.queues) (length x.own) s
-    fits_x = subst (λ (y : Core). FitsState (length y.queues) (length y.own) s) (sym core) fits
+    fits_x : FitsState x.queues (length x.own) s
+    fits_x = subst (λ (y : Core). FitsState y.queues (length y.own) s) (sym core) fits
 
-    known_read : told (begun_state x s.known.pc) (known_lines s.known) ≡ Ok known
-    known_read = known_told x s (subst (λ (y : Core). length y.queues ≤ 16) (sym core) few_queues)
+    known_read : told (begun_state x s.known.pc) (described_lines s) ≡ Ok known
+    known_read = described_told x s (subst (λ (y : Core). AreFew y.queues) (sym core) few_queues)
         (subst (λ (y : Core). length y.own ≤ 64) (sym core) few_own) fits_x
 
+    is : is_described known.stage ≡ true
+    is = filled_described (after_known s.known) s.filled (known_described s.known)
+
     cases_read : told known (tree_lines (case_lines s.cases)) ≡ Ok after
-    cases_read = cases_told known s.cases (after_known s.known) 0 (described_wants (after_known s.known) (known_described s.known)) (omega arith)
+    cases_read = cases_told known s.cases known.stage 0 (described_wants known.stage is) (omega arith)
         (omega (arith, fits.splits)) (omega (arith, fits.variables)) fits.cases
 
-states_told : (d : DraftValue) (c : Core) (ss : List ListedState) → core_of (state_closed d) ≡ c → may_end d.stage ≡ true → length c.queues ≤ 16
-    → length c.own ≤ 64 → c.listed + length ss ≤ 16384 → AllByRecursion (FitsState (length c.queues) (length c.own)) ss
+states_told : (d : DraftValue) (c : Core) (ss : List ListedState) → core_of (state_closed d) ≡ c → may_end d.stage ≡ true → AreFew c.queues
+    → length c.own ≤ 64 → c.listed + length ss ≤ 16384 → AllByRecursion (FitsState c.queues (length c.own)) ss
     → Reads d (flat_map state_lines ss) (record c { states = reverse ss ++ c.states; listed = c.listed + length ss })
 states_told d c [] core ends few_queues few_own few all =
     let same : c.listed ≡ c.listed + 0 = omega arith in
@@ -377,8 +395,8 @@ is_at_end qs hs n p d ends core = record {
     turned : reverse (reverse p.states ++ []) ≡ p.states
     turned = ap (λ (xs : List ListedState). reverse xs) (append-nil (reverse p.states)) ∙ reverse-reverse p.states
 
-part_told : (d : DraftValue) (qs : List OpenedQueue) (hs : List HartPart) (n : ℕ) (p : HartPart) → IsAt qs hs n d → length hs < 64 → length qs ≤ 16
-    → n + length p.states ≤ 16384 → FitsPart (length qs) p → ReadsHarts d (part_lines p) qs (hs ++ p ∷ []) (n + length p.states)
+part_told : (d : DraftValue) (qs : List OpenedQueue) (hs : List HartPart) (n : ℕ) (p : HartPart) → IsAt qs hs n d → length hs < 64 → AreFew qs
+    → n + length p.states ≤ 16384 → FitsPart qs p → ReadsHarts d (part_lines p) qs (hs ++ p ∷ []) (n + length p.states)
 unfolding with_hart state_closed
 part_told d qs hs n p at few_harts few_queues few fits = record {
   end = states.end;
@@ -438,7 +456,7 @@ abbrev listed_states : HartPart → ℕ
 listed_states part = length part.states
 
 harts_told : (d : DraftValue) (qs : List OpenedQueue) (hs : List HartPart) (n : ℕ) (p : HartPart) (ps : List HartPart) → IsAt qs hs n d
-    → length hs + length (p ∷ ps) ≤ 64 → length qs ≤ 16 → n + sum_by listed_states (p ∷ ps) ≤ 16384 → AllByRecursion (FitsPart (length qs)) (p ∷ ps)
+    → length hs + length (p ∷ ps) ≤ 64 → AreFew qs → n + sum_by listed_states (p ∷ ps) ≤ 16384 → AllByRecursion (FitsPart qs) (p ∷ ps)
     → ReadsHarts d (flat_map part_lines (p ∷ ps)) qs (hs ++ p ∷ ps) (n + sum_by listed_states (p ∷ ps))
 harts_told d qs hs n p [] at few_harts few_queues few all =
     let total = sum_by-cons listed_states p [] in
@@ -476,24 +494,26 @@ unfolding stage_after
 queue_staged = refl
 
 queue_made : (queues : List OpenedQueue) (q : OpenedQueue) → length queues < 16 → FitsQueue q
-    → with_queue queues (map decimal (numbers_of q)) ≡ Ok (queues ++ q ∷ [])
+    → with_queue queues (map decimal (numbers_of q)) ≡ Ok (queues ++ record q { fields = [] } ∷ [])
 unfolding with_queue
 queue_made queues q few fits = rw (queue_again q fits, lt-leb 16 (length queues) few) refl
 
-abbrev with_queues : DraftValue → List OpenedQueue → DraftValue
-with_queues d qs = record d { queues = qs; stage = stage.Queues }
-
 queue_told : (d : DraftValue) (queues : List OpenedQueue) (q : OpenedQueue) → length queues < 16 → FitsQueue q
-    → by_words (with_queues d queues) (codes "queue") (map decimal (numbers_of q)) ≡ Ok (with_queues d (queues ++ q ∷ []))
-queue_told d queues q few fits = by_name (with_queues d queues) (with_queues d (queues ++ q ∷ [])) (codes "queue") (map decimal (numbers_of q)) keyword.Queue
-    stage.Queues queue_named queue_staged (rw (queue_made queues q few fits) refl)
+    → told (with_queues d queues) (queue_lines q) ≡ Ok (with_queues d (queues ++ q ∷ []))
+queue_told d queues q few fits = rw line (fields_told d queues q [] q.fields (omega (arith, fits.few_fields)) fits.fields)
+  where
+    line : by_words (with_queues d queues) (codes "queue") (map decimal (numbers_of q)) ≡ Ok (with_queues d (queues ++ record q { fields = [] } ∷ []))
+    line = by_name (with_queues d queues) (with_queues d (queues ++ record q { fields = [] } ∷ [])) (codes "queue") (map decimal (numbers_of q))
+        keyword.Queue stage.Queues queue_named queue_staged (rw (queue_made queues q few fits) refl)
 
 queues_told : (d : DraftValue) (queues qs : List OpenedQueue) → length queues + length qs ≤ 16 → AllByRecursion FitsQueue qs
-    → told (with_queues d queues) (map queue_line qs) ≡ Ok (with_queues d (queues ++ qs))
+    → told (with_queues d queues) (flat_map queue_lines qs) ≡ Ok (with_queues d (queues ++ qs))
 queues_told d queues [] few all = rw (append-nil queues) refl
 queues_told d queues (q ∷ qs) few all =
-    let rest = queues_told d (queues ++ q ∷ []) qs (omega (arith, length-append queues (q ∷ []))) all.1 in
-    rw (queue_told d queues q (omega arith) all.0) (rw (append_assoc queues (q ∷ []) qs) at rest)
+    told-append (with_queues d queues) (with_queues d (queues ++ q ∷ [])) (queue_lines q) (flat_map queue_lines qs)
+    (queue_told d queues q (omega arith) all.0)
+    ∙ queues_told d (queues ++ q ∷ []) qs (omega (arith, length-append queues (q ∷ []))) all.1
+    ∙ ap (λ all_queues. Ok (with_queues d all_queues)) (append_assoc queues (q ∷ []) qs)
 
 -- ---- all of it
 
@@ -510,22 +530,22 @@ lines_told c fits = by_harts c.harts refl
     start : DraftValue
     start = record no_draft { queues = c.queues; stage = stage.Queues }
 
-    queues_read : told no_draft ((codes "ztso-queues", codes "1" ∷ []) ∷ map queue_line c.queues) ≡ Ok start
+    queues_read : told no_draft ((codes "ztso-queues", codes "1" ∷ []) ∷ flat_map queue_lines c.queues) ≡ Ok start
     queues_read = rw head_read (queues_told no_draft [] c.queues (omega (arith, fits.few_queues)) fits.queues)
 
     by_harts : (hs : List HartPart) → c.harts ≡ hs
-        → ReadsHarts no_draft ((codes "ztso-queues", codes "1" ∷ []) ∷ map queue_line c.queues ++ flat_map part_lines hs) c.queues hs
+        → ReadsHarts no_draft ((codes "ztso-queues", codes "1" ∷ []) ∷ flat_map queue_lines c.queues ++ flat_map part_lines hs) c.queues hs
         (sum_by listed_states hs)
     by_harts [] same = absurd (omega (arith, fits.some_hart, ap (λ (hs : List HartPart). length hs) same))
     by_harts (p ∷ ps) same =
         let harts = harts_told start c.queues [] 0 p ps (begins_at c.queues)
-        (omega (arith, fits.few_harts, ap (λ (hs : List HartPart). length hs) same)) fits.few_queues
+        (omega (arith, fits.few_harts, ap (λ (hs : List HartPart). length hs) same)) (are_few c.queues fits.few_queues fits.queues)
         (omega (arith, fits.few_states, ap (λ (hs : List HartPart). sum_by listed_states hs) same))
-        (subst (λ (hs : List HartPart). AllByRecursion (FitsPart (length c.queues)) hs) same fits.harts) in
+        (subst (λ (hs : List HartPart). AllByRecursion (FitsPart c.queues) hs) same fits.harts) in
         let none : 0 + sum_by listed_states (p ∷ ps) ≡ sum_by listed_states (p ∷ ps) = omega arith in
         record {
           end = harts.end;
-          read = told-append no_draft start ((codes "ztso-queues", codes "1" ∷ []) ∷ map queue_line c.queues) (flat_map part_lines (p ∷ ps)) queues_read
+          read = told-append no_draft start ((codes "ztso-queues", codes "1" ∷ []) ∷ flat_map queue_lines c.queues) (flat_map part_lines (p ∷ ps)) queues_read
               ∙ harts.read;
           at = subst (λ (k : ℕ). IsAt c.queues (p ∷ ps) k harts.end) none harts.at;
           ends = harts.ends;

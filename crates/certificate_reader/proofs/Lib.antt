@@ -1,9 +1,11 @@
 pub mod Joined
 pub mod Growing
+pub mod Placing
 pub mod WrittenParts
 pub mod NumbersAgain
 pub mod FormsAgain
 pub mod LinesAgain
+pub mod FieldsAgain
 pub mod SolidLines
 pub mod StatesAgain
 pub mod CertificateAgain

@@ -1,6 +1,6 @@
 -- Numbers and lists of them, as they are written, are read again.
 use Rattle.std.proofs.Common.{◌≡◌, ℕ, ◌^◌, ◌<◌, ◌≤◌, Bool, true, false, List, [], ◌∷◌, map, Option, Some, None}
-use Rattle.std.proofs.Common.{Result, Ok, refl, sym, subst, ap, ◌∙◌, inl, inr, arith}
+use Rattle.std.proofs.Common.{Result, Ok, refl, sym, subst, ◌∙◌, inl, inr, arith}
 use Rattle.std.specs.Prelude.{codes}
 use Rattle.std.specs.List.{AllByRecursion}
 use Rattle.std.specs.Str.{bytes_eq}
@@ -74,18 +74,18 @@ four_again a b c d all = rw (
   first_count_again d [] all.1.1.1.0,
 ) refl
 
-pub queue_again : (o : OpenedQueue) → FitsQueue o → queue_of (map decimal (numbers_of o)) ≡ Ok o
+-- a queue's line says nothing of its fields
+pub queue_again : (o : OpenedQueue) → FitsQueue o → queue_of (map decimal (numbers_of o)) ≡ Ok (record o { fields = [] })
 unfolding queue_of
 queue_again o fits =
     let q = o.queue in
     let counts = decimal q.scale ∷ decimal q.offset ∷ decimal q.modulus ∷ decimal o.start ∷ [] in
     let slots = decimal q.slots ∷ decimal q.size ∷ decimal q.width ∷ decimal q.capacity ∷ decimal q.base ∷ counts in
-    let made : queue_of (map decimal (numbers_of o)) ≡ Ok (record o { fields = [] }) = rw (
+    rw (
       five_again q.sender q.receiver q.head q.tail q.index_width slots fits.places,
       five_again q.slots q.size q.width q.capacity q.base counts fits.slots,
       four_again q.scale q.offset q.modulus o.start fits.counts,
-    ) refl in
-    made ∙ ap (λ fs. Ok (record o { fields = fs })) (sym fits.fields)
+    ) refl
 
 -- ---- lists
 

@@ -1,5 +1,5 @@
 -- No word of a line that is written has a blank or a line end.
-use Rattle.std.proofs.Common.{ℕ, ◌≡◌, ◌+◌, ◌^◌, ◌<◌, ◌≤◌, false, List, [], ◌∷◌, ◌++◌, length, map, Option, Some, None, refl, arith}
+use Rattle.std.proofs.Common.{ℕ, ◌≡◌, ◌+◌, ◌^◌, ◌<◌, ◌≤◌, false, List, [], ◌∷◌, ◌++◌, length, map, get_or, Option, Some, None, refl, arith}
 use Rattle.std.specs.Prelude.{codes}
 use Rattle.std.specs.List.{AllByRecursion, flat_map}
 use Rattle.std.specs.Fmt.{decimal}
@@ -7,15 +7,18 @@ use Rattle.std.proofs.lemmas.List.{map-append}
 use Rattle.texts.proofs.CuttingLaws.{none-append}
 use Rattle.texts.proofs.RowLaws.{is_low, Solid, solid_by_test, decimal_solid}
 use Rattle.queue_certificates.specs.States.{KnownValue, any, linear, index_for, signed_for, Share}
-use Rattle.queue_certificates.specs.Certificates.{OpenedQueue, Arrow, Cases, leaf, split, ListedState, HartPart, QueueCertificate}
+use Rattle.owned_run.specs.Certificates.{Field}
+use Rattle.queue_certificates.specs.Certificates.{OpenedQueue, no_queue, Arrow, Cases, leaf, split, ListedState, HartPart, QueueCertificate}
+use Rattle.queue_certificates.specs.Filled.{Filled}
 use Rattle.certificate_reader.specs.CaseTexts.{arrow_lines, case_lines}
 use Rattle.certificate_reader.specs.Writing.{LineOfWords, form_text, value_line, value_lines, share_lines, range_text, line_if}
-use Rattle.certificate_reader.specs.Writing.{known_lines, node_line, tree_lines, state_lines}
-use Rattle.certificate_reader.specs.Writing.{part_lines, numbers_of, queue_line, certificate_lines, value_text}
+use Rattle.certificate_reader.specs.Writing.{slot_lines, filled_lines, known_lines, described_lines, node_line, tree_lines, state_lines}
+use Rattle.certificate_reader.specs.Writing.{part_lines, numbers_of, field_numbers, field_line, queue_line, queue_lines, certificate_lines, value_text}
 use Rattle.certificate_reader.specs.Written.{FitsWord, FitsCount, FitsForm, FitsValue, FitsShare, FitsRange, FitsArrow}
-use Rattle.certificate_reader.specs.Written.{FitsCases, FitsState, FitsPart, FitsQueue}
+use Rattle.certificate_reader.specs.Written.{FitsCases, FitsFilled, FitsState, FitsPart, FitsField, FitsQueue}
 use Rattle.certificate_reader.specs.Written.{CanBeWritten}
 use Rattle.certificate_reader.proofs.FormsAgain.{form_solid}
+use Rattle.certificate_reader.proofs.FieldsAgain.{AreFew, are_few}
 use Rattle.certificate_reader.proofs.LinesAgain.{IsSolidLine}
 
 abbrev pub AreSolid : List LineOfWords → Type 0
@@ -110,28 +113,55 @@ cases_solid n (split j v low high) small fits = (
   tree_append low high (cases_solid n low small fits.2) (cases_solid n high small fits.3),
 )
 
-state_solid : (N words : ℕ) (s : ListedState) → N ≤ 16 → words ≤ 64 → FitsState N words s → AreSolid (state_lines s)
-state_solid N words s few few_words fits =
+slots_solid : (k i p : ℕ) (slots : Filled) → k ≤ 16 → i < 2 ^ 32 → p + length slots ≤ 2 ^ 32 → AllByRecursion (AllByRecursion (λ field. field < k)) slots
+    → AreSolid (slot_lines i p slots)
+slots_solid k i p [] few place small all = tt
+slots_solid k i p ([] ∷ slots) few place small all = slots_solid k i (p + 1) slots few place (omega arith) all.1
+slots_solid k i p ((f ∷ fields) ∷ slots) few place small all = (
+  line_solid (codes "filled") (decimal i ∷ decimal p ∷ map decimal (f ∷ fields)) (solid_by_test (codes "filled") refl) (
+    word_solid i place,
+    (
+      word_solid p (omega arith),
+      all_map (λ field. field < k) Solid decimal (λ field below. word_solid field (omega (arith, below))) (f ∷ fields) all.0,
+    ),
+  ),
+  slots_solid k i (p + 1) slots few place (omega arith) all.1,
+)
+
+filled_solid : (queues : List OpenedQueue) (i : ℕ) (filled : List Filled) → AreFew queues → i + length filled ≤ 2 ^ 32 → FitsFilled queues i filled
+    → AreSolid (filled_lines i filled)
+filled_solid queues i [] few place fits = tt
+filled_solid queues i (slots ∷ filled) few place fits = all_append IsSolidLine (slot_lines i 0 slots) (filled_lines (i + 1) filled)
+    (slots_solid (length (get_or queues i no_queue).fields) i 0 slots (few.fields i) (omega arith) (omega (arith, fits.0.few)) fits.0.fields)
+    (filled_solid queues (i + 1) filled few (omega arith) fits.1)
+
+state_solid : (queues : List OpenedQueue) (words : ℕ) (s : ListedState) → AreFew queues → words ≤ 64 → FitsState queues words s → AreSolid (state_lines s)
+state_solid queues words s few few_words fits =
+    let N = length queues in
+    let few_queues : length queues ≤ 2 ^ 32 = omega (arith, few.queues) in
     let n = length s.known.ranges in
     let small : n + 1 ≤ 2 ^ 32 = omega (arith, fits.variables) in
     let most = if_solid (codes "most") (map range_text s.known.ranges) (solid_by_test (codes "most") refl)
     (all_map FitsRange Solid range_text range_solid s.known.ranges fits.ranges) in
-    let registers = values_solid N n 0 (codes "reg") s.known.registers (omega arith) (omega arith) (omega (arith, fits.all_registers))
+    let registers = values_solid N n 0 (codes "reg") s.known.registers (omega arith) few_queues (omega (arith, fits.all_registers))
     (solid_by_test (codes "reg") refl) fits.registers in
-    let own = values_solid N n 0 (codes "word") s.known.words (omega arith) (omega arith) (omega (arith, fits.all_words))
+    let own = values_solid N n 0 (codes "word") s.known.words (omega arith) few_queues (omega (arith, fits.all_words))
     (solid_by_test (codes "word") refl) fits.words in
-    let shares = shares_solid n 0 s.known.shares (omega arith) (omega (arith, fits.all_shares)) fits.shares in (
+    let shares = shares_solid n 0 s.known.shares (omega arith) (omega (arith, fits.all_shares, few.queues)) fits.shares in
+    let filled = filled_solid queues 0 s.filled few (omega (arith, fits.few_filled, few.queues)) fits.filled in (
       line_solid (codes "state") (decimal s.known.pc ∷ []) (solid_by_test (codes "state") refl) (word_solid s.known.pc fits.pc, tt),
-      all_append IsSolidLine (known_lines s.known) (tree_lines (case_lines s.cases))
+      all_append IsSolidLine (described_lines s) (tree_lines (case_lines s.cases))
+          (all_append IsSolidLine (known_lines s.known) (filled_lines 0 s.filled)
           (all_append IsSolidLine _ (share_lines 0 s.known.shares)
           (all_append IsSolidLine _ (value_lines (codes "word") 0 s.known.words)
           (all_append IsSolidLine (line_if (codes "most") (map range_text s.known.ranges)) (value_lines (codes "reg") 0 s.known.registers) most registers) own)
           shares)
+          filled)
           (cases_solid n s.cases small fits.cases),
     )
 
-part_solid : (N : ℕ) (p : HartPart) → N ≤ 16 → FitsPart N p → AreSolid (part_lines p)
-part_solid N p few fits =
+part_solid : (queues : List OpenedQueue) (p : HartPart) → AreFew queues → FitsPart queues p → AreSolid (part_lines p)
+part_solid queues p few fits =
     let own = if_solid (codes "own") (map decimal p.own) (solid_by_test (codes "own") refl) (all_map FitsWord Solid decimal word_solid p.own fits.own) in
     let numbers : AllByRecursion Solid (map decimal (p.first ∷ p.numbers)) =
     (word_solid p.first fits.first, all_map FitsCount Solid decimal count_solid p.numbers fits.numbers) in
@@ -140,7 +170,8 @@ part_solid N p few fits =
     (flat_map state_lines p.states)
     (all_append IsSolidLine ((codes "hart", []) ∷ line_if (codes "own") (map decimal p.own)) ((codes "open", map decimal (p.first ∷ p.numbers)) ∷ [])
     (line_solid (codes "hart") [] (solid_by_test (codes "hart") refl) tt, own) (opening, tt))
-    (all_flat (FitsState N (length p.own)) IsSolidLine state_lines (λ s fits_s. state_solid N (length p.own) s few fits.few_words fits_s) p.states fits.states)
+    (all_flat (FitsState queues (length p.own)) IsSolidLine state_lines
+    (λ s fits_s. state_solid queues (length p.own) s few fits.few_words fits_s) p.states fits.states)
 
 counts_of_queue : (o : OpenedQueue) → FitsQueue o → AllByRecursion FitsCount (numbers_of o)
 counts_of_queue o fits =
@@ -166,10 +197,20 @@ queue_solid : (o : OpenedQueue) → FitsQueue o → IsSolidLine (queue_line o)
 queue_solid o fits = line_solid (codes "queue") (map decimal (numbers_of o)) (solid_by_test (codes "queue") refl)
     (all_map FitsCount Solid decimal count_solid (numbers_of o) (counts_of_queue o fits))
 
+field_solid : (f : Field) → FitsField f → IsSolidLine (field_line f)
+field_solid f fits = line_solid (codes "field") (map decimal (field_numbers f)) (solid_by_test (codes "field") refl) (
+  word_solid f.at fits.at,
+  (word_solid f.width fits.width, (count_solid f.low fits.low, (count_solid f.step fits.step, (count_solid f.count fits.count, tt)))),
+)
+
+queue_lines_solid : (o : OpenedQueue) → FitsQueue o → AreSolid (queue_lines o)
+queue_lines_solid o fits = (queue_solid o fits, all_map FitsField IsSolidLine field_line field_solid o.fields fits.fields)
+
 pub certificate_solid : (c : QueueCertificate) → CanBeWritten c → AreSolid (certificate_lines c)
 certificate_solid c fits =
-    all_append IsSolidLine ((codes "ztso-queues", codes "1" ∷ []) ∷ map queue_line c.queues) (flat_map part_lines c.harts) (
+    all_append IsSolidLine ((codes "ztso-queues", codes "1" ∷ []) ∷ flat_map queue_lines c.queues) (flat_map part_lines c.harts) (
       line_solid (codes "ztso-queues") (codes "1" ∷ []) (solid_by_test (codes "ztso-queues") refl) (solid_by_test (codes "1") refl, tt),
-      all_map FitsQueue IsSolidLine queue_line queue_solid c.queues fits.queues,
+      all_flat FitsQueue IsSolidLine queue_lines queue_lines_solid c.queues fits.queues,
     )
-    (all_flat (FitsPart (length c.queues)) IsSolidLine part_lines (λ p fits_p. part_solid (length c.queues) p fits.few_queues fits_p) c.harts fits.harts)
+    (all_flat (FitsPart c.queues) IsSolidLine part_lines (λ p fits_p. part_solid c.queues p (are_few c.queues fits.few_queues fits.queues) fits_p) c.harts
+    fits.harts)

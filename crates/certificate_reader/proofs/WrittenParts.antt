@@ -1,9 +1,10 @@
 -- Parts and lines of which some are written.
 use Rattle.std.proofs.Common.{◌≡◌, ℕ, Bool, true, false, List, [], ◌∷◌, ◌++◌, length, map, cond, Result, Ok, Err, refl, ap, ◌∙◌}
-use Rattle.std.specs.Prelude.{is_ok, OnOk}
+use Rattle.std.specs.Prelude.{codes, is_ok, OnOk}
+use Rattle.std.specs.Fmt.{decimal}
 use Rattle.std.proofs.lemmas.List.{append-nil}
 use Rattle.std.proofs.lemmas.List.Folds.{flat_map-map}
-use Rattle.certificate_reader.specs.Writing.{spaced, itself, lines_text, line_if, parts_text}
+use Rattle.certificate_reader.specs.Writing.{spaced, itself, lines_text, line_if, slot_line, parts_text}
 
 -- a part, and then the others
 pub joined_more : (follows : Bool) (part : List ℕ) (parts : List (List ℕ))
@@ -26,6 +27,18 @@ pub line_if_some : {A : Type 0} (front name : List ℕ) (word : A → List ℕ) 
     → lines_text front (line_if name (map word xs)) ≡ front ++ name ++ spaced word xs ++ 10 ∷ []
 line_if_some front name word [] some = absurd (some refl)
 line_if_some front name word (x ∷ xs) some = line_of front name word (x ∷ xs)
+
+-- the line of a slot in which something is right
+pub slot_line_some : (front : List ℕ) (i d : ℕ) (fields : List ℕ) → (length fields ≡ 0 → ⊥)
+    → lines_text front (slot_line i d fields) ≡ front ++ codes "filled" ++ (32 ∷ decimal i ++ (32 ∷ decimal d ++ spaced decimal fields)) ++ 10 ∷ []
+slot_line_some front i d [] some = absurd (some refl)
+slot_line_some front i d (field ∷ fields) some = line_after_two front i d (field ∷ fields)
+  where
+    line_after_two : (front : List ℕ) (i d : ℕ) (xs : List ℕ) → lines_text front ((codes "filled", decimal i ∷ decimal d ∷ map decimal xs) ∷ [])
+        ≡ front ++ codes "filled" ++ (32 ∷ decimal i ++ (32 ∷ decimal d ++ spaced decimal xs)) ++ 10 ∷ []
+    line_after_two front i d xs = append-nil (front ++ codes "filled" ++ (32 ∷ decimal i ++ (32 ∷ decimal d ++ spaced itself (map decimal xs))) ++ 10 ∷ [])
+        ∙ ap (λ (words : List ℕ). front ++ codes "filled" ++ (32 ∷ decimal i ++ (32 ∷ decimal d ++ words)) ++ 10 ∷ [])
+        (flat_map-map (λ w. 32 ∷ itself w) decimal xs)
 
 -- what a last call, which appends a line end, leaves
 pub ended : {E : Type 0} (result : Result (Unit {0}) E) (old text line new : List ℕ) → new ≡ cond (is_ok result) (text ++ 10 ∷ []) text

@@ -18,6 +18,7 @@ draft_value d = record {
   registers = d.registers.items;
   words = d.words.items;
   shares = d.shares.items;
+  filled = d.filled.items;
   nodes = reverse d.nodes.items;
   splits = d.splits;
 }

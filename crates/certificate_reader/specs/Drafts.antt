@@ -8,6 +8,7 @@ use Rattle.texts.specs.Cutting.{tokens, first_cut}
 use Rattle.queue_certificates.specs.Forms.{Form}
 use Rattle.queue_certificates.specs.States.{KnownValue, any, Share, no_share, KnownState}
 use Rattle.queue_certificates.specs.Certificates.{OpenedQueue, HartPart, ListedState, QueueCertificate}
+use Rattle.queue_certificates.specs.Filled.{Filled}
 use Rattle.certificate_reader.specs.declared.faults.CertificateFault.{CertificateFault}
 use Rattle.certificate_reader.specs.declared.faults.CertificateFault.TheVariants.{BadHead, BadLine, Misplaced, TooMany, Unfinished}
 use Rattle.certificate_reader.specs.declared.cases.Node.{Node}
@@ -21,12 +22,13 @@ use Rattle.certificate_reader.specs.declared.limits.TheConstants.{MAX_QUEUES, MA
 use Rattle.certificate_reader.specs.Faults.{or_bad_line}
 use Rattle.certificate_reader.specs.Numbers.{first_word_in, first_count_in, ended, five_at, four_counts, only_word}
 use Rattle.certificate_reader.specs.FormTexts.{form_of, known_value_in}
-use Rattle.certificate_reader.specs.Lists.{words_in, counts_in, ranges_in, forms_in}
+use Rattle.certificate_reader.specs.Lists.{few, one_more, words_in, counts_in, ranges_in, forms_in}
+use Rattle.certificate_reader.specs.Fields.{with_field, with_filled}
 use Rattle.certificate_reader.specs.CaseTexts.{cases_of}
 use Rattle.certificate_reader.specs.Stages.{keyword_named, may_end, stage_after}
 
 -- What the lines so far say: the queues, and the harts whose parts are over; then of the hart at hand its own words, how it opens and
--- its states that are over; then what is known in the state at hand, and its lines of cases. All states are counted, and the splits
+-- its states that are over; then what is known in the state at hand, which fields are right, and its lines of cases. All states are counted, and the splits
 -- of the one at hand. The newest of the states and of the lines of cases stands first.
 pub record DraftValue : Type 0 where
   pub stage : Stage
@@ -42,6 +44,7 @@ pub record DraftValue : Type 0 where
   pub registers : List KnownValue
   pub words : List KnownValue
   pub shares : List Share
+  pub filled : List Filled
   pub nodes : List Node
   pub splits : ℕ
 
@@ -60,22 +63,15 @@ no_draft = record {
   registers = [];
   words = [];
   shares = [];
+  filled = [];
   nodes = [];
   splits = 0;
 }
 
--- a list that is no longer than this
-abbrev pub few : {A : Type 0} → ℕ → List A → Result (List A) CertificateFault
-few most xs = if nat_lt most (length xs) then Err TooMany else Ok xs
-
--- one element more, where there are fewer than this
-abbrev pub one_more : {A : Type 0} → ℕ → List A → A → Result (List A) CertificateFault
-one_more most xs x = if nat_le most (length xs) then Err TooMany else Ok (xs ++ x ∷ [])
-
 -- ---- queues
 
 -- sender, receiver, head, tail, bytes of an index; slots, size, width, capacity, base; scale, offset, modulus, and the count at which
--- it opens. Nothing is said of its records
+-- it opens. No field of its records is known yet
 unfoldable pub queue_of : List (List ℕ) → Result OpenedQueue CertificateFault
 queue_of words = do
   a ← five_at words
@@ -118,7 +114,8 @@ known_taken d = record d { ranges = []; registers = []; words = []; shares = [] 
 abbrev pub state_listed : DraftValue → DraftValue
 state_listed d = record (known_taken d) {
   stage = stage.Opened;
-  states = record { known = known_of d; filled = []; cases = cases_of d.nodes } ∷ d.states;
+  states = record { known = known_of d; filled = d.filled; cases = cases_of d.nodes } ∷ d.states;
+  filled = [];
   nodes = [];
 }
 
@@ -165,6 +162,7 @@ with_pc d pc = record d {
   registers = replicate 32 any;
   words = replicate (length d.own) any;
   shares = replicate (length d.queues) no_share;
+  filled = [];
   nodes = [];
   splits = 0;
 }
@@ -264,6 +262,9 @@ abbrev pub by_keyword : DraftValue → Keyword → List (List ℕ) → Result Dr
 by_keyword d keyword.Queue words = do
   queues ← with_queue d.queues words
   Ok (record d { queues = queues })
+by_keyword d keyword.Field words = do
+  queues ← with_field d.queues words
+  Ok (record d { queues = queues })
 by_keyword d keyword.Hart words = with_hart d words
 by_keyword d keyword.Own words = do
   own ← own_of words
@@ -284,6 +285,9 @@ by_keyword d keyword.Word words = do
 by_keyword d keyword.Share words = do
   shares ← with_share (length d.ranges) d.shares words
   Ok (record d { shares = shares })
+by_keyword d keyword.Filled words = do
+  filled ← with_filled d.queues d.filled words
+  Ok (record d { filled = filled })
 by_keyword d keyword.Split words = with_split d words
 by_keyword d keyword.Leaf words = do
   leaf ← leaf_of (length d.ranges) words

@@ -2,6 +2,7 @@ pub mod Faults
 pub mod Numbers
 pub mod FormTexts
 pub mod Lists
+pub mod Fields
 pub mod CaseTexts
 pub mod Growths
 pub mod Stages

@@ -1,14 +1,23 @@
--- Lists that the words of a line say, one element each.
-use Rattle.std.specs.Prelude.{ℕ, List, Option, Some, None, Result, if◌then◌else◌, codes}
+-- Lists that the words of a line say, one element each, and their limits.
+use Rattle.std.specs.Prelude.{ℕ, nat_lt, nat_le, List, [], ◌∷◌, ◌++◌, length, Option, Some, None, Result, Ok, Err, if◌then◌else◌, codes}
 use Rattle.std.specs.Option.{option_map}
 use Rattle.std.specs.Str.{bytes_eq}
 use Rattle.texts.specs.Numbers.{word_of}
 use Rattle.texts.specs.Formats.{each}
 use Rattle.queue_certificates.specs.Forms.{Form}
 use Rattle.certificate_reader.specs.declared.faults.CertificateFault.{CertificateFault}
+use Rattle.certificate_reader.specs.declared.faults.CertificateFault.TheVariants.{TooMany}
 use Rattle.certificate_reader.specs.Faults.{or_bad_line}
 use Rattle.certificate_reader.specs.Numbers.{count_of}
 use Rattle.certificate_reader.specs.FormTexts.{form_of}
+
+-- a list that is no longer than this
+abbrev pub few : {A : Type 0} → ℕ → List A → Result (List A) CertificateFault
+few most xs = if nat_lt most (length xs) then Err TooMany else Ok xs
+
+-- one element more, where there are fewer than this
+abbrev pub one_more : {A : Type 0} → ℕ → List A → A → Result (List A) CertificateFault
+one_more most xs x = if nat_le most (length xs) then Err TooMany else Ok (xs ++ x ∷ [])
 
 unfoldable pub words_in : List (List ℕ) → Result (List ℕ) CertificateFault
 words_in words = each (λ word. or_bad_line (word_of word)) words

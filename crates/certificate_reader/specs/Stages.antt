@@ -31,8 +31,13 @@ case_keyword name =
     (if bytes_eq name (codes "leaf") then Some keyword.Leaf else
     (if bytes_eq name (codes "to") then Some keyword.To else None)))
 
+abbrev pub field_keyword : List ℕ → Option Keyword
+field_keyword name =
+    if bytes_eq name (codes "field") then Some keyword.Field else
+    (if bytes_eq name (codes "filled") then Some keyword.Filled else None)
+
 unfoldable pub keyword_named : List ℕ → Option Keyword
-keyword_named name = option_or (option_or (part_keyword name) (state_keyword name)) (case_keyword name)
+keyword_named name = option_or (option_or (option_or (part_keyword name) (state_keyword name)) (case_keyword name)) (field_keyword name)
 
 -- ---- how far a text has come
 
@@ -88,6 +93,7 @@ where_it b s = if b then Some s else None
 -- how far it has come after a line that begins so, where such a line may come
 unfoldable pub stage_after : Stage → Keyword → Option Stage
 stage_after s keyword.Queue = where_it (is_queues s) stage.Queues
+stage_after s keyword.Field = where_it (is_queues s) stage.Queues
 stage_after s keyword.Hart = where_it (is_queues s || may_end s) stage.Hart
 stage_after s keyword.Own = where_it (is_hart s) stage.Owned
 stage_after s keyword.Open = where_it (is_hart s || is_owned s) stage.Opened
@@ -96,6 +102,7 @@ stage_after s keyword.Most = where_it (is_state s) stage.Known
 stage_after s keyword.Register = where_it (is_described s) stage.Known
 stage_after s keyword.Word = where_it (is_described s) stage.Known
 stage_after s keyword.Share = where_it (is_described s) stage.Known
+stage_after s keyword.Filled = where_it (is_described s) stage.Known
 stage_after s keyword.Split = after_split s
 stage_after s keyword.Leaf = after_leaf s
 stage_after s keyword.To = after_arrow s

@@ -3,9 +3,11 @@
 use Rattle.std.specs.Prelude.{ℕ, ◌+◌, ◌==◌, ◌||◌, not, Bool, true, false, List, [], ◌∷◌, ◌++◌, length, map, Option, Some, None, codes}
 use Rattle.std.specs.List.{flat_map}
 use Rattle.std.specs.Fmt.{decimal}
+use Rattle.owned_run.specs.Certificates.{Field}
 use Rattle.queue_certificates.specs.Forms.{Form}
 use Rattle.queue_certificates.specs.States.{KnownValue, any, linear, index_for, signed_for, Share, KnownState}
 use Rattle.queue_certificates.specs.Certificates.{OpenedQueue, ListedState, HartPart, QueueCertificate}
+use Rattle.queue_certificates.specs.Filled.{Filled}
 use Rattle.certificate_reader.specs.declared.cases.Node.{Node}
 use Rattle.certificate_reader.specs.declared.cases.Node.TheVariants as node
 use Rattle.certificate_reader.specs.CaseTexts.{case_lines}
@@ -102,6 +104,24 @@ abbrev pub known_lines : KnownState → List LineOfWords
 known_lines k = line_if (codes "most") (map range_text k.ranges) ++ value_lines (codes "reg") 0 k.registers
     ++ value_lines (codes "word") 0 k.words ++ share_lines 0 k.shares
 
+-- ---- which fields are right, by queues and by positions from the hart's own count on
+
+abbrev pub slot_line : (i d : ℕ) → List ℕ → List LineOfWords
+slot_line i d [] = []
+slot_line i d (field ∷ fields) = (codes "filled", decimal i ∷ decimal d ∷ map decimal (field ∷ fields)) ∷ []
+
+abbrev pub slot_lines : (i d : ℕ) → Filled → List LineOfWords
+slot_lines i d [] = []
+slot_lines i d (slot ∷ slots) = slot_line i d slot ++ slot_lines i (d + 1) slots
+
+abbrev pub filled_lines : (i : ℕ) → List Filled → List LineOfWords
+filled_lines i [] = []
+filled_lines i (slots ∷ filled) = slot_lines i 0 slots ++ filled_lines (i + 1) filled
+
+-- the lines of a state except its pc and its cases
+abbrev pub described_lines : ListedState → List LineOfWords
+described_lines s = known_lines s.known ++ filled_lines 0 s.filled
+
 -- ---- states, harts and queues
 
 abbrev pub node_line : Node → LineOfWords
@@ -113,7 +133,7 @@ abbrev pub tree_lines : List Node → List LineOfWords
 tree_lines nodes = map node_line nodes
 
 abbrev pub state_lines : ListedState → List LineOfWords
-state_lines s = (codes "state", decimal s.known.pc ∷ []) ∷ known_lines s.known ++ tree_lines (case_lines s.cases)
+state_lines s = (codes "state", decimal s.known.pc ∷ []) ∷ described_lines s ++ tree_lines (case_lines s.cases)
 
 abbrev pub part_lines : HartPart → List LineOfWords
 part_lines p = (codes "hart", []) ∷ line_if (codes "own") (map decimal p.own) ++ (codes "open", map decimal (p.first ∷ p.numbers)) ∷ []
@@ -127,10 +147,20 @@ numbers_of o = let q = o.queue in q.sender ∷ q.receiver ∷ q.head ∷ q.tail 
 abbrev pub queue_line : OpenedQueue → LineOfWords
 queue_line o = (codes "queue", map decimal (numbers_of o))
 
+-- the numbers of a field's line
+abbrev pub field_numbers : Field → List ℕ
+field_numbers f = f.at ∷ f.width ∷ f.low ∷ f.step ∷ f.count ∷ []
+
+abbrev pub field_line : Field → LineOfWords
+field_line f = (codes "field", map decimal (field_numbers f))
+
+abbrev pub queue_lines : OpenedQueue → List LineOfWords
+queue_lines o = queue_line o ∷ map field_line o.fields
+
 -- ---- all of it
 
 abbrev pub certificate_lines : QueueCertificate → List LineOfWords
-certificate_lines c = (codes "ztso-queues", codes "1" ∷ []) ∷ map queue_line c.queues ++ flat_map part_lines c.harts
+certificate_lines c = (codes "ztso-queues", codes "1" ∷ []) ∷ flat_map queue_lines c.queues ++ flat_map part_lines c.harts
 
 unfoldable pub certificate_text : QueueCertificate → List ℕ
 certificate_text c = lines_text [] (certificate_lines c)

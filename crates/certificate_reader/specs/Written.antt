@@ -1,12 +1,14 @@
 -- Which certificates can be written within the reader's limits: a text of such a one is read as the certificate again.
-use Rattle.std.specs.Prelude.{ℕ, ◌≡◌, ◌+◌, ◌^◌, ◌<◌, ◌≤◌, Option, None, Some, [], ◌∷◌, length, get_or, sum_by}
+use Rattle.std.specs.Prelude.{ℕ, ◌≡◌, ◌+◌, ◌^◌, ◌<◌, ◌≤◌, Option, None, Some, List, [], ◌∷◌, length, get_or, sum_by}
 use Rattle.std.specs.List.{AllByRecursion}
+use Rattle.owned_run.specs.Certificates.{Field}
 use Rattle.queue_certificates.specs.Forms.{Form}
 use Rattle.queue_certificates.specs.States.{KnownValue, any, linear, index_for, signed_for, Share}
-use Rattle.queue_certificates.specs.Certificates.{OpenedQueue, Arrow, Cases, leaf, split, ListedState, HartPart, QueueCertificate}
+use Rattle.queue_certificates.specs.Certificates.{OpenedQueue, no_queue, Arrow, Cases, leaf, split, ListedState, HartPart, QueueCertificate}
+use Rattle.queue_certificates.specs.Filled.{Filled}
 use Rattle.queue_checker.specs.Trees.{height}
 use Rattle.certificate_reader.specs.declared.stages.TheConstants.{MAX_SPLITS}
-use Rattle.certificate_reader.specs.declared.limits.TheConstants.{MAX_QUEUES, MAX_HARTS, MAX_WORDS, MAX_VARIABLES, MAX_STATES}
+use Rattle.certificate_reader.specs.declared.limits.TheConstants.{MAX_QUEUES, MAX_FIELDS, MAX_POSITIONS, MAX_HARTS, MAX_WORDS, MAX_VARIABLES, MAX_STATES}
 
 abbrev pub FitsWord : ℕ → Type 0
 FitsWord n = n < 2 ^ 32
@@ -45,42 +47,68 @@ abbrev pub FitsCases : (n : ℕ) → Cases → Type 0
 FitsCases n (leaf handed arrows) = FitsForm n handed × AllByRecursion (FitsArrow n) arrows
 FitsCases n (split j v low high) = (j < n) × FitsCount v × FitsCases n low × FitsCases n high
 
--- of a hart with `own` own words: a value or none of each register and own word, and a share or none of each queue. A text doesn't say
--- which fields are right
-pub record FitsState (N own : ℕ) (s : ListedState) : Type 0 where
+-- the last of the lists, if there is one, isn't empty: a text says nothing of one that is empty
+abbrev pub EndsFull : {A : Type 0} → List (List A) → Type 0
+EndsFull [] = Unit {0}
+EndsFull (x ∷ []) = 1 ≤ length x
+EndsFull (x ∷ y ∷ ys) = EndsFull (y ∷ ys)
+
+-- what is right in the slots of a queue that has k fields
+pub record FitsSlots (k : ℕ) (slots : Filled) : Type 0 where
+  pub fields : AllByRecursion (AllByRecursion (λ field. field < k)) slots
+  pub few : length slots ≤ MAX_POSITIONS
+  pub full : EndsFull slots
+
+-- of the queues from i on
+abbrev pub FitsFilled : List OpenedQueue → (i : ℕ) → List Filled → Type 0
+FitsFilled queues i [] = Unit {0}
+FitsFilled queues i (slots ∷ filled) = FitsSlots (length (get_or queues i no_queue).fields) slots × FitsFilled queues (i + 1) filled
+
+-- of a hart with `own` own words: a value or none of each register and own word, a share or none of each queue, and the fields that are
+-- right without an empty list at an end
+pub record FitsState (queues : List OpenedQueue) (own : ℕ) (s : ListedState) : Type 0 where
   pub pc : FitsWord s.known.pc
   pub variables : length s.known.ranges ≤ MAX_VARIABLES
   pub ranges : AllByRecursion FitsRange s.known.ranges
-  pub registers : AllByRecursion (FitsValue N (length s.known.ranges)) s.known.registers
+  pub registers : AllByRecursion (FitsValue (length queues) (length s.known.ranges)) s.known.registers
   pub all_registers : length s.known.registers ≡ 32
   pub zero_register : get_or s.known.registers 0 any ≡ any
-  pub words : AllByRecursion (FitsValue N (length s.known.ranges)) s.known.words
+  pub words : AllByRecursion (FitsValue (length queues) (length s.known.ranges)) s.known.words
   pub all_words : length s.known.words ≡ own
   pub shares : AllByRecursion (FitsShare (length s.known.ranges)) s.known.shares
-  pub all_shares : length s.known.shares ≡ N
-  pub unfilled : s.filled ≡ []
+  pub all_shares : length s.known.shares ≡ length queues
+  pub filled : FitsFilled queues 0 s.filled
+  pub few_filled : length s.filled ≤ length queues
+  pub full_filled : EndsFull s.filled
   pub cases : FitsCases (length s.known.ranges) s.cases
   pub splits : height s.cases ≤ MAX_SPLITS
 
-pub record FitsPart (N : ℕ) (p : HartPart) : Type 0 where
+pub record FitsPart (queues : List OpenedQueue) (p : HartPart) : Type 0 where
   pub own : AllByRecursion FitsWord p.own
   pub few_words : length p.own ≤ MAX_WORDS
   pub first : FitsWord p.first
   pub numbers : AllByRecursion FitsCount p.numbers
   pub few_numbers : length p.numbers ≤ MAX_VARIABLES
-  pub states : AllByRecursion (FitsState N (length p.own)) p.states
+  pub states : AllByRecursion (FitsState queues (length p.own)) p.states
 
--- a text says nothing of a queue's records
+pub record FitsField (f : Field) : Type 0 where
+  pub at : FitsWord f.at
+  pub width : FitsWord f.width
+  pub low : FitsCount f.low
+  pub step : FitsCount f.step
+  pub count : FitsCount f.count
+
 pub record FitsQueue (o : OpenedQueue) : Type 0 where
   pub places : AllByRecursion FitsWord (o.queue.sender ∷ o.queue.receiver ∷ o.queue.head ∷ o.queue.tail ∷ o.queue.index_width ∷ [])
   pub slots : AllByRecursion FitsWord (o.queue.slots ∷ o.queue.size ∷ o.queue.width ∷ o.queue.capacity ∷ o.queue.base ∷ [])
   pub counts : AllByRecursion FitsCount (o.queue.scale ∷ o.queue.offset ∷ o.queue.modulus ∷ o.start ∷ [])
-  pub fields : o.fields ≡ []
+  pub fields : AllByRecursion FitsField o.fields
+  pub few_fields : length o.fields ≤ MAX_FIELDS
 
 pub record CanBeWritten (c : QueueCertificate) : Type 0 where
   pub queues : AllByRecursion FitsQueue c.queues
   pub few_queues : length c.queues ≤ MAX_QUEUES
-  pub harts : AllByRecursion (FitsPart (length c.queues)) c.harts
+  pub harts : AllByRecursion (FitsPart c.queues) c.harts
   pub some_hart : 1 ≤ length c.harts
   pub few_harts : length c.harts ≤ MAX_HARTS
   pub few_states : sum_by (λ part. length part.states) c.harts ≤ MAX_STATES

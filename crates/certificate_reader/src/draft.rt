@@ -12,6 +12,7 @@ ghost use Rattle.certificate_reader.specs.Drafts.{certificate_of, finished};
 
 use crate::cases::{Node, tree};
 use crate::faults::{BAD, CertificateFault, LineError, MISPLACED, TOO_MANY};
+use crate::fields::{add_field, set_filled};
 use crate::limits::{MAX_HARTS, MAX_STATES};
 use crate::numbers::{end, only_word};
 use crate::parts::{
@@ -20,7 +21,7 @@ use crate::parts::{
 };
 use crate::stages::{Keyword, MAX_SPLITS, Stage, keyword_of};
 use known_values::{KnownValue, OpenedQueue};
-use queue_checker::{HartPart, KnownState, ListedState, QueueCertificate, Share};
+use queue_checker::{Filled, HartPart, KnownState, ListedState, QueueCertificate, Share};
 use std::alloc::{AllocError, Global};
 use std::mem;
 use texts::first_token;
@@ -39,12 +40,13 @@ pub struct Draft {
     pub states: Vec<ListedState>,
     /// All states.
     pub listed: usize,
-    /// What is known in the state at hand, its lines of cases, and how many of these are splits.
+    /// What is known in the state at hand, which fields are right, its lines of cases, and how many of these are splits.
     pub pc: u32,
     pub ranges: Vec<Option<u64>>,
     pub registers: Vec<KnownValue>,
     pub words: Vec<KnownValue>,
     pub shares: Vec<Share>,
+    pub filled: Vec<Filled>,
     pub nodes: Vec<Node>,
     pub splits: usize,
 }
@@ -92,6 +94,7 @@ impl Draft {
             registers: Vec::new(alloc),
             words: Vec::new(alloc),
             shares: Vec::new(alloc),
+            filled: Vec::new(alloc),
             nodes: Vec::new(alloc),
             splits: 0,
         }
@@ -119,7 +122,7 @@ impl Draft {
         let mut nodes = mem::replace(&mut self.nodes, Vec::new(alloc));
         let cases = tree(alloc, &mut nodes)?;
         let known = self.take_known(alloc);
-        let filled = Vec::new(alloc);
+        let filled = mem::replace(&mut self.filled, Vec::new(alloc));
         self.states.push(ListedState {
             known,
             filled,
@@ -189,6 +192,7 @@ impl Draft {
         self.words = unknown(alloc, self.own.len())?;
         self.shares = no_shares(alloc, self.queues.len())?;
         self.ranges = Vec::new(alloc);
+        self.filled = Vec::new(alloc);
         self.nodes = Vec::new(alloc);
         self.splits = 0;
         self.listed += 1;
@@ -285,6 +289,7 @@ impl Draft {
     {
         match keyword {
             Keyword::Queue => add_queue(alloc, &mut self.queues, rest),
+            Keyword::Field => add_field(&mut self.queues, rest),
             Keyword::Hart => self.begin_hart(alloc, rest),
             Keyword::Own => self.set_own(alloc, rest),
             Keyword::Open => self.set_opening(alloc, rest),
@@ -293,6 +298,7 @@ impl Draft {
             Keyword::Register => self.set_register(alloc, rest),
             Keyword::Word => self.set_word(alloc, rest),
             Keyword::Share => set_share(alloc, self.ranges.len(), &mut self.shares, rest),
+            Keyword::Filled => set_filled(alloc, &self.queues, &mut self.filled, rest),
             Keyword::Split => self.add_split(rest),
             Keyword::Leaf => self.add_leaf(alloc, rest),
             Keyword::To => self.add_arrow(alloc, rest),

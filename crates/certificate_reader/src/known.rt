@@ -4,7 +4,7 @@ ghost use Rattle.std.specs.Prelude.{◌≡◌, ◌++◌, OnOk};
 ghost use Rattle.std.specs.String.{string_bytes};
 ghost use Rattle.certificate_reader.specs.Known.{known_text, known_at};
 
-use crate::known_texts::push_known;
+use crate::known_texts::push_described;
 use queue_checker::{Flaw, QueueCertificate};
 use std::alloc::AllocError;
 
@@ -21,7 +21,7 @@ pub fn push_known_text(
         None => Ok(()),
         Some(part) => match part.states.get(state as usize) {
             None => Ok(()),
-            Some(listed) => push_known(out, "known: ", &listed.known),
+            Some(listed) => push_described(out, "known: ", listed),
         },
     }
 }

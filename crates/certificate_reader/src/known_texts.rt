@@ -4,11 +4,11 @@ ghost use Rattle.std.specs.Prelude.{◌≡◌, ◌++◌, ◌∷◌, [], codes, m
 ghost use Rattle.std.specs.String.{string_bytes};
 ghost use Rattle.std.specs.Fmt.{decimal};
 ghost use Rattle.certificate_reader.specs.Writing.{lines_text, line_if, range_text, index_text, value_text, value_line, value_lines, share_line};
-ghost use Rattle.certificate_reader.specs.Writing.{share_lines, known_lines};
+ghost use Rattle.certificate_reader.specs.Writing.{share_lines, known_lines, slot_line, slot_lines, filled_lines, described_lines};
 
-use crate::form_texts::{push_form, push_ranges};
+use crate::form_texts::{push_form, push_numbers, push_ranges};
 use known_values::{Form, Known, KnownValue};
-use queue_checker::{KnownState, Share};
+use queue_checker::{Filled, FilledSlot, KnownState, ListedState, Share};
 use std::alloc::AllocError;
 use texts::push_decimal;
 
@@ -121,11 +121,71 @@ fn push_most(out: &mut String, front: &str, ranges: &[Option<u64>]) -> Result<()
 }
 
 /// Appends the lines of what is known in a state, each after `front`.
-pub fn push_known(out: &mut String, front: &str, state: &KnownState) -> Result<(), AllocError>
+fn push_known(out: &mut String, front: &str, state: &KnownState) -> Result<(), AllocError>
     ensures { OnOk result (string_bytes out.new ≡ string_bytes out.old ++ lines_text front.now (known_lines state.now)) }
 {
     push_most(out, front, &state.ranges)?;
     push_values(out, front, "reg", &state.registers)?;
     push_values(out, front, "word", &state.words)?;
     push_shares(out, front, &state.shares)
+}
+
+/// Appends the line of the fields that are right in a slot, if one is.
+fn push_slot(
+    out: &mut String,
+    front: &str,
+    queue: usize,
+    position: usize,
+    fields: &[u64],
+) -> Result<(), AllocError>
+    ensures { OnOk result (string_bytes out.new ≡ string_bytes out.old ++ lines_text front.now (slot_line queue position fields.now)) }
+{
+    if fields.is_empty() {
+        return Ok(());
+    }
+    push_place(out, front, "filled", queue)?;
+    push_decimal(out, position as u64)?;
+    push_numbers(out, fields)?;
+    out.push_str("\n")
+}
+
+/// Appends the lines of a queue's slots, whose positions count from the hart's own count on.
+fn push_slots(
+    out: &mut String,
+    front: &str,
+    queue: usize,
+    slots: &[FilledSlot],
+) -> Result<(), AllocError>
+    ensures { OnOk result (string_bytes out.new ≡ string_bytes out.old ++ lines_text front.now (slot_lines queue 0 slots.now)) }
+{
+    let mut position = 0;
+    let mut rest = slots;
+    'slots: while let [slot, others @ ..] = rest {
+        push_slot(out, front, queue, position, &slot.fields)?;
+        position += 1;
+        rest = others;
+    }
+    Ok(())
+}
+
+/// Appends the lines of the fields that are right in the slots of each queue.
+fn push_filled(out: &mut String, front: &str, filled: &[Filled]) -> Result<(), AllocError>
+    ensures { OnOk result (string_bytes out.new ≡ string_bytes out.old ++ lines_text front.now (filled_lines 0 filled.now)) }
+{
+    let mut queue = 0;
+    let mut rest = filled;
+    'queues: while let [of_queue, others @ ..] = rest {
+        push_slots(out, front, queue, &of_queue.slots)?;
+        queue += 1;
+        rest = others;
+    }
+    Ok(())
+}
+
+/// Appends the lines of a state except its pc and its cases, each after `front`.
+pub fn push_described(out: &mut String, front: &str, state: &ListedState) -> Result<(), AllocError>
+    ensures { OnOk result (string_bytes out.new ≡ string_bytes out.old ++ lines_text front.now (described_lines state.now)) }
+{
+    push_known(out, front, &state.known)?;
+    push_filled(out, front, &state.filled)
 }

@@ -17,6 +17,7 @@
 mod cases;
 mod draft;
 pub mod faults;
+mod fields;
 mod form_texts;
 mod forms;
 mod known;

@@ -3,6 +3,12 @@
 /// The most queues.
 pub const MAX_QUEUES: usize = 16;
 
+/// The most fields of a queue.
+pub const MAX_FIELDS: usize = 16;
+
+/// The most positions, from a count on, of which a state may say which fields are right. One further on is no place, as of registers.
+pub const MAX_POSITIONS: usize = 64;
+
 /// The most harts.
 pub const MAX_HARTS: usize = 64;
 

@@ -1,8 +1,8 @@
 //! What a line begins with, and which lines may come.
 
 ghost use Rattle.std.specs.Prelude.{◌≡◌};
-ghost use Rattle.certificate_reader.specs.Stages.{part_keyword, state_keyword, case_keyword, keyword_named, is_queues, is_hart, is_owned, may_end, is_state};
-ghost use Rattle.certificate_reader.specs.Stages.{is_described, wanted, after_split, after_leaf, after_arrow, stage_after};
+ghost use Rattle.certificate_reader.specs.Stages.{part_keyword, state_keyword, case_keyword, field_keyword, keyword_named, is_queues, is_hart, is_owned, may_end};
+ghost use Rattle.certificate_reader.specs.Stages.{is_state, is_described, wanted, after_split, after_leaf, after_arrow, stage_after};
 
 /// The most splits that a state may have.
 pub const MAX_SPLITS: usize = 1024;
@@ -11,6 +11,7 @@ pub const MAX_SPLITS: usize = 1024;
 #[derive(Clone, Copy)]
 pub enum Keyword {
     Queue,
+    Field,
     Hart,
     Own,
     Open,
@@ -19,6 +20,7 @@ pub enum Keyword {
     Register,
     Word,
     Share,
+    Filled,
     Split,
     Leaf,
     To,
@@ -29,7 +31,7 @@ pub enum Keyword {
 pub enum Stage {
     /// Nothing has come.
     Head,
-    /// The head, and queues.
+    /// The head, and queues with their fields.
     Queues,
     /// `hart`.
     Hart,
@@ -83,6 +85,18 @@ fn case_keyword(word: &[u8]) -> Option<Keyword>
     }
 }
 
+fn field_keyword(word: &[u8]) -> Option<Keyword>
+    ensures { result ≡ field_keyword word.now }
+{
+    if word == b"field".as_slice() {
+        Some(Keyword::Field)
+    } else if word == b"filled".as_slice() {
+        Some(Keyword::Filled)
+    } else {
+        None
+    }
+}
+
 #[tactic(auto, unfolding(crate::specs::Stages::keyword_named))]
 pub fn keyword_of(word: &[u8]) -> Option<Keyword>
     ensures { result ≡ keyword_named word.now }
@@ -90,6 +104,7 @@ pub fn keyword_of(word: &[u8]) -> Option<Keyword>
     part_keyword(word)
         .or_else(|| state_keyword(word))
         .or_else(|| case_keyword(word))
+        .or_else(|| field_keyword(word))
 }
 
 impl Stage {
@@ -196,13 +211,13 @@ impl Stage {
         ensures { result ≡ stage_after self keyword }
     {
         match keyword {
-            Keyword::Queue => self.is_queues().then_some(Stage::Queues),
+            Keyword::Queue | Keyword::Field => self.is_queues().then_some(Stage::Queues),
             Keyword::Hart => (self.is_queues() || self.may_end()).then_some(Stage::Hart),
             Keyword::Own => self.is_hart().then_some(Stage::Owned),
             Keyword::Open => (self.is_hart() || self.is_owned()).then_some(Stage::Opened),
             Keyword::State => self.may_end().then_some(Stage::State),
             Keyword::Most => self.is_state().then_some(Stage::Known),
-            Keyword::Register | Keyword::Word | Keyword::Share => {
+            Keyword::Register | Keyword::Word | Keyword::Share | Keyword::Filled => {
                 self.is_described().then_some(Stage::Known)
             }
             Keyword::Split => self.after_split(),

@@ -9,11 +9,11 @@ ghost use Rattle.certificate_reader.specs.declared.cases.Node.TheVariants as nod
 ghost use Rattle.certificate_reader.specs.Reading.{certificate_at};
 ghost use Rattle.certificate_reader.specs.Written.{CanBeWritten};
 ghost use Rattle.certificate_reader.specs.Writing.{lines_text, line_if, form_text, node_line, tree_lines, state_lines, part_lines, numbers_of};
-ghost use Rattle.certificate_reader.specs.Writing.{queue_line, certificate_text};
+ghost use Rattle.certificate_reader.specs.Writing.{queue_line, field_numbers, field_line, queue_lines, certificate_text};
 
 use crate::form_texts::{push_addresses, push_form, push_forms, push_numbers};
-use crate::known_texts::push_known;
-use known_values::{Form, OpenedQueue};
+use crate::known_texts::push_described;
+use known_values::{Field, Form, OpenedQueue};
 use queue_checker::{Arrow, CaseNode, Cases, HartPart, ListedState, QueueCertificate};
 use std::alloc::{AllocError, Global};
 use texts::push_decimal;
@@ -67,14 +67,14 @@ fn push_cases(out: &mut String, cases: &Cases) -> Result<(), AllocError>
     }
 }
 
-/// Appends the lines of a state: its pc, what is known, and its cases.
+/// Appends the lines of a state: its pc, what is known and which fields are right, and its cases.
 pub fn push_state(out: &mut String, state: &ListedState) -> Result<(), AllocError>
     ensures { OnOk result (string_bytes out.new ≡ string_bytes out.old ++ lines_text [] (state_lines state.now)) }
 {
     out.push_str("state ")?;
     push_decimal(out, u64::from(state.known.pc))?;
     out.push_str("\n")?;
-    push_known(out, "", &state.known)?;
+    push_described(out, "", state)?;
     push_cases(out, &state.cases)
 }
 
@@ -151,7 +151,8 @@ fn queue_numbers(opened: &OpenedQueue) -> [u64; 14]
     ]
 }
 
-fn push_queue(out: &mut String, opened: &OpenedQueue) -> Result<(), AllocError>
+/// Appends the line of a queue without its fields.
+fn push_opened(out: &mut String, opened: &OpenedQueue) -> Result<(), AllocError>
     ensures { OnOk result (string_bytes out.new ≡ string_bytes out.old ++ lines_text [] (queue_line opened.now ∷ [])) }
 {
     let numbers = queue_numbers(opened);
@@ -160,8 +161,47 @@ fn push_queue(out: &mut String, opened: &OpenedQueue) -> Result<(), AllocError>
     out.push_str("\n")
 }
 
+/// The numbers of a field's line, in order.
+fn field_numbers(field: Field) -> [u64; 5]
+    ensures { result ≡ field_numbers field }
+{
+    [
+        u64::from(field.at),
+        u64::from(field.width),
+        field.low,
+        field.step,
+        field.count,
+    ]
+}
+
+fn push_field(out: &mut String, field: Field) -> Result<(), AllocError>
+    ensures { OnOk result (string_bytes out.new ≡ string_bytes out.old ++ lines_text [] (field_line field ∷ [])) }
+{
+    let numbers = field_numbers(field);
+    out.push_str("field")?;
+    push_numbers(out, &numbers)?;
+    out.push_str("\n")
+}
+
+fn push_fields(out: &mut String, fields: &[Field]) -> Result<(), AllocError>
+    ensures { OnOk result (string_bytes out.new ≡ string_bytes out.old ++ lines_text [] (map field_line fields.now)) }
+{
+    for field in fields {
+        push_field(out, *field)?;
+    }
+    Ok(())
+}
+
+/// Appends the lines of a queue.
+fn push_queue(out: &mut String, opened: &OpenedQueue) -> Result<(), AllocError>
+    ensures { OnOk result (string_bytes out.new ≡ string_bytes out.old ++ lines_text [] (queue_lines opened.now)) }
+{
+    push_opened(out, opened)?;
+    push_fields(out, &opened.fields)
+}
+
 fn push_queues(out: &mut String, queues: &[OpenedQueue]) -> Result<(), AllocError>
-    ensures { OnOk result (string_bytes out.new ≡ string_bytes out.old ++ lines_text [] (map queue_line queues.now)) }
+    ensures { OnOk result (string_bytes out.new ≡ string_bytes out.old ++ lines_text [] (flat_map queue_lines queues.now)) }
 {
     for opened in queues {
         push_queue(out, opened)?;
