@@ -120,7 +120,11 @@ impl Draft {
         let cases = tree(alloc, &mut nodes)?;
         let known = self.take_known(alloc);
         let filled = Vec::new(alloc);
-        self.states.push(ListedState { known, filled, cases })?;
+        self.states.push(ListedState {
+            known,
+            filled,
+            cases,
+        })?;
         self.stage = Stage::Opened;
         Ok(())
     }

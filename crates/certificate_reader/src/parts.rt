@@ -50,11 +50,7 @@ fn queue(alloc: Global, text: &[u8]) -> Result<OpenedQueue, LineError>
 
 /// Adds the queue that the words say.
 #[tactic(auto, unfolding(crate::specs::Drafts::with_queue))]
-pub fn add_queue(
-    alloc: Global,
-    queues: &mut Vec<OpenedQueue>,
-    text: &[u8],
-) -> Result<(), LineError>
+pub fn add_queue(alloc: Global, queues: &mut Vec<OpenedQueue>, text: &[u8]) -> Result<(), LineError>
     ensures { GivesUpToMemory refusal_of (λ x. queues.new.items) result (with_queue queues.old.items (tokens text.now)) }
 {
     let queue = queue(alloc, text)?;
