@@ -22,18 +22,18 @@ use Rattle.queue_parties.specs.Parties.{the_sender, all_at}
 use Rattle.owned_run.specs.Certified.{View, AllCounts, view_then, IsSameFor}
 use Rattle.owned_run.proofs.Every as every
 use Rattle.queue_certificates.specs.States.{Means}
-use Rattle.queue_certificates.specs.Certificates.{QueueCertificate, queue_at, start_at, part_of, own_of, state_at, IsKeptByte, IsInState, accepts}
+use Rattle.queue_certificates.specs.Certificates.{QueueCertificate, queue_at, start_at, part_of, own_of, state_at, HasFields, MeetsFields}
+use Rattle.queue_certificates.specs.Certificates.{IsOwnByte, IsAtState, accepts}
 use Rattle.queue_certificates.proofs.States.{means-frame}
 use Rattle.queue_certificates.proofs.Accesses.{hart-party}
-use Rattle.queue_certificates.proofs.Steps.{nobody_told, nothing_sent}
-use Rattle.queue_certificates.proofs.Certified.{accepted-opens, accepted-certifies, opens-means}
+use Rattle.queue_certificates.proofs.Certified.{accepted-opens, accepted-certifies, of-hart, opens-means}
 use Rattle.records_written.specs.Written.{IsWritten}
 use Rattle.records_written.specs.declared.effect.Effect.{Effect}
 use Rattle.records_written.specs.declared.effect.Effect.TheVariants.{Leaves, Fills, Publishes, PublishesSome}
 use Rattle.records_written.specs.Marks.{Marks, most_published, has_mark, has_mark_after, shows_written}
 use Rattle.records_written.proofs.Marked.{so-at, whole-at}
 use Rattle.records_written.proofs.Accesses.{published_then, IsDone}
-use Rattle.records_written.proofs.Leading.{of-sender, Leads, leads}
+use Rattle.records_written.proofs.Leading.{marks-keep, Leads, leads}
 
 -- ---- a byte that is written stays so
 
@@ -104,11 +104,11 @@ module _ (B M : ℕ) (o : OpeningValue) (c : QueueCertificate) (ok : accepts o c
 
   -- what a certificate that is accepted gives of a run
   abbrev Holds : List Entry → Type 0
-  Holds = every.Holds B M o (length c.queues) (queue_at c) (start_at c) nobody_told nothing_sent (IsKeptByte c) (IsInState c)
+  Holds = every.Holds B M o (length c.queues) (queue_at c) (start_at c) (HasFields c) (MeetsFields c) (IsOwnByte c) (IsAtState c)
       (accepted-opens M o c ok) (accepted-certifies M o c ok)
 
   holds : (es : List Entry) → WellFormed B M (history_of o es) → Holds es
-  holds = every.holds B M o (length c.queues) (queue_at c) (start_at c) nobody_told nothing_sent (IsKeptByte c) (IsInState c)
+  holds = every.holds B M o (length c.queues) (queue_at c) (start_at c) (HasFields c) (MeetsFields c) (IsOwnByte c) (IsAtState c)
       (accepted-opens M o c ok) (accepted-certifies M o c ok)
 
   module _ (i : ℕ) (less : i < length c.queues) (mask : List ℕ) (marks : List Marks) (shown : shows_written o c i mask marks ≡ true) where
@@ -132,13 +132,13 @@ module _ (B M : ℕ) (o : OpeningValue) (c : QueueCertificate) (ok : accepts o c
 
       -- of another hart's entry, and of landings, the sender's counts are the same
       left : is_own h e ≡ false → (j : ℕ) → j < length c.queues → IsSameFor (queue_at c j) h (Counted done j) (Counted (done ++ e ∷ []) j)
-      left = every.counts_left B M o (length c.queues) (queue_at c) (start_at c) nobody_told nothing_sent (IsKeptByte c) (IsInState c)
+      left = every.counts_left B M o (length c.queues) (queue_at c) (start_at c) (HasFields c) (MeetsFields c) (IsOwnByte c) (IsAtState c)
           (accepted-opens M o c ok) (accepted-certifies M o c ok) done e run w h
 
       -- and after one of its own they are those that its access makes
       acted : hart_of e ≡ h → (j : ℕ) → IsSameFor (queue_at c j) h
           (after_access (queue_at c j) (party_of (queue_at c j) h) (access_of e) (Counted done j)) (Counted (done ++ e ∷ []) j)
-      acted = every.counts_acted B M o (length c.queues) (queue_at c) (start_at c) nobody_told nothing_sent (IsKeptByte c) (IsInState c)
+      acted = every.counts_acted B M o (length c.queues) (queue_at c) (start_at c) (HasFields c) (MeetsFields c) (IsOwnByte c) (IsAtState c)
           (accepted-opens M o c ok) (accepted-certifies M o c ok) done e run w h
 
       -- an entry of the sender's, from its state and the marks of it
@@ -151,19 +151,20 @@ module _ (B M : ℕ) (o : OpeningValue) (c : QueueCertificate) (ok : accepts o c
 
       stepped : hart_of e ≡ h → is_land e ≡ false → Stepped
       stepped mine act =
-          let k = every.state_known B M o (length c.queues) (queue_at c) (start_at c) nobody_told nothing_sent (IsKeptByte c) (IsInState c)
+          let k = every.state_known B M o (length c.queues) (queue_at c) (start_at c) (HasFields c) (MeetsFields c) (IsOwnByte c) (IsAtState c)
           (accepted-opens M o c ok) (accepted-certifies M o c ok) done e run w h mine in
-          let a = every.acts B M o (length c.queues) (queue_at c) (start_at c) nobody_told nothing_sent (IsKeptByte c) (IsInState c)
+          let a = every.acts B M o (length c.queues) (queue_at c) (start_at c) (HasFields c) (MeetsFields c) (IsOwnByte c) (IsAtState c)
           (accepted-opens M o c ok) (accepted-certifies M o c ok) done e run w h k.0 mine act k.1 in
           let m = marked k.0 k.1 a.can.running in
-          let of = of-sender M o c ok i less mask marks shown a.opens a.is in
+          let of = of-hart M o c ok h a.opens a.is in
           record {
             state = k.0;
             at = k.1;
             ms = get_or marks m.state [];
             written = m.written;
             leading = leads M o c ok i less mask marks shown a.opens of k.0 (Sees h done) (Counted done) e a a.code a.size (get_or marks m.state [])
-                (state_at c h m.state).known (state_at c h m.state).cases m.means.0 (of.closed m.state m.listed) (of.keeps m.state m.listed) m.means.1;
+                (state_at c h m.state).known (state_at c h m.state).cases m.means.0 (of.closed m.state m.listed)
+                (marks-keep M o c ok i less mask marks shown a.opens a.is m.state m.listed) m.means.1;
           }
 
       published-is : hart_of e ≡ h
@@ -186,8 +187,8 @@ module _ (B M : ℕ) (o : OpeningValue) (c : QueueCertificate) (ok : accepts o c
                   m.means.0,
                   means-frame (queue_at c) (length c.queues) (own_of c h) h m.means.0 (state_at c h m.state).known z (Sees h done) (Sees h (done ++ e ∷ []))
                       (Counted done) (Counted (done ++ e ∷ [])) m.means.1 (λ j x short low high.
-                      every.view_other B M o (length c.queues) (queue_at c) (start_at c) nobody_told nothing_sent (IsKeptByte c) (IsInState c)
-                      (accepted-opens M o c ok) (accepted-certifies M o c ok) done e run w h x (j, short, low, high) off) (left off),
+                      every.view_other B M o (length c.queues) (queue_at c) (start_at c) (HasFields c) (MeetsFields c) (IsOwnByte c) (IsAtState c)
+                      (accepted-opens M o c ok) (accepted-certifies M o c ok) done e run w h x (inl (j, short, low, high)) off) (left off),
                 );
                 written = λ d b is. written-on (queue_at c i) (start_at c i) done e ((Counted done i).published + d) d b
                     (let kept : (Counted (done ++ e ∷ []) i).published ≡ (Counted done i).published = (left off i less).count the_sender refl in
@@ -209,7 +210,7 @@ module _ (B M : ℕ) (o : OpeningValue) (c : QueueCertificate) (ok : accepts o c
                           (advanced st.state (number_read e)) (view_then (access_of e) (Sees h done)) (Sees h (done ++ e ∷ []))
                           (λ j. after_access (queue_at c j) (party_of (queue_at c j) h) (access_of e) (Counted done j)) (Counted (done ++ e ∷ [])) found.means.1
                           (λ j x short low high.
-                          every.view_acted B M o (length c.queues) (queue_at c) (start_at c) nobody_told nothing_sent (IsKeptByte c) (IsInState c)
+                          every.view_acted B M o (length c.queues) (queue_at c) (start_at c) (HasFields c) (MeetsFields c) (IsOwnByte c) (IsAtState c)
                           (accepted-opens M o c ok) (accepted-certifies M o c ok) done e run w h x parts.0 parts.1) (λ j short. acted parts.0 j),
                     );
                 written = λ d b is. marks-after (queue_at c i) (start_at c i) done e st.ms st.leading.effect parts.0 (published-is parts.0) st.written
@@ -242,7 +243,7 @@ module _ (B M : ℕ) (o : OpeningValue) (c : QueueCertificate) (ok : accepts o c
         opened None is none = absurd (cc)
         opened (Some x) is some =
             let same : opens_as M x ≡ s = cc in
-            let of = of-sender M o c ok i less mask marks shown x is in
+            let of = of-hart M o c ok h x is in
             subst (IsMarked []) same (record {
               state = (part_of c h).first;
               listed = of.first;
