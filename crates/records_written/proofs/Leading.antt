@@ -17,22 +17,23 @@ use Rattle.step_machine.specs.Paths.{number_read}
 use Rattle.slot_queue.specs.Ownership.{party_of, after_access}
 use Rattle.owned_run.specs.Certified.{View, AllCounts, view_then, Acts}
 use Rattle.queue_certificates.specs.Forms.{settled}
-use Rattle.queue_certificates.specs.States.{KnownState, MeansAt, Means}
+use Rattle.queue_certificates.specs.States.{KnownValue, KnownState, MeansAt, Means}
 use Rattle.queue_certificates.specs.Steps.{follow, instruction_at}
 use Rattle.queue_certificates.specs.Certificates.{Arrow, Cases, leaf, split, QueueCertificate, queue_at, part_of, own_of, state_at}
 use Rattle.queue_certificates.specs.Certificates.{fields_at, HasFields, MeetsFields, no_hart, with_low, with_high, next_states, each_leads, all_lead}
 use Rattle.queue_certificates.specs.Certificates.{is_closed, accepts}
 use Rattle.queue_certificates.specs.Fields.{next_received}
+use Rattle.queue_certificates.specs.Effects.{effect_of, value_stored}
+use Rattle.queue_certificates.specs.Filled.{are_so}
+use Rattle.queue_certificates.specs.declared.effect.Effect.{Effect}
 use Rattle.queue_certificates.proofs.Forms.{values_of, less_at}
 use Rattle.queue_certificates.proofs.States.{at-below, means-low, means-high, means-arrow, exceeds}
 use Rattle.queue_certificates.proofs.Steps.{IsAmong, untold}
 use Rattle.queue_certificates.proofs.Received.{none-follows, next-goes}
 use Rattle.queue_certificates.proofs.Certified.{otherwise, fine, past, OfHart, fields-received}
-use Rattle.records_written.specs.declared.effect.Effect.{Effect}
-use Rattle.records_written.specs.Marks.{Marks, effect_of, may_publish, has_mark_after, are_so, arrows_keep, effect_keeps}
-use Rattle.records_written.specs.Marks.{keeps_marks, shows_written}
-use Rattle.records_written.proofs.Accesses.{Does}
-use Rattle.records_written.proofs.Instructions.{state-does}
+use Rattle.queue_certificates.proofs.Effects.{Does}
+use Rattle.queue_certificates.proofs.Sends.{state-does}
+use Rattle.records_written.specs.Marks.{Marks, may_publish, has_mark_after, arrows_keep, effect_keeps, keeps_marks, shows_written}
 
 module _ (M : ℕ) (o : OpeningValue) (c : QueueCertificate) (ok : accepts o c ≡ true) (i : ℕ) (less : i < length c.queues)
     (mask : List ℕ) (marks : List Marks) (shown : shows_written o c i mask marks ≡ true) where
@@ -77,7 +78,9 @@ module _ (M : ℕ) (o : OpeningValue) (c : QueueCertificate) (ok : accepts o c �
   -- what an entry comes to from a state with these marks
   pub record Leads (ms : Marks) (m : View) (cs : AllCounts) (y : Access) (z : HartState) : Type 0 where
     pub effect : Effect
-    pub does : Does (queue_at c i) (cs i) effect y z
+    pub ranges : List (Option ℕ)
+    pub stored : KnownValue
+    pub does : Does (queue_at c i) (cs i) ranges stored m effect y z
     pub whole : may_publish mask ms effect ≡ true
     pub next : z.status ≡ status.Running
         → Found (has_mark_after ms effect) z (view_then y m) (λ j. after_access (queue_at c j) (party_of (queue_at c j) h) y (cs j))
@@ -90,7 +93,7 @@ module _ (M : ℕ) (o : OpeningValue) (c : QueueCertificate) (ok : accepts o c �
       → Leads ms m cs (access_of e) (advanced s (number_read e))
   leads x of s m cs e acts code size ms k (leaf d arrows) xs closed keeps means =
       by (follow (queue_at c) (length c.queues) (own_of c) (length c.harts) h k d (instruction_at x.code k.pc)) refl
-      (next_states c h x.code k d) refl (effect_of c i k d (instruction_at x.code k.pc)) refl closed keeps
+      (next_states c h x.code k d) refl (effect_of (queue_at c) (length c.queues) (own_of c) (length c.harts) i k d (instruction_at x.code k.pc)) refl closed keeps
     where
       here : {A : Type 0} (f : Option Instr → A) → f (instruction_at s.code k.pc) ≡ f (instruction_at x.code k.pc)
       here f = ap (λ ws. f (instruction_at ws k.pc)) code
@@ -98,7 +101,7 @@ module _ (M : ℕ) (o : OpeningValue) (c : QueueCertificate) (ok : accepts o c �
       by : (ks : Option (List KnownState))
           → follow (queue_at c) (length c.queues) (own_of c) (length c.harts) h k d (instruction_at x.code k.pc) ≡ ks
           → (ts : Option (List KnownState)) → next_states c h x.code k d ≡ ts
-          → (f : Option Effect) → effect_of c i k d (instruction_at x.code k.pc) ≡ f
+          → (f : Option Effect) → effect_of (queue_at c) (length c.queues) (own_of c) (length c.harts) i k d (instruction_at x.code k.pc) ≡ f
           → all_lead c h x.code ts arrows ≡ true → effect_keeps mask marks ms arrows f ≡ true
           → Leads ms m cs (access_of e) (advanced s (number_read e))
       by ks found None may f effect closed keeps = absurd (cc)
@@ -115,8 +118,11 @@ module _ (M : ℕ) (o : OpeningValue) (c : QueueCertificate) (ok : accepts o c �
           (follow (queue_at c) (length c.queues) (own_of c) (length c.harts) h k d j)) ∙ may) in
           record {
             effect = f;
-            does = state-does M o c i less xs k s m cs e plain wide (fine M o c ok) means (past M o c ok) d f ks
-                (here (follow (queue_at c) (length c.queues) (own_of c) (length c.harts) h k d) ∙ found) (here (effect_of c i k d) ∙ effect);
+            ranges = k.ranges;
+            stored = value_stored (queue_at c) (length c.queues) (own_of c) (length c.harts) i k (instruction_at s.code k.pc);
+            does = state-does M o (queue_at c) (length c.queues) (own_of c) (length c.harts) i less xs k s m cs e plain wide (fine M o c ok) means
+                (past M o c ok) d f ks
+                (here (follow (queue_at c) (length c.queues) (own_of c) (length c.harts) h k d) ∙ found) (here (effect_of (queue_at c) (length c.queues) (own_of c) (length c.harts) i k d) ∙ effect);
             whole = (and_parts _ _ keeps).0;
             next = λ runs. found-among x.code ts arrows (has_mark_after ms f) (advanced s (number_read e)) (view_then (access_of e) m)
                 (λ j. after_access (queue_at c j) (party_of (queue_at c j) h) (access_of e) (cs j)) closed (and_parts _ _ keeps).1 (goes.next runs);

@@ -21,18 +21,20 @@ use Rattle.slot_queue.specs.Ownership.{party_of, after_access, counts_after}
 use Rattle.queue_parties.specs.Parties.{the_sender, all_at}
 use Rattle.owned_run.specs.Certified.{View, AllCounts, view_then, IsSameFor}
 use Rattle.owned_run.proofs.Every as every
-use Rattle.queue_certificates.specs.States.{Means}
+use Rattle.queue_certificates.specs.States.{KnownValue, Means}
 use Rattle.queue_certificates.specs.Certificates.{QueueCertificate, queue_at, start_at, part_of, own_of, state_at, HasFields, MeetsFields}
 use Rattle.queue_certificates.specs.Certificates.{IsOwnByte, IsAtState, accepts}
+use Rattle.queue_certificates.specs.Filled.{most_published}
+use Rattle.queue_certificates.specs.declared.effect.Effect.{Effect}
+use Rattle.queue_certificates.specs.declared.effect.Effect.TheVariants.{Leaves, Fills, Publishes, PublishesSome}
 use Rattle.queue_certificates.proofs.States.{means-frame}
 use Rattle.queue_certificates.proofs.Accesses.{hart-party}
+use Rattle.queue_certificates.proofs.Filled.{so-listed}
+use Rattle.queue_certificates.proofs.Effects.{published_then, IsDone}
 use Rattle.queue_certificates.proofs.Certified.{accepted-opens, accepted-certifies, of-hart, opens-means}
 use Rattle.records_written.specs.Written.{IsWritten}
-use Rattle.records_written.specs.declared.effect.Effect.{Effect}
-use Rattle.records_written.specs.declared.effect.Effect.TheVariants.{Leaves, Fills, Publishes, PublishesSome}
-use Rattle.records_written.specs.Marks.{Marks, most_published, has_mark, has_mark_after, shows_written}
-use Rattle.records_written.proofs.Marked.{so-at, whole-at}
-use Rattle.records_written.proofs.Accesses.{published_then, IsDone}
+use Rattle.records_written.specs.Marks.{Marks, has_mark, has_mark_after, shows_written}
+use Rattle.records_written.proofs.Marked.{whole-at}
 use Rattle.records_written.proofs.Leading.{marks-keep, Leads, leads}
 
 -- ---- a byte that is written stays so
@@ -60,17 +62,18 @@ written-on : (q : Queue) (n : ℕ) (es : List Entry) (e : Entry) (p d b : ℕ) �
 written-on q n es e p d b same w = subst (λ k. IsWritten q n (es ++ e ∷ []) k (slot_of q k + b)) (sym same) (later q n es e p (slot_of q p + b) w)
 
 -- after an entry of the sender's whose effect is done, its marks are so
-marks-after : (q : Queue) (n : ℕ) (es : List Entry) (e : Entry) (ms : Marks) (f : Effect) → hart_of e ≡ q.sender
+marks-after : (q : Queue) (n : ℕ) (es : List Entry) (e : Entry) (ms : Marks) (rs : List (Option ℕ)) (u : KnownValue) (view : View) (f : Effect)
+    → hart_of e ≡ q.sender
     → published_then q (counts_after q (all_at n) es) (access_of e) ≡ (counts_after q (all_at n) (es ++ e ∷ [])).published
-    → AreWritten q n ms es → IsDone q (counts_after q (all_at n) es) f (access_of e) → (d b : ℕ) → has_mark_after ms f d b ≡ true
+    → AreWritten q n ms es → IsDone q (counts_after q (all_at n) es) rs u view f (access_of e) → (d b : ℕ) → has_mark_after ms f d b ≡ true
     → IsWritten q n (es ++ e ∷ []) ((counts_after q (all_at n) (es ++ e ∷ [])).published + d)
     (slot_of q ((counts_after q (all_at n) (es ++ e ∷ [])).published + d) + b)
-marks-after q n es e ms Leaves mine to so done d b marked =
-    written-on q n es e ((counts_after q (all_at n) es).published + d) d b (omega (arith, to, done)) (so d b marked)
-marks-after q n es e ms (Publishes m) mine to so done d b marked =
-    written-on q n es e ((counts_after q (all_at n) es).published + (d + m)) d b (omega (arith, to, done)) (so (d + m) b marked)
-marks-after q n es e ms (PublishesSome m) mine to so done d b marked = absurd (cc)
-marks-after q n es e ms (Fills j offset width) mine to so done d b marked =
+marks-after q n es e ms rs u view Leaves mine to so done d b marked =
+    written-on q n es e ((counts_after q (all_at n) es).published + d) d b (omega (arith, to, done.0)) (so d b marked)
+marks-after q n es e ms rs u view (Publishes m) mine to so done d b marked =
+    written-on q n es e ((counts_after q (all_at n) es).published + (d + m)) d b (omega (arith, to, done.0)) (so (d + m) b marked)
+marks-after q n es e ms rs u view (PublishesSome m) mine to so done d b marked = absurd (cc)
+marks-after q n es e ms rs u view (Fills j offset width) mine to so done d b marked =
     elim (or_cases ((j == d) && nat_le offset b && nat_lt b (offset + width)) (has_mark ms d b) marked) [
       | inr old ↦ written-on q n es e ((counts_after q (all_at n) es).published + d) d b (omega (arith, to, done.0)) (so d b old)
       | inl new ↦ (
@@ -88,8 +91,8 @@ marks-after q n es e ms (Fills j offset width) mine to so done d b marked =
             since = [];
             is = refl;
             sender = mine;
-            byte = done.2 b low high;
-            after = omega (arith, done.1);
+            byte = done.1.bytes b low high;
+            after = omega (arith, done.1.written.near);
           }))
     ]
 
@@ -213,8 +216,9 @@ module _ (B M : ℕ) (o : OpeningValue) (c : QueueCertificate) (ok : accepts o c
                           every.view_acted B M o (length c.queues) (queue_at c) (start_at c) (HasFields c) (MeetsFields c) (IsOwnByte c) (IsAtState c)
                           (accepted-opens M o c ok) (accepted-certifies M o c ok) done e run w h x parts.0 parts.1) (λ j short. acted parts.0 j),
                     );
-                written = λ d b is. marks-after (queue_at c i) (start_at c i) done e st.ms st.leading.effect parts.0 (published-is parts.0) st.written
-                    (st.leading.does.done running) d b (so-at (get_or marks found.state []) (has_mark_after st.ms st.leading.effect) found.so d b is);
+                written = λ d b is. marks-after (queue_at c i) (start_at c i) done e st.ms st.leading.ranges st.leading.stored (Sees h done)
+                    st.leading.effect parts.0 (published-is parts.0) st.written
+                    (st.leading.does.done running) d b (so-listed (get_or marks found.state []) (has_mark_after st.ms st.leading.effect) found.so d b is);
               }
 
       -- what it publishes was written
@@ -252,7 +256,7 @@ module _ (B M : ℕ) (o : OpeningValue) (c : QueueCertificate) (ok : accepts o c
                 opens-means M o c ok h x (state_at c h (part_of c h).first).known (part_of c h).numbers of.opens,
               );
               written = λ d b marked. absurd (let no : false ≡ true =
-                  so-at (get_or marks (part_of c h).first []) (λ d b. false) (and_parts _ _ shown).0 d b marked in
+                  so-listed (get_or marks (part_of c h).first []) (λ d b. false) (and_parts _ _ shown).0 d b marked in
                   cc);
             })
 
