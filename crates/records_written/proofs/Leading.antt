@@ -93,7 +93,9 @@ module _ (M : ℕ) (o : OpeningValue) (c : QueueCertificate) (ok : accepts o c �
       → Leads ms m cs (access_of e) (advanced s (number_read e))
   leads x of s m cs e acts code size ms k (leaf d arrows) xs closed keeps means =
       by (follow (queue_at c) (length c.queues) (own_of c) (length c.harts) h k d (instruction_at x.code k.pc)) refl
-      (next_states c h x.code k d) refl (effect_of (queue_at c) (length c.queues) (own_of c) (length c.harts) i k d (instruction_at x.code k.pc)) refl closed keeps
+      (next_states c h x.code k d) refl
+      (effect_of (queue_at c) (length c.queues) (own_of c) (length c.harts) i k d (instruction_at x.code k.pc)) refl
+      closed keeps
     where
       here : {A : Type 0} (f : Option Instr → A) → f (instruction_at s.code k.pc) ≡ f (instruction_at x.code k.pc)
       here f = ap (λ ws. f (instruction_at ws k.pc)) code
@@ -122,7 +124,8 @@ module _ (M : ℕ) (o : OpeningValue) (c : QueueCertificate) (ok : accepts o c �
             stored = value_stored (queue_at c) (length c.queues) (own_of c) (length c.harts) i k (instruction_at s.code k.pc);
             does = state-does M o (queue_at c) (length c.queues) (own_of c) (length c.harts) i less xs k s m cs e plain wide (fine M o c ok) means
                 (past M o c ok) d f ks
-                (here (follow (queue_at c) (length c.queues) (own_of c) (length c.harts) h k d) ∙ found) (here (effect_of (queue_at c) (length c.queues) (own_of c) (length c.harts) i k d) ∙ effect);
+                (here (follow (queue_at c) (length c.queues) (own_of c) (length c.harts) h k d) ∙ found)
+                (here (effect_of (queue_at c) (length c.queues) (own_of c) (length c.harts) i k d) ∙ effect);
             whole = (and_parts _ _ keeps).0;
             next = λ runs. found-among x.code ts arrows (has_mark_after ms f) (advanced s (number_read e)) (view_then (access_of e) m)
                 (λ j. after_access (queue_at c j) (party_of (queue_at c j) h) (access_of e) (cs j)) closed (and_parts _ _ keeps).1 (goes.next runs);

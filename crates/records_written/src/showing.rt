@@ -126,7 +126,8 @@ fn state_keeps(
 ) -> Result<bool, Lack>
     requires { n < length (part_of certificate.now (queue_at certificate.now i).sender).states }
     ensures { IfOk result (λ keeps. keeps ≡ keeps_marks certificate.now i (hart_at opening.now (queue_at certificate.now i).sender).code mask.now marks.now
-        (get_or marks.now n []) (state_at certificate.now (queue_at certificate.now i).sender n).known (state_at certificate.now (queue_at certificate.now i).sender n).cases) }
+        (get_or marks.now n []) (state_at certificate.now (queue_at certificate.now i).sender n).known (state_at certificate.now (queue_at
+        certificate.now i).sender n).cases) }
 {
     let hart = queue_in(&certificate.queues, i).sender;
     let code = code_of(opening, hart);

@@ -7,4 +7,5 @@ use Rattle.records_written.proofs.showing.states_keep.Given as goal
 
 abbrev pub invariant-loop-n : goal.invariant-loop-n
 invariant-loop-n l = l.all ≡ all_below l.n (λ n. keeps_marks l.certificate l.i (hart_at l.opening (queue_at l.certificate l.i).sender).code l.mask l.marks
-    (get_or l.marks n []) (state_at l.certificate (queue_at l.certificate l.i).sender n).known (state_at l.certificate (queue_at l.certificate l.i).sender n).cases)
+    (get_or l.marks n []) (state_at l.certificate (queue_at l.certificate l.i).sender n).known
+    (state_at l.certificate (queue_at l.certificate l.i).sender n).cases)
