@@ -9,7 +9,7 @@ use Rattle.hart.specs.declared.status.Status.TheVariants as status
 use Rattle.memory.specs.declared.writes.Write.{Write}
 use Rattle.memory.specs.Writes.{write, covers}
 use Rattle.step_machine.specs.Access.{Access, nothing, store, exchange}
-use Rattle.slot_queue.specs.Queues.{Queue, IsQueue}
+use Rattle.slot_queue.specs.Queues.{Queue, IsQueue, slot_of}
 use Rattle.queue_parties.specs.Positions.{IsInBytes}
 use Rattle.queue_parties.specs.Parties.{the_sender, QueueCounts}
 use Rattle.slot_queue.specs.Ownership.{after_access}
@@ -19,6 +19,7 @@ use Rattle.queue_certificates.specs.Forms.{Form, form_value, most, InRanges, Bou
 use Rattle.queue_certificates.specs.States.{KnownValue}
 use Rattle.queue_certificates.specs.Steps.{misses}
 use Rattle.queue_certificates.specs.Fields.{last_number, is_field}
+use Rattle.queue_certificates.specs.Effects.{WritesByte}
 use Rattle.queue_certificates.specs.Filled.{Filled, is_filled, no_field, is_number_of, is_filled_after, most_published}
 use Rattle.queue_certificates.specs.declared.effect.Effect.{Effect}
 use Rattle.queue_certificates.specs.declared.effect.Effect.TheVariants.{Leaves, Fills, Publishes, PublishesSome}
@@ -38,6 +39,7 @@ LeavesSlots q m y = (x : ℕ) → IsInBytes q.slots (q.size * q.width) x → vie
 pub record IsFilling (q : Queue) (c : QueueCounts) (rs : List (Option ℕ)) (u : KnownValue) (m : View) (y : Access) (p offset width : ℕ) : Type 0 where
   pub written : IsWrittenTo q c.published m (view_then y m) p offset width
   pub number : (f : Field) → f.width ≡ width → last_number f < 256 ^ f.width → is_number_of rs u f ≡ true → IsNumberOf f written.value
+  pub bytes : (b : ℕ) → offset ≤ b → b < offset + width → WritesByte y (slot_of q (c.published + p) + b)
 
 -- of an access from these counts and this view, by which what is known so is stored
 abbrev pub IsDone : Queue → QueueCounts → List (Option ℕ) → KnownValue → View → Effect → Access → Type 0
@@ -90,7 +92,7 @@ does-exchange q c rs u m f b a old new z off low high w = record { upto = omega 
 
     by : (f : Effect) → IsDone q c rs u m f (store (write a 4 new)) → IsDone q c rs u m f (exchange a old new)
     by Leaves done = (same ∙ done.0, done.1)
-    by (Fills p offset width) done = (same ∙ done.0, record { written = done.1.written; number = done.1.number })
+    by (Fills p offset width) done = (same ∙ done.0, record { written = done.1.written; number = done.1.number; bytes = done.1.bytes })
     by (Publishes n) done = (same ∙ done.0, done.1)
     by (PublishesSome n) done = tt
 

@@ -139,18 +139,19 @@ passes-found f (a ∷ bs) b all found =
       | inr later ↦ passes-found f bs b parts.1 later
     ]
 
+-- what is listed is so
+pub so-listed : (ms : List (List ℕ)) (f : ℕ → ℕ → Bool) → are_so ms f ≡ true → (d j : ℕ) → list_any (λ a. a == j) (get_or ms d []) ≡ true → f d j ≡ true
+so-listed ms f ok d j listed = by (cases_lt d (length ms))
+  where
+    by : (d < length ms) ⊎ (length ms ≤ d) → f d j ≡ true
+    by (inl less) = passes-found (f d) (get_or ms d []) j (at-below (length ms) (λ d. list_all (f d) (get_or ms d [])) ok d less) listed
+    by (inr past) = absurd (let none : list_any (λ a. a == j) [] ≡ true =
+        subst (λ bs. list_any (λ a. a == j) bs ≡ true) (get_or_past ms d [] past) listed in
+        cc)
+
 -- what is said to be right is so
 pub so-at : (size : ℕ) (ms : Filled) (f : ℕ → ℕ → Bool) → are_so ms f ≡ true → (d j : ℕ) → is_filled size ms d j ≡ true → f d j ≡ true
-so-at size ms f ok d j filled = by (cases_lt d (length ms))
-  where
-    marked : list_any (λ a. a == j) (get_or ms d []) ≡ true
-    marked = (and_parts (nat_lt d size) (list_any (λ a. a == j) (get_or ms d [])) filled).1
-
-    by : (d < length ms) ⊎ (length ms ≤ d) → f d j ≡ true
-    by (inl less) = passes-found (f d) (get_or ms d []) j (at-below (length ms) (λ d. list_all (f d) (get_or ms d [])) ok d less) marked
-    by (inr past) = absurd (let none : list_any (λ a. a == j) [] ≡ true =
-        subst (λ bs. list_any (λ a. a == j) bs ≡ true) (get_or_past ms d [] past) marked in
-        cc)
+so-at size ms f ok d j filled = so-listed ms f ok d j (and_parts (nat_lt d size) (list_any (λ a. a == j) (get_or ms d [])) filled).1
 
 -- all fields of what may be published
 pub sent-at : (size : ℕ) (fs : List Field) (ms : Filled) (e : Effect) → may_send size fs ms e ≡ true → (d : ℕ) → d < most_published e

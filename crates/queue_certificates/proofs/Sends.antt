@@ -24,13 +24,13 @@ use Rattle.hart.specs.declared.need.Need.{Need}
 use Rattle.hart.specs.declared.need.Need.TheVariants as need
 use Rattle.hart.proofs.Instructions.{IsAt, need_at, illegal, stopped}
 use Rattle.memory.specs.Writes.{write, covers, byte_after}
-use Rattle.memory.proofs.Bytes.{covers-from}
+use Rattle.memory.proofs.Bytes.{covers-from, covers-yes}
 use Rattle.step_machine.specs.declared.events.Entry.{Entry}
 use Rattle.step_machine.specs.History.{OpeningValue}
 use Rattle.step_machine.specs.Access.{store, exchange, access_of}
 use Rattle.step_machine.specs.Entries.{hart_of}
 use Rattle.step_machine.specs.Paths.{number_read, entry_of}
-use Rattle.slot_queue.specs.Queues.{Queue, IsQueue, TellsFull, KeepsOff, least}
+use Rattle.slot_queue.specs.Queues.{Queue, IsQueue, TellsFull, KeepsOff, least, slot_of}
 use Rattle.queue_parties.specs.Positions.{IsInBytes}
 use Rattle.queue_parties.specs.Parties.{the_sender, the_receiver, QueueCounts, known, with_known}
 use Rattle.slot_queue.specs.Ownership.{index, party_of, after_access}
@@ -245,6 +245,9 @@ module _ (M : ℕ) (o : OpeningValue) (queues : ℕ → Queue) (N : ℕ) (own_of
                         after = λ y. ap (λ n. byte_after (write n (store_width op) (stored op x)) y (m y)) there.place;
                       };
                       number = number-stored;
+                      bytes = λ n from below. covers-yes (write a (store_width op) (stored op x)) (slot_of (queues i) ((cs i).published
+                          + position_at (queues i) (get_or k.shares i no_share).own.constant g.constant) + n)
+                          (omega (arith, there.place, from)) (omega (arith, there.place, below));
                     },
                   );
                 }

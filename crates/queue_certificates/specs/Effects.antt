@@ -1,8 +1,10 @@
 -- What an instruction of a queue's sender does to the queue, by what is known of the sender.
-use Rattle.std.specs.Prelude.{ℕ, ◌==◌, if◌then◌else◌, Bool, Option, None, Some, List, get_or}
+use Rattle.std.specs.Prelude.{ℕ, ◌≡◌, ◌==◌, if◌then◌else◌, Bool, true, Option, None, Some, List, get_or}
 use Rattle.rv_decode.specs.declared.instruction.Instr.{Instr}
 use Rattle.rv_decode.specs.declared.instruction.Instr.TheVariants.{Store, Amo}
 use Rattle.hart.specs.Effects.{store_width}
+use Rattle.memory.specs.Writes.{write, covers}
+use Rattle.step_machine.specs.Access.{Access, store, exchange}
 use Rattle.slot_queue.specs.Queues.{Queue}
 use Rattle.queue_certificates.specs.Forms.{Form, Bounds, most}
 use Rattle.queue_certificates.specs.States.{KnownValue, any, linear, index_for, signed_for, Share, no_share, KnownState}
@@ -11,6 +13,12 @@ use Rattle.queue_certificates.specs.Steps.{last_below, is_just, position_at, off
 use Rattle.queue_certificates.specs.Steps.{operand, address_value, addresses, is_own_index}
 use Rattle.queue_certificates.specs.declared.effect.Effect.{Effect}
 use Rattle.queue_certificates.specs.declared.effect.Effect.TheVariants.{Leaves, Fills, Publishes, PublishesSome}
+
+-- this access writes the byte at x, an AMO also where it writes the word that it read
+abbrev pub WritesByte : Access → (x : ℕ) → Type 0
+WritesByte (store w) x = covers w x ≡ true
+WritesByte (exchange a old new) x = covers (write a 4 new) x ≡ true
+WritesByte other x = ⊥
 
 -- the queue's head moves by a form; nothing where no bound is known of the number of positions that are published
 abbrev pub published_by : Form → (bound : Option ℕ) → Option Effect

@@ -3,6 +3,7 @@
 ghost use Rattle.std.specs.Prelude.{◌≡◌, IfOk, length};
 ghost use Rattle.queue_certificates.specs.Certificates.{queue_at, own_of};
 ghost use Rattle.queue_certificates.specs.Effects.{published_by, filled_by, moves_head, effect_at, effect_of, value_stored};
+ghost use Rattle.queue_certificates.specs.Filled.{most_published};
 
 use crate::certificate::{KnownState, QueueCertificate, Share};
 use crate::loads::last_own_index;
@@ -164,5 +165,15 @@ pub(crate) fn value_stored(
     match instruction {
         Some(Instr::Store { rs2, .. }) => operand(alloc, certificate, state, rs2),
         _ => Ok(any()),
+    }
+}
+
+/// At most how many positions are published.
+pub fn most_published(effect: Effect) -> u64
+    ensures { result ≡ most_published effect }
+{
+    match effect {
+        Effect::Leaves | Effect::Fills { .. } => 0,
+        Effect::Publishes(n) | Effect::PublishesSome(n) => n,
     }
 }

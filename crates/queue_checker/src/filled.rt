@@ -3,9 +3,10 @@
 ghost use Rattle.std.specs.Prelude.{◌≡◌, IfOk, [], false, get_or, length};
 ghost use Rattle.std.specs.List.{list_all};
 ghost use Rattle.queue_certificates.specs.Steps.{all_below};
-ghost use Rattle.queue_certificates.specs.Filled.{is_filled, no_field, is_beside, is_right_after, is_filled_after, are_so, most_published, may_send};
+ghost use Rattle.queue_certificates.specs.Filled.{is_filled, no_field, is_beside, is_right_after, is_filled_after, are_so, may_send};
 
 use crate::certificate::{Filled, FilledSlot};
+use crate::effects::most_published;
 use known_values::fields::is_number_of;
 use known_values::lack::sum;
 use known_values::{Field, KnownValue, Lack, Queue};
@@ -192,15 +193,6 @@ fn is_empty(numbers: &[u64]) -> bool
     match numbers {
         [] => true,
         [_number, _others @ ..] => false,
-    }
-}
-
-fn most_published(effect: Effect) -> u64
-    ensures { result ≡ most_published effect }
-{
-    match effect {
-        Effect::Leaves | Effect::Fills { .. } => 0,
-        Effect::Publishes(n) | Effect::PublishesSome(n) => n,
     }
 }
 

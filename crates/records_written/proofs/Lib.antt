@@ -1,6 +1,4 @@
 mod Marked
-mod Accesses
-mod Instructions
 mod Leading
 mod Runs
 mod LittleTexts

@@ -63,13 +63,14 @@ running code = record {
 abbrev listed : (n own owned : ℕ) → (x1 : KnownValue) → (handed : ℕ) → ListedState
 listed n own owned x1 handed = record {
   known = record { pc = 4 * n; ranges = []; registers = any ∷ x1 ∷ []; words = []; shares = (record { own = number own; owned = number owned }) ∷ [] };
+  filled = [];
   cases = leaf (number handed) ((record { to = n + 1; forms = [] }) ∷ []);
 }
 
 -- at the end there is no instruction
 abbrev certified : List ListedState → QueueCertificate
 certified states = record {
-  queues = (record { queue = three_slots; start = 0 }) ∷ [];
+  queues = (record { queue = three_slots; start = 0; fields = [] }) ∷ [];
   harts = (record { own = []; first = 0; numbers = []; states = states }) ∷ [];
 }
 

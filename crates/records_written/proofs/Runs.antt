@@ -21,19 +21,21 @@ use Rattle.slot_queue.specs.Ownership.{party_of, after_access, counts_after}
 use Rattle.queue_parties.specs.Parties.{the_sender, all_at}
 use Rattle.owned_run.specs.Certified.{View, AllCounts, view_then, IsSameFor}
 use Rattle.owned_run.proofs.Every as every
-use Rattle.queue_certificates.specs.States.{Means}
-use Rattle.queue_certificates.specs.Certificates.{QueueCertificate, queue_at, start_at, part_of, own_of, state_at, IsKeptByte, IsInState, accepts}
+use Rattle.queue_certificates.specs.States.{KnownValue, Means}
+use Rattle.queue_certificates.specs.Certificates.{QueueCertificate, queue_at, start_at, part_of, own_of, state_at, HasFields, MeetsFields}
+use Rattle.queue_certificates.specs.Certificates.{IsOwnByte, IsAtState, accepts}
+use Rattle.queue_certificates.specs.Filled.{most_published}
+use Rattle.queue_certificates.specs.declared.effect.Effect.{Effect}
+use Rattle.queue_certificates.specs.declared.effect.Effect.TheVariants.{Leaves, Fills, Publishes, PublishesSome}
 use Rattle.queue_certificates.proofs.States.{means-frame}
 use Rattle.queue_certificates.proofs.Accesses.{hart-party}
-use Rattle.queue_certificates.proofs.Steps.{nobody_told, nothing_sent}
-use Rattle.queue_certificates.proofs.Certified.{accepted-opens, accepted-certifies, opens-means}
+use Rattle.queue_certificates.proofs.Filled.{so-listed}
+use Rattle.queue_certificates.proofs.Effects.{published_then, IsDone}
+use Rattle.queue_certificates.proofs.Certified.{accepted-opens, accepted-certifies, of-hart, opens-means}
 use Rattle.records_written.specs.Written.{IsWritten}
-use Rattle.records_written.specs.declared.effect.Effect.{Effect}
-use Rattle.records_written.specs.declared.effect.Effect.TheVariants.{Leaves, Fills, Publishes, PublishesSome}
-use Rattle.records_written.specs.Marks.{Marks, most_published, has_mark, has_mark_after, shows_written}
-use Rattle.records_written.proofs.Marked.{so-at, whole-at}
-use Rattle.records_written.proofs.Accesses.{published_then, IsDone}
-use Rattle.records_written.proofs.Leading.{of-sender, Leads, leads}
+use Rattle.records_written.specs.Marks.{Marks, has_mark, has_mark_after, shows_written}
+use Rattle.records_written.proofs.Marked.{whole-at}
+use Rattle.records_written.proofs.Leading.{marks-keep, Leads, leads}
 
 -- ---- a byte that is written stays so
 
@@ -60,17 +62,18 @@ written-on : (q : Queue) (n : ℕ) (es : List Entry) (e : Entry) (p d b : ℕ) �
 written-on q n es e p d b same w = subst (λ k. IsWritten q n (es ++ e ∷ []) k (slot_of q k + b)) (sym same) (later q n es e p (slot_of q p + b) w)
 
 -- after an entry of the sender's whose effect is done, its marks are so
-marks-after : (q : Queue) (n : ℕ) (es : List Entry) (e : Entry) (ms : Marks) (f : Effect) → hart_of e ≡ q.sender
+marks-after : (q : Queue) (n : ℕ) (es : List Entry) (e : Entry) (ms : Marks) (rs : List (Option ℕ)) (u : KnownValue) (view : View) (f : Effect)
+    → hart_of e ≡ q.sender
     → published_then q (counts_after q (all_at n) es) (access_of e) ≡ (counts_after q (all_at n) (es ++ e ∷ [])).published
-    → AreWritten q n ms es → IsDone q (counts_after q (all_at n) es) f (access_of e) → (d b : ℕ) → has_mark_after ms f d b ≡ true
+    → AreWritten q n ms es → IsDone q (counts_after q (all_at n) es) rs u view f (access_of e) → (d b : ℕ) → has_mark_after ms f d b ≡ true
     → IsWritten q n (es ++ e ∷ []) ((counts_after q (all_at n) (es ++ e ∷ [])).published + d)
     (slot_of q ((counts_after q (all_at n) (es ++ e ∷ [])).published + d) + b)
-marks-after q n es e ms Leaves mine to so done d b marked =
-    written-on q n es e ((counts_after q (all_at n) es).published + d) d b (omega (arith, to, done)) (so d b marked)
-marks-after q n es e ms (Publishes m) mine to so done d b marked =
-    written-on q n es e ((counts_after q (all_at n) es).published + (d + m)) d b (omega (arith, to, done)) (so (d + m) b marked)
-marks-after q n es e ms (PublishesSome m) mine to so done d b marked = absurd (cc)
-marks-after q n es e ms (Fills j offset width) mine to so done d b marked =
+marks-after q n es e ms rs u view Leaves mine to so done d b marked =
+    written-on q n es e ((counts_after q (all_at n) es).published + d) d b (omega (arith, to, done.0)) (so d b marked)
+marks-after q n es e ms rs u view (Publishes m) mine to so done d b marked =
+    written-on q n es e ((counts_after q (all_at n) es).published + (d + m)) d b (omega (arith, to, done.0)) (so (d + m) b marked)
+marks-after q n es e ms rs u view (PublishesSome m) mine to so done d b marked = absurd (cc)
+marks-after q n es e ms rs u view (Fills j offset width) mine to so done d b marked =
     elim (or_cases ((j == d) && nat_le offset b && nat_lt b (offset + width)) (has_mark ms d b) marked) [
       | inr old ↦ written-on q n es e ((counts_after q (all_at n) es).published + d) d b (omega (arith, to, done.0)) (so d b old)
       | inl new ↦ (
@@ -88,8 +91,8 @@ marks-after q n es e ms (Fills j offset width) mine to so done d b marked =
             since = [];
             is = refl;
             sender = mine;
-            byte = done.2 b low high;
-            after = omega (arith, done.1);
+            byte = done.1.bytes b low high;
+            after = omega (arith, done.1.written.near);
           }))
     ]
 
@@ -104,11 +107,11 @@ module _ (B M : ℕ) (o : OpeningValue) (c : QueueCertificate) (ok : accepts o c
 
   -- what a certificate that is accepted gives of a run
   abbrev Holds : List Entry → Type 0
-  Holds = every.Holds B M o (length c.queues) (queue_at c) (start_at c) nobody_told nothing_sent (IsKeptByte c) (IsInState c)
+  Holds = every.Holds B M o (length c.queues) (queue_at c) (start_at c) (HasFields c) (MeetsFields c) (IsOwnByte c) (IsAtState c)
       (accepted-opens M o c ok) (accepted-certifies M o c ok)
 
   holds : (es : List Entry) → WellFormed B M (history_of o es) → Holds es
-  holds = every.holds B M o (length c.queues) (queue_at c) (start_at c) nobody_told nothing_sent (IsKeptByte c) (IsInState c)
+  holds = every.holds B M o (length c.queues) (queue_at c) (start_at c) (HasFields c) (MeetsFields c) (IsOwnByte c) (IsAtState c)
       (accepted-opens M o c ok) (accepted-certifies M o c ok)
 
   module _ (i : ℕ) (less : i < length c.queues) (mask : List ℕ) (marks : List Marks) (shown : shows_written o c i mask marks ≡ true) where
@@ -132,13 +135,13 @@ module _ (B M : ℕ) (o : OpeningValue) (c : QueueCertificate) (ok : accepts o c
 
       -- of another hart's entry, and of landings, the sender's counts are the same
       left : is_own h e ≡ false → (j : ℕ) → j < length c.queues → IsSameFor (queue_at c j) h (Counted done j) (Counted (done ++ e ∷ []) j)
-      left = every.counts_left B M o (length c.queues) (queue_at c) (start_at c) nobody_told nothing_sent (IsKeptByte c) (IsInState c)
+      left = every.counts_left B M o (length c.queues) (queue_at c) (start_at c) (HasFields c) (MeetsFields c) (IsOwnByte c) (IsAtState c)
           (accepted-opens M o c ok) (accepted-certifies M o c ok) done e run w h
 
       -- and after one of its own they are those that its access makes
       acted : hart_of e ≡ h → (j : ℕ) → IsSameFor (queue_at c j) h
           (after_access (queue_at c j) (party_of (queue_at c j) h) (access_of e) (Counted done j)) (Counted (done ++ e ∷ []) j)
-      acted = every.counts_acted B M o (length c.queues) (queue_at c) (start_at c) nobody_told nothing_sent (IsKeptByte c) (IsInState c)
+      acted = every.counts_acted B M o (length c.queues) (queue_at c) (start_at c) (HasFields c) (MeetsFields c) (IsOwnByte c) (IsAtState c)
           (accepted-opens M o c ok) (accepted-certifies M o c ok) done e run w h
 
       -- an entry of the sender's, from its state and the marks of it
@@ -151,19 +154,20 @@ module _ (B M : ℕ) (o : OpeningValue) (c : QueueCertificate) (ok : accepts o c
 
       stepped : hart_of e ≡ h → is_land e ≡ false → Stepped
       stepped mine act =
-          let k = every.state_known B M o (length c.queues) (queue_at c) (start_at c) nobody_told nothing_sent (IsKeptByte c) (IsInState c)
+          let k = every.state_known B M o (length c.queues) (queue_at c) (start_at c) (HasFields c) (MeetsFields c) (IsOwnByte c) (IsAtState c)
           (accepted-opens M o c ok) (accepted-certifies M o c ok) done e run w h mine in
-          let a = every.acts B M o (length c.queues) (queue_at c) (start_at c) nobody_told nothing_sent (IsKeptByte c) (IsInState c)
+          let a = every.acts B M o (length c.queues) (queue_at c) (start_at c) (HasFields c) (MeetsFields c) (IsOwnByte c) (IsAtState c)
           (accepted-opens M o c ok) (accepted-certifies M o c ok) done e run w h k.0 mine act k.1 in
           let m = marked k.0 k.1 a.can.running in
-          let of = of-sender M o c ok i less mask marks shown a.opens a.is in
+          let of = of-hart M o c ok h a.opens a.is in
           record {
             state = k.0;
             at = k.1;
             ms = get_or marks m.state [];
             written = m.written;
             leading = leads M o c ok i less mask marks shown a.opens of k.0 (Sees h done) (Counted done) e a a.code a.size (get_or marks m.state [])
-                (state_at c h m.state).known (state_at c h m.state).cases m.means.0 (of.closed m.state m.listed) (of.keeps m.state m.listed) m.means.1;
+                (state_at c h m.state).known (state_at c h m.state).cases m.means.0 (of.closed m.state m.listed)
+                (marks-keep M o c ok i less mask marks shown a.opens a.is m.state m.listed) m.means.1;
           }
 
       published-is : hart_of e ≡ h
@@ -186,8 +190,8 @@ module _ (B M : ℕ) (o : OpeningValue) (c : QueueCertificate) (ok : accepts o c
                   m.means.0,
                   means-frame (queue_at c) (length c.queues) (own_of c h) h m.means.0 (state_at c h m.state).known z (Sees h done) (Sees h (done ++ e ∷ []))
                       (Counted done) (Counted (done ++ e ∷ [])) m.means.1 (λ j x short low high.
-                      every.view_other B M o (length c.queues) (queue_at c) (start_at c) nobody_told nothing_sent (IsKeptByte c) (IsInState c)
-                      (accepted-opens M o c ok) (accepted-certifies M o c ok) done e run w h x (j, short, low, high) off) (left off),
+                      every.view_other B M o (length c.queues) (queue_at c) (start_at c) (HasFields c) (MeetsFields c) (IsOwnByte c) (IsAtState c)
+                      (accepted-opens M o c ok) (accepted-certifies M o c ok) done e run w h x (inl (j, short, low, high)) off) (left off),
                 );
                 written = λ d b is. written-on (queue_at c i) (start_at c i) done e ((Counted done i).published + d) d b
                     (let kept : (Counted (done ++ e ∷ []) i).published ≡ (Counted done i).published = (left off i less).count the_sender refl in
@@ -209,11 +213,12 @@ module _ (B M : ℕ) (o : OpeningValue) (c : QueueCertificate) (ok : accepts o c
                           (advanced st.state (number_read e)) (view_then (access_of e) (Sees h done)) (Sees h (done ++ e ∷ []))
                           (λ j. after_access (queue_at c j) (party_of (queue_at c j) h) (access_of e) (Counted done j)) (Counted (done ++ e ∷ [])) found.means.1
                           (λ j x short low high.
-                          every.view_acted B M o (length c.queues) (queue_at c) (start_at c) nobody_told nothing_sent (IsKeptByte c) (IsInState c)
+                          every.view_acted B M o (length c.queues) (queue_at c) (start_at c) (HasFields c) (MeetsFields c) (IsOwnByte c) (IsAtState c)
                           (accepted-opens M o c ok) (accepted-certifies M o c ok) done e run w h x parts.0 parts.1) (λ j short. acted parts.0 j),
                     );
-                written = λ d b is. marks-after (queue_at c i) (start_at c i) done e st.ms st.leading.effect parts.0 (published-is parts.0) st.written
-                    (st.leading.does.done running) d b (so-at (get_or marks found.state []) (has_mark_after st.ms st.leading.effect) found.so d b is);
+                written = λ d b is. marks-after (queue_at c i) (start_at c i) done e st.ms st.leading.ranges st.leading.stored (Sees h done)
+                    st.leading.effect parts.0 (published-is parts.0) st.written
+                    (st.leading.does.done running) d b (so-listed (get_or marks found.state []) (has_mark_after st.ms st.leading.effect) found.so d b is);
               }
 
       -- what it publishes was written
@@ -242,7 +247,7 @@ module _ (B M : ℕ) (o : OpeningValue) (c : QueueCertificate) (ok : accepts o c
         opened None is none = absurd (cc)
         opened (Some x) is some =
             let same : opens_as M x ≡ s = cc in
-            let of = of-sender M o c ok i less mask marks shown x is in
+            let of = of-hart M o c ok h x is in
             subst (IsMarked []) same (record {
               state = (part_of c h).first;
               listed = of.first;
@@ -251,7 +256,7 @@ module _ (B M : ℕ) (o : OpeningValue) (c : QueueCertificate) (ok : accepts o c
                 opens-means M o c ok h x (state_at c h (part_of c h).first).known (part_of c h).numbers of.opens,
               );
               written = λ d b marked. absurd (let no : false ≡ true =
-                  so-at (get_or marks (part_of c h).first []) (λ d b. false) (and_parts _ _ shown).0 d b marked in
+                  so-listed (get_or marks (part_of c h).first []) (λ d b. false) (and_parts _ _ shown).0 d b marked in
                   cc);
             })
 

@@ -1,9 +1,7 @@
--- A state by two cases, of which the lower one holds and the higher one may be; and a position that isn't whole.
-use Rattle.std.specs.Prelude.{ℕ, zero, suc, ◌≡◌, ◌<◌, ◌&&◌, Bool, true, false, List, Some, get_or, refl}
-use Rattle.std.proofs.Common.{sym, ◌∙◌, ap, arith, inl, inr}
-use Rattle.std.proofs.lemmas.Bool.{cases_eq}
+-- A state by two cases, of which the lower one holds and the higher one may be.
+use Rattle.std.specs.Prelude.{ℕ, ◌≡◌, Bool, true, List, Some, get_or, refl}
+use Rattle.std.proofs.Common.{sym, ◌∙◌}
 use Rattle.queue_certificates.specs.States.{KnownState}
-use Rattle.queue_certificates.specs.Steps.{all_below}
 use Rattle.queue_certificates.specs.Certificates.{QueueCertificate, Cases, split, with_low, with_high, may_exceed}
 use Rattle.records_written.specs.Marks.{Marks, keeps_marks}
 
@@ -15,15 +13,3 @@ kept_high c i code mask marks ms k cases j v low high a w x y b d is_split is_b 
     let holds : keeps_marks c i code mask marks ms (with_low k j v) low ≡ true = rw (← is_w, ← is_y, ← is_b) b_true in
     let exceeds : may_exceed v (get_or k.ranges j (Some 0)) ≡ true = sym is_d ∙ d_true in
     rw (is_split, is_a, is_x, holds, exceeds) refl
-
-none_both : (a b : Bool) → b ≡ false → (a && b) ≡ false
-none_both true b none = none
-none_both false b none = refl
-
--- one that isn't is enough
-pub below_none : (n : ℕ) (f : ℕ → Bool) (d : ℕ) → d < n → f d ≡ false → all_below n f ≡ false
-below_none zero f d less not = absurd (omega (arith, less))
-below_none (suc n) f d less not = elim (cases_eq d n) [
-  | inl same ↦ (let here : f n ≡ false = sym (ap f same) ∙ not in rw here refl)
-  | inr far ↦ none_both (f n) (all_below n f) (below_none n f d (omega (arith, less, far)) not)
-]

@@ -1,18 +1,12 @@
 -- Records that their sender wrote: bytes of a slot that it stored since the record before in the same slot was published.
-use Rattle.std.specs.Prelude.{ℕ, ◌≡◌, ◌+◌, ◌<◌, true, List, ◌∷◌, ◌++◌}
-use Rattle.memory.specs.Writes.{write, covers}
+use Rattle.std.specs.Prelude.{ℕ, ◌≡◌, ◌+◌, ◌<◌, List, ◌∷◌, ◌++◌}
 use Rattle.step_machine.specs.declared.events.Entry.{Entry}
-use Rattle.step_machine.specs.Access.{Access, store, exchange, access_of}
+use Rattle.step_machine.specs.Access.{access_of}
 use Rattle.step_machine.specs.Entries.{hart_of}
 use Rattle.queue_parties.specs.Parties.{all_at}
 use Rattle.slot_queue.specs.Queues.{Queue}
 use Rattle.slot_queue.specs.Ownership.{counts_after}
-
--- this access writes the byte at x, an AMO also where it writes the word that it read
-abbrev pub WritesByte : Access → (x : ℕ) → Type 0
-WritesByte (store w) x = covers w x ≡ true
-WritesByte (exchange a old new) x = covers (write a 4 new) x ≡ true
-WritesByte other x = ⊥
+use Rattle.queue_certificates.specs.Effects.{WritesByte}
 
 -- In these entries of a run that begins at count n the sender's hart wrote the byte at x after it had published position k - size, whose
 -- slot is that of position k. Where there is no such position, at any time

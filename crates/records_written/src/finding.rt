@@ -1,10 +1,10 @@
 //! The first byte of records that isn't shown to be written.
 
 ghost use Rattle.std.specs.Prelude.{◌≡◌, ◌<◌, IfOk, IfSome, None, length};
-ghost use Rattle.queue_certificates.specs.Certificates.{part_of};
-ghost use Rattle.records_written.specs.Marks.{its_sender, IsShownWritten};
+ghost use Rattle.queue_certificates.specs.Certificates.{queue_at, part_of};
+ghost use Rattle.records_written.specs.Marks.{IsShownWritten};
 
-use crate::keeping::{has_mark, most_published};
+use crate::keeping::has_mark;
 use crate::leaves::{Leaf, StateLeaves, sender_leaves};
 use crate::marking::StateMarks;
 use crate::searching::most_marks;
@@ -12,6 +12,7 @@ use crate::showing::{first_state, shows_written};
 use known_values::Lack;
 use known_values::queues::queue_in;
 use queue_checker::QueueCertificate;
+use queue_checker::effects::most_published;
 use queue_checker::sites::{listed_states, small};
 use std::alloc::Global;
 use step_machine::Opening;
@@ -137,7 +138,7 @@ pub fn first_unwritten(
     mask: &[u64],
 ) -> Result<Option<Unwritten>, Lack>
     ensures shown { IfOk result (λ unwritten. unwritten ≡ None → IsShownWritten opening.now certificate.now i mask.now) }
-    ensures within { IfOk result (λ unwritten. IfSome unwritten (λ u. u.state < length (part_of certificate.now (its_sender certificate.now i)).states)) }
+    ensures within { IfOk result (λ unwritten. IfSome unwritten (λ u. u.state < length (part_of certificate.now (queue_at certificate.now i).sender).states)) }
 {
     let hart = queue_in(&certificate.queues, i).sender;
     let states = small(listed_states(certificate, hart).len())?;

@@ -2,12 +2,14 @@
 
 ghost use Rattle.std.specs.Prelude.{◌≡◌, IfOk};
 ghost use Rattle.std.specs.List.{list_all};
-ghost use Rattle.records_written.specs.Marks.{has_mark, most_published, may_publish, has_mark_after, are_so};
+ghost use Rattle.queue_certificates.specs.Filled.{are_so};
+ghost use Rattle.records_written.specs.Marks.{has_mark, may_publish, has_mark_after};
 
-use crate::effect::Effect;
 use crate::marking::StateMarks;
 use known_values::Lack;
 use known_values::lack::sum;
+use queue_certificates::Effect;
+use queue_checker::effects::most_published;
 
 pub(crate) fn has_mark(marks: &StateMarks, position: u64, byte: u64) -> bool
     ensures { result ≡ has_mark marks.now position byte }
@@ -33,15 +35,6 @@ fn have_marks(marks: &StateMarks, position: u64, mut bytes: &[u64]) -> bool
                 bytes = others;
             }
         }
-    }
-}
-
-pub(crate) fn most_published(effect: Effect) -> u64
-    ensures { result ≡ most_published effect }
-{
-    match effect {
-        Effect::Leaves | Effect::Fills { .. } => 0,
-        Effect::Publishes(n) | Effect::PublishesSome(n) => n,
     }
 }
 

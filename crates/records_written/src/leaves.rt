@@ -2,11 +2,11 @@
 
 ghost use Rattle.std.specs.Prelude.{◌≡◌, IfOk, map};
 
-use crate::effect::Effect;
-use crate::effects::effect_of;
 use known_values::Lack;
 use known_values::queues::queue_in;
+use queue_certificates::Effect;
 use queue_checker::closing::{goes_beyond, with_high, with_low};
+use queue_checker::effects::effect_of;
 use queue_checker::owning::code_of;
 use queue_checker::sites::listed_states;
 use queue_checker::steps::instruction_at;

@@ -13,8 +13,6 @@
 
 #![tactic(auto)]
 
-mod effect;
-mod effects;
 mod finding;
 mod keeping;
 mod leaves;
@@ -34,7 +32,6 @@ ghost use Rattle.queue_certificates.specs.Certificates.{QueueCertificate, queue_
 ghost use Rattle.records_written.specs.Marks.{Marks, shows_written, IsShownWritten};
 ghost use Rattle.records_written.specs.Written.{IsWritten};
 
-pub use effect::Effect;
 pub use finding::{Unwritten, first_unwritten};
 pub use marking::{SlotMarks, StateMarks};
 pub use showing::shows_written;

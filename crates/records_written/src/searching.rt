@@ -7,11 +7,11 @@ ghost use Rattle.std.specs.Prelude.{◌≡◌, IfOk};
 ghost use Rattle.std.specs.List.{filter};
 ghost use Rattle.records_written.specs.Marks.{has_mark_after};
 
-use crate::effect::Effect;
 use crate::keeping::{are_so, has_mark_after};
 use crate::leaves::{Leaf, StateLeaves};
 use crate::marking::{SlotMarks, StateMarks};
 use known_values::Lack;
+use queue_certificates::Effect;
 use std::alloc::Global;
 
 /// At most this number of marks is looked at: what a sender writes further ahead of its count isn't shown.

@@ -2,17 +2,18 @@
 
 ghost use Rattle.std.specs.Prelude.{◌≡◌, ◌<◌, IfOk, length, get_or, [], false};
 ghost use Rattle.queue_certificates.specs.Steps.{all_below};
-ghost use Rattle.queue_certificates.specs.Certificates.{part_of, state_at};
+ghost use Rattle.queue_certificates.specs.Certificates.{queue_at, part_of, state_at};
+ghost use Rattle.queue_certificates.specs.Filled.{are_so};
 ghost use Rattle.queue_checker.specs.Flaws.{hart_at};
-ghost use Rattle.records_written.specs.Marks.{its_sender, has_mark_after, are_so, arrows_keep, effect_keeps, keeps_marks, shows_written};
+ghost use Rattle.records_written.specs.Marks.{has_mark_after, arrows_keep, effect_keeps, keeps_marks, shows_written};
 
-use crate::effect::Effect;
-use crate::effects::effect_of;
 use crate::keeping::{are_so, may_publish};
 use crate::marking::StateMarks;
 use known_values::Lack;
 use known_values::queues::queue_in;
+use queue_certificates::Effect;
 use queue_checker::closing::{goes_beyond, with_high, with_low};
+use queue_checker::effects::effect_of;
 use queue_checker::owning::code_of;
 use queue_checker::sites::{listed_states, small};
 use queue_checker::steps::instruction_at;
@@ -123,10 +124,10 @@ fn state_keeps(
     marks: &[StateMarks],
     n: u32,
 ) -> Result<bool, Lack>
-    requires { n < length (part_of certificate.now (its_sender certificate.now i)).states }
-    ensures { IfOk result (λ keeps. keeps ≡ keeps_marks certificate.now i (hart_at opening.now (its_sender certificate.now i)).code mask.now marks.now
-        (get_or marks.now n []) (state_at certificate.now (its_sender certificate.now i) n).known (state_at certificate.now (its_sender
-        certificate.now i) n).cases) }
+    requires { n < length (part_of certificate.now (queue_at certificate.now i).sender).states }
+    ensures { IfOk result (λ keeps. keeps ≡ keeps_marks certificate.now i (hart_at opening.now (queue_at certificate.now i).sender).code mask.now marks.now
+        (get_or marks.now n []) (state_at certificate.now (queue_at certificate.now i).sender n).known (state_at certificate.now (queue_at
+        certificate.now i).sender n).cases) }
 {
     let hart = queue_in(&certificate.queues, i).sender;
     let code = code_of(opening, hart);
@@ -170,9 +171,9 @@ fn states_keep(
     mask: &[u64],
     marks: &[StateMarks],
 ) -> Result<bool, Lack>
-    ensures { IfOk result (λ keep. keep ≡ all_below (length (part_of certificate.now (its_sender certificate.now i)).states) (λ n. keeps_marks
-        certificate.now i (hart_at opening.now (its_sender certificate.now i)).code mask.now marks.now (get_or marks.now n []) (state_at certificate.now
-        (its_sender certificate.now i) n).known (state_at certificate.now (its_sender certificate.now i) n).cases)) }
+    ensures { IfOk result (λ keep. keep ≡ all_below (length (part_of certificate.now (queue_at certificate.now i).sender).states) (λ n. keeps_marks
+        certificate.now i (hart_at opening.now (queue_at certificate.now i).sender).code mask.now marks.now (get_or marks.now n []) (state_at certificate.now
+        (queue_at certificate.now i).sender n).known (state_at certificate.now (queue_at certificate.now i).sender n).cases)) }
 {
     let hart = queue_in(&certificate.queues, i).sender;
     let mut all = true;
@@ -184,7 +185,7 @@ fn states_keep(
 
 /// The number of the state in which the sender opens.
 pub(crate) fn first_state(certificate: &QueueCertificate, i: u32) -> u32
-    ensures { result ≡ (part_of certificate.now (its_sender certificate.now i)).first }
+    ensures { result ≡ (part_of certificate.now (queue_at certificate.now i).sender).first }
 {
     let hart = queue_in(&certificate.queues, i).sender;
     match certificate.harts.get(hart as usize) {
@@ -200,7 +201,7 @@ fn opens_unmarked(
     i: u32,
     marks: &[StateMarks],
 ) -> Result<bool, Lack>
-    ensures { IfOk result (λ opens. opens ≡ are_so (get_or marks.now (part_of certificate.now (its_sender certificate.now i)).first []) (λ d b. false)) }
+    ensures { IfOk result (λ opens. opens ≡ are_so (get_or marks.now (part_of certificate.now (queue_at certificate.now i).sender).first []) (λ d b. false)) }
 {
     // after this effect nothing is marked
     let effect = Effect::PublishesSome(0);

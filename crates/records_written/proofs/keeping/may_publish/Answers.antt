@@ -1,8 +1,9 @@
 use Rattle.std.proofs.Common.{◌≡◌, ◌<◌, false, sym, arith}
 use Rattle.std.specs.List.{list_all}
 use Rattle.std.proofs.lemmas.Bool.Decides.{nat_tests}
-use Rattle.records_written.specs.Marks.{has_mark, most_published}
-use Rattle.records_written.proofs.Splits.{below_none}
+use Rattle.queue_certificates.specs.Filled.{most_published}
+use Rattle.queue_checker.proofs.Splits.{below_none}
+use Rattle.records_written.specs.Marks.{has_mark}
 use Rattle.records_written.proofs.keeping.may_publish.Goals as goal
 
 pub returns-then-not-have_marks : goal.returns-then-not-have_marks

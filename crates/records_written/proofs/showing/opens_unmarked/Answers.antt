@@ -1,6 +1,6 @@
 -- after this effect no byte is marked
 use Rattle.std.proofs.Common.{◌≡◌, IfOk, [], false, get_or, subst}
-use Rattle.records_written.specs.Marks.{are_so}
+use Rattle.queue_certificates.specs.Filled.{are_so}
 use Rattle.records_written.proofs.showing.opens_unmarked.Goals as goal
 
 pub returns : goal.returns

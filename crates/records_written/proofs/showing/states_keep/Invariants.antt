@@ -1,10 +1,11 @@
 use Rattle.std.proofs.Common.{◌≡◌, [], get_or}
 use Rattle.queue_certificates.specs.Steps.{all_below}
-use Rattle.queue_certificates.specs.Certificates.{state_at}
+use Rattle.queue_certificates.specs.Certificates.{queue_at, state_at}
 use Rattle.queue_checker.specs.Flaws.{hart_at}
-use Rattle.records_written.specs.Marks.{its_sender, keeps_marks}
+use Rattle.records_written.specs.Marks.{keeps_marks}
 use Rattle.records_written.proofs.showing.states_keep.Given as goal
 
 abbrev pub invariant-loop-n : goal.invariant-loop-n
-invariant-loop-n l = l.all ≡ all_below l.n (λ n. keeps_marks l.certificate l.i (hart_at l.opening (its_sender l.certificate l.i)).code l.mask l.marks
-    (get_or l.marks n []) (state_at l.certificate (its_sender l.certificate l.i) n).known (state_at l.certificate (its_sender l.certificate l.i) n).cases)
+invariant-loop-n l = l.all ≡ all_below l.n (λ n. keeps_marks l.certificate l.i (hart_at l.opening (queue_at l.certificate l.i).sender).code l.mask l.marks
+    (get_or l.marks n []) (state_at l.certificate (queue_at l.certificate l.i).sender n).known
+    (state_at l.certificate (queue_at l.certificate l.i).sender n).cases)
