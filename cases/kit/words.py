@@ -21,9 +21,6 @@ COMPUTE = {"queue_certificates": {"known_values", "queue_checker", "certificate_
            "known_values": {"queue_checker", "certificate_reader", "certifying", "records_written", "hart_safety"},
            "queue_checker": {"certifying", "records_written", "hart_safety"}}
 
-# which crate defines words as a lower one does, until it takes them from there
-TO_TAKE = {"owned_run": "certified_runs"}
-
 
 def definitions():
     """Of each public word of specs, the crates that define it."""
@@ -48,8 +45,7 @@ def citations():
 def wrong():
     """A line for each word of a crate that others cite, and that stands for something else in a second crate."""
     rings, defined = {ring.crate for ring in RINGS.values()}, definitions()
-    alike = {(upper, lower) for pair in TO_TAKE.items() for upper, lower in (pair, pair[::-1])}
     for name, crate in sorted(citations()):
-        others = {other for other in defined[name] - {crate} if (crate, other) not in alike} - (rings if crate in rings else set())
+        others = defined[name] - {crate} - (rings if crate in rings else set())
         if crate in defined[name] and others:
             yield f"{name} of crates/{crate}/specs, which other crates cite, is also a word of {', '.join(sorted(others))}"

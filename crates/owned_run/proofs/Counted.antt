@@ -1,32 +1,22 @@
 -- What one entry makes of the counts that a hart knows, and what a party sees in both indices.
-use Rattle.std.proofs.Common.{ℕ, ◌≤◌, ◌≡◌, ◌≢◌, ◌==◌, ◌&&◌, ◌⊎◌, inl, inr, Bool, true, false, if◌then◌else◌, List, []}
-use Rattle.std.proofs.Common.{◌∷◌, ◌++◌, Option, Some, None, refl, sym, ◌∙◌, ap, subst, arith}
-use Rattle.std.proofs.lemmas.Bool.{cases_eq}
+use Rattle.std.proofs.Common.{ℕ, ◌≤◌, ◌≡◌, ◌==◌, ◌&&◌, Bool, true, false, if◌then◌else◌, List, []}
+use Rattle.std.proofs.Common.{Option, Some, None, refl, sym, ◌∙◌, subst, arith}
 use Rattle.memory.specs.Writes.{write}
 use Rattle.step_machine.specs.declared.events.Entry.{Entry}
 use Rattle.step_machine.specs.History.{OpeningValue}
-use Rattle.step_machine.specs.Access.{Access, nothing, load, store, exchange, fence, land, access_of}
-use Rattle.step_machine.specs.Entries.{hart_of, is_land, is_own, read_byte}
-use Rattle.store_buffers.proofs.OwnEntries.{land_is, own_is}
+use Rattle.step_machine.specs.Access.{Access, nothing, load, store, exchange, fence, land}
+use Rattle.step_machine.specs.Entries.{read_byte}
 use Rattle.slot_queue.specs.Queues.{Queue, IsQueue, least}
 use Rattle.queue_parties.specs.Parties.{Party, the_sender, the_receiver, other, QueueCounts, count, known, with_known, all_at}
-use Rattle.slot_queue.specs.Ownership.{party_of, hart, index, moved, after_load, after_access, counts_next, counts_after, KeepsAccess, KeepsOwnership}
+use Rattle.slot_queue.specs.Ownership.{hart, index, moved, after_load, after_access, counts_after, KeepsAccess}
 use Rattle.slot_queue.specs.Laws.{FollowsOwnership}
 use Rattle.slot_queue.proofs.Sides.{Side}
-use Rattle.queue_parties.proofs.Parties.{harts-apart, Whose, mine, theirs, whose, two, count-set-other, known-set-count, count-set-known, known-set-other}
+use Rattle.queue_parties.proofs.Parties.{harts-apart, count-set-other, known-set-count, count-set-known, known-set-other}
 use Rattle.slot_queue.proofs.Looks.{Bounds, bounds, known-low, reads-other}
 use Rattle.slot_queue.proofs.Runs.{sides-of, memory_at}
 use Rattle.slot_queue.proofs.OwnIndex.{own_index}
-use Rattle.owned_run.specs.Certified.{IsSameFor, limit, SeesIndices}
-
--- the counts are those before, and the keeping is that before and of the last entry
-pub keeps-last : (q : Queue) (c : QueueCounts) (es : List Entry) (e : Entry) → KeepsOwnership q c es
-    → KeepsAccess q (party_of q (hart_of e)) (counts_after q c es) (access_of e) → KeepsOwnership q c (es ++ e ∷ [])
-keeps-last q c [] e keeps last = (last, tt)
-keeps-last q c (d ∷ es) e keeps last = (keeps.0, keeps-last q (counts_next q c d) es e keeps.1 last)
-
-pub same-for : (q : Queue) (h : ℕ) (c : QueueCounts) → IsSameFor q h c c
-same-for q h c = record { count = λ p is. refl; known = λ p is. refl }
+use Rattle.certified_runs.proofs.TwoParties.{IsOfParties}
+use Rattle.owned_run.specs.Certified.{owning, limit, SeesIndices}
 
 -- an access of the one party leaves what the other knows
 module _ (q : Queue) (r : Party) (c : QueueCounts) where
@@ -74,42 +64,19 @@ landed-counts : (q : Queue) (t : Option Party) (c : QueueCounts) → after_acces
 landed-counts q (Some p) c = refl
 landed-counts q None c = refl
 
-pub landed-keeps : (q : Queue) (t : Option Party) (c : QueueCounts) → KeepsAccess q t c land
+landed-keeps : (q : Queue) (t : Option Party) (c : QueueCounts) → KeepsAccess q t c land
 landed-keeps q (Some p) c = tt
 landed-keeps q None c = tt
 
--- another hart's entry leaves what a hart knows
-others-same : (q : Queue) → IsQueue q → (h : ℕ) (c : QueueCounts) (e : Entry) → hart_of e ≢ h → IsSameFor q h c (counts_next q c e)
-others-same q is h c e far = by (whose q.sender q.receiver (hart_of e))
-  where
-    by : Whose q.sender q.receiver (hart_of e) → IsSameFor q h c (counts_next q c e)
-    by (theirs apart party) = subst (IsSameFor q h c) (sym (ap (λ t. after_access q t (access_of e) c) party ∙ nobodys q (access_of e) c)) (same-for q h c)
-    by (mine r at party) = subst (IsSameFor q h c) (sym (ap (λ t. after_access q t (access_of e) c) party)) (record {
-      count = λ p is. subst (λ t. count t (after_access q (Some r) (access_of e) c) ≡ count t c) (sym (far_from p is)) (others-count q r c (access_of e));
-      known = λ p is. subst (λ t. known t (after_access q (Some r) (access_of e) c) ≡ known t c) (sym (far_from p is)) (others-known q r c (access_of e));
-    })
-      where
-        far_from : (p : Party) → h ≡ hart q p → p ≡ other r
-        far_from p is = elim (two r p) [
-          | inl same ↦ absurd (far (at ∙ sym (ap (hart q) same) ∙ sym is))
-          | inr same ↦ same
-        ]
-
--- and so does a landing
-landing-same : (q : Queue) (h : ℕ) (c : QueueCounts) (e : Entry) → is_land e ≡ true → IsSameFor q h c (counts_next q c e)
-landing-same q h c e landed = subst (IsSameFor q h c) (sym (ap (λ y. after_access q (party_of q (hart_of e)) y c) (land_is (access_of e) landed)
-    ∙ landed-counts q (party_of q (hart_of e)) c)) (same-for q h c)
-
-pub left-same : (q : Queue) → IsQueue q → (h : ℕ) (c : QueueCounts) (e : Entry) → is_own h e ≡ false → IsSameFor q h c (counts_next q c e)
-left-same q is h c e off = at (cases_eq (hart_of e) h) (is_land e) refl
-  where
-    at : (hart_of e ≡ h) ⊎ (hart_of e ≢ h) → (l : Bool) → is_land e ≡ l → IsSameFor q h c (counts_next q c e)
-    at same true landed = landing-same q h c e landed
-    at (inl same) false act = absurd (let no : false ≡ true = sym off ∙ own_is h e same act in cc)
-    at (inr far) false act = others-same q is h c e far
-
-pub same-then : (q : Queue) (h : ℕ) (b c d : QueueCounts) → IsSameFor q h b c → c ≡ d → IsSameFor q h b d
-same-then q h b c d same is = subst (IsSameFor q h b) is same
+pub is_of_parties : (q : Queue) → IsQueue q → IsOfParties (owning q)
+is_of_parties q is = record {
+  parties = is.parties;
+  counts = λ r y c. others-count q r c y;
+  knows = λ r y c. others-known q r c y;
+  nobodys = nobodys q;
+  landed = landed-counts q;
+  lands = landed-keeps q;
+}
 
 -- what a party's hart reads in the two indices
 pub seen : (B : ℕ) (q : Queue) (n : ℕ) (o : OpeningValue) (es : List Entry) → FollowsOwnership B q (all_at n) o [] es → (p : Party) (h : ℕ) → h ≡ hart q p

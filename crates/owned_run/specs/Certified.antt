@@ -3,49 +3,22 @@
 -- There are no calls: all code is ordinary.
 use Rattle.std.specs.Prelude.{ℕ, ◌≡◌, ◌≢◌, ◌+◌, ◌*◌, ◌<◌, ◌≤◌, false, Some, List, [], ◌∷◌, slice_index, length}
 use Rattle.std.specs.List.{slice_get}
-use Rattle.memory.specs.Writes.{write, byte_after, joined}
 use Rattle.hart.specs.State.{HartState}
 use Rattle.hart.specs.Steps.{advanced}
 use Rattle.step_machine.specs.declared.events.Entry.{Entry}
-use Rattle.step_machine.specs.Access.{Access, load, store, exchange, access_of}
+use Rattle.step_machine.specs.Access.{Access, load, exchange, access_of}
 use Rattle.step_machine.specs.History.{HartOpeningValue, OpeningValue}
 use Rattle.step_machine.specs.Entries.{hart_of, is_land, opening_byte}
 use Rattle.step_machine.specs.Paths.{number_read, CanMake, opens_as}
 use Rattle.store_buffers.specs.StoreBuffers.{LeavesByteBy}
 use Rattle.slot_queue.specs.Queues.{Queue, index_word, IsByteOf, IsQueue, IsAtRest}
 use Rattle.queue_parties.specs.Positions.{IsInBytes}
+use Rattle.certified_runs.specs.TwoParties.{TwoPartyProtocol}
+use Rattle.certified_runs.specs.TwoParties as two_parties
 use Rattle.queue_parties.specs.Parties.{Party, the_sender, the_receiver, other, QueueCounts, all_at, count, known}
 use Rattle.slot_queue.specs.Ownership.{party_of, hart, index, end, OwnsByte, after_access, counts_next, KeepsAccess}
-
--- what a hart reads at each byte: its own pending stores over memory
-abbrev pub View : Type 0
-View = ℕ → ℕ
-
-abbrev pub number_seen : View → (a width : ℕ) → ℕ
-number_seen m a width = joined (λ i. m (a + i)) width
-
--- an access reads what its hart's view says, and leaves this view of its own
-abbrev pub ReadsFrom : View → Access → Type 0
-ReadsFrom m (load a width v) = v ≡ number_seen m a width
-ReadsFrom m (exchange a old new) = old ≡ number_seen m a 4
-ReadsFrom m other = Unit {0}
-
-abbrev pub byte_then : Access → (x b : ℕ) → ℕ
-byte_then (store w) x b = byte_after w x b
-byte_then (exchange a old new) x b = byte_after (write a 4 new) x b
-byte_then other x b = b
-
-abbrev pub view_then : Access → View → View
-view_then y m = λ x. byte_then y x (m x)
-
--- The queues, by their numbers, and the counts of each
-abbrev pub AllCounts : Type 0
-AllCounts = ℕ → QueueCounts
-
--- these counts are the same as far as hart h knows them: a party its own count, and what it knows of the other's; a third hart none
-pub record IsSameFor (q : Queue) (h : ℕ) (c d : QueueCounts) : Type 0 where
-  pub count : (p : Party) → h ≡ hart q p → count p d ≡ count p c
-  pub known : (p : Party) → h ≡ hart q p → known p d ≡ known p c
+pub use Rattle.certified_runs.specs.Views.{View, number_seen, ReadsFrom, byte_then, view_then, LoadsByte}
+pub use Rattle.certified_runs.specs.TwoParties.{AllCounts}
 
 -- the other's count is no more than this: what a party's own count and the window allow
 abbrev pub limit : Queue → Party → QueueCounts → ℕ
@@ -61,6 +34,14 @@ pub record SeesIndices (q : Queue) (p : Party) (c : QueueCounts) (m : View) : Ty
   pub theirs : number_seen m (index q (other p)) q.index_width ≡ index_word q there
   pub from : known p c ≤ there
   pub upto : there ≤ limit q p c
+
+-- the protocol of ownership as one of two parties
+abbrev pub owning : Queue → TwoPartyProtocol
+owning q = record { sender = q.sender; receiver = q.receiver; next = after_access q; May = KeepsAccess q; Knows = SeesIndices q }
+
+-- these counts are the same as far as hart h knows them
+abbrev pub IsSameFor : Queue → (h : ℕ) → (c d : QueueCounts) → Type 0
+IsSameFor q h c d = two_parties.IsSameFor (owning q) h c d
 
 -- `Sent i k m` says what the record at position k of queue i may be, by the bytes of its slot in a view, of the queues with `Told i`
 module _ (M : ℕ) (o : OpeningValue) (N : ℕ) (queues : ℕ → Queue) (Told : ℕ → Type 0) (Sent : (i k : ℕ) → View → Type 0) where
@@ -125,12 +106,6 @@ abbrev pub LoadsOwned : Queue → Party → QueueCounts → Access → Type 0
 LoadsOwned q p c (load a width v) = OwnsSlotsOf q p c a width
 LoadsOwned q p c (exchange a old new) = OwnsSlotsOf q p c a 4
 LoadsOwned q p c other = Unit {0}
-
--- an access loads the byte at x
-abbrev pub LoadsByte : Access → (x : ℕ) → Type 0
-LoadsByte (load a width v) x = IsInBytes a width x
-LoadsByte (exchange a old new) x = IsInBytes a 4 x
-LoadsByte other x = ⊥
 
 -- the party's hart loads no byte of a slot that it doesn't own
 abbrev pub ReadsOwned : Queue → Party → QueueCounts → List Entry → Type 0
