@@ -9,7 +9,7 @@ use Rattle.certificate_reader.proofs.writing.push_queue.Goals as goal
 pub returns : goal.returns
 returns c =
     let old = string_bytes c.args.out.now in
-    let numbers = numbers_of c.args.opened in
+    let numbers = numbers_of c.args.opened.now in
     let front = c.in_ok-push_numbers.ensures ∙ ap (λ (text : List ℕ). text ++ spaced decimal c.queue_numbers-numbers.result) c.in_ok-push_str.ensures.bytes in
     let text = front ∙ ap (λ (ns : List ℕ). (old ++ codes "queue") ++ spaced decimal ns) c.queue_numbers-numbers.ensures in
     ended c.push_str-2.result old (string_bytes c.push_numbers.new.out) _ (string_bytes c.push_str-2.new.self) c.push_str-2.ensures.bytes
