@@ -64,12 +64,7 @@ pub fn is_field(queue: Queue, field: Field) -> Result<bool, Lack>
 }
 
 /// Whether a form's remainder by 2^32, which lies between these bounds without wrapping, is one of the field's numbers.
-fn lies_in(
-    alloc: Global,
-    bounds: Option<Bounds>,
-    form: &Form,
-    field: Field,
-) -> Result<bool, Lack>
+fn lies_in(alloc: Global, bounds: Option<Bounds>, form: &Form, field: Field) -> Result<bool, Lack>
     ensures { IfOk result (λ lies. lies ≡ lies_in bounds form.now field) }
 {
     match bounds {

@@ -125,6 +125,15 @@ in-ranges (r ∷ rs) [] ok = absurd (cc)
 in-ranges (None ∷ rs) (x ∷ xs) ok = (tt, in-ranges rs xs ok)
 in-ranges (Some n ∷ rs) (x ∷ xs) ok = let parts = and_parts (nat_le x n) (are_in_ranges rs xs) ok in (leb-true x n parts.0, in-ranges rs xs parts.1)
 
+-- what is received of an owned position, also where nothing is said of records
+pub fields-received : (M : ℕ) (o : OpeningValue) (c : QueueCertificate) (h : ℕ) (s : HartState) (m : View) (cs : AllCounts) (e : Entry)
+    → Acts M o (length c.queues) (queue_at c) (HasFields c) (MeetsFields c) h s m cs e → (i : ℕ) → i < length c.queues
+    → h ≡ (queue_at c i).receiver → (p : ℕ) → (cs i).taken ≤ p → p < (cs i).known_published → All (MeetsField (queue_at c i) p m) (fields_at c i)
+fields-received M o c h s m cs e acts i less mine p from below = elim (cases_lt 0 (length (fields_at c i))) [
+  | inl some ↦ acts.received i less some mine p from below
+  | inr none ↦ All-from_get_or (MeetsField (queue_at c i) p m) (fields_at c i) no_field (λ j listed. absurd (omega (arith, none, listed)))
+]
+
 module _ (M : ℕ) (o : OpeningValue) (c : QueueCertificate) (ok : accepts o c ≡ true) where
   abbrev queues : ℕ → Queue
   queues = queue_at c
@@ -287,13 +296,9 @@ module _ (M : ℕ) (o : OpeningValue) (c : QueueCertificate) (ok : accepts o c �
     wide : 32 ≤ length s.registers
     wide = subst (λ n. 32 ≤ n) (sym size) of.registers
 
-    -- what is received of an owned position, also where nothing is said of records
     got : (i : ℕ) → i < length c.queues → h ≡ (queue_at c i).receiver → (p : ℕ) → (cs i).taken ≤ p → p < (cs i).known_published
         → All (MeetsField (queue_at c i) p m) (fields_at c i)
-    got i less mine p from below = elim (cases_lt 0 (length (fields_at c i))) [
-      | inl some ↦ acts.received i less some mine p from below
-      | inr none ↦ All-from_get_or (MeetsField (queue_at c i) p m) (fields_at c i) no_field (λ j listed. absurd (omega (arith, none, listed)))
-    ]
+    got = fields-received M o c h s m cs e acts
 
     -- a listed state that says what is so, and all that its arrow fills
     abbrev IsFound : (List Arrow) → HartState → View → AllCounts → Type 0

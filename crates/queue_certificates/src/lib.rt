@@ -5,6 +5,9 @@
 //! where each instruction leads from each state into another of them and stores to the queues only what its hart may. The states may
 //! come from anywhere: nothing is assumed of how they were found. This crate runs nothing.
 //!
+//! Of a queue's records a certificate may say fields: numbers of some bytes, from which a receiver's loads are then known. A queue's
+//! sender has to show that each is right where it publishes the record, and its receiver stores nothing to the slots.
+//!
 //! Called by `certifying`.
 
 #![tactic(auto)]

@@ -55,14 +55,7 @@ fn state_holds(
     ensures { IfOk result (λ holds. holds ≡ (is_closed certificate.now hart code.now listed.now.known listed.now.cases && keeps_all_fields certificate.now
         hart code.now listed.now)) }
 {
-    if is_closed(
-        alloc,
-        certificate,
-        hart,
-        code,
-        &listed.known,
-        &listed.cases,
-    )? {
+    if is_closed(alloc, certificate, hart, code, &listed.known, &listed.cases)? {
         keeps_all_fields(alloc, certificate, hart, code, listed)
     } else {
         Ok(false)

@@ -141,7 +141,8 @@ fn after_field(
     ensures { IfOk result (λ next. next.items ≡ after_field (queue_at certificate.now) (fields_at certificate.now) (length certificate.now.queues)
         (own_of certificate.now) (length certificate.now.harts) hart state.now op rd look field states.items) }
 {
-    let _sites = (certificate, hart);
+    let _certificate = certificate;
+    let _hart = hart;
     match (look, field) {
         (None, Some(field)) => {
             if keeps_numbers(op, field)? {

@@ -133,15 +133,7 @@ fn are_filled_after(
             [] => return Ok(true),
             [number, others @ ..] => {
                 if !is_filled_after(
-                    alloc,
-                    ranges,
-                    queue,
-                    fields,
-                    stored,
-                    slots,
-                    effect,
-                    position,
-                    *number,
+                    alloc, ranges, queue, fields, stored, slots, effect, position, *number,
                 )? {
                     return Ok(false);
                 }
@@ -166,7 +158,7 @@ pub(crate) fn are_so(
 {
     let mut all = true;
     for i in 0..target.len() {
-        let numbers = &target[i].fields;
+        let slot = &target[i];
         all = are_filled_after(
             alloc,
             ranges,
@@ -176,7 +168,7 @@ pub(crate) fn are_so(
             slots,
             effect,
             i as u64,
-            numbers,
+            &slot.fields,
         )? && all;
     }
     Ok(all)
@@ -188,7 +180,8 @@ pub(crate) fn says_nothing(slots: &[FilledSlot]) -> bool
 {
     let mut all = true;
     for i in 0..slots.len() {
-        all = is_empty(&slots[i].fields) && all;
+        let slot = &slots[i];
+        all = is_empty(&slot.fields) && all;
     }
     all
 }
@@ -198,7 +191,7 @@ fn is_empty(numbers: &[u64]) -> bool
 {
     match numbers {
         [] => true,
-        [_, ..] => false,
+        [_number, _others @ ..] => false,
     }
 }
 

@@ -50,7 +50,8 @@ fn leaves_slots(
 ) -> Result<bool, Lack>
     ensures { IfOk result (λ leaves. leaves ≡ leaves_slots certificate.now hart code.now i state.now instruction) }
 {
-    let _sites = (hart, code);
+    let _hart = hart;
+    let _code = code;
     match instruction {
         Some(
             Instr::Store {
@@ -83,6 +84,27 @@ fn filled_at(certificate: &QueueCertificate, hart: u32, n: u32, i: u32) -> &[Fil
     }
 }
 
+/// Whether all that the hart's state `n` says to be right is so after an effect.
+fn target_fills(
+    alloc: Global,
+    certificate: &QueueCertificate,
+    hart: u32,
+    i: u32,
+    ranges: &[Option<u64>],
+    stored: &KnownValue,
+    slots: &[FilledSlot],
+    effect: Effect,
+    n: u32,
+) -> Result<bool, Lack>
+    ensures { IfOk result (λ fills. fills ≡ are_so (get_or (state_at certificate.now hart n).filled i []) (is_filled_after ranges.now (queue_at
+        certificate.now i) (fields_at certificate.now i) stored.now slots.now effect)) }
+{
+    let target = filled_at(certificate, hart, n, i);
+    let queue = queue_in(&certificate.queues, i);
+    let fields = fields_in(&certificate.queues, i);
+    are_so(alloc, target, ranges, queue, fields, stored, slots, effect)
+}
+
 /// Whether all that each arrow's state says to be right is so after an effect.
 fn arrows_fill(
     alloc: Global,
@@ -104,15 +126,17 @@ fn arrows_fill(
         match arrows {
             [] => return Ok(true),
             [arrow, others @ ..] => {
-                if !are_so(
+                let to = arrow.to;
+                if !target_fills(
                     alloc,
-                    filled_at(certificate, hart, arrow.to, i),
+                    certificate,
+                    hart,
+                    i,
                     ranges,
-                    queue_in(&certificate.queues, i),
-                    fields_in(&certificate.queues, i),
                     stored,
                     slots,
                     effect,
+                    to,
                 )? {
                     return Ok(false);
                 }
