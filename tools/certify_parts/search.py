@@ -223,8 +223,9 @@ class Search:
         return max([0, *(at + 1 for at in edges if at < first)]), min([count - 1, *(at for at in edges if at >= last)])
 
     def as_one(self, one, other):
-        """Two states as one, if only one range tells them apart and both make one range; or None. Where several ways meet, values of which one
-        state knows nothing may be lost."""
+        """Two states as one, if only one range tells them apart and both make one range; or None. Where several ways meet, values may be spelled
+        anew or lost. Elsewhere only forms are joined, which are parted again where need be: after an access the parts of the position by where
+        its slots begin anew, say. A split that told where an index's word wraps is kept."""
         shares = one.shares
         if shares != other.shares:
             differ = [which for which, (a, b) in enumerate(zip(shares, other.shares)) if a != b]
@@ -232,13 +233,11 @@ class Search:
             if share is None:
                 return None
             shares = (*shares[:differ[0]], share, *shares[differ[0] + 1:])
-        values, may_lose = list(one.registers + one.words), one.pc in self.flow.meets
+        values, ways_meet = list(one.registers + one.words), one.pc in self.flow.meets
         for at, (a, b) in enumerate(zip(values, other.registers + other.words)):
-            if a == b:
-                continue
-            if not may_lose and (a is None or b is None):
+            if not ways_meet and (a != b or isinstance(a, Word)):
                 return None
-            if not self.is_value(b, other, a):
+            if a != b and not self.is_value(b, other, a):
                 if not self.is_value(a, one, b):
                     return None
                 values[at] = b
