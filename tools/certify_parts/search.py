@@ -14,8 +14,9 @@ from .values import Share
 
 # so many states of one kind are told apart where they can't be joined without loss
 APART = 20
-# and so many along paths, where only outermost loops join: so many where these begin, and elsewhere
-APART_BETWEEN_PATHS, APART_BY_PATH = 6, 500
+# and so many along paths, where only outermost loops join: so many where these begin, and elsewhere, or so many for each slot: a loop over
+# what is owned has two for each distance from the own count
+APART_BETWEEN_PATHS, APART_BY_PATH, APART_BY_SLOT = 6, 500, 3
 # of what was joined, so many are kept, to see how a further one is spelled like them
 KEPT = 12
 # so many are joined by their own positions, before all positions are taken
@@ -270,7 +271,7 @@ class Search:
             else:
                 at += 1
         groups.append(Group([state], state))
-        if len(groups) > APART_BY_PATH:
+        if len(groups) > max([APART_BY_PATH, *(APART_BY_SLOT * queue.size for queue in self.program.queues)]):
             raise Refused(None, "no end was found")
         return state
 
