@@ -14,7 +14,7 @@ WAYS = ((Mode.TOGETHER, False, "npA", True), (Mode.TOGETHER, False, "npA", True)
         (Mode.TOGETHER, False, "pnA", True), (Mode.TOGETHER, True, "npA", True), (Mode.BY_PATH, True, "npA", True),
         (Mode.BY_PATH, True, "npA", False), (Mode.BY_OWNED, False, "npA", False))
 # for how many seconds of the processor each way is gone, first and, if none succeeds, again
-SECONDS = ((2, 1, 4, 0.5, 1, 3, 0.5, 0.5, 1, 1, 1), (5, 5, 15, 5, 10, 15, 5, 5, 10, 10, 15))
+SECONDS = ((2, 1, 4, 2, 1, 3, 0.5, 0.5, 1, 1, 1), (5, 5, 15, 5, 10, 15, 5, 5, 10, 10, 15))
 TURNS = [(turn, at) for turn in range(len(SECONDS)) for at in range(len(WAYS))]
 MOST_ROUNDS = 60
 

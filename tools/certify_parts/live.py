@@ -70,12 +70,20 @@ def lived(code, matters, following):
 
 
 class Flow(NamedTuple):
-    """Where control may go: the places where the outermost loops begin, those where several ways meet, and each place's number, by which
-    what comes later on all ways, loops aside, comes later."""
+    """Where control may go: the places where the outermost loops begin, those where several ways meet, those where other loops begin, each with
+    the places in that loop, and each place's number, by which what comes later on all ways, loops aside, comes later."""
 
     outer: frozenset
     meets: frozenset
+    inner: dict
     order: dict
+
+    def turn(self, pc, goal):
+        """What comes first of what is to be followed, by these numbers: what comes back to where an inner loop begins waits until
+        all else has come round that loop too."""
+        if pc in self.inner.get(goal, ()):
+            return max(self.order[each] for each in self.inner[goal]), 1
+        return self.order.get(goal, len(self.order)), 0
 
 
 def flow_of(code):
@@ -101,7 +109,21 @@ def flow_of(code):
     outer = frozenset(head for head in heads if not any(met[other] < met[head] and other in reached(following, head) for other in heads))
     ways = [goal for pc in met for goal in following[pc // 4]]
     return Flow(outer, frozenset(heads | {goal for goal in met if ways.count(goal) > 1}) - outer,
-                {pc: at for at, pc in enumerate(reversed(left)) if pc is not None})
+                {head: loop_of(following, met, head) for head in heads - outer}, {pc: at for at, pc in enumerate(reversed(left)) if pc is not None})
+
+
+def loop_of(following, met, head):
+    """The places of the loop that begins at one of those that were met: from them it is reached again without those that were met before."""
+    leading = {pc: set() for pc in met}
+    for pc in met:
+        for goal in following[pc // 4]:
+            leading[goal].add(pc)
+    found, todo = {head}, [head]
+    while todo:
+        new = {pc for pc in leading[todo.pop()] if met[pc] > met[head]} - found
+        found |= new
+        todo += new
+    return frozenset(found)
 
 
 def reached(following, pc):

@@ -8,14 +8,15 @@ import time
 from enum import Enum
 from heapq import heappop, heappush
 
-from .forms import SIZE, Word, bounds, number, signed, variable_of
+from .forms import SIZE, Form, Word, bounds, number, signed, variable_of
 from .steps import Refused, leaves
 from .values import Share
 
 # so many states of one kind are told apart where they can't be joined without loss
 APART = 20
-# and so many along paths, where only outermost loops join: so many where these begin, and elsewhere
-APART_BETWEEN_PATHS, APART_BY_PATH = 6, 500
+# and so many along paths, where only outermost loops join: so many where these begin, and elsewhere, or so many for each slot: a loop over
+# what is owned has two for each distance from the own count
+APART_BETWEEN_PATHS, APART_BY_PATH, APART_BY_SLOT = 6, 500, 3
 # of what was joined, so many are kept, to see how a further one is spelled like them
 KEPT = 12
 # so many are joined by their own positions, before all positions are taken
@@ -94,7 +95,7 @@ class Search:
         """Whether a value of a state is one that is wanted, whatever the state."""
         if wanted is None or value == wanted:
             return True
-        if value is None:
+        if value is None or isinstance(value, Form) and isinstance(wanted, Form) and value.terms == wanted.terms:
             return False
         known = self.program.known(value, state)
         if known is not None:
@@ -110,7 +111,10 @@ class Search:
             if share and not (share.low <= other.low and other.high <= share.high and share.first <= other.first and other.last <= share.last
                               and share.begin <= other.begin and other.end <= share.end and share.count in (None, other.count)):
                 return False
-        return all(self.is_value(new, state, wanted) for new, wanted in zip(state.registers + state.words, old.registers + old.words))
+        for new, wanted in zip(state.registers + state.words, old.registers + old.words):
+            if new != wanted and not self.is_value(new, state, wanted):
+                return False
+        return True
 
     def spellings(self, values, states):
         """Values that all of these may be: each as it stands; what the other's index holds; and forms of counts through two numbers."""
@@ -220,27 +224,36 @@ class Search:
         return max([0, *(at + 1 for at in edges if at < first)]), min([count - 1, *(at for at in edges if at >= last)])
 
     def as_one(self, one, other):
-        """Two states as one, if only one range tells them apart and both make one range; or None."""
-        differ = [which for which, (a, b) in enumerate(zip(one.shares, other.shares)) if a != b]
-        if len(differ) > 1:
-            return None
+        """Two states as one, if only one range tells them apart and both make one range; or None. Where several ways meet, values may be spelled
+        anew or lost. Elsewhere only forms are joined, which are parted again where need be: after an access the parts of the position by where
+        its slots begin anew, say. A split that told where an index's word wraps is kept."""
         shares = one.shares
-        for which in differ:
-            a, b = one.shares[which], other.shares[which]
-            ranges = [(x, y) for x, y in zip(zip(a[1::2], a[2::2]), zip(b[1::2], b[2::2])) if x != y]
-            if a.count != b.count or len(ranges) > 1 or ranges and max(ranges[0][0][0], ranges[0][1][0]) > min(ranges[0][0][1], ranges[0][1][1]) + 1:
+        if shares != other.shares:
+            differ = [which for which, (a, b) in enumerate(zip(shares, other.shares)) if a != b]
+            share = self.one_range(shares[differ[0]], other.shares[differ[0]]) if len(differ) == 1 else None
+            if share is None:
                 return None
-            share = Share(a.count, min(a.first, b.first), max(a.last, b.last), min(a.low, b.low), max(a.high, b.high),
-                          min(a.begin, b.begin), max(a.end, b.end))
-            shares = (*shares[:which], share, *shares[which + 1:])
-        values = []
-        for a, b in zip(one.registers + one.words, other.registers + other.words):
-            if not (a == b or self.is_value(b, other, a)):
+            shares = (*shares[:differ[0]], share, *shares[differ[0] + 1:])
+        values, ways_meet = list(one.registers + one.words), one.pc in self.flow.meets
+        for at, (a, b) in enumerate(zip(values, other.registers + other.words)):
+            if not ways_meet and (a != b or isinstance(a, Word)):
+                return None
+            if a != b and not self.is_value(b, other, a):
                 if not self.is_value(a, one, b):
                     return None
-                a = b
-            values.append(a)
+                values[at] = b
         return one._replace(registers=tuple(values[:32]), words=tuple(values[32:]), shares=shares)
+
+    @staticmethod
+    def one_range(a, b):
+        """Two shares as one, if they differ in one range and both make one range; or None."""
+        first, second = ((share[1:3], share[3:5], share[5:7]) for share in (a, b))
+        differ = [(x, y) for x, y in zip(first, second) if x != y]
+        if a.count != b.count or len(differ) > 1:
+            return None
+        if differ and max(differ[0][0][0], differ[0][1][0]) > min(differ[0][0][1], differ[0][1][1]) + 1:
+            return None
+        return Share(a.count, min(a.first, b.first), max(a.last, b.last), min(a.low, b.low), max(a.high, b.high), min(a.begin, b.begin), max(a.end, b.end))
 
     def is_within(self, state):
         """Whether a state is of a place between the outermost joins, where no count goes on in a loop by itself."""
@@ -250,7 +263,7 @@ class Search:
     def told_apart(self, state, groups):
         """Takes in a state that is joined with others only if nothing else comes in by it."""
         at = 0
-        while at < len(groups) and state.pc in self.flow.meets:
+        while at < len(groups):
             one = self.as_one(groups[at].state, state)
             if one:
                 del groups[at]
@@ -258,7 +271,7 @@ class Search:
             else:
                 at += 1
         groups.append(Group([state], state))
-        if len(groups) > APART_BY_PATH:
+        if len(groups) > max([APART_BY_PATH, *(APART_BY_SLOT * queue.size for queue in self.program.queues)]):
             raise Refused(None, "no end was found")
         return state
 
@@ -312,19 +325,20 @@ class Search:
 
     def run_by_path(self):
         """As `run`, where what comes first is followed first, so that later on little comes twice."""
-        todo, number = [], 0
+        todo, number, pc = [], 0, None
         new = [self.take(self.program.start)]
         while new or todo:
             for state in new:
                 number += 1
-                heappush(todo, (self.flow.order.get(state.pc, len(self.flow.order)), number, state))
+                heappush(todo, (self.flow.turn(pc, state.pc), number, state))
             new, state = [], heappop(todo)[2]
+            pc = state.pc
             if not any(group.state is state for group in self.groups.get(self.key(state), ())):
                 continue
             for _, _, after in leaves(self.program.tree(state)):
                 new += [taken for taken in (self.take(following.state) for following in after) if taken is not None]
             if self.begins_anew:
-                todo, new = [], self.only_outer()
+                todo, new, pc = [], self.only_outer(), None
 
     def only_outer(self):
         """Leaves all states but those where an outermost loop begins, and what comes before; returns what to follow."""
