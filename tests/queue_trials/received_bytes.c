@@ -7,11 +7,10 @@
 #define SLOTS 8
 
 struct {
+  unsigned seen[32];
   atomic_uint head, tail;
   uint8_t byte[SLOTS];
 } q;
-
-unsigned seen[32];
 
 void P0(void) {
   for (unsigned n = 0;; n++) {
@@ -24,8 +23,8 @@ void P0(void) {
 void P1(void) {
   for (unsigned n = 0;; n++) {
     while (atomic_load_explicit(&q.head, memory_order_acquire) == n) {}
-    seen[q.byte[n % SLOTS]]++;
+    q.seen[q.byte[n % SLOTS]]++;
     atomic_store_explicit(&q.tail, n + 1, memory_order_release);
   }
 }
-// exists (seen=1)
+// exists (q_seen=1)

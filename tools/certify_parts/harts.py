@@ -40,10 +40,10 @@ class Harts:
         self.turns, self.copies = [0] * len(test.harts), [frozenset()] * len(test.harts)
         self.shared = {place for place in test.words if any(queue.meets(place, 4) for queue in queues)}
 
-    def found(self):
-        """What was found of each hart, where no hart stores to what another one takes for its own."""
+    def found(self, found=None):
+        """What was found of each hart, where no hart stores to what another one takes for its own. What is given isn't sought anew."""
         stored = [set() for _ in self.test.harts]
-        found = [None] * len(stored)
+        found = found or [None] * len(stored)
         for _ in range(MOST_ROUNDS):
             others = [set().union(*stored[:hart], *stored[hart + 1:]) for hart in range(len(stored))]
             found = [each if each and each.stands(theirs) else self.hart(hart, theirs) for hart, (each, theirs) in enumerate(zip(found, others))]
@@ -61,6 +61,9 @@ class Harts:
             asked = *WAYS[at], self.copies[hart]
             if asked in ended:
                 continue
+            if turn and reads and self.records:
+                # more time seldom shows which numbers it sends
+                break
             found = self.searched(hart, kept, WAYS[at], SECONDS[turn][at])
             # one that names an instruction is told first
             if found.refused and (not refused or refused.refused.pc is None):

@@ -77,6 +77,21 @@ class Records:
         self.lost.add(part)
         self.numbers.pop(part, None)
 
+    def given(self, part):
+        """What a load of a part is told: None as long as nothing is sent, its numbers, or () where these aren't known."""
+        return () if part in self.lost else self.numbers.get(part)
+
+    def take(self, part, numbers, is_lost):
+        """Takes in which numbers its sender stores to a part: () where it stores none yet, and None where they aren't known."""
+        old = self.numbers.setdefault(part, None)
+        if is_lost or numbers is None:
+            self.lose(part)
+        elif numbers and not (old and old.has(numbers)):
+            self.numbers[part] = old.joined(numbers) if old else numbers
+            self.grown[part] = self.grown.get(part, 0) + 1
+            if self.grown[part] > MOST_GROWN:
+                self.lose(part)
+
     def fields(self, which):
         """The parts of a queue with their numbers, in order."""
         return sorted((part, numbers) for part, numbers in self.numbers.items() if part.which == which and numbers)
@@ -269,38 +284,47 @@ def marked(program, search):
 # ---- the fields of all queues
 
 def seek(records, found):
-    """Takes in what the harts store to the parts that are loaded; returns whether anything is new."""
-    before = dict(records.numbers)
-    parts = {part for hart in found for part in hart.program.log.loaded} | set(before)
+    """Takes in what the harts store to the parts that are loaded; returns what was found of each hart, or None of those to which something of it
+    is new, and None where nothing is new at all."""
+    parts = {part for hart in found for part in hart.program.log.loaded} | records.numbers.keys()
+    known, asked = {part: records.given(part) for part in parts}, set(records.numbers)
     spoiled = {which for hart in found for which in hart.program.log.spoiled}
     for part in sorted(parts - records.lost):
         sender = next(hart for hart in found if hart.program.parties[part.which] == 0)
-        old = records.numbers.setdefault(part, None)
-        numbers = sender.program.log.stored.get(part)
-        is_unknown = part in sender.program.log.stored and not numbers
-        if is_unknown or sender.refused or part.which in spoiled:
-            records.lose(part)
-        elif numbers and not (old and old.has(numbers)):
-            records.numbers[part] = old.joined(numbers) if old else numbers
-            records.grown[part] = records.grown.get(part, 0) + 1
-            if records.grown[part] > MOST_GROWN:
-                records.lose(part)
-    return records.numbers != before
+        records.take(part, sender.program.log.stored.get(part, ()), sender.refused or part.which in spoiled)
+    told, asked = {part for part in parts if records.given(part) != known[part]}, records.numbers.keys() - asked
+
+    def is_new_to(hart):
+        parties = hart.program.parties
+        return any(parties[part.which] == 1 for part in told) or any(parties[part.which] == 0 for part in asked)
+
+    return [None if is_new_to(hart) else hart for hart in found] if told or asked else None
 
 
 def sought(test, queues):
-    """The fields that loads of records need and that all stores to them keep, or nothing."""
-    records = Records(seeks=True)
+    """The fields that loads of records need and that all stores to them keep, and in which ways the harts were searched."""
+    records, found = Records(seeks=True), None
     harts = Harts(test, queues, records)
-    while seek(records, harts.found()):
-        pass
-    return Records({part: numbers for part, numbers in records.numbers.items() if numbers})
+    while True:
+        after = harts.found(found)
+        found = seek(records, after)
+        if not found:
+            return Records({part: numbers for part, numbers in records.numbers.items() if numbers}), harts.turns
 
 
-def kept(test, queues, records):
+def searched(test, queues, records, turns):
+    """What is found of each hart with these fields, first in ways that served before."""
+    harts = Harts(test, queues, records)
+    harts.turns = list(turns)
+    found = harts.found()
+    is_whole = not any(hart.refused for hart in found) and all(records.are_shown(hart.program, hart.search) for hart in found)
+    return found if is_whole else Harts(test, queues, records).found()
+
+
+def kept(test, queues, records, turns):
     """What is found of each hart with these fields, less those that aren't right wherever they are published."""
     while True:
-        found = Harts(test, queues, records).found()
+        found = searched(test, queues, records, turns)
         try:
             for hart in found:
                 if not hart.refused:
@@ -321,8 +345,8 @@ def found_of(test, queues):
     found = Harts(test, queues).found()
     if not any(map(needs_records, found)):
         return found
-    records = sought(test, queues)
+    records, turns = sought(test, queues)
     if not records.numbers:
         return found
-    other = kept(test, queues, records)
+    other = kept(test, queues, records, turns)
     return found if any(hart.refused for hart in other) else other

@@ -105,7 +105,7 @@ def queue_fault(opening, opened):
         (q.capacity < q.modulus, "indices that don't tell all slots in use from none"),
         (opens[0], "a head that opens as another word than that of its count"),
         (opens[1], "a tail that opens as another word than that of its count"),
-        (all(sent.is_field(q, field) for field in fields), "a field that isn't of its slots, or whose numbers don't fit its bytes"),
+        (all(sent.is_field(q, field) for field in fields), "a field that reaches past its slot, or a number that doesn't fit its bytes"),
     )
     return next(fault for is_so, fault in holds if not is_so)
 
@@ -123,8 +123,9 @@ def value_text(value):
     return f"{'@' if isinstance(value, certificates.IndexFor) else '~'}{value.queue}:{form_text(value.form)}"
 
 
-def known_lines(known):
+def known_lines(listed):
     """A state's lines, as a certificate has them, without its pc and its cases."""
+    known = listed.known
     if known.ranges:
         yield " ".join(["most", *("-" if most is None else str(most) for most in known.ranges)])
     for name, values in (("reg", known.registers), ("word", known.words)):
@@ -133,6 +134,10 @@ def known_lines(known):
                 yield f"{name} {at} {value_text(value)}"
     for at, share in enumerate(known.shares):
         yield f"share {at} {form_text(share.own)} {form_text(share.owned)}"
+    for queue, slots in enumerate(listed.filled):
+        for further, fields in enumerate(slots):
+            if fields:
+                yield " ".join(map(str, ("filled", queue, further, *fields)))
 
 
 class Judge:
@@ -158,7 +163,7 @@ class Judge:
                     "likely: the certificate is of another text, or of another opening of this one"]
         word = self.word(found.at, self.pc(found.at, found.state))
         return [f"not shown: {self.state_place(found.at, found.state)}",
-                *(f"known: {line}" for line in known_lines(self.listed.harts[found.at].states[found.state].known)),
+                *(f"known: {line}" for line in known_lines(self.listed.harts[found.at].states[found.state])),
                 LIKELY.get(None if word is None else word & 127, OTHER)]
 
     def accesses(self, index):
