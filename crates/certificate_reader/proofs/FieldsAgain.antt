@@ -13,7 +13,7 @@ use Rattle.certificate_reader.specs.declared.stages.Keyword.TheVariants as keywo
 use Rattle.certificate_reader.specs.declared.stages.Stage.{Stage}
 use Rattle.certificate_reader.specs.declared.stages.Stage.TheVariants as stage
 use Rattle.certificate_reader.specs.Stages.{keyword_named, stage_after, is_described}
-use Rattle.certificate_reader.specs.Fields.{field_of, with_field, fields_listed_in, placed, with_filled}
+use Rattle.certificate_reader.specs.Fields.{field_of, with_field, fields_listed_in, put_in, with_filled}
 use Rattle.certificate_reader.specs.Drafts.{DraftValue, by_words}
 use Rattle.certificate_reader.specs.Writing.{field_numbers, field_line, slot_lines, filled_lines}
 use Rattle.certificate_reader.specs.Written.{FitsField, EndsFull, FitsFilled, FitsQueue}
@@ -117,14 +117,14 @@ get_past (x ∷ xs) zero past = absurd (omega arith)
 get_past (x ∷ xs) (suc i) past = get_past xs i (omega arith)
 
 slot_placed : (before : List Filled) (i p : ℕ) (slots : Filled) (x : List ℕ) → length before ≤ i → length slots ≤ p
-    → placed (joined before i slots) i (placed (get_or (joined before i slots) i []) p x) ≡ joined before i (padded p slots ++ x ∷ [])
+    → put_in (joined before i slots) i (put_in (get_or (joined before i slots) i []) p x) ≡ joined before i (padded p slots ++ x ∷ [])
 slot_placed before i p [] x place further =
-    ap (λ slots. placed before i (placed slots p x)) (get_past before i place)
-    ∙ ap (placed before i) (placed_after p [] x further)
+    ap (λ slots. put_in before i (put_in slots p x)) (get_past before i place)
+    ∙ ap (put_in before i) (placed_after p [] x further)
     ∙ placed_after i before (padded p [] ++ x ∷ []) place ∙ sym (joined_some before i (padded p []) x)
 slot_placed before i p (slot ∷ slots) x place further =
-    ap (λ ys. placed (padded i before ++ (slot ∷ slots) ∷ []) i (placed ys p x)) there
-    ∙ ap (placed (padded i before ++ (slot ∷ slots) ∷ []) i) (placed_after p (slot ∷ slots) x further)
+    ap (λ ys. put_in (padded i before ++ (slot ∷ slots) ∷ []) i (put_in ys p x)) there
+    ∙ ap (put_in (padded i before ++ (slot ∷ slots) ∷ []) i) (placed_after p (slot ∷ slots) x further)
     ∙ placed_last i (padded i before) (slot ∷ slots) (padded p (slot ∷ slots) ++ x ∷ []) (padded_length i before place)
   where
     there : get_or (padded i before ++ (slot ∷ slots) ∷ []) i [] ≡ slot ∷ slots
@@ -143,7 +143,7 @@ with_all_filled d filled s = record d { filled = filled; stage = s }
 
 filled_made : (qs : List OpenedQueue) (filled new : List Filled) (i p f : ℕ) (fields : List ℕ) → AreFew qs → i < 2 ^ 32 → p < 64
     → AllByRecursion (λ field. field < length (get_or qs i no_queue).fields) (f ∷ fields)
-    → placed filled i (placed (get_or filled i []) p (f ∷ fields)) ≡ new
+    → put_in filled i (put_in (get_or filled i []) p (f ∷ fields)) ≡ new
     → with_filled qs filled (decimal i ∷ decimal p ∷ map decimal (f ∷ fields)) ≡ Ok new
 unfolding with_filled
 filled_made qs filled new i p f fields few small further all same = rw (

@@ -4,7 +4,7 @@ use Rattle.std.proofs.Common.{refl, sym, ap, ◌∙◌, append_assoc, length-app
 use Rattle.std.specs.Prelude.{set}
 use Rattle.std.proofs.lemmas.List.{append-nil}
 use Rattle.std.proofs.Math.Seq.{set-append_seam}
-use Rattle.certificate_reader.specs.Fields.{reaching, placed}
+use Rattle.certificate_reader.specs.Fields.{reaching, put_in}
 
 -- ---- so that a place is there
 
@@ -61,9 +61,9 @@ reaching_padded i xs before = let next : suc i ≡ i + 1 = omega arith in ap (λ
 set_last : {A : Type 0} (i : ℕ) (xs : List (List A)) (y x : List A) → length xs ≡ i → set (xs ++ y ∷ []) i x ≡ xs ++ x ∷ []
 set_last i xs y x same = ap (λ n. set (xs ++ y ∷ []) n x) (sym same) ∙ set-append_seam xs y [] x
 
-pub placed_after : {A : Type 0} (i : ℕ) (xs : List (List A)) (x : List A) → length xs ≤ i → placed xs i x ≡ padded i xs ++ x ∷ []
+pub placed_after : {A : Type 0} (i : ℕ) (xs : List (List A)) (x : List A) → length xs ≤ i → put_in xs i x ≡ padded i xs ++ x ∷ []
 placed_after i xs x before = ap (λ ys. set ys i x) (reaching_padded i xs before) ∙ set_last i (padded i xs) [] x (padded_length i xs before)
 
-pub placed_last : {A : Type 0} (i : ℕ) (xs : List (List A)) (y x : List A) → length xs ≡ i → placed (xs ++ y ∷ []) i x ≡ xs ++ x ∷ []
+pub placed_last : {A : Type 0} (i : ℕ) (xs : List (List A)) (y x : List A) → length xs ≡ i → put_in (xs ++ y ∷ []) i x ≡ xs ++ x ∷ []
 placed_last i xs y x same =
     ap (λ ys. set ys i x) (reaching_there i (xs ++ y ∷ []) (omega (arith, same, length-append xs (y ∷ [])))) ∙ set_last i xs y x same

@@ -53,8 +53,8 @@ abbrev pub reaching : {A : Type 0} → (i : ℕ) → List (List A) → List (Lis
 reaching i xs = xs ++ replicate (suc i - length xs) []
 
 -- lists with this one at place i, and no longer than that needs
-abbrev pub placed : {A : Type 0} → List (List A) → (i : ℕ) → List A → List (List A)
-placed xs i x = set (reaching i xs) i x
+abbrev pub put_in : {A : Type 0} → List (List A) → (i : ℕ) → List A → List (List A)
+put_in xs i x = set (reaching i xs) i x
 
 -- of a queue, at a position that is so much further than the count
 unfoldable pub with_filled : List OpenedQueue → List Filled → List (List ℕ) → Result (List Filled) CertificateFault
@@ -62,4 +62,4 @@ with_filled queues filled words = do
   queue ← first_word_in words
   further ← first_word_in queue.1
   fields ← fields_listed_in (length (get_or queues queue.0 no_queue).fields) further.1
-  if nat_le MAX_POSITIONS further.0 then Err BadLine else Ok (placed filled queue.0 (placed (get_or filled queue.0 []) further.0 fields))
+  if nat_le MAX_POSITIONS further.0 then Err BadLine else Ok (put_in filled queue.0 (put_in (get_or filled queue.0 []) further.0 fields))

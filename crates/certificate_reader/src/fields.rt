@@ -4,7 +4,7 @@ ghost use Rattle.std.specs.Prelude.{◌≡◌, ◌<◌, get_or, set, length, nat
 ghost use Rattle.std.specs.List.{list_all};
 ghost use Rattle.texts.specs.Results.{GivesUpToMemory, refusal_of};
 ghost use Rattle.texts.specs.Cutting.{tokens};
-ghost use Rattle.certificate_reader.specs.Fields.{field_of, with_field, are_fields, fields_listed_in, reaching, placed, with_filled};
+ghost use Rattle.certificate_reader.specs.Fields.{field_of, with_field, are_fields, fields_listed_in, reaching, put_in, with_filled};
 
 use crate::faults::{BAD, LineError, MISPLACED, TOO_MANY};
 use crate::limits::{MAX_FIELDS, MAX_POSITIONS};
@@ -115,7 +115,7 @@ fn put_slot(
     place: usize,
     slot: FilledSlot,
 ) -> Result<(), AllocError>
-    ensures { IfOk result (λ x. slots.new.items ≡ placed slots.old.items place slot) }
+    ensures { IfOk result (λ x. slots.new.items ≡ put_in slots.old.items place slot) }
 {
     reach_slot(alloc, slots, place)?;
     slots[place] = slot;
@@ -138,7 +138,7 @@ fn put_filled(
     position: usize,
     slot: FilledSlot,
 ) -> Result<(), AllocError>
-    ensures { IfOk result (λ x. filled.new.items ≡ placed filled.old.items queue (placed (get_or filled.old.items queue []) position slot)) }
+    ensures { IfOk result (λ x. filled.new.items ≡ put_in filled.old.items queue (put_in (get_or filled.old.items queue []) position slot)) }
 {
     reach_queue(alloc, filled, queue)?;
     let mut slots = take_slots(alloc, filled, queue);

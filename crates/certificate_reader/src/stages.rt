@@ -1,7 +1,8 @@
 //! What a line begins with, and which lines may come.
 
 ghost use Rattle.std.specs.Prelude.{◌≡◌};
-ghost use Rattle.certificate_reader.specs.Stages.{part_keyword, state_keyword, case_keyword, field_keyword, keyword_named, is_queues, is_hart, is_owned, may_end};
+ghost use Rattle.certificate_reader.specs.Stages.{part_keyword, state_keyword, case_keyword, field_keyword, keyword_named};
+ghost use Rattle.certificate_reader.specs.Stages.{is_queues, is_hart, is_owned, may_end};
 ghost use Rattle.certificate_reader.specs.Stages.{is_state, is_described, wanted, after_split, after_leaf, after_arrow, stage_after};
 
 /// The most splits that a state may have.

@@ -3,7 +3,7 @@
 //! A certificate is for each hart a list of abstract states, of its registers, its own words and the counts that it knows, that is
 //! closed under single instructions of that hart. There are no calls: queues may be inlined. This crate runs nothing.
 //!
-//! Called by none, and cited by `queue_certificates`, `known_values`, `queue_checker`, `hart_safety`, `records_written` and `certifying`.
+//! Called by none, and cited by more than 6 crates, from `queue_certificates` to `certifying`.
 
 #![tactic(auto)]
 

@@ -8,7 +8,7 @@
 //! Of a queue's records a certificate may say fields: numbers of some bytes, from which a receiver's loads are then known. A queue's
 //! sender has to show that each is right where it publishes the record, and its receiver stores nothing to the slots.
 //!
-//! Called by `queue_checker` and `certifying`.
+//! Called by `queue_checker`, `records_written` and `certifying`.
 
 #![tactic(auto)]
 
