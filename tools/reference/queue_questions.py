@@ -60,7 +60,7 @@ class Sender:
         self.hart, self.part = self.queue.sender, certificates.part_of(listed, self.queue.sender)
         self.steps = certificates.steps_of(listed, self.hart)
         self.code = opening.harts[self.hart][0]
-        self.leaves = [[(self.does(known, leaf.handed), [arrow.to for arrow in leaf.arrows]) for known, leaf in certificates.leaves(*state)]
+        self.leaves = [[(self.does(known, leaf.handed), [arrow.to for arrow in leaf.arrows]) for known, leaf in certificates.leaves(state.known, state.cases)]
                        for state in self.part.states]
 
     def does(self, known, handed):
@@ -131,7 +131,7 @@ def is_within_memory(place, bounds, width):
 class Hart:
     def __init__(self, opening, listed, hart):
         self.code, self.steps = opening.harts[hart][0], certificates.steps_of(listed, hart)
-        self.leaves = [(n, known) for n, state in enumerate(certificates.part_of(listed, hart).states) for known, _ in certificates.leaves(*state)]
+        self.leaves = [(n, known) for n, state in enumerate(certificates.part_of(listed, hart).states) for known, _ in certificates.leaves(state.known, state.cases)]
 
     def goes_on(self, known):
         """The hart's next instruction doesn't stop it, if it has one."""
