@@ -395,7 +395,7 @@ class Program(Values):
             shares[which] = Share(None if share.count is None else share.count + step, share.first + on, share.last + on,
                                   share.low - step, share.high - step, share.begin + further, share.end + further)
         pc = (state.pc + 4 if pc is None else pc) % SIZE
-        needed = self.needed.registers[pc // 4] if pc <= 4 * len(self.code) else ()
+        needed = self.needed.registers[pc // 4] if pc <= 4 * len(self.code) else frozenset()
         if state.pc in self.needed.after_calls:
             needed &= self.needed.after_calls[state.pc]
         registers = (ZERO, *(value if which in needed else None for which, value in enumerate(registers) if which))
