@@ -225,6 +225,9 @@ class Judge:
     def described(self):
         for index in range(len(self.listed.queues)):
             yield from self.form(index)
+            for field in self.listed.queues[index].fields:
+                yield (f"queue {index}: the {field.width} bytes from {field.at} on of each record are {field.low} + {field.step} * j, "
+                       f"with j from 0 to {field.count}")
             for hart, pc, stores, loads in self.accesses(index):
                 if stores:
                     yield f"queue {index}: stored to by {self.place(hart, pc)}"

@@ -4,6 +4,7 @@ use Rattle.std.specs.List.{flat_map}
 use Rattle.std.specs.Fmt.{decimal}
 use Rattle.step_machine.specs.History.{OpeningValue}
 use Rattle.slot_queue.specs.Queues.{Queue}
+use Rattle.owned_run.specs.Certificates.{Field}
 use Rattle.queue_certificates.specs.Certificates.{OpenedQueue, QueueCertificate}
 use Rattle.queue_checker.specs.Accesses.{slot_accesses}
 use Rattle.queue_checker.specs.declared.accesses.SlotAccess.{SlotAccess}
@@ -41,6 +42,17 @@ count_end opened = codes "((n + " ++ (decimal opened.queue.offset ++ (codes ") m
 abbrev pub count_line : (i : ℕ) → OpenedQueue → List ℕ
 count_line i opened = count_front i opened.queue ++ count_end opened
 
+-- a field of its records
+unfoldable pub field_front : (i : ℕ) → Field → List ℕ
+field_front i f = codes "queue " ++ (decimal i ++ (codes ": the " ++ (decimal f.width ++ (codes " bytes from " ++ (decimal f.at
+    ++ codes " on of each record are ")))))
+
+unfoldable pub field_end : Field → List ℕ
+field_end f = decimal f.low ++ (codes " + " ++ (decimal f.step ++ (codes " * j, with j from 0 to " ++ (decimal f.count ++ 10 ∷ []))))
+
+abbrev pub field_line : (i : ℕ) → Field → List ℕ
+field_line i f = field_front i f ++ field_end f
+
 -- an instruction that in some state may store to a slot, and one that may load from one
 abbrev pub use_line : OpeningValue → (i : ℕ) → (does : List ℕ) → SlotAccess → List ℕ
 use_line o i does access = queue_front i ++ does ++ instruction_place o access.hart access.pc ++ 10 ∷ []
@@ -59,7 +71,7 @@ unfoldable pub form_lines : (i : ℕ) → OpenedQueue → List ℕ
 form_lines i opened = parties_line i opened.queue ++ indices_line i opened.queue ++ slots_line i opened.queue ++ count_line i opened
 
 unfoldable pub queue_lines : OpeningValue → QueueCertificate → (i : ℕ) → OpenedQueue → List ℕ
-queue_lines o c i opened = form_lines i opened ++ flat_map (access_lines o i) (slot_accesses o c i)
+queue_lines o c i opened = form_lines i opened ++ flat_map (field_line i) opened.fields ++ flat_map (access_lines o i) (slot_accesses o c i)
 
 unfoldable pub all_queue_lines : OpeningValue → QueueCertificate → List ℕ
 all_queue_lines o c = numbered (queue_lines o c) 0 c.queues

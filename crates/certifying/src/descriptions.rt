@@ -3,12 +3,12 @@
 ghost use Rattle.std.specs.Prelude.{◌≡◌, ◌++◌, IfOk, OnOk};
 ghost use Rattle.std.specs.List.{flat_map};
 ghost use Rattle.std.specs.String.{string_bytes};
-ghost use Rattle.certifying.specs.Descriptions.{access_lines, all_queue_lines, count_end, count_front, count_line, form_lines, indices_line};
-ghost use Rattle.certifying.specs.Descriptions.{load_line, parties_line, queue_lines, slots_end, slots_front, slots_line, store_line};
+ghost use Rattle.certifying.specs.Descriptions.{access_lines, all_queue_lines, count_end, count_front, count_line, field_end, field_front};
+ghost use Rattle.certifying.specs.Descriptions.{field_line, form_lines, indices_line, load_line, parties_line, queue_lines, slots_end, slots_front, slots_line, store_line};
 
 use crate::instructions::push_place;
 use crate::unused::number_of;
-use known_values::{Lack, OpenedQueue, Queue};
+use known_values::{Field, Lack, OpenedQueue, Queue};
 use queue_checker::{QueueCertificate, SlotAccess, slot_accesses};
 use std::alloc::{AllocError, Global};
 use step_machine::Opening;
@@ -105,6 +105,41 @@ fn push_count(out: &mut String, index: u32, opened: &OpenedQueue) -> Result<(), 
     push_count_end(out, opened)
 }
 
+#[tactic(auto, unfolding(crate::specs::Descriptions::field_front))]
+fn push_field_front(out: &mut String, index: u32, field: &Field) -> Result<(), AllocError>
+    ensures { OnOk result (string_bytes out.new ≡ string_bytes out.old ++ field_front index field.now) }
+{
+    let Field { at, width, .. } = field;
+    write!(
+        out,
+        "queue {index}: the {width} bytes from {at} on of each record are "
+    )
+}
+
+#[tactic(auto, unfolding(crate::specs::Descriptions::field_end))]
+fn push_field_end(out: &mut String, field: &Field) -> Result<(), AllocError>
+    ensures { OnOk result (string_bytes out.new ≡ string_bytes out.old ++ field_end field.now) }
+{
+    let Field {
+        low,
+        step,
+        count,
+        ..
+    } = field;
+    writeln!(out, "{low} + {step} * j, with j from 0 to {count}")
+}
+
+/// The lines of the fields of a queue's records.
+fn push_fields(out: &mut String, index: u32, fields: &[Field]) -> Result<(), AllocError>
+    ensures { OnOk result (string_bytes out.new ≡ string_bytes out.old ++ flat_map (field_line index) fields.now) }
+{
+    for field in fields {
+        push_field_front(out, index, field)?;
+        push_field_end(out, field)?;
+    }
+    Ok(())
+}
+
 /// The line of an instruction that may store to a slot.
 fn push_store(
     out: &mut String,
@@ -179,6 +214,7 @@ fn push_queue(
 {
     let accesses = slot_accesses(alloc, opening, certificate, index)?;
     push_form(out, index, opened)?;
+    push_fields(out, index, &opened.fields)?;
     push_accesses(out, opening, index, &accesses)?;
     Ok(())
 }
