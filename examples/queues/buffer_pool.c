@@ -1,6 +1,6 @@
 /* Sends addresses of buffers of a pool: the receiver writes into what it received, and so into the pool alone.
    queue: head=q_head,tail=q_tail,slots=q_at,size=4
-   answer: covered */
+   answer: kept in every run */
 #include <stdatomic.h>
 
 #define SLOTS 4
