@@ -4,7 +4,7 @@
 //! The contract: each function returns what the definition of its name in `queue_certificates` is of its arguments, or a [`Lack`],
 //! which decides nothing. Numbers never wrap. This crate knows no certificate, no state and no memory.
 //!
-//! Called by `queue_checker`, `records_checker`, `certificate_reader` and `certifying`.
+//! Called by `queue_checker`, `hart_safety`, `records_written`, `certificate_reader` and `certifying`.
 
 #![tactic(auto)]
 

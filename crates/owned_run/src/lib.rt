@@ -3,7 +3,7 @@
 //! A certificate is for each hart a list of abstract states, of its registers, its own words and the counts that it knows, that is
 //! closed under single instructions of that hart. There are no calls: queues may be inlined. This crate runs nothing.
 //!
-//! Called by none, and cited by `queue_certificates`, `records_written`, `queue_checker`, `records_checker` and `certifying`.
+//! Called by none, and cited by `queue_certificates`, `queue_checker`, `hart_safety`, `records_written` and `certifying`.
 
 #![tactic(auto)]
 

@@ -4,7 +4,7 @@
 //! ([`laws_of_flaws`]); [`first_unowned`] does the same for the loads of one hart. A [`Lack`](known_values::Lack) decides nothing. This
 //! crate finds no certificate, reads no text and runs no machine.
 //!
-//! Called by `hart_safety`, `records_checker`, `certificate_reader` and `certifying`.
+//! Called by `hart_safety`, `records_written`, `certificate_reader` and `certifying`.
 
 #![tactic(auto)]
 

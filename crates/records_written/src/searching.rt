@@ -40,8 +40,8 @@ fn most_filled(state: &StateLeaves) -> u64 {
 /// Of how many positions from the count on there can be marks.
 fn positions(all: &[StateLeaves], mask: &[u64]) -> u64 {
     let most = all.iter().map(most_filled).max().unwrap_or(0);
-    let each = (all.len() as u64).saturating_mul(mask.len() as u64);
-    most.min(MOST_MARKS / each.max(1))
+    let each = (all.len().max(1) as u64).saturating_mul(mask.len().max(1) as u64);
+    most.min(MOST_MARKS / each)
 }
 
 /// Every byte of the mask, at this number of positions.
