@@ -3,8 +3,9 @@
 ghost use Rattle.std.specs.Prelude.{◌≡◌, ◌++◌, IfOk, OnOk};
 ghost use Rattle.std.specs.List.{flat_map};
 ghost use Rattle.std.specs.String.{string_bytes};
-ghost use Rattle.certifying.specs.Descriptions.{access_lines, all_queue_lines, count_end, count_front, count_line, field_end, field_front};
-ghost use Rattle.certifying.specs.Descriptions.{field_line, form_lines, indices_line, load_line, parties_line, queue_lines, slots_end, slots_front, slots_line, store_line};
+ghost use Rattle.certifying.specs.Descriptions.{access_lines, all_queue_lines, count_end, count_front, count_line, field_end, field_front, field_line};
+ghost use Rattle.certifying.specs.Descriptions.{form_lines, indices_line, load_line, parties_line, queue_lines, slots_end, slots_front, slots_line};
+ghost use Rattle.certifying.specs.Descriptions.{store_line};
 
 use crate::instructions::push_place;
 use crate::unused::number_of;
