@@ -26,6 +26,7 @@ use Rattle.certifying.specs.Questions.{Questions}
 use Rattle.certifying.specs.Harts.{harts_lines, harts_safe}
 use Rattle.certifying.specs.Inputs.{SaysCertificate, certificate_of, certificates}
 use Rattle.certifying.specs.Kept.{AreSameAnswers, AreJudged, AreQueueAnswers, DifferInRecords, IsPromised, KeepsProtocol, LoadsOwnedSlots}
+use Rattle.certifying.specs.Kept.{ReceivesFields}
 use Rattle.certifying.specs.Records.{AreFoundFor, is_shown}
 use Rattle.certifying.specs.declared.records.Records.{Records}
 use Rattle.certifying.specs.Unread.{first_unread, unread_by, unread_of}
@@ -118,6 +119,7 @@ pub record Laws : Type 0 where
   pub no_flaw : (o : OpeningValue) (c : QueueCertificate) → (first_flaw o c ≡ None) ↔ (accepts o c ≡ true)
   pub all_owned : (o : OpeningValue) (c : QueueCertificate) (i h : ℕ) → (first_unowned o c i h ≡ None) ↔ (accepts_loads o c i h ≡ true)
   pub every_run : (o : OpeningValue) (c : QueueCertificate) → accepts o c ≡ true → KeepsProtocol o c
+  pub sent : (o : OpeningValue) (c : QueueCertificate) → accepts o c ≡ true → ReceivesFields o c
   pub reads_owned : (B M : ℕ) (o : OpeningValue) (c : QueueCertificate) → accepts o c ≡ true → (i : ℕ) (p : Party) → i < length c.queues
       → accepts_loads o c i (hart (queue_at c i) p) ≡ true → (es : List Entry) → WellFormed B M (history_of o es)
       → ReadsOwned (queue_at c i) p (all_at (start_at c i)) es
@@ -141,6 +143,9 @@ module _ (laws : Laws) (o : OpeningValue) (c : QueueCertificate) where
   keeps : first_flaw o c ≡ None → KeepsProtocol o c
   keeps none = laws.every_run o c ((laws.no_flaw o c).0 none)
 
+  receives : first_flaw o c ≡ None → ReceivesFields o c
+  receives none = laws.sent o c ((laws.no_flaw o c).0 none)
+
   module _ (M : ℕ) (asked : Questions) where
     promised_all : first_flaw o c ≡ None → first_unread o c ≡ None → (found : List Records) → AreFoundFor o c asked.written found → (all : Bool)
         → (list_all is_shown found && harts_safe M o c asked.harts) ≡ all → IsPromised M asked (kept_judgement all) o c
@@ -148,17 +153,18 @@ module _ (laws : Laws) (o : OpeningValue) (c : QueueCertificate) where
         let accepted = (laws.no_flaw o c).0 none in
         let both = and_parts _ _ shown in (
           keeps none,
+          receives none,
           loads none owned,
           writes o c laws.asked accepted asked.written found are both.0,
           keeps-harts o c laws.asked accepted M asked.harts both.1,
         )
-    promised_all none owned found are false shown = (keeps none, loads none owned)
+    promised_all none owned found are false shown = (keeps none, receives none, loads none owned)
 
     promised_reads : first_flaw o c ≡ None → (found : List Records) → AreFoundFor o c asked.written found → (u : Option Unread) → first_unread o c ≡ u
         → IsPromised M asked (judged_reads o c asked found (harts_lines M o c asked.harts) (harts_safe M o c asked.harts) u).1 o c
     promised_reads none found are None e =
         promised_all none e found are (list_all is_shown found && harts_safe M o c asked.harts) refl
-    promised_reads none found are (Some unread) e = keeps none
+    promised_reads none found are (Some unread) e = (keeps none, receives none)
 
     promised_use : first_flaw o c ≡ None → (u : Option Unused) → (answer : List ℕ × Judgement) → IsUseAnswer M asked o c u answer
         → IsPromised M asked answer.1 o c

@@ -6,7 +6,7 @@ use Rattle.hart.specs.declared.status.Status.TheVariants.{Stopped}
 use Rattle.litmus.specs.LitmusTests.{LitmusTest}
 use Rattle.step_machine.specs.declared.events.Entry.{Entry}
 use Rattle.step_machine.specs.Access.{access_of}
-use Rattle.step_machine.specs.Entries.{hart_of, is_land}
+use Rattle.step_machine.specs.Entries.{hart_of, is_land, read_byte}
 use Rattle.step_machine.specs.History.{OpeningValue, history_of}
 use Rattle.step_machine.specs.Legal.{WellFormed}
 use Rattle.step_machine.specs.Paths.{state_of}
@@ -16,7 +16,7 @@ use Rattle.slot_queue.specs.Queues.{slot_of}
 use Rattle.slot_queue.specs.Ownership.{KeepsOwnership, counts_after}
 use Rattle.slot_queue.specs.Laws.{FollowsOwnership}
 use Rattle.owned_run.specs.Certified.{ReadsOwned}
-use Rattle.queue_certificates.specs.Certificates.{QueueCertificate, queue_at, start_at}
+use Rattle.queue_certificates.specs.Certificates.{QueueCertificate, queue_at, start_at, MeetsFields}
 use Rattle.record_bytes.specs.Naming.{names_byte}
 use Rattle.records_written.specs.Written.{IsWritten}
 use Rattle.hart_safety.specs.Regions.{IsInNone, regions_written}
@@ -35,6 +35,13 @@ use Rattle.certifying.specs.declared.judgement.Judgement.TheVariants.{Kept, Read
 abbrev pub KeepsProtocol : OpeningValue → QueueCertificate → Type 0
 KeepsProtocol o c = (B M : ℕ) (es : List Entry) → WellFormed B M (history_of o es) → (i : ℕ) → i < length c.queues
     → FollowsOwnership B (queue_at c i) (all_at (start_at c i)) o [] es
+
+-- and in each the receiver of a queue whose records have fields reads in each slot that it owns, as each field, one of the field's numbers
+abbrev pub ReceivesFields : OpeningValue → QueueCertificate → Type 0
+ReceivesFields o c = (B M : ℕ) (es : List Entry) → WellFormed B M (history_of o es) → (i : ℕ) → i < length c.queues → (k : ℕ)
+    → (counts_after (queue_at c i) (all_at (start_at c i)) es).taken ≤ k
+    → k < (counts_after (queue_at c i) (all_at (start_at c i)) es).known_published
+    → MeetsFields c i k (λ x. read_byte o es (queue_at c i).receiver x)
 
 -- and in each a party of a queue loads no byte of a slot that it doesn't own
 abbrev pub LoadsOwnedSlots : OpeningValue → QueueCertificate → Type 0
@@ -89,9 +96,10 @@ pub record AreJudged (file certificate : Option (List ℕ)) (Holds : OpeningValu
 
 -- what is promised where this is returned, with M words of memory
 abbrev pub IsPromised : (M : ℕ) → Questions → Judgement → OpeningValue → QueueCertificate → Type 0
-IsPromised M asked Kept o c = KeepsProtocol o c × LoadsOwnedSlots o c × WritesRecords asked.written o c × KeepsHarts M asked.harts o c
-IsPromised M asked AskedNotShown o c = KeepsProtocol o c × LoadsOwnedSlots o c
-IsPromised M asked ReadsNotShown o c = KeepsProtocol o c
+IsPromised M asked Kept o c = KeepsProtocol o c × ReceivesFields o c × LoadsOwnedSlots o c × WritesRecords asked.written o c
+    × KeepsHarts M asked.harts o c
+IsPromised M asked AskedNotShown o c = KeepsProtocol o c × ReceivesFields o c × LoadsOwnedSlots o c
+IsPromised M asked ReadsNotShown o c = KeepsProtocol o c × ReceivesFields o c
 IsPromised M asked NotShown o c = Unit {0}
 IsPromised M asked Broken o c = BreaksProtocol o c
 

@@ -18,7 +18,8 @@ use records_written::laws_of_written_records;
 ///
 /// - `promised`: where its answer is that the protocol is kept, every legal run of the text, of any length and schedule and with store
 ///   buffers of any size, keeps the protocol of ownership of each queue, so that all that `slot_queue::laws_of_ownership` promises
-///   holds of it; and where its reads are shown too, no party loads a byte of a slot that it doesn't own. Where all that was asked is shown
+///   holds of it, and what a receiver owns has the numbers of the fields that the answer lists; and where its reads are shown too, no
+///   party loads a byte of a slot that it doesn't own. Where all that was asked is shown
 ///   too, in each such run the sender of each queue has written each byte that was asked about of each record that it publishes, since
 ///   the record before in that slot was published; and if the harts were asked about, none is ever stopped on a machine of this memory,
 ///   and each writes only bytes of its regions. Where its answer is that the protocol is broken, some legal run of the text doesn't keep

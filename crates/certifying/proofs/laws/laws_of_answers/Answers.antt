@@ -6,6 +6,7 @@ returns-clause-promised c = answers.promised (record {
   no_flaw = c.laws_of_flaws.ensures.flaw;
   all_owned = c.laws_of_flaws.ensures.loads;
   every_run = λ o listed accepted B M. c.laws_of_queue_certificates.ensures.every_run B M o listed accepted;
+  sent = λ o listed accepted B M es formed i less. c.laws_of_queue_certificates.ensures.sent B M o listed accepted i less es formed;
   reads_owned = c.laws_of_queue_certificates.ensures.reads_owned;
   asked = record {
     written = λ B M o listed accepted. c.laws_of_written_records.ensures.shown B M o listed accepted;
