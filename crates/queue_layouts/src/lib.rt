@@ -1,13 +1,19 @@
-//! A queue between two harts as numbers of the machine.
+//! Queues between two harts as numbers of the machine.
 //!
-//! The contract: a [`Queue`] is seen as the record of `slot_queue` with the same fields. This crate defines the type alone, so that
-//! what decides of a run and what decides of a program speak of one.
+//! The contract: a [`Queue`], of two indices and slots, is seen as the record of `slot_queue` with the same fields, and of a
+//! [`TaggedQueue`], whose slots tell whose they are, `specs/Tagged.antt` has the record of `slots_that_tell`. [`party_among`] computes which [`Party`] a
+//! hart is. What decides of a run and what decides of a program have one type of queue and of party. This crate decides neither.
 //!
-//! Called by `known_values` and `ownership_runs`.
+//! Called by `known_values`, `queue_checker`, `ownership_runs`, `certificate_reader` and `certifying`.
 
 #![tactic(auto)]
 
+mod parties;
+mod tagged;
+
+pub use parties::{Party, other, party_among};
 use std::marker::Model;
+pub use tagged::{Codec, OpenedTagged, TaggedQueue};
 
 /// A queue: the harts that send and receive, where its indices and slots lie, and how an index stands for a count. Addresses and
 /// widths are in bytes; whether they are those of a queue (`IsQueue`) the type leaves open.
@@ -69,4 +75,11 @@ impl Model for Queue {
       offset = q.offset;
       modulus = q.modulus;
     } };
+}
+
+/// A queue of either kind.
+#[derive(Clone, Copy, PartialEq, Eq)]
+pub enum AnyQueue {
+    Indexed(Queue),
+    Tagged(TaggedQueue),
 }

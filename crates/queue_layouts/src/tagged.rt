@@ -1,0 +1,32 @@
+//! Queues whose slots tell whose they are, as a certificate lists them.
+
+/// How the tag of a slot tells.
+#[derive(Clone, Copy, PartialEq, Eq)]
+pub enum Codec {
+    /// By 0 where the slot is free, and by any other number where it is full.
+    Zero,
+    /// By positions' numbers modulo 2^32: by k where the slot is free for position k, and by k + 1 where it is full of it.
+    Number,
+}
+
+/// The harts that send and receive; where the slots begin, how many they are, and how many bytes one has; the bytes of a slot that
+/// are its tag; and how that tells. Addresses and widths are in bytes; whether they are those of a queue (`is_tagged`) the type
+/// leaves open.
+#[derive(Clone, Copy, PartialEq, Eq)]
+pub struct TaggedQueue {
+    pub sender: u32,
+    pub receiver: u32,
+    pub slots: u32,
+    pub size: u32,
+    pub width: u32,
+    pub tag_offset: u32,
+    pub tag_width: u32,
+    pub codec: Codec,
+}
+
+/// A queue, and the position with which it opens: for the positions of one round from there on its slots are free.
+#[derive(Clone, Copy, PartialEq, Eq)]
+pub struct OpenedTagged {
+    pub queue: TaggedQueue,
+    pub start: u64,
+}
