@@ -10,7 +10,7 @@ use Rattle.memory.proofs.Bytes.{joined-same, covers-yes, covers-from}
 use Rattle.memory.proofs.Joined.{joined-bytes}
 use Rattle.queue_parties.proofs.Parties.{both-equal}
 use Rattle.queue_parties.specs.Parties.{Party, the_sender, the_receiver, QueueCounts}
-use Rattle.queue_parties.proofs.Positions.{same_slot, in_slot}
+use Rattle.queue_parties.proofs.Positions.{in_slot}
 use Rattle.queue_parties.proofs.Positions as positions
 use Rattle.slots_that_tell.specs.Slots.{Slots, IsSlots, gap, tag_of, IsSlotByte, IsTagByte, KeepsOff, slot_at, is_tag}
 use Rattle.queue_parties.specs.Positions.{IsInBytes}

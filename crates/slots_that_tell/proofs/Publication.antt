@@ -14,7 +14,7 @@ use Rattle.step_machine.proofs.Balanced.{balanced}
 use Rattle.queue_parties.specs.Parties.{Party, other, QueueCounts, count, known}
 use Rattle.queue_parties.proofs.Parties.{counts-append, keeps-front, keeps-back}
 use Rattle.slots_that_tell.specs.Slots.{Slots, IsSlots}
-use Rattle.slots_that_tell.specs.Telling.{KeepsEntry, teller_of, teller_hart, after_entry, told_counts, KeepsTelling}
+use Rattle.slots_that_tell.specs.Telling.{KeepsEntry, teller_hart, after_entry, told_counts, KeepsTelling}
 use Rattle.slots_that_tell.specs.Laws.{FollowsTelling, counts, moved_on}
 use Rattle.slots_that_tell.proofs.Sides.{Held, moved_on-more, moved_on-append}
 use Rattle.slots_that_tell.proofs.Steps.{next, next-mine, next-other, one-on}

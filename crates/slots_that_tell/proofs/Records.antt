@@ -22,7 +22,7 @@ use Rattle.slots_that_tell.specs.Telling.{told_access, after_entry, told_counts,
 use Rattle.slots_that_tell.specs.Laws.{FollowsTelling, counts, StoresTagsAlone, tagged_record, reading_at, records_by, records_waiting}
 use Rattle.slots_that_tell.proofs.Places.{tag-in-slot, fills-leaves, moved-tag, far}
 use Rattle.slots_that_tell.proofs.Publication.{follows-front}
-use Rattle.slots_that_tell.proofs.Owned.{grows-entry, grows-after, grows-access, Window, window-of, loaded-count, Moving, moving}
+use Rattle.slots_that_tell.proofs.Owned.{grows-entry, grows-after, Window, window-of, loaded-count, Moving, moving}
 use Rattle.slots_that_tell.proofs.HandingOver.{handed, below, waited}
 
 -- a party's store over a byte of a tag is the one of its own position's

@@ -5,7 +5,7 @@
 //! likes into the rest of slots that it owns, and hands its own position over by a store to the tag. The contract is that of
 //! [`laws_of_telling`]. This crate runs nothing.
 //!
-//! Called by none, and cited by `telling_run` and `queue_instances`.
+//! Called by none, and cited by more than 6 crates, from `telling_run` to `certifying`.
 
 #![tactic(auto)]
 

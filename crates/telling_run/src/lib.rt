@@ -5,7 +5,7 @@
 //! The counts depend on the accesses alone, so a hart needs no word of memory to know its own. There are no calls: queues may be
 //! inlined. The contract is that of [`laws_of_telling_certificates`]. This crate runs nothing, finds no certificate and checks none.
 //!
-//! Called by none: its laws are what it is for.
+//! Called by none, and cited by `queue_certificates` and `certifying`.
 
 #![tactic(auto)]
 
