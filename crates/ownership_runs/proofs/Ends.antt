@@ -12,12 +12,12 @@ use Rattle.step_machine.specs.Entries.{hart_of}
 use Rattle.step_machine.specs.Runs.{Adds, Idles, Run}
 use Rattle.step_machine.proofs.Running.{shape_of, hart_follows, opening_kept}
 use Rattle.queue_parties.specs.Parties.{QueueCounts}
-use Rattle.slot_queue.specs.Queues.{Queue}
-use Rattle.slot_queue.specs.Ownership.{counts_after}
+use Rattle.queue_layouts.specs.declared.AnyQueue.{AnyQueue}
 use Rattle.shrink.specs.Shrinking.{without}
 use Rattle.drawn_runs.proofs.LastEvents.{LastHappens, last_happens}
 use Rattle.judged_runs.specs.Telling.{IsFlawTold}
 use Rattle.ownership_runs.specs.declared.violations.Violation.{Violation}
+use Rattle.ownership_runs.specs.Protocols.{run_counts}
 use Rattle.ownership_runs.specs.Keeping.{keeps_entry}
 use Rattle.ownership_runs.specs.Violations.{violation_at, first_ownership_violation}
 use Rattle.ownership_runs.specs.Runs.{HasKeptRun, HasBrokenRun, IsOfOneHart}
@@ -58,26 +58,26 @@ without-last front last = ap (λ xs. xs ++ drop (length front + 1) (front ++ las
 
 -- ---- the violation of the last entry
 
-module _ (q : Queue) (start : QueueCounts) (es : List Entry) (e : Entry) (b : Violation)
+module _ (q : AnyQueue) (start : QueueCounts) (es : List Entry) (e : Entry) (b : Violation)
     (found : first_ownership_violation q start (es ++ e ∷ []) ≡ Some b) where
   -- it is that of the entries before, or the last entry
   abbrev IsLast : Type 0
-  IsLast = b ≡ violation_at q (length es) (counts_after q start es) e
+  IsLast = b ≡ violation_at q (length es) (run_counts q start es) e
 
   before-or-last : (first_ownership_violation q start es ≡ Some b) ⊎ IsLast
   before-or-last = by (first_ownership_violation q start es) refl
     where
-      here : (ok : Bool) → (if ok then None else Some (violation_at q (0 + length es) (counts_after q start es) e)) ≡ Some b → IsLast
+      here : (ok : Bool) → (if ok then None else Some (violation_at q (0 + length es) (run_counts q start es) e)) ≡ Some b → IsLast
       here true none = cc
       here false is = let at : 0 + length es ≡ length es = omega arith in
-          let same : violation_at q (0 + length es) (counts_after q start es) e ≡ b = cc in
-          sym same ∙ ap (λ (n : ℕ). violation_at q n (counts_after q start es) e) at
+          let same : violation_at q (0 + length es) (run_counts q start es) e ≡ b = cc in
+          sym same ∙ ap (λ (n : ℕ). violation_at q n (run_counts q start es) e) at
 
       by : (x : Option Violation) → first_ownership_violation q start es ≡ x → (first_ownership_violation q start es ≡ Some b) ⊎ IsLast
-      by None none = inr (here (keeps_entry q (counts_after q start es) e) (sym (more-kept q e 0 start es none) ∙ found))
+      by None none = inr (here (keeps_entry q (run_counts q start es) e) (sym (more-kept q e 0 start es none) ∙ found))
       by (Some a) some = inl (some ∙ sym (more-broken q e 0 start es a some) ∙ found)
 
-module _ (B M : ℕ) (o : OpeningValue) (q : Queue) (start : QueueCounts) (part : List Event) (b : Violation) where
+module _ (B M : ℕ) (o : OpeningValue) (q : AnyQueue) (start : QueueCounts) (part : List Event) (b : Violation) where
   -- none of its events can go
   abbrev IsShort : Type 0
   IsShort = (i : ℕ) → i < length part → HasBrokenRun B M o q start (without i 1 part) b → ⊥
@@ -109,7 +109,7 @@ module _ (B M : ℕ) (o : OpeningValue) (q : Queue) (start : QueueCounts) (part 
         where
           at : first_ownership_violation q start (split.before.entries ++ e ∷ []) ≡ Some b
               → (first_ownership_violation q start split.before.entries ≡ Some b)
-              ⊎ (b ≡ violation_at q (length split.before.entries) (counts_after q start split.before.entries) e)
+              ⊎ (b ≡ violation_at q (length split.before.entries) (run_counts q start split.before.entries) e)
               → EndsInViolation B M o q start part b
           at found (inl first) = absurd (not-before first)
           at found (inr is) = record {
@@ -141,7 +141,7 @@ module _ (B M : ℕ) (o : OpeningValue) (q : Queue) (start : QueueCounts) (part 
     of-part (inl none) = of-none none
     of-part (inr l) = of-last l
 
-pub ends-told : (B M : ℕ) (o : OpeningValue) (q : Queue) (start : QueueCounts) (schedule : ℕ → List Event) (runs : ℕ) (part : List Event) (b : Violation)
+pub ends-told : (B M : ℕ) (o : OpeningValue) (q : AnyQueue) (start : QueueCounts) (schedule : ℕ → List Event) (runs : ℕ) (part : List Event) (b : Violation)
     → IsFlawTold (HasKeptRun B M o q start) (HasBrokenRun B M o q start) IsOfOneHart schedule runs part b → EndsInViolation B M o q start part b
 ends-told B M o q start schedule runs part b told = of-part B M o q start part b told.shown.has short (none-or-last part)
   where

@@ -1,38 +1,38 @@
--- The first violation of a run: there is none exactly where each entry keeps the protocol of ownership.
-use Rattle.std.proofs.Common.{ℕ, suc, ◌+◌, ◌≤◌, ◌≡◌, Bool, true, false, ◌<◌, List, [], ◌∷◌, ◌++◌, length, drop, get_or}
+-- The first violation of a run: there is none exactly where each entry keeps the protocol.
+use Rattle.std.proofs.Common.{ℕ, suc, ◌+◌, ◌≡◌, Bool, true, false, ◌<◌, List, [], ◌∷◌, ◌++◌, length, drop, get_or}
 use Rattle.std.proofs.Common.{drop-cons, add-one, Some, None, Ok, Err, refl, sym, ap, ◌∙◌, arith}
 use Rattle.std.specs.Prelude.{if◌then◌else◌}
 use Rattle.step_machine.specs.declared.events.Entry.{Entry}
-use Rattle.queue_parties.specs.Parties.{QueueCounts}
+use Rattle.queue_parties.specs.Parties.{QueueCounts, KeepsEach}
 use Rattle.queue_parties.proofs.Parties.{keeps-at}
-use Rattle.slot_queue.specs.Queues.{Queue}
-use Rattle.slot_queue.specs.Ownership.{counts_next, counts_after, KeepsEntry, KeepsOwnership}
+use Rattle.queue_layouts.specs.declared.AnyQueue.{AnyQueue}
 use Rattle.ownership_runs.specs.declared.violations.Violation.{Violation}
+use Rattle.ownership_runs.specs.Protocols.{KeepsOne, Keeps, HasSlot, entry_counts, run_counts}
 use Rattle.ownership_runs.specs.Keeping.{keeps_entry}
 use Rattle.ownership_runs.specs.Violations.{violation_at, judged_entry, violation_from, first_ownership_violation, IsFirstViolation}
-use Rattle.ownership_runs.proofs.Decisions.{decides-entry}
+use Rattle.ownership_runs.proofs.Decisions.{decides-entry, keeps-each, each-keeps}
 
 -- ---- one entry more
 
-module _ (q : Queue) (place : ℕ) (c : QueueCounts) (e : Entry) (rest : List Entry) where
+module _ (q : AnyQueue) (place : ℕ) (c : QueueCounts) (e : Entry) (rest : List Entry) where
   pub one-kept : (next : QueueCounts) → judged_entry q place c e ≡ Ok next → violation_from q place c (e ∷ rest) ≡ violation_from q (place + 1) next rest
   one-kept next is = by (keeps_entry q c e) is
     where
-      by : (ok : Bool) → (if ok then Ok (counts_next q c e) else Err (violation_at q place c e)) ≡ Ok next
-          → (if ok then violation_from q (place + 1) (counts_next q c e) rest else Some (violation_at q place c e)) ≡ violation_from q (place + 1) next rest
-      by true same = let now : counts_next q c e ≡ next = cc in ap (λ (d : QueueCounts). violation_from q (place + 1) d rest) now
+      by : (ok : Bool) → (if ok then Ok (entry_counts q c e) else Err (violation_at q place c e)) ≡ Ok next
+          → (if ok then violation_from q (place + 1) (entry_counts q c e) rest else Some (violation_at q place c e)) ≡ violation_from q (place + 1) next rest
+      by true same = let now : entry_counts q c e ≡ next = cc in ap (λ (d : QueueCounts). violation_from q (place + 1) d rest) now
       by false other = cc
 
   pub one-broken : (b : Violation) → judged_entry q place c e ≡ Err b → violation_from q place c (e ∷ rest) ≡ Some b
   one-broken b is = by (keeps_entry q c e) is
     where
-      by : (ok : Bool) → (if ok then Ok (counts_next q c e) else Err (violation_at q place c e)) ≡ Err b
-          → (if ok then violation_from q (place + 1) (counts_next q c e) rest else Some (violation_at q place c e)) ≡ Some b
+      by : (ok : Bool) → (if ok then Ok (entry_counts q c e) else Err (violation_at q place c e)) ≡ Err b
+          → (if ok then violation_from q (place + 1) (entry_counts q c e) rest else Some (violation_at q place c e)) ≡ Some b
       by true other = cc
       by false same = cc
 
 -- the same of the entry at a place of a list, and those after it
-module _ (q : Queue) (place : ℕ) (c : QueueCounts) (es : List Entry) (d : Entry) (within : place < length es) where
+module _ (q : AnyQueue) (place : ℕ) (c : QueueCounts) (es : List Entry) (d : Entry) (within : place < length es) where
   at_place : drop place es ≡ get_or es place d ∷ drop (place + 1) es
   at_place = rw (add-one, drop-cons es place d) refl
 
@@ -45,21 +45,24 @@ module _ (q : Queue) (place : ℕ) (c : QueueCounts) (es : List Entry) (d : Entr
 
 -- ---- the first violation
 
-module _ (q : Queue) (some : 1 ≤ q.size) where
-  kept-from : (place : ℕ) (c : QueueCounts) (es : List Entry) → violation_from q place c es ≡ None → KeepsOwnership q c es
+module _ (q : AnyQueue) (some : HasSlot q) where
+  abbrev Each : QueueCounts → List Entry → Type 0
+  Each c es = KeepsEach (entry_counts q) (KeepsOne q) c es
+
+  kept-from : (place : ℕ) (c : QueueCounts) (es : List Entry) → violation_from q place c es ≡ None → Each c es
   kept-from place c [] none = tt
-  kept-from place c (e ∷ es) none = by (λ more. kept-from (place + 1) (counts_next q c e) es more) (keeps_entry q c e) refl none
+  kept-from place c (e ∷ es) none = by (λ more. kept-from (place + 1) (entry_counts q c e) es more) (keeps_entry q c e) refl none
     where
-      by : (violation_from q (place + 1) (counts_next q c e) es ≡ None → KeepsOwnership q (counts_next q c e) es) → (b : Bool) → keeps_entry q c e ≡ b
-          → (if b then violation_from q (place + 1) (counts_next q c e) es else Some (violation_at q place c e)) ≡ None → KeepsOwnership q c (e ∷ es)
+      by : (violation_from q (place + 1) (entry_counts q c e) es ≡ None → Each (entry_counts q c e) es) → (b : Bool) → keeps_entry q c e ≡ b
+          → (if b then violation_from q (place + 1) (entry_counts q c e) es else Some (violation_at q place c e)) ≡ None → Each c (e ∷ es)
       by rest true is later = ((decides-entry q some c e).0 is, rest later)
       by rest false is later = cc
 
-  none-from : (place : ℕ) (c : QueueCounts) (es : List Entry) → KeepsOwnership q c es → violation_from q place c es ≡ None
+  none-from : (place : ℕ) (c : QueueCounts) (es : List Entry) → Each c es → violation_from q place c es ≡ None
   none-from place c [] keeps = refl
   none-from place c (e ∷ es) keeps =
-      ap (λ b. if b then violation_from q (place + 1) (counts_next q c e) es else Some (violation_at q place c e)) ((decides-entry q some c e).1 keeps.0)
-      ∙ none-from (place + 1) (counts_next q c e) es keeps.1
+      ap (λ b. if b then violation_from q (place + 1) (entry_counts q c e) es else Some (violation_at q place c e)) ((decides-entry q some c e).1 keeps.0)
+      ∙ none-from (place + 1) (entry_counts q c e) es keeps.1
 
   -- the first violation among entries, of which the first stands at `place`
   record IsFirstFrom (place : ℕ) (c : QueueCounts) (es : List Entry) (b : Violation) : Type 0 where
@@ -67,15 +70,15 @@ module _ (q : Queue) (some : 1 ≤ q.size) where
     entry : Entry
     back : List Entry
     is : es ≡ front ++ entry ∷ back
-    keeps : KeepsOwnership q c front
-    breaks : KeepsEntry q (counts_after q c front) entry → ⊥
-    violation : b ≡ violation_at q (place + length front) (counts_after q c front) entry
+    keeps : Each c front
+    breaks : KeepsOne q (run_counts q c front) entry → ⊥
+    violation : b ≡ violation_at q (place + length front) (run_counts q c front) entry
 
   first-from : (place : ℕ) (c : QueueCounts) (es : List Entry) (b : Violation) → violation_from q place c es ≡ Some b → IsFirstFrom place c es b
   first-from place c [] b some = cc
-  first-from place c (e ∷ es) b found = by (λ more. first-from (place + 1) (counts_next q c e) es b more) (keeps_entry q c e) refl found
+  first-from place c (e ∷ es) b found = by (λ more. first-from (place + 1) (entry_counts q c e) es b more) (keeps_entry q c e) refl found
     where
-      later : keeps_entry q c e ≡ true → IsFirstFrom (place + 1) (counts_next q c e) es b → IsFirstFrom place c (e ∷ es) b
+      later : keeps_entry q c e ≡ true → IsFirstFrom (place + 1) (entry_counts q c e) es b → IsFirstFrom place c (e ∷ es) b
       later ok first =
           let further : place + 1 + length first.front ≡ place + suc (length first.front) = omega arith in
           record {
@@ -85,12 +88,12 @@ module _ (q : Queue) (some : 1 ≤ q.size) where
             is = ap (λ xs. e ∷ xs) first.is;
             keeps = ((decides-entry q some c e).0 ok, first.keeps);
             breaks = first.breaks;
-            violation = first.violation ∙ ap (λ (n : ℕ). violation_at q n (counts_after q (counts_next q c e) first.front) first.entry) further;
+            violation = first.violation ∙ ap (λ (n : ℕ). violation_at q n (run_counts q (entry_counts q c e) first.front) first.entry) further;
           }
 
-      by : (violation_from q (place + 1) (counts_next q c e) es ≡ Some b → IsFirstFrom (place + 1) (counts_next q c e) es b) → (ok : Bool)
+      by : (violation_from q (place + 1) (entry_counts q c e) es ≡ Some b → IsFirstFrom (place + 1) (entry_counts q c e) es b) → (ok : Bool)
           → keeps_entry q c e ≡ ok
-          → (if ok then violation_from q (place + 1) (counts_next q c e) es else Some (violation_at q place c e)) ≡ Some b → IsFirstFrom place c (e ∷ es) b
+          → (if ok then violation_from q (place + 1) (entry_counts q c e) es else Some (violation_at q place c e)) ≡ Some b → IsFirstFrom place c (e ∷ es) b
       by rest true is more = later is (rest more)
       by rest false is here =
           let at : place ≡ place + 0 = omega arith in
@@ -105,25 +108,26 @@ module _ (q : Queue) (some : 1 ≤ q.size) where
             violation = sym same ∙ ap (λ (n : ℕ). violation_at q n c e) at;
           }
 
-  pub kept-all : (c : QueueCounts) (es : List Entry) → first_ownership_violation q c es ≡ None → KeepsOwnership q c es
-  kept-all c es none = kept-from 0 c es none
+  pub kept-all : (c : QueueCounts) (es : List Entry) → first_ownership_violation q c es ≡ None → Keeps q c es
+  kept-all c es none = each-keeps q c es (kept-from 0 c es none)
 
-  pub none-first : (c : QueueCounts) (es : List Entry) → KeepsOwnership q c es → first_ownership_violation q c es ≡ None
-  none-first c es keeps = none-from 0 c es keeps
+  pub none-first : (c : QueueCounts) (es : List Entry) → Keeps q c es → first_ownership_violation q c es ≡ None
+  none-first c es keeps = none-from 0 c es (keeps-each q c es keeps)
 
   pub is-first : (c : QueueCounts) (es : List Entry) (b : Violation) → first_ownership_violation q c es ≡ Some b → IsFirstViolation q c es b
   is-first c es b found =
       let first = first-from 0 c es b found in
       let at : 0 + length first.front ≡ length first.front = omega arith in
-      let violation : b ≡ violation_at q (length first.front) (counts_after q c first.front) first.entry =
-      first.violation ∙ ap (λ (n : ℕ). violation_at q n (counts_after q c first.front) first.entry) at in
+      let violation : b ≡ violation_at q (length first.front) (run_counts q c first.front) first.entry =
+      first.violation ∙ ap (λ (n : ℕ). violation_at q n (run_counts q c first.front) first.entry) at in
       record {
         front = first.front;
         entry = first.entry;
         back = first.back;
         is = first.is;
         place = sym (ap (λ (x : Violation). x.place) violation);
-        keeps = first.keeps;
-        breaks = λ keeps. first.breaks (keeps-at (counts_next q) (KeepsEntry q) c first.front first.entry [] keeps);
+        keeps = each-keeps q c first.front first.keeps;
+        breaks = λ keeps. first.breaks (keeps-at (entry_counts q) (KeepsOne q) c first.front first.entry []
+            (keeps-each q c (first.front ++ first.entry ∷ []) keeps));
         violation = violation;
       }

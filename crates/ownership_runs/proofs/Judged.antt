@@ -1,23 +1,29 @@
 -- What the judgement of runs says of them.
-use Rattle.std.proofs.Common.{ℕ, ◌≡◌, ◌+◌, ◌≤◌, min, List, [], ◌∷◌, ◌++◌, Some, refl, sym, ap, subst, ◌∙◌, arith}
+use Rattle.std.proofs.Common.{ℕ, ◌≡◌, ◌+◌, min, List, [], ◌∷◌, ◌++◌, Some, refl, sym, ap, subst, ◌∙◌, arith}
 use Rattle.step_machine.specs.declared.events.Event.{Event}
+use Rattle.step_machine.specs.declared.events.Entry.{Entry}
 use Rattle.step_machine.specs.History.{OpeningValue, History, history_of, at_opening}
 use Rattle.step_machine.specs.Legal.{Legal, WellFormed}
 use Rattle.step_machine.specs.Runs.{Run}
 use Rattle.step_machine.proofs.Running.{kept-at_opening, kept-run as well_formed, opening_kept, run-one}
 use Rattle.queue_parties.specs.Parties.{QueueCounts}
-use Rattle.slot_queue.specs.Queues.{Queue, IsQueue, IsAtRest}
-use Rattle.slot_queue.specs.Ownership.{KeepsOwnership}
-use Rattle.slot_queue.specs.Laws.{FollowsOwnership}
+use Rattle.queue_layouts.specs.declared.AnyQueue.{AnyQueue}
+use Rattle.queue_layouts.specs.declared.AnyQueue.TheVariants.{Indexed, Tagged}
 use Rattle.judged_runs.specs.Histories.{MOST, summed}
 use Rattle.judged_runs.proofs.Histories.{capped_both, runs_both, runs_one, total_both}
 use Rattle.ownership_runs.specs.declared.violations.Violation.{Violation}
 use Rattle.ownership_runs.specs.declared.runs.Moved.{Moved}
+use Rattle.ownership_runs.specs.Protocols.{Keeps, HasSlot, IsAnyQueue, Rests, Follows}
 use Rattle.ownership_runs.specs.Violations.{first_ownership_violation}
 use Rattle.ownership_runs.specs.Runs.{HasKeptRun, BreaksNothing, HasBrokenRun, published_in, taken_in, HasMoved, AreMovesOf}
 use Rattle.ownership_runs.proofs.First.{kept-all, none-first}
 
-module _ (B M : ℕ) (o : OpeningValue) (q : Queue) (start : QueueCounts) where
+follows : (B : ℕ) (q : AnyQueue) (start : QueueCounts) (o : OpeningValue) (es : List Entry) → IsAnyQueue q → Legal B (history_of o es) → Rests q o [] start
+    → Keeps q start es → Follows B q start o [] es
+follows B (Indexed q) start o es queue legal rest keeps = record { queue = queue; legal = legal; rest = rest; keeps = keeps }
+follows B (Tagged q) start o es slots legal rest keeps = record { slots = slots; legal = legal; rest = rest; keeps = keeps }
+
+module _ (B M : ℕ) (o : OpeningValue) (q : AnyQueue) (start : QueueCounts) where
   module _ (events : List Event) where
     -- a run has one first violation, or none
     pub one-violation : (b d : Violation) → HasBrokenRun B M o q start events b → HasBrokenRun B M o q start events d → b ≡ d
@@ -33,25 +39,22 @@ module _ (B M : ℕ) (o : OpeningValue) (q : Queue) (start : QueueCounts) where
         absurd (cc)
 
     -- one that keeps the protocol has none
-    pub keeps-or-breaks : (b : Violation) → 1 ≤ q.size → HasKeptRun B M o q start events → HasBrokenRun B M o q start events b → ⊥
+    pub keeps-or-breaks : (b : Violation) → HasSlot q → HasKeptRun B M o q start events → HasBrokenRun B M o q start events b → ⊥
     keeps-or-breaks b some keeps has =
         none-or-one b (record { history = keeps.history; run = keeps.run; none = none-first q some start keeps.history.entries keeps.keeps }) has
 
     -- it is a run of which the laws of the protocol speak
-    pub follows-run : (t : History) → IsQueue q → IsAtRest q o [] start → HasKeptRun B M o q start events → Run B M o events t
-        → FollowsOwnership B q start o [] t.entries
+    pub follows-run : (t : History) → IsAnyQueue q → Rests q o [] start → HasKeptRun B M o q start events → Run B M o events t
+        → Follows B q start o [] t.entries
     follows-run t queue rest keeps run =
         let same : keeps.history ≡ t = run-one B M (at_opening o) events keeps.history t keeps.run run in
         let formed : WellFormed B M t = well_formed B M (at_opening o) events t (kept-at_opening B M o) run in
-        record {
-          queue = queue;
-          legal = subst (λ (x : OpeningValue). Legal B (history_of x t.entries)) (opening_kept B M o events t run) formed.legal;
-          rest = rest;
-          keeps = subst (λ (u : History). KeepsOwnership q start u.entries) same keeps.keeps;
-        }
+        follows B q start o t.entries queue
+        (subst (λ (x : OpeningValue). Legal B (history_of x t.entries)) (opening_kept B M o events t run) formed.legal) rest
+        (subst (λ (u : History). Keeps q start u.entries) same keeps.keeps)
 
     -- one without a violation keeps the protocol
-    pub kept-run : 1 ≤ q.size → BreaksNothing B M o q start events → HasKeptRun B M o q start events
+    pub kept-run : HasSlot q → BreaksNothing B M o q start events → HasKeptRun B M o q start events
     kept-run some free = record { history = free.history; run = free.run; keeps = kept-all q some start free.history.entries free.none }
 
   -- ---- by how much the parties moved on

@@ -9,49 +9,49 @@ use Rattle.step_machine.specs.History.{History}
 use Rattle.step_machine.specs.Runs.{Happens}
 use Rattle.queue_parties.specs.Parties.{QueueCounts}
 use Rattle.queue_parties.proofs.Parties.{counts-append}
-use Rattle.slot_queue.specs.Queues.{Queue}
-use Rattle.slot_queue.specs.Ownership.{counts_next, counts_after}
+use Rattle.queue_layouts.specs.declared.AnyQueue.{AnyQueue}
 use Rattle.ownership_runs.specs.declared.violations.Violation.{Violation}
 use Rattle.ownership_runs.specs.declared.judging.RunNotes.{RunNotes}
+use Rattle.ownership_runs.specs.Protocols.{entry_counts, run_counts}
 use Rattle.ownership_runs.specs.Keeping.{keeps_entry}
 use Rattle.ownership_runs.specs.Violations.{violation_at, judged_entry, violation_from, first_ownership_violation}
 use Rattle.ownership_runs.specs.inner.Noting.{AreRunNotes, IsEventJudged}
 use Rattle.ownership_runs.proofs.First.{one-kept, one-broken}
 
-module _ (q : Queue) (e : Entry) where
+module _ (q : AnyQueue) (e : Entry) where
   -- entries that break nothing, and then one more
   pub more-kept : (place : ℕ) (c : QueueCounts) (es : List Entry) → violation_from q place c es ≡ None
-      → violation_from q place c (es ++ e ∷ []) ≡ violation_from q (place + length es) (counts_after q c es) (e ∷ [])
+      → violation_from q place c (es ++ e ∷ []) ≡ violation_from q (place + length es) (run_counts q c es) (e ∷ [])
   more-kept place c [] none = let same : place ≡ place + 0 = omega arith in ap (λ (n : ℕ). violation_from q n c (e ∷ [])) same
-  more-kept place c (d ∷ es) none = by (λ rest. more-kept (place + 1) (counts_next q c d) es rest) (keeps_entry q c d) none
+  more-kept place c (d ∷ es) none = by (λ rest. more-kept (place + 1) (entry_counts q c d) es rest) (keeps_entry q c d) none
     where
-      by : (violation_from q (place + 1) (counts_next q c d) es ≡ None → violation_from q (place + 1) (counts_next q c d) (es ++ e ∷ [])
-          ≡ violation_from q (place + 1 + length es) (counts_after q (counts_next q c d) es) (e ∷ [])) → (ok : Bool)
-          → (if ok then violation_from q (place + 1) (counts_next q c d) es else Some (violation_at q place c d)) ≡ None
-          → (if ok then violation_from q (place + 1) (counts_next q c d) (es ++ e ∷ []) else Some (violation_at q place c d))
-          ≡ violation_from q (place + length (d ∷ es)) (counts_after q (counts_next q c d) es) (e ∷ [])
+      by : (violation_from q (place + 1) (entry_counts q c d) es ≡ None → violation_from q (place + 1) (entry_counts q c d) (es ++ e ∷ [])
+          ≡ violation_from q (place + 1 + length es) (run_counts q (entry_counts q c d) es) (e ∷ [])) → (ok : Bool)
+          → (if ok then violation_from q (place + 1) (entry_counts q c d) es else Some (violation_at q place c d)) ≡ None
+          → (if ok then violation_from q (place + 1) (entry_counts q c d) (es ++ e ∷ []) else Some (violation_at q place c d))
+          ≡ violation_from q (place + length (d ∷ es)) (run_counts q (entry_counts q c d) es) (e ∷ [])
       by later true rest =
           let further : place + 1 + length es ≡ place + length (d ∷ es) = omega arith in
-          later rest ∙ ap (λ (n : ℕ). violation_from q n (counts_after q (counts_next q c d) es) (e ∷ [])) further
+          later rest ∙ ap (λ (n : ℕ). violation_from q n (run_counts q (entry_counts q c d) es) (e ∷ [])) further
       by later false some = cc
 
   -- the first violation stays the first
   pub more-broken : (place : ℕ) (c : QueueCounts) (es : List Entry) (b : Violation) → violation_from q place c es ≡ Some b
       → violation_from q place c (es ++ e ∷ []) ≡ Some b
   more-broken place c [] b found = cc
-  more-broken place c (d ∷ es) b found = by (λ rest. more-broken (place + 1) (counts_next q c d) es b rest) (keeps_entry q c d) found
+  more-broken place c (d ∷ es) b found = by (λ rest. more-broken (place + 1) (entry_counts q c d) es b rest) (keeps_entry q c d) found
     where
-      by : (violation_from q (place + 1) (counts_next q c d) es ≡ Some b
-          → violation_from q (place + 1) (counts_next q c d) (es ++ e ∷ []) ≡ Some b) → (ok : Bool)
-          → (if ok then violation_from q (place + 1) (counts_next q c d) es else Some (violation_at q place c d)) ≡ Some b
-          → (if ok then violation_from q (place + 1) (counts_next q c d) (es ++ e ∷ []) else Some (violation_at q place c d)) ≡ Some b
+      by : (violation_from q (place + 1) (entry_counts q c d) es ≡ Some b
+          → violation_from q (place + 1) (entry_counts q c d) (es ++ e ∷ []) ≡ Some b) → (ok : Bool)
+          → (if ok then violation_from q (place + 1) (entry_counts q c d) es else Some (violation_at q place c d)) ≡ Some b
+          → (if ok then violation_from q (place + 1) (entry_counts q c d) (es ++ e ∷ []) else Some (violation_at q place c d)) ≡ Some b
       by later true rest = later rest
       by later false here = here
 
-  kept-next : (place : ℕ) (c next : QueueCounts) → judged_entry q place c e ≡ Ok next → counts_next q c e ≡ next
+  kept-next : (place : ℕ) (c next : QueueCounts) → judged_entry q place c e ≡ Ok next → entry_counts q c e ≡ next
   kept-next place c next is = by (keeps_entry q c e) is
     where
-      by : (ok : Bool) → (if ok then Ok (counts_next q c e) else Err (violation_at q place c e)) ≡ Ok next → counts_next q c e ≡ next
+      by : (ok : Bool) → (if ok then Ok (entry_counts q c e) else Err (violation_at q place c e)) ≡ Ok next → entry_counts q c e ≡ next
       by true same = cc
       by false other = cc
 
@@ -59,15 +59,15 @@ module _ (q : Queue) (e : Entry) where
     after-none : notes.found ≡ None → first_ownership_violation q start (es ++ e ∷ []) ≡ violation_from q notes.place notes.counts (e ∷ [])
     after-none none =
         let at : 0 + length es ≡ notes.place = sym (are.place none ∙ (let zero : length es ≡ 0 + length es = omega arith in zero)) in
-        more-kept 0 start es (sym are.found ∙ none) ∙ ap (λ (n : ℕ). violation_from q n (counts_after q start es) (e ∷ [])) at
+        more-kept 0 start es (sym are.found ∙ none) ∙ ap (λ (n : ℕ). violation_from q n (run_counts q start es) (e ∷ [])) at
         ∙ ap (λ (c : QueueCounts). violation_from q notes.place c (e ∷ [])) (sym (are.counts none))
 
     pub more-noted : notes.found ≡ None → (next : QueueCounts) → judged_entry q notes.place notes.counts e ≡ Ok next → (new : RunNotes)
         → new ≡ record { found = None; counts = next; place = notes.place + 1 } → AreRunNotes q start (es ++ e ∷ []) new
     more-noted none next is new same = subst (AreRunNotes q start (es ++ e ∷ [])) (sym same) (record {
       found = sym (after-none none ∙ one-kept q notes.place notes.counts e [] next is);
-      counts = λ _. sym (kept-next notes.place notes.counts next is) ∙ ap (λ (c : QueueCounts). counts_next q c e) (are.counts none)
-          ∙ sym (counts-append (counts_next q) start es (e ∷ []));
+      counts = λ _. sym (kept-next notes.place notes.counts next is) ∙ ap (λ (c : QueueCounts). entry_counts q c e) (are.counts none)
+          ∙ sym (counts-append (entry_counts q) start es (e ∷ []));
       place = λ _. ap (λ (n : ℕ). n + 1) (are.place none) ∙ sym (length-append es (e ∷ []));
     })
 
@@ -86,7 +86,7 @@ module _ (q : Queue) (e : Entry) where
       place = λ none. cc;
     }
 
-module _ (B M : ℕ) (q : Queue) (ev : Event) (t u : History) where
+module _ (B M : ℕ) (q : AnyQueue) (ev : Event) (t u : History) where
   pub did-noted : (e : Entry) (notes new : RunNotes) → Happens B M t ev (outcome.Did e) u
       → ((start : QueueCounts) (es : List Entry) → AreRunNotes q start es notes → AreRunNotes q start (es ++ e ∷ []) new)
       → IsEventJudged B M q ev t notes u new

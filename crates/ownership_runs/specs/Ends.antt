@@ -1,16 +1,16 @@
--- A run whose last event breaks a queue's protocol of ownership.
+-- A run whose last event breaks a queue's protocol.
 use Rattle.std.specs.Prelude.{ℕ, ◌≡◌, ◌<◌, List, [], ◌∷◌, ◌++◌, length, Some}
 use Rattle.step_machine.specs.declared.events.Event.{Event}
 use Rattle.step_machine.specs.declared.events.Entry.{Entry}
 use Rattle.step_machine.specs.History.{OpeningValue, History, with_entry}
 use Rattle.step_machine.specs.Runs.{Adds, Run}
 use Rattle.queue_parties.specs.Parties.{QueueCounts}
-use Rattle.slot_queue.specs.Queues.{Queue}
+use Rattle.queue_layouts.specs.declared.AnyQueue.{AnyQueue}
 use Rattle.ownership_runs.specs.declared.violations.Violation.{Violation}
 use Rattle.ownership_runs.specs.Violations.{first_ownership_violation}
 
 -- the last of these events adds an entry that is the first violation of their run
-pub record EndsInViolation (B M : ℕ) (o : OpeningValue) (q : Queue) (start : QueueCounts) (events : List Event) (violation : Violation) : Type 0 where
+pub record EndsInViolation (B M : ℕ) (o : OpeningValue) (q : AnyQueue) (start : QueueCounts) (events : List Event) (violation : Violation) : Type 0 where
   pub front : List Event
   pub last : Event
   pub before : History

@@ -1,3 +1,4 @@
+pub mod Protocols
 pub mod Keeping
 pub mod Violations
 pub mod Runs

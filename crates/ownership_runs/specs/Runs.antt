@@ -1,30 +1,30 @@
--- Runs of lists of events, and a queue's protocol of ownership.
+-- Runs of lists of events, and a queue's protocol.
 use Rattle.std.specs.Prelude.{ℕ, ◌≡◌, ◌-◌, min, List, None, Some}
 use Rattle.step_machine.specs.declared.events.Event.{Event}
 use Rattle.step_machine.specs.History.{OpeningValue, History}
 use Rattle.step_machine.specs.Runs.{Run}
 use Rattle.queue_parties.specs.Parties.{QueueCounts}
-use Rattle.slot_queue.specs.Queues.{Queue}
-use Rattle.slot_queue.specs.Ownership.{counts_after, KeepsOwnership}
+use Rattle.queue_layouts.specs.declared.AnyQueue.{AnyQueue}
 use Rattle.judged_runs.specs.Histories.{AreRuns, MOST, summed}
 use Rattle.ownership_runs.specs.declared.violations.Violation.{Violation}
 use Rattle.ownership_runs.specs.declared.runs.Moved.{Moved}
+use Rattle.ownership_runs.specs.Protocols.{run_counts, Keeps}
 use Rattle.ownership_runs.specs.Violations.{first_ownership_violation}
 
 -- the run of these events keeps the protocol
-pub record HasKeptRun (B M : ℕ) (o : OpeningValue) (q : Queue) (start : QueueCounts) (events : List Event) : Type 0 where
+pub record HasKeptRun (B M : ℕ) (o : OpeningValue) (q : AnyQueue) (start : QueueCounts) (events : List Event) : Type 0 where
   pub history : History
   pub run : Run B M o events history
-  pub keeps : KeepsOwnership q start history.entries
+  pub keeps : Keeps q start history.entries
 
 -- it has no violation
-pub record BreaksNothing (B M : ℕ) (o : OpeningValue) (q : Queue) (start : QueueCounts) (events : List Event) : Type 0 where
+pub record BreaksNothing (B M : ℕ) (o : OpeningValue) (q : AnyQueue) (start : QueueCounts) (events : List Event) : Type 0 where
   pub history : History
   pub run : Run B M o events history
   pub none : first_ownership_violation q start history.entries ≡ None
 
 -- its first violation is this one
-pub record HasBrokenRun (B M : ℕ) (o : OpeningValue) (q : Queue) (start : QueueCounts) (events : List Event) (violation : Violation) : Type 0 where
+pub record HasBrokenRun (B M : ℕ) (o : OpeningValue) (q : AnyQueue) (start : QueueCounts) (events : List Event) (violation : Violation) : Type 0 where
   pub history : History
   pub run : Run B M o events history
   pub first : first_ownership_violation q start history.entries ≡ Some violation
@@ -34,20 +34,20 @@ IsOfOneHart violation other = violation.hart ≡ other.hart
 
 -- ---- by how much the parties moved on
 
-abbrev pub published_in : Queue → QueueCounts → History → ℕ
-published_in q start t = (counts_after q start t.entries).published - start.published
+abbrev pub published_in : AnyQueue → QueueCounts → History → ℕ
+published_in q start t = (run_counts q start t.entries).published - start.published
 
-abbrev pub taken_in : Queue → QueueCounts → History → ℕ
-taken_in q start t = (counts_after q start t.entries).taken - start.taken
+abbrev pub taken_in : AnyQueue → QueueCounts → History → ℕ
+taken_in q start t = (run_counts q start t.entries).taken - start.taken
 
 -- the history is the run of these events, in which they moved on by this much
-pub record HasMoved (B M : ℕ) (o : OpeningValue) (q : Queue) (start : QueueCounts) (events : List Event) (history : History) (moved : Moved) : Type 0 where
+pub record HasMoved (B M : ℕ) (o : OpeningValue) (q : AnyQueue) (start : QueueCounts) (events : List Event) (history : History) (moved : Moved) : Type 0 where
   pub run : Run B M o events history
   pub published : moved.published ≡ min (published_in q start history) MOST
   pub taken : moved.taken ≡ min (taken_in q start history) MOST
 
 -- in the runs of these lists of events together
-pub record AreMovesOf (B M : ℕ) (o : OpeningValue) (q : Queue) (start : QueueCounts) (all : List (List Event)) (moved : Moved) : Type 0 where
+pub record AreMovesOf (B M : ℕ) (o : OpeningValue) (q : AnyQueue) (start : QueueCounts) (all : List (List Event)) (moved : Moved) : Type 0 where
   pub histories : List History
   pub runs : AreRuns B M o all histories
   pub published : moved.published ≡ min (summed (published_in q start) histories) MOST

@@ -1,4 +1,3 @@
 -- What serves the proofs alone, where a private contract names it.
 pub mod Bounds
 pub mod Noting
-pub mod Sides

@@ -1,9 +1,10 @@
-//! The answer of many runs: that all keep a queue's protocol of ownership, or a short schedule of one that breaks it.
+//! The answer of many runs: that all keep a queue's protocol, or a short schedule of one that breaks it.
 
 ghost use Rattle.std.specs.Prelude.{◌≡◌, ◌≤◌, IfOk, length};
 ghost use Rattle.step_machine.specs.History.{FitsIn};
 ghost use Rattle.drawn_runs.specs.Samples.{runs_of, schedule_in};
 ghost use Rattle.judged_runs.specs.Telling.{IsTold};
+ghost use Rattle.ownership_runs.specs.Protocols.{HasSlot};
 ghost use Rattle.ownership_runs.specs.Runs.{HasKeptRun, HasBrokenRun, AreMovesOf, IsOfOneHart};
 
 use crate::counts::Counts;
@@ -13,13 +14,13 @@ use drawn_runs::parallel::in_rounds;
 use drawn_runs::progress::Progress;
 use drawn_runs::{Jump, Sample};
 use judged_runs::{JudgedRuns, Told, told_of_runs};
-use queue_layouts::Queue;
+use queue_layouts::AnyQueue;
 use std::alloc::{AllocError, Global};
 use std::thread::Threads;
 use step_machine::Opening;
 
 /// Makes the runs of a sample from an opening, with store buffers of `B` pairs and `M` words of memory, and judges each by the
-/// protocol of ownership of this queue, whose parties have come as far as `start` there.
+/// protocol of this queue, whose parties have come as far as `start` there.
 ///
 /// If all keep it, that is by how much the parties moved on in all of them. Otherwise it is a part of the events of the first run
 /// that doesn't, from which events were left out until none could go without its first violation being another hart's or none, and the
@@ -35,7 +36,7 @@ pub fn check_runs<
     rt: &T,
     alloc: Global,
     opening: &Opening,
-    queue: &Queue,
+    queue: &AnyQueue,
     start: Counts,
     sample: &Sample<'_, G>,
     progress: &mut P,
@@ -45,7 +46,7 @@ pub fn check_runs<
     requires some_word { 1 ≤ M }
     requires size { M ≤ 65536 }
     requires fits { FitsIn M opening.now }
-    requires some_slot { 1 ≤ queue.now.size }
+    requires some_slot { HasSlot queue.now }
     ensures { IfOk result (λ told. IsTold (HasKeptRun B M opening.now queue.now start) (HasBrokenRun B M opening.now queue.now start) IsOfOneHart
         (AreMovesOf B M opening.now queue.now start)
         (schedule_in (runs_of B M G.Rng.stream sample.now) (length opening.now.harts)) sample.now.runs.number told) }

@@ -1,22 +1,21 @@
-//! Whether the entries of a run keep a queue's protocol of ownership.
+//! Whether the entries of a run keep a queue's protocol.
 
 ghost use Rattle.std.specs.Prelude.{◌≡◌, ◌≤◌, ◌+◌, ℕ, option_map, Ok, IfOk};
 ghost use Rattle.ownership_runs.specs.Violations.{judged_store, judged_exchange, judged_entry, first_ownership_violation};
 ghost use Rattle.ownership_runs.specs.inner.Bounds.{STEP, ROOM, AreCountsWithin};
-ghost use Rattle.ownership_runs.specs.inner.Sides.{the_party};
+ghost use Rattle.queue_layouts.specs.Sides.{the_party};
 
 use crate::counts::{Counts, RunCounts, at_start};
-use crate::moves::{after_load, after_store};
-use crate::parties::{Party, party_of};
+use crate::protocols::{after_load, after_store, is_load_alone, party_for};
 use crate::stores::{keeps_store, owned_by};
 use crate::violations::Violation;
 use memory::writes::Write;
-use queue_layouts::Queue;
+use queue_layouts::{AnyQueue, Party};
 use step_machine::Entry;
 
 /// The counts after a store of a hart, or that it may not make it.
 fn note_store(
-    queue: &Queue,
+    queue: &AnyQueue,
     place: usize,
     hart: u32,
     party: Option<Party>,
@@ -41,9 +40,9 @@ fn note_store(
     }
 }
 
-/// The counts after an AMO of a hart, or that it may not make it. One that writes the word that it read is free.
+/// The counts after an AMO of a hart, or that it may not make it.
 fn note_exchange(
-    queue: &Queue,
+    queue: &AnyQueue,
     place: usize,
     hart: u32,
     party: Option<Party>,
@@ -55,7 +54,7 @@ fn note_exchange(
     ensures value { result ≡ judged_exchange queue.now place hart (option_map the_party party) counts old write }
     ensures within { (n m : ℕ) → AreCountsWithin n m counts → IfOk result (AreCountsWithin (n + STEP) m) }
 {
-    if write.value == old {
+    if is_load_alone(queue, old, write.value) {
         Ok(after_store(queue, party, write, counts))
     } else {
         note_store(queue, place, hart, party, counts, write)
@@ -64,7 +63,7 @@ fn note_exchange(
 
 /// The counts after the entry of a run before which `place` others come, or that it breaks the protocol.
 pub(crate) fn note_entry(
-    queue: &Queue,
+    queue: &AnyQueue,
     place: usize,
     counts: RunCounts,
     entry: Entry,
@@ -74,7 +73,7 @@ pub(crate) fn note_entry(
     ensures within { (n : ℕ) → AreCountsWithin n n counts → IfOk result (AreCountsWithin (n + STEP) (n + STEP)) }
 {
     let hart = entry.hart();
-    let party = party_of(queue, hart);
+    let party = party_for(queue, hart);
     match entry {
         Entry::Load {
             addr,
@@ -104,9 +103,9 @@ pub(crate) fn note_entry(
     }
 }
 
-/// The first entry of a run that breaks a queue's protocol of ownership, if there is one. The run begins where the parties have come
+/// The first entry of a run that breaks a queue's protocol, if there is one. The run begins where the parties have come
 /// as far as `start`. Loads are free.
-pub fn first_violation(queue: &Queue, start: Counts, entries: &[Entry]) -> Option<Violation>
+pub fn first_violation(queue: &AnyQueue, start: Counts, entries: &[Entry]) -> Option<Violation>
     ensures { result ≡ first_ownership_violation queue.now start entries.now }
 {
     let mut counts = at_start(start);

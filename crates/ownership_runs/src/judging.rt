@@ -10,7 +10,7 @@ ghost use Rattle.ownership_runs.specs.inner.Noting.{AreRunNotes, AreNotesWithin,
 use crate::counts::{Counts, RunCounts, at_start};
 use crate::deciding::note_entry;
 use crate::violations::Violation;
-use queue_layouts::Queue;
+use queue_layouts::AnyQueue;
 use std::alloc::AllocError;
 use step_machine::{Entry, Event, Machine, Outcome};
 
@@ -23,7 +23,7 @@ pub(crate) struct RunNotes {
 }
 
 /// Takes in an entry.
-fn note_more(queue: &Queue, notes: RunNotes, entry: Entry) -> RunNotes
+fn note_more(queue: &AnyQueue, notes: RunNotes, entry: Entry) -> RunNotes
     requires counts { AreCountsWithin ROOM ROOM notes.counts }
     requires place { notes.place < 2 ^ 64 - 1 }
     ensures noted { (start : QueueCounts) (es : List Entry) → AreRunNotes queue.now start es notes → AreRunNotes queue.now start (es ++ entry ∷ []) result }
@@ -47,7 +47,7 @@ fn note_more(queue: &Queue, notes: RunNotes, entry: Entry) -> RunNotes
 
 /// Lets an event happen, and takes in what it did.
 fn note_event<const B: usize, const M: usize>(
-    queue: &Queue,
+    queue: &AnyQueue,
     machine: &mut Machine<B, M>,
     notes: RunNotes,
     event: Event,
@@ -69,7 +69,7 @@ fn note_event<const B: usize, const M: usize>(
 
 /// What is noted of the run of these events. The machine ends at its end, whatever it did before.
 pub(crate) fn judge<const B: usize, const M: usize>(
-    queue: &Queue,
+    queue: &AnyQueue,
     start: Counts,
     machine: &mut Machine<B, M>,
     events: &[Event],

@@ -6,42 +6,41 @@ ghost use Rattle.step_machine.specs.declared.events.Event.{Event};
 ghost use Rattle.step_machine.specs.History.{OpeningValue, History};
 ghost use Rattle.step_machine.specs.Runs.{Run};
 ghost use Rattle.queue_parties.specs.Parties.{QueueCounts};
-ghost use Rattle.slot_queue.specs.Queues.{Queue, IsQueue, IsAtRest};
-ghost use Rattle.slot_queue.specs.Ownership.{KeepsOwnership};
-ghost use Rattle.slot_queue.specs.Laws.{FollowsOwnership};
+ghost use Rattle.queue_layouts.specs.declared.AnyQueue.{AnyQueue};
 ghost use Rattle.ownership_runs.specs.declared.violations.Violation.{Violation};
+ghost use Rattle.ownership_runs.specs.Protocols.{Keeps, HasSlot, IsAnyQueue, Rests, Follows};
 ghost use Rattle.ownership_runs.specs.Keeping.{keeps_entry};
 ghost use Rattle.ownership_runs.specs.Violations.{IsFirstViolation, first_ownership_violation};
 ghost use Rattle.judged_runs.specs.Telling.{IsFlawTold};
 ghost use Rattle.ownership_runs.specs.Runs.{HasKeptRun, HasBrokenRun, IsOfOneHart};
 ghost use Rattle.ownership_runs.specs.Ends.{EndsInViolation};
 
-/// Of a queue with a slot. It does nothing.
+/// Of a queue of either kind with a slot. It does nothing.
 ///
-/// - `sound` and `complete`: an entry keeps the protocol of ownership exactly where that is decided.
+/// - `sound` and `complete`: an entry keeps the protocol exactly where that is decided.
 /// - `kept` and `none`: the entries of a run keep it exactly where there is no first violation.
 /// - `first`: the entries before the first violation keep it, and with the one at its place they don't: the violation has what that one stores
 ///   and what its hart owned.
 pub fn laws_of_violations()
-    ensures sound { (q : Queue) (c : QueueCounts) (e : Entry) → 1 ≤ q.size → keeps_entry q c e ≡ true → KeepsOwnership q c (e ∷ []) }
-    ensures complete { (q : Queue) (c : QueueCounts) (e : Entry) → 1 ≤ q.size → KeepsOwnership q c (e ∷ []) → keeps_entry q c e ≡ true }
-    ensures kept { (q : Queue) (c : QueueCounts) (es : List Entry) → 1 ≤ q.size → first_ownership_violation q c es ≡ None → KeepsOwnership q c es }
-    ensures none { (q : Queue) (c : QueueCounts) (es : List Entry) → 1 ≤ q.size → KeepsOwnership q c es → first_ownership_violation q c es ≡ None }
-    ensures first { (q : Queue) (c : QueueCounts) (es : List Entry) (b : Violation) → 1 ≤ q.size → first_ownership_violation q c es ≡ Some b
+    ensures sound { (q : AnyQueue) (c : QueueCounts) (e : Entry) → HasSlot q → keeps_entry q c e ≡ true → Keeps q c (e ∷ []) }
+    ensures complete { (q : AnyQueue) (c : QueueCounts) (e : Entry) → HasSlot q → Keeps q c (e ∷ []) → keeps_entry q c e ≡ true }
+    ensures kept { (q : AnyQueue) (c : QueueCounts) (es : List Entry) → HasSlot q → first_ownership_violation q c es ≡ None → Keeps q c es }
+    ensures none { (q : AnyQueue) (c : QueueCounts) (es : List Entry) → HasSlot q → Keeps q c es → first_ownership_violation q c es ≡ None }
+    ensures first { (q : AnyQueue) (c : QueueCounts) (es : List Entry) (b : Violation) → HasSlot q → first_ownership_violation q c es ≡ Some b
         → IsFirstViolation q c es b }
 {}
 
 /// Of runs of lists of events. It does nothing.
 ///
-/// - `follows`: one that keeps a queue's protocol from where the queue is at rest is one of which `slot_queue::laws_of_ownership`
-///   speaks.
+/// - `follows`: one that keeps a queue's protocol from where the queue is at rest is one of which the laws of the
+///   protocol speak: `slot_queue::laws_of_ownership`, or `slots_that_tell::laws_of_telling`.
 /// - `apart`: none both keeps it and breaks it.
 /// - `ends`: the events that are returned with a violation end with the event that makes it.
 pub fn laws_of_judged_runs()
-    ensures follows { (B M : ℕ) (o : OpeningValue) (q : Queue) (start : QueueCounts) (events : List Event) (t : History) → IsQueue q
-        → IsAtRest q o [] start → HasKeptRun B M o q start events → Run B M o events t → FollowsOwnership B q start o [] t.entries }
-    ensures apart { (B M : ℕ) (o : OpeningValue) (q : Queue) (start : QueueCounts) (events : List Event) (b : Violation) → 1 ≤ q.size
+    ensures follows { (B M : ℕ) (o : OpeningValue) (q : AnyQueue) (start : QueueCounts) (events : List Event) (t : History) → IsAnyQueue q
+        → Rests q o [] start → HasKeptRun B M o q start events → Run B M o events t → Follows B q start o [] t.entries }
+    ensures apart { (B M : ℕ) (o : OpeningValue) (q : AnyQueue) (start : QueueCounts) (events : List Event) (b : Violation) → HasSlot q
         → HasKeptRun B M o q start events → HasBrokenRun B M o q start events b → ⊥ }
-    ensures ends { (B M : ℕ) (o : OpeningValue) (q : Queue) (start : QueueCounts) (schedule : ℕ → List Event) (runs : ℕ) (part : List Event) (b : Violation)
+    ensures ends { (B M : ℕ) (o : OpeningValue) (q : AnyQueue) (start : QueueCounts) (schedule : ℕ → List Event) (runs : ℕ) (part : List Event) (b : Violation)
         → IsFlawTold (HasKeptRun B M o q start) (HasBrokenRun B M o q start) IsOfOneHart schedule runs part b → EndsInViolation B M o q start part b }
 {}

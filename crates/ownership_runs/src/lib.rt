@@ -1,11 +1,13 @@
-//! Runs and a queue's protocol of ownership: whether the entries of a run keep it, and drawn runs that are asked.
+//! Runs and a queue's protocol: whether the entries of a run keep it, and drawn runs that are asked.
+//!
+//! A queue is one with two indices, whose protocol is that of `slot_queue`, or one with tags, whose protocol is that of
+//! `slots_that_tell`: `specs/Protocols.antt` defines what both have in common.
 //!
 //! The contract: [`first_violation`] returns `first_ownership_violation` of `specs/Violations.antt`, in one pass over the entries.
-//! [`laws_of_violations`] states that there is none exactly where the entries keep the protocol of `slot_queue`, and that otherwise it is
+//! [`laws_of_violations`] states that there is none exactly where the entries keep the queue's protocol, and that otherwise it is
 //! the first entry up to which they don't. [`check_runs`] states what it answers of the runs that the generator's words draw.
 //!
-//! This crate knows no certificate. It judges queues of two indices alone: one whose slots tell whose they are breaks this protocol, and
-//! may keep that of `slots_that_tell`.
+//! This crate knows no certificate.
 //!
 //! Called by `certifying`.
 
@@ -17,9 +19,12 @@ pub mod deciding;
 mod judging;
 pub mod laws;
 mod moves;
+mod numbers;
 mod parties;
+mod protocols;
 pub mod runs;
 mod stores;
+mod tagged_moves;
 pub mod violations;
 
 pub use checking::check_runs;

@@ -1,33 +1,43 @@
 //! How indices move counts.
 
 ghost use Rattle.std.specs.Prelude.{◌≡◌, ◌≤◌, ◌<◌, ◌+◌, ◌/◌, ◌%◌, ◌^◌, ◌==◌, ℕ, option_map};
+ghost use Rattle.queue_parties.specs.Parties.{other};
 ghost use Rattle.slot_queue.specs.Queues.{index_word, least};
 ghost use Rattle.step_machine.specs.Access.{load, store};
-ghost use Rattle.slot_queue.specs.Ownership.{after_access, is_index_store};
+ghost use Rattle.slot_queue.specs.Ownership.{index, end, after_load, after_store, is_index_store};
+ghost use Rattle.ownership_runs.specs.Keeping.{moves_index};
 ghost use Rattle.ownership_runs.specs.inner.Bounds.{STEP, ROOM, AreCountsWithin};
-ghost use Rattle.ownership_runs.specs.inner.Sides.{the_party};
+ghost use Rattle.queue_layouts.specs.Sides.{the_party};
 
 use crate::counts::RunCounts;
-use crate::parties::{Party, count, known, other_index, own_index, with_count, with_known};
+use crate::numbers::{quotient, remainder};
+use crate::parties::{count, known, with_count, with_known};
 use memory::writes::Write;
-use queue_layouts::Queue;
+use queue_layouts::{Party, Queue, other};
 
-/// n / m, and 0 where m is 0.
-pub(crate) fn quotient(n: u128, m: u128) -> u128
-    ensures { result ≡ n / m }
+/// Where the index lies that a party stores, and the other loads.
+fn index(queue: &Queue, party: Party) -> u32
+    ensures { result ≡ index queue.now (the_party party) }
 {
-    if m == 0 { 0 } else { n / m }
+    match party {
+        Party::Sender => queue.head,
+        Party::Receiver => queue.tail,
+    }
 }
 
-/// n % m, and n where m is 0.
-pub(crate) fn remainder(n: u128, m: u128) -> u128
-    ensures { result ≡ n % m }
+/// The first position from its own count on that a party doesn't own.
+pub(crate) fn end(queue: &Queue, party: Party, counts: RunCounts) -> u128
+    requires { counts.known_taken + 2 ^ 32 ≤ 2 ^ 128 }
+    ensures { result ≡ end queue.now (the_party party) counts }
 {
-    if m == 0 { n } else { n % m }
+    match party {
+        Party::Sender => counts.known_taken + u128::from(queue.capacity),
+        Party::Receiver => counts.known_published,
+    }
 }
 
 /// The least count from `n` on that an index's word stands for.
-pub(crate) fn least(queue: &Queue, n: u128, word: u32) -> u128
+fn least(queue: &Queue, n: u128, word: u32) -> u128
     requires { n ≤ ROOM }
     ensures value { result ≡ least queue.now n word }
     ensures step { result ≤ n + STEP }
@@ -42,7 +52,7 @@ pub(crate) fn least(queue: &Queue, n: u128, word: u32) -> u128
 }
 
 /// Whether a word is the one that stands for count `n`.
-pub(crate) fn is_index_word(queue: &Queue, n: u128, word: u32) -> bool
+fn is_index_word(queue: &Queue, n: u128, word: u32) -> bool
     requires { n ≤ ROOM + STEP }
     ensures { result ≡ (word == index_word queue.now n) }
 {
@@ -53,59 +63,56 @@ pub(crate) fn is_index_word(queue: &Queue, n: u128, word: u32) -> bool
     index == Some(u128::from(word))
 }
 
-/// The counts after a load. A party's of the other's index, whole, moves on what the party knows.
+/// The counts after a load of a party's. One of the other's index, whole, moves on what the party knows.
 pub(crate) fn after_load(
     queue: &Queue,
-    party: Option<Party>,
+    party: Party,
     address: u32,
     width: u32,
     value: u32,
     counts: RunCounts,
 ) -> RunCounts
     requires { AreCountsWithin ROOM ROOM counts }
-    ensures value { result ≡ after_access queue.now (option_map the_party party) (load address width value) counts }
-    ensures within { (n m : ℕ) → AreCountsWithin n m counts → AreCountsWithin n (m + STEP) result }
+    ensures value { result ≡ after_load queue.now (the_party party) address width value counts }
+    ensures within { (n : ℕ) → AreCountsWithin n n counts → AreCountsWithin n (n + STEP) result }
 {
-    match party {
-        None => counts,
-        Some(party) => {
-            if address == other_index(queue, party) && width == queue.index_width {
-                let now = least(queue, known(party, counts), value);
-                with_known(party, now, counts)
-            } else {
-                counts
-            }
-        }
+    if address == index(queue, other(party)) && width == queue.index_width {
+        let now = least(queue, known(party, counts), value);
+        with_known(party, now, counts)
+    } else {
+        counts
     }
 }
 
 /// Whether a write is one to the party's own index, whole.
-pub(crate) fn is_index_store(queue: &Queue, party: Party, write: Write) -> bool
+fn is_index_store(queue: &Queue, party: Party, write: Write) -> bool
     ensures { result ≡ is_index_store queue.now (the_party party) write }
 {
-    write.addr == own_index(queue, party) && write.width == queue.index_width
+    write.addr == index(queue, party) && write.width == queue.index_width
 }
 
-/// The counts after a store. A party's to its own index, whole, moves on its count.
-pub(crate) fn after_store(
-    queue: &Queue,
-    party: Option<Party>,
-    write: Write,
-    counts: RunCounts,
-) -> RunCounts
+/// The counts after a store of a party's. One to its own index, whole, moves on its count.
+pub(crate) fn after_store(queue: &Queue, party: Party, write: Write, counts: RunCounts) -> RunCounts
     requires { AreCountsWithin ROOM (ROOM + STEP) counts }
-    ensures value { result ≡ after_access queue.now (option_map the_party party) (store write) counts }
+    ensures value { result ≡ after_store queue.now (the_party party) write counts }
     ensures within { (n m : ℕ) → AreCountsWithin n m counts → AreCountsWithin (n + STEP) m result }
 {
-    match party {
-        None => counts,
-        Some(party) => {
-            if is_index_store(queue, party, write) {
-                let now = least(queue, count(party, counts), write.value);
-                with_count(party, now, counts)
-            } else {
-                counts
-            }
-        }
+    if is_index_store(queue, party, write) {
+        let now = least(queue, count(party, counts), write.value);
+        with_count(party, now, counts)
+    } else {
+        counts
     }
+}
+
+/// Whether a write moves the party's own index on by no more than it owns.
+pub(crate) fn moves_index(queue: &Queue, party: Party, counts: RunCounts, write: Write) -> bool
+    requires { AreCountsWithin ROOM (ROOM + STEP) counts }
+    ensures { result ≡ moves_index queue.now (the_party party) counts write }
+{
+    if !is_index_store(queue, party, write) {
+        return false;
+    }
+    let now = least(queue, count(party, counts), write.value);
+    is_index_word(queue, now, write.value) && now <= end(queue, party, counts)
 }

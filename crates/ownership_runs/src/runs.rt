@@ -9,7 +9,7 @@ use crate::counts::{Counts, RunCounts};
 use crate::judging::judge;
 use crate::violations::Violation;
 use judged_runs::Judge;
-use queue_layouts::Queue;
+use queue_layouts::AnyQueue;
 use std::alloc::{AllocError, Global};
 use step_machine::{Event, Machine, Opening};
 
@@ -65,12 +65,12 @@ pub struct OwnershipBench<const B: usize, const M: usize> {
     pub moved: Moved,
 }
 
-/// What judges the runs of an opening by a queue's protocol of ownership, over buffers of `B` stores and `M` words of memory. The
+/// What judges the runs of an opening by a queue's protocol, over buffers of `B` stores and `M` words of memory. The
 /// parties have come as far as `start` there.
 #[derive(Drop)]
 pub struct OwnershipJudge<'a, const B: usize, const M: usize> {
     pub opening: &'a Opening,
-    pub queue: &'a Queue,
+    pub queue: &'a AnyQueue,
     pub start: Counts,
     ghost can: { (1 ≤ B) × (B ≤ 64) × (1 ≤ M) × (M ≤ 65536) × FitsIn M opening.now },
 }

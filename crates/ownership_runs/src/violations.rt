@@ -1,4 +1,4 @@
-//! What breaks a queue's protocol of ownership.
+//! What breaks a queue's protocol.
 
 /// The positions that a party owns: from `from` on and before `end`. There are none where `end` isn't above `from`.
 #[derive(Clone, Copy, PartialEq, Eq)]

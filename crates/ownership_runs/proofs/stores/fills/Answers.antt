@@ -1,6 +1,6 @@
 use Rattle.std.proofs.Common.{◌≡◌, ◌+◌, true, false, sym}
 use Rattle.ownership_runs.specs.Keeping.{may_fill}
-use Rattle.ownership_runs.proofs.Decisions.{fills-none, fills-more, fills-not}
+use Rattle.ownership_runs.proofs.Bytes.{fills-none, fills-more, fills-not}
 use Rattle.ownership_runs.proofs.stores.fills.Goals as goal
 
 pub loop-place-init : goal.loop-place-init

@@ -1,0 +1,40 @@
+//! Division by any number, and the positions that lie in a slot.
+
+ghost use Rattle.std.specs.Prelude.{◌≡◌, ◌≤◌, ◌<◌, ◌+◌, ◌/◌, ◌%◌, ◌^◌};
+ghost use Rattle.ownership_runs.specs.Keeping.{is_in_bytes, position_from};
+ghost use Rattle.ownership_runs.specs.inner.Bounds.{ROOM};
+
+/// n / m, and 0 where m is 0.
+pub(crate) fn quotient(n: u128, m: u128) -> u128
+    ensures value { result ≡ n / m }
+    ensures small { result ≤ n }
+{
+    if m == 0 { 0 } else { n / m }
+}
+
+/// n % m, and n where m is 0.
+pub(crate) fn remainder(n: u128, m: u128) -> u128
+    ensures value { result ≡ n % m }
+    ensures small { result ≤ n }
+{
+    if m == 0 { n } else { n % m }
+}
+
+/// Whether x is one of `count` bytes from an address on.
+pub(crate) fn is_in_bytes(from: u128, count: u64, x: u64) -> bool
+    ensures { result ≡ is_in_bytes from count x }
+{
+    let x = u128::from(x);
+    from <= x && x - from < u128::from(count)
+}
+
+/// The least position from `from` on that lies in this slot of `size`.
+pub(crate) fn position_from(size: u32, from: u128, slot: u128) -> u128
+    requires from { from ≤ ROOM }
+    requires slot { slot < 2 ^ 64 }
+    ensures value { result ≡ position_from size from slot }
+    ensures near { result ≤ from + slot + size }
+{
+    let size = u128::from(size);
+    from + remainder(slot + size.saturating_sub(remainder(from, size)), size)
+}
