@@ -11,31 +11,41 @@ use Rattle.queue_parties.specs.Positions.{IsInBytes}
 use Rattle.queue_parties.specs.Parties.{Party, the_receiver, all_at}
 use Rattle.slot_queue.specs.Ownership.{counts_after}
 use Rattle.slot_queue.specs.Laws.{FollowsOwnership}
-use Rattle.owned_run.specs.Certified.{LoadsByte, ReadsOwned}
+use Rattle.owned_run.specs.Certified.{nothing_beside, LoadsByte, ReadsOwned}
 use Rattle.owned_run.specs.Delivered.{IsDelivered}
 use Rattle.owned_run.specs.Certificates.{Certificate, HasFields, MeetsFields, queue_at, start_at, IsOwnByte, IsCovered, Opens, Certifies, CertifiesLoads}
+use Rattle.owned_run.proofs.Sets.{CertifiedSets, nothing_is_beside}
 use Rattle.owned_run.proofs.Every.{every_run, reads_owned, loads_delivered, every_state}
 
-pub certified_runs : (B M : ℕ) (o : OpeningValue) (c : Certificate) → Opens M o c → Certifies M o c → (es : List Entry)
-    → WellFormed B M (history_of o es) → (i : ℕ) → i < length c.queues → FollowsOwnership B (queue_at c i) (all_at (start_at c i)) o [] es
-certified_runs B M o c opens certifies = every_run B M o (length c.queues) (queue_at c) (start_at c) (HasFields c)
-    (MeetsFields c) (IsOwnByte c) (IsCovered c) opens certifies
+module _ (B M : ℕ) (o : OpeningValue) (c : Certificate) (opens : Opens M o c) (certifies : Certifies M o c) where
+  abbrev sets : CertifiedSets B M o
+  sets = record {
+    number = length c.queues;
+    queues = queue_at c;
+    starts = start_at c;
+    Told = HasFields c;
+    Sent = MeetsFields c;
+    beside = nothing_beside (queue_at c);
+    Own = IsOwnByte c;
+    Among = λ h s m cs us. IsCovered c h s m cs;
+    begins = opens;
+    is_beside = nothing_is_beside (queue_at c) B o;
+    certified = certifies;
+  }
 
-pub certified_loads : (B M : ℕ) (o : OpeningValue) (c : Certificate) → Opens M o c → Certifies M o c → (i : ℕ) (p : Party) → CertifiesLoads M o c i p
-    → (es : List Entry) → WellFormed B M (history_of o es) → ReadsOwned (queue_at c i) p (all_at (start_at c i)) es
-certified_loads B M o c opens certifies = reads_owned B M o (length c.queues) (queue_at c) (start_at c)
-    (HasFields c) (MeetsFields c) (IsOwnByte c) (IsCovered c) opens certifies
+  pub certified_runs : (es : List Entry) → WellFormed B M (history_of o es) → (i : ℕ) → i < length c.queues
+      → FollowsOwnership B (queue_at c i) (all_at (start_at c i)) o [] es
+  certified_runs = every_run sets
 
-pub certified_deliveries : (B M : ℕ) (o : OpeningValue) (c : Certificate) → Opens M o c → Certifies M o c → (i : ℕ) → i < length c.queues
-    → CertifiesLoads M o c i the_receiver → (es : List Entry) (e : Entry) → WellFormed B M (history_of o (es ++ e ∷ []))
-    → hart_of e ≡ (queue_at c i).receiver → (x : ℕ) → LoadsByte (access_of e) x
-    → IsInBytes (queue_at c i).slots ((queue_at c i).size * (queue_at c i).width) x → IsDelivered (queue_at c i) (start_at c i) o es x
-certified_deliveries B M o c opens certifies = loads_delivered B M o (length c.queues) (queue_at c) (start_at c)
-    (HasFields c) (MeetsFields c) (IsOwnByte c) (IsCovered c) opens certifies
+  pub certified_loads : (i : ℕ) (p : Party) → CertifiesLoads M o c i p → (es : List Entry) → WellFormed B M (history_of o es)
+      → ReadsOwned (queue_at c i) p (all_at (start_at c i)) es
+  certified_loads = reads_owned sets
 
-pub certified_states : (B M : ℕ) (o : OpeningValue) (c : Certificate) → Opens M o c → Certifies M o c → (es : List Entry)
-    → WellFormed B M (history_of o es) → (h : ℕ) (s : HartState) → state_of M (history_of o es) h ≡ Some s
-    → IsCovered c h s (λ x. read_byte o es h x) (λ i. counts_after (queue_at c i) (all_at (start_at c i)) es)
-certified_states B M o c opens certifies = every_state B M o (length c.queues) (queue_at c) (start_at c)
-    (HasFields c) (MeetsFields c) (IsOwnByte c) (IsCovered c)
-    opens certifies
+  pub certified_deliveries : (i : ℕ) → i < length c.queues → CertifiesLoads M o c i the_receiver → (es : List Entry) (e : Entry)
+      → WellFormed B M (history_of o (es ++ e ∷ [])) → hart_of e ≡ (queue_at c i).receiver → (x : ℕ) → LoadsByte (access_of e) x
+      → IsInBytes (queue_at c i).slots ((queue_at c i).size * (queue_at c i).width) x → IsDelivered (queue_at c i) (start_at c i) o es x
+  certified_deliveries = loads_delivered sets
+
+  pub certified_states : (es : List Entry) → WellFormed B M (history_of o es) → (h : ℕ) (s : HartState) → state_of M (history_of o es) h ≡ Some s
+      → IsCovered c h s (λ x. read_byte o es h x) (λ i. counts_after (queue_at c i) (all_at (start_at c i)) es)
+  certified_states = every_state sets

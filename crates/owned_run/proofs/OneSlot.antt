@@ -36,7 +36,9 @@ use Rattle.slot_queue.specs.Queues.{Queue, IsQueue, index_word}
 use Rattle.queue_parties.specs.Parties.{Party, the_sender, the_receiver, other, QueueCounts, count, known}
 use Rattle.slot_queue.specs.Ownership.{party_of, hart, index, end, after_access, KeepsAccess}
 use Rattle.queue_parties.proofs.Parties.{count-set, known-set-count, count-set-known, known-set}
-use Rattle.owned_run.specs.Certified.{View, AllCounts, number_seen, view_then, IsSameFor, SeesIndices, Acts, IsCertified, LoadsOwned, LoadsAreOwned}
+use Rattle.owned_run.specs.Certified.{View, AllCounts, number_seen, view_then, SeesIndices, nothing_beside, Acts, IsCertified}
+use Rattle.owned_run.specs.Certified.{LoadsOwned, LoadsAreOwned}
+use Rattle.owned_run.proofs.Sets.{nothing_kept}
 use Rattle.owned_run.proofs.Accesses.{own_read, looked, moves, fills, loads_owned, elsewhere}
 
 abbrev pub q : Queue
@@ -403,8 +405,8 @@ module _ (M : ℕ) (o : OpeningValue) (fits_in : 3 ≤ M) (small : 4 * M ≤ 2 ^
         (at_0 (ap (λ x. address x (negsuc 23)) pc)))
 
   -- each hart is a party, and stands at one of its lines
-  abbrev pub Among : ℕ → HartState → View → AllCounts → Type 0
-  Among h s m cs = (p : Party) × (h ≡ hart q p) × Stands p s (cs 0) × Word p s m
+  abbrev pub Among : ℕ → HartState → View → AllCounts → AllCounts → Type 0
+  Among h s m cs us = (p : Party) × (h ≡ hart q p) × Stands p s (cs 0) × Word p s m
 
   party-is : (p : Party) → party_of q (hart q p) ≡ Some p
   party-is the_sender = refl
@@ -447,31 +449,32 @@ module _ (M : ℕ) (o : OpeningValue) (fits_in : 3 ≤ M) (small : 4 * M ≤ 2 ^
   slot-at : (k : ℕ) → 8 + 4 * (k % 1) ≡ 8
   slot-at k = omega arith
 
-  pub one_slot_is_certified : (starts : ℕ → ℕ) → IsCertified M o 1 (λ i. q) (λ i. Unit {0}) SendsWord starts IsSlot Among
+  pub one_slot_is_certified : (starts : ℕ → ℕ) → IsCertified M o 1 (λ i. q) (λ i. Unit {0}) SendsWord (nothing_beside (λ i. q)) starts IsSlot Among
   one_slot_is_certified starts = record {
-    frame = λ h s m n cs ds w own same. (
+    frame = λ h s m n cs ds us vs w own same besides. (
       w.0,
       w.1,
       carried w.0 s (cs 0) (ds 0) ((same 0 (omega arith)).count w.0 w.1) ((same 0 (omega arith)).known w.0 w.1) w.2,
       word-frame w.0 h s m n w.1 own w.3,
     );
     opens = λ h x is. (let t = texts h x is in (t.0, t.1, at_0 refl, opens-word t.0 x t.2));
-    steps = λ h s m cs e w a. (let g = went h s m cs e w.0 w.1 w.2 w.3 a in (
+    steps = λ h s m cs us e w a k. (let g = went h s m cs e w.0 w.1 w.2 w.3 a in (
       w.0,
       w.1,
       subst (λ t. Stands w.0 (advanced s (number_read e)) (after_access q t (access_of e) (cs 0))) (sym (ap (party_of q) w.1 ∙ party-is w.0)) g.next,
       g.word,
     ));
-    writes = λ h s m cs e w a i less. subst (λ t. KeepsAccess q t (cs i) (access_of e)) (sym (ap (party_of q) w.1 ∙ party-is w.0))
+    writes = λ h s m cs us e w a k i less. subst (λ t. KeepsAccess q t (cs i) (access_of e)) (sym (ap (party_of q) w.1 ∙ party-is w.0))
         (subst (λ j. KeepsAccess q (Some w.0) (cs j) (access_of e)) (let z : 0 ≡ i = omega (arith, less) in z) (went h s m cs e w.0 w.1 w.2 w.3 a).keeps);
-    apart = λ h s m cs e w a g x other own. (went h s m cs e w.0 w.1 w.2 w.3 a).takes (not_sender w.0 h g w.1 own.0 other) x own.1 own.2;
+    keeps = λ h s m cs us e w a k. nothing_kept (λ i. q) h us (access_of e);
+    apart = λ h s m cs us e w a k g x other own. (went h s m cs e w.0 w.1 w.2 w.3 a).takes (not_sender w.0 h g w.1 own.0 other) x own.1 own.2;
     record_frame = λ i k less told m n same sent. joined-same (λ j. n (8 + j)) (λ j. m (8 + j)) 4
         (λ j low. same (8 + j) (let at : 8 + 4 * (k % 1) ≡ 8 = slot-at k in (omega (arith, at), omega (arith, at, low)))) ∙ sent;
-    publishes = λ h s m cs e w a i less told mine k from past.
+    publishes = λ h s m cs us e w a known i less told mine k from past.
         sent_there (cs i) (cs 0) (ap cs (let z : i ≡ 0 = omega (arith, less) in z)) w.0 h m e (w.1) mine k from
         (subst (λ t. k < (after_access q t (access_of e) (cs i)).published) (ap (party_of q) w.1 ∙ party-is w.0) past)
         (went h s m cs e w.0 w.1 w.2 w.3 a).sends;
-    takes = λ h s m cs e w a i less told mine k x of_k. (went h s m cs e w.0 w.1 w.2 w.3 a).takes (same_party w.0 the_receiver (sym w.1 ∙ mine)) x
+    takes = λ h s m cs us e w a known i less told mine k x of_k. (went h s m cs e w.0 w.1 w.2 w.3 a).takes (same_party w.0 the_receiver (sym w.1 ∙ mine)) x
         (let at : 8 + 4 * (k % 1) ≡ 8 = slot-at k in omega (arith, at, of_k.0)) (let at : 8 + 4 * (k % 1) ≡ 8 = slot-at k in omega (arith, at, of_k.1));
   }
     where
@@ -489,7 +492,7 @@ module _ (M : ℕ) (o : OpeningValue) (fits_in : 3 ≤ M) (small : 4 * M ≤ 2 ^
             subst (λ b. (after_access q (Some the_sender) (access_of e) b).published ≡ b.published) (sym same) stays in omega (arith, stays2, from, past))
       ]
 
-  pub one_slot_loads : (p : Party) → LoadsAreOwned M o 1 (λ i. q) (λ i. Unit {0}) SendsWord Among 0 p
-  one_slot_loads p s m cs e w a =
+  pub one_slot_loads : (p : Party) → LoadsAreOwned M o 1 (λ i. q) (λ i. Unit {0}) SendsWord (nothing_beside (λ i. q)) Among 0 p
+  one_slot_loads p s m cs us e w a k =
       let is : w.0 ≡ p = same_party w.0 p (sym w.1) in
       subst (λ t. LoadsOwned q t (cs 0) (access_of e)) is (went (hart q p) s m cs e w.0 w.1 w.2 w.3 a).loads

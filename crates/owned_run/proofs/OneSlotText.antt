@@ -1,13 +1,12 @@
 -- The same of a text of words: both harts, and the theorem of every run of it.
 use Rattle.std.proofs.Common.{ℕ, zero, suc, ◌≡◌, List, [], ◌∷◌, Some, refl, sym, ap, subst, arith}
-use Rattle.std.specs.Prelude.{map, All, replicate}
+use Rattle.std.specs.Prelude.{map}
 use Rattle.std.specs.List.{slice_get}
 use Rattle.std.proofs.lemmas.List.Elements.{All-nil}
 use Rattle.rv_decode.specs.Meaning.{meaning}
 use Rattle.rv_decode.specs.declared.instruction.Instr.{Instr}
 use Rattle.step_machine.specs.declared.events.Entry.{Entry}
 use Rattle.step_machine.specs.History.{HartOpeningValue, OpeningValue, history_of}
-use Rattle.step_machine.specs.Entries.{read_byte}
 use Rattle.step_machine.specs.Paths.{state_of}
 use Rattle.hart.specs.State.{HartState}
 use Rattle.step_machine.specs.Legal.{WellFormed}
@@ -15,9 +14,11 @@ use Rattle.slot_queue.specs.Queues.{IsAtRest, KeepsOff}
 use Rattle.queue_parties.specs.Parties.{Party, the_sender, the_receiver, all_at}
 use Rattle.slot_queue.specs.Ownership.{hart, counts_after}
 use Rattle.slot_queue.specs.Laws.{FollowsOwnership}
-use Rattle.owned_run.specs.Certified.{ReadsOwned}
+use Rattle.certified_runs.specs.Views.{view_of}
+use Rattle.owned_run.specs.Certified.{nothing_beside, ReadsOwned}
+use Rattle.owned_run.proofs.Sets.{CertifiedSets, nothing_is_beside}
 use Rattle.owned_run.proofs.Every.{every_run, reads_owned, every_state}
-use Rattle.owned_run.proofs.OneSlot.{q, is_queue, lines, Runs, r3, After, Word, SendsWord, IsSlot, Among, one_slot_is_certified, one_slot_loads}
+use Rattle.owned_run.proofs.OneSlot.{q, is_queue, lines, Runs, r3, After, Word, SendsWord, IsSlot, Stands, Among, one_slot_is_certified, one_slot_loads}
 
 abbrev sender_text : HartOpeningValue
 sender_text = record {
@@ -80,26 +81,37 @@ rest = record {
   pending = λ h. All-nil (KeepsOff q);
 }
 
+abbrev sets : (B : ℕ) → CertifiedSets B 3 text
+sets B = record {
+  number = 1;
+  queues = λ i. q;
+  starts = λ i. 0;
+  Told = λ i. Unit {0};
+  Sent = SendsWord;
+  beside = nothing_beside (λ i. q);
+  Own = IsSlot;
+  Among = Among 3 text (omega arith) (omega arith) texts;
+  begins = λ i less. (is_queue, rest);
+  is_beside = nothing_is_beside (λ i. q) B text;
+  certified = one_slot_is_certified 3 text (omega arith) (omega arith) texts (λ i. 0);
+}
+
 -- of every run, with store buffers of any size: it keeps the protocol, and either party loads the slot only while it owns it
 pub one_slot_runs : (B : ℕ) (es : List Entry) → WellFormed B 3 (history_of text es)
     → FollowsOwnership B q (all_at 0) text [] es × ((p : Party) → ReadsOwned q p (all_at 0) es)
 one_slot_runs B es run = (
-  every_run B 3 text 1 (λ i. q) (λ i. 0) (λ i. Unit {0}) SendsWord IsSlot (Among 3 text (omega arith) (omega arith) texts) (λ i less. (is_queue, rest))
-      (one_slot_is_certified 3 text (omega arith) (omega arith) texts (λ i. 0)) es run 0 (omega arith),
-  λ p. reads_owned B 3 text 1 (λ i. q) (λ i. 0) (λ i. Unit {0}) SendsWord IsSlot (Among 3 text (omega arith) (omega arith) texts) (λ i less. (is_queue, rest))
-      (one_slot_is_certified 3 text (omega arith) (omega arith) texts (λ i. 0)) 0 p (one_slot_loads 3 text (omega arith) (omega arith) texts p) es run,
+  every_run (sets B) es run 0 (omega arith),
+  λ p. reads_owned (sets B) 0 p (one_slot_loads 3 text (omega arith) (omega arith) texts p) es run,
 )
 
 -- and past its load the receiver's x3 is the word that was sent
 pub one_slot_receives : (B : ℕ) (es : List Entry) → WellFormed B 3 (history_of text es) → (s : HartState) → state_of 3 (history_of text es) 1 ≡ Some s
     → After s → r3 s ≡ 7
-one_slot_receives B es run s at past = by (every_state B 3 text 1 (λ i. q) (λ i. 0) (λ i. Unit {0}) SendsWord IsSlot
-    (Among 3 text (omega arith) (omega arith) texts) (λ i less. (is_queue, rest))
-    (one_slot_is_certified 3 text (omega arith) (omega arith) texts (λ i. 0)) es run 1 s at)
+one_slot_receives B es run s at past = by (every_state (sets B) es run 1 s at)
   where
-    word : (p : Party) → 1 ≡ hart q p → Word p s (λ x. read_byte text es 1 x) → r3 s ≡ 7
+    word : (p : Party) → 1 ≡ hart q p → Word p s (view_of text es 1) → r3 s ≡ 7
     word the_sender is w = absurd (let no : 1 ≡ 0 = is in cc)
     word the_receiver is w = w past
 
-    by : Among 3 text (omega arith) (omega arith) texts 1 s (λ x. read_byte text es 1 x) (λ i. counts_after q (all_at 0) es) → r3 s ≡ 7
+    by : (p : Party) × (1 ≡ hart q p) × Stands p s (counts_after q (all_at 0) es) × Word p s (view_of text es 1) → r3 s ≡ 7
     by w = word w.0 w.1 w.3

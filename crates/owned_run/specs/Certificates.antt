@@ -6,7 +6,7 @@ use Rattle.hart.specs.State.{HartState}
 use Rattle.step_machine.specs.History.{OpeningValue}
 use Rattle.slot_queue.specs.Queues.{Queue, slot_of}
 use Rattle.queue_parties.specs.Parties.{Party}
-use Rattle.owned_run.specs.Certified.{View, AllCounts, number_seen, IsCertified, OpenQueues, LoadsAreOwned}
+use Rattle.owned_run.specs.Certified.{View, AllCounts, number_seen, IsCertified, OpenQueues, LoadsAreOwned, nothing_beside}
 use Rattle.owned_run.specs.Values.{Abstract, Means}
 
 -- a hart's part: its states, and the addresses of its own words
@@ -91,8 +91,10 @@ Opens M o c = OpenQueues M o (length c.queues) (queue_at c) (HasFields c) (Meets
 
 -- and it holds of the text. A checker's contract is that it says yes only where this is so
 abbrev pub Certifies : (M : ℕ) → OpeningValue → Certificate → Type 0
-Certifies M o c = IsCertified M o (length c.queues) (queue_at c) (HasFields c) (MeetsFields c) (start_at c) (IsOwnByte c) (IsCovered c)
+Certifies M o c = IsCertified M o (length c.queues) (queue_at c) (HasFields c) (MeetsFields c) (nothing_beside (queue_at c)) (start_at c) (IsOwnByte c)
+    (λ h s m cs us. IsCovered c h s m cs)
 
 -- and this: in its states a party's loads of slots are of owned ones
 abbrev pub CertifiesLoads : (M : ℕ) → OpeningValue → Certificate → (i : ℕ) → Party → Type 0
-CertifiesLoads M o c i p = LoadsAreOwned M o (length c.queues) (queue_at c) (HasFields c) (MeetsFields c) (IsCovered c) i p
+CertifiesLoads M o c i p = LoadsAreOwned M o (length c.queues) (queue_at c) (HasFields c) (MeetsFields c) (nothing_beside (queue_at c))
+    (λ h s m cs us. IsCovered c h s m cs) i p

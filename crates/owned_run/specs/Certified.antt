@@ -1,6 +1,6 @@
--- What has to be shown of the states of each hart, so that every run keeps the protocol of ownership of each of its queues. A
--- certificate lists such states, and what is to be shown of it speaks of one instruction of one hart at a time, and of no run.
--- There are no calls: all code is ordinary.
+-- What has to be shown of the states of each hart, so that every run keeps the protocol of ownership of each of its queues, and the
+-- protocols of other queues beside these. A certificate lists such states, and what is to be shown of it speaks of one instruction of
+-- one hart at a time, and of no run. There are no calls: all code is ordinary.
 use Rattle.std.specs.Prelude.{ℕ, ◌≡◌, ◌≢◌, ◌+◌, ◌*◌, ◌<◌, ◌≤◌, false, Some, List, [], ◌∷◌, slice_index, length}
 use Rattle.std.specs.List.{slice_get}
 use Rattle.hart.specs.State.{HartState}
@@ -13,7 +13,8 @@ use Rattle.step_machine.specs.Paths.{number_read, CanMake, opens_as}
 use Rattle.store_buffers.specs.StoreBuffers.{LeavesByteBy}
 use Rattle.slot_queue.specs.Queues.{Queue, index_word, IsByteOf, IsQueue, IsAtRest}
 use Rattle.queue_parties.specs.Positions.{IsInBytes}
-use Rattle.certified_runs.specs.TwoParties.{TwoPartyProtocol}
+use Rattle.certified_runs.specs.Certified.{Protocol}
+use Rattle.certified_runs.specs.TwoParties.{TwoPartyProtocol, all_of}
 use Rattle.certified_runs.specs.TwoParties as two_parties
 use Rattle.queue_parties.specs.Parties.{Party, the_sender, the_receiver, other, QueueCounts, all_at, count, known}
 use Rattle.slot_queue.specs.Ownership.{party_of, hart, index, end, OwnsByte, after_access, counts_next, KeepsAccess}
@@ -38,6 +39,19 @@ pub record SeesIndices (q : Queue) (p : Party) (c : QueueCounts) (m : View) : Ty
 -- the protocol of ownership as one of two parties
 abbrev pub owning : Queue → TwoPartyProtocol
 owning q = record { sender = q.sender; receiver = q.receiver; next = after_access q; May = KeepsAccess q; Knows = SeesIndices q }
+
+-- `number` queues of other protocols beside, and the counts with which they open
+pub record Beside : Type 1 where
+  pub number : ℕ
+  pub queues : ℕ → TwoPartyProtocol
+  pub starts : AllCounts
+
+abbrev pub kept_beside : Beside → Protocol AllCounts
+kept_beside b = all_of b.number b.queues
+
+-- none
+abbrev pub nothing_beside : (ℕ → Queue) → Beside
+nothing_beside queues = record { number = 0; queues = λ i. owning (queues i); starts = λ i. all_at 0 }
 
 -- these counts are the same as far as hart h knows them
 abbrev pub IsSameFor : Queue → (h : ℕ) → (c d : QueueCounts) → Type 0
@@ -67,30 +81,34 @@ module _ (M : ℕ) (o : OpeningValue) (N : ℕ) (queues : ℕ → Queue) (Told :
   counts_then h y cs = λ i. after_access (queues i) (party_of (queues i) h) y (cs i)
 
   -- These sets P of states, views and counts of each hart hold whatever a run leads to, where `Own h x` says that the byte at x is
-  -- hart h's own, so that no other hart writes it, and `starts` are the counts with which the queues open
-  pub record IsCertified (starts : ℕ → ℕ) (Own : ℕ → ℕ → Type 0) (P : ℕ → HartState → View → AllCounts → Type 0) : Type 0 where
+  -- hart h's own, so that no other hart writes it, and `starts` are the counts with which the queues open. They speak of the counts of
+  -- the queues beside too, and of what is known there
+  pub record IsCertified (b : Beside) (starts : ℕ → ℕ) (Own : ℕ → ℕ → Type 0) (P : ℕ → HartState → View → AllCounts → AllCounts → Type 0) : Type 0 where
     -- a set says nothing of bytes that aren't the hart's own, and nothing of counts that it doesn't know
-    pub frame : (h : ℕ) (s : HartState) (m n : View) (cs ds : AllCounts) → P h s m cs → ((x : ℕ) → Own h x → n x ≡ m x)
-        → ((i : ℕ) → i < N → IsSameFor (queues i) h (cs i) (ds i)) → P h s n ds
+    pub frame : (h : ℕ) (s : HartState) (m n : View) (cs ds us vs : AllCounts) → P h s m cs us → ((x : ℕ) → Own h x → n x ≡ m x)
+        → ((i : ℕ) → i < N → IsSameFor (queues i) h (cs i) (ds i)) → (kept_beside b).IsSame h us vs → P h s n ds vs
     -- each hart opens in its set
-    pub opens : (h : ℕ) (x : HartOpeningValue) → slice_get o.harts h ≡ Some x → P h (opens_as M x) (opening_byte o) (λ i. all_at (starts i))
+    pub opens : (h : ℕ) (x : HartOpeningValue) → slice_get o.harts h ≡ Some x → P h (opens_as M x) (opening_byte o) (λ i. all_at (starts i)) b.starts
     -- an instruction leads from the set into it,
-    pub steps : (h : ℕ) (s : HartState) (m : View) (cs : AllCounts) (e : Entry) → P h s m cs → Acts h s m cs e
-        → P h (advanced s (number_read e)) (view_then (access_of e) m) (counts_then h (access_of e) cs)
+    pub steps : (h : ℕ) (s : HartState) (m : View) (cs us : AllCounts) (e : Entry) → P h s m cs us → Acts h s m cs e → (kept_beside b).Knows h us m
+        → P h (advanced s (number_read e)) (view_then (access_of e) m) (counts_then h (access_of e) cs) ((kept_beside b).next h (access_of e) us)
     -- stores to each queue what its hart may: a party what it owns, and a third hart nothing,
-    pub writes : (h : ℕ) (s : HartState) (m : View) (cs : AllCounts) (e : Entry) → P h s m cs → Acts h s m cs e → (i : ℕ) → i < N
-        → KeepsAccess (queues i) (party_of (queues i) h) (cs i) (access_of e)
+    pub writes : (h : ℕ) (s : HartState) (m : View) (cs us : AllCounts) (e : Entry) → P h s m cs us → Acts h s m cs e → (kept_beside b).Knows h us m
+        → (i : ℕ) → i < N → KeepsAccess (queues i) (party_of (queues i) h) (cs i) (access_of e)
+    -- keeps the protocols beside,
+    pub keeps : (h : ℕ) (s : HartState) (m : View) (cs us : AllCounts) (e : Entry) → P h s m cs us → Acts h s m cs e → (kept_beside b).Knows h us m
+        → (kept_beside b).May h us (access_of e)
     -- and writes no byte that is another hart's own
-    pub apart : (h : ℕ) (s : HartState) (m : View) (cs : AllCounts) (e : Entry) → P h s m cs → Acts h s m cs e → (g x : ℕ) → g ≢ h → Own g x
-        → LeavesByteBy x (access_of e)
+    pub apart : (h : ℕ) (s : HartState) (m : View) (cs us : AllCounts) (e : Entry) → P h s m cs us → Acts h s m cs e → (kept_beside b).Knows h us m
+        → (g x : ℕ) → g ≢ h → Own g x → LeavesByteBy x (access_of e)
     -- what is said of a record is said of its slot's bytes alone;
     pub record_frame : (i k : ℕ) → i < N → Told i → (m n : View) → ((x : ℕ) → IsByteOf (queues i) k x → n x ≡ m x) → Sent i k m → Sent i k n
     -- it is so where the sender moves its head past the position,
-    pub publishes : (h : ℕ) (s : HartState) (m : View) (cs : AllCounts) (e : Entry) → P h s m cs → Acts h s m cs e → (i : ℕ) → i < N → Told i
-        → h ≡ (queues i).sender → (k : ℕ) → (cs i).published ≤ k → k < (counts_then h (access_of e) cs i).published → Sent i k m
+    pub publishes : (h : ℕ) (s : HartState) (m : View) (cs us : AllCounts) (e : Entry) → P h s m cs us → Acts h s m cs e → (kept_beside b).Knows h us m
+        → (i : ℕ) → i < N → Told i → h ≡ (queues i).sender → (k : ℕ) → (cs i).published ≤ k → k < (counts_then h (access_of e) cs i).published → Sent i k m
     -- and the receiver writes nothing to slots
-    pub takes : (h : ℕ) (s : HartState) (m : View) (cs : AllCounts) (e : Entry) → P h s m cs → Acts h s m cs e → (i : ℕ) → i < N → Told i
-        → h ≡ (queues i).receiver → (k x : ℕ) → IsByteOf (queues i) k x → LeavesByteBy x (access_of e)
+    pub takes : (h : ℕ) (s : HartState) (m : View) (cs us : AllCounts) (e : Entry) → P h s m cs us → Acts h s m cs e → (kept_beside b).Knows h us m
+        → (i : ℕ) → i < N → Told i → h ≡ (queues i).receiver → (k x : ℕ) → IsByteOf (queues i) k x → LeavesByteBy x (access_of e)
 
   -- the queues open rightly: each is one, and is empty and at rest at its count
   abbrev pub OpenQueues : (starts : ℕ → ℕ) → Type 0
@@ -114,6 +132,7 @@ ReadsOwned q p c (e ∷ es) = (hart_of e ≡ hart q p → LoadsOwned q p c (acce
 
 -- in these sets that is so of each load of the party's hart
 abbrev pub LoadsAreOwned : (M : ℕ) (o : OpeningValue) (N : ℕ) (queues : ℕ → Queue) (Told : ℕ → Type 0)
-    (Sent : (i k : ℕ) → View → Type 0) (P : ℕ → HartState → View → AllCounts → Type 0) (i : ℕ) → Party → Type 0
-LoadsAreOwned M o N queues Told Sent P i p = (s : HartState) (m : View) (cs : AllCounts) (e : Entry) → P (hart (queues i) p) s m cs
-    → Acts M o N queues Told Sent (hart (queues i) p) s m cs e → LoadsOwned (queues i) p (cs i) (access_of e)
+    (Sent : (i k : ℕ) → View → Type 0) (b : Beside) (P : ℕ → HartState → View → AllCounts → AllCounts → Type 0) (i : ℕ) → Party → Type 0
+LoadsAreOwned M o N queues Told Sent b P i p = (s : HartState) (m : View) (cs us : AllCounts) (e : Entry) → P (hart (queues i) p) s m cs us
+    → Acts M o N queues Told Sent (hart (queues i) p) s m cs e → (kept_beside b).Knows (hart (queues i) p) us m
+    → LoadsOwned (queues i) p (cs i) (access_of e)

@@ -1,7 +1,9 @@
 //! Every run of a text keeps the protocol of ownership of each of its queues, where a certificate holds of the text.
 //!
 //! A certificate is for each hart a list of abstract states, of its registers, its own words and the counts that it knows, that is
-//! closed under single instructions of that hart. There are no calls: queues may be inlined. This crate runs nothing.
+//! closed under single instructions of that hart. There are no calls: queues may be inlined. The contract is of queues with indices
+//! alone. No contract can speak of all sets of states or of all protocols: `proofs/Every.antt` does, of queues with indices and of
+//! others beside them. This crate runs nothing.
 //!
 //! Called by none, and cited by more than 6 crates, from `queue_certificates` to `certifying`.
 

@@ -16,7 +16,7 @@ ghost use Rattle.slot_queue.specs.Laws.{FollowsOwnership};
 ghost use Rattle.slots_that_tell.specs.Laws.{FollowsTelling};
 ghost use Rattle.queue_instances.specs.LamportRings.{queue_of};
 ghost use Rattle.queue_instances.specs.Starts.{counts_at_start};
-ghost use Rattle.queue_instances.specs.FastForwardRings.{slots_of};
+ghost use Rattle.queue_instances.specs.FastForwardRings.{ring_slots_of};
 
 /// Of each run that keeps the protocol of a queue of `spsc_queue`, from where that was at rest, empty or with words that wait. It does
 /// nothing.
@@ -28,5 +28,5 @@ pub fn laws_of_instances()
     ensures lamport_ring { (B : ℕ) (r : RingBuffer) (o : OpeningValue) (before es : List Entry) → r.kind ≡ lamport
         → FollowsSpscProtocol B r o before es → FollowsOwnership B (queue_of r) (counts_at_start r) o before es }
     ensures fastforward_ring { (B : ℕ) (r : RingBuffer) (o : OpeningValue) (before es : List Entry) → r.kind ≡ fastforward
-        → FollowsSpscProtocol B r o before es → FollowsTelling B (slots_of r) (counts_at_start r) o before es }
+        → FollowsSpscProtocol B r o before es → FollowsTelling B (ring_slots_of r) (counts_at_start r) o before es }
 {}
