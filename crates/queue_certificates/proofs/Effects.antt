@@ -8,7 +8,7 @@ use Rattle.hart.specs.State.{HartState}
 use Rattle.hart.specs.declared.status.Status.TheVariants as status
 use Rattle.memory.specs.declared.writes.Write.{Write}
 use Rattle.memory.specs.Writes.{write, covers}
-use Rattle.step_machine.specs.Access.{Access, nothing, store, exchange}
+use Rattle.step_machine.specs.Access.{Access, store, exchange}
 use Rattle.slot_queue.specs.Queues.{Queue, IsQueue, slot_of}
 use Rattle.queue_parties.specs.Positions.{IsInBytes}
 use Rattle.queue_parties.specs.Parties.{the_sender, QueueCounts}
@@ -52,11 +52,6 @@ IsDone q c rs u m (PublishesSome n) y = Unit {0}
 pub record Does (q : Queue) (c : QueueCounts) (rs : List (Option ℕ)) (u : KnownValue) (m : View) (f : Effect) (y : Access) (z : HartState) : Type 0 where
   pub upto : published_then q c y ≤ c.published + most_published f
   pub done : z.status ≡ status.Running → IsDone q c rs u m f y
-
--- a hart that stops does nothing to the queue
-pub does-nothing : (q : Queue) (c : QueueCounts) (rs : List (Option ℕ)) (u : KnownValue) (m : View) (f : Effect) (z : HartState)
-    → (z.status ≡ status.Running → ⊥) → Does q c rs u m f nothing z
-does-nothing q c rs u m f z stopped = record { upto = omega arith; done = λ runs. absurd (stopped runs) }
 
 pub does-leave : (q : Queue) (c : QueueCounts) (rs : List (Option ℕ)) (u : KnownValue) (m : View) (y : Access) (z : HartState)
     → published_then q c y ≡ c.published → LeavesSlots q m y → Does q c rs u m Leaves y z
@@ -110,3 +105,49 @@ right-after q is fs ok queues c rs u m y ms (Publishes n) done right d j so =
     (let same : c.published + (d + n) ≡ published_then q c y + d = omega (arith, done.0) in same)
     (right-kept q is fs ok c.published m (view_then y m) done.1 (d + n) j (right (d + n) j so))
 right-after q is fs ok queues c rs u m y ms (PublishesSome n) done right d j so = absurd (cc)
+
+-- ---- of a queue of either kind, of which position k lies in the slot at `slot k`: the sender's count, n before an access of its own and m
+-- after it, and the bytes that it writes
+
+abbrev pub IsSent : (size : ℕ) (slot : ℕ → ℕ) (n m : ℕ) → Effect → Access → Type 0
+IsSent size slot n m Leaves y = m ≡ n
+IsSent size slot n m (Fills p offset width) y = (m ≡ n) × (p < size)
+    × ((b : ℕ) → offset ≤ b → b < offset + width → WritesByte y (slot (n + p) + b))
+IsSent size slot n m (Publishes d) y = m ≡ n + d
+IsSent size slot n m (PublishesSome d) y = m ≤ n + d
+
+-- an access by which the hart comes to state z
+pub record Sends (size : ℕ) (slot : ℕ → ℕ) (n m : ℕ) (f : Effect) (y : Access) (z : HartState) : Type 0 where
+  pub upto : m ≤ n + most_published f
+  pub done : z.status ≡ status.Running → IsSent size slot n m f y
+
+pub sent-sends : (size : ℕ) (slot : ℕ → ℕ) (n m : ℕ) (f : Effect) (y : Access) (z : HartState) → IsSent size slot n m f y → Sends size slot n m f y z
+sent-sends size slot n m f y z sent = record { upto = by f sent; done = λ runs. sent }
+  where
+    by : (f : Effect) → IsSent size slot n m f y → m ≤ n + most_published f
+    by Leaves same = omega (arith, same)
+    by (Fills p offset width) sent = omega (arith, sent.0)
+    by (Publishes d) to = omega (arith, to)
+    by (PublishesSome d) upto = upto
+
+pub does-sends : (q : Queue) (c : QueueCounts) (rs : List (Option ℕ)) (u : KnownValue) (m : View) (f : Effect) (y : Access) (z : HartState)
+    → Does q c rs u m f y z → Sends q.size (slot_of q) c.published (published_then q c y) f y z
+does-sends q c rs u m f y z w = record { upto = w.upto; done = λ runs. by f (w.done runs) w.upto }
+  where
+    by : (f : Effect) → IsDone q c rs u m f y → published_then q c y ≤ c.published + most_published f
+        → IsSent q.size (slot_of q) c.published (published_then q c y) f y
+    by Leaves done upto = done.0
+    by (Fills p offset width) done upto = (done.0, done.1.written.near, done.1.bytes)
+    by (Publishes n) done upto = done.0
+    by (PublishesSome n) done upto = upto
+
+-- another access that writes the same bytes
+pub sends-as : (size : ℕ) (slot : ℕ → ℕ) (n m : ℕ) (f : Effect) (y w : Access) (z : HartState) → ((x : ℕ) → WritesByte y x → WritesByte w x)
+    → Sends size slot n m f y z → Sends size slot n m f w z
+sends-as size slot n m f y w z writes sends = record { upto = sends.upto; done = λ runs. by f (sends.done runs) }
+  where
+    by : (f : Effect) → IsSent size slot n m f y → IsSent size slot n m f w
+    by Leaves same = same
+    by (Fills p offset width) sent = (sent.0, sent.1, λ b from below. writes (slot (n + p) + b) (sent.2 b from below))
+    by (Publishes d) to = to
+    by (PublishesSome d) upto = upto

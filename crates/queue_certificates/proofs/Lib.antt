@@ -1,5 +1,6 @@
 pub mod OneSlotQueue
 mod OneSlotNumbers
+mod OneSlotTags
 pub mod Forms
 pub mod Bounds
 pub mod Values
@@ -14,5 +15,17 @@ pub mod Filled
 pub mod Effects
 pub mod Sends
 pub mod Takes
+mod TagPlaces
+pub mod TagShares
+mod TagCounts
+mod TagValues
+mod NextAccess
+mod TagKept
+pub mod TagNext
+mod TagStores
+mod TagLoads
+pub mod Told
+pub mod Accepted
+pub mod Leaves
 pub mod Certified
 pub mod EveryRun

@@ -9,6 +9,7 @@ use Rattle.queue_certificates.specs.States.{KnownValue, any, linear}
 use Rattle.queue_certificates.specs.Filled.{Filled}
 use Rattle.queue_certificates.specs.Certificates.{Cases, leaf, split, ListedState, HartPart, QueueCertificate, accepts, accepts_loads}
 use Rattle.queue_certificates.proofs.OneSlotQueue.{form, arrow}
+use Rattle.queue_certificates.specs.Tags.{told_by_store}
 
 -- lw x1,0(x0); lw x2,4(x0); bne x1,x2,-8; andi x3,x1,7; sw x3,8(x0); addi x1,x1,1; sw x1,0(x0); jal x0,-28
 abbrev sender_text : HartOpeningValue
@@ -109,22 +110,23 @@ part_1 = record {
 abbrev certificate : ℕ → QueueCertificate
 certificate n = record {
   queues = record { queue = q; start = 0; fields = record { at = 0; width = 4; low = 0; step = 1; count = n } ∷ [] } ∷ [];
+  tagged = [];
   harts = part_0 ∷ part_1 ∷ [];
 }
 
 numbers_accepted : accepts text (certificate 7) ≡ true
-unfolding meaning lib.Count.ones
+unfolding meaning lib.Count.ones told_by_store
 numbers_accepted = refl
 
 numbers_loads : accepts_loads text (certificate 7) 0 1 ≡ true
-unfolding meaning
+unfolding meaning told_by_store
 numbers_loads = refl
 
 -- it isn't shown that a number of 0 to 7 is one of fewer, nor that one of more is at most 7
 fewer_refused : accepts text (certificate 6) ≡ false
-unfolding meaning
+unfolding meaning told_by_store
 fewer_refused = refl
 
 more_refused : accepts text (certificate 8) ≡ false
-unfolding meaning
+unfolding meaning told_by_store
 more_refused = refl

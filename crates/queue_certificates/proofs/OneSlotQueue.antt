@@ -6,6 +6,7 @@ use Rattle.owned_run.proofs.OneSlotText.{text}
 use Rattle.queue_certificates.specs.Forms.{Form, number}
 use Rattle.queue_certificates.specs.States.{KnownValue, any, linear}
 use Rattle.queue_certificates.specs.Certificates.{Arrow, Cases, leaf, split, ListedState, HartPart, QueueCertificate, accepts, accepts_loads}
+use Rattle.queue_certificates.specs.Tags.{told_by_store}
 
 abbrev pub form : ℕ → List ℕ → Form
 form c ms = record { constant = c; factors = ms }
@@ -110,12 +111,12 @@ part_1 = record {
 }
 
 abbrev pub certificate : QueueCertificate
-certificate = record { queues = (record { queue = q; start = 0; fields = [] }) ∷ []; harts = part_0 ∷ part_1 ∷ [] }
+certificate = record { queues = (record { queue = q; start = 0; fields = [] }) ∷ []; tagged = []; harts = part_0 ∷ part_1 ∷ [] }
 
 one_slot_accepted : accepts text certificate ≡ true
-unfolding meaning
+unfolding meaning told_by_store
 one_slot_accepted = refl
 
 one_slot_loads : accepts_loads text certificate 0 1 ≡ true
-unfolding meaning
+unfolding meaning told_by_store
 one_slot_loads = refl

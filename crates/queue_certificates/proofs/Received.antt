@@ -1,12 +1,11 @@
 -- What a receiver's load of a field comes to: one of the field's numbers.
-use Rattle.std.proofs.Common.{ℕ, ℤ, pos, zero, suc, ◌+◌, ◌*◌, ◌/◌, ◌%◌, ◌^◌, ◌<◌, ◌≤◌, ◌≡◌, ◌==◌, ◌&&◌, if◌then◌else◌}
+use Rattle.std.proofs.Common.{ℕ, ℤ, pos, zero, suc, ◌+◌, ◌*◌, ◌%◌, ◌^◌, ◌<◌, ◌≤◌, ◌≡◌, ◌==◌, ◌&&◌, if◌then◌else◌}
 use Rattle.std.proofs.Common.{Bool, true, false, Option, Some, None, List, [], ◌∷◌, length, get_or, refl, sym, ◌∙◌, ap, subst, arith}
-use Rattle.std.specs.Prelude.{All, ◌-ℤ◌, nat_lt, slice_index}
+use Rattle.std.specs.Prelude.{All, ◌-ℤ◌}
 use Rattle.std.proofs.lemmas.Bool.{and_parts, eqb-true, ltb-true, lt-ltb}
 use Rattle.std.proofs.lemmas.List.Elements.{All-head, All-tail}
 use Rattle.std.proofs.lemmas.Nat.{mul-le}
 use Rattle.std.proofs.Math.Nat.{mod-eq_of_lt}
-use Rattle.rv_decode.specs.Meaning.{meaning}
 use Rattle.rv_decode.specs.declared.instruction.Reg.{Reg}
 use Rattle.rv_decode.specs.declared.instruction.LoadOp.{LoadOp}
 use Rattle.rv_decode.specs.declared.instruction.LoadOp.TheVariants as load_op
@@ -32,6 +31,7 @@ use Rattle.queue_certificates.specs.Fields.{last_number, field_number, keeps_num
 use Rattle.queue_certificates.proofs.Results.{Gives}
 use Rattle.queue_certificates.proofs.Stores.{placed-at}
 use Rattle.queue_certificates.proofs.Steps.{Goes, nobody_told, nothing_sent}
+use Rattle.queue_certificates.proofs.NextAccess.{found-at}
 use Rattle.queue_certificates.proofs.Steps as steps
 
 found-there : (P : Field → Type 0) (fs : List Field) (at width : ℕ) (f : Field) → All P fs → field_there fs at width ≡ Some f
@@ -70,7 +70,7 @@ load-small load_op.ByteUnsigned v small = omega (arith, small)
 load-small load_op.HalfUnsigned v small = omega (arith, small)
 
 pub none-follows : (queues : ℕ → Queue) (fields : ℕ → List Field) (N : ℕ) (own_of : ℕ → List ℕ) (H h : ℕ) (k : KnownState) (i : Option Instr)
-    (ks : List KnownState) → next_received queues fields N own_of H h k i None ≡ Some ks → ⊥
+    (ks : List KnownState) → next_received queues fields N h k i None ≡ Some ks → ⊥
 none-follows queues fields N own_of H h k None ks is = absurd (cc)
 none-follows queues fields N own_of H h k (Some (Load op rd rs1 offset)) ks is = absurd (cc)
 none-follows queues fields N own_of H h k i ks is = absurd (cc)
@@ -86,7 +86,7 @@ module _ (M : ℕ) (o : OpeningValue) (queues : ℕ → Queue) (N : ℕ) (own_of
   owns = steps.owns M o queues N own_of H h xs k s m cs e acts size fine means
 
   reads-in : (place : KnownValue) (a width i : ℕ) → i < N → Has queues xs place a → (f : Field)
-      → field_in queues fields N own_of H h k place width i ≡ Some f → ReadsField m f a width
+      → field_in queues fields h k place width i ≡ Some f → ReadsField m f a width
   reads-in any a width i less at f is = absurd (cc)
   reads-in (index_for j g) a width i less at f is = absurd (cc)
   reads-in (signed_for j g) a width i less at f is = absurd (cc)
@@ -115,14 +115,14 @@ module _ (M : ℕ) (o : OpeningValue) (queues : ℕ → Queue) (N : ℕ) (own_of
           )
 
   reads-below : (place : KnownValue) (a width n : ℕ) → n ≤ N → Has queues xs place a → (f : Field)
-      → field_below queues fields N own_of H h k place width n ≡ Some f → ReadsField m f a width
+      → field_below queues fields h k place width n ≡ Some f → ReadsField m f a width
   reads-below place a width zero low at f is = absurd (cc)
   reads-below place a width (suc n) low at f is =
-      by (field_in queues fields N own_of H h k place width n) refl (reads-below place a width n (omega (arith, low)) at f) is
+      by (field_in queues fields h k place width n) refl (reads-below place a width n (omega (arith, low)) at f) is
     where
-      by : (g : Option Field) → field_in queues fields N own_of H h k place width n ≡ g
-          → (field_below queues fields N own_of H h k place width n ≡ Some f → ReadsField m f a width)
-          → field_or g (field_below queues fields N own_of H h k place width n) ≡ Some f → ReadsField m f a width
+      by : (g : Option Field) → field_in queues fields h k place width n ≡ g
+          → (field_below queues fields h k place width n ≡ Some f → ReadsField m f a width)
+          → field_or g (field_below queues fields h k place width n) ≡ Some f → ReadsField m f a width
       by None none lower is = lower is
       by (Some g) found lower is = reads-in place a width n (omega (arith, low)) at f (found ∙ is)
 
@@ -142,71 +142,63 @@ module _ (M : ℕ) (o : OpeningValue) (queues : ℕ → Queue) (N : ℕ) (own_of
   load-goes : (past : (g : ℕ) → H ≤ g → length (own_of g) ≡ 0) (d : Form) (op : LoadOp) (rd rs1 : Reg) (offset : ℤ) (ks : List KnownState)
       → instruction_at s.code k.pc ≡ Some (Load op rd rs1 offset) → follow queues N own_of H h k d (Some (Load op rd rs1 offset)) ≡ Some ks
       → (ts : List KnownState)
-      → next_received queues fields N own_of H h k (Some (Load op rd rs1 offset)) (Some ks) ≡ Some ts
-      → Goes queues N own_of h owns ts m cs (access_of e) (advanced s (number_read e))
+      → next_received queues fields N h k (Some (Load op rd rs1 offset)) (Some ks) ≡ Some ts
+      → Goes queues N own_of h owns xs ts m cs (access_of e) (advanced s (number_read e))
   load-goes past d op rd rs1 offset ks at found ts is =
-      by (last_below N (is_look queues N own_of H h (addresses queues N own_of H h k rs1 offset) (load_width op))) refl
-      (field_below queues fields N own_of H h k (address_value queues N own_of H h k rs1 offset) (load_width op) N) refl found
-      (let same : after_field queues fields N own_of H h k op rd.number
-      (last_below N (is_look queues N own_of H h (addresses queues N own_of H h k rs1 offset) (load_width op)))
-      (field_below queues fields N own_of H h k (address_value queues N own_of H h k rs1 offset) (load_width op) N) ks ≡ ts = cc in same)
+      by (last_below N (is_look queues h (addresses queues k rs1 offset) (load_width op))) refl
+      (field_below queues fields h k (address_value queues k rs1 offset) (load_width op) N) refl found
+      (let same : after_field k op rd.number
+      (last_below N (is_look queues h (addresses queues k rs1 offset) (load_width op)))
+      (field_below queues fields h k (address_value queues k rs1 offset) (load_width op) N) ks ≡ ts = cc in same)
     where
-      as-known : ks ≡ ts → Goes queues N own_of h owns ts m cs (access_of e) (advanced s (number_read e))
-      as-known same = subst (λ us. Goes queues N own_of h owns us m cs (access_of e) (advanced s (number_read e))) same
+      as-known : ks ≡ ts → Goes queues N own_of h owns xs ts m cs (access_of e) (advanced s (number_read e))
+      as-known same = subst (λ us. Goes queues N own_of h owns xs us m cs (access_of e) (advanced s (number_read e))) same
           (steps.state-goes M o queues N own_of H h xs k s m cs e acts size fine means past d ks
           (ap (follow queues N own_of H h k d) at ∙ found))
 
       here : IsAt s (Load op rd rs1 offset)
-      here = at-pc (nat_lt k.pc (4 * length s.code)) refl at
-        where
-          at-pc : (t : Bool) → nat_lt k.pc (4 * length s.code) ≡ t
-              → (if t then meaning (slice_index s.code (k.pc / 4)) else None) ≡ Some (Load op rd rs1 offset) → IsAt s (Load op rd rs1 offset)
-          at-pc false out is = absurd (cc)
-          at-pc true within is = record {
-            inside = subst (λ n. n < 4 * length s.code) (sym means.pc) (ltb-true k.pc (4 * length s.code) within);
-            says = ap (λ n. meaning (slice_index s.code (n / 4))) means.pc ∙ is;
-          }
+      here = found-at s e acts.can (Load op rd rs1 offset) (ap (instruction_at s.code) means.pc ∙ at)
 
       by : (look : Option ℕ)
-          → last_below N (is_look queues N own_of H h (addresses queues N own_of H h k rs1 offset) (load_width op)) ≡ look → (f : Option Field)
-          → field_below queues fields N own_of H h k (address_value queues N own_of H h k rs1 offset) (load_width op) N ≡ f
-          → (if may_load queues N own_of H h k (addresses queues N own_of H h k rs1 offset) (load_width op) look
-          then Some (after_load queues N own_of H h k op rd.number (addresses queues N own_of H h k rs1 offset) look ∷ []) else None) ≡ Some ks
-          → after_field queues fields N own_of H h k op rd.number look f ks ≡ ts
-          → Goes queues N own_of h owns ts m cs (access_of e) (advanced s (number_read e))
+          → last_below N (is_look queues h (addresses queues k rs1 offset) (load_width op)) ≡ look → (f : Option Field)
+          → field_below queues fields h k (address_value queues k rs1 offset) (load_width op) N ≡ f
+          → (if may_load queues N h k (addresses queues k rs1 offset) (load_width op) look
+          then Some (after_load queues N own_of h k op rd.number (addresses queues k rs1 offset) look ∷ []) else None) ≡ Some ks
+          → after_field k op rd.number look f ks ≡ ts
+          → Goes queues N own_of h owns xs ts m cs (access_of e) (advanced s (number_read e))
       by (Some i) look f field found is = as-known is
       by None look None field found is = as-known is
       by None look (Some f) field found is = kept (keeps_numbers op f) refl is
         where
           kept : (t : Bool) → keeps_numbers op f ≡ t
               → (if t then with_result k rd.number (next_pc k.pc) (field_number f) ∷ [] else ks) ≡ ts
-              → Goes queues N own_of h owns ts m cs (access_of e) (advanced s (number_read e))
+              → Goes queues N own_of h owns xs ts m cs (access_of e) (advanced s (number_read e))
           kept false wide is = as-known is
-          kept true narrow is = subst (λ us. Goes queues N own_of h owns us m cs (access_of e) (advanced s (number_read e))) is
+          kept true narrow is = subst (λ us. Goes queues N own_of h owns xs us m cs (access_of e) (advanced s (number_read e))) is
               (steps.load-leads M o queues N own_of H h xs k s m cs e acts size fine means op rd rs1 offset
               (with_result k rd.number (next_pc k.pc) (field_number f)) here
               (λ z read pc regs. (let p = steps.points M o queues N own_of H h xs k s m cs e acts size fine means rs1 offset in
               steps.load-gives M o queues N own_of H h xs k s m cs e acts size fine means op rd (address (register_value s.registers rs1) offset)
-              (addresses queues N own_of H h k rs1 offset) z p.0 p.1 (allowed _ refl found) (field_number f)
+              (addresses queues k rs1 offset) z p.0 p.1 (allowed _ refl found) (field_number f)
               (field-gives op f (address (register_value s.registers rs1) offset) read narrow
-              (reads-below (address_value queues N own_of H h k rs1 offset) (address (register_value s.registers rs1) offset) (load_width op) N
+              (reads-below (address_value queues k rs1 offset) (address (register_value s.registers rs1) offset) (load_width op) N
               (omega arith) (steps.address-has M o queues N own_of H h xs k s m cs e acts size fine means rs1 offset) f field)) pc regs)))
             where
-              allowed : (t : Bool) → may_load queues N own_of H h k (addresses queues N own_of H h k rs1 offset) (load_width op) None ≡ t
-                  → (if t then Some (after_load queues N own_of H h k op rd.number (addresses queues N own_of H h k rs1 offset) None ∷ []) else None) ≡ Some ks
-                  → may_load queues N own_of H h k (addresses queues N own_of H h k rs1 offset) (load_width op) None ≡ true
+              allowed : (t : Bool) → may_load queues N h k (addresses queues k rs1 offset) (load_width op) None ≡ t
+                  → (if t then Some (after_load queues N own_of h k op rd.number (addresses queues k rs1 offset) None ∷ []) else None) ≡ Some ks
+                  → may_load queues N h k (addresses queues k rs1 offset) (load_width op) None ≡ true
               allowed true may found = may
               allowed false may found = absurd (cc)
 
   -- the states that may follow, with what is received
   pub next-goes : (past : (g : ℕ) → H ≤ g → length (own_of g) ≡ 0) (d : Form) (ts : List KnownState)
-      → next_received queues fields N own_of H h k (instruction_at s.code k.pc) (follow queues N own_of H h k d (instruction_at s.code k.pc)) ≡ Some ts
-      → Goes queues N own_of h owns ts m cs (access_of e) (advanced s (number_read e))
+      → next_received queues fields N h k (instruction_at s.code k.pc) (follow queues N own_of H h k d (instruction_at s.code k.pc)) ≡ Some ts
+      → Goes queues N own_of h owns xs ts m cs (access_of e) (advanced s (number_read e))
   next-goes past d ts is = by (instruction_at s.code k.pc) refl (follow queues N own_of H h k d (instruction_at s.code k.pc)) refl is
     where
       by : (i : Option Instr) → instruction_at s.code k.pc ≡ i → (next : Option (List KnownState))
-          → follow queues N own_of H h k d (instruction_at s.code k.pc) ≡ next → next_received queues fields N own_of H h k i next ≡ Some ts
-          → Goes queues N own_of h owns ts m cs (access_of e) (advanced s (number_read e))
+          → follow queues N own_of H h k d (instruction_at s.code k.pc) ≡ next → next_received queues fields N h k i next ≡ Some ts
+          → Goes queues N own_of h owns xs ts m cs (access_of e) (advanced s (number_read e))
       by i at None found is = absurd (none-follows queues fields N own_of H h k i ts is)
       by (Some (Load op rd rs1 offset)) at (Some ks) found is =
           load-goes past d op rd rs1 offset ks at (ap (follow queues N own_of H h k d) (sym at) ∙ found) ts is

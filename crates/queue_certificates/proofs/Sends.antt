@@ -1,35 +1,22 @@
 -- What an instruction of a queue's sender does to its count and to its slots: its effect.
-use Rattle.std.proofs.Common.{ℕ, ℤ, ◌+◌, ◌*◌, ◌/◌, ◌%◌, ◌^◌, ◌<◌, ◌≤◌, ◌≡◌, ◌==◌, ◌&&◌, ◌||◌, ◌⊎◌, inl, inr, if◌then◌else◌}
+use Rattle.std.proofs.Common.{ℕ, ℤ, ◌+◌, ◌*◌, ◌^◌, ◌<◌, ◌≤◌, ◌≡◌, ◌==◌, ◌&&◌, ◌||◌, ◌⊎◌, inl, inr, if◌then◌else◌}
 use Rattle.std.proofs.Common.{Bool, true, false, Option, Some, None, List, length, get_or, refl, sym, ◌∙◌, ap, subst, arith}
-use Rattle.std.specs.Prelude.{nat_lt, slice_index}
-use Rattle.std.specs.List.{slice_get}
 use Rattle.std.proofs.lemmas.Bool.{and_parts, or_cases, ltb-true}
-use Rattle.rv_decode.specs.Meaning.{meaning}
 use Rattle.rv_decode.specs.declared.instruction.Reg.{Reg}
 use Rattle.rv_decode.specs.declared.instruction.StoreOp.{StoreOp}
 use Rattle.rv_decode.specs.declared.instruction.StoreOp.TheVariants as store_op
 use Rattle.rv_decode.specs.declared.instruction.AmoOp.{AmoOp}
 use Rattle.rv_decode.specs.declared.instruction.Instr.{Instr}
-use Rattle.rv_decode.specs.declared.instruction.Instr.TheVariants.{Lui, Auipc, Jal, Jalr, Branch, Load, Store}
-use Rattle.rv_decode.specs.declared.instruction.Instr.TheVariants.{Immediate, Shift, Register, Fence, FenceTso, Ecall}
-use Rattle.rv_decode.specs.declared.instruction.Instr.TheVariants.{Ebreak, Amo}
+use Rattle.rv_decode.specs.declared.instruction.Instr.TheVariants.{Load, Store, Amo}
 use Rattle.hart.specs.State.{HartState}
-use Rattle.hart.specs.Steps.{need_of, need_for, advanced, jump_need, access_need, call_need}
-use Rattle.hart.specs.Effects.{register_value, address, is_taken, stored, load_width, store_width, updated}
-use Rattle.hart.specs.declared.status.Stop.{Stop}
-use Rattle.hart.specs.declared.status.Stop.TheVariants as stop
-use Rattle.hart.specs.declared.status.Status.TheVariants as status
-use Rattle.hart.specs.declared.need.Report.TheVariants as report
-use Rattle.hart.specs.declared.need.Need.{Need}
-use Rattle.hart.specs.declared.need.Need.TheVariants as need
-use Rattle.hart.proofs.Instructions.{IsAt, need_at, illegal, stopped}
+use Rattle.hart.specs.Steps.{advanced}
+use Rattle.hart.specs.Effects.{register_value, address, stored, load_width, store_width, updated}
 use Rattle.memory.specs.Writes.{write, covers, byte_after}
 use Rattle.memory.proofs.Bytes.{covers-from, covers-yes}
 use Rattle.step_machine.specs.declared.events.Entry.{Entry}
 use Rattle.step_machine.specs.History.{OpeningValue}
-use Rattle.step_machine.specs.Access.{store, exchange, access_of}
-use Rattle.step_machine.specs.Entries.{hart_of}
-use Rattle.step_machine.specs.Paths.{number_read, entry_of}
+use Rattle.step_machine.specs.Access.{load, store, exchange, access_of}
+use Rattle.step_machine.specs.Paths.{number_read}
 use Rattle.slot_queue.specs.Queues.{Queue, IsQueue, TellsFull, KeepsOff, least, slot_of}
 use Rattle.queue_parties.specs.Positions.{IsInBytes}
 use Rattle.queue_parties.specs.Parties.{the_sender, the_receiver, QueueCounts, known, with_known}
@@ -52,54 +39,19 @@ use Rattle.queue_certificates.proofs.Forms.{value-plus}
 use Rattle.queue_certificates.proofs.States.{at-below}
 use Rattle.queue_certificates.proofs.Accesses.{just-is, hart-party}
 use Rattle.queue_certificates.proofs.Stores.{keeps-off, stored-whole, placed-at}
-use Rattle.queue_certificates.proofs.Steps.{nobody_told, nothing_sent, no-code}
+use Rattle.queue_certificates.proofs.Steps.{nobody_told, nothing_sent, IsQuiet, quiet-counts, quiet-view}
 use Rattle.queue_certificates.proofs.Steps as steps
+use Rattle.queue_certificates.proofs.NextAccess.{Stops, Makes, next-access}
 use Rattle.queue_certificates.proofs.Filled.{IsNumberOf, known-number}
-use Rattle.queue_certificates.proofs.Effects.{published_then, LeavesSlots, Does, does-nothing, does-leave, does-move, does-exchange, store-leaves}
+use Rattle.queue_certificates.proofs.Effects.{published_then, LeavesSlots, Does, does-leave, does-move, does-exchange, store-leaves}
 use Rattle.std.proofs.lemmas.Nat.{mul-le}
 
--- ---- an instruction that stores nothing
-
-abbrev pub StoresNothing : Need → Type 0
-StoresNothing (need.Store a width w) = ⊥
-StoresNothing (need.Amo a op w) = ⊥
-StoresNothing n = Unit {0}
-
-pub either-stores : (t : Bool) (n m : Need) → StoresNothing n → StoresNothing m → StoresNothing (if t then n else m)
-either-stores true n m one two = one
-either-stores false n m one two = two
-
-pub jump-stores : (target : ℕ) → StoresNothing (jump_need target)
-jump-stores target = either-stores (target % 4 == 0) need.Inner (need.Stop stop.MisalignedJump) tt tt
-
-pub access-stores : (words width a : ℕ) (n : Need) → StoresNothing n → StoresNothing (access_need words width a n)
-access-stores words width a n none = either-stores (a % width == 0) (if nat_lt a (4 * words) then n else need.Stop stop.OutOfRange)
-    (need.Stop stop.Misaligned) (either-stores (nat_lt a (4 * words)) n (need.Stop stop.OutOfRange) none tt) tt
-
-kept-by : (q : Queue) (c : QueueCounts) (h v : ℕ) (n : Need) → StoresNothing n → published_then q c (access_of (entry_of h n v)) ≡ c.published
-kept-by q c h v (need.Store a width w) none = absurd none
-kept-by q c h v (need.Amo a op w) none = absurd none
-kept-by q c h v (need.Load a width) none = by (a == index q the_receiver && width == q.index_width)
+loaded-same : (q : Queue) (c : QueueCounts) (a width v : ℕ) → published_then q c (load a width v) ≡ c.published
+loaded-same q c a width v = by (a == index q the_receiver && width == q.index_width)
   where
     by : (t : Bool) → (if t then with_known the_sender (least q (known the_sender c) v) c else c).published ≡ c.published
     by true = refl
     by false = refl
-kept-by q c h v (need.Report (report.Took i w)) none = refl
-kept-by q c h v (need.Report (report.Closed i)) none = refl
-kept-by q c h v n none = refl
-
-view-kept-by : (m : View) (h v x : ℕ) (n : Need) → StoresNothing n → view_then (access_of (entry_of h n v)) m x ≡ m x
-view-kept-by m h v x (need.Store a width w) none = absurd none
-view-kept-by m h v x (need.Amo a op w) none = absurd none
-view-kept-by m h v x (need.Report (report.Took i w)) none = refl
-view-kept-by m h v x (need.Report (report.Closed i)) none = refl
-view-kept-by m h v x n none = refl
-
-pub call-stores : (x inbox : List ℕ) → StoresNothing (call_need x inbox)
-call-stores x inbox = either-stores (slice_index x 17 == 1) (need.Next (slice_get inbox 0)) _ tt
-    (either-stores (slice_index x 17 == 2) (need.Report (report.Took (slice_index x 10) (slice_index x 11))) _ tt
-    (either-stores (slice_index x 17 == 3) (need.Report (report.Closed (slice_index x 10))) _ tt
-    (either-stores (slice_index x 17 == 93) need.Exit (need.Stop stop.UnknownCall) tt tt)))
 
 chosen : {A : Type 0} (t : Bool) (x y : A) → (if t then Some x else None) ≡ Some y → t ≡ true
 chosen true x y is = refl
@@ -119,19 +71,19 @@ module _ (M : ℕ) (o : OpeningValue) (queues : ℕ → Queue) (N : ℕ) (own_of
 
   -- what is known of a register, where an address points, which index is stored to, and what an AMO stores
   abbrev held : Reg → KnownValue
-  held r = operand queues N own_of H h k r
+  held r = operand queues k r
 
   abbrev place-of : Reg → ℤ → KnownValue
-  place-of r offset = address_value queues N own_of H h k r offset
+  place-of r offset = address_value queues k r offset
 
   abbrev around : Reg → ℤ → Bounds
-  around r offset = addresses queues N own_of H h k r offset
+  around r offset = addresses queues k r offset
 
   abbrev index-at : Bounds → (width : ℕ) → Option ℕ
-  index-at b width = last_below N (is_own_index queues N own_of H h b width)
+  index-at b width = last_below N (is_own_index queues h b width)
 
   abbrev updates : AmoOp → Bounds → Reg → KnownValue
-  updates op b r = updated_value queues N own_of H h k.ranges op (value_loaded queues N own_of H h k b 4) (register_at k r)
+  updates op b r = updated_value queues k.ranges op (value_loaded queues N own_of h k b 4) (register_at k r)
 
   operand-has : (r : Reg) → Has queues xs (held r) (register_value s.registers r)
   operand-has = steps.operand-has M o queues N own_of H h xs k s m cs e acts size fine means
@@ -140,10 +92,10 @@ module _ (M : ℕ) (o : OpeningValue) (queues : ℕ → Queue) (N : ℕ) (own_of
 
   module _ (d : Form) (op : StoreOp) (a x : ℕ) (vx place : KnownValue) (b : Bounds) (at : Has queues xs place a) (low : b.low ≤ a)
       (high : a ≤ b.high) (has-x : Has queues xs vx x)
-      (may : all_below N (may_store queues N own_of H h k d vx place b (store_width op) (index-at b (store_width op))) ≡ true)
-      (apart : all_below H (leaves_words queues N own_of H h b (store_width op)) ≡ true) (u : KnownValue) (has-u : Has queues xs u x) where
+      (may : all_below N (may_store queues h k d vx place b (store_width op) (index-at b (store_width op))) ≡ true)
+      (apart : all_below H (leaves_words own_of h b (store_width op)) ≡ true) (u : KnownValue) (has-u : Has queues xs u x) where
     share : HasShare (queues i) the_sender (after_access (queues i) (Some the_sender) (store (write a (store_width op) (stored op x))) (cs i)) xs
-        (get_or (shares_moved queues N own_of H h k.shares d (index-at b (store_width op))) i no_share)
+        (get_or (shares_moved k.shares d (index-at b (store_width op))) i no_share)
     share =
         (steps.party-store M o queues N own_of H h xs k s m cs e acts size fine
         means d op a x vx place b (index-at b (store_width op)) at low high
@@ -157,14 +109,14 @@ module _ (M : ℕ) (o : OpeningValue) (queues : ℕ → Queue) (N : ℕ) (own_of
         let low : x < 256 ^ f.width = omega (arith, n.2, upto, small) in
         (n.0, n.1, stored-whole op x (subst (λ w. x < 256 ^ w) wide low) ∙ n.2)
 
-    stored-does : (f : Effect) (z : HartState) → effect_at queues N own_of H i k d place b (store_width op) ≡ Some f
+    stored-does : (f : Effect) (z : HartState) → effect_at queues N i k d place b (store_width op) ≡ Some f
         → Does (queues i) (cs i) k.ranges u m f (store (write a (store_width op) (stored op x))) z
-    stored-does f z effect = by (moves_head queues N own_of H i b (store_width op)) refl
-        (at-below N (may_store queues N own_of H h k d vx place b (store_width op) (index-at b (store_width op))) may i less) effect
+    stored-does f z effect = by (moves_head queues N i b (store_width op)) refl
+        (at-below N (may_store queues h k d vx place b (store_width op) (index-at b (store_width op))) may i less) effect
       where
         moved : is_just (index-at b (store_width op)) i ≡ true → i < length k.shares
-            → get_or (shares_moved queues N own_of H h k.shares d (index-at b (store_width op))) i no_share ≡ moved_share (get_or k.shares i no_share) d
-        moved moves short = ap (λ j. get_or (shares_moved queues N own_of H h k.shares d j) i no_share) (just-is (index-at b (store_width op)) i moves)
+            → get_or (shares_moved k.shares d (index-at b (store_width op))) i no_share ≡ moved_share (get_or k.shares i no_share) d
+        moved moves short = ap (λ j. get_or (shares_moved k.shares d j) i no_share) (just-is (index-at b (store_width op)) i moves)
             ∙ steps.set-share M o queues N own_of H h xs k s m cs e acts size fine means k.shares d i short
 
         -- the head is none of the slots
@@ -264,9 +216,9 @@ module _ (M : ℕ) (o : OpeningValue) (queues : ℕ → Queue) (N : ℕ) (own_of
             by-place (signed_for j g) at-pl (inr owned) = absurd (cc)
             by-place (linear g) at-pl or = owned-or g at-pl (is_owned k.ranges (queues i) (get_or k.shares i no_share) (linear g) (store_width op)) refl or
 
-        by : (t : Bool) → moves_head queues N own_of H i b (store_width op) ≡ t
-            → (if t then may_move queues N own_of H h k d vx i (get_or k.shares i no_share)
-            else (is_off (queues i) b (store_width op) || may_fill queues N own_of H h k (party_of (queues i) h) place (store_width op) i)) ≡ true
+        by : (t : Bool) → moves_head queues N i b (store_width op) ≡ t
+            → (if t then may_move queues k d vx i (get_or k.shares i no_share)
+            else (is_off (queues i) b (store_width op) || may_fill queues k (party_of (queues i) h) place (store_width op) i)) ≡ true
             → (if t then published_by d (most k.ranges d)
             else Some (filled_by k.ranges (queues i) (get_or k.shares i no_share) place (store_width op))) ≡ Some f
             → Does (queues i) (cs i) k.ranges u m f (store (write a (store_width op) (stored op x))) z
@@ -274,9 +226,9 @@ module _ (M : ℕ) (o : OpeningValue) (queues : ℕ → Queue) (N : ℕ) (own_of
         by false other ok effect = subst (λ g. Does (queues i) (cs i) k.ranges u m g (store (write a (store_width op) (stored op x))) z)
             (let same : filled_by k.ranges (queues i) (get_or k.shares i no_share) place (store_width op) ≡ f = cc in same)
             (fills other place at (elim (or_cases (is_off (queues i) b (store_width op))
-            (may_fill queues N own_of H h k (party_of (queues i) h) place (store_width op) i) ok) [
+            (may_fill queues k (party_of (queues i) h) place (store_width op) i) ok) [
               | inl off ↦ inl off
-              | inr fill ↦ inr (subst (λ t. may_fill queues N own_of H h k t place (store_width op) i ≡ true)
+              | inr fill ↦ inr (subst (λ t. may_fill queues k t place (store_width op) i ≡ true)
                   (hart-party (queues i) (fine i less).0 h the_sender refl) fill)
             ]))
 
@@ -285,55 +237,41 @@ module _ (M : ℕ) (o : OpeningValue) (queues : ℕ → Queue) (N : ℕ) (own_of
   abbrev DoesIt : KnownValue → Effect → Type 0
   DoesIt u f = Does (queues i) (cs i) k.ranges u m f (access_of e) (advanced s (number_read e))
 
-  stop-does : (u : KnownValue) (f : Effect) (why : Stop) → need_of s ≡ need.Stop why → DoesIt u f
-  stop-does u f why needs = subst (λ y. Does (queues i) (cs i) k.ranges u m f y (advanced s (number_read e)))
-      (sym (ap access_of (acts.can.made ∙ ap (λ w. entry_of (hart_of e) w (number_read e)) needs)))
-      (does-nothing (queues i) (cs i) k.ranges u m f (advanced s (number_read e)) (λ runs.
-      (let no : status.Stopped why ≡ status.Running = ap (λ z. z.status) (sym (stopped s why needs (number_read e))) ∙ runs in cc)))
+  quiet-same : IsQuiet (access_of e) → published_then (queues i) (cs i) (access_of e) ≡ (cs i).published
+  quiet-same quiet = ap (λ c. c.published) (quiet-counts (queues i) (Some the_sender) (access_of e) (cs i) quiet)
 
-  quiet-does : (u : KnownValue) (f : Effect) → StoresNothing (need_of s) → ◌≡◌ {A = Option Effect} (Some Leaves) (Some f) → DoesIt u f
-  quiet-does u f none effect = subst (λ g. DoesIt u g) (let same : Leaves ≡ f = cc in same)
-      (does-leave (queues i) (cs i) k.ranges u m (access_of e) (advanced s (number_read e))
-      (ap (λ y. published_then (queues i) (cs i) y) (ap access_of acts.can.made)
-      ∙ kept-by (queues i) (cs i) (hart_of e) (number_read e) (need_of s) none)
-      (λ x at. ap (λ y. view_then y m x) (ap access_of acts.can.made) ∙ view-kept-by m (hart_of e) (number_read e) x (need_of s) none))
+  stop-does : (u : KnownValue) (f : Effect) → Stops (access_of e) (advanced s (number_read e)) → DoesIt u f
+  stop-does u f stops =
+      let same = quiet-same stops.quiet in record {
+        upto = omega (arith, same);
+        done = λ runs. absurd (stops.ends runs);
+      }
 
-  access-does : (u : KnownValue) (f : Effect) (width a : ℕ) (n : Need) → need_of s ≡ access_need s.words width a n
-      → (need_of s ≡ n → DoesIt u f) → DoesIt u f
-  access-does u f width a n needs does = by (a % width == 0) needs
-    where
-      inside : (t : Bool) → need_of s ≡ (if t then n else need.Stop stop.OutOfRange) → DoesIt u f
-      inside true needs = does needs
-      inside false needs = stop-does u f stop.OutOfRange needs
+  leaving-does : (u : KnownValue) (f : Effect) → published_then (queues i) (cs i) (access_of e) ≡ (cs i).published
+      → LeavesSlots (queues i) m (access_of e) → ◌≡◌ {A = Option Effect} (Some Leaves) (Some f) → DoesIt u f
+  leaving-does u f same leaves effect = subst (λ g. DoesIt u g) (let is : Leaves ≡ f = cc in is)
+      (does-leave (queues i) (cs i) k.ranges u m (access_of e) (advanced s (number_read e)) same leaves)
 
-      by : (t : Bool) → need_of s ≡ (if t then (if nat_lt a (4 * s.words) then n else need.Stop stop.OutOfRange) else need.Stop stop.Misaligned)
-          → DoesIt u f
-      by true needs = inside (nat_lt a (4 * s.words)) needs
-      by false needs = stop-does u f stop.Misaligned needs
-
-  store-does : (d : Form) (f : Effect) (op : StoreOp) (rs1 rs2 : Reg) (offset : ℤ) (ks : List KnownState) → IsAt s (Store op rs1 rs2 offset)
+  store-does : (d : Form) (f : Effect) (op : StoreOp) (rs1 rs2 : Reg) (offset : ℤ) (ks : List KnownState)
+      → access_of e ≡ store (write (address (register_value s.registers rs1) offset) (store_width op) (stored op (register_value s.registers rs2)))
       → store_by queues N own_of H h k d (store_width op)
       (register_at k rs2) (place-of rs1 offset) (around rs1 offset) (index-at (around rs1 offset) (store_width op)) ≡ Some ks
-      → effect_at queues N own_of H i k d (place-of rs1 offset) (around rs1 offset) (store_width op) ≡ Some f → DoesIt (held rs2) f
-  store-does d f op rs1 rs2 offset ks here found effect =
+      → effect_at queues N i k d (place-of rs1 offset) (around rs1 offset) (store_width op) ≡ Some f → DoesIt (held rs2) f
+  store-does d f op rs1 rs2 offset ks access found effect =
       let p = steps.points M o queues N own_of H h xs k s m cs e acts size fine means rs1 offset in
-      access-does (held rs2) f (store_width op) (address (register_value s.registers rs1) offset)
-      (need.Store (address (register_value s.registers rs1) offset) (store_width op) (stored op (register_value s.registers rs2))) (need_at here) (λ needs.
-      subst (λ y. Does (queues i) (cs i) k.ranges (held rs2) m f y (advanced s (number_read e)))
-      (sym (steps.access-is M o queues N own_of H h xs k s m cs e acts size fine means
-      (need.Store (address (register_value s.registers rs1) offset) (store_width op) (stored op (register_value s.registers rs2))) needs))
+      subst (λ y. Does (queues i) (cs i) k.ranges (held rs2) m f y (advanced s (number_read e))) (sym access)
       (stored-does d op (address (register_value s.registers rs1) offset) (register_value s.registers rs2) (register_at k rs2)
       (place-of rs1 offset) (around rs1 offset)
       (steps.address-has M o queues N own_of H h xs k s m cs e acts size fine means rs1 offset) p.0 p.1
       (steps.register-has M o queues N own_of H h xs k s m cs e acts size fine means rs2)
       (and_parts _ _ (chosen _ _ ks found)).0 (and_parts _ _ (chosen _ _ ks found)).1 (held rs2) (operand-has rs2) f
-      (advanced s (number_read e)) effect))
+      (advanced s (number_read e)) effect)
 
   -- what is checked of an AMO
   exchange-checks : (d : Form) (rd : ℕ) (vx place : KnownValue) (b : Bounds) (move : Option ℕ) (ks : List KnownState)
       → exchange_by queues N own_of H h k d rd vx place b move ≡ Some ks
-      → (all_below N (may_store queues N own_of H h k d vx place b 4 move) ≡ true)
-      × (all_below H (leaves_words queues N own_of H h b 4) ≡ true)
+      → (all_below N (may_store queues h k d vx place b 4 move) ≡ true)
+      × (all_below H (leaves_words own_of h b 4) ≡ true)
       × (all_below N (λ j. misses (queues j) (party_of (queues j) h) b 4) ≡ true)
   exchange-checks d rd vx place b move ks found = (
     (and_parts _ _ (and_parts _ _ (chosen _ _ ks found)).0).0,
@@ -341,23 +279,19 @@ module _ (M : ℕ) (o : OpeningValue) (queues : ℕ → Queue) (N : ℕ) (own_of
     (and_parts _ _ (chosen _ _ ks found)).1,
   )
 
-  amo-does : (d : Form) (f : Effect) (op : AmoOp) (rd rs1 rs2 : Reg) (aq rl : Bool) (ks : List KnownState) → IsAt s (Amo op rd rs1 rs2 aq rl)
+  amo-does : (d : Form) (f : Effect) (op : AmoOp) (rd rs1 rs2 : Reg) (ks : List KnownState)
+      → access_of e ≡ exchange (register_value s.registers rs1) (number_read e) (updated op (number_read e) (register_value s.registers rs2))
       → exchanging queues N own_of H h k d op rd.number (register_at k rs2) (held rs1) (bounds k.ranges (held rs1)) ≡ Some ks
-      → effect_at queues N own_of H i k d (held rs1) (anywhere (bounds k.ranges (held rs1))) 4 ≡ Some f → DoesIt any f
-  amo-does d f op rd rs1 rs2 aq rl ks here found effect = by (bounds k.ranges (held rs1)) refl found effect
+      → effect_at queues N i k d (held rs1) (anywhere (bounds k.ranges (held rs1))) 4 ≡ Some f → DoesIt any f
+  amo-does d f op rd rs1 rs2 ks access found effect = by (bounds k.ranges (held rs1)) refl found effect
     where
       go : (b : Bounds) → bounds k.ranges (held rs1) ≡ Some b
           → exchange_by queues N own_of H h k d rd.number (updates op b rs2) (held rs1) b (index-at b 4) ≡ Some ks
-          → effect_at queues N own_of H i k d (held rs1) b 4 ≡ Some f → DoesIt any f
+          → effect_at queues N i k d (held rs1) b 4 ≡ Some f → DoesIt any f
       go b is-b found effect =
           let p = has-bounds queues k.ranges xs (held rs1) (register_value s.registers rs1) b means.ranges is-b (operand-has rs1) in
           let checks = exchange-checks d rd.number (updates op b rs2) (held rs1) b (index-at b 4) ks found in
-          access-does any f 4 (register_value s.registers rs1) (need.Amo (register_value s.registers rs1) op (register_value s.registers rs2)) (need_at here)
-          (λ needs. (let access : access_of e ≡ exchange (register_value s.registers rs1) (number_read e)
-          (updated op (number_read e) (register_value s.registers rs2)) =
-          steps.access-is M o queues N own_of H h xs k s m cs e acts size
-          fine means (need.Amo (register_value s.registers rs1) op (register_value s.registers rs2)) needs in
-          let old : Has queues xs (value_loaded queues N own_of H h k b 4) (number_read e) =
+          let old : Has queues xs (value_loaded queues N own_of h k b 4) (number_read e) =
           steps.value-loaded M o queues N own_of H h xs k s m cs e acts
           size fine means b 4 (register_value s.registers rs1) (number_read e) p.0 p.1
           (subst (ReadsFrom m) access acts.reads) in
@@ -369,62 +303,39 @@ module _ (M : ℕ) (o : OpeningValue) (queues : ℕ → Queue) (N : ℕ) (own_of
           (stored-does d store_op.Word (register_value s.registers rs1) (updated op (number_read e) (register_value s.registers rs2)) (updates op b rs2)
           (held rs1) b (operand-has rs1) p.0 p.1
           (steps.updated-has M o queues N own_of H h xs k s m cs e acts
-          size fine means op (value_loaded queues N own_of H h k b 4) (register_at k rs2) (number_read e) (register_value s.registers rs2) old
+          size fine means op (value_loaded queues N own_of h k b 4) (register_at k rs2) (number_read e) (register_value s.registers rs2) old
           (steps.register-has M o queues N own_of H h xs k s m cs e acts size fine means rs2))
-          checks.0 checks.1 any tt f (advanced s (number_read e)) effect))))
+          checks.0 checks.1 any tt f (advanced s (number_read e)) effect))
 
       by : (bs : Option Bounds) → bounds k.ranges (held rs1) ≡ bs
           → exchanging queues N own_of H h k d op rd.number (register_at k rs2) (held rs1) bs ≡ Some ks
-          → effect_at queues N own_of H i k d (held rs1) (anywhere bs) 4 ≡ Some f → DoesIt any f
+          → effect_at queues N i k d (held rs1) (anywhere bs) 4 ≡ Some f → DoesIt any f
       by None is-b found effect = absurd (cc)
       by (Some b) is-b found effect = go b is-b found effect
-
-  -- an instruction that is said to do nothing stores nothing
-  says-nothing : (f : Effect) (j : Instr) → StoresNothing (need_for s j) → IsAt s j → ◌≡◌ {A = Option Effect} (Some Leaves) (Some f)
-      → DoesIt any f
-  says-nothing f j none here effect = quiet-does any f (subst StoresNothing (sym (need_at here)) none) effect
-
-  instruction-does : (d : Form) (f : Effect) (j : Instr) (ks : List KnownState) → IsAt s j
-      → follow queues N own_of H h k d (Some j) ≡ Some ks
-      → effect_of queues N own_of H i k d (Some j) ≡ Some f → DoesIt (value_stored queues N own_of H i k (Some j)) f
-  instruction-does d f (Store op rs1 rs2 offset) ks here found effect = store-does d f op rs1 rs2 offset ks here found effect
-  instruction-does d f (Amo op rd rs1 rs2 aq rl) ks here found effect = amo-does d f op rd rs1 rs2 aq rl ks here found effect
-  instruction-does d f (Jal rd offset) ks here found effect = says-nothing f (Jal rd offset) (jump-stores _) here effect
-  instruction-does d f (Jalr rd rs1 offset) ks here found effect = says-nothing f (Jalr rd rs1 offset) (jump-stores _) here effect
-  instruction-does d f (Branch op rs1 rs2 offset) ks here found effect = says-nothing f (Branch op rs1 rs2 offset)
-      (either-stores (is_taken op (register_value s.registers rs1) (register_value s.registers rs2)) (jump_need (address s.pc offset)) need.Inner
-      (jump-stores (address s.pc offset)) tt) here effect
-  instruction-does d f (Load op rd rs1 offset) ks here found effect = says-nothing f (Load op rd rs1 offset) (access-stores s.words (load_width op)
-      (address (register_value s.registers rs1) offset) (need.Load (address (register_value s.registers rs1) offset) (load_width op)) tt) here effect
-  instruction-does d f Ecall ks here found effect = says-nothing f Ecall (call-stores s.registers s.inbox) here effect
-  instruction-does d f (Lui rd upper) ks here found effect = says-nothing f (Lui rd upper) tt here effect
-  instruction-does d f (Auipc rd upper) ks here found effect = says-nothing f (Auipc rd upper) tt here effect
-  instruction-does d f (Immediate op rd rs1 n) ks here found effect = says-nothing f (Immediate op rd rs1 n) tt here effect
-  instruction-does d f (Shift op rd rs1 amount) ks here found effect = says-nothing f (Shift op rd rs1 amount) tt here effect
-  instruction-does d f (Register op rd rs1 rs2) ks here found effect = says-nothing f (Register op rd rs1 rs2) tt here effect
-  instruction-does d f (Fence pred succ) ks here found effect = says-nothing f (Fence pred succ) tt here effect
-  instruction-does d f FenceTso ks here found effect = says-nothing f FenceTso tt here effect
-  instruction-does d f Ebreak ks here found effect = says-nothing f Ebreak tt here effect
 
   -- whatever the pc says
   pub state-does : (d : Form) (f : Effect) (ks : List KnownState)
       → follow queues N own_of H h k d (instruction_at s.code k.pc) ≡ Some ks
-      → effect_of queues N own_of H i k d (instruction_at s.code k.pc) ≡ Some f → DoesIt (value_stored queues N own_of H i k (instruction_at s.code k.pc)) f
-  state-does d f ks found effect = subst (λ n. DoesIt (value_stored queues N own_of H i k (instruction_at s.code n)) f) means.pc
-      (by (nat_lt s.pc (4 * length s.code)) refl
+      → effect_of queues N i k d (instruction_at s.code k.pc) ≡ Some f → DoesIt (value_stored queues k (instruction_at s.code k.pc)) f
+  state-does d f ks found effect = subst (λ n. DoesIt (value_stored queues k (instruction_at s.code n)) f) means.pc
+      (by (instruction_at s.code s.pc) (next-access s e acts.can)
       (subst (λ n. follow queues N own_of H h k d (instruction_at s.code n) ≡ Some ks) (sym means.pc) found)
-      (subst (λ n. effect_of queues N own_of H i k d (instruction_at s.code n) ≡ Some f) (sym means.pc) effect))
+      (subst (λ n. effect_of queues N i k d (instruction_at s.code n) ≡ Some f) (sym means.pc) effect))
     where
-      by : (t : Bool) → nat_lt s.pc (4 * length s.code) ≡ t
-          → follow queues N own_of H h k d (if t then meaning (slice_index s.code (s.pc / 4)) else None) ≡ Some ks
-          → effect_of queues N own_of H i k d (if t then meaning (slice_index s.code (s.pc / 4)) else None) ≡ Some f
-          → DoesIt (value_stored queues N own_of H i k (if t then meaning (slice_index s.code (s.pc / 4)) else None)) f
-      by false out found effect = stop-does any f stop.NoCode (no-code s out)
-      by true within found effect = says (meaning (slice_index s.code (s.pc / 4))) refl found effect
-        where
-          says : (j : Option Instr) → meaning (slice_index s.code (s.pc / 4)) ≡ j
-              → follow queues N own_of H h k d j ≡ Some ks → effect_of queues N own_of H i k d j ≡ Some f
-              → DoesIt (value_stored queues N own_of H i k j) f
-          says None none found effect = stop-does any f stop.Illegal (illegal s (ltb-true s.pc (4 * length s.code) within) none)
-          says (Some j) said found effect =
-              instruction-does d f j ks (record { inside = ltb-true s.pc (4 * length s.code) within; says = said }) found effect
+      by : (j : Option Instr) → Makes s (number_read e) j (access_of e) (advanced s (number_read e)) → follow queues N own_of H h k d j ≡ Some ks
+          → effect_of queues N i k d j ≡ Some f → DoesIt (value_stored queues k j) f
+      by (Some (Store op rs1 rs2 offset)) made found effect = elim made [
+        | inl stops ↦ stop-does (held rs2) f stops
+        | inr access ↦ store-does d f op rs1 rs2 offset ks access found effect
+      ]
+      by (Some (Amo op rd rs1 rs2 aq rl)) made found effect = elim made [
+        | inl stops ↦ stop-does any f stops
+        | inr access ↦ amo-does d f op rd rs1 rs2 ks access found effect
+      ]
+      by (Some (Load op rd rs1 offset)) made found effect = elim made [
+        | inl stops ↦ stop-does any f stops
+        | inr access ↦ leaving-does any f (ap (published_then (queues i) (cs i)) access
+            ∙ loaded-same (queues i) (cs i) (address (register_value s.registers rs1) offset) (load_width op) (number_read e))
+            (λ x at. ap (λ y. view_then y m x) access) effect
+      ]
+      by j made found effect = leaving-does any f (quiet-same made) (λ x at. quiet-view m (access_of e) x made) effect

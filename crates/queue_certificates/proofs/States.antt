@@ -16,6 +16,7 @@ use Rattle.queue_certificates.specs.Forms.{Form, form_value, lifted, substituted
 use Rattle.queue_certificates.specs.States.{KnownValue, any, Share, no_share, KnownState, value_by, share_by, state_by, Has, is_within, HasShare, MeansAt}
 use Rattle.queue_certificates.specs.Results.{Result}
 use Rattle.queue_certificates.specs.Steps.{all_below, with_register, with_result, going_to}
+use Rattle.queue_certificates.specs.Tags.{tags_lead}
 use Rattle.queue_certificates.specs.Certificates.{all_within, is_share, leads_to, arrow_leads, at_most, beyond, may_exceed, range_changed, with_low, with_high}
 use Rattle.queue_certificates.proofs.Forms.{values_of, value-lifted, value-substituted, value-raised, same-exactly, less_at}
 use Rattle.queue_certificates.proofs.Bounds.{forms-in, value-settled}
@@ -141,7 +142,7 @@ module _ (queues : ℕ → Queue) (N : ℕ) (own : List ℕ) (h : ℕ) where
 
   -- ---- cases
 
-  low-range : (rs : List (Option ℕ)) (xs : List ℕ) (j v : ℕ) → InRanges rs xs → get_or xs j 0 ≤ v → InRanges (range_changed rs j (at_most v)) xs
+  pub low-range : (rs : List (Option ℕ)) (xs : List ℕ) (j v : ℕ) → InRanges rs xs → get_or xs j 0 ≤ v → InRanges (range_changed rs j (at_most v)) xs
   low-range [] xs j v ranges low = ranges
   low-range (r ∷ rs) [] j v ranges low = absurd ranges
   low-range (r ∷ rs) (x ∷ xs) (suc j) v ranges low = (ranges.0, low-range rs xs j v ranges.1 low)
@@ -152,7 +153,7 @@ module _ (queues : ℕ → Queue) (N : ℕ) (own : List ℕ) (h : ℕ) where
       by true = ranges.0
       by false = low
 
-  high-range : (rs : List (Option ℕ)) (xs : List ℕ) (j v : ℕ) → InRanges rs xs → v < get_or xs j 0
+  pub high-range : (rs : List (Option ℕ)) (xs : List ℕ) (j v : ℕ) → InRanges rs xs → v < get_or xs j 0
       → InRanges (range_changed rs j (beyond v)) (less_at j (v + 1) xs)
   high-range rs [] j v ranges high = absurd (omega (arith, high))
   high-range [] (x ∷ xs) j v ranges high = absurd ranges
@@ -238,7 +239,10 @@ module _ (queues : ℕ → Queue) (N : ℕ) (own : List ℕ) (h : ℕ) where
   means-moved xs k s m n cs ds means bytes same = means-frame xs k s m n cs ds means (λ j x less low high. bytes x)
       (λ i less. record { count = λ p is. ap (count p) (same i); known = λ p is. ap (known p) (same i) })
 
-  pub means-arrow : (ys : List ℕ) (k t : KnownState) (gs : List Form) (s : HartState) (m : View) (cs : AllCounts) → arrow_leads queues N k t gs ≡ true
+  pub means-arrow : (T : ℕ) (ys : List ℕ) (k t : KnownState) (gs : List Form) (s : HartState) (m : View) (cs : AllCounts)
+      → arrow_leads queues N T k t gs ≡ true
       → MeansAt queues N own h ys k s m cs → MeansAt queues N own h (values_of (map (settled k.ranges) gs) ys) t s m cs
-  means-arrow ys k t gs s m cs ok means = means-led ys (state_by (settled k.ranges) k.ranges k) t (map (settled k.ranges) gs) s m cs ok
+  means-arrow T ys k t gs s m cs ok means = means-led ys (state_by (settled k.ranges) k.ranges k) t (map (settled k.ranges) gs) s m cs
+      (and_parts (leads_to queues N (state_by (settled k.ranges) k.ranges k) t (map (settled k.ranges) gs))
+      (tags_lead N T (state_by (settled k.ranges) k.ranges k) t (map (settled k.ranges) gs)) ok).0
       (means-by (settled k.ranges) k.ranges ys ys (λ f. value-settled k.ranges f ys means.ranges) means.ranges k s m cs means)

@@ -46,14 +46,14 @@ use Rattle.slot_queue.specs.Ownership.{hart, index, party_of, after_load as afte
 use Rattle.owned_run.specs.Certified.{View, AllCounts, number_seen, view_then, Acts, ReadsFrom, IsSameFor, LoadsOwned, OwnsSlotsOf}
 use Rattle.queue_certificates.specs.Forms.{Form, form_value, number, plus, minus, is_same, most, fits_in, lifted, Bounds}
 use Rattle.queue_certificates.specs.States.{KnownValue, any, linear, index_for, signed_for, signed_word, Share, no_share, share_by, KnownState}
-use Rattle.queue_certificates.specs.States.{value_by, state_by, scaled, plain, is_within, Has, HasShare, MeansAt, Means}
+use Rattle.queue_certificates.specs.States.{value_by, state_by, scaled, plain, is_within, Has, HasShare, MeansAt}
 use Rattle.queue_certificates.specs.Results.{Result, just, exactly, as_number, bounds, sum_of, of_immediate, of_shift, of_registers, is_branch_taken}
 use Rattle.queue_certificates.specs.Steps.{with_register, with_result, going_to, goes_by, operand, jumping}
 use Rattle.queue_certificates.specs.Steps.{called as called_state, follow, register_at, instruction_at, loads_owned}
 use Rattle.queue_certificates.specs.Steps.{reads_owned, updated_value, after_exchange, exchanging, addresses}
 use Rattle.queue_certificates.specs.Steps.{address_value, anywhere, is_one, is_whole, misses, is_look, is_own_index}
 use Rattle.queue_certificates.specs.Steps.{is_own_word, word_loaded, index_loaded, value_loaded, extended_value}
-use Rattle.queue_certificates.specs.Steps.{is_index_below, signed_value, loaded, shared, with_equal, when_taken, when_passed}
+use Rattle.queue_certificates.specs.Steps.{is_index_below, signed_value, most_loaded, loaded, shared, with_equal, when_taken, when_passed}
 use Rattle.queue_certificates.specs.Steps.{last_below, is_just, may_load, after_load, looked_word, owned_then}
 use Rattle.queue_certificates.specs.Steps.{looked_share, back_of, loading, all_below, shares_moved, moved_share}
 use Rattle.queue_certificates.specs.Steps.{is_copy, immediate_result, is_cut, may_move, may_fill, may_store, leaves_words, is_off, is_owned, is_apart}
@@ -116,7 +116,7 @@ IsQuiet (exchange a old new) = ⊥
 IsQuiet (fence full) = Unit {0}
 IsQuiet land = ⊥
 
-quiet-counts : (q : Queue) (t : Option Party) (y : Access) (c : QueueCounts) → IsQuiet y → after_access q t y c ≡ c
+pub quiet-counts : (q : Queue) (t : Option Party) (y : Access) (c : QueueCounts) → IsQuiet y → after_access q t y c ≡ c
 quiet-counts q None nothing c quiet = refl
 quiet-counts q (Some p) nothing c quiet = refl
 quiet-counts q None (fence full) c quiet = refl
@@ -136,7 +136,7 @@ quiet-keeps q t c (store w) quiet = absurd quiet
 quiet-keeps q t c (exchange a old new) quiet = absurd quiet
 quiet-keeps q t c land quiet = absurd quiet
 
-quiet-leaves : (x : ℕ) (y : Access) → IsQuiet y → LeavesByteBy x y
+pub quiet-leaves : (x : ℕ) (y : Access) → IsQuiet y → LeavesByteBy x y
 quiet-leaves x nothing quiet = tt
 quiet-leaves x (fence full) quiet = tt
 quiet-leaves x (load a width v) quiet = absurd quiet
@@ -144,7 +144,7 @@ quiet-leaves x (store w) quiet = absurd quiet
 quiet-leaves x (exchange a old new) quiet = absurd quiet
 quiet-leaves x land quiet = absurd quiet
 
-quiet-view : (m : View) (y : Access) (x : ℕ) → IsQuiet y → view_then y m x ≡ m x
+pub quiet-view : (m : View) (y : Access) (x : ℕ) → IsQuiet y → view_then y m x ≡ m x
 quiet-view m nothing x quiet = refl
 quiet-view m (fence full) x quiet = refl
 quiet-view m (load a width v) x quiet = absurd quiet
@@ -169,15 +169,29 @@ copied immediate.Xor n is x small = absurd (cc)
 copied immediate.Or n is x small = absurd (cc)
 copied immediate.And n is x small = absurd (cc)
 
+-- what a load leaves in its register
+pub extended-most : (op : LoadOp) (x : ℕ) → x < 256 ^ load_width op → extended op x ≤ most_loaded op
+extended-most load_op.Byte x low = subst (λ y. y ≤ 2 ^ 32 - 1) (sym (signed-of-bits 8 1 x refl refl (omega arith) low))
+    (let small : signed_word 1 x < 2 ^ 32 = signed-fits 1 x low (omega arith) in omega (arith, small))
+extended-most load_op.Half x low = subst (λ y. y ≤ 2 ^ 32 - 1) (sym (signed-of-bits 16 2 x refl refl (omega arith) low))
+    (let small : signed_word 2 x < 2 ^ 32 = signed-fits 2 x low (omega arith) in omega (arith, small))
+extended-most load_op.Word x low = omega (arith, low)
+extended-most load_op.ByteUnsigned x low = omega (arith, low)
+extended-most load_op.HalfUnsigned x low = omega (arith, low)
+
 module _ (queues : ℕ → Queue) (N : ℕ) (own_of : ℕ → List ℕ) (h : ℕ) where
-  -- one of these states says what is so
-  abbrev pub IsAmong : List KnownState → HartState → View → AllCounts → Type 0
-  IsAmong [] s m cs = ⊥
-  IsAmong (k ∷ ks) s m cs = Means queues N (own_of h) h k s m cs ⊎ IsAmong ks s m cs
+  -- a state that may follow says what is so, over one variable more, which comes first
+  abbrev pub IsNext : List ℕ → KnownState → HartState → View → AllCounts → Type 0
+  IsNext xs k s m cs = (x : ℕ) × MeansAt queues N (own_of h) h (x ∷ xs) k s m cs
+
+  -- one of these states does
+  abbrev pub IsAmong : List ℕ → List KnownState → HartState → View → AllCounts → Type 0
+  IsAmong xs [] s m cs = ⊥
+  IsAmong xs (k ∷ ks) s m cs = IsNext xs k s m cs ⊎ IsAmong xs ks s m cs
 
   -- what an access of the hart comes to, after which it is in state z
-  pub record Goes (owns : ℕ → Bool) (ks : List KnownState) (m : View) (cs : AllCounts) (y : Access) (z : HartState) : Type 0 where
-    pub next : z.status ≡ status.Running → IsAmong ks z (view_then y m) (λ i. after_access (queues i) (party_of (queues i) h) y (cs i))
+  pub record Goes (owns : ℕ → Bool) (xs : List ℕ) (ks : List KnownState) (m : View) (cs : AllCounts) (y : Access) (z : HartState) : Type 0 where
+    pub next : z.status ≡ status.Running → IsAmong xs ks z (view_then y m) (λ i. after_access (queues i) (party_of (queues i) h) y (cs i))
     pub keeps : (i : ℕ) → i < N → KeepsAccess (queues i) (party_of (queues i) h) (cs i) y
     pub apart : (g x : ℕ) → g ≢ h → (j : ℕ) → j < length (own_of g) → slice_index (own_of g) j ≤ x → x < slice_index (own_of g) j + 4 → LeavesByteBy x y
     -- where `owns` says so, its loads of a queue's slots are of owned ones
@@ -193,19 +207,19 @@ module _ (M : ℕ) (o : OpeningValue) (queues : ℕ → Queue) (N : ℕ) (own_of
 
   -- whether what the pc says loads owned slots of queue i alone
   abbrev pub owns : ℕ → Bool
-  owns i = loads_owned queues N own_of H h k i (instruction_at s.code s.pc)
+  owns i = loads_owned queues k i (instruction_at s.code s.pc)
 
   -- the access, by what the hart wants
   pub access-is : (n : Need) → need_of s ≡ n → access_of e ≡ access_of (entry_of (hart_of e) n v)
   access-is n needs = ap access_of (acts.can.made ∙ ap (λ w. entry_of (hart_of e) w v) needs)
 
   pub goes-as : (ks : List KnownState) (n : Need) (z : HartState) → need_of s ≡ n → advanced_by s n v ≡ z
-      → Goes queues N own_of h owns ks m cs (access_of (entry_of (hart_of e) n v)) z → Goes queues N own_of h owns ks m cs (access_of e) (advanced s v)
-  goes-as ks n z needs leaves g = subst (λ y. Goes queues N own_of h owns ks m cs y (advanced s v)) (sym (access-is n needs))
-      (subst (λ w. Goes queues N own_of h owns ks m cs (access_of (entry_of (hart_of e) n v)) w) (sym (advanced-as s n v needs ∙ leaves)) g)
+      → Goes queues N own_of h owns xs ks m cs (access_of (entry_of (hart_of e) n v)) z → Goes queues N own_of h owns xs ks m cs (access_of e) (advanced s v)
+  goes-as ks n z needs leaves g = subst (λ y. Goes queues N own_of h owns xs ks m cs y (advanced s v)) (sym (access-is n needs))
+      (subst (λ w. Goes queues N own_of h owns xs ks m cs (access_of (entry_of (hart_of e) n v)) w) (sym (advanced-as s n v needs ∙ leaves)) g)
 
   quiet-goes : (ks : List KnownState) (y : Access) (z : HartState) → IsQuiet y
-      → (z.status ≡ status.Running → IsAmong queues N own_of h ks z m cs) → Goes queues N own_of h owns ks m cs y z
+      → (z.status ≡ status.Running → IsAmong queues N own_of h xs ks z m cs) → Goes queues N own_of h owns xs ks m cs y z
   quiet-goes ks y z quiet next = record {
     next = λ runs. at ks (next runs);
     keeps = λ i less. quiet-keeps (queues i) (party_of (queues i) h) (cs i) y quiet;
@@ -213,36 +227,36 @@ module _ (M : ℕ) (o : OpeningValue) (queues : ℕ → Queue) (N : ℕ) (own_of
     loads = λ i less ok p mine. quiet-owns (queues i) p (cs i) y quiet;
   }
     where
-      one : (t : KnownState) → Means queues N (own_of h) h t z m cs
-          → Means queues N (own_of h) h t z (view_then y m)
+      one : (t : KnownState) → IsNext queues N own_of h xs t z m cs
+          → IsNext queues N own_of h xs t z (view_then y m)
           (λ i. after_access (queues i) (party_of (queues i) h) y (cs i))
       one t w = (
         w.0,
-        means-moved queues N (own_of h) h w.0 t z m (view_then y m) cs (λ i. after_access (queues i) (party_of (queues i) h) y (cs i)) w.1
+        means-moved queues N (own_of h) h (w.0 ∷ xs) t z m (view_then y m) cs (λ i. after_access (queues i) (party_of (queues i) h) y (cs i)) w.1
             (λ x. quiet-view m y x quiet) (λ i. quiet-counts (queues i) (party_of (queues i) h) y (cs i) quiet),
       )
 
-      at : (ks : List KnownState) → IsAmong queues N own_of h ks z m cs
-          → IsAmong queues N own_of h ks z (view_then y m)
+      at : (ks : List KnownState) → IsAmong queues N own_of h xs ks z m cs
+          → IsAmong queues N own_of h xs ks z (view_then y m)
           (λ i. after_access (queues i) (party_of (queues i) h) y (cs i))
       at [] w = absurd w
       at (t ∷ ts) (inl w) = inl (one t w)
       at (t ∷ ts) (inr w) = inr (at ts w)
 
   -- a hart that stops or ends goes nowhere
-  pub stop-goes : (ks : List KnownState) (why : Stop) → need_of s ≡ need.Stop why → Goes queues N own_of h owns ks m cs (access_of e) (advanced s v)
+  pub stop-goes : (ks : List KnownState) (why : Stop) → need_of s ≡ need.Stop why → Goes queues N own_of h owns xs ks m cs (access_of e) (advanced s v)
   stop-goes ks why needs = goes-as ks (need.Stop why) (record s { status = status.Stopped why }) needs refl
       (quiet-goes ks nothing (record s { status = status.Stopped why }) tt (λ runs. absurd (let no : status.Stopped why ≡ status.Running = runs in cc)))
 
-  exit-goes : (ks : List KnownState) → need_of s ≡ need.Exit → Goes queues N own_of h owns ks m cs (access_of e) (advanced s v)
+  exit-goes : (ks : List KnownState) → need_of s ≡ need.Exit → Goes queues N own_of h owns xs ks m cs (access_of e) (advanced s v)
   exit-goes ks needs = goes-as ks need.Exit (record s { status = status.Ended }) needs refl
       (quiet-goes ks nothing (record s { status = status.Ended }) tt (λ runs. absurd (let no : status.Ended ≡ status.Running = runs in cc)))
 
   -- an instruction that wants nothing of memory
   plain-goes : (ks : List KnownState) (i : Instr) (n : Need) → IsAt s i → need_of s ≡ n → IsPlain n → IsQuiet (access_of (entry_of (hart_of e) n v))
-      → IsAmong queues N own_of h ks (after_instruction s v i) m cs → Goes queues N own_of h owns ks m cs (access_of e) (advanced s v)
-  plain-goes ks i n here needs plain quiet next = subst (λ y. Goes queues N own_of h owns ks m cs y (advanced s v)) (sym (access-is n needs))
-      (subst (λ w. Goes queues N own_of h owns ks m cs (access_of (entry_of (hart_of e) n v)) w) (sym (after-at here n needs plain v))
+      → IsAmong queues N own_of h xs ks (after_instruction s v i) m cs → Goes queues N own_of h owns xs ks m cs (access_of e) (advanced s v)
+  plain-goes ks i n here needs plain quiet next = subst (λ y. Goes queues N own_of h owns xs ks m cs y (advanced s v)) (sym (access-is n needs))
+      (subst (λ w. Goes queues N own_of h owns xs ks m cs (access_of (entry_of (hart_of e) n v)) w) (sym (after-at here n needs plain v))
       (quiet-goes ks (access_of (entry_of (hart_of e) n v)) (after_instruction s v i) quiet (λ runs. next)))
 
   pub register-has : (r : Reg) → Has queues xs (register_at k r) (register_value s.registers r)
@@ -254,32 +268,33 @@ module _ (M : ℕ) (o : OpeningValue) (queues : ℕ → Queue) (N : ℕ) (own_of
       by false some = means.registers r.number
       by true none = ap (slice_index s.registers) (eqb-true r.number 0 none) ∙ acts.zero
 
-  pub operand-has : (r : Reg) → Has queues xs (operand queues N own_of H h k r) (register_value s.registers r)
+  pub operand-has : (r : Reg) → Has queues xs (operand queues k r) (register_value s.registers r)
   operand-has r = has-plain queues k.ranges xs means.ranges (register_at k r) (register_value s.registers r) (register-has r)
 
   -- it leaves x in a register, and goes to pc
   result-means : (rd : Reg) (pc x : ℕ) (r : Result) (z : HartState) → Gives queues xs r x → z.pc ≡ pc → z.registers ≡ written_at s.registers rd.number x
-      → IsAmong queues N own_of h (with_result k rd.number pc r ∷ []) z m cs
+      → IsAmong queues N own_of h xs (with_result k rd.number pc r ∷ []) z m cs
   result-means rd pc x r z g at regs = inl (
-    g.0 ∷ xs,
+    g.0,
     means-result queues N (own_of h) h xs k s z m cs rd.number pc x r means (omega (arith, size, rd.below_32)) g.0
         g.1 g.2 at regs,
   )
 
-  going-means : (pc : ℕ) (z : HartState) → z.pc ≡ pc → z.registers ≡ s.registers → Means queues N (own_of h) h (going_to k pc) z m cs
-  going-means pc z at regs = (0 ∷ xs, means-going queues N (own_of h) h xs k s z m cs pc means at regs)
+  going-means : (pc : ℕ) (z : HartState) → z.pc ≡ pc → z.registers ≡ s.registers → IsNext queues N own_of h xs (going_to k pc) z m cs
+  going-means pc z at regs = (0, means-going queues N (own_of h) h xs k s z m cs pc means at regs)
 
-  inner-goes : (ks : List KnownState) (i : Instr) → IsAt s i → need_of s ≡ need.Inner → IsAmong queues N own_of h ks (after_instruction s v i) m cs
-      → Goes queues N own_of h owns ks m cs (access_of e) (advanced s v)
+  inner-goes : (ks : List KnownState) (i : Instr) → IsAt s i → need_of s ≡ need.Inner → IsAmong queues N own_of h xs ks (after_instruction s v i) m cs
+      → Goes queues N own_of h owns xs ks m cs (access_of e) (advanced s v)
   inner-goes ks i here needs next = plain-goes ks i need.Inner here needs tt tt next
 
   -- a jump goes on, or stops the hart
   jump-goes : (ks : List KnownState) (i : Instr) (target : ℕ) → IsAt s i → need_of s ≡ jump_need target
-      → IsAmong queues N own_of h ks (after_instruction s v i) m cs
-      → Goes queues N own_of h owns ks m cs (access_of e) (advanced s v)
+      → IsAmong queues N own_of h xs ks (after_instruction s v i) m cs
+      → Goes queues N own_of h owns xs ks m cs (access_of e) (advanced s v)
   jump-goes ks i target here needs next = by (target % 4 == 0) needs
     where
-      by : (t : Bool) → need_of s ≡ (if t then need.Inner else need.Stop stop.MisalignedJump) → Goes queues N own_of h owns ks m cs (access_of e) (advanced s v)
+      by : (t : Bool) → need_of s ≡ (if t then need.Inner else need.Stop stop.MisalignedJump)
+          → Goes queues N own_of h owns xs ks m cs (access_of e) (advanced s v)
       by true needs = inner-goes ks i here needs next
       by false needs = stop-goes ks stop.MisalignedJump needs
 
@@ -350,32 +365,32 @@ module _ (M : ℕ) (o : OpeningValue) (queues : ℕ → Queue) (N : ℕ) (own_of
   passed-means branch.GreaterEqualUnsigned rs1 rs2 is = means
 
   branch-goes : (op : BranchOp) (rs1 rs2 : Reg) (offset : ℤ) → IsAt s (Branch op rs1 rs2 offset)
-      → Goes queues N own_of h owns (goes_by (when_taken k op rs1 rs2) (when_passed k op rs1 rs2) (address k.pc offset) (next_pc k.pc)
-      (is_branch_taken queues k.ranges op (operand queues N own_of H h k rs1) (operand queues N own_of H h k rs2))) m cs
+      → Goes queues N own_of h owns xs (goes_by (when_taken k op rs1 rs2) (when_passed k op rs1 rs2) (address k.pc offset) (next_pc k.pc)
+      (is_branch_taken queues k.ranges op (operand queues k rs1) (operand queues k rs2))) m cs
       (access_of e) (advanced s v)
   branch-goes op rs1 rs2 offset here = by (is_taken op (register_value s.registers rs1) (register_value s.registers rs2)) refl
     where
       right : (t : Bool)
-          → is_branch_taken queues k.ranges op (operand queues N own_of H h k rs1) (operand queues N own_of H h k rs2) ≡ Some t
+          → is_branch_taken queues k.ranges op (operand queues k rs1) (operand queues k rs2) ≡ Some t
           → is_taken op (register_value s.registers rs1) (register_value s.registers rs2) ≡ t
-      right t is = branch-is queues xs k.ranges means.ranges op (operand queues N own_of H h k rs1)
-          (operand queues N own_of H h k rs2) (register_value s.registers rs1) (register_value s.registers rs2)
+      right t is = branch-is queues xs k.ranges means.ranges op (operand queues k rs1)
+          (operand queues k rs2) (register_value s.registers rs1) (register_value s.registers rs2)
           (operand-has rs1) (operand-has rs2) t is
 
       turned : is_taken op (register_value s.registers rs1) (register_value s.registers rs2) ≡ true
-          → Means queues N (own_of h) h (going_to (when_taken k op rs1 rs2) (address k.pc offset))
+          → IsNext queues N own_of h xs (going_to (when_taken k op rs1 rs2) (address k.pc offset))
           (after_instruction s v (Branch op rs1 rs2 offset)) m cs
       turned yes-taken = (
-        0 ∷ xs,
+        0,
         means-going queues N (own_of h) h xs (when_taken k op rs1 rs2) s (after_instruction s v (Branch op rs1 rs2 offset)) m cs (address k.pc offset)
             (taken-means op rs1 rs2 yes-taken)
             (ap (λ t. if t then address s.pc offset else next_pc s.pc) yes-taken ∙ ap (λ x. address x offset) means.pc) refl,
       )
 
       onward : is_taken op (register_value s.registers rs1) (register_value s.registers rs2) ≡ false
-          → Means queues N (own_of h) h (going_to (when_passed k op rs1 rs2) (next_pc k.pc)) (after_instruction s v (Branch op rs1 rs2 offset)) m cs
+          → IsNext queues N own_of h xs (going_to (when_passed k op rs1 rs2) (next_pc k.pc)) (after_instruction s v (Branch op rs1 rs2 offset)) m cs
       onward not-taken = (
-        0 ∷ xs,
+        0,
         means-going queues N (own_of h) h xs (when_passed k op rs1 rs2) s (after_instruction s v (Branch op rs1 rs2 offset)) m cs (next_pc k.pc)
             (passed-means op rs1 rs2 not-taken)
             (ap (λ t. if t then address s.pc offset else next_pc s.pc) not-taken ∙ ap next_pc means.pc) refl,
@@ -383,7 +398,7 @@ module _ (M : ℕ) (o : OpeningValue) (queues : ℕ → Queue) (N : ℕ) (own_of
 
       among : (t : Bool) → is_taken op (register_value s.registers rs1) (register_value s.registers rs2) ≡ t → (o : Option Bool)
           → ((u : Bool) → o ≡ Some u → is_taken op (register_value s.registers rs1) (register_value s.registers rs2) ≡ u)
-          → IsAmong queues N own_of h (goes_by (when_taken k op rs1 rs2) (when_passed k op rs1 rs2) (address k.pc offset) (next_pc k.pc) o)
+          → IsAmong queues N own_of h xs (goes_by (when_taken k op rs1 rs2) (when_passed k op rs1 rs2) (address k.pc offset) (next_pc k.pc) o)
           (after_instruction s v (Branch op rs1 rs2 offset)) m cs
       among true is None right = inl (turned is)
       among false is None right = inr (inl (onward is))
@@ -391,8 +406,8 @@ module _ (M : ℕ) (o : OpeningValue) (queues : ℕ → Queue) (N : ℕ) (own_of
       among t is (Some false) right = inl (onward (right false refl))
 
       by : (t : Bool) → is_taken op (register_value s.registers rs1) (register_value s.registers rs2) ≡ t
-          → Goes queues N own_of h owns (goes_by (when_taken k op rs1 rs2) (when_passed k op rs1 rs2) (address k.pc offset) (next_pc k.pc)
-          (is_branch_taken queues k.ranges op (operand queues N own_of H h k rs1) (operand queues N own_of H h k rs2))) m
+          → Goes queues N own_of h owns xs (goes_by (when_taken k op rs1 rs2) (when_passed k op rs1 rs2) (address k.pc offset) (next_pc k.pc)
+          (is_branch_taken queues k.ranges op (operand queues k rs1) (operand queues k rs2))) m
           cs (access_of e) (advanced s v)
       by true is = jump-goes _ (Branch op rs1 rs2 offset) (address s.pc offset) here
           (need_at here ∙ ap (λ t. if t then jump_need (address s.pc offset) else need.Inner) is) (among true is _ right)
@@ -401,12 +416,12 @@ module _ (M : ℕ) (o : OpeningValue) (queues : ℕ → Queue) (N : ℕ) (own_of
 
   -- an environment call
   called-means : (z : HartState) → z.pc ≡ next_pc s.pc → (a b : ℕ) → z.registers ≡ written_at (written_at s.registers 10 a) 11 b
-      → IsAmong queues N own_of h (called_state k ∷ []) z m cs
+      → IsAmong queues N own_of h xs (called_state k ∷ []) z m cs
   called-means z at a b regs =
       let l = means-lifted queues N (own_of h) h 0 0 (omega arith) xs k s m cs means in
       let long : 11 < length (written_at s.registers 10 a) = rw (length-set) (omega (arith, size)) in
       inl (
-        0 ∷ xs,
+        0,
         record {
           ranges = l.ranges;
           pc = at ∙ ap next_pc means.pc;
@@ -421,13 +436,13 @@ module _ (M : ℕ) (o : OpeningValue) (queues : ℕ → Queue) (N : ℕ) (own_of
         },
       )
 
-  call-goes : IsAt s Ecall → Goes queues N own_of h owns (called_state k ∷ []) m cs (access_of e) (advanced s v)
+  call-goes : IsAt s Ecall → Goes queues N own_of h owns xs (called_state k ∷ []) m cs (access_of e) (advanced s v)
   call-goes here = first (slice_index s.registers 17 == 1) (need_at here)
     where
       same-registers : s.registers ≡ written_at (written_at s.registers 10 (slice_index s.registers 10)) 11 (slice_index s.registers 11)
       same-registers = sym (ap (λ zs. set zs 11 (slice_index s.registers 11)) (set-get_or s.registers 10 0) ∙ set-get_or s.registers 11 0)
 
-      reports : (r : Report) → need_of s ≡ need.Report r → Goes queues N own_of h owns (called_state k ∷ []) m cs (access_of e) (advanced s v)
+      reports : (r : Report) → need_of s ≡ need.Report r → Goes queues N own_of h owns xs (called_state k ∷ []) m cs (access_of e) (advanced s v)
       reports (report.Took i w) needs = goes-as (called_state k ∷ []) (need.Report (report.Took i w)) (called s) needs refl
           (quiet-goes (called_state k ∷ []) nothing (called s) tt (λ runs.
           called-means (called s) refl (slice_index s.registers 10) (slice_index s.registers 11) same-registers))
@@ -435,7 +450,7 @@ module _ (M : ℕ) (o : OpeningValue) (queues : ℕ → Queue) (N : ℕ) (own_of
           (quiet-goes (called_state k ∷ []) nothing (called s) tt (λ runs.
           called-means (called s) refl (slice_index s.registers 10) (slice_index s.registers 11) same-registers))
 
-      gives : (w : Option ℕ) → need_of s ≡ need.Next w → Goes queues N own_of h owns (called_state k ∷ []) m cs (access_of e) (advanced s v)
+      gives : (w : Option ℕ) → need_of s ≡ need.Next w → Goes queues N own_of h owns xs (called_state k ∷ []) m cs (access_of e) (advanced s v)
       gives None needs = goes-as (called_state k ∷ []) (need.Next None) (given s None) needs refl
           (quiet-goes (called_state k ∷ []) nothing (given s None) tt (λ runs. called-means (given s None) refl (slice_index s.registers 10) 0
           (ap (λ zs. written_at zs 11 0) (sym (set-get_or s.registers 10 0)))))
@@ -443,20 +458,20 @@ module _ (M : ℕ) (o : OpeningValue) (queues : ℕ → Queue) (N : ℕ) (own_of
           (quiet-goes (called_state k ∷ []) nothing (given s (Some w)) tt (λ runs. called-means (given s (Some w)) refl w 1 refl))
 
       fourth : (t : Bool) → need_of s ≡ (if t then need.Exit else need.Stop stop.UnknownCall)
-          → Goes queues N own_of h owns (called_state k ∷ []) m cs (access_of e) (advanced s v)
+          → Goes queues N own_of h owns xs (called_state k ∷ []) m cs (access_of e) (advanced s v)
       fourth true needs = exit-goes (called_state k ∷ []) needs
       fourth false needs = stop-goes (called_state k ∷ []) stop.UnknownCall needs
 
       third : (t : Bool) → need_of s ≡ (if t then need.Report (report.Closed (slice_index s.registers 10)) else
           (if slice_index s.registers 17 == 93 then need.Exit else need.Stop stop.UnknownCall))
-          → Goes queues N own_of h owns (called_state k ∷ []) m cs (access_of e) (advanced s v)
+          → Goes queues N own_of h owns xs (called_state k ∷ []) m cs (access_of e) (advanced s v)
       third true needs = reports (report.Closed (slice_index s.registers 10)) needs
       third false needs = fourth (slice_index s.registers 17 == 93) needs
 
       second : (t : Bool) → need_of s ≡ (if t then need.Report (report.Took (slice_index s.registers 10) (slice_index s.registers 11)) else
           (if slice_index s.registers 17 == 3 then need.Report (report.Closed (slice_index s.registers 10)) else
           (if slice_index s.registers 17 == 93 then need.Exit else need.Stop stop.UnknownCall)))
-          → Goes queues N own_of h owns (called_state k ∷ []) m cs (access_of e) (advanced s v)
+          → Goes queues N own_of h owns xs (called_state k ∷ []) m cs (access_of e) (advanced s v)
       second true needs = reports (report.Took (slice_index s.registers 10) (slice_index s.registers 11)) needs
       second false needs = third (slice_index s.registers 17 == 3) needs
 
@@ -464,11 +479,11 @@ module _ (M : ℕ) (o : OpeningValue) (queues : ℕ → Queue) (N : ℕ) (own_of
           (if slice_index s.registers 17 == 2 then need.Report (report.Took (slice_index s.registers 10) (slice_index s.registers 11)) else
           (if slice_index s.registers 17 == 3 then need.Report (report.Closed (slice_index s.registers 10)) else
           (if slice_index s.registers 17 == 93 then need.Exit else need.Stop stop.UnknownCall))))
-          → Goes queues N own_of h owns (called_state k ∷ []) m cs (access_of e) (advanced s v)
+          → Goes queues N own_of h owns xs (called_state k ∷ []) m cs (access_of e) (advanced s v)
       first true needs = gives (slice_get s.inbox 0) needs
       first false needs = second (slice_index s.registers 17 == 2) needs
 
-  storable-has : (n x : ℕ) (u : KnownValue) → Has queues xs u x → (Has queues xs u x → x < 2 ^ 32 → n ≡ x) → Has queues xs (storable queues N own_of H h u) n
+  storable-has : (n x : ℕ) (u : KnownValue) → Has queues xs u x → (Has queues xs u x → x < 2 ^ 32 → n ≡ x) → Has queues xs (storable N u) n
   storable-has n x any has is = tt
   storable-has n x (linear f) has is = is has (subst (λ y. y < 2 ^ 32) (sym has) (mod-lt (form_value f xs) (omega arith))) ∙ has
   storable-has n x (index_for i f) has is = by (nat_lt i N) refl
@@ -491,48 +506,49 @@ module _ (M : ℕ) (o : OpeningValue) (queues : ℕ → Queue) (N : ℕ) (own_of
           is has (subst (λ y. y < 2 ^ 32) (sym has) (signed-fits (queues i).index_width (index_word (queues i) (form_value f xs)) small four)) ∙ has
 
   immediate-result : (op : ImmediateOp) (v : KnownValue) (x : ℕ) (n : ℤ) → Has queues xs v x
-      → Gives queues xs (immediate_result queues N own_of H h k op v n) (with_immediate op x n)
+      → Gives queues xs (immediate_result queues N k op v n) (with_immediate op x n)
   immediate-result op v x n has = by (is_copy op n) refl
     where
       by : (t : Bool) → is_copy op n ≡ t
-          → Gives queues xs (if t then just (storable queues N own_of H h v) else of_immediate queues N k.ranges op v n) (with_immediate op x n)
+          → Gives queues xs (if t then just (storable N v) else of_immediate queues N k.ranges op v n) (with_immediate op x n)
       by false other = immediate-gives queues xs k.ranges means.ranges N op v x n has
-      by true copy = just-gives queues xs (storable queues N own_of H h v) (with_immediate op x n)
+      by true copy = just-gives queues xs (storable N v) (with_immediate op x n)
           (storable-has (with_immediate op x n) x v has (λ has small. copied op n copy x small))
 
   -- ---- loads and stores: where they point, and that the hart stops where it may not
 
-  pub address-has : (r : Reg) (offset : ℤ) → Has queues xs (address_value queues N own_of H h k r offset) (address (register_value s.registers r) offset)
+  pub address-has : (r : Reg) (offset : ℤ) → Has queues xs (address_value queues k r offset) (address (register_value s.registers r) offset)
   address-has r offset =
-      subst (Has queues xs (sum_of (operand queues N own_of H h k r) (linear (number (word offset)))))
+      subst (Has queues xs (sum_of (operand queues k r) (linear (number (word offset)))))
       (sym (word-of-sum (register_value s.registers r) offset))
-      (sum-has queues xs (operand queues N own_of H h k r) (linear (number (word offset)))
+      (sum-has queues xs (operand queues k r) (linear (number (word offset)))
       (register_value s.registers r) (word offset) (operand-has r)
       (word-has queues xs k.ranges means.ranges offset))
 
-  pub points : (r : Reg) (offset : ℤ) → ((addresses queues N own_of H h k r offset).low ≤ address (register_value s.registers r) offset)
-      × (address (register_value s.registers r) offset ≤ (addresses queues N own_of H h k r offset).high)
-  points r offset = by (bounds k.ranges (address_value queues N own_of H h k r offset)) refl
+  pub points : (r : Reg) (offset : ℤ) → ((addresses queues k r offset).low ≤ address (register_value s.registers r) offset)
+      × (address (register_value s.registers r) offset ≤ (addresses queues k r offset).high)
+  points r offset = by (bounds k.ranges (address_value queues k r offset)) refl
     where
       small : address (register_value s.registers r) offset < 2 ^ 32
       small = word-small (pos (register_value s.registers r) +ℤ offset)
 
-      by : (b : Option Bounds) → bounds k.ranges (address_value queues N own_of H h k r offset) ≡ b
+      by : (b : Option Bounds) → bounds k.ranges (address_value queues k r offset) ≡ b
           → ((anywhere b).low ≤ address (register_value s.registers r) offset) × (address (register_value s.registers r) offset ≤ (anywhere b).high)
       by None is = (omega arith, omega (arith, small))
-      by (Some b) is = has-bounds queues k.ranges xs (address_value queues N own_of H h k r offset)
+      by (Some b) is = has-bounds queues k.ranges xs (address_value queues k r offset)
           (address (register_value s.registers r) offset) b means.ranges is (address-has r offset)
 
   access-goes : (ks : List KnownState) (width a : ℕ) (n : Need) → need_of s ≡ access_need s.words width a n
-      → (need_of s ≡ n → Goes queues N own_of h owns ks m cs (access_of e) (advanced s v)) → Goes queues N own_of h owns ks m cs (access_of e) (advanced s v)
+      → (need_of s ≡ n → Goes queues N own_of h owns xs ks m cs (access_of e) (advanced s v))
+      → Goes queues N own_of h owns xs ks m cs (access_of e) (advanced s v)
   access-goes ks width a n needs goes = by (a % width == 0) needs
     where
-      inside : (t : Bool) → need_of s ≡ (if t then n else need.Stop stop.OutOfRange) → Goes queues N own_of h owns ks m cs (access_of e) (advanced s v)
+      inside : (t : Bool) → need_of s ≡ (if t then n else need.Stop stop.OutOfRange) → Goes queues N own_of h owns xs ks m cs (access_of e) (advanced s v)
       inside true needs = goes needs
       inside false needs = stop-goes ks stop.OutOfRange needs
 
       by : (t : Bool) → need_of s ≡ (if t then (if nat_lt a (4 * s.words) then n else need.Stop stop.OutOfRange) else need.Stop stop.Misaligned)
-          → Goes queues N own_of h owns ks m cs (access_of e) (advanced s v)
+          → Goes queues N own_of h owns xs ks m cs (access_of e) (advanced s v)
       by true needs = inside (nat_lt a (4 * s.words)) needs
       by false needs = stop-goes ks stop.Misaligned needs
 
@@ -541,7 +557,7 @@ module _ (M : ℕ) (o : OpeningValue) (queues : ℕ → Queue) (N : ℕ) (own_of
 
   -- ---- loads
 
-  index-below : (ys : List ℕ) (limit : ℕ) (w : KnownValue) (x : ℕ) → is_index_below queues N own_of H h limit w ≡ true → Has queues ys w x → x < limit
+  index-below : (ys : List ℕ) (limit : ℕ) (w : KnownValue) (x : ℕ) → is_index_below queues limit w ≡ true → Has queues ys w x → x < limit
   index-below ys limit any x ok has = absurd (cc)
   index-below ys limit (linear f) x ok has = absurd (cc)
   index-below ys limit (signed_for i f) x ok has = absurd (cc)
@@ -557,7 +573,7 @@ module _ (M : ℕ) (o : OpeningValue) (queues : ℕ → Queue) (N : ℕ) (own_of
       omega (arith, has, most, low)
 
   signed-has : (ys : List ℕ) (width : ℕ) (w : KnownValue) (x : ℕ) → Has queues ys w x
-      → Has queues ys (signed_value queues N own_of H h width w) (signed_word width x)
+      → Has queues ys (signed_value queues width w) (signed_word width x)
   signed-has ys width any x has = tt
   signed-has ys width (linear f) x has = tt
   signed-has ys width (signed_for i f) x has = tt
@@ -570,18 +586,18 @@ module _ (M : ℕ) (o : OpeningValue) (queues : ℕ → Queue) (N : ℕ) (own_of
 
   sign-kept : (ys : List ℕ) (bits width : ℕ) (w : KnownValue) (x : ℕ) → 2 ^ (bits - 1) + 2 ^ (bits - 1) ≡ 256 ^ width → 2 ^ bits ≡ 256 ^ width
       → 256 ^ width ≤ 2 ^ 32 → x < 256 ^ width → Has queues ys w x
-      → Has queues ys (if is_index_below queues N own_of H h (2 ^ (bits - 1)) w then w else signed_value queues N own_of H h width w) (sign_extended bits x)
-  sign-kept ys bits width w x half all small low has = by (is_index_below queues N own_of H h (2 ^ (bits - 1)) w) refl
+      → Has queues ys (if is_index_below queues (2 ^ (bits - 1)) w then w else signed_value queues width w) (sign_extended bits x)
+  sign-kept ys bits width w x half all small low has = by (is_index_below queues (2 ^ (bits - 1)) w) refl
     where
-      by : (t : Bool) → is_index_below queues N own_of H h (2 ^ (bits - 1)) w ≡ t
-          → Has queues ys (if t then w else signed_value queues N own_of H h width w) (sign_extended bits x)
-      by false other = subst (Has queues ys (signed_value queues N own_of H h width w)) (sym (signed-of-bits bits width x half all small low))
+      by : (t : Bool) → is_index_below queues (2 ^ (bits - 1)) w ≡ t
+          → Has queues ys (if t then w else signed_value queues width w) (sign_extended bits x)
+      by false other = subst (Has queues ys (signed_value queues width w)) (sym (signed-of-bits bits width x half all small low))
           (signed-has ys width w x has)
       by true low = subst (Has queues ys w)
           (sym (ap (λ t. if t then x else word (pos x -ℤ pos (2 ^ bits))) (lt-ltb x (2 ^ (bits - 1)) (index-below ys (2 ^ (bits - 1)) w x low has)))) has
 
   extended-has : (ys : List ℕ) (op : LoadOp) (w : KnownValue) (x : ℕ) → x < 256 ^ load_width op → Has queues ys w x
-      → Has queues ys (extended_value queues N own_of H h op w) (extended op x)
+      → Has queues ys (extended_value queues op w) (extended op x)
   extended-has ys load_op.Byte w x low has = sign-kept ys 8 1 w x refl refl (omega arith) low has
   extended-has ys load_op.Half w x low has = sign-kept ys 16 2 w x refl refl (omega arith) low has
   extended-has ys load_op.Word w x low has = has
@@ -589,26 +605,26 @@ module _ (M : ℕ) (o : OpeningValue) (queues : ℕ → Queue) (N : ℕ) (own_of
   extended-has ys load_op.HalfUnsigned w x low has = has
 
   pub value-loaded : (b : Bounds) (width a x : ℕ) → b.low ≤ a → a ≤ b.high → x ≡ number_seen m a width
-      → Has queues xs (value_loaded queues N own_of H h k b width) x
-  value-loaded b width a x low high read = index (last_below N (is_own_index queues N own_of H h b width)) refl
+      → Has queues xs (value_loaded queues N own_of h k b width) x
+  value-loaded b width a x low high read = index (last_below N (is_own_index queues h b width)) refl
     where
-      word-loaded : (j : Option ℕ) → last_below (length (own_of h)) (is_own_word queues N own_of H h b width) ≡ j
-          → Has queues xs (word_loaded queues N own_of H h k j) x
+      word-loaded : (j : Option ℕ) → last_below (length (own_of h)) (is_own_word own_of h b width) ≡ j
+          → Has queues xs (word_loaded k j) x
       word-loaded None is = tt
       word-loaded (Some j) is =
-          let f = found-below (length (own_of h)) (is_own_word queues N own_of H h b width) j is in
+          let f = found-below (length (own_of h)) (is_own_word own_of h b width) j is in
           let parts = and_parts (is_one b && (b.low == slice_index (own_of h) j)) (width == 4) f.1 in
           let front = and_parts (is_one b) (b.low == slice_index (own_of h) j) parts.0 in
           let place : a ≡ slice_index (own_of h) j = one-place b a front.0 low high ∙ eqb-true b.low (slice_index (own_of h) j) front.1 in
           let wide : width ≡ 4 = eqb-true width 4 parts.1 in
           subst (Has queues xs (get_or k.words j any)) (sym (read ∙ ap (number_seen m a) wide ∙ ap (λ z. number_seen m z 4) place)) (means.words j f.0)
 
-      index : (i : Option ℕ) → last_below N (is_own_index queues N own_of H h b width) ≡ i
-          → Has queues xs (index_loaded queues N own_of H h k i (word_loaded queues N own_of H h k
-          (last_below (length (own_of h)) (is_own_word queues N own_of H h b width)))) x
-      index None is = word-loaded (last_below (length (own_of h)) (is_own_word queues N own_of H h b width)) refl
+      index : (i : Option ℕ) → last_below N (is_own_index queues h b width) ≡ i
+          → Has queues xs (index_loaded k i (word_loaded k
+          (last_below (length (own_of h)) (is_own_word own_of h b width)))) x
+      index None is = word-loaded (last_below (length (own_of h)) (is_own_word own_of h b width)) refl
       index (Some i) is =
-          let f = found-below N (is_own_index queues N own_of H h b width) i is in
+          let f = found-below N (is_own_index queues h b width) i is in
           let parts = and_parts (is_one b) (is_whole (queues i) (party_of (queues i) h) (λ p. p) b.low width) f.1 in
           let w = whole-index (queues i) (party_of (queues i) h) (λ p. p) b.low width parts.1 in
           let mine : h ≡ hart (queues i) w.party = party-hart (queues i) (fine i f.0).0 h w.party w.is in
@@ -617,14 +633,9 @@ module _ (M : ℕ) (o : OpeningValue) (queues : ℕ → Queue) (N : ℕ) (own_of
           ∙ ap (index_word (queues i)) (means.shares i f.0 w.party mine).own
 
   loaded-gives : (op : LoadOp) (w : KnownValue) (x : ℕ) → x < 256 ^ load_width op → Has queues xs w x
-      → Gives queues xs (loaded queues N own_of H h op w) (extended op x)
-  loaded-gives load_op.Byte w x low has =
-      just-gives queues xs (extended_value queues N own_of H h load_op.Byte w) (extended load_op.Byte x) (extended-has xs load_op.Byte w x low has)
-  loaded-gives load_op.Half w x low has =
-      just-gives queues xs (extended_value queues N own_of H h load_op.Half w) (extended load_op.Half x) (extended-has xs load_op.Half w x low has)
-  loaded-gives load_op.Word w x low has = just-gives queues xs w x has
-  loaded-gives load_op.ByteUnsigned w x low has = or-up-to-gives queues xs 255 x w (omega (arith, low)) has
-  loaded-gives load_op.HalfUnsigned w x low has = or-up-to-gives queues xs 65535 x w (omega (arith, low)) has
+      → Gives queues xs (loaded queues op w) (extended op x)
+  loaded-gives op w x low has = or-up-to-gives queues xs (most_loaded op) (extended op x) (extended_value queues op w)
+      (extended-most op x low) (extended-has xs op w x low has)
 
   load-keeps : (q : Queue) (t : Option Party) (c : QueueCounts) (a width x : ℕ) → KeepsAccess q t c (load a width x)
   load-keeps q None c a width x = tt
@@ -636,12 +647,12 @@ module _ (M : ℕ) (o : OpeningValue) (queues : ℕ → Queue) (N : ℕ) (own_of
 
   -- a load that is no look leaves in its register what is known of what it reads
   pub load-gives : (op : LoadOp) (rd : Reg) (a : ℕ) (b : Bounds) (z : HartState) → b.low ≤ a → a ≤ b.high
-      → may_load queues N own_of H h k b (load_width op) None ≡ true → (r : Result) → Gives queues xs r (extended op v)
+      → may_load queues N h k b (load_width op) None ≡ true → (r : Result) → Gives queues xs r (extended op v)
       → z.pc ≡ next_pc k.pc → z.registers ≡ written_at s.registers rd.number (extended op v)
-      → Means queues N (own_of h) h (with_result k rd.number (next_pc k.pc) r) z m
+      → IsNext queues N own_of h xs (with_result k rd.number (next_pc k.pc) r) z m
       (λ i. after_access (queues i) (party_of (queues i) h) (load a (load_width op) v) (cs i))
   load-gives op rd a b z low high ok r g at regs = (
-    g.0 ∷ xs,
+    g.0,
     means-frame queues N (own_of h) h (g.0 ∷ xs) (with_result k rd.number (next_pc k.pc) r) z m m cs
         (λ i. after_access (queues i) (party_of (queues i) h) (load a (load_width op) v) (cs i))
         (means-result queues N (own_of h) h xs k s z m cs rd.number (next_pc k.pc) (extended op v) r
@@ -655,24 +666,24 @@ module _ (M : ℕ) (o : OpeningValue) (queues : ℕ → Queue) (N : ℕ) (own_of
       same-then q h c same = record { count = λ p is. ap (count p) same; known = λ p is. ap (known_of p) same }
 
   load-known : (op : LoadOp) (rd : Reg) (a : ℕ) (b : Bounds) (look : Option ℕ) (z : HartState) → b.low ≤ a → a ≤ b.high → v ≡ number_seen m a (load_width op)
-      → last_below N (is_look queues N own_of H h b (load_width op)) ≡ look → may_load queues N own_of H h k b (load_width op) look ≡ true
+      → last_below N (is_look queues h b (load_width op)) ≡ look → may_load queues N h k b (load_width op) look ≡ true
       → z.pc ≡ next_pc k.pc → z.registers ≡ written_at s.registers rd.number (extended op v)
-      → Means queues N (own_of h) h (after_load queues N own_of H h k op rd.number b look) z m
+      → IsNext queues N own_of h xs (after_load queues N own_of h k op rd.number b look) z m
       (λ i. after_access (queues i) (party_of (queues i) h) (load a (load_width op) v) (cs i))
   load-known op rd a b None z low high read is ok at regs =
-      load-gives op rd a b z low high ok (loaded queues N own_of H h op (value_loaded queues N own_of H h k b (load_width op)))
-      (loaded-gives op (value_loaded queues N own_of H h k b (load_width op)) v (read-small op a read) (value-loaded b (load_width op) a v low high read))
+      load-gives op rd a b z low high ok (loaded queues op (value_loaded queues N own_of h k b (load_width op)))
+      (loaded-gives op (value_loaded queues N own_of h k b (load_width op)) v (read-small op a read) (value-loaded b (load_width op) a v low high read))
       at regs
   load-known op rd a b (Some i) z low high read is ok at regs = (
-    l.more ∷ xs,
+    l.more,
     record {
       ranges = (l.low, means.ranges);
       pc = at;
       registers =
           λ j. subst (λ zs. Has queues (l.more ∷ xs) (get_or (with_register (map (value_by lifted) k.registers) rd.number
-          (extended_value queues N own_of H h op (looked_word queues N own_of H h i share))) j any) (slice_index zs j))
+          (extended_value queues op (looked_word queues h i share))) j any) (slice_index zs j))
           (sym regs) (written-has queues N (own_of h) h (l.more ∷ xs) (map (value_by lifted) k.registers) s.registers rd.number (extended op v)
-          (extended_value queues N own_of H h op (looked_word queues N own_of H h i share)) lifted-means.registers
+          (extended_value queues op (looked_word queues h i share)) lifted-means.registers
           (omega (arith, size, rd.below_32)) word-has-looked j);
       words = lifted-means.words;
       shares = λ n less p mine. by n less p mine (cases_eq n i);
@@ -685,8 +696,8 @@ module _ (M : ℕ) (o : OpeningValue) (queues : ℕ → Queue) (N : ℕ) (own_of
       share : Share
       share = get_or k.shares i no_share
 
-      f : (i < N) × (is_look queues N own_of H h b (load_width op) i ≡ true)
-      f = found-below N (is_look queues N own_of H h b (load_width op)) i is
+      f : (i < N) × (is_look queues h b (load_width op) i ≡ true)
+      f = found-below N (is_look queues h b (load_width op)) i is
 
       parts : (is_one b ≡ true) × (is_whole (queues i) (party_of (queues i) h) other b.low (load_width op) ≡ true)
       parts = and_parts (is_one b) (is_whole (queues i) (party_of (queues i) h) other b.low (load_width op)) f.1
@@ -713,9 +724,9 @@ module _ (M : ℕ) (o : OpeningValue) (queues : ℕ → Queue) (N : ℕ) (own_of
       lifted-means = means-lifted queues N (own_of h) h ((queues i).capacity - (get_or k.shares i no_share).owned.constant) l.more l.low xs k s m cs means
 
       word-has-looked : Has queues (l.more ∷ xs)
-          (extended_value queues N own_of H h op (looked_word queues N own_of H h i (get_or k.shares i no_share)))
+          (extended_value queues op (looked_word queues h i (get_or k.shares i no_share)))
           (extended op v)
-      word-has-looked = extended-has (l.more ∷ xs) op (looked_word queues N own_of H h i (get_or k.shares i no_share)) v
+      word-has-looked = extended-has (l.more ∷ xs) op (looked_word queues h i (get_or k.shares i no_share)) v
           (subst (λ n. n < 256 ^ load_width op) (sym read) (joined-below (λ i. m (a + i)) (λ i. acts.bytes (a + i)) (load_width op)))
           (subst (λ t. v ≡ index_word (queues i) (form_value
           (plus (plus (lifted (get_or k.shares i no_share).own) (owned_then (get_or k.shares i no_share)))
@@ -771,7 +782,7 @@ module _ (M : ℕ) (o : OpeningValue) (queues : ℕ → Queue) (N : ℕ) (own_of
   said-at i here = ap (λ t. if t then meaning (slice_index s.code (s.pc / 4)) else None) (lt-ltb s.pc (4 * length s.code) here.inside) ∙ here.says
 
   reads-owns : (place : KnownValue) (b : Bounds) (width a : ℕ) → Has queues xs place a → b.low ≤ a → a ≤ b.high
-      → (i : ℕ) (less : i < N) → reads_owned queues N own_of H h k i place b width ≡ true
+      → (i : ℕ) (less : i < N) → reads_owned queues k i place b width ≡ true
       → (p : Party) (mine : h ≡ hart (queues i) p) → OwnsSlotsOf (queues i) p (cs i) a width
   reads-owns place b width a at low high i less ok p mine =
       elim (or_cases (is_apart b width (queues i).slots ((queues i).size * (queues i).width))
@@ -785,22 +796,22 @@ module _ (M : ℕ) (o : OpeningValue) (queues : ℕ → Queue) (N : ℕ) (own_of
       → owns i ≡ true → (p : Party) (mine : h ≡ hart (queues i) p)
       → OwnsSlotsOf (queues i) p (cs i) (address (register_value s.registers rs1) offset) (load_width op)
   load-owns op rd rs1 offset here i less ok p mine = let at = points rs1 offset in
-      reads-owns (address_value queues N own_of H h k rs1 offset) (addresses queues N own_of H h k rs1 offset)
+      reads-owns (address_value queues k rs1 offset) (addresses queues k rs1 offset)
       (load_width op) (address (register_value s.registers rs1) offset) (address-has rs1 offset) at.0 at.1 i less
-      (subst (λ t. loads_owned queues N own_of H h k i t ≡ true) (said-at (Load op rd rs1 offset) here) ok) p mine
+      (subst (λ t. loads_owned queues k i t ≡ true) (said-at (Load op rd rs1 offset) here) ok) p mine
 
   -- it goes on to a state that says what is so after it
   pub load-leads : (op : LoadOp) (rd rs1 : Reg) (offset : ℤ) (t : KnownState) → IsAt s (Load op rd rs1 offset)
       → ((z : HartState) → v ≡ number_seen m (address (register_value s.registers rs1) offset) (load_width op) → z.pc ≡ next_pc k.pc
-      → z.registers ≡ written_at s.registers rd.number (extended op v) → Means queues N (own_of h) h t z m
+      → z.registers ≡ written_at s.registers rd.number (extended op v) → IsNext queues N own_of h xs t z m
       (λ i. after_access (queues i) (party_of (queues i) h) (load (address (register_value s.registers rs1) offset) (load_width op) v) (cs i)))
-      → Goes queues N own_of h owns (t ∷ []) m cs (access_of e) (advanced s v)
+      → Goes queues N own_of h owns xs (t ∷ []) m cs (access_of e) (advanced s v)
   load-leads op rd rs1 offset t here known = access-goes (t ∷ []) (load_width op) (address (register_value s.registers rs1) offset)
       (need.Load (address (register_value s.registers rs1) offset) (load_width op)) (need_at here) (λ needs.
       (let access : access_of e ≡ load (address (register_value s.registers rs1) offset) (load_width op) v =
       access-is (need.Load (address (register_value s.registers rs1) offset) (load_width op)) needs in
-      subst (λ y. Goes queues N own_of h owns (t ∷ []) m cs y (advanced s v)) (sym access)
-      (subst (λ z. Goes queues N own_of h owns (t ∷ []) m cs (load (address (register_value s.registers rs1) offset) (load_width op) v) z)
+      subst (λ y. Goes queues N own_of h owns xs (t ∷ []) m cs y (advanced s v)) (sym access)
+      (subst (λ z. Goes queues N own_of h owns xs (t ∷ []) m cs (load (address (register_value s.registers rs1) offset) (load_width op) v) z)
       (sym (after-at here (need.Load (address (register_value s.registers rs1) offset) (load_width op)) needs tt v)) (record {
         next = λ runs. inl (known (after_instruction s v (Load op rd rs1 offset)) (subst (ReadsFrom m) access acts.reads) (ap next_pc means.pc) refl);
         keeps = λ i less. load-keeps (queues i) (party_of (queues i) h) (cs i) (address (register_value s.registers rs1) offset) (load_width op) v;
@@ -809,38 +820,38 @@ module _ (M : ℕ) (o : OpeningValue) (queues : ℕ → Queue) (N : ℕ) (own_of
       }))))
 
   load-goes : (op : LoadOp) (rd rs1 : Reg) (offset : ℤ) (ks : List KnownState) → IsAt s (Load op rd rs1 offset)
-      → loading queues N own_of H h k op rd.number (addresses queues N own_of H h k rs1 offset) ≡ Some ks
-      → Goes queues N own_of h owns ks m cs (access_of e) (advanced s v)
-  load-goes op rd rs1 offset ks here found = by (last_below N (is_look queues N own_of H h (addresses queues N own_of H h k rs1 offset) (load_width op))) refl
-      (may_load queues N own_of H h k (addresses queues N own_of H h k rs1 offset) (load_width op) _) refl found
+      → loading queues N own_of h k op rd.number (addresses queues k rs1 offset) ≡ Some ks
+      → Goes queues N own_of h owns xs ks m cs (access_of e) (advanced s v)
+  load-goes op rd rs1 offset ks here found = by (last_below N (is_look queues h (addresses queues k rs1 offset) (load_width op))) refl
+      (may_load queues N h k (addresses queues k rs1 offset) (load_width op) _) refl found
     where
-      by : (look : Option ℕ) → last_below N (is_look queues N own_of H h (addresses queues N own_of H h k rs1 offset) (load_width op)) ≡ look
-          → (t : Bool) → may_load queues N own_of H h k (addresses queues N own_of H h k rs1 offset) (load_width op) look ≡ t
-          → (if t then Some (after_load queues N own_of H h k op rd.number (addresses queues N own_of H h k rs1 offset) look ∷ []) else None) ≡ Some ks
-          → Goes queues N own_of h owns ks m cs (access_of e) (advanced s v)
+      by : (look : Option ℕ) → last_below N (is_look queues h (addresses queues k rs1 offset) (load_width op)) ≡ look
+          → (t : Bool) → may_load queues N h k (addresses queues k rs1 offset) (load_width op) look ≡ t
+          → (if t then Some (after_load queues N own_of h k op rd.number (addresses queues k rs1 offset) look ∷ []) else None) ≡ Some ks
+          → Goes queues N own_of h owns xs ks m cs (access_of e) (advanced s v)
       by look is false ok found = absurd (cc)
-      by look is true ok found = subst (λ ts. Goes queues N own_of h owns ts m cs (access_of e) (advanced s v))
-          (let e : after_load queues N own_of H h k op rd.number (addresses queues N own_of H h k rs1 offset) look ∷ [] ≡ ks = cc in e)
-          (load-leads op rd rs1 offset (after_load queues N own_of H h k op rd.number (addresses queues N own_of H h k rs1 offset) look) here
+      by look is true ok found = subst (λ ts. Goes queues N own_of h owns xs ts m cs (access_of e) (advanced s v))
+          (let e : after_load queues N own_of h k op rd.number (addresses queues k rs1 offset) look ∷ [] ≡ ks = cc in e)
+          (load-leads op rd rs1 offset (after_load queues N own_of h k op rd.number (addresses queues k rs1 offset) look) here
           (λ z read at regs. (let p = points rs1 offset in
-          load-known op rd (address (register_value s.registers rs1) offset) (addresses queues N own_of H h k rs1 offset) look z p.0 p.1 read is ok at regs)))
+          load-known op rd (address (register_value s.registers rs1) offset) (addresses queues k rs1 offset) look z p.0 p.1 read is ok at regs)))
 
   -- ---- stores
 
   pub set-share : (ss : List Share) (d : Form) (i : ℕ) → i < length ss
-      → get_or (shares_moved queues N own_of H h ss d (Some i)) i no_share ≡ moved_share (get_or ss i no_share) d
+      → get_or (shares_moved ss d (Some i)) i no_share ≡ moved_share (get_or ss i no_share) d
   set-share ss d i less = get_or-set_same ss i (moved_share (get_or ss i no_share) d) no_share less
 
   pub left-share : (ss : List Share) (d : Form) (move : Option ℕ) (i : ℕ) → is_just move i ≡ false
-      → get_or (shares_moved queues N own_of H h ss d move) i no_share ≡ get_or ss i no_share
+      → get_or (shares_moved ss d move) i no_share ≡ get_or ss i no_share
   left-share ss d None i not = refl
   left-share ss d (Some n) i not = get_or-set_other ss n i (moved_share (get_or ss n no_share) d) no_share (λ same. eqb-false n i not (sym same))
 
   module _ (d : Form) (op : StoreOp) (a x : ℕ) (vx place : KnownValue) (b : Bounds) (move : Option ℕ)
       (at-place : Has queues xs place a) (low : b.low ≤ a) (high : a ≤ b.high) (has-x : Has queues xs vx x)
-      (found : last_below N (is_own_index queues N own_of H h b (store_width op)) ≡ move)
-      (may : all_below N (may_store queues N own_of H h k d vx place b (store_width op) move) ≡ true)
-      (leaves : all_below H (leaves_words queues N own_of H h b (store_width op)) ≡ true)
+      (found : last_below N (is_own_index queues h b (store_width op)) ≡ move)
+      (may : all_below N (may_store queues h k d vx place b (store_width op) move) ≡ true)
+      (leaves : all_below H (leaves_words own_of h b (store_width op)) ≡ true)
       (past : (g : ℕ) → H ≤ g → length (own_of g) ≡ 0) where
     abbrev w : Write
     w = write a (store_width op) (stored op x)
@@ -848,7 +859,7 @@ module _ (M : ℕ) (o : OpeningValue) (queues : ℕ → Queue) (N : ℕ) (own_of
     pub moved-here : (i : ℕ) → is_just move i ≡ true → (p : Party) → h ≡ hart (queues i) p → i < N
         → (b.low ≡ b.high) × (a ≡ index (queues i) p) × (store_width op ≡ (queues i).index_width)
     moved-here i just p mine less =
-        let f = found-below N (is_own_index queues N own_of H h b (store_width op)) i (found ∙ just-is move i just) in
+        let f = found-below N (is_own_index queues h b (store_width op)) i (found ∙ just-is move i just) in
         let parts = and_parts (is_one b) (is_whole (queues i) (party_of (queues i) h) (λ p. p) b.low (store_width op)) f.1 in
         let w = whole-index (queues i) (party_of (queues i) h) (λ p. p) b.low (store_width op) parts.1 in (
           eqb-true b.low b.high parts.0,
@@ -886,15 +897,15 @@ module _ (M : ℕ) (o : OpeningValue) (queues : ℕ → Queue) (N : ℕ) (own_of
 
     pub party-store : (i : ℕ) (less : i < N) (p : Party) (mine : h ≡ hart (queues i) p)
         → Stored (queues i) (fine i less).0 p (cs i) xs (get_or k.shares i no_share) (means.shares i less p mine) w
-        (get_or (shares_moved queues N own_of H h k.shares d move) i no_share)
-    party-store i less p mine = by (is_just move i) refl (at-below N (may_store queues N own_of H h k d vx place b (store_width op) move) may i less)
+        (get_or (shares_moved k.shares d move) i no_share)
+    party-store i less p mine = by (is_just move i) refl (at-below N (may_store queues h k d vx place b (store_width op) move) may i less)
       where
         by : (t : Bool) → is_just move i ≡ t
-            → (if t then may_move queues N own_of H h k d vx i (get_or k.shares i no_share) else
-            (is_off (queues i) b (store_width op) || may_fill queues N own_of H h k (party_of (queues i) h) place
+            → (if t then may_move queues k d vx i (get_or k.shares i no_share) else
+            (is_off (queues i) b (store_width op) || may_fill queues k (party_of (queues i) h) place
             (store_width op) i)) ≡ true
             → Stored (queues i) (fine i less).0 p (cs i) xs (get_or k.shares i no_share)
-            (means.shares i less p mine) w (get_or (shares_moved queues N own_of H h k.shares d move) i no_share)
+            (means.shares i less p mine) w (get_or (shares_moved k.shares d move) i no_share)
         by true just ok =
             let here = moved-here i just p mine less in
             let p1 = and_parts
@@ -917,7 +928,7 @@ module _ (M : ℕ) (o : OpeningValue) (queues : ℕ → Queue) (N : ℕ) (own_of
             (λ n is. value-below k.ranges d xs n means.ranges is) in
             let one : 1 ≤ (queues i).modulus = (fine i less).0.words in
             subst (λ j. Stored (queues i) (fine i less).0 p (cs i) xs (get_or k.shares i no_share)
-            (means.shares i less p mine) w (get_or (shares_moved queues N own_of H h k.shares d j) i no_share))
+            (means.shares i less p mine) w (get_or (shares_moved k.shares d j) i no_share))
             (sym (just-is move i just))
             (subst (Stored (queues i) (fine i less).0 p (cs i) xs (get_or k.shares i no_share) (means.shares i less p mine) w)
             (sym (set-share k.shares d i (ltb-true i (length k.shares) p1.1)))
@@ -927,10 +938,10 @@ module _ (M : ℕ) (o : OpeningValue) (queues : ℕ → Queue) (N : ℕ) (own_of
             (omega (arith, most-d, one))))
         by false other ok = subst (Stored (queues i) (fine i less).0 p (cs i) xs (get_or k.shares i no_share) (means.shares i less p mine) w)
             (sym (left-share k.shares d move i other))
-            (elim (or_cases (is_off (queues i) b (store_width op)) (may_fill queues N own_of H h k (party_of (queues i) h) place (store_width op) i) ok) [
+            (elim (or_cases (is_off (queues i) b (store_width op)) (may_fill queues k (party_of (queues i) h) place (store_width op) i) ok) [
               | inl off ↦ stays-off (queues i) (fine i less).0 p (cs i) xs (get_or k.shares i no_share)
                   (means.shares i less p mine) w (keeps-off (queues i) b (store_width op) a (stored op x) off low high)
-              | inr fill ↦ filled (subst (λ t. may_fill queues N own_of H h k t place (store_width op) i ≡ true)
+              | inr fill ↦ filled (subst (λ t. may_fill queues k t place (store_width op) i ≡ true)
                   (hart-party (queues i) (fine i less).0 h p mine) fill)
             ])
           where
@@ -946,22 +957,22 @@ module _ (M : ℕ) (o : OpeningValue) (queues : ℕ → Queue) (N : ℕ) (own_of
         by : Whose (queues i).sender (queues i).receiver h → KeepsAccess (queues i) (party_of (queues i) h) (cs i) (store w)
         by (is_party r at of) = subst (λ t. KeepsAccess (queues i) t (cs i) (store w)) (sym of) (party-store i less r at).may
         by (is_third far none) = subst (λ t. KeepsAccess (queues i) t (cs i) (store w)) (sym none)
-            (at (is_just move i) refl (at-below N (may_store queues N own_of H h k d vx place b (store_width op) move) may i less))
+            (at (is_just move i) refl (at-below N (may_store queues h k d vx place b (store_width op) move) may i less))
           where
             at : (t : Bool) → is_just move i ≡ t
-                → (if t then may_move queues N own_of H h k d vx i (get_or k.shares i no_share) else
-                (is_off (queues i) b (store_width op) || may_fill queues N own_of H h k (party_of (queues i) h)
+                → (if t then may_move queues k d vx i (get_or k.shares i no_share) else
+                (is_off (queues i) b (store_width op) || may_fill queues k (party_of (queues i) h)
                 place (store_width op) i)) ≡ true
                 → KeepsOff (queues i) w
             at true just ok = absurd (
-                let f = found-below N (is_own_index queues N own_of H h b (store_width op)) i (found ∙ just-is move i just) in
+                let f = found-below N (is_own_index queues h b (store_width op)) i (found ∙ just-is move i just) in
                 let parts = and_parts (is_one b) (is_whole (queues i) (party_of (queues i) h) (λ p. p) b.low (store_width op)) f.1 in
                 let w = whole-index (queues i) (party_of (queues i) h) (λ p. p) b.low (store_width op) parts.1 in
                 far w.party (party-hart (queues i) (fine i less).0 h w.party w.is))
             at false other ok = elim (or_cases (is_off (queues i) b (store_width op))
-                (may_fill queues N own_of H h k (party_of (queues i) h) place (store_width op) i) ok) [
+                (may_fill queues k (party_of (queues i) h) place (store_width op) i) ok) [
                   | inl off ↦ keeps-off (queues i) b (store_width op) a (stored op x) off low high
-                  | inr fill ↦ absurd (let no : false ≡ true = subst (λ t. may_fill queues N own_of H h k t place (store_width op) i ≡ true) none fill in cc)
+                  | inr fill ↦ absurd (let no : false ≡ true = subst (λ t. may_fill queues k t place (store_width op) i ≡ true) none fill in cc)
                 ]
 
     store-apart : (g y : ℕ) → g ≢ h → (j : ℕ) → j < length (own_of g) → slice_index (own_of g) j ≤ y → y < slice_index (own_of g) j + 4 → covers w y ≡ false
@@ -969,7 +980,7 @@ module _ (M : ℕ) (o : OpeningValue) (queues : ℕ → Queue) (N : ℕ) (own_of
       | inr beyond ↦ absurd (let none : length (own_of g) ≡ 0 = past g beyond in omega (arith, none, less))
       | inl listed ↦ elim (or_cases (g == h)
           (all_below (length (own_of g)) (λ j. is_apart b (store_width op) (slice_index (own_of g) j) 4))
-          (at-below H (leaves_words queues N own_of H h b (store_width op)) leaves g listed)) [
+          (at-below H (leaves_words own_of h b (store_width op)) leaves g listed)) [
             | inl same ↦ absurd (far (eqb-true g h same))
             | inr all ↦ apart-from b (store_width op) a (slice_index (own_of g) j) 4 y (stored op x)
                 (at-below (length (own_of g)) (λ j. is_apart b (store_width op) (slice_index (own_of g) j) 4) all j less)
@@ -978,12 +989,12 @@ module _ (M : ℕ) (o : OpeningValue) (queues : ℕ → Queue) (N : ℕ) (own_of
     ]
 
     word-then : (own v : ℕ) (u : KnownValue) → Has queues xs u (number_seen m own 4)
-        → Has queues xs (word_then queues N own_of H h b (store_width op) vx own u)
+        → Has queues xs (word_then N b (store_width op) vx own u)
         (number_seen (view_then (store w) m) own 4)
     word-then own v u has = by (is_apart b (store_width op) own 4) refl
       where
         at : (t : Bool) → (is_one b && (b.low == own) && (store_width op == 4)) ≡ t
-            → Has queues xs (if t then storable queues N own_of H h vx else any)
+            → Has queues xs (if t then storable N vx else any)
             (number_seen (view_then (store w) m) own 4)
         at false other = tt
         at true ok =
@@ -999,7 +1010,7 @@ module _ (M : ℕ) (o : OpeningValue) (queues : ℕ → Queue) (N : ℕ) (own_of
 
         by : (t : Bool) → is_apart b (store_width op) own 4 ≡ t
             → Has queues xs (if t then u else
-            (if is_one b && (b.low == own) && (store_width op == 4) then storable queues N own_of H h vx else any))
+            (if is_one b && (b.low == own) && (store_width op == 4) then storable N vx else any))
             (number_seen (view_then (store w) m) own 4)
         by true off = subst (Has queues xs u) (sym (left-number m w own
             (λ y from to. apart-from b (store_width op) a own 4 y (stored op x) off low high from to))) has
@@ -1007,7 +1018,7 @@ module _ (M : ℕ) (o : OpeningValue) (queues : ℕ → Queue) (N : ℕ) (own_of
 
     words-then : (own : List ℕ) (us : List KnownValue) → ((j : ℕ) → j < length own → Has queues xs (get_or us j any) (number_seen m (slice_index own j) 4))
         → (j : ℕ) → j < length own
-        → Has queues xs (get_or (words_then queues N own_of H h b (store_width op) vx own us) j any)
+        → Has queues xs (get_or (words_then N b (store_width op) vx own us) j any)
         (number_seen (view_then (store w) m) (slice_index own j) 4)
     words-then [] us all j less = absurd (omega (arith, less))
     words-then (n ∷ own) [] all j less = tt
@@ -1015,13 +1026,13 @@ module _ (M : ℕ) (o : OpeningValue) (queues : ℕ → Queue) (N : ℕ) (own_of
     words-then (n ∷ own) (u ∷ us) all (suc j) less = words-then own us (λ j less. all (suc j) (omega (arith, less))) j (omega (arith, less))
 
     store-means : (z : HartState) → z.pc ≡ next_pc k.pc → z.registers ≡ s.registers
-        → Means queues N (own_of h) h (after_store queues N own_of H h k d (store_width op) vx b move) z
+        → IsNext queues N own_of h xs (after_store N own_of h k d (store_width op) vx b move) z
         (view_then (store w) m) (λ i. after_access (queues i) (party_of (queues i) h) (store w) (cs i))
     store-means z at regs = (
-      0 ∷ xs,
+      0,
       means-going queues N (own_of h) h xs (record k {
-        words = words_then queues N own_of H h b (store_width op) vx (own_of h) k.words;
-        shares = shares_moved queues N own_of H h k.shares d move;
+        words = words_then N b (store_width op) vx (own_of h) k.words;
+        shares = shares_moved k.shares d move;
       })
           s z (view_then (store w) m) (λ i. after_access (queues i) (party_of (queues i) h) (store w) (cs i)) (next_pc k.pc) (record {
             ranges = means.ranges;
@@ -1030,7 +1041,7 @@ module _ (M : ℕ) (o : OpeningValue) (queues : ℕ → Queue) (N : ℕ) (own_of
             words = λ j less. words-then (own_of h) k.words means.words j less;
             shares =
                 λ i less p mine. subst (λ t. HasShare (queues i) p (after_access (queues i) t (store w) (cs i)) xs
-                (get_or (shares_moved queues N own_of H h k.shares d move) i no_share))
+                (get_or (shares_moved k.shares d move) i no_share))
                 (sym (hart-party (queues i) (fine i less).0 h p mine)) (party-store i less p mine).share;
           }) at regs,
     )
@@ -1038,54 +1049,54 @@ module _ (M : ℕ) (o : OpeningValue) (queues : ℕ → Queue) (N : ℕ) (own_of
   store-goes : (past : (g : ℕ) → H ≤ g → length (own_of g) ≡ 0) (d : Form) (op : StoreOp) (rs1 rs2 : Reg)
       (offset : ℤ) (ks : List KnownState) → IsAt s (Store op rs1 rs2 offset)
       → storing queues N own_of H h k d (store_width op) (register_at k rs2)
-      (address_value queues N own_of H h k rs1 offset) (addresses queues N own_of H h k rs1 offset) ≡ Some ks
-      → Goes queues N own_of h owns ks m cs (access_of e) (advanced s v)
+      (address_value queues k rs1 offset) (addresses queues k rs1 offset) ≡ Some ks
+      → Goes queues N own_of h owns xs ks m cs (access_of e) (advanced s v)
   store-goes past d op rs1 rs2 offset ks here found =
-      by (last_below N (is_own_index queues N own_of H h (addresses queues N own_of H h k rs1 offset) (store_width op)))
+      by (last_below N (is_own_index queues h (addresses queues k rs1 offset) (store_width op)))
       refl _ refl found
     where
-      by : (move : Option ℕ) → last_below N (is_own_index queues N own_of H h (addresses queues N own_of H h k rs1 offset) (store_width op)) ≡ move
+      by : (move : Option ℕ) → last_below N (is_own_index queues h (addresses queues k rs1 offset) (store_width op)) ≡ move
           → (t : Bool) → (all_below N
-          (may_store queues N own_of H h k d (register_at k rs2) (address_value queues N own_of H h k rs1 offset)
-          (addresses queues N own_of H h k rs1 offset) (store_width op) move)
-          && all_below H (leaves_words queues N own_of H h (addresses queues N own_of H h k rs1 offset) (store_width op))) ≡ t
-          → (if t then Some (after_store queues N own_of H h k d (store_width op) (register_at k rs2)
-          (addresses queues N own_of H h k rs1 offset) move ∷ []) else None) ≡ Some ks
-          → Goes queues N own_of h owns ks m cs (access_of e) (advanced s v)
+          (may_store queues h k d (register_at k rs2) (address_value queues k rs1 offset)
+          (addresses queues k rs1 offset) (store_width op) move)
+          && all_below H (leaves_words own_of h (addresses queues k rs1 offset) (store_width op))) ≡ t
+          → (if t then Some (after_store N own_of h k d (store_width op) (register_at k rs2)
+          (addresses queues k rs1 offset) move ∷ []) else None) ≡ Some ks
+          → Goes queues N own_of h owns xs ks m cs (access_of e) (advanced s v)
       by move is false ok found = absurd (cc)
       by move is true ok found = access-goes ks (store_width op) (address (register_value s.registers rs1) offset)
           (need.Store (address (register_value s.registers rs1) offset) (store_width op) (stored op (register_value s.registers rs2))) (need_at here) (λ needs.
           (let n : Need = need.Store (address (register_value s.registers rs1) offset) (store_width op) (stored op (register_value s.registers rs2)) in
           let p = points rs1 offset in
           let checks = and_parts (all_below N
-          (may_store queues N own_of H h k d (register_at k rs2) (address_value queues N own_of H h k rs1 offset)
-          (addresses queues N own_of H h k rs1 offset) (store_width op) move))
-          (all_below H (leaves_words queues N own_of H h (addresses queues N own_of H h k rs1 offset) (store_width op))) ok in
-          subst (λ y. Goes queues N own_of h owns ks m cs y (advanced s v)) (sym (access-is n needs))
-          (subst (λ z. Goes queues N own_of h owns ks m cs
+          (may_store queues h k d (register_at k rs2) (address_value queues k rs1 offset)
+          (addresses queues k rs1 offset) (store_width op) move))
+          (all_below H (leaves_words own_of h (addresses queues k rs1 offset) (store_width op))) ok in
+          subst (λ y. Goes queues N own_of h owns xs ks m cs y (advanced s v)) (sym (access-is n needs))
+          (subst (λ z. Goes queues N own_of h owns xs ks m cs
           (store (write (address (register_value s.registers rs1) offset) (store_width op)
           (stored op (register_value s.registers rs2)))) z)
           (sym (after-at here n needs tt v)) (record {
-            next = λ runs. subst (λ ts. IsAmong queues N own_of h ts (after_instruction s v (Store op rs1 rs2 offset))
+            next = λ runs. subst (λ ts. IsAmong queues N own_of h xs ts (after_instruction s v (Store op rs1 rs2 offset))
                 (view_then (store (write (address (register_value s.registers rs1) offset) (store_width op) (stored op (register_value s.registers rs2)))) m)
                 (λ i. after_access (queues i) (party_of (queues i) h)
                 (store (write (address (register_value s.registers rs1) offset) (store_width op)
                 (stored op (register_value s.registers rs2)))) (cs i)))
-                (let e : after_store queues N own_of H h k d (store_width op) (register_at k rs2)
-                (addresses queues N own_of H h k rs1 offset) move ∷ [] ≡ ks =
+                (let e : after_store N own_of h k d (store_width op) (register_at k rs2)
+                (addresses queues k rs1 offset) move ∷ [] ≡ ks =
                 cc in
                 e)
                 (inl (store-means d op (address (register_value s.registers rs1) offset)
                 (register_value s.registers rs2) (register_at k rs2)
-                (address_value queues N own_of H h k rs1 offset) (addresses queues N own_of H h k rs1 offset) move (address-has rs1 offset) p.0 p.1
+                (address_value queues k rs1 offset) (addresses queues k rs1 offset) move (address-has rs1 offset) p.0 p.1
                 (register-has rs2) is checks.0 checks.1 past (after_instruction s v (Store op rs1 rs2 offset)) (ap next_pc means.pc) refl));
             keeps = store-keeps d op (address (register_value s.registers rs1) offset)
-                (register_value s.registers rs2) (register_at k rs2) (address_value queues N own_of H h k rs1 offset)
-                (addresses queues N own_of H h k rs1 offset) move (address-has rs1 offset) p.0 p.1
+                (register_value s.registers rs2) (register_at k rs2) (address_value queues k rs1 offset)
+                (addresses queues k rs1 offset) move (address-has rs1 offset) p.0 p.1
                 (register-has rs2) is checks.0 checks.1 past;
             apart = store-apart d op (address (register_value s.registers rs1) offset)
-                (register_value s.registers rs2) (register_at k rs2) (address_value queues N own_of H h k rs1 offset)
-                (addresses queues N own_of H h k rs1 offset) move (address-has rs1 offset) p.0 p.1
+                (register_value s.registers rs2) (register_at k rs2) (address_value queues k rs1 offset)
+                (addresses queues k rs1 offset) move (address-has rs1 offset) p.0 p.1
                 (register-has rs2) is checks.0 checks.1 past;
             loads = λ i less ok p mine. tt;
           }))))
@@ -1106,7 +1117,7 @@ module _ (M : ℕ) (o : OpeningValue) (queues : ℕ → Queue) (N : ℕ) (own_of
       may)
 
   pub updated-has : (op : AmoOp) (u w : KnownValue) (old x : ℕ) → Has queues xs u old → Has queues xs w x
-      → Has queues xs (updated_value queues N own_of H h k.ranges op u w) (updated op old x)
+      → Has queues xs (updated_value queues k.ranges op u w) (updated op old x)
   updated-has amo.Swap u w old x one two = two
   updated-has amo.Add u w old x one two = sum-has queues xs (plain queues k.ranges u) (plain queues k.ranges w) old
       x (has-plain queues k.ranges xs means.ranges u old one) (has-plain queues k.ranges xs means.ranges w x two)
@@ -1120,10 +1131,10 @@ module _ (M : ℕ) (o : OpeningValue) (queues : ℕ → Queue) (N : ℕ) (own_of
 
   amo-goes : (past : (g : ℕ) → H ≤ g → length (own_of g) ≡ 0) (d : Form) (op : AmoOp) (rd rs1 rs2 : Reg)
       (aq rl : Bool) (ks : List KnownState) → IsAt s (Amo op rd rs1 rs2 aq rl)
-      → exchanging queues N own_of H h k d op rd.number (register_at k rs2) (operand queues N own_of H h k rs1)
-      (bounds k.ranges (operand queues N own_of H h k rs1)) ≡ Some ks
-      → Goes queues N own_of h owns ks m cs (access_of e) (advanced s v)
-  amo-goes past d op rd rs1 rs2 aq rl ks here found = by (bounds k.ranges (operand queues N own_of H h k rs1)) refl found
+      → exchanging queues N own_of H h k d op rd.number (register_at k rs2) (operand queues k rs1)
+      (bounds k.ranges (operand queues k rs1)) ≡ Some ks
+      → Goes queues N own_of h owns xs ks m cs (access_of e) (advanced s v)
+  amo-goes past d op rd rs1 rs2 aq rl ks here found = by (bounds k.ranges (operand queues k rs1)) refl found
     where
       a : ℕ
       a = register_value s.registers rs1
@@ -1132,53 +1143,53 @@ module _ (M : ℕ) (o : OpeningValue) (queues : ℕ → Queue) (N : ℕ) (own_of
       with' = register_value s.registers rs2
 
       vx : Bounds → KnownValue
-      vx b = updated_value queues N own_of H h k.ranges op (value_loaded queues N own_of H h k b 4) (register_at k rs2)
+      vx b = updated_value queues k.ranges op (value_loaded queues N own_of h k b 4) (register_at k rs2)
 
-      go : (b : Bounds) → bounds k.ranges (operand queues N own_of H h k rs1) ≡ Some b → (move : Option ℕ)
-          → last_below N (is_own_index queues N own_of H h b 4) ≡ move
-          → (t : Bool) → (all_below N (may_store queues N own_of H h k d
-          (updated_value queues N own_of H h k.ranges op (value_loaded queues N own_of H h k b 4)
-          (register_at k rs2)) (operand queues N own_of H h k rs1) b 4 move)
-          && all_below H (leaves_words queues N own_of H h b 4) && all_below N (λ i. misses (queues i) (party_of (queues i) h) b 4)) ≡ t
-          → (if t then Some (after_exchange queues N own_of H h k d rd.number
-          (updated_value queues N own_of H h k.ranges op (value_loaded queues N own_of H h k b 4)
+      go : (b : Bounds) → bounds k.ranges (operand queues k rs1) ≡ Some b → (move : Option ℕ)
+          → last_below N (is_own_index queues h b 4) ≡ move
+          → (t : Bool) → (all_below N (may_store queues h k d
+          (updated_value queues k.ranges op (value_loaded queues N own_of h k b 4)
+          (register_at k rs2)) (operand queues k rs1) b 4 move)
+          && all_below H (leaves_words own_of h b 4) && all_below N (λ i. misses (queues i) (party_of (queues i) h) b 4)) ≡ t
+          → (if t then Some (after_exchange queues N own_of h k d rd.number
+          (updated_value queues k.ranges op (value_loaded queues N own_of h k b 4)
           (register_at k rs2)) b move ∷ []) else None) ≡ Some ks
-          → Goes queues N own_of h owns ks m cs (access_of e) (advanced s v)
+          → Goes queues N own_of h owns xs ks m cs (access_of e) (advanced s v)
       go b is move at false ok found = absurd (cc)
       go b is move at true ok found = access-goes ks 4 (register_value s.registers rs1)
           (need.Amo (register_value s.registers rs1) op (register_value s.registers rs2)) (need_at here) (λ needs.
-          (let p = has-bounds queues k.ranges xs (operand queues N own_of H h k rs1) (register_value s.registers rs1) b means.ranges is (operand-has rs1) in
+          (let p = has-bounds queues k.ranges xs (operand queues k rs1) (register_value s.registers rs1) b means.ranges is (operand-has rs1) in
           let n : Need = need.Amo (register_value s.registers rs1) op (register_value s.registers rs2) in
           let new : ℕ = updated op v (register_value s.registers rs2) in
           let access : access_of e ≡ exchange (register_value s.registers rs1) v (updated op v (register_value s.registers rs2)) = access-is n needs in
           let read : v ≡ number_seen m (register_value s.registers rs1) 4 = subst (ReadsFrom m) access acts.reads in
-          let u : KnownValue = value_loaded queues N own_of H h k b 4 in
-          let loaded : Has queues xs (value_loaded queues N own_of H h k b 4) v = value-loaded b 4 (register_value s.registers rs1) v p.0 p.1 read in
-          let written-value : KnownValue = updated_value queues N own_of H h k.ranges op (value_loaded queues N own_of H h k b 4) (register_at k rs2) in
+          let u : KnownValue = value_loaded queues N own_of h k b 4 in
+          let loaded : Has queues xs (value_loaded queues N own_of h k b 4) v = value-loaded b 4 (register_value s.registers rs1) v p.0 p.1 read in
+          let written-value : KnownValue = updated_value queues k.ranges op (value_loaded queues N own_of h k b 4) (register_at k rs2) in
           let has-new : Has queues xs
-          (updated_value queues N own_of H h k.ranges op (value_loaded queues N own_of H h k b 4)
+          (updated_value queues k.ranges op (value_loaded queues N own_of h k b 4)
           (register_at k rs2)) (updated op v (register_value s.registers rs2)) =
-          updated-has op (value_loaded queues N own_of H h k b 4) (register_at k rs2) v (register_value s.registers rs2) loaded (register-has rs2) in
-          let c2 = and_parts (all_below N (may_store queues N own_of H h k d
-          (updated_value queues N own_of H h k.ranges op (value_loaded queues N own_of H h k b 4)
-          (register_at k rs2)) (operand queues N own_of H h k rs1) b 4 move)
-          && all_below H (leaves_words queues N own_of H h b 4)) (all_below N (λ i. misses (queues i) (party_of (queues i) h) b 4)) ok in
-          let c1 = and_parts (all_below N (may_store queues N own_of H h k d
-          (updated_value queues N own_of H h k.ranges op (value_loaded queues N own_of H h k b 4)
-          (register_at k rs2)) (operand queues N own_of H h k rs1) b 4 move))
-          (all_below H (leaves_words queues N own_of H h b 4)) c2.0 in
+          updated-has op (value_loaded queues N own_of h k b 4) (register_at k rs2) v (register_value s.registers rs2) loaded (register-has rs2) in
+          let c2 = and_parts (all_below N (may_store queues h k d
+          (updated_value queues k.ranges op (value_loaded queues N own_of h k b 4)
+          (register_at k rs2)) (operand queues k rs1) b 4 move)
+          && all_below H (leaves_words own_of h b 4)) (all_below N (λ i. misses (queues i) (party_of (queues i) h) b 4)) ok in
+          let c1 = and_parts (all_below N (may_store queues h k d
+          (updated_value queues k.ranges op (value_loaded queues N own_of h k b 4)
+          (register_at k rs2)) (operand queues k rs1) b 4 move))
+          (all_below H (leaves_words own_of h b 4)) c2.0 in
           let off : (i : ℕ) → i < N → misses (queues i) (party_of (queues i) h) b 4 ≡ true =
           λ i less. at-below N (λ i. misses (queues i) (party_of (queues i) h) b 4) c2.1 i less in
-          subst (λ y. Goes queues N own_of h owns ks m cs y (advanced s v)) (sym access)
-          (subst (λ z. Goes queues N own_of h owns ks m cs
+          subst (λ y. Goes queues N own_of h owns xs ks m cs y (advanced s v)) (sym access)
+          (subst (λ z. Goes queues N own_of h owns xs ks m cs
           (exchange (register_value s.registers rs1) v (updated op v (register_value s.registers rs2))) z)
           (sym (after-at here n needs tt v)) (record {
-            next = λ runs. subst (λ ts. IsAmong queues N own_of h ts (after_instruction s v (Amo op rd rs1 rs2 aq rl))
+            next = λ runs. subst (λ ts. IsAmong queues N own_of h xs ts (after_instruction s v (Amo op rd rs1 rs2 aq rl))
                 (view_then (exchange (register_value s.registers rs1) v (updated op v (register_value s.registers rs2))) m)
                 (λ i. after_access (queues i) (party_of (queues i) h) (exchange (register_value s.registers rs1) v
                 (updated op v (register_value s.registers rs2))) (cs i)))
-                (let e : after_exchange queues N own_of H h k d rd.number
-                (updated_value queues N own_of H h k.ranges op (value_loaded queues N own_of H h k b 4)
+                (let e : after_exchange queues N own_of h k d rd.number
+                (updated_value queues k.ranges op (value_loaded queues N own_of h k b 4)
                 (register_at k rs2)) b move ∷ [] ≡ ks =
                 cc in
                 e)
@@ -1186,47 +1197,47 @@ module _ (M : ℕ) (o : OpeningValue) (queues : ℕ → Queue) (N : ℕ) (own_of
             keeps = λ i less. exchange-keeps (queues i) (party_of (queues i) h) b (register_value s.registers rs1) v
                 (updated op v (register_value s.registers rs2)) (cs i) (off i less) p.0 p.1
                 (store-keeps d store_op.Word (register_value s.registers rs1) (updated op v (register_value s.registers rs2))
-                (updated_value queues N own_of H h k.ranges op (value_loaded queues N own_of H h k b 4)
-                (register_at k rs2)) (operand queues N own_of H h k rs1) b move (operand-has rs1) p.0 p.1 has-new
+                (updated_value queues k.ranges op (value_loaded queues N own_of h k b 4)
+                (register_at k rs2)) (operand queues k rs1) b move (operand-has rs1) p.0 p.1 has-new
                 at c1.0 c1.1 past i less);
             apart = λ g y far j less from to. inr (store-apart d store_op.Word (register_value s.registers rs1) (updated op v (register_value s.registers rs2))
-                (updated_value queues N own_of H h k.ranges op (value_loaded queues N own_of H h k b 4)
-                (register_at k rs2)) (operand queues N own_of H h k rs1) b move (operand-has rs1) p.0 p.1 has-new
+                (updated_value queues k.ranges op (value_loaded queues N own_of h k b 4)
+                (register_at k rs2)) (operand queues k rs1) b move (operand-has rs1) p.0 p.1 has-new
                 at c1.0 c1.1 past g y far j less from to);
-            loads = λ i less own p-of mine. reads-owns (operand queues N own_of H h k rs1) b 4 (register_value s.registers rs1) (operand-has rs1) p.0 p.1 i less
-                (subst (λ z. reads_owned queues N own_of H h k i (operand queues N own_of H h k rs1) (anywhere z) 4 ≡ true) is
-                (subst (λ t. loads_owned queues N own_of H h k i t ≡ true) (said-at (Amo op rd rs1 rs2 aq rl) here) own)) p-of mine;
+            loads = λ i less own p-of mine. reads-owns (operand queues k rs1) b 4 (register_value s.registers rs1) (operand-has rs1) p.0 p.1 i less
+                (subst (λ z. reads_owned queues k i (operand queues k rs1) (anywhere z) 4 ≡ true) is
+                (subst (λ t. loads_owned queues k i t ≡ true) (said-at (Amo op rd rs1 rs2 aq rl) here) own)) p-of mine;
           }))))
         where
           exchange-means : (b : Bounds) (move : Option ℕ)
-              → bounds k.ranges (operand queues N own_of H h k rs1) ≡ Some b
-              → last_below N (is_own_index queues N own_of H h b 4) ≡ move
-              → b.low ≤ register_value s.registers rs1 → register_value s.registers rs1 ≤ b.high → Has queues xs (value_loaded queues N own_of H h k b 4) v
+              → bounds k.ranges (operand queues k rs1) ≡ Some b
+              → last_below N (is_own_index queues h b 4) ≡ move
+              → b.low ≤ register_value s.registers rs1 → register_value s.registers rs1 ≤ b.high → Has queues xs (value_loaded queues N own_of h k b 4) v
               → Has queues xs
-              (updated_value queues N own_of H h k.ranges op (value_loaded queues N own_of H h k b 4)
+              (updated_value queues k.ranges op (value_loaded queues N own_of h k b 4)
               (register_at k rs2)) (updated op v (register_value s.registers rs2))
-              → all_below N (may_store queues N own_of H h k d
-              (updated_value queues N own_of H h k.ranges op (value_loaded queues N own_of H h k b 4)
-              (register_at k rs2)) (operand queues N own_of H h k rs1) b 4 move) ≡ true
-              → all_below H (leaves_words queues N own_of H h b 4) ≡ true
+              → all_below N (may_store queues h k d
+              (updated_value queues k.ranges op (value_loaded queues N own_of h k b 4)
+              (register_at k rs2)) (operand queues k rs1) b 4 move) ≡ true
+              → all_below H (leaves_words own_of h b 4) ≡ true
               → ((i : ℕ) → i < N → misses (queues i) (party_of (queues i) h) b 4 ≡ true)
-              → Means queues N (own_of h) h (after_exchange queues N own_of H h k d rd.number
-              (updated_value queues N own_of H h k.ranges op (value_loaded queues N own_of H h k b 4)
+              → IsNext queues N own_of h xs (after_exchange queues N own_of h k d rd.number
+              (updated_value queues k.ranges op (value_loaded queues N own_of h k b 4)
               (register_at k rs2)) b move)
               (after_instruction s v (Amo op rd rs1 rs2 aq rl)) (view_then
               (store (write (register_value s.registers rs1) 4 (updated op v (register_value s.registers rs2)))) m)
               (λ i. after_access (queues i) (party_of (queues i) h)
               (exchange (register_value s.registers rs1) v (updated op v (register_value s.registers rs2))) (cs i))
           exchange-means b move is at low high loaded has-new may leaves off =
-              let g = just-gives queues xs (value_loaded queues N own_of H h k b 4) v loaded in
-              let r : Result = just (value_loaded queues N own_of H h k b 4) in
-              let vx : KnownValue = updated_value queues N own_of H h k.ranges op (value_loaded queues N own_of H h k b 4) (register_at k rs2) in
+              let g = just-gives queues xs (value_loaded queues N own_of h k b 4) v loaded in
+              let r : Result = just (value_loaded queues N own_of h k b 4) in
+              let vx : KnownValue = updated_value queues k.ranges op (value_loaded queues N own_of h k b 4) (register_at k rs2) in
               let a : ℕ = register_value s.registers rs1 in
               let new : ℕ = updated op v (register_value s.registers rs2) in (
-                g.0 ∷ xs,
+                g.0,
                 means-result queues N (own_of h) h xs (record k {
-                  words = words_then queues N own_of H h b 4 vx (own_of h) k.words;
-                  shares = shares_moved queues N own_of H h k.shares d move;
+                  words = words_then N b 4 vx (own_of h) k.words;
+                  shares = shares_moved k.shares d move;
                 })
                     s (after_instruction s v (Amo op rd rs1 rs2 aq rl)) (view_then (store (write a 4 new)) m)
                     (λ i. after_access (queues i) (party_of (queues i) h) (exchange a v new) (cs i))
@@ -1235,57 +1246,57 @@ module _ (M : ℕ) (o : OpeningValue) (queues : ℕ → Queue) (N : ℕ) (own_of
                       pc = means.pc;
                       registers = means.registers;
                       words =
-                          λ j less. words-then d store_op.Word a new vx (operand queues N own_of H h k rs1) b move
+                          λ j less. words-then d store_op.Word a new vx (operand queues k rs1) b move
                           (operand-has rs1) low high has-new at may leaves past (own_of h) k.words means.words j less;
-                      shares = λ i less p mine. subst (λ c. HasShare (queues i) p c xs (get_or (shares_moved queues N own_of H h k.shares d move) i no_share))
+                      shares = λ i less p mine. subst (λ c. HasShare (queues i) p c xs (get_or (shares_moved k.shares d move) i no_share))
                           (sym (exchange-counts (queues i) (party_of (queues i) h) b a v new (cs i) (off i less) low high))
                           (subst
                           (λ t. HasShare (queues i) p (after_access (queues i) t (store (write a 4 new)) (cs i)) xs
-                          (get_or (shares_moved queues N own_of H h k.shares d move) i no_share))
+                          (get_or (shares_moved k.shares d move) i no_share))
                           (sym (hart-party (queues i) (fine i less).0 h p mine))
-                          (party-store d store_op.Word a new vx (operand queues N own_of H h k rs1) b move
+                          (party-store d store_op.Word a new vx (operand queues k rs1) b move
                           (operand-has rs1) low high has-new at may leaves past i less p mine).share);
                     }) (omega (arith, size, rd.below_32)) g.0 g.1 g.2 (ap next_pc means.pc) refl,
               )
 
-      by : (o : Option Bounds) → bounds k.ranges (operand queues N own_of H h k rs1) ≡ o
-          → exchanging queues N own_of H h k d op rd.number (register_at k rs2) (operand queues N own_of H h k rs1)
-          o ≡ Some ks → Goes queues N own_of h owns ks m cs (access_of e) (advanced s v)
+      by : (o : Option Bounds) → bounds k.ranges (operand queues k rs1) ≡ o
+          → exchanging queues N own_of H h k d op rd.number (register_at k rs2) (operand queues k rs1)
+          o ≡ Some ks → Goes queues N own_of h owns xs ks m cs (access_of e) (advanced s v)
       by None is found = absurd (cc)
-      by (Some b) is found = go b is (last_below N (is_own_index queues N own_of H h b 4)) refl _ refl found
+      by (Some b) is found = go b is (last_below N (is_own_index queues h b 4)) refl _ refl found
 
   -- ---- any instruction
 
   exact-goes : (ks : List KnownState) (i : Instr) (rd : Reg) (pc x : ℕ) (r : Result) → Gives queues xs r x → (after_instruction s v i).pc ≡ pc
       → (after_instruction s v i).registers ≡ written_at s.registers rd.number x
       → ◌≡◌ {A = Option (List KnownState)} (Some (with_result k rd.number pc r ∷ [])) (Some ks)
-      → IsAmong queues N own_of h ks (after_instruction s v i) m cs
-  exact-goes ks i rd pc x r gives at regs is = subst (λ ts. IsAmong queues N own_of h ts (after_instruction s v i) m cs)
+      → IsAmong queues N own_of h xs ks (after_instruction s v i) m cs
+  exact-goes ks i rd pc x r gives at regs is = subst (λ ts. IsAmong queues N own_of h xs ts (after_instruction s v i) m cs)
       (let e : with_result k rd.number pc r ∷ [] ≡ ks = cc in e) (result-means rd pc x r (after_instruction s v i) gives at regs)
 
   going-goes : (ks : List KnownState) (i : Instr) (pc : ℕ) → (after_instruction s v i).pc ≡ pc → (after_instruction s v i).registers ≡ s.registers
-      → ◌≡◌ {A = Option (List KnownState)} (Some (going_to k pc ∷ [])) (Some ks) → IsAmong queues N own_of h ks (after_instruction s v i) m cs
-  going-goes ks i pc at regs is = subst (λ ts. IsAmong queues N own_of h ts (after_instruction s v i) m cs)
+      → ◌≡◌ {A = Option (List KnownState)} (Some (going_to k pc ∷ [])) (Some ks) → IsAmong queues N own_of h xs ks (after_instruction s v i) m cs
+  going-goes ks i pc at regs is = subst (λ ts. IsAmong queues N own_of h xs ts (after_instruction s v i) m cs)
       (let e : going_to k pc ∷ [] ≡ ks = cc in e) (inl (going-means pc (after_instruction s v i) at regs))
 
   jalr-goes : (rd rs1 : Reg) (offset : ℤ) (ks : List KnownState) → IsAt s (Jalr rd rs1 offset)
-      → jumping k rd.number offset (as_number (operand queues N own_of H h k rs1)) ≡ Some ks
-      → Goes queues N own_of h owns ks m cs (access_of e) (advanced s v)
-  jalr-goes rd rs1 offset ks here found = by (as_number (operand queues N own_of H h k rs1)) refl found
+      → jumping k rd.number offset (as_number (operand queues k rs1)) ≡ Some ks
+      → Goes queues N own_of h owns xs ks m cs (access_of e) (advanced s v)
+  jalr-goes rd rs1 offset ks here found = by (as_number (operand queues k rs1)) refl found
     where
-      by : (a : Option ℕ) → as_number (operand queues N own_of H h k rs1) ≡ a → jumping k rd.number offset a ≡ Some ks
-          → Goes queues N own_of h owns ks m cs (access_of e) (advanced s v)
+      by : (a : Option ℕ) → as_number (operand queues k rs1) ≡ a → jumping k rd.number offset a ≡ Some ks
+          → Goes queues N own_of h owns xs ks m cs (access_of e) (advanced s v)
       by None is found = absurd (cc)
       by (Some a) is found = jump-goes ks (Jalr rd rs1 offset) (address (register_value s.registers rs1) offset / 2 * 2) here (need_at here)
           (exact-goes ks (Jalr rd rs1 offset) rd (address a offset / 2 * 2) (next_pc s.pc) (exactly (next_pc k.pc))
           (exactly-gives queues xs (next_pc k.pc) (next_pc s.pc) (ap next_pc means.pc))
           (ap (λ x. address x offset / 2 * 2)
-          (known-is queues xs (operand queues N own_of H h k rs1) (register_value s.registers rs1) a is
+          (known-is queues xs (operand queues k rs1) (register_value s.registers rs1) a is
           (operand-has rs1))) refl found)
 
   pub instruction-goes : (past : (g : ℕ) → H ≤ g → length (own_of g) ≡ 0) (d : Form) (i : Instr)
       (ks : List KnownState) → IsAt s i → follow queues N own_of H h k d (Some i) ≡ Some ks
-      → Goes queues N own_of h owns ks m cs (access_of e) (advanced s v)
+      → Goes queues N own_of h owns xs ks m cs (access_of e) (advanced s v)
   instruction-goes past d (Lui rd upper) ks here is = inner-goes ks (Lui rd upper) here (need_at here)
       (exact-goes ks (Lui rd upper) rd (next_pc k.pc) (upper * 2 ^ 12) (exactly (upper * 2 ^ 12))
       (exactly-gives queues xs (upper * 2 ^ 12) (upper * 2 ^ 12) refl) (ap next_pc means.pc) refl is)
@@ -1298,9 +1309,9 @@ module _ (M : ℕ) (o : OpeningValue) (queues : ℕ → Queue) (N : ℕ) (own_of
       (exactly-gives queues xs (next_pc k.pc) (next_pc s.pc) (ap next_pc means.pc))
       (ap (λ n. address n offset) means.pc) refl is)
   instruction-goes past d (Jalr rd rs1 offset) ks here is = jalr-goes rd rs1 offset ks here is
-  instruction-goes past d (Branch op rs1 rs2 offset) ks here is = subst (λ ts. Goes queues N own_of h owns ts m cs (access_of e) (advanced s v))
+  instruction-goes past d (Branch op rs1 rs2 offset) ks here is = subst (λ ts. Goes queues N own_of h owns xs ts m cs (access_of e) (advanced s v))
       (let e : goes_by (when_taken k op rs1 rs2) (when_passed k op rs1 rs2) (address k.pc offset) (next_pc k.pc)
-      (is_branch_taken queues k.ranges op (operand queues N own_of H h k rs1) (operand queues N own_of H h k rs2)) ≡ ks =
+      (is_branch_taken queues k.ranges op (operand queues k rs1) (operand queues k rs2)) ≡ ks =
       cc in
       e) (branch-goes op rs1 rs2 offset here)
   instruction-goes past d (Load op rd rs1 offset) ks here is = load-goes op rd rs1 offset ks here is
@@ -1308,43 +1319,43 @@ module _ (M : ℕ) (o : OpeningValue) (queues : ℕ → Queue) (N : ℕ) (own_of
   instruction-goes past d (Immediate op rd rs1 n) ks here is = inner-goes ks (Immediate op rd rs1 n) here (need_at here)
       (exact-goes ks (Immediate op rd rs1 n) rd (next_pc k.pc)
       (with_immediate op (register_value s.registers rs1) n)
-      (immediate_result queues N own_of H h k op (operand queues N own_of H h k rs1) n)
-      (immediate-result op (operand queues N own_of H h k rs1) (register_value s.registers rs1) n (operand-has rs1)) (ap next_pc means.pc) refl is)
+      (immediate_result queues N k op (operand queues k rs1) n)
+      (immediate-result op (operand queues k rs1) (register_value s.registers rs1) n (operand-has rs1)) (ap next_pc means.pc) refl is)
   instruction-goes past d (Shift op rd rs1 amount) ks here is = inner-goes ks (Shift op rd rs1 amount) here (need_at here)
       (exact-goes ks (Shift op rd rs1 amount) rd (next_pc k.pc) (shifted op (register_value s.registers rs1) amount)
-      (of_shift queues N k.ranges op (operand queues N own_of H h k rs1) amount)
-      (shift-gives queues xs k.ranges means.ranges N op (operand queues N own_of H h k rs1)
+      (of_shift queues N k.ranges op (operand queues k rs1) amount)
+      (shift-gives queues xs k.ranges means.ranges N op (operand queues k rs1)
       (register_value s.registers rs1) amount (operand-has rs1)) (ap next_pc means.pc) refl is)
   instruction-goes past d (Register op rd rs1 rs2) ks here is = inner-goes ks (Register op rd rs1 rs2) here (need_at here)
       (exact-goes ks (Register op rd rs1 rs2) rd (next_pc k.pc) (computed op (register_value s.registers rs1) (register_value s.registers rs2))
-      (of_registers queues N k.ranges op (operand queues N own_of H h k rs1) (operand queues N own_of H h k rs2))
-      (register-gives queues xs k.ranges means.ranges N op (operand queues N own_of H h k rs1)
-      (operand queues N own_of H h k rs2) (register_value s.registers rs1) (register_value s.registers rs2)
+      (of_registers queues N k.ranges op (operand queues k rs1) (operand queues k rs2))
+      (register-gives queues xs k.ranges means.ranges N op (operand queues k rs1)
+      (operand queues k rs2) (register_value s.registers rs1) (register_value s.registers rs2)
       (operand-has rs1) (operand-has rs2)) (ap next_pc means.pc) refl is)
   instruction-goes past d (Fence pred succ) ks here is = plain-goes ks (Fence pred succ) (need.Fence (is_full pred succ)) here (need_at here) tt tt
       (going-goes ks (Fence pred succ) (next_pc k.pc) (ap next_pc means.pc) refl is)
   instruction-goes past d FenceTso ks here is = plain-goes ks FenceTso (need.Fence false) here (need_at here) tt tt
       (going-goes ks FenceTso (next_pc k.pc) (ap next_pc means.pc) refl is)
   instruction-goes past d Ecall ks here is =
-      subst (λ ts. Goes queues N own_of h owns ts m cs (access_of e) (advanced s v))
+      subst (λ ts. Goes queues N own_of h owns xs ts m cs (access_of e) (advanced s v))
       (let e : called_state k ∷ [] ≡ ks = cc in e) (call-goes here)
   instruction-goes past d Ebreak ks here is = stop-goes ks stop.Break (need_at here)
   instruction-goes past d (Amo op rd rs1 rs2 aq rl) ks here is = amo-goes past d op rd rs1 rs2 aq rl ks here is
 
   pub state-goes : (past : (g : ℕ) → H ≤ g → length (own_of g) ≡ 0) (d : Form) (ks : List KnownState)
       → follow queues N own_of H h k d (instruction_at s.code k.pc) ≡ Some ks
-      → Goes queues N own_of h owns ks m cs (access_of e) (advanced s v)
+      → Goes queues N own_of h owns xs ks m cs (access_of e) (advanced s v)
   state-goes past d ks is = by (nat_lt s.pc (4 * length s.code)) refl
       (subst (λ n. follow queues N own_of H h k d (instruction_at s.code n) ≡ Some ks) (sym means.pc) is)
     where
       by : (t : Bool) → nat_lt s.pc (4 * length s.code) ≡ t
           → follow queues N own_of H h k d (if t then meaning (slice_index s.code (s.pc / 4)) else None) ≡ Some ks
-          → Goes queues N own_of h owns ks m cs (access_of e) (advanced s v)
+          → Goes queues N own_of h owns xs ks m cs (access_of e) (advanced s v)
       by false out is = stop-goes ks stop.NoCode (no-code s out)
       by true within is = says (meaning (slice_index s.code (s.pc / 4))) refl is
         where
           says : (i : Option Instr) → meaning (slice_index s.code (s.pc / 4)) ≡ i
               → follow queues N own_of H h k d i ≡ Some ks
-              → Goes queues N own_of h owns ks m cs (access_of e) (advanced s v)
+              → Goes queues N own_of h owns xs ks m cs (access_of e) (advanced s v)
           says None nothing-said is = stop-goes ks stop.Illegal (illegal s (ltb-true s.pc (4 * length s.code) within) nothing-said)
           says (Some i) said is = instruction-goes past d i ks (record { inside = ltb-true s.pc (4 * length s.code) within; says = said }) is

@@ -89,9 +89,42 @@ off-slots q p c b width a ok low high x within slots =
       | inr over ↦ (let u : q.slots + q.size * q.width ≤ b.low = leb-true (q.slots + q.size * q.width) b.low over in omega (arith, u, low, within.0, slots.1))
     ])
 
+-- ---- the slot of a form
+
+-- it is of the slot of the position so much further than the own count, this far into it
+pub slot-place : (q : Queue) (rs : List (Option ℕ)) (xs : List ℕ) → InRanges rs xs → (own f : Form) (n j offset a : ℕ)
+    → n ≡ form_value own xs → a ≡ form_value f xs % 2 ^ 32
+    → is_slot rs q f offset (remainder rs (plus own (number j)) q.size) ≡ true → a ≡ slot_of q (n + j) + offset
+slot-place q rs xs ranges own f n j offset a counts at ok = by (remainder rs (plus own (number j)) q.size) refl ok
+  where
+    by : (o : Option Form) → remainder rs (plus own (number j)) q.size ≡ o → is_slot rs q f offset o ≡ true → a ≡ slot_of q (n + j) + offset
+    by None is ok = absurd (cc)
+    by (Some g) is ok =
+        let p = and_parts (is_same (2 ^ 32) f (plus (times q.width g) (number (q.slots + offset))))
+        (fits_in (most rs (plus (times q.width g) (number (q.slots + offset)))) (Some (2 ^ 32 - 1))) ok in
+        let r = value-remainder rs (plus own (number j)) q.size g xs ranges is in
+        let sum : form_value (plus own (number j)) xs ≡ n + j =
+        value-plus own (number j) xs ∙ ap (λ m. form_value own xs + m) (value-number j xs) ∙ ap (λ m. m + j) (sym counts) in
+        let slot : slot_of q (n + j) ≡ q.slots + q.width * form_value g xs =
+        ap (λ m. q.slots + q.width * m) (ap (λ m. m % q.size) (sym sum) ∙ sym r.0) in
+        let whole : form_value (plus (times q.width g) (number (q.slots + offset))) xs ≡ q.width * form_value g xs + (q.slots + offset) =
+        value-plus (times q.width g) (number (q.slots + offset)) xs
+        ∙ ap (λ m. m + form_value (number (q.slots + offset)) xs) (value-times q.width g xs)
+        ∙ ap (λ m. q.width * form_value g xs + m) (value-number (q.slots + offset) xs) in
+        let small : form_value (plus (times q.width g) (number (q.slots + offset))) xs ≤ 2 ^ 32 - 1 =
+        fits-below (most rs (plus (times q.width g) (number (q.slots + offset)))) (Some (2 ^ 32 - 1))
+        (form_value (plus (times q.width g) (number (q.slots + offset))) xs) p.1
+        (λ m most. value-below rs (plus (times q.width g) (number (q.slots + offset))) xs m ranges most) in
+        let there : a ≡ form_value (plus (times q.width g) (number (q.slots + offset))) xs =
+        at ∙ same-value (2 ^ 32) f (plus (times q.width g) (number (q.slots + offset))) xs p.0 ∙ mod-eq_of_lt (omega (arith, small)) in
+        omega (arith, slot, there, whole)
+
+pub position-near : (q : Queue) → 1 ≤ q.size → (own a : ℕ) → position_at q own a < q.size
+position-near q some own a = mod-lt ((a % 2 ^ 32 - q.slots) / q.width + (q.size - own % q.size)) some
+
 -- ---- what a store makes of a share
 
-same-count : (p : Party) (c : QueueCounts) (n : ℕ) → n ≡ count p c → with_count p n c ≡ c
+pub same-count : (p : Party) (c : QueueCounts) (n : ℕ) → n ≡ count p c → with_count p n c ≡ c
 same-count the_sender c n same = ap (λ k. with_count the_sender k c) same
 same-count the_receiver c n same = ap (λ k. with_count the_receiver k c) same
 
@@ -113,52 +146,17 @@ module _ (q : Queue) (is : IsQueue q) (p : Party) (c : QueueCounts) (xs : List �
       pub fits : offset_at q f.constant + width ≤ q.width
 
     pub placed-at : (f : Form) (a width : ℕ) → Has queues xs (linear f) a → is_owned rs q s (linear f) width ≡ true → Placed f a width
-    placed-at f a width at ok = by (remainder rs (plus s.own (number j)) q.size) refl p1.1
-      where
-        j : ℕ
-        j = position_at q s.own.constant f.constant
-
-        p1 : ((nat_lt (position_at q s.own.constant f.constant) s.owned.constant && nat_le (offset_at q f.constant + width) q.width) ≡ true)
-            × (is_slot rs q f (offset_at q f.constant) (remainder rs (plus s.own (number (position_at q s.own.constant f.constant))) q.size) ≡ true)
-        p1 = and_parts (nat_lt (position_at q s.own.constant f.constant) s.owned.constant && nat_le (offset_at q f.constant + width) q.width)
-            (is_slot rs q f (offset_at q f.constant) (remainder rs (plus s.own (number (position_at q s.own.constant f.constant))) q.size)) ok
-
-        by : (o : Option Form)
-            → remainder rs (plus s.own (number (position_at q s.own.constant f.constant))) q.size ≡ o
-            → is_slot rs q f (offset_at q f.constant) o ≡ true → Placed f a width
-        by None is ok = absurd (cc)
-        by (Some g) is-g ok =
-            let p2 = and_parts (nat_lt (position_at q s.own.constant f.constant) s.owned.constant) (nat_le (offset_at q f.constant + width) q.width) p1.0 in
-            let less : position_at q s.own.constant f.constant < s.owned.constant = ltb-true (position_at q s.own.constant f.constant) s.owned.constant p2.0 in
-            let p3 = and_parts (is_same (2 ^ 32) f (plus (times q.width g) (number (q.slots + offset_at q f.constant))))
-            (fits_in (most rs (plus (times q.width g) (number (q.slots + offset_at q f.constant)))) (Some (2 ^ 32 - 1))) ok in
-            let r = value-remainder rs (plus s.own (number (position_at q s.own.constant f.constant))) q.size g xs ranges is-g in
-            let sum : form_value (plus s.own (number (position_at q s.own.constant f.constant))) xs
-            ≡ count p c + position_at q s.own.constant f.constant =
-            value-plus s.own (number (position_at q s.own.constant f.constant)) xs
-            ∙ ap (λ n. form_value s.own xs + n) (value-number (position_at q s.own.constant f.constant) xs)
-            ∙ ap (λ n. n + position_at q s.own.constant f.constant) (sym has.own) in
-            let slot : slot_of q (count p c + position_at q s.own.constant f.constant) ≡ q.slots + q.width * form_value g xs =
-            ap (λ n. q.slots + q.width * n) (ap (λ n. n % q.size) (sym sum) ∙ sym r.0) in
-            let whole : form_value (plus (times q.width g) (number (q.slots + offset_at q f.constant))) xs
-            ≡ q.width * form_value g xs + (q.slots + offset_at q f.constant) =
-            value-plus (times q.width g) (number (q.slots + offset_at q f.constant)) xs
-            ∙ ap (λ n. n + form_value (number (q.slots + offset_at q f.constant)) xs) (value-times q.width g xs)
-            ∙ ap (λ n. q.width * form_value g xs + n) (value-number (q.slots + offset_at q f.constant) xs) in
-            let small : form_value (plus (times q.width g) (number (q.slots + offset_at q f.constant))) xs ≤ 2 ^ 32 - 1 =
-            fits-below (most rs (plus (times q.width g) (number (q.slots + offset_at q f.constant))))
-            (Some (2 ^ 32 - 1)) (form_value (plus (times q.width g) (number (q.slots + offset_at q f.constant))) xs)
-            p3.1
-            (λ n at. value-below rs (plus (times q.width g) (number (q.slots + offset_at q f.constant))) xs n ranges at) in
-            let there : a ≡ form_value (plus (times q.width g) (number (q.slots + offset_at q f.constant))) xs =
-            at ∙ same-value (2 ^ 32) f (plus (times q.width g) (number (q.slots + offset_at q f.constant))) xs p3.0
-            ∙ mod-eq_of_lt (omega (arith, small)) in
-            record {
-              place = omega (arith, slot, there, whole);
-              before = omega (arith, has.own, has.upto, less);
-              near = mod-lt ((f.constant % 2 ^ 32 - q.slots) / q.width + (q.size - s.own.constant % q.size)) is.some;
-              fits = leb-true (offset_at q f.constant + width) q.width p2.1;
-            }
+    placed-at f a width at ok =
+        let p2 = and_parts (nat_lt (position_at q s.own.constant f.constant) s.owned.constant && nat_le (offset_at q f.constant + width) q.width)
+        (is_slot rs q f (offset_at q f.constant) (remainder rs (plus s.own (number (position_at q s.own.constant f.constant))) q.size)) ok in
+        let p1 = and_parts (nat_lt (position_at q s.own.constant f.constant) s.owned.constant) (nat_le (offset_at q f.constant + width) q.width) p2.0 in
+        let less : position_at q s.own.constant f.constant < s.owned.constant = ltb-true (position_at q s.own.constant f.constant) s.owned.constant p1.0 in
+        record {
+          place = slot-place q rs xs ranges s.own f (count p c) (position_at q s.own.constant f.constant) (offset_at q f.constant) a has.own at p2.1;
+          before = omega (arith, has.own, has.upto, less);
+          near = position-near q is.some s.own.constant f.constant;
+          fits = leb-true (offset_at q f.constant + width) q.width p1.1;
+        }
 
     pub owned-at : (place : KnownValue) (a width : ℕ) → Has queues xs place a → is_owned rs q s place width ≡ true → Owned a width
     owned-at any a width at ok = absurd (cc)

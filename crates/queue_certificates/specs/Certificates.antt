@@ -15,17 +15,24 @@ use Rattle.slot_queue.specs.Queues.{Queue, index_word}
 use Rattle.queue_parties.specs.Positions.{IsInBytes}
 use Rattle.queue_parties.specs.Parties.{Party, the_sender, the_receiver, all_at}
 use Rattle.slot_queue.specs.Ownership.{party_of, end}
-use Rattle.owned_run.specs.Certified.{View, AllCounts, number_seen, OpenQueues, IsCertified, LoadsAreOwned}
+use Rattle.owned_run.specs.Certified.{View, AllCounts, number_seen, OpenQueues, IsCertified, LoadsAreOwned, Beside}
 use Rattle.owned_run.specs.Certificates.{Field, MeetsField}
+use Rattle.slots_that_tell.specs.Slots.{tag_of}
+use Rattle.slots_that_tell.specs.Telling.{owned_end}
+use Rattle.telling_run.specs.Certified.{telling, OpenTellers}
 use Rattle.queue_certificates.specs.Forms.{Form, form_value, number, substituted, is_same, raised, settled, are_in}
 use Rattle.queue_certificates.specs.States.{KnownValue, any, linear, index_for, signed_for, Share, no_share, KnownState}
-use Rattle.queue_certificates.specs.States.{value_by, state_by, signed_word, is_within, Means}
-use Rattle.queue_certificates.specs.Results.{bounds}
-use Rattle.queue_certificates.specs.Steps.{all_below, is_apart, anywhere, operand, addresses, follow, instruction_at, loads_owned}
+use Rattle.queue_certificates.specs.States.{value_by, state_by, signed_word, is_within, MeansAt, Means}
+use Rattle.queue_certificates.specs.Steps.{all_below, is_apart, addresses, exchanged, follow, instruction_at, loads_owned}
 use Rattle.queue_certificates.specs.Fields.{is_field, next_received}
+use Rattle.queue_certificates.specs.Tags.{party_in, is_tagged, AreTold, tags_lead, next_told, loads_rest}
 use Rattle.queue_certificates.specs.Effects.{effect_of, value_stored}
 use Rattle.queue_certificates.specs.Filled.{Filled, is_filled, no_field, is_filled_after, are_so, may_send}
 use Rattle.queue_certificates.specs.declared.effect.Effect.{Effect}
+use Rattle.queue_layouts.specs.declared.tagged.Codec.TheVariants as codec
+use Rattle.queue_layouts.specs.declared.tagged.TaggedQueue.{TaggedQueue}
+use Rattle.queue_layouts.specs.declared.tagged.OpenedTagged.{OpenedTagged}
+use Rattle.queue_layouts.specs.Tagged.{tells_by, slots_of}
 
 -- where a state goes on: to the state of this number, whose variables are these forms over those of the leaf, after one that comes
 -- with the step
@@ -60,8 +67,10 @@ pub record OpenedQueue : Type 0 where
   pub start : ℕ
   pub fields : List Field
 
+-- queues with indices, and queues with tags
 pub record QueueCertificate : Type 0 where
   pub queues : List OpenedQueue
+  pub tagged : List OpenedTagged
   pub harts : List HartPart
 
 abbrev pub no_queue : OpenedQueue
@@ -85,6 +94,12 @@ no_queue = record {
   fields = [];
 }
 
+abbrev pub no_tagged : OpenedTagged
+no_tagged = record {
+  queue = record { sender = 0; receiver = 0; slots = 0; size = 0; width = 0; tag_offset = 0; tag_width = 0; codec = codec.Zero };
+  start = 0;
+}
+
 abbrev pub no_part : HartPart
 no_part = record { own = []; first = 0; numbers = []; states = [] }
 
@@ -103,6 +118,12 @@ start_at c i = (get_or c.queues i no_queue).start
 
 abbrev pub fields_at : QueueCertificate → ℕ → List Field
 fields_at c i = (get_or c.queues i no_queue).fields
+
+abbrev pub tagged_at : QueueCertificate → ℕ → TaggedQueue
+tagged_at c t = (get_or c.tagged t no_tagged).queue
+
+abbrev pub tagged_start : QueueCertificate → ℕ → ℕ
+tagged_start c t = (get_or c.tagged t no_tagged).start
 
 abbrev pub part_of : QueueCertificate → ℕ → HartPart
 part_of c h = get_or c.harts h no_part
@@ -147,20 +168,37 @@ abbrev pub AreFilled : QueueCertificate → (h : ℕ) → List Filled → View �
 AreFilled c h filled m cs = (i : ℕ) → i < length c.queues → HasFields c i → h ≡ (queue_at c i).sender → (d j : ℕ)
     → is_filled (queue_at c i).size (get_or filled i []) d j ≡ true → MeetsField (queue_at c i) ((cs i).published + d) m (field_of c i j)
 
--- and of a state in which the hart is that is so too
-abbrev pub IsAtState : QueueCertificate → (h : ℕ) → HartState → View → AllCounts → Type 0
-IsAtState c h s m cs = s.status ≡ status.Running
-    → (n : ℕ) × (n < length (part_of c h).states) × Means (queue_at c) (length c.queues) (own_of c h) h (state_at c h n).known s m cs
-    × AreFilled c h (state_at c h n).filled m cs
+-- of queues with tags, whose counts are us, the shares are right too
+abbrev pub SharesTold : QueueCertificate → (h : ℕ) → List ℕ → KnownState → (us : AllCounts) → Type 0
+SharesTold c h xs k us = AreTold (tagged_at c) (length c.tagged) (length c.queues) h xs k us
+
+abbrev pub MeansAll : QueueCertificate → (h : ℕ) → KnownState → HartState → View → (cs us : AllCounts) → Type 0
+MeansAll c h k s m cs us = (xs : List ℕ) × MeansAt (queue_at c) (length c.queues) (own_of c h) h xs k s m cs × SharesTold c h xs k us
+
+-- and of a state in which the hart is all that is so
+abbrev pub IsAtState : QueueCertificate → (h : ℕ) → HartState → View → (cs us : AllCounts) → Type 0
+IsAtState c h s m cs us = s.status ≡ status.Running
+    → (n : ℕ) × (n < length (part_of c h).states) × MeansAll c h (state_at c h n).known s m cs us × AreFilled c h (state_at c h n).filled m cs
+
+-- the protocol of slots that tell of the queues with tags
+abbrev pub told_beside : QueueCertificate → Beside
+told_beside c = record {
+  number = length c.tagged;
+  queues = λ t. telling (slots_of (tagged_at c t));
+  starts = λ t. all_at (tagged_start c t);
+}
 
 abbrev pub Opens : (M : ℕ) → OpeningValue → QueueCertificate → Type 0
 Opens M o c = OpenQueues M o (length c.queues) (queue_at c) (HasFields c) (MeetsFields c) (start_at c)
 
 abbrev pub Certifies : (M : ℕ) → OpeningValue → QueueCertificate → Type 0
-Certifies M o c = IsCertified M o (length c.queues) (queue_at c) (HasFields c) (MeetsFields c) (start_at c) (IsOwnByte c) (IsAtState c)
+Certifies M o c = IsCertified M o (length c.queues) (queue_at c) (HasFields c) (MeetsFields c) (told_beside c) (start_at c) (IsOwnByte c) (IsAtState c)
 
 abbrev pub CertifiesLoads : (M : ℕ) → OpeningValue → QueueCertificate → (i : ℕ) → Party → Type 0
-CertifiesLoads M o c i p = LoadsAreOwned M o (length c.queues) (queue_at c) (HasFields c) (MeetsFields c) (IsAtState c) i p
+CertifiesLoads M o c i p = LoadsAreOwned M o (length c.queues) (queue_at c) (HasFields c) (MeetsFields c) (told_beside c) (IsAtState c) i p
+
+abbrev pub OpensTagged : OpeningValue → QueueCertificate → Type 0
+OpensTagged o c = OpenTellers o (length c.tagged) (λ t. slots_of (tagged_at c t)) (λ t. all_at (tagged_start c t))
 
 -- ---- arrows
 
@@ -177,9 +215,10 @@ abbrev pub leads_to : (ℕ → Queue) → (N : ℕ) → KnownState → KnownStat
 leads_to queues N k t gs = (k.pc == t.pc) && are_in k.ranges gs t.ranges && all_within queues k.ranges k.registers t.registers gs
     && all_within queues k.ranges k.words t.words gs && all_below N (λ i. is_share (get_or k.shares i no_share) (get_or t.shares i no_share) gs)
 
--- the same of what is left without variables that can only be 0
-abbrev pub arrow_leads : (ℕ → Queue) → (N : ℕ) → KnownState → KnownState → List Form → Bool
-arrow_leads queues N k t gs = leads_to queues N (state_by (settled k.ranges) k.ranges k) t (map (settled k.ranges) gs)
+-- the same of what is left without variables that can only be 0, and of the shares of T queues with tags
+abbrev pub arrow_leads : (ℕ → Queue) → (N T : ℕ) → KnownState → KnownState → List Form → Bool
+arrow_leads queues N T k t gs = leads_to queues N (state_by (settled k.ranges) k.ranges k) t (map (settled k.ranges) gs)
+    && tags_lead N T (state_by (settled k.ranges) k.ranges k) t (map (settled k.ranges) gs)
 
 -- ---- cases
 
@@ -206,68 +245,79 @@ with_low k j v = state_by (settled (range_changed k.ranges j (at_most v))) (rang
 abbrev pub with_high : KnownState → (j v : ℕ) → KnownState
 with_high k j v = state_by (λ f. settled (range_changed k.ranges j (beyond v)) (raised j (v + 1) f)) (range_changed k.ranges j (beyond v)) k
 
-module _ (c : QueueCertificate) (h : ℕ) (code : List ℕ) where
-  abbrev pub next_states : KnownState → (d : Form) → Option (List KnownState)
-  next_states k d = next_received (queue_at c) (fields_at c) (length c.queues) (own_of c) (length c.harts) h k (instruction_at code k.pc)
-      (follow (queue_at c) (length c.queues) (own_of c) (length c.harts) h k d (instruction_at code k.pc))
+-- ---- the records of queue i, which has fields
 
+-- an instruction of its receiver stores nothing to its slots
+abbrev pub leaves_slots : QueueCertificate → (i : ℕ) → KnownState → Option Instr → Bool
+leaves_slots c i k (Some (Store op rs1 rs2 offset)) =
+    is_apart (addresses (queue_at c) k rs1 offset) (store_width op) (queue_at c i).slots ((queue_at c i).size * (queue_at c i).width)
+leaves_slots c i k (Some (Amo op rd rs1 rs2 aq rl)) =
+    is_apart (exchanged (queue_at c) k rs1) 4 (queue_at c i).slots ((queue_at c i).size * (queue_at c i).width)
+leaves_slots c i k other = true
+
+-- what each next state of hart h says to be right is so
+abbrev pub arrows_fill : QueueCertificate → (h i : ℕ) → List Arrow → (ℕ → ℕ → Bool) → Bool
+arrows_fill c h i [] f = true
+arrows_fill c h i (a ∷ arrows) f = are_so (get_or (state_at c h a.to).filled i []) f && arrows_fill c h i arrows f
+
+-- an instruction of its sender, hart h, publishes no record that isn't right
+abbrev pub effect_sends : QueueCertificate → (h i : ℕ) → Filled → KnownState → List Arrow → (stored : KnownValue) → Option Effect → Bool
+effect_sends c h i ms k arrows v None = false
+effect_sends c h i ms k arrows v (Some e) = may_send (queue_at c i).size (fields_at c i) ms e
+    && arrows_fill c h i arrows (is_filled_after k.ranges (queue_at c i) (fields_at c i) v ms e)
+
+abbrev pub keeps_records : QueueCertificate → (h i : ℕ) → Option Party → Filled → KnownState → (d : Form) → List Arrow → Option Instr → Bool
+keeps_records c h i None ms k d arrows instruction = true
+keeps_records c h i (Some the_receiver) ms k d arrows instruction = leaves_slots c i k instruction
+keeps_records c h i (Some the_sender) ms k d arrows instruction = effect_sends c h i ms k arrows (value_stored (queue_at c) k instruction)
+    (effect_of (queue_at c) (length c.queues) i k d instruction)
+
+-- ---- states
+
+-- each state that may follow leads by its arrow into one of hart h's
+module _ (c : QueueCertificate) (h : ℕ) where
   abbrev pub each_leads : List KnownState → List Arrow → Bool
   each_leads [] arrows = true
   each_leads (k ∷ ks) [] = false
   each_leads (k ∷ ks) (a ∷ arrows) = nat_lt a.to (length (part_of c h).states)
-      && arrow_leads (queue_at c) (length c.queues) k (state_at c h a.to).known a.forms && each_leads ks arrows
+      && arrow_leads (queue_at c) (length c.queues) (length c.tagged) k (state_at c h a.to).known a.forms && each_leads ks arrows
 
   abbrev pub all_lead : Option (List KnownState) → List Arrow → Bool
   all_lead None arrows = false
   all_lead (Some ks) arrows = each_leads ks arrows
 
+module _ (c : QueueCertificate) (h : ℕ) (code : List ℕ) where
+  abbrev pub next_states : KnownState → (d : Form) → Option (List KnownState)
+  next_states k d = next_told (tagged_at c) (length c.tagged) (queue_at c) (length c.queues) (own_of c) (length c.harts) h k (instruction_at code k.pc)
+      (next_received (queue_at c) (fields_at c) (length c.queues) h k (instruction_at code k.pc)
+      (follow (queue_at c) (length c.queues) (own_of c) (length c.harts) h k d (instruction_at code k.pc)))
+
   abbrev pub is_closed : KnownState → Cases → Bool
-  is_closed k (leaf d arrows) = all_lead (next_states k d) arrows
+  is_closed k (leaf d arrows) = all_lead c h (next_states k d) arrows
   is_closed k (split j v low high) = is_closed (with_low k j v) low
       && (not (may_exceed v (get_or k.ranges j (Some 0))) || is_closed (with_high k j v) high)
 
-  -- and of each load of queue i's slots
-  abbrev pub owns_loads : (i : ℕ) → KnownState → Cases → Bool
-  owns_loads i k (leaf d arrows) = loads_owned (queue_at c) (length c.queues) (own_of c) (length c.harts) h k i (instruction_at code k.pc)
-  owns_loads i k (split j v low high) = owns_loads i (with_low k j v) low
-      && (not (may_exceed v (get_or k.ranges j (Some 0))) || owns_loads i (with_high k j v) high)
-
-  -- ---- queue i, which has fields
-
-  -- an instruction of its receiver stores nothing to its slots
-  abbrev pub leaves_slots : (i : ℕ) → KnownState → Option Instr → Bool
-  leaves_slots i k (Some (Store op rs1 rs2 offset)) = is_apart (addresses (queue_at c) (length c.queues) (own_of c) (length c.harts) h k rs1 offset)
-      (store_width op) (queue_at c i).slots ((queue_at c i).size * (queue_at c i).width)
-  leaves_slots i k (Some (Amo op rd rs1 rs2 aq rl)) =
-      is_apart (anywhere (bounds k.ranges (operand (queue_at c) (length c.queues) (own_of c) (length c.harts) h k rs1))) 4
-      (queue_at c i).slots ((queue_at c i).size * (queue_at c i).width)
-  leaves_slots i k other = true
-
-  -- what each next state says to be right is so
-  abbrev pub arrows_fill : (i : ℕ) → List Arrow → (ℕ → ℕ → Bool) → Bool
-  arrows_fill i [] f = true
-  arrows_fill i (a ∷ arrows) f = are_so (get_or (state_at c h a.to).filled i []) f && arrows_fill i arrows f
-
-  -- an instruction of its sender publishes no record that isn't right
-  abbrev pub effect_sends : (i : ℕ) → Filled → KnownState → List Arrow → (stored : KnownValue) → Option Effect → Bool
-  effect_sends i ms k arrows v None = false
-  effect_sends i ms k arrows v (Some e) = may_send (queue_at c i).size (fields_at c i) ms e
-      && arrows_fill i arrows (is_filled_after k.ranges (queue_at c i) (fields_at c i) v ms e)
-
-  abbrev pub keeps_records : (i : ℕ) → Option Party → Filled → KnownState → (d : Form) → List Arrow → Option Instr → Bool
-  keeps_records i None ms k d arrows instruction = true
-  keeps_records i (Some the_receiver) ms k d arrows instruction = leaves_slots i k instruction
-  keeps_records i (Some the_sender) ms k d arrows instruction = effect_sends i ms k arrows
-      (value_stored (queue_at c) (length c.queues) (own_of c) (length c.harts) i k instruction)
-      (effect_of (queue_at c) (length c.queues) (own_of c) (length c.harts) i k d instruction)
-
+  -- and of each instruction that it keeps what is said of queue i's records
   abbrev pub keeps_fields : (i : ℕ) → Filled → KnownState → Cases → Bool
-  keeps_fields i ms k (leaf d arrows) = keeps_records i (party_of (queue_at c i) h) ms k d arrows (instruction_at code k.pc)
+  keeps_fields i ms k (leaf d arrows) = keeps_records c h i (party_of (queue_at c i) h) ms k d arrows (instruction_at code k.pc)
   keeps_fields i ms k (split j v low high) = keeps_fields i ms (with_low k j v) low
       && (not (may_exceed v (get_or k.ranges j (Some 0))) || keeps_fields i ms (with_high k j v) high)
 
   abbrev pub keeps_all_fields : ListedState → Bool
   keeps_all_fields t = all_below (length c.queues) (λ i. (length (fields_at c i) == 0) || keeps_fields i (get_or t.filled i []) t.known t.cases)
+
+-- each load of queue i's slots is of owned ones
+module _ (c : QueueCertificate) (code : List ℕ) where
+  abbrev pub owns_loads : (i : ℕ) → KnownState → Cases → Bool
+  owns_loads i k (leaf d arrows) = loads_owned (queue_at c) k i (instruction_at code k.pc)
+  owns_loads i k (split j v low high) = owns_loads i (with_low k j v) low
+      && (not (may_exceed v (get_or k.ranges j (Some 0))) || owns_loads i (with_high k j v) high)
+
+  -- and of the slots of queue t with tags, of tags and of owned ones
+  abbrev pub owns_rest : (t : ℕ) → KnownState → Cases → Bool
+  owns_rest t k (leaf d arrows) = loads_rest (tagged_at c) (queue_at c) (length c.queues) k t (instruction_at code k.pc)
+  owns_rest t k (split j v low high) = owns_rest t (with_low k j v) low
+      && (not (may_exceed v (get_or k.ranges j (Some 0))) || owns_rest t (with_high k j v) high)
 
 -- ---- the opening
 
@@ -291,11 +341,21 @@ abbrev pub opens_share : Queue → Option Party → (start : ℕ) → Share → 
 opens_share q None start s xs = true
 opens_share q (Some p) start s xs = (start == form_value s.own xs) && (end q p (all_at start) == form_value s.own xs + form_value s.owned xs)
 
+-- of a queue with tags
+abbrev pub opens_told : TaggedQueue → Option Party → (start : ℕ) → Share → List ℕ → Bool
+opens_told q None start s xs = true
+opens_told q (Some p) start s xs = (start == form_value s.own xs)
+    && nat_le (form_value s.own xs + form_value s.owned xs) (owned_end (slots_of q) p (all_at start))
+
 abbrev pub opens_in : OpeningValue → QueueCertificate → (h : ℕ) → HartOpeningValue → KnownState → List ℕ → Bool
 opens_in o c h x k xs = are_in_ranges k.ranges xs && (k.pc == 0)
     && all_below (length k.registers) (λ j. is_value (queue_at c) xs (get_or k.registers j any) (slice_index (slice_set x.registers 0 0) j))
     && all_below (length (own_of c h)) (λ j. is_value (queue_at c) xs (get_or k.words j any) (number_seen (opening_byte o) (slice_index (own_of c h) j) 4))
     && all_below (length c.queues) (λ i. opens_share (queue_at c i) (party_of (queue_at c i) h) (start_at c i) (get_or k.shares i no_share) xs)
+
+abbrev pub opens_all_told : QueueCertificate → (h : ℕ) → KnownState → List ℕ → Bool
+opens_all_told c h k xs = all_below (length c.tagged)
+    (λ t. opens_told (tagged_at c t) (party_in (tagged_at c t) h) (tagged_start c t) (get_or k.shares (length c.queues + t) no_share) xs)
 
 -- nothing is right yet
 abbrev pub opens_unfilled : QueueCertificate → List Filled → Bool
@@ -317,11 +377,17 @@ abbrev pub opens_empty : OpeningValue → Queue → (start : ℕ) → Bool
 opens_empty o q start = (memory_number o [] q.head q.index_width == index_word q start)
     && (memory_number o [] q.tail q.index_width == index_word q start)
 
+-- each slot of a round tells the sender that it is free
+abbrev pub opens_free : OpeningValue → TaggedQueue → (start : ℕ) → Bool
+opens_free o q start = all_below q.size
+    (λ d. tells_by q.codec the_sender (start + d) (memory_number o [] (tag_of (slots_of q) (start + d)) q.tag_width))
+
 -- ---- all of it
 
 abbrev pub accepts_hart : OpeningValue → QueueCertificate → (h : ℕ) → HartOpeningValue → HartPart → Bool
 accepts_hart o c h x part = nat_le 32 (length x.registers) && nat_lt part.first (length part.states)
-    && opens_in o c h x (state_at c h part.first).known part.numbers && opens_unfilled c (state_at c h part.first).filled
+    && opens_in o c h x (state_at c h part.first).known part.numbers && opens_all_told c h (state_at c h part.first).known part.numbers
+    && opens_unfilled c (state_at c h part.first).filled
     && all_below (length part.states)
     (λ n. is_closed c h x.code (state_at c h n).known (state_at c h n).cases && keeps_all_fields c h x.code (state_at c h n))
 
@@ -331,9 +397,15 @@ no_hart = record { code = []; registers = []; inbox = [] }
 abbrev pub accepts : OpeningValue → QueueCertificate → Bool
 accepts o c = all_below (length c.queues)
     (λ i. is_queue (queue_at c i) && opens_empty o (queue_at c i) (start_at c i) && list_all (is_field (queue_at c i)) (fields_at c i))
+    && all_below (length c.tagged) (λ t. is_tagged (tagged_at c t) && opens_free o (tagged_at c t) (tagged_start c t))
     && all_below (length o.harts) (λ h. accepts_hart o c h (get_or o.harts h no_hart) (part_of c h))
 
 -- in its states the hart loads of queue i's slots only owned ones
 abbrev pub accepts_loads : OpeningValue → QueueCertificate → (i h : ℕ) → Bool
 accepts_loads o c i h = all_below (length (part_of c h).states)
-    (λ n. owns_loads c h (get_or o.harts h no_hart).code i (state_at c h n).known (state_at c h n).cases)
+    (λ n. owns_loads c (get_or o.harts h no_hart).code i (state_at c h n).known (state_at c h n).cases)
+
+-- and of the slots of queue t with tags only tags and owned ones
+abbrev pub accepts_rest : OpeningValue → QueueCertificate → (t h : ℕ) → Bool
+accepts_rest o c t h = all_below (length (part_of c h).states)
+    (λ n. owns_rest c (get_or o.harts h no_hart).code t (state_at c h n).known (state_at c h n).cases)

@@ -1,5 +1,5 @@
 -- What an instruction of a queue's sender does to the queue, by what is known of the sender.
-use Rattle.std.specs.Prelude.{ℕ, ◌≡◌, ◌==◌, if◌then◌else◌, Bool, true, Option, None, Some, List, get_or}
+use Rattle.std.specs.Prelude.{ℕ, ◌≡◌, ◌==◌, if◌then◌else◌, Bool, true, Option, None, Some, List}
 use Rattle.rv_decode.specs.declared.instruction.Instr.{Instr}
 use Rattle.rv_decode.specs.declared.instruction.Instr.TheVariants.{Store, Amo}
 use Rattle.hart.specs.Effects.{store_width}
@@ -7,10 +7,9 @@ use Rattle.memory.specs.Writes.{write, covers}
 use Rattle.step_machine.specs.Access.{Access, store, exchange}
 use Rattle.slot_queue.specs.Queues.{Queue}
 use Rattle.queue_certificates.specs.Forms.{Form, Bounds, most}
-use Rattle.queue_certificates.specs.States.{KnownValue, any, linear, index_for, signed_for, Share, no_share, KnownState}
-use Rattle.queue_certificates.specs.Results.{bounds}
-use Rattle.queue_certificates.specs.Steps.{last_below, is_just, position_at, offset_at, is_owned, anywhere}
-use Rattle.queue_certificates.specs.Steps.{operand, address_value, addresses, is_own_index}
+use Rattle.queue_certificates.specs.States.{KnownValue, any, linear, index_for, signed_for, plain, Share, KnownState}
+use Rattle.queue_certificates.specs.Steps.{last_below, is_just, position_at, offset_at, is_owned}
+use Rattle.queue_certificates.specs.Steps.{register_at, share_at, operand, address_value, addresses, exchanged, is_own_index}
 use Rattle.queue_certificates.specs.declared.effect.Effect.{Effect}
 use Rattle.queue_certificates.specs.declared.effect.Effect.TheVariants.{Leaves, Fills, Publishes, PublishesSome}
 
@@ -34,27 +33,22 @@ filled_by rs q s (signed_for i f) width = Leaves
 filled_by rs q s (linear f) width = if is_owned rs q s (linear f) width
     then Fills (position_at q s.own.constant f.constant) (offset_at q f.constant) width else Leaves
 
--- of the sender of queue i, where there are N queues, and H harts with own words at these addresses
-module _ (queues : ℕ → Queue) (N : ℕ) (own_of : ℕ → List ℕ) (H i : ℕ) where
-  abbrev pub its_sender : ℕ
-  its_sender = (queues i).sender
+-- the number that an instruction stores, as far as it is known; an AMO's isn't
+abbrev pub value_stored : (ℕ → Queue) → KnownState → Option Instr → KnownValue
+value_stored queues k (Some (Store op rs1 rs2 offset)) = plain queues k.ranges (register_at k rs2)
+value_stored queues k other = any
 
+-- of the sender of queue i of N
+module _ (queues : ℕ → Queue) (N i : ℕ) where
   -- it stores the queue's head, whole
   abbrev pub moves_head : Bounds → (width : ℕ) → Bool
-  moves_head b width = is_just (last_below N (is_own_index queues N own_of H its_sender b width)) i
+  moves_head b width = is_just (last_below N (is_own_index queues (queues i).sender b width)) i
 
   abbrev pub effect_at : KnownState → (d : Form) → (place : KnownValue) → Bounds → (width : ℕ) → Option Effect
   effect_at k d place b width = if moves_head b width then published_by d (most k.ranges d)
-      else Some (filled_by k.ranges (queues i) (get_or k.shares i no_share) place width)
+      else Some (filled_by k.ranges (queues i) (share_at k i) place width)
 
   abbrev pub effect_of : KnownState → (d : Form) → Option Instr → Option Effect
-  effect_of k d (Some (Store op rs1 rs2 offset)) = effect_at k d (address_value queues N own_of H its_sender k rs1 offset)
-      (addresses queues N own_of H its_sender k rs1 offset) (store_width op)
-  effect_of k d (Some (Amo op rd rs1 rs2 aq rl)) = effect_at k d (operand queues N own_of H its_sender k rs1)
-      (anywhere (bounds k.ranges (operand queues N own_of H its_sender k rs1))) 4
+  effect_of k d (Some (Store op rs1 rs2 offset)) = effect_at k d (address_value queues k rs1 offset) (addresses queues k rs1 offset) (store_width op)
+  effect_of k d (Some (Amo op rd rs1 rs2 aq rl)) = effect_at k d (operand queues k rs1) (exchanged queues k rs1) 4
   effect_of k d other = Some Leaves
-
-  -- the number that it stores, as far as it is known; an AMO's isn't
-  abbrev pub value_stored : KnownState → Option Instr → KnownValue
-  value_stored k (Some (Store op rs1 rs2 offset)) = operand queues N own_of H its_sender k rs2
-  value_stored k other = any

@@ -1,6 +1,6 @@
 -- Fields of records: numbers of which a queue's sender sends one in each record, and what the receiver's load of one comes to.
 use Rattle.std.specs.Prelude.{ℕ, zero, suc, ◌+◌, ◌*◌, ◌^◌, ◌==◌, ◌&&◌, nat_le, nat_lt, if◌then◌else◌, Bool, true, Option, None, Some}
-use Rattle.std.specs.Prelude.{List, [], ◌∷◌, get_or}
+use Rattle.std.specs.Prelude.{List, [], ◌∷◌}
 use Rattle.rv_decode.specs.declared.instruction.LoadOp.{LoadOp}
 use Rattle.rv_decode.specs.declared.instruction.LoadOp.TheVariants as load
 use Rattle.rv_decode.specs.declared.instruction.Instr.{Instr}
@@ -8,9 +8,9 @@ use Rattle.rv_decode.specs.declared.instruction.Instr.TheVariants.{Load}
 use Rattle.hart.specs.Effects.{next_pc, load_width}
 use Rattle.slot_queue.specs.Queues.{Queue}
 use Rattle.owned_run.specs.Certificates.{Field}
-use Rattle.queue_certificates.specs.States.{KnownValue, any, linear, index_for, signed_for, no_share, KnownState}
+use Rattle.queue_certificates.specs.States.{KnownValue, any, linear, index_for, signed_for, KnownState}
 use Rattle.queue_certificates.specs.Results.{Result}
-use Rattle.queue_certificates.specs.Steps.{last_below, offset_at, is_owned, with_result, address_value, addresses, is_look}
+use Rattle.queue_certificates.specs.Steps.{last_below, offset_at, is_owned, with_result, share_at, address_value, addresses, is_look}
 
 -- The field's numbers are low, low + step .. up to this one
 abbrev pub last_number : Field → ℕ
@@ -42,14 +42,14 @@ abbrev pub field_or : Option Field → Option Field → Option Field
 field_or None g = g
 field_or (Some f) g = Some f
 
--- of hart h, where there are N queues with these fields, and H harts with own words at these addresses
-module _ (queues : ℕ → Queue) (fields : ℕ → List Field) (N : ℕ) (own_of : ℕ → List ℕ) (H h : ℕ) where
+-- of hart h, where queues have these fields
+module _ (queues : ℕ → Queue) (fields : ℕ → List Field) (h : ℕ) where
   -- of a record of queue i that the hart receives and owns
   abbrev pub field_in : KnownState → (place : KnownValue) (width i : ℕ) → Option Field
   field_in k any width i = None
   field_in k (index_for j f) width i = None
   field_in k (signed_for j f) width i = None
-  field_in k (linear f) width i = if ((queues i).receiver == h) && is_owned k.ranges (queues i) (get_or k.shares i no_share) (linear f) width
+  field_in k (linear f) width i = if ((queues i).receiver == h) && is_owned k.ranges (queues i) (share_at k i) (linear f) width
       then field_there (fields i) (offset_at (queues i) f.constant) width else None
 
   -- of the queues below n
@@ -57,15 +57,16 @@ module _ (queues : ℕ → Queue) (fields : ℕ → List Field) (N : ℕ) (own_o
   field_below k place width zero = None
   field_below k place width (suc n) = field_or (field_in k place width n) (field_below k place width n)
 
-  -- The states that follow, where `ks` do if nothing is known of what is received: after a load of a field its register holds one of
-  -- the field's numbers. A load that is a look at an index is none
-  abbrev pub after_field : KnownState → LoadOp → (rd : ℕ) → (look : Option ℕ) → Option Field → (ks : List KnownState) → List KnownState
-  after_field k op rd (Some i) f ks = ks
-  after_field k op rd None None ks = ks
-  after_field k op rd None (Some f) ks = if keeps_numbers op f then with_result k rd (next_pc k.pc) (field_number f) ∷ [] else ks
+-- The states that follow, where `ks` do if nothing is known of what is received: after a load of a field its register holds one of
+-- the field's numbers. A load that is a look at an index is none
+abbrev pub after_field : KnownState → LoadOp → (rd : ℕ) → (look : Option ℕ) → Option Field → (ks : List KnownState) → List KnownState
+after_field k op rd (Some i) f ks = ks
+after_field k op rd None None ks = ks
+after_field k op rd None (Some f) ks = if keeps_numbers op f then with_result k rd (next_pc k.pc) (field_number f) ∷ [] else ks
 
-  abbrev pub next_received : KnownState → Option Instr → Option (List KnownState) → Option (List KnownState)
-  next_received k (Some (Load op rd rs1 offset)) (Some ks) = Some (after_field k op rd.number
-      (last_below N (is_look queues N own_of H h (addresses queues N own_of H h k rs1 offset) (load_width op)))
-      (field_below k (address_value queues N own_of H h k rs1 offset) (load_width op) N) ks)
-  next_received k instruction next = next
+-- where there are N queues
+abbrev pub next_received : (ℕ → Queue) → (ℕ → List Field) → (N h : ℕ) → KnownState → Option Instr → Option (List KnownState) → Option (List KnownState)
+next_received queues fields N h k (Some (Load op rd rs1 offset)) (Some ks) = Some (after_field k op rd.number
+    (last_below N (is_look queues h (addresses queues k rs1 offset) (load_width op)))
+    (field_below queues fields h k (address_value queues k rs1 offset) (load_width op) N) ks)
+next_received queues fields N h k instruction next = next

@@ -3,6 +3,8 @@ pub mod States
 pub mod Results
 pub mod Steps
 pub mod Fields
+pub mod Tags
 pub mod Effects
+pub mod TagEffects
 pub mod Filled
 pub mod Certificates

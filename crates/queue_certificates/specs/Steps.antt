@@ -170,8 +170,49 @@ abbrev pub is_copy : ImmediateOp → ℤ → Bool
 is_copy immediate.Add (pos n) = n == 0
 is_copy op n = false
 
--- of hart h, where there are N queues and H harts with own words at these addresses
-module _ (queues : ℕ → Queue) (N : ℕ) (own_of : ℕ → List ℕ) (H h : ℕ) where
+-- the most that a load leaves in a register
+abbrev pub most_loaded : LoadOp → ℕ
+most_loaded load.ByteUnsigned = 255
+most_loaded load.HalfUnsigned = 65535
+most_loaded op = 2 ^ 32 - 1
+
+-- what is known of a queue, by its place among all
+abbrev pub share_at : KnownState → (i : ℕ) → Share
+share_at k i = get_or k.shares i no_share
+
+-- What is known of a number, if a number of which that is known surely fits into a word, as those of the indices of the first N queues do
+abbrev pub storable : (N : ℕ) → KnownValue → KnownValue
+storable N any = any
+storable N (linear f) = linear f
+storable N (index_for i f) = if nat_lt i N then index_for i f else any
+storable N (signed_for i f) = if nat_lt i N then signed_for i f else any
+
+-- the own words at these addresses after a store of a value
+abbrev pub word_then : (N : ℕ) → Bounds → (width : ℕ) → KnownValue → (a : ℕ) → KnownValue → KnownValue
+word_then N b width v a w = if is_apart b width a 4 then w else (if is_one b && (b.low == a) && (width == 4) then storable N v else any)
+
+abbrev pub words_then : (N : ℕ) → Bounds → (width : ℕ) → KnownValue → (own : List ℕ) → List KnownValue → List KnownValue
+words_then N b width v [] ws = ws
+words_then N b width v (a ∷ own) [] = []
+words_then N b width v (a ∷ own) (w ∷ ws) = word_then N b width v a w ∷ words_then N b width v own ws
+
+abbrev pub shares_moved : List Share → (d : Form) → Option ℕ → List Share
+shares_moved ss d None = ss
+shares_moved ss d (Some i) = set ss i (moved_share (get_or ss i no_share) d)
+
+-- the number that a load of an own word or of an own index reads
+abbrev pub word_loaded : KnownState → Option ℕ → KnownValue
+word_loaded k None = any
+word_loaded k (Some j) = get_or k.words j any
+
+abbrev pub index_loaded : KnownState → Option ℕ → KnownValue → KnownValue
+index_loaded k None v = v
+index_loaded k (Some i) v = index_for i (share_at k i).own
+
+-- ---- by the queues alone
+
+module _ (queues : ℕ → Queue) where
+  -- what registers hold and where they point, as forms where that is known
   abbrev pub operand : KnownState → Reg → KnownValue
   operand k r = plain queues k.ranges (register_at k r)
 
@@ -181,43 +222,14 @@ module _ (queues : ℕ → Queue) (N : ℕ) (own_of : ℕ → List ℕ) (H h : �
   abbrev pub addresses : KnownState → Reg → ℤ → Bounds
   addresses k r offset = anywhere (bounds k.ranges (address_value k r offset))
 
-  -- what is known of a number, if a number of which that is known surely fits into a word, as one of these queues' indices does
-  abbrev pub storable : KnownValue → KnownValue
-  storable any = any
-  storable (linear f) = linear f
-  storable (index_for i f) = if nat_lt i N then index_for i f else any
-  storable (signed_for i f) = if nat_lt i N then signed_for i f else any
+  -- where an AMO's word may lie, and what it stores
+  abbrev pub exchanged : KnownState → Reg → Bounds
+  exchanged k r = anywhere (bounds k.ranges (operand k r))
 
-  -- a copy keeps what is known
-  abbrev pub immediate_result : KnownState → ImmediateOp → KnownValue → ℤ → Result
-  immediate_result k op v n = if is_copy op n then just (storable v) else of_immediate queues N k.ranges op v n
-
-  -- ---- loads
-
-  -- it loads the other's index of queue i, whole
-  abbrev pub is_look : (b : Bounds) (width : ℕ) → (i : ℕ) → Bool
-  is_look b width i = is_one b && is_whole (queues i) (party_of (queues i) h) other b.low width
-
-  abbrev pub is_own_index : (b : Bounds) (width : ℕ) → (i : ℕ) → Bool
-  is_own_index b width i = is_one b && is_whole (queues i) (party_of (queues i) h) (λ p. p) b.low width
-
-  abbrev pub is_own_word : (b : Bounds) (width : ℕ) → (j : ℕ) → Bool
-  is_own_word b width j = is_one b && (b.low == slice_index (own_of h) j) && (width == 4)
-
-  abbrev pub share_at : KnownState → (i : ℕ) → Share
-  share_at k i = get_or k.shares i no_share
-
-  abbrev pub word_loaded : KnownState → Option ℕ → KnownValue
-  word_loaded k None = any
-  word_loaded k (Some j) = get_or k.words j any
-
-  abbrev pub index_loaded : KnownState → Option ℕ → KnownValue → KnownValue
-  index_loaded k None v = v
-  index_loaded k (Some i) v = index_for i (share_at k i).own
-
-  -- the number that a load reads, where it is no look
-  abbrev pub value_loaded : KnownState → (b : Bounds) (width : ℕ) → KnownValue
-  value_loaded k b width = index_loaded k (last_below N (is_own_index b width)) (word_loaded k (last_below (length (own_of h)) (is_own_word b width)))
+  abbrev pub updated_value : List (Option ℕ) → AmoOp → (old with' : KnownValue) → KnownValue
+  updated_value rs amo.Swap old with' = with'
+  updated_value rs amo.Add old with' = sum_of (plain queues rs old) (plain queues rs with')
+  updated_value rs op old with' = any
 
   -- it is the word of an index all of whose words are below a limit
   abbrev pub is_index_below : (limit : ℕ) → KnownValue → Bool
@@ -239,33 +251,7 @@ module _ (queues : ℕ → Queue) (N : ℕ) (own_of : ℕ → List ℕ) (H h : �
   extended_value op v = v
 
   abbrev pub loaded : LoadOp → KnownValue → Result
-  loaded load.ByteUnsigned v = or_up_to 255 v
-  loaded load.HalfUnsigned v = or_up_to 65535 v
-  loaded op v = just (extended_value op v)
-
-  abbrev pub looked_word : (i : ℕ) → Share → KnownValue
-  looked_word i s = index_for i (plus (plus (lifted s.own) (owned_then s)) (number (back_of (queues i) (party_of (queues i) h))))
-
-  abbrev pub after_look : KnownState → LoadOp → (rd i : ℕ) → Share → KnownState
-  after_look k op rd i s = record (with_result k rd (next_pc k.pc) (record {
-    most = (queues i).capacity - s.owned.constant;
-    value = extended_value op (looked_word i s);
-  })) { shares = set (map (share_by lifted) k.shares) i (looked_share s) }
-
-  abbrev pub after_load : KnownState → LoadOp → (rd : ℕ) → Bounds → Option ℕ → KnownState
-  after_load k op rd b None = with_result k rd (next_pc k.pc) (loaded op (value_loaded k b (load_width op)))
-  after_load k op rd b (Some i) = after_look k op rd i (share_at k i)
-
-  abbrev pub may_load : KnownState → Bounds → (width : ℕ) → Option ℕ → Bool
-  may_load k b width look = all_below N (λ i. (is_just look i && nat_lt i (length k.shares)) || misses (queues i) (party_of (queues i) h) b width)
-
-  abbrev pub load_by : KnownState → LoadOp → (rd : ℕ) → Bounds → Option ℕ → Option (List KnownState)
-  load_by k op rd b look = if may_load k b (load_width op) look then Some (after_load k op rd b look ∷ []) else None
-
-  abbrev pub loading : KnownState → LoadOp → (rd : ℕ) → Bounds → Option (List KnownState)
-  loading k op rd b = load_by k op rd b (last_below N (is_look b (load_width op)))
-
-  -- ---- stores
+  loaded op v = or_up_to (most_loaded op) (extended_value op v)
 
   -- d positions are handed over: the word is of the count d further, and d are owned
   abbrev pub may_move : KnownState → (d : Form) → KnownValue → (i : ℕ) → Share → Bool
@@ -277,60 +263,105 @@ module _ (queues : ℕ → Queue) (N : ℕ) (own_of : ℕ → List ℕ) (H h : �
   may_fill k None place width i = false
   may_fill k (Some p) place width i = is_owned k.ranges (queues i) (share_at k i) place width
 
+  -- each byte of a load of queue i's slots is of an owned one
+  abbrev pub reads_owned : KnownState → (i : ℕ) → (place : KnownValue) → Bounds → (width : ℕ) → Bool
+  reads_owned k i place b width = is_apart b width (queues i).slots ((queues i).size * (queues i).width) || is_owned
+      k.ranges (queues i) (share_at k i) place width
+
+  abbrev pub loads_owned : KnownState → (i : ℕ) → Option Instr → Bool
+  loads_owned k i (Some (Load op rd rs1 offset)) = reads_owned k i (address_value k rs1 offset) (addresses k rs1 offset) (load_width op)
+  loads_owned k i (Some (Amo op rd rs1 rs2 aq rl)) = reads_owned k i (operand k rs1) (exchanged k rs1) 4
+  loads_owned k i other = true
+
+-- a copy keeps what is known
+abbrev pub immediate_result : (ℕ → Queue) → (N : ℕ) → KnownState → ImmediateOp → KnownValue → ℤ → Result
+immediate_result queues N k op v n = if is_copy op n then just (storable N v) else of_immediate queues N k.ranges op v n
+
+-- ---- of hart h
+
+module _ (queues : ℕ → Queue) (h : ℕ) where
+  -- it loads the other's index of queue i, whole
+  abbrev pub is_look : (b : Bounds) (width : ℕ) → (i : ℕ) → Bool
+  is_look b width i = is_one b && is_whole (queues i) (party_of (queues i) h) other b.low width
+
+  abbrev pub is_own_index : (b : Bounds) (width : ℕ) → (i : ℕ) → Bool
+  is_own_index b width i = is_one b && is_whole (queues i) (party_of (queues i) h) (λ p. p) b.low width
+
+  abbrev pub looked_word : (i : ℕ) → Share → KnownValue
+  looked_word i s = index_for i (plus (plus (lifted s.own) (owned_then s)) (number (back_of (queues i) (party_of (queues i) h))))
+
+  abbrev pub after_look : KnownState → LoadOp → (rd i : ℕ) → Share → KnownState
+  after_look k op rd i s = record (with_result k rd (next_pc k.pc) (record {
+    most = (queues i).capacity - s.owned.constant;
+    value = extended_value queues op (looked_word i s);
+  })) { shares = set (map (share_by lifted) k.shares) i (looked_share s) }
+
   abbrev pub may_store : KnownState → (d : Form) → KnownValue → (place : KnownValue) → Bounds → (width : ℕ) → (move : Option ℕ) → (i : ℕ) → Bool
-  may_store k d v place b width move i = if is_just move i then may_move k d v i (share_at k i) else
-      (is_off (queues i) b width || may_fill k (party_of (queues i) h) place width i)
+  may_store k d v place b width move i = if is_just move i then may_move queues k d v i (share_at k i) else
+      (is_off (queues i) b width || may_fill queues k (party_of (queues i) h) place width i)
+
+-- of N queues
+abbrev pub may_load : (ℕ → Queue) → (N h : ℕ) → KnownState → Bounds → (width : ℕ) → Option ℕ → Bool
+may_load queues N h k b width look = all_below N
+    (λ i. (is_just look i && nat_lt i (length k.shares)) || misses (queues i) (party_of (queues i) h) b width)
+
+-- ---- harts have own words at these addresses
+
+module _ (own_of : ℕ → List ℕ) (h : ℕ) where
+  abbrev pub is_own_word : (b : Bounds) (width : ℕ) → (j : ℕ) → Bool
+  is_own_word b width j = is_one b && (b.low == slice_index (own_of h) j) && (width == 4)
 
   -- it writes no other hart's own word
   abbrev pub leaves_words : Bounds → (width : ℕ) → (g : ℕ) → Bool
   leaves_words b width g = (g == h) || all_below (length (own_of g)) (λ j. is_apart b width (slice_index (own_of g) j) 4)
 
-  abbrev pub word_then : Bounds → (width : ℕ) → KnownValue → (a : ℕ) → KnownValue → KnownValue
-  word_then b width v a w = if is_apart b width a 4 then w else (if is_one b && (b.low == a) && (width == 4) then storable v else any)
+abbrev pub after_store : (N : ℕ) (own_of : ℕ → List ℕ) (h : ℕ) → KnownState → (d : Form) → (width : ℕ) → KnownValue → Bounds → Option ℕ → KnownState
+after_store N own_of h k d width v b move = going_to (record k {
+  words = words_then N b width v (own_of h) k.words;
+  shares = shares_moved k.shares d move;
+}) (next_pc k.pc)
 
-  abbrev pub words_then : Bounds → (width : ℕ) → KnownValue → (own : List ℕ) → List KnownValue → List KnownValue
-  words_then b width v [] ws = ws
-  words_then b width v (a ∷ own) [] = []
-  words_then b width v (a ∷ own) (w ∷ ws) = word_then b width v a w ∷ words_then b width v own ws
+module _ (queues : ℕ → Queue) (N : ℕ) (own_of : ℕ → List ℕ) (h : ℕ) where
+  -- the number that a load reads, where it is no look
+  abbrev pub value_loaded : KnownState → (b : Bounds) (width : ℕ) → KnownValue
+  value_loaded k b width = index_loaded k (last_below N (is_own_index queues h b width))
+      (word_loaded k (last_below (length (own_of h)) (is_own_word own_of h b width)))
 
-  abbrev pub shares_moved : List Share → (d : Form) → Option ℕ → List Share
-  shares_moved ss d None = ss
-  shares_moved ss d (Some i) = set ss i (moved_share (get_or ss i no_share) d)
+  abbrev pub after_load : KnownState → LoadOp → (rd : ℕ) → Bounds → Option ℕ → KnownState
+  after_load k op rd b None = with_result k rd (next_pc k.pc) (loaded queues op (value_loaded k b (load_width op)))
+  after_load k op rd b (Some i) = after_look queues h k op rd i (share_at k i)
 
-  abbrev pub after_store : KnownState → (d : Form) → (width : ℕ) → KnownValue → Bounds → Option ℕ → KnownState
-  after_store k d width v b move = going_to (record k {
-    words = words_then b width v (own_of h) k.words;
-    shares = shares_moved k.shares d move;
-  }) (next_pc k.pc)
+  abbrev pub load_by : KnownState → LoadOp → (rd : ℕ) → Bounds → Option ℕ → Option (List KnownState)
+  load_by k op rd b look = if may_load queues N h k b (load_width op) look then Some (after_load k op rd b look ∷ []) else None
 
-  abbrev pub store_by : KnownState → (d : Form) → (width : ℕ) → KnownValue → (place : KnownValue) → Bounds → Option ℕ → Option (List KnownState)
-  store_by k d width v place b move = if all_below N (may_store k d v place b width move) && all_below H (leaves_words b width)
-      then Some (after_store k d width v b move ∷ []) else None
+  abbrev pub loading : KnownState → LoadOp → (rd : ℕ) → Bounds → Option (List KnownState)
+  loading k op rd b = load_by k op rd b (last_below N (is_look queues h b (load_width op)))
 
-  abbrev pub storing : KnownState → (d : Form) → (width : ℕ) → KnownValue → (place : KnownValue) → Bounds → Option (List KnownState)
-  storing k d width v place b = store_by k d width v place b (last_below N (is_own_index b width))
-
-  -- ---- AMOs: a load and then a store of a word, of no index of the other's
-
-  abbrev pub updated_value : List (Option ℕ) → AmoOp → (old with' : KnownValue) → KnownValue
-  updated_value rs amo.Swap old with' = with'
-  updated_value rs amo.Add old with' = sum_of (plain queues rs old) (plain queues rs with')
-  updated_value rs op old with' = any
-
+  -- an AMO loads and then stores a word, of no index of the other's
   abbrev pub after_exchange : KnownState → (d : Form) → (rd : ℕ) → KnownValue → Bounds → Option ℕ → KnownState
   after_exchange k d rd v b move = with_result (record k {
-    words = words_then b 4 v (own_of h) k.words;
+    words = words_then N b 4 v (own_of h) k.words;
     shares = shares_moved k.shares d move;
   }) rd (next_pc k.pc) (just (value_loaded k b 4))
 
+-- ---- of hart h, where there are N queues and H harts with own words at these addresses
+module _ (queues : ℕ → Queue) (N : ℕ) (own_of : ℕ → List ℕ) (H h : ℕ) where
+  abbrev pub store_by : KnownState → (d : Form) → (width : ℕ) → KnownValue → (place : KnownValue) → Bounds → Option ℕ → Option (List KnownState)
+  store_by k d width v place b move = if all_below N (may_store queues h k d v place b width move) && all_below H (leaves_words own_of h b width)
+      then Some (after_store N own_of h k d width v b move ∷ []) else None
+
+  abbrev pub storing : KnownState → (d : Form) → (width : ℕ) → KnownValue → (place : KnownValue) → Bounds → Option (List KnownState)
+  storing k d width v place b = store_by k d width v place b (last_below N (is_own_index queues h b width))
+
   abbrev pub exchange_by : KnownState → (d : Form) → (rd : ℕ) → KnownValue → (place : KnownValue) → Bounds → Option ℕ → Option (List KnownState)
-  exchange_by k d rd v place b move = if all_below N (may_store k d v place b 4 move) && all_below H
-      (leaves_words b 4) && all_below N (λ i. misses (queues i) (party_of (queues i) h) b 4)
-      then Some (after_exchange k d rd v b move ∷ []) else None
+  exchange_by k d rd v place b move = if all_below N (may_store queues h k d v place b 4 move) && all_below H
+      (leaves_words own_of h b 4) && all_below N (λ i. misses (queues i) (party_of (queues i) h) b 4)
+      then Some (after_exchange queues N own_of h k d rd v b move ∷ []) else None
 
   abbrev pub exchanging : KnownState → (d : Form) → AmoOp → (rd : ℕ) → KnownValue → (place : KnownValue) → Option Bounds → Option (List KnownState)
   exchanging k d op rd v place None = None
-  exchanging k d op rd v place (Some b) = exchange_by k d rd (updated_value k.ranges op (value_loaded k b 4) v) place b (last_below N (is_own_index b 4))
+  exchanging k d op rd v place (Some b) = exchange_by k d rd (updated_value queues k.ranges op (value_loaded queues N own_of h k b 4) v) place b
+      (last_below N (is_own_index queues h b 4))
 
   -- ---- instructions. A leaf of a certificate says how many positions its instruction hands over
 
@@ -339,27 +370,19 @@ module _ (queues : ℕ → Queue) (N : ℕ) (own_of : ℕ → List ℕ) (H h : �
   follow k d (Some (Lui rd upper)) = Some (with_result k rd.number (next_pc k.pc) (exactly (upper * 2 ^ 12)) ∷ [])
   follow k d (Some (Auipc rd upper)) = Some (with_result k rd.number (next_pc k.pc) (exactly ((k.pc + upper * 2 ^ 12) % 2 ^ 32)) ∷ [])
   follow k d (Some (Jal rd offset)) = Some (with_result k rd.number (address k.pc offset) (exactly (next_pc k.pc)) ∷ [])
-  follow k d (Some (Jalr rd rs1 offset)) = jumping k rd.number offset (as_number (operand k rs1))
+  follow k d (Some (Jalr rd rs1 offset)) = jumping k rd.number offset (as_number (operand queues k rs1))
   follow k d (Some (Branch op rs1 rs2 offset)) = Some (goes_by (when_taken k op rs1 rs2) (when_passed k op rs1 rs2) (address k.pc offset) (next_pc k.pc)
-      (is_branch_taken queues k.ranges op (operand k rs1) (operand k rs2)))
-  follow k d (Some (Load op rd rs1 offset)) = loading k op rd.number (addresses k rs1 offset)
-  follow k d (Some (Store op rs1 rs2 offset)) = storing k d (store_width op) (register_at k rs2) (address_value k rs1 offset) (addresses k rs1 offset)
-  follow k d (Some (Immediate op rd rs1 n)) = Some (with_result k rd.number (next_pc k.pc) (immediate_result k op (operand k rs1) n) ∷ [])
-  follow k d (Some (Shift op rd rs1 amount)) = Some (with_result k rd.number (next_pc k.pc) (of_shift queues N k.ranges op (operand k rs1) amount) ∷ [])
+      (is_branch_taken queues k.ranges op (operand queues k rs1) (operand queues k rs2)))
+  follow k d (Some (Load op rd rs1 offset)) = loading queues N own_of h k op rd.number (addresses queues k rs1 offset)
+  follow k d (Some (Store op rs1 rs2 offset)) = storing k d (store_width op) (register_at k rs2)
+      (address_value queues k rs1 offset) (addresses queues k rs1 offset)
+  follow k d (Some (Immediate op rd rs1 n)) = Some (with_result k rd.number (next_pc k.pc) (immediate_result queues N k op (operand queues k rs1) n) ∷ [])
+  follow k d (Some (Shift op rd rs1 amount)) = Some (with_result k rd.number (next_pc k.pc) (of_shift queues N k.ranges op (operand queues k rs1) amount) ∷ [])
   follow k d (Some (Register op rd rs1 rs2)) = Some (with_result k rd.number (next_pc k.pc)
-      (of_registers queues N k.ranges op (operand k rs1) (operand k rs2)) ∷ [])
+      (of_registers queues N k.ranges op (operand queues k rs1) (operand queues k rs2)) ∷ [])
   follow k d (Some (Fence pred succ)) = Some (going_to k (next_pc k.pc) ∷ [])
   follow k d (Some FenceTso) = Some (going_to k (next_pc k.pc) ∷ [])
   follow k d (Some Ecall) = Some (called k ∷ [])
   follow k d (Some Ebreak) = Some []
-  follow k d (Some (Amo op rd rs1 rs2 aq rl)) = exchanging k d op rd.number (register_at k rs2) (operand k rs1) (bounds k.ranges (operand k rs1))
-
-  -- each byte of a load of queue i's slots is of an owned one
-  abbrev pub reads_owned : KnownState → (i : ℕ) → (place : KnownValue) → Bounds → (width : ℕ) → Bool
-  reads_owned k i place b width = is_apart b width (queues i).slots ((queues i).size * (queues i).width) || is_owned
-      k.ranges (queues i) (share_at k i) place width
-
-  abbrev pub loads_owned : KnownState → (i : ℕ) → Option Instr → Bool
-  loads_owned k i (Some (Load op rd rs1 offset)) = reads_owned k i (address_value k rs1 offset) (addresses k rs1 offset) (load_width op)
-  loads_owned k i (Some (Amo op rd rs1 rs2 aq rl)) = reads_owned k i (operand k rs1) (anywhere (bounds k.ranges (operand k rs1))) 4
-  loads_owned k i other = true
+  follow k d (Some (Amo op rd rs1 rs2 aq rl)) = exchanging k d op rd.number (register_at k rs2)
+      (operand queues k rs1) (bounds k.ranges (operand queues k rs1))

@@ -8,17 +8,20 @@
 //! Of a queue's records a certificate may say fields: numbers of some bytes, from which a receiver's loads are then known. A queue's
 //! sender has to show that each is right where it publishes the record, and its receiver stores nothing to the slots.
 //!
+//! Beside queues with indices there may be queues with tags, whose slots tell whose they are (`slots_that_tell`). Where a party loads a
+//! tag the certificate goes on from two states: in one the tag tells the party that it has the slot, and in the other it doesn't.
+//!
 //! Called by `queue_checker`, `records_written` and `certifying`.
 
 #![tactic(auto)]
 
 mod effect;
 
-ghost use Rattle.std.specs.Prelude.{ℕ, ◌≡◌, ◌*◌, ◌<◌, ◌≤◌, List, [], ◌∷◌, ◌++◌, length, Some, true};
+ghost use Rattle.std.specs.Prelude.{ℕ, ◌≡◌, ◌⊎◌, ◌+◌, ◌*◌, ◌<◌, ◌≤◌, List, [], ◌∷◌, ◌++◌, length, Some, true};
 ghost use Rattle.step_machine.specs.declared.events.Entry.{Entry};
 ghost use Rattle.step_machine.specs.History.{OpeningValue, history_of};
-ghost use Rattle.step_machine.specs.Access.{access_of};
-ghost use Rattle.step_machine.specs.Entries.{hart_of, read_byte};
+ghost use Rattle.step_machine.specs.Access.{load, access_of};
+ghost use Rattle.step_machine.specs.Entries.{hart_of, read_byte, read};
 ghost use Rattle.step_machine.specs.Paths.{state_of};
 ghost use Rattle.hart.specs.State.{HartState};
 ghost use Rattle.step_machine.specs.Legal.{WellFormed};
@@ -27,9 +30,17 @@ ghost use Rattle.queue_parties.specs.Parties.{Party, the_receiver, all_at};
 ghost use Rattle.slot_queue.specs.Ownership.{hart};
 ghost use Rattle.slot_queue.specs.Laws.{FollowsOwnership};
 ghost use Rattle.slot_queue.specs.Ownership.{counts_after};
+ghost use Rattle.certified_runs.specs.TwoParties.{EachIs};
+ghost use Rattle.slots_that_tell.specs.Slots.{tag_of, IsSlotByte};
+ghost use Rattle.slots_that_tell.specs.Telling.{teller_hart};
+ghost use Rattle.slots_that_tell.specs.Laws.{FollowsTelling, counts};
+ghost use Rattle.telling_run.specs.Certified.{telling, IsOfTag, LoadsRestOwned};
+ghost use Rattle.telling_run.specs.Arrived.{HasArrived};
 ghost use Rattle.owned_run.specs.Certified.{LoadsByte, ReadsOwned};
 ghost use Rattle.owned_run.specs.Delivered.{IsDelivered};
-ghost use Rattle.queue_certificates.specs.Certificates.{QueueCertificate, queue_at, start_at, IsInState, MeetsFields, accepts, accepts_loads};
+ghost use Rattle.queue_layouts.specs.Tagged.{slots_of, tells_by};
+ghost use Rattle.queue_certificates.specs.Certificates.{QueueCertificate, queue_at, start_at, tagged_at, tagged_start, IsInState, MeetsFields};
+ghost use Rattle.queue_certificates.specs.Certificates.{accepts, accepts_loads, accepts_rest};
 
 pub use effect::Effect;
 
@@ -44,7 +55,13 @@ pub use effect::Effect;
 /// - `in_states`: a hart that runs is in one of the certificate's states.
 /// - `sent`: of a queue whose records have fields, the receiver reads in the slot of each position that it owns, as each field, one of
 ///   the field's numbers.
-#[tactic(auto, using(crate::proofs::EveryRun::accepted_runs, crate::proofs::EveryRun::accepted_loads, crate::proofs::EveryRun::accepted_deliveries, crate::proofs::EveryRun::accepted_states, crate::proofs::EveryRun::accepted_records))]
+/// - `tells`: the run keeps the protocol of each queue with tags, so that all that `slots_that_tell::laws_of_telling` promises holds of it.
+/// - `rest_owned`: where a party's loads of the slots of such a queue are accepted too, each byte of them that it loads, by a load or an
+///   AMO, is of a tag or of a position that it owns.
+/// - `arrived`: where the receiver's are, such a byte that isn't of a tag waited at the opening, or is as the sender's hart read it just
+///   after it stored its position's tag, unless the receiver has stored there since.
+/// - `told`: after a load of a whole tag that tells the receiver of position k, each byte of k's slot is so, those of the tag too; and
+///   the receiver still reads there what it loaded.
 pub fn laws_of_queue_certificates()
     ensures every_run { (B M : ℕ) (o : OpeningValue) (c : QueueCertificate) → accepts o c ≡ true → (es : List Entry)
         → WellFormed B M (history_of o es) → (i : ℕ) → i < length c.queues → FollowsOwnership B (queue_at c i) (all_at (start_at c i)) o [] es }
@@ -62,4 +79,25 @@ pub fn laws_of_queue_certificates()
         → WellFormed B M (history_of o es) → (k : ℕ) → (counts_after (queue_at c i) (all_at (start_at c i)) es).taken ≤ k
         → k < (counts_after (queue_at c i) (all_at (start_at c i)) es).known_published
         → MeetsFields c i k (λ x. read_byte o es (queue_at c i).receiver x) }
+    ensures tells { (B M : ℕ) (o : OpeningValue) (c : QueueCertificate) → accepts o c ≡ true → (es : List Entry)
+        → WellFormed B M (history_of o es) → (t : ℕ) → t < length c.tagged
+        → FollowsTelling B (slots_of (tagged_at c t)) (all_at (tagged_start c t)) o [] es }
+    ensures rest_owned { (B M : ℕ) (o : OpeningValue) (c : QueueCertificate) → accepts o c ≡ true → (t : ℕ) (p : Party) → t < length c.tagged
+        → accepts_rest o c t (teller_hart (slots_of (tagged_at c t)) p) ≡ true → (es : List Entry) → WellFormed B M (history_of o es)
+        → EachIs (telling (slots_of (tagged_at c t))) (teller_hart (slots_of (tagged_at c t)) p) (LoadsRestOwned (slots_of (tagged_at c t)) p)
+        (all_at (tagged_start c t)) es }
+    ensures arrived { (B M : ℕ) (o : OpeningValue) (c : QueueCertificate) → accepts o c ≡ true → (t : ℕ) → t < length c.tagged
+        → accepts_rest o c t (tagged_at c t).receiver ≡ true → (es : List Entry) (e : Entry) → WellFormed B M (history_of o (es ++ e ∷ []))
+        → hart_of e ≡ (tagged_at c t).receiver → (x : ℕ) → LoadsByte (access_of e) x
+        → IsInBytes (tagged_at c t).slots ((tagged_at c t).size * (tagged_at c t).width) x
+        → IsOfTag (slots_of (tagged_at c t)) x ⊎ HasArrived (slots_of (tagged_at c t)) (all_at (tagged_start c t)) o es x }
+    ensures told { (B M : ℕ) (o : OpeningValue) (c : QueueCertificate) → accepts o c ≡ true → (t : ℕ) → t < length c.tagged
+        → (es : List Entry) (e : Entry) → WellFormed B M (history_of o (es ++ e ∷ [])) → hart_of e ≡ (tagged_at c t).receiver
+        → (k v : ℕ) → access_of e ≡ load (tag_of (slots_of (tagged_at c t)) k) (tagged_at c t).tag_width v
+        → (counts (slots_of (tagged_at c t)) (all_at (tagged_start c t)) es).taken ≤ k
+        → k < (counts (slots_of (tagged_at c t)) (all_at (tagged_start c t)) es).taken + (tagged_at c t).size
+        → tells_by (tagged_at c t).codec the_receiver k v ≡ true
+        → (v ≡ read o (es ++ e ∷ []) (tagged_at c t).receiver (tag_of (slots_of (tagged_at c t)) k) (tagged_at c t).tag_width)
+        × ((x : ℕ) → IsSlotByte (slots_of (tagged_at c t)) k x
+        → HasArrived (slots_of (tagged_at c t)) (all_at (tagged_start c t)) o (es ++ e ∷ []) x) }
 {}

@@ -1,4 +1,5 @@
 use Rattle.queue_certificates.proofs.EveryRun.{accepted_runs, accepted_loads, accepted_deliveries, accepted_states, accepted_records}
+use Rattle.queue_certificates.proofs.EveryRun.{accepted_telling, accepted_rest, accepted_arrivals, accepted_tellings}
 use Rattle.queue_certificates.proofs.laws_of_queue_certificates.Goals as goal
 
 pub returns-clause-every_run : goal.returns-clause-every_run
@@ -15,3 +16,15 @@ returns-clause-in_states c = accepted_states
 
 pub returns-clause-sent : goal.returns-clause-sent
 returns-clause-sent c = accepted_records
+
+pub returns-clause-tells : goal.returns-clause-tells
+returns-clause-tells c = accepted_telling
+
+pub returns-clause-rest_owned : goal.returns-clause-rest_owned
+returns-clause-rest_owned c = accepted_rest
+
+pub returns-clause-arrived : goal.returns-clause-arrived
+returns-clause-arrived c = accepted_arrivals
+
+pub returns-clause-told : goal.returns-clause-told
+returns-clause-told c = accepted_tellings

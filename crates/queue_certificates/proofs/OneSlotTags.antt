@@ -1,0 +1,95 @@
+-- A certificate of a queue with tags that is accepted: of two harts that pass the word 7 for ever through one slot, which is 0 while it
+-- is free. Each loads the slot until that tells it that it owns it, and then stores there what tells the other.
+use Rattle.std.proofs.Common.{ℕ, ◌≡◌, List, [], ◌∷◌, Option, Some, None, refl, true, false}
+use Rattle.rv_decode.specs.Meaning.{meaning}
+use Rattle.telling_run.proofs.OneSlotText.{text}
+use Rattle.queue_certificates.specs.Forms.{number}
+use Rattle.queue_certificates.specs.States.{KnownValue, any, linear}
+use Rattle.queue_certificates.specs.Certificates.{Cases, leaf, ListedState, HartPart, QueueCertificate, accepts, accepts_rest}
+use Rattle.queue_layouts.specs.declared.tagged.Codec.TheVariants as codec
+use Rattle.queue_layouts.specs.declared.tagged.TaggedQueue.{TaggedQueue}
+use Rattle.queue_certificates.proofs.OneSlotQueue.{form, arrow}
+use Rattle.queue_certificates.specs.Tags.{told_by_store}
+
+abbrev q : TaggedQueue
+q = record { sender = 0; receiver = 1; slots = 0; size = 1; width = 4; tag_offset = 0; tag_width = 4; codec = codec.Zero }
+
+-- what is known of x1 and x3, and of how many positions are owned; the first variable is the own count
+abbrev listed : ℕ → List (Option ℕ) → (x1 x3 : KnownValue) → (owned : ℕ) → Cases → ListedState
+listed pc ranges x1 x3 owned cases = record {
+  known = record {
+    pc = pc;
+    ranges = None ∷ ranges;
+    registers = linear (number 0) ∷ x1 ∷ any ∷ x3 ∷ [];
+    words = [];
+    shares = record { own = form 0 (1 ∷ []); owned = number owned } ∷ [];
+  };
+  filled = [];
+  cases = cases;
+}
+
+-- the count stays, or is one more after a tag is stored
+abbrev on : ℕ → Cases
+on to = leaf (number 0) (arrow to (form 0 (0 ∷ 1 ∷ []) ∷ []) ∷ [])
+
+abbrev handed : ℕ → Cases
+handed to = leaf (number 0) (arrow to (form 1 (0 ∷ 1 ∷ []) ∷ []) ∷ [])
+
+-- the load tells the party that it owns the slot, or doesn't. What it loads is 0, or is known by the variable that comes with the step
+abbrev sender_looks : Cases
+sender_looks = leaf (number 0) (arrow 1 (form 0 (0 ∷ 1 ∷ []) ∷ []) ∷ arrow 2 (form 0 (0 ∷ 1 ∷ []) ∷ form 0 (1 ∷ []) ∷ []) ∷ [])
+
+abbrev receiver_looks : Cases
+receiver_looks = leaf (number 0) (arrow 1 (form 0 (0 ∷ 1 ∷ []) ∷ form 0 (1 ∷ []) ∷ []) ∷ arrow 2 (form 0 (0 ∷ 1 ∷ []) ∷ []) ∷ [])
+
+abbrev nothing : KnownValue
+nothing = linear (number 0)
+
+-- some number that isn't 0
+abbrev some : KnownValue
+some = linear (form 1 (0 ∷ 1 ∷ []))
+
+-- the sender sends what its x3 is known to be
+abbrev part_0 : KnownValue → HartPart
+part_0 sent = record {
+  own = [];
+  first = 0;
+  numbers = 0 ∷ [];
+  states = listed 0 [] any sent 0 sender_looks
+      ∷ listed 4 [] nothing sent 1 (on 3)
+      ∷ listed 4 (Some 4294967294 ∷ []) some sent 0 (on 0)
+      ∷ listed 8 [] any sent 1 (handed 4)
+      ∷ listed 12 [] any sent 0 (on 0) ∷ [];
+}
+
+abbrev part_1 : HartPart
+part_1 = record {
+  own = [];
+  first = 0;
+  numbers = 0 ∷ [];
+  states = listed 0 [] any any 0 receiver_looks
+      ∷ listed 4 (Some 4294967294 ∷ []) some any 1 (on 3)
+      ∷ listed 4 [] nothing any 0 (on 0)
+      ∷ listed 8 [] any any 1 (handed 4)
+      ∷ listed 12 [] any any 0 (on 0) ∷ [];
+}
+
+abbrev certificate : KnownValue → QueueCertificate
+certificate sent = record { queues = []; tagged = record { queue = q; start = 0 } ∷ []; harts = part_0 sent ∷ part_1 ∷ [] }
+
+tags_accepted : accepts text (certificate (linear (number 7))) ≡ true
+unfolding meaning told_by_store
+tags_accepted = refl
+
+senders_loads : accepts_rest text (certificate (linear (number 7))) 0 0 ≡ true
+unfolding meaning told_by_store
+senders_loads = refl
+
+receivers_loads : accepts_rest text (certificate (linear (number 7))) 0 1 ≡ true
+unfolding meaning told_by_store
+receivers_loads = refl
+
+-- a word of which nothing is known may be 0, and so not tell the receiver
+any_word_refused : accepts text (certificate any) ≡ false
+unfolding meaning told_by_store
+any_word_refused = refl

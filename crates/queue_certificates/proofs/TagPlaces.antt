@@ -1,0 +1,171 @@
+-- What the tests of addresses mean, of a queue whose slots tell.
+use Rattle.std.proofs.Common.{ℕ, ◌+◌, ◌*◌, ◌<◌, ◌≤◌, ◌≡◌, ◌==◌, ◌&&◌, ◌||◌, ◌⊎◌, inl, inr, if◌then◌else◌}
+use Rattle.std.proofs.Common.{Bool, true, false, Option, Some, None, List, refl, subst, arith}
+use Rattle.std.specs.Prelude.{nat_lt, nat_le}
+use Rattle.std.proofs.lemmas.Bool.{and_parts, or_cases, ltb-true, leb-true, eqb-true, cases_lt}
+use Rattle.queue_parties.specs.Parties.{Party, other, QueueCounts, count}
+use Rattle.queue_parties.specs.Positions.{IsInBytes}
+use Rattle.slot_queue.specs.Queues.{Queue, slot_of}
+use Rattle.slots_that_tell.specs.Slots.{IsSlots, tag_of, IsTagByte, IsOutside}
+use Rattle.slots_that_tell.specs.Telling.{owned_end, OwnsRest}
+use Rattle.telling_run.specs.Certified.{IsOfTag, OwnsAllButTags}
+use Rattle.queue_certificates.specs.Forms.{Form, form_value, number, plus, remainder, InRanges, Bounds}
+use Rattle.queue_certificates.specs.States.{KnownValue, any, linear, index_for, signed_for, Share, Has}
+use Rattle.queue_certificates.specs.Steps.{position_at, offset_at, is_slot, is_owned}
+use Rattle.queue_certificates.specs.Tags.{bare, HasAtLeast, is_in_slot, tag_position}
+use Rattle.queue_layouts.specs.Tagged.{slots_of}
+use Rattle.queue_certificates.specs.Tags.{is_of_rest, is_of_tag, is_beside_slots}
+use Rattle.queue_layouts.specs.declared.tagged.TaggedQueue.{TaggedQueue}
+use Rattle.queue_certificates.proofs.Stores.{slot-place, position-near}
+
+-- ---- bytes of slots and of tags
+
+module _ (q : TaggedQueue) (is : IsSlots (slots_of q)) where
+  pub beside-outside : (b : Bounds) (a width x : ℕ) → is_beside_slots q b width ≡ true → b.low ≤ a → a ≤ b.high → IsInBytes a width x
+      → IsOutside (slots_of q) x
+  beside-outside b a width x ok low high within slots =
+      elim (or_cases (nat_le (b.high + width) q.slots) (nat_le (q.slots + q.size * q.width) b.low) ok) [
+        | inl under ↦ (let u : b.high + width ≤ q.slots = leb-true (b.high + width) q.slots under in omega (arith, u, high, within.1, slots.0))
+        | inr over ↦ (let u : q.slots + q.size * q.width ≤ b.low = leb-true (q.slots + q.size * q.width) b.low over in
+            omega (arith, u, low, within.0, slots.1))
+      ]
+
+  -- ---- by what is known of the place
+
+  module _ (queues : ℕ → Queue) (rs : List (Option ℕ)) (xs : List ℕ) (ranges : InRanges rs xs) (s : Share) (n : ℕ) (own : n ≡ form_value s.own xs) where
+    pub in-slot : (f : Form) (a : ℕ) → Has queues xs (linear f) a → is_in_slot rs q s f ≡ true
+        → a ≡ slot_of (bare q) (n + position_at (bare q) s.own.constant f.constant) + offset_at (bare q) f.constant
+    in-slot f a at ok = slot-place (bare q) rs xs ranges s.own f n (position_at (bare q) s.own.constant f.constant) (offset_at (bare q) f.constant) a own at ok
+
+    pub record IsTagAt (a width j : ℕ) : Type 0 where
+      pub place : a ≡ tag_of (slots_of q) (n + j)
+      pub near : j < q.size
+      pub whole : width ≡ q.tag_width
+
+    pub tag-place : (place : KnownValue) (a width j : ℕ) → Has queues xs place a → tag_position rs q s place width ≡ Some j → IsTagAt a width j
+    tag-place any a width j at is-j = absurd (cc)
+    tag-place (index_for i f) a width j at is-j = absurd (cc)
+    tag-place (signed_for i f) a width j at is-j = absurd (cc)
+    tag-place (linear f) a width j at is-j =
+        by ((width == q.tag_width) && (offset_at (bare q) f.constant == q.tag_offset) && is_in_slot rs q s f) refl is-j
+      where
+        by : (t : Bool) → ((width == q.tag_width) && (offset_at (bare q) f.constant == q.tag_offset) && is_in_slot rs q s f) ≡ t
+            → (if t then Some (position_at (bare q) s.own.constant f.constant) else None) ≡ Some j → IsTagAt a width j
+        by false other is-j = absurd (cc)
+        by true ok is-j =
+            let p2 = and_parts ((width == q.tag_width) && (offset_at (bare q) f.constant == q.tag_offset)) (is_in_slot rs q s f) ok in
+            let p1 = and_parts (width == q.tag_width) (offset_at (bare q) f.constant == q.tag_offset) p2.0 in
+            let there = in-slot f a at p2.1 in
+            let offset : offset_at (bare q) f.constant ≡ q.tag_offset = eqb-true (offset_at (bare q) f.constant) q.tag_offset p1.1 in
+            subst (IsTagAt a width) (let e : position_at (bare q) s.own.constant f.constant ≡ j = cc in e) (record {
+              place = omega (arith, there, offset);
+              near = position-near (bare q) is.some s.own.constant f.constant;
+              whole = eqb-true width q.tag_width p1.0;
+            })
+
+    pub of-tag : (place : KnownValue) (a width x : ℕ) → Has queues xs place a → is_of_tag rs q s place width ≡ true → IsInBytes a width x
+        → IsOfTag (slots_of q) x
+    of-tag any a width x at ok within = absurd (cc)
+    of-tag (index_for i f) a width x at ok within = absurd (cc)
+    of-tag (signed_for i f) a width x at ok within = absurd (cc)
+    of-tag (linear f) a width x at ok within =
+        let p2 = and_parts (nat_le q.tag_offset (offset_at (bare q) f.constant)
+        && nat_le (offset_at (bare q) f.constant + width) (q.tag_offset + q.tag_width)) (is_in_slot rs q s f) ok in
+        let p1 = and_parts (nat_le q.tag_offset (offset_at (bare q) f.constant))
+        (nat_le (offset_at (bare q) f.constant + width) (q.tag_offset + q.tag_width)) p2.0 in
+        let there = in-slot f a at p2.1 in
+        let from : q.tag_offset ≤ offset_at (bare q) f.constant = leb-true q.tag_offset (offset_at (bare q) f.constant) p1.0 in
+        let upto : offset_at (bare q) f.constant + width ≤ q.tag_offset + q.tag_width =
+        leb-true (offset_at (bare q) f.constant + width) (q.tag_offset + q.tag_width) p1.1 in (
+          n + position_at (bare q) s.own.constant f.constant,
+          (omega (arith, there, from, within.0), omega (arith, there, upto, within.1)),
+        )
+
+  module _ (queues : ℕ → Queue) (rs : List (Option ℕ)) (xs : List ℕ) (ranges : InRanges rs xs) (s : Share) (p : Party) (c : QueueCounts)
+      (has : HasAtLeast q p c xs s) where
+    -- of a form, in the slot of an owned position, this far into it
+    record Within (f : Form) (a width : ℕ) : Type 0 where
+      pub position : ℕ
+      pub place : a ≡ slot_of (bare q) position + offset_at (bare q) f.constant
+      pub from : count p c ≤ position
+      pub before : position < owned_end (slots_of q) p c
+      pub fits : offset_at (bare q) f.constant + width ≤ q.width
+
+    within-owned : (f : Form) (a width : ℕ) → Has queues xs (linear f) a → is_owned rs (bare q) s (linear f) width ≡ true → Within f a width
+    within-owned f a width at ok =
+        let p2 = and_parts (nat_lt (position_at (bare q) s.own.constant f.constant) s.owned.constant
+        && nat_le (offset_at (bare q) f.constant + width) q.width)
+        (is_slot rs (bare q) f (offset_at (bare q) f.constant)
+        (remainder rs (plus s.own (number (position_at (bare q) s.own.constant f.constant))) q.size)) ok in
+        let p1 = and_parts (nat_lt (position_at (bare q) s.own.constant f.constant) s.owned.constant)
+        (nat_le (offset_at (bare q) f.constant + width) q.width) p2.0 in
+        let less : position_at (bare q) s.own.constant f.constant < s.owned.constant =
+        ltb-true (position_at (bare q) s.own.constant f.constant) s.owned.constant p1.0 in record {
+          position = count p c + position_at (bare q) s.own.constant f.constant;
+          place = slot-place (bare q) rs xs ranges s.own f (count p c) (position_at (bare q) s.own.constant f.constant)
+              (offset_at (bare q) f.constant) a has.own at p2.1;
+          from = omega arith;
+          before = omega (arith, has.own, has.upto, less);
+          fits = leb-true (offset_at (bare q) f.constant + width) q.width p1.1;
+        }
+
+    pub of-rest : (place : KnownValue) (a width x : ℕ) → Has queues xs place a → is_of_rest rs q s place width ≡ true → IsInBytes a width x
+        → OwnsRest (slots_of q) p c x
+    of-rest any a width x at ok within = absurd (cc)
+    of-rest (index_for i f) a width x at ok within = absurd (cc)
+    of-rest (signed_for i f) a width x at ok within = absurd (cc)
+    of-rest (linear f) a width x at ok within =
+        let p1 = and_parts (nat_le (offset_at (bare q) f.constant + width) q.tag_offset
+        || nat_le (q.tag_offset + q.tag_width) (offset_at (bare q) f.constant)) (is_owned rs (bare q) s (linear f) width) ok in
+        let w = within-owned f a width at p1.1 in record {
+          position = w.position;
+          from = w.from;
+          before = w.before;
+          byte = (omega (arith, w.place, within.0), omega (arith, w.place, w.fits, within.1));
+          no_tag = λ tag. elim (or_cases (nat_le (offset_at (bare q) f.constant + width) q.tag_offset)
+              (nat_le (q.tag_offset + q.tag_width) (offset_at (bare q) f.constant)) p1.0) [
+                | inl under ↦ (let u : offset_at (bare q) f.constant + width ≤ q.tag_offset =
+                    leb-true (offset_at (bare q) f.constant + width) q.tag_offset under in omega (arith, u, w.place, within.1, tag.0))
+                | inr over ↦ (let u : q.tag_offset + q.tag_width ≤ offset_at (bare q) f.constant =
+                    leb-true (q.tag_offset + q.tag_width) (offset_at (bare q) f.constant) over in omega (arith, u, w.place, within.0, tag.1))
+              ];
+        }
+
+    pub of-owned : (place : KnownValue) (a width x : ℕ) → Has queues xs place a → is_owned rs (bare q) s place width ≡ true → IsInBytes a width x
+        → IsOfTag (slots_of q) x ⊎ OwnsRest (slots_of q) p c x
+    of-owned any a width x at ok within = absurd (cc)
+    of-owned (index_for i f) a width x at ok within = absurd (cc)
+    of-owned (signed_for i f) a width x at ok within = absurd (cc)
+    of-owned (linear f) a width x at ok within = by (cases_lt x (tag_of (slots_of q) w.position)) (cases_lt x (tag_of (slots_of q) w.position + q.tag_width))
+      where
+        w : Within f a width
+        w = within-owned f a width at ok
+
+        rest : (IsTagByte (slots_of q) (within-owned f a width at ok).position x → ⊥) → IsOfTag (slots_of q) x ⊎ OwnsRest (slots_of q) p c x
+        rest none = inr (record {
+          position = w.position;
+          from = w.from;
+          before = w.before;
+          byte = (omega (arith, w.place, within.0), omega (arith, w.place, w.fits, within.1));
+          no_tag = none;
+        })
+
+        by : (x < tag_of (slots_of q) (within-owned f a width at ok).position) ⊎ (tag_of (slots_of q) (within-owned f a width at ok).position ≤ x)
+            → (x < tag_of (slots_of q) (within-owned f a width at ok).position + q.tag_width)
+            ⊎ (tag_of (slots_of q) (within-owned f a width at ok).position + q.tag_width ≤ x)
+            → IsOfTag (slots_of q) x ⊎ OwnsRest (slots_of q) p c x
+        by (inr from) (inl upto) = inl (w.position, (from, upto))
+        by (inl under) past = rest (λ tag. omega (arith, under, tag.0))
+        by (inr from) (inr past) = rest (λ tag. omega (arith, past, tag.1))
+
+    pub reads-rest : (place : KnownValue) (b : Bounds) (a width : ℕ) → Has queues xs place a → b.low ≤ a → a ≤ b.high
+        → (is_beside_slots q b width || is_of_tag rs q s place width || is_owned rs (bare q) s place width) ≡ true
+        → OwnsAllButTags (slots_of q) p c a width
+    reads-rest place b a width at low high ok x within slots =
+        elim (or_cases (is_beside_slots q b width || is_of_tag rs q s place width) (is_owned rs (bare q) s place width) ok) [
+          | inr owned ↦ of-owned place a width x at owned within
+          | inl left ↦ elim (or_cases (is_beside_slots q b width) (is_of_tag rs q s place width) left) [
+            | inl off ↦ absurd (beside-outside b a width x off low high within slots)
+            | inr tag ↦ inl (of-tag queues rs xs ranges s (count p c) has.own place a width x at tag within)
+          ]
+        ]

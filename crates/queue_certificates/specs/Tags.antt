@@ -1,0 +1,242 @@
+-- Queues of a certificate whose slots tell whose they are: how their tags tell, what is known of a party's share, and what an instruction
+-- makes of a known state besides.
+use Rattle.std.specs.Prelude.{ℕ, ℤ, ◌≡◌, ◌+◌, ◌-◌, ◌*◌, ◌%◌, ◌^◌, ◌≤◌, ◌<◌, ◌==◌, ◌&&◌, ◌||◌, not, nat_le, nat_lt, if◌then◌else◌, Bool, true, false}
+use Rattle.std.specs.Prelude.{Option, None, Some, is_some, List, [], ◌∷◌, map, length, get_or, set}
+use Rattle.rv_decode.specs.declared.instruction.Reg.{Reg}
+use Rattle.rv_decode.specs.declared.instruction.LoadOp.{LoadOp}
+use Rattle.rv_decode.specs.declared.instruction.StoreOp.{StoreOp}
+use Rattle.rv_decode.specs.declared.instruction.Instr.{Instr}
+use Rattle.rv_decode.specs.declared.instruction.Instr.TheVariants.{Load, Store, Amo}
+use Rattle.hart.specs.Effects.{next_pc, load_width, store_width}
+use Rattle.queue_parties.specs.Parties.{Party, the_sender, the_receiver, other, QueueCounts, count}
+use Rattle.certified_runs.specs.TwoParties.{AllCounts}
+use Rattle.slot_queue.specs.Queues.{Queue}
+use Rattle.slots_that_tell.specs.Telling.{teller_of, teller_hart, owned_end}
+use Rattle.queue_layouts.specs.declared.tagged.Codec.{Codec}
+use Rattle.queue_layouts.specs.declared.tagged.Codec.TheVariants as codec
+use Rattle.queue_layouts.specs.declared.tagged.TaggedQueue.{TaggedQueue}
+use Rattle.queue_layouts.specs.Tagged.{slots_of}
+use Rattle.queue_certificates.specs.Forms.{Form, form_value, number, first_variable, plus, lifted, substituted, is_same, most, fits_in, remainder, Bounds}
+use Rattle.queue_certificates.specs.States.{KnownValue, any, linear, index_for, signed_for, Share, no_share, KnownState}
+use Rattle.queue_certificates.specs.Results.{Result, just, bounds}
+use Rattle.queue_certificates.specs.Steps.{all_below, last_below, is_just, is_apart, position_at, offset_at, is_slot, is_owned}
+use Rattle.queue_certificates.specs.Steps.{most_loaded, with_result, share_at, operand, address_value, addresses, exchanged, may_load, updated_value}
+
+-- the same slots as those of a queue of no indices
+abbrev pub bare : TaggedQueue → Queue
+bare q = record {
+  sender = q.sender;
+  receiver = q.receiver;
+  head = 0;
+  tail = 0;
+  index_width = 0;
+  slots = q.slots;
+  size = q.size;
+  width = q.width;
+  capacity = q.size;
+  base = 0;
+  scale = 0;
+  offset = 0;
+  modulus = 0;
+}
+
+abbrev pub party_in : TaggedQueue → (h : ℕ) → Option Party
+party_in q h = teller_of (slots_of q) h
+
+-- two harts, some slots, and in each a tag of at most a word. Positions' numbers fill a word, and those of a free slot and of a full one
+-- differ
+abbrev pub is_codec : TaggedQueue → Codec → Bool
+is_codec q codec.Zero = true
+is_codec q codec.Number = (q.tag_width == 4) && not (q.size % 2 ^ 32 == 1)
+
+abbrev pub is_tagged : TaggedQueue → Bool
+is_tagged q = not (q.sender == q.receiver) && nat_le 1 q.size && nat_le 1 q.tag_width && nat_le q.tag_width 4
+    && nat_le (q.tag_offset + q.tag_width) q.width && is_codec q q.codec
+
+-- ---- shares: a party's own count, and of how many positions from there on it knows at least that it owns them
+
+pub record HasAtLeast (q : TaggedQueue) (p : Party) (c : QueueCounts) (xs : List ℕ) (s : Share) : Type 0 where
+  pub own : count p c ≡ form_value s.own xs
+  pub upto : form_value s.own xs + form_value s.owned xs ≤ owned_end (slots_of q) p c
+
+-- ---- accesses of slots, at an address that is a form
+
+-- these bytes are of the slot of the position that is as much further than the own count as the constants say
+abbrev pub is_in_slot : List (Option ℕ) → TaggedQueue → Share → Form → Bool
+is_in_slot rs q s f = is_slot rs (bare q) f (offset_at (bare q) f.constant)
+    (remainder rs (plus s.own (number (position_at (bare q) s.own.constant f.constant))) q.size)
+
+-- a whole tag, and how much further its position is
+abbrev pub tag_position : List (Option ℕ) → TaggedQueue → Share → (place : KnownValue) → (width : ℕ) → Option ℕ
+tag_position rs q s any width = None
+tag_position rs q s (index_for i f) width = None
+tag_position rs q s (signed_for i f) width = None
+tag_position rs q s (linear f) width = if (width == q.tag_width) && (offset_at (bare q) f.constant == q.tag_offset) && is_in_slot rs q s f
+    then Some (position_at (bare q) s.own.constant f.constant) else None
+
+-- it is of an owned slot, and of no byte of its tag
+abbrev pub is_of_rest : List (Option ℕ) → TaggedQueue → Share → (place : KnownValue) → (width : ℕ) → Bool
+is_of_rest rs q s any width = false
+is_of_rest rs q s (index_for i f) width = false
+is_of_rest rs q s (signed_for i f) width = false
+is_of_rest rs q s (linear f) width = (nat_le (offset_at (bare q) f.constant + width) q.tag_offset
+    || nat_le (q.tag_offset + q.tag_width) (offset_at (bare q) f.constant)) && is_owned rs (bare q) s (linear f) width
+
+-- it is of a slot's tag alone
+abbrev pub is_of_tag : List (Option ℕ) → TaggedQueue → Share → (place : KnownValue) → (width : ℕ) → Bool
+is_of_tag rs q s any width = false
+is_of_tag rs q s (index_for i f) width = false
+is_of_tag rs q s (signed_for i f) width = false
+is_of_tag rs q s (linear f) width = nat_le q.tag_offset (offset_at (bare q) f.constant)
+    && nat_le (offset_at (bare q) f.constant + width) (q.tag_offset + q.tag_width) && is_in_slot rs q s f
+
+abbrev pub is_beside_slots : TaggedQueue → Bounds → (width : ℕ) → Bool
+is_beside_slots q b width = is_apart b width q.slots (q.size * q.width)
+
+-- ---- what a party loads: the number that tells it of the position so much further, and the one that tells the other party
+
+-- a number that isn't 0
+abbrev pub some_up_to : (n : ℕ) → Result
+some_up_to n = record { most = n - 1; value = linear (plus (number 1) first_variable) }
+
+abbrev pub told_value : Codec → Party → LoadOp → (own : Form) → (position : ℕ) → Result
+told_value codec.Zero the_sender op own j = just (linear (number 0))
+told_value codec.Zero the_receiver op own j = some_up_to (most_loaded op)
+told_value codec.Number the_sender op own j = just (linear (plus own (number j)))
+told_value codec.Number the_receiver op own j = just (linear (plus own (number (j + 1))))
+
+abbrev pub other_value : TaggedQueue → Codec → Party → LoadOp → (own : Form) → (position : ℕ) → Result
+other_value q codec.Zero p op own j = told_value codec.Zero (other p) op own j
+other_value q codec.Number the_sender op own j = just (linear (plus own (number (j + 1 + (2 ^ 32 - q.size % 2 ^ 32)))))
+other_value q codec.Number the_receiver op own j = just (linear (plus own (number j)))
+
+-- ---- what hands the own position over
+
+abbrev pub is_positive : (width : ℕ) → Option Bounds → Bool
+is_positive width None = false
+is_positive width (Some b) = nat_le 1 b.low && nat_lt b.high (256 ^ width)
+
+abbrev pub is_number : (n : ℕ) → KnownValue → Form → Bool
+is_number n any g = false
+is_number n (index_for i f) g = false
+is_number n (signed_for i f) g = false
+is_number n (linear f) g = is_same n f g
+
+abbrev pub hands_over : List (Option ℕ) → TaggedQueue → Codec → Party → (own : Form) → (stored : KnownValue) → Bool
+hands_over rs q codec.Zero the_sender own v = is_positive q.tag_width (bounds rs v)
+hands_over rs q codec.Zero the_receiver own v = is_number (256 ^ q.tag_width) v (number 0)
+hands_over rs q codec.Number the_sender own v = is_number (2 ^ 32) v (plus own (number 1))
+hands_over rs q codec.Number the_receiver own v = is_number (2 ^ 32) v (plus own (number q.size))
+
+-- one position is handed over
+abbrev pub handed : Share → Share
+handed s = record { own = plus (lifted s.own) (number 1); owned = number (s.owned.constant - 1) }
+
+-- a queue's share is another one, by the queue's place among all
+abbrev pub with_share : (place : ℕ) → Share → KnownState → KnownState
+with_share place s k = record k { shares = set k.shares place s }
+
+-- of the queue with tags that a store moves, beside N with indices
+abbrev pub all_handed : (N : ℕ) → KnownState → (move : Option ℕ) → List KnownState → List KnownState
+all_handed N k None ks = ks
+all_handed N k (Some t) ks = map (with_share (N + t) (handed (share_at k (N + t)))) ks
+
+-- ---- each byte of a load that is of queue t's slots is of a tag, or of an owned slot. The share of queue t with tags comes after those
+-- of all N with indices
+
+abbrev pub reads_rest : List (Option ℕ) → TaggedQueue → Share → (place : KnownValue) → Bounds → (width : ℕ) → Bool
+reads_rest rs q s place b width = is_beside_slots q b width || is_of_tag rs q s place width || is_owned rs (bare q) s place width
+
+abbrev pub loads_rest : (tagged : ℕ → TaggedQueue) (queues : ℕ → Queue) (N : ℕ) → KnownState → (t : ℕ) → Option Instr → Bool
+loads_rest tagged queues N k t (Some (Load op rd rs1 offset)) = reads_rest k.ranges (tagged t) (share_at k (N + t)) (address_value queues k rs1 offset)
+    (addresses queues k rs1 offset) (load_width op)
+loads_rest tagged queues N k t (Some (Amo op rd rs1 rs2 aq rl)) =
+    reads_rest k.ranges (tagged t) (share_at k (N + t)) (operand queues k rs1) (exchanged queues k rs1) 4
+loads_rest tagged queues N k t other = true
+
+-- ---- where there are queues with tags beside N with indices: a load by a party of the tag of the position so much further than its own
+-- count, and a store by it
+
+module _ (tagged : ℕ → TaggedQueue) (N : ℕ) where
+  abbrev pub tag_by : KnownState → Option Party → (place : KnownValue) → (width t : ℕ) → Option ℕ
+  tag_by k None place width t = None
+  tag_by k (Some p) place width t = tag_position k.ranges (tagged t) (share_at k (N + t)) place width
+
+  -- the party is told that it has the position, and owns up to it,
+  abbrev pub when_told : KnownState → Party → LoadOp → (rd t position : ℕ) → Share → KnownState
+  when_told k p op rd t j s = with_share (N + t) (record { own = lifted s.own; owned = number (j + 1) })
+      (with_result k rd (next_pc k.pc) (told_value (tagged t).codec p op s.own j))
+
+  -- or it has it already, or the other still has it
+  abbrev pub after_tag : KnownState → Party → LoadOp → (rd t position : ℕ) → Share → List KnownState
+  after_tag k p op rd t j s = if nat_lt j s.owned.constant then with_result k rd (next_pc k.pc) (told_value (tagged t).codec p op s.own j) ∷ []
+      else when_told k p op rd t j s ∷ with_result k rd (next_pc k.pc) (other_value (tagged t) (tagged t).codec p op s.own j) ∷ []
+
+  abbrev pub at_tag : KnownState → Option Party → LoadOp → (rd t : ℕ) → (position : Option ℕ) → Option (List KnownState)
+  at_tag k None op rd t j = None
+  at_tag k (Some p) op rd t None = None
+  at_tag k (Some p) op rd t (Some j) = Some (after_tag k p op rd t j (share_at k (N + t)))
+
+  -- a store that moves the own count of the queue `move`, or of none
+  abbrev pub may_tell : KnownState → Option Party → (stored place : KnownValue) → Bounds → (width : ℕ) → (move : Option ℕ) → (t : ℕ) → Bool
+  may_tell k None v place b width move t = is_beside_slots (tagged t) b width
+  may_tell k (Some p) v place b width move t = if is_just move t
+      then nat_le 1 (share_at k (N + t)).owned.constant && nat_lt (N + t) (length k.shares)
+      && hands_over k.ranges (tagged t) (tagged t).codec p (share_at k (N + t)).own v
+      else (is_beside_slots (tagged t) b width || is_of_rest k.ranges (tagged t) (share_at k (N + t)) place width)
+
+-- ---- of hart h, where there are T of them
+
+module _ (tagged : ℕ → TaggedQueue) (T N h : ℕ) where
+  -- how much further than the own count the position is of which it is the tag, whole
+  abbrev pub tag_at : KnownState → (place : KnownValue) → (width t : ℕ) → Option ℕ
+  tag_at k place width t = tag_by tagged N k (party_in (tagged t) h) place width t
+
+  abbrev pub looked_tag : KnownState → (place : KnownValue) → (width : ℕ) → Option ℕ
+  looked_tag k place width = last_below T (λ t. is_some (tag_at k place width t))
+
+  abbrev pub moved_tag : KnownState → (place : KnownValue) → (width : ℕ) → Option ℕ
+  moved_tag k place width = last_below T (λ t. is_just (tag_at k place width t) 0)
+
+  abbrev pub may_store_all : KnownState → (stored place : KnownValue) → Bounds → (width : ℕ) → (move : Option ℕ) → Bool
+  may_store_all k v place b width move = all_below T (λ t. may_tell tagged N k (party_in (tagged t) h) v place b width move t)
+
+  abbrev pub store_tells : KnownState → (stored place : KnownValue) → Bounds → (width : ℕ) → (move : Option ℕ) → List KnownState → Option (List KnownState)
+  store_tells k v place b width move ks = if may_store_all k v place b width move then Some (all_handed N k move ks) else None
+
+  abbrev pub storing_tells : KnownState → (stored place : KnownValue) → Bounds → (width : ℕ) → List KnownState → Option (List KnownState)
+  storing_tells k v place b width ks = store_tells k v place b width (moved_tag k place width) ks
+
+  -- its shares of the queues of which it is a party are right
+  abbrev pub AreTold : List ℕ → KnownState → (us : AllCounts) → Type 0
+  AreTold xs k us = (t : ℕ) → t < T → (p : Party) → h ≡ teller_hart (slots_of (tagged t)) p → HasAtLeast (tagged t) p (us t) xs (share_at k (N + t))
+
+-- ---- instructions: the states that may follow, where `next` do if there were no tags; H harts have own words at these addresses
+
+module _ (tagged : ℕ → TaggedQueue) (T : ℕ) (queues : ℕ → Queue) (N : ℕ) (own_of : ℕ → List ℕ) (H h : ℕ) where
+  -- a load that isn't known to be of the queue's tag may tell the party more than it takes note of
+  abbrev pub load_tells : KnownState → LoadOp → (rd : ℕ) → (place : KnownValue) → Bounds → (look : Option ℕ) → List KnownState → Option (List KnownState)
+  load_tells k op rd place b None ks = Some ks
+  load_tells k op rd place b (Some t) ks = if may_load queues N h k b (load_width op) None
+      then at_tag tagged N k (party_in (tagged t) h) op rd t (tag_at tagged T N h k place (load_width op) t) else None
+
+  unfoldable pub told_by_store : KnownState → StoreOp → (rs1 rs2 : Reg) → (offset : ℤ) → List KnownState → Option (List KnownState)
+  told_by_store k op rs1 rs2 offset ks = storing_tells tagged T N h k (operand queues k rs2) (address_value queues k rs1 offset)
+      (addresses queues k rs1 offset) (store_width op) ks
+
+  abbrev pub next_told : KnownState → Option Instr → (next : Option (List KnownState)) → Option (List KnownState)
+  next_told k instruction None = None
+  next_told k (Some (Load op rd rs1 offset)) (Some ks) = load_tells k op rd.number (address_value queues k rs1 offset)
+      (addresses queues k rs1 offset) (looked_tag tagged T N h k (address_value queues k rs1 offset) (load_width op)) ks
+  next_told k (Some (Store op rs1 rs2 offset)) (Some ks) = told_by_store k op rs1 rs2 offset ks
+  next_told k (Some (Amo op rd rs1 rs2 aq rl)) (Some ks) = storing_tells tagged T N h k
+      (updated_value queues k.ranges op any (operand queues k rs2)) (operand queues k rs1) (exchanged queues k rs1) 4 ks
+  next_told k instruction next = next
+
+-- ---- arrows: the same count, and no more is said to be owned
+
+abbrev pub covers_share : List (Option ℕ) → Share → Share → List Form → Bool
+covers_share rs s t gs = is_same 0 s.own (substituted t.own gs) && fits_in (most rs (substituted t.owned gs)) (Some s.owned.constant)
+
+abbrev pub tags_lead : (N T : ℕ) → KnownState → KnownState → List Form → Bool
+tags_lead N T k t gs = all_below T (λ i. covers_share k.ranges (get_or k.shares (N + i) no_share) (get_or t.shares (N + i) no_share) gs)
