@@ -1,5 +1,5 @@
 -- Nothing is found exactly where all holds.
-use Rattle.std.specs.Prelude.{ℕ, zero, suc, ◌≡◌, ◌+◌, ◌-◌, ◌*◌, ◌^◌, ◌==◌, ◌&&◌, ◌↔◌, not, nat_le, nat_lt, Bool, true}
+use Rattle.std.specs.Prelude.{ℕ, zero, suc, ◌≡◌, ◌+◌, ◌-◌, ◌*◌, ◌%◌, ◌^◌, ◌==◌, ◌&&◌, ◌↔◌, not, nat_le, nat_lt, Bool, true}
 use Rattle.std.specs.Prelude.{false, Option, None, Some, [], length, get_or, refl}
 use Rattle.std.specs.List.{list_all}
 use Rattle.std.specs.Option.{option_map}
@@ -10,12 +10,19 @@ use Rattle.store_buffers.specs.StoreBuffers.{memory_number}
 use Rattle.step_machine.specs.History.{OpeningValue}
 use Rattle.queue_certificates.specs.Steps.{all_below}
 use Rattle.queue_certificates.specs.Certificates.{QueueCertificate, queue_at, start_at, fields_at, part_of, accepts, accepts_loads, accepts_hart, no_hart}
+use Rattle.queue_certificates.specs.Certificates.{tagged_at, tagged_start, opens_free, accepts_rest}
+use Rattle.queue_certificates.specs.Tags.{is_tagged, is_codec}
+use Rattle.queue_layouts.specs.declared.tagged.Codec.{Codec}
+use Rattle.queue_layouts.specs.declared.tagged.Codec.TheVariants as codec
+use Rattle.queue_layouts.specs.declared.tagged.TaggedQueue.{TaggedQueue}
 use Rattle.queue_certificates.specs.Fields.{is_field}
 use Rattle.queue_certificates.specs.Certificates.{are_apart, is_queue, opens_empty}
-use Rattle.queue_checker.specs.declared.flaws.Flaw.TheVariants.{Queue, Opening, State}
+use Rattle.queue_checker.specs.declared.flaws.Flaw.TheVariants.{Queue, Tagged, Opening, State}
 use Rattle.queue_checker.specs.declared.flaws.QueueFlaw.TheVariants as flaw
+use Rattle.queue_checker.specs.declared.flaws.TaggedFlaw.TheVariants as tag
 use Rattle.queue_checker.specs.Flaws.{opening_holds, state_holds, loads_hold, first_of, first_below, unless, hart_flaw, first_flaw, first_unowned}
-use Rattle.queue_checker.specs.Flaws.{shape_flaw, queue_flaw, flaw_of_queue}
+use Rattle.queue_checker.specs.Flaws.{shape_flaw, queue_flaw, flaw_of_queue, rest_holds, codec_flaw, tag_flaw, tagged_flaw, flaw_of_tagged}
+use Rattle.queue_checker.specs.Flaws.{first_unowned_rest}
 
 -- x is nothing exactly where b holds
 pub record IsSame {A : Type 0} (b : Bool) (x : Option A) : Type 0 where
@@ -112,13 +119,44 @@ pub no_queue_flaw : (o : OpeningValue) (c : QueueCertificate) (i : ℕ) → flaw
 no_queue_flaw o c i none = (and_parts (is_queue (queue_at c i) && opens_empty o (queue_at c i) (start_at c i))
     (list_all (is_field (queue_at c i)) (fields_at c i)) ((same-queue o c i).empty none)).0
 
+-- ---- queues with tags
+
+same-codec : (q : TaggedQueue) (way : Codec) → IsSame (is_codec q way) (codec_flaw q way)
+same-codec q codec.Zero = record { empty = λ e. refl; holds = λ e. refl }
+same-codec q codec.Number = same-first_of (q.tag_width == 4) (not (q.size % 2 ^ 32 == 1)) _ _
+    (same-unless (q.tag_width == 4) tag.NarrowNumber) (same-unless (not (q.size % 2 ^ 32 == 1)) tag.SameNumbers)
+
+same-tag : (q : TaggedQueue) → IsSame (is_tagged q) (tag_flaw q)
+same-tag q =
+    let harts = not (q.sender == q.receiver) in
+    let some = nat_le 1 q.size in
+    let a_byte = nat_le 1 q.tag_width in
+    let a_word = nat_le q.tag_width 4 in
+    let within = nat_le (q.tag_offset + q.tag_width) q.width in
+    same-first_of (harts && some && a_byte && a_word && within) (is_codec q q.codec) _ _
+    (same-first_of (harts && some && a_byte && a_word) within _ _
+    (four harts some a_byte a_word tag.OneHart tag.NoSlot tag.NoTag tag.WideTag) (same-unless within tag.PastSlot))
+    (same-codec q q.codec)
+
+same-tagged : (o : OpeningValue) (c : QueueCertificate) (t : ℕ)
+    → IsSame (is_tagged (tagged_at c t) && opens_free o (tagged_at c t) (tagged_start c t)) (flaw_of_tagged o c t)
+same-tagged o c t =
+    let free = opens_free o (tagged_at c t) (tagged_start c t) in
+    same-map (λ why. Tagged t why) (is_tagged (tagged_at c t) && free) (tagged_flaw o c t)
+    (same-first_of (is_tagged (tagged_at c t)) free _ _ (same-tag (tagged_at c t)) (same-unless free tag.NotFree))
+
 -- ---- all of it
 
 abbrev queue_holds : OpeningValue → QueueCertificate → (i : ℕ) → Bool
 queue_holds o c i = is_queue (queue_at c i) && opens_empty o (queue_at c i) (start_at c i) && list_all (is_field (queue_at c i)) (fields_at c i)
 
+abbrev tagged_holds : OpeningValue → QueueCertificate → (t : ℕ) → Bool
+tagged_holds o c t = is_tagged (tagged_at c t) && opens_free o (tagged_at c t) (tagged_start c t)
+
 same-flaw : (o : OpeningValue) (c : QueueCertificate) → IsSame (accepts o c) (first_flaw o c)
-same-flaw o c = same-first_of (all_below (length c.queues) (queue_holds o c)) _ _ _ (same-below _ (queue_holds o c) _ (same-queue o c))
+same-flaw o c = same-first_of (all_below (length c.queues) (queue_holds o c) && all_below (length c.tagged) (tagged_holds o c)) _ _ _
+    (same-first_of (all_below (length c.queues) (queue_holds o c)) (all_below (length c.tagged) (tagged_holds o c)) _ _
+    (same-below _ (queue_holds o c) _ (same-queue o c)) (same-below _ (tagged_holds o c) _ (same-tagged o c)))
     (same-below _ (λ h. accepts_hart o c h (get_or o.harts h no_hart) (part_of c h)) _ (same-hart o c))
 
 pub no_flaw : (o : OpeningValue) (c : QueueCertificate) → (first_flaw o c ≡ None) ↔ (accepts o c ≡ true)
@@ -126,3 +164,6 @@ no_flaw o c = ((same-flaw o c).empty, (same-flaw o c).holds)
 
 pub all_owned : (o : OpeningValue) (c : QueueCertificate) (i h : ℕ) → (first_unowned o c i h ≡ None) ↔ (accepts_loads o c i h ≡ true)
 all_owned o c i h = let s = same-below _ (loads_hold o c i h) _ (λ n. same-unless (loads_hold o c i h n) n) in (s.empty, s.holds)
+
+pub all_rest : (o : OpeningValue) (c : QueueCertificate) (t h : ℕ) → (first_unowned_rest o c t h ≡ None) ↔ (accepts_rest o c t h ≡ true)
+all_rest o c t h = let s = same-below _ (rest_holds o c t h) _ (λ n. same-unless (rest_holds o c t h n) n) in (s.empty, s.holds)

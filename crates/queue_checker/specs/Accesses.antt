@@ -1,4 +1,4 @@
--- Which instructions may access a byte of a queue's slots, in some state of a certificate.
+-- Which instructions may access a byte of a queue's slots, in some state of a certificate: of a queue with indices, or of one with tags.
 use Rattle.std.specs.Prelude.{ℕ, zero, suc, ◌*◌, ◌==◌, ◌&&◌, ◌||◌, ◌++◌, not, if◌then◌else◌, Bool, true, false, Option, Some}
 use Rattle.std.specs.Prelude.{List, [], ◌∷◌, length, get_or}
 use Rattle.rv_decode.specs.declared.instruction.Instr.{Instr}
@@ -8,12 +8,11 @@ use Rattle.step_machine.specs.History.{OpeningValue}
 use Rattle.slot_queue.specs.Queues.{Queue}
 use Rattle.queue_certificates.specs.Forms.{Bounds}
 use Rattle.queue_certificates.specs.States.{KnownState}
-use Rattle.queue_certificates.specs.Results.{bounds}
-use Rattle.queue_certificates.specs.Steps.{is_apart, anywhere, instruction_at}
-use Rattle.queue_certificates.specs.Certificates.{QueueCertificate, queue_at, part_of, state_at, Cases}
+use Rattle.queue_certificates.specs.Steps.{is_apart, instruction_at, addresses, exchanged}
+use Rattle.queue_certificates.specs.Certificates.{QueueCertificate, queue_at, tagged_at, part_of, state_at, Cases}
 use Rattle.queue_certificates.specs.Certificates.{leaf, split, with_low, with_high, may_exceed}
+use Rattle.queue_certificates.specs.Tags.{bare}
 use Rattle.queue_checker.specs.declared.accesses.SlotAccess.{SlotAccess}
-use Rattle.queue_checker.specs.Operands.{operand_in, addresses_in}
 use Rattle.queue_checker.specs.Flaws.{hart_at}
 
 -- `width` bytes from somewhere among these addresses on may be of the slots
@@ -21,25 +20,25 @@ abbrev pub reaches : Queue → Bounds → (width : ℕ) → Bool
 reaches q b width = not (is_apart b width q.slots (q.size * q.width))
 
 -- an instruction may store to them, or load from them
-abbrev pub stores_to : QueueCertificate → (i : ℕ) → KnownState → Option Instr → Bool
-stores_to c i k (Some (Store op rs1 rs2 offset)) = reaches (queue_at c i) (addresses_in c k rs1 offset) (store_width op)
-stores_to c i k (Some (Amo op rd rs1 rs2 aq rl)) = reaches (queue_at c i) (anywhere (bounds k.ranges (operand_in c k rs1))) 4
-stores_to c i k other = false
+abbrev pub stores_to : QueueCertificate → Queue → KnownState → Option Instr → Bool
+stores_to c q k (Some (Store op rs1 rs2 offset)) = reaches q (addresses (queue_at c) k rs1 offset) (store_width op)
+stores_to c q k (Some (Amo op rd rs1 rs2 aq rl)) = reaches q (exchanged (queue_at c) k rs1) 4
+stores_to c q k other = false
 
-abbrev pub loads_from : QueueCertificate → (i : ℕ) → KnownState → Option Instr → Bool
-loads_from c i k (Some (Load op rd rs1 offset)) = reaches (queue_at c i) (addresses_in c k rs1 offset) (load_width op)
-loads_from c i k (Some (Amo op rd rs1 rs2 aq rl)) = reaches (queue_at c i) (anywhere (bounds k.ranges (operand_in c k rs1))) 4
-loads_from c i k other = false
+abbrev pub loads_from : QueueCertificate → Queue → KnownState → Option Instr → Bool
+loads_from c q k (Some (Load op rd rs1 offset)) = reaches q (addresses (queue_at c) k rs1 offset) (load_width op)
+loads_from c q k (Some (Amo op rd rs1 rs2 aq rl)) = reaches q (exchanged (queue_at c) k rs1) 4
+loads_from c q k other = false
 
-abbrev pub touches : QueueCertificate → (i : ℕ) → (stores : Bool) → KnownState → Option Instr → Bool
-touches c i true k instruction = stores_to c i k instruction
-touches c i false k instruction = loads_from c i k instruction
+abbrev pub touches : QueueCertificate → Queue → (stores : Bool) → KnownState → Option Instr → Bool
+touches c q true k instruction = stores_to c q k instruction
+touches c q false k instruction = loads_from c q k instruction
 
 -- in no case of a state
-abbrev pub spares_in : QueueCertificate → (i : ℕ) → (stores : Bool) → (code : List ℕ) → KnownState → Cases → Bool
-spares_in c i stores code k (leaf d arrows) = not (touches c i stores k (instruction_at code k.pc))
-spares_in c i stores code k (split j v low high) = spares_in c i stores code (with_low k j v) low
-    && (not (may_exceed v (get_or k.ranges j (Some 0))) || spares_in c i stores code (with_high k j v) high)
+abbrev pub spares_in : QueueCertificate → Queue → (stores : Bool) → (code : List ℕ) → KnownState → Cases → Bool
+spares_in c q stores code k (leaf d arrows) = not (touches c q stores k (instruction_at code k.pc))
+spares_in c q stores code k (split j v low high) = spares_in c q stores code (with_low k j v) low
+    && (not (may_exceed v (get_or k.ranges j (Some 0))) || spares_in c q stores code (with_high k j v) high)
 
 -- at some number below n
 abbrev pub any_below : ℕ → (ℕ → Bool) → Bool
@@ -47,29 +46,35 @@ any_below zero f = false
 any_below (suc n) f = f n || any_below n f
 
 -- in some state of hart h at this pc
-abbrev pub touches_at : OpeningValue → QueueCertificate → (i : ℕ) → (stores : Bool) → (h pc n : ℕ) → Bool
-touches_at o c i stores h pc n = ((state_at c h n).known.pc == pc)
-    && not (spares_in c i stores (hart_at o h).code (state_at c h n).known (state_at c h n).cases)
+abbrev pub touches_at : OpeningValue → QueueCertificate → Queue → (stores : Bool) → (h pc n : ℕ) → Bool
+touches_at o c q stores h pc n = ((state_at c h n).known.pc == pc)
+    && not (spares_in c q stores (hart_at o h).code (state_at c h n).known (state_at c h n).cases)
 
-abbrev pub access_at : OpeningValue → QueueCertificate → (i h pc : ℕ) → SlotAccess
-access_at o c i h pc = record {
+abbrev pub access_at : OpeningValue → QueueCertificate → Queue → (h pc : ℕ) → SlotAccess
+access_at o c q h pc = record {
   hart = h;
   pc = pc;
-  stores = any_below (length (part_of c h).states) (touches_at o c i true h pc);
-  loads = any_below (length (part_of c h).states) (touches_at o c i false h pc);
+  stores = any_below (length (part_of c h).states) (touches_at o c q true h pc);
+  loads = any_below (length (part_of c h).states) (touches_at o c q false h pc);
 }
 
 abbrev pub kept_access : SlotAccess → List SlotAccess
 kept_access a = if a.stores || a.loads then a ∷ [] else []
 
 -- of the first n instructions of hart h; and of the first n harts
-abbrev pub accesses_of : OpeningValue → QueueCertificate → (i h n : ℕ) → List SlotAccess
-accesses_of o c i h zero = []
-accesses_of o c i h (suc n) = accesses_of o c i h n ++ kept_access (access_at o c i h (4 * n))
+abbrev pub accesses_of : OpeningValue → QueueCertificate → Queue → (h n : ℕ) → List SlotAccess
+accesses_of o c q h zero = []
+accesses_of o c q h (suc n) = accesses_of o c q h n ++ kept_access (access_at o c q h (4 * n))
 
-abbrev pub accesses_below : OpeningValue → QueueCertificate → (i n : ℕ) → List SlotAccess
-accesses_below o c i zero = []
-accesses_below o c i (suc n) = accesses_below o c i n ++ accesses_of o c i n (length (hart_at o n).code)
+abbrev pub accesses_below : OpeningValue → QueueCertificate → Queue → (n : ℕ) → List SlotAccess
+accesses_below o c q zero = []
+accesses_below o c q (suc n) = accesses_below o c q n ++ accesses_of o c q n (length (hart_at o n).code)
+
+abbrev pub accesses_to : OpeningValue → QueueCertificate → Queue → List SlotAccess
+accesses_to o c q = accesses_below o c q (length o.harts)
 
 abbrev pub slot_accesses : OpeningValue → QueueCertificate → (i : ℕ) → List SlotAccess
-slot_accesses o c i = accesses_below o c i (length o.harts)
+slot_accesses o c i = accesses_to o c (queue_at c i)
+
+abbrev pub tagged_accesses : OpeningValue → QueueCertificate → (t : ℕ) → List SlotAccess
+tagged_accesses o c t = accesses_to o c (bare (tagged_at c t))

@@ -1,18 +1,18 @@
--- What registers hold and where they point, in a state of a certificate, by its queues alone.
-use Rattle.std.specs.Prelude.{ℤ}
+-- Which bytes an instruction accesses in a state of a certificate, by its queues alone.
+use Rattle.std.specs.Prelude.{ℕ, ℤ}
 use Rattle.rv_decode.specs.declared.instruction.Reg.{Reg}
-use Rattle.hart.specs.Effects.{word}
-use Rattle.queue_certificates.specs.Forms.{Bounds, number}
-use Rattle.queue_certificates.specs.States.{KnownValue, linear, KnownState, plain}
-use Rattle.queue_certificates.specs.Results.{bounds, sum_of}
-use Rattle.queue_certificates.specs.Steps.{register_at, anywhere}
+use Rattle.queue_certificates.specs.States.{KnownState}
+use Rattle.queue_certificates.specs.Steps.{operand, address_value, addresses, exchanged}
 use Rattle.queue_certificates.specs.Certificates.{QueueCertificate, queue_at}
+use Rattle.queue_checker.specs.declared.targets.Target.{Target}
 
-abbrev pub operand_in : QueueCertificate → KnownState → Reg → KnownValue
-operand_in c k r = plain (queue_at c) k.ranges (register_at k r)
+-- the bytes of a load or of a store, and the word of an AMO
+abbrev pub accessed_in : QueueCertificate → KnownState → Reg → ℤ → (width : ℕ) → Target
+accessed_in c k r offset width = record {
+  place = address_value (queue_at c) k r offset;
+  bounds = addresses (queue_at c) k r offset;
+  width = width;
+}
 
-abbrev pub address_in : QueueCertificate → KnownState → Reg → ℤ → KnownValue
-address_in c k r offset = sum_of (operand_in c k r) (linear (number (word offset)))
-
-abbrev pub addresses_in : QueueCertificate → KnownState → Reg → ℤ → Bounds
-addresses_in c k r offset = anywhere (bounds k.ranges (address_in c k r offset))
+abbrev pub exchanged_in : QueueCertificate → KnownState → Reg → Target
+exchanged_in c k r = record { place = operand (queue_at c) k r; bounds = exchanged (queue_at c) k r; width = 4 }

@@ -4,19 +4,19 @@ ghost use Rattle.std.specs.Prelude.{◌≡◌, ◌<◌, ◌*◌, ◌++◌, ◌&&
 ghost use Rattle.queue_certificates.specs.Certificates.{part_of};
 ghost use Rattle.queue_checker.specs.Flaws.{hart_at};
 ghost use Rattle.queue_checker.specs.Accesses.{reaches, stores_to, loads_from, touches, spares_in, any_below, touches_at, access_at};
-ghost use Rattle.queue_checker.specs.Accesses.{kept_access, accesses_of, accesses_below, slot_accesses};
+ghost use Rattle.queue_checker.specs.Accesses.{kept_access, accesses_of, accesses_below, accesses_to, slot_accesses, tagged_accesses};
 
 use crate::certificate::{CaseNode, Cases, KnownState, QueueCertificate};
 use crate::closing::{goes_beyond, with_high, with_low};
 use crate::loads::load_width;
 use crate::owning::code_of;
-use crate::places::{anywhere, is_apart, slot_bytes};
+use crate::places::misses_slots;
 use crate::sites::{listed_states, small};
-use crate::steps::{address_value, instruction_at, operand};
+use crate::steps::instruction_at;
 use crate::stores::store_width;
-use known_values::lack::product;
+use crate::tagged_queues::{bare, tagged_in};
+use crate::targets::{accessed, exchanged};
 use known_values::queues::queue_in;
-use known_values::results::bounds;
 use known_values::{Bounds, Lack, Queue};
 use rv_decode::Instr;
 use std::alloc::Global;
@@ -34,18 +34,18 @@ pub struct SlotAccess {
 fn reaches(queue: Queue, bounds: Bounds, width: u64) -> Result<bool, Lack>
     ensures { IfOk result (λ may. may ≡ reaches queue bounds width) }
 {
-    let apart = is_apart(bounds, width, u64::from(queue.slots), slot_bytes(queue)?)?;
-    Ok(!apart)
+    let misses = misses_slots(queue, bounds, width)?;
+    Ok(!misses)
 }
 
 fn stores_to(
     alloc: Global,
     certificate: &QueueCertificate,
-    i: u32,
+    queue: Queue,
     state: &KnownState,
     instruction: Option<Instr>,
 ) -> Result<bool, Lack>
-    ensures { IfOk result (λ stores. stores ≡ stores_to certificate.now i state.now instruction) }
+    ensures { IfOk result (λ stores. stores ≡ stores_to certificate.now queue state.now instruction) }
 {
     match instruction {
         Some(
@@ -56,14 +56,12 @@ fn stores_to(
                 ..
             },
         ) => {
-            let place = address_value(alloc, certificate, state, rs1, offset)?;
-            let bounds = anywhere(bounds(alloc, &state.ranges, &place)?);
-            reaches(queue_in(&certificate.queues, i), bounds, store_width(op))
+            let target = accessed(alloc, certificate, state, rs1, offset, store_width(op))?;
+            reaches(queue, target.bounds, target.width)
         }
         Some(Instr::Amo { rs1, .. }) => {
-            let place = operand(alloc, certificate, state, rs1)?;
-            let bounds = anywhere(bounds(alloc, &state.ranges, &place)?);
-            reaches(queue_in(&certificate.queues, i), bounds, 4)
+            let target = exchanged(alloc, certificate, state, rs1)?;
+            reaches(queue, target.bounds, target.width)
         }
         _ => Ok(false),
     }
@@ -72,11 +70,11 @@ fn stores_to(
 fn loads_from(
     alloc: Global,
     certificate: &QueueCertificate,
-    i: u32,
+    queue: Queue,
     state: &KnownState,
     instruction: Option<Instr>,
 ) -> Result<bool, Lack>
-    ensures { IfOk result (λ loads. loads ≡ loads_from certificate.now i state.now instruction) }
+    ensures { IfOk result (λ loads. loads ≡ loads_from certificate.now queue state.now instruction) }
 {
     match instruction {
         Some(
@@ -87,14 +85,12 @@ fn loads_from(
                 ..
             },
         ) => {
-            let place = address_value(alloc, certificate, state, rs1, offset)?;
-            let bounds = anywhere(bounds(alloc, &state.ranges, &place)?);
-            reaches(queue_in(&certificate.queues, i), bounds, load_width(op))
+            let target = accessed(alloc, certificate, state, rs1, offset, load_width(op))?;
+            reaches(queue, target.bounds, target.width)
         }
         Some(Instr::Amo { rs1, .. }) => {
-            let place = operand(alloc, certificate, state, rs1)?;
-            let bounds = anywhere(bounds(alloc, &state.ranges, &place)?);
-            reaches(queue_in(&certificate.queues, i), bounds, 4)
+            let target = exchanged(alloc, certificate, state, rs1)?;
+            reaches(queue, target.bounds, target.width)
         }
         _ => Ok(false),
     }
@@ -104,17 +100,17 @@ fn loads_from(
 fn touches(
     alloc: Global,
     certificate: &QueueCertificate,
-    i: u32,
+    queue: Queue,
     stores: bool,
     state: &KnownState,
     instruction: Option<Instr>,
 ) -> Result<bool, Lack>
-    ensures { IfOk result (λ may. may ≡ touches certificate.now i stores state.now instruction) }
+    ensures { IfOk result (λ may. may ≡ touches certificate.now queue stores state.now instruction) }
 {
     if stores {
-        stores_to(alloc, certificate, i, state, instruction)
+        stores_to(alloc, certificate, queue, state, instruction)
     } else {
-        loads_from(alloc, certificate, i, state, instruction)
+        loads_from(alloc, certificate, queue, state, instruction)
     }
 }
 
@@ -122,27 +118,27 @@ fn touches(
 fn spares_in(
     alloc: Global,
     certificate: &QueueCertificate,
-    i: u32,
+    queue: Queue,
     stores: bool,
     code: &[u32],
     state: &KnownState,
     cases: &Cases,
 ) -> Result<bool, Lack>
-    ensures { IfOk result (λ spares. spares ≡ spares_in certificate.now i stores code.now state.now cases.now) }
+    ensures { IfOk result (λ spares. spares ≡ spares_in certificate.now queue stores code.now state.now cases.now) }
 {
     match &cases.node {
         CaseNode::Leaf(_, _) => {
             let instruction = instruction_at(code, state.pc);
-            let may = touches(alloc, certificate, i, stores, state, instruction)?;
+            let may = touches(alloc, certificate, queue, stores, state, instruction)?;
             Ok(!may)
         }
         CaseNode::Split(variable, most, low, high) => {
             let below = with_low(alloc, state, *variable, *most)?;
-            let holds = spares_in(alloc, certificate, i, stores, code, &below, low)?;
+            let holds = spares_in(alloc, certificate, queue, stores, code, &below, low)?;
             if holds {
                 if goes_beyond(state, *variable, *most) {
                     let above = with_high(alloc, state, *variable, *most)?;
-                    spares_in(alloc, certificate, i, stores, code, &above, high)
+                    spares_in(alloc, certificate, queue, stores, code, &above, high)
                 } else {
                     Ok(true)
                 }
@@ -157,20 +153,20 @@ fn touches_at(
     alloc: Global,
     opening: &Opening,
     certificate: &QueueCertificate,
-    i: u32,
+    queue: Queue,
     stores: bool,
     hart: u32,
     pc: u32,
     n: u32,
 ) -> Result<bool, Lack>
     requires { n < length (part_of certificate.now hart).states }
-    ensures { IfOk result (λ may. may ≡ touches_at opening.now certificate.now i stores hart pc n) }
+    ensures { IfOk result (λ may. may ≡ touches_at opening.now certificate.now queue stores hart pc n) }
 {
     let listed = &listed_states(certificate, hart)[n as usize];
     if listed.known.pc == pc {
         let code = code_of(opening, hart);
         let its = &listed.known;
-        let spares = spares_in(alloc, certificate, i, stores, code, its, &listed.cases)?;
+        let spares = spares_in(alloc, certificate, queue, stores, code, its, &listed.cases)?;
         Ok(!spares)
     } else {
         Ok(false)
@@ -182,17 +178,17 @@ fn any_touches(
     alloc: Global,
     opening: &Opening,
     certificate: &QueueCertificate,
-    i: u32,
+    queue: Queue,
     stores: bool,
     hart: u32,
     pc: u32,
 ) -> Result<bool, Lack>
-    ensures { IfOk result (λ may. may ≡ any_below (length (part_of certificate.now hart).states) (touches_at opening.now certificate.now i stores
+    ensures { IfOk result (λ may. may ≡ any_below (length (part_of certificate.now hart).states) (touches_at opening.now certificate.now queue stores
         hart pc)) }
 {
     let mut any = false;
     for n in 0..small(listed_states(certificate, hart).len())? {
-        any = touches_at(alloc, opening, certificate, i, stores, hart, pc, n)? || any;
+        any = touches_at(alloc, opening, certificate, queue, stores, hart, pc, n)? || any;
     }
     Ok(any)
 }
@@ -201,14 +197,14 @@ fn access_at(
     alloc: Global,
     opening: &Opening,
     certificate: &QueueCertificate,
-    i: u32,
+    queue: Queue,
     hart: u32,
     pc: u32,
 ) -> Result<SlotAccess, Lack>
-    ensures { IfOk result (λ access. access ≡ access_at opening.now certificate.now i hart pc) }
+    ensures { IfOk result (λ access. access ≡ access_at opening.now certificate.now queue hart pc) }
 {
-    let stores = any_touches(alloc, opening, certificate, i, true, hart, pc)?;
-    let loads = any_touches(alloc, opening, certificate, i, false, hart, pc)?;
+    let stores = any_touches(alloc, opening, certificate, queue, true, hart, pc)?;
+    let loads = any_touches(alloc, opening, certificate, queue, false, hart, pc)?;
     Ok(SlotAccess {
         hart,
         pc,
@@ -231,14 +227,17 @@ fn push_accesses(
     out: &mut Vec<SlotAccess>,
     opening: &Opening,
     certificate: &QueueCertificate,
-    i: u32,
+    queue: Queue,
     hart: u32,
 ) -> Result<(), Lack>
-    ensures { IfOk result (λ _. out.new.items ≡ out.old.items ++ accesses_of opening.now certificate.now i hart (length (hart_at opening.now hart).code)) }
+    ensures { IfOk result (λ _. out.new.items ≡ out.old.items ++ accesses_of opening.now certificate.now queue hart (length (hart_at opening.now hart).code)) }
 {
     for n in 0..small(code_of(opening, hart).len())? {
         let pc = small_pc(n)?;
-        push_kept(out, access_at(alloc, opening, certificate, i, hart, pc)?)?;
+        push_kept(
+            out,
+            access_at(alloc, opening, certificate, queue, hart, pc)?,
+        )?;
     }
     Ok(())
 }
@@ -247,6 +246,22 @@ fn small_pc(n: u32) -> Result<u32, Lack>
     ensures { IfOk result (λ pc. pc ≡ 4 * n) }
 {
     n.checked_mul(4).ok_or(Lack::TooLarge)
+}
+
+/// The instructions that in some state may access a byte of these slots, each once, by hart and pc.
+fn accesses_to(
+    alloc: Global,
+    opening: &Opening,
+    certificate: &QueueCertificate,
+    queue: Queue,
+) -> Result<Vec<SlotAccess>, Lack>
+    ensures { IfOk result (λ accesses. accesses.items ≡ accesses_to opening.now certificate.now queue) }
+{
+    let mut out = Vec::new(alloc);
+    for hart in 0..small(opening.harts.len())? {
+        push_accesses(alloc, &mut out, opening, certificate, queue, hart)?;
+    }
+    Ok(out)
 }
 
 /// The instructions that in some state may access a byte of the queue's slots, each once, by hart and pc.
@@ -258,9 +273,19 @@ pub fn slot_accesses(
 ) -> Result<Vec<SlotAccess>, Lack>
     ensures { IfOk result (λ accesses. accesses.items ≡ slot_accesses opening.now certificate.now queue) }
 {
-    let mut out = Vec::new(alloc);
-    for hart in 0..small(opening.harts.len())? {
-        push_accesses(alloc, &mut out, opening, certificate, queue, hart)?;
-    }
-    Ok(out)
+    let its = queue_in(&certificate.queues, queue);
+    accesses_to(alloc, opening, certificate, its)
+}
+
+/// The same of a queue with tags.
+pub fn tagged_accesses(
+    alloc: Global,
+    opening: &Opening,
+    certificate: &QueueCertificate,
+    tagged: u32,
+) -> Result<Vec<SlotAccess>, Lack>
+    ensures { IfOk result (λ accesses. accesses.items ≡ tagged_accesses opening.now certificate.now tagged) }
+{
+    let its = bare(tagged_in(&certificate.tagged, tagged));
+    accesses_to(alloc, opening, certificate, its)
 }

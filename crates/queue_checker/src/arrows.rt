@@ -1,19 +1,21 @@
 //! Whether all that a state says another says too, with forms for its variables.
 
-ghost use Rattle.std.specs.Prelude.{◌≡◌, ◌&&◌, ◌++◌, ℕ, List, IfOk, length, map, get_or, nat_lt};
+ghost use Rattle.std.specs.Prelude.{◌≡◌, ◌&&◌, ◌++◌, ◌+◌, ℕ, List, IfOk, length, map, get_or, nat_lt};
 ghost use Rattle.queue_certificates.specs.Forms.{substituted, settled};
 ghost use Rattle.queue_certificates.specs.States.{is_within, value_by, state_by, no_share};
 ghost use Rattle.queue_certificates.specs.Steps.{all_below};
+ghost use Rattle.queue_certificates.specs.Tags.{covers_share, tags_lead};
 ghost use Rattle.queue_certificates.specs.Certificates.{nowhere, queue_at, part_of, state_at, all_within};
 ghost use Rattle.queue_certificates.specs.Certificates.{is_share, leads_to, arrow_leads, each_leads, all_lead};
 ghost use Rattle.known_values.specs.Queues.{queue_in};
 
 use crate::certificate::{Arrow, KnownState, ListedState, QueueCertificate, Share};
 use crate::sites::{listed_states, small};
-use crate::states::{settled_state, share_in};
+use crate::states::{settled_state, share_after, share_in};
 use crate::successors::Successors;
+use crate::tagged_queues::tagged_count;
 use known_values::forms::{is_same, substituted};
-use known_values::ranges::{are_in, settled};
+use known_values::ranges::{are_in, fits_in, most, settled};
 use known_values::values::{any, is_within, substituted_value};
 use known_values::{Form, KnownValue, Lack, OpenedQueue};
 use std::alloc::Global;
@@ -140,6 +142,56 @@ fn leads_to(
     Ok(here && fits && registers && words && shares)
 }
 
+/// Whether a share of a queue with tags says all that another says, with forms for its variables.
+fn covers_share(
+    alloc: Global,
+    ranges: &[Option<u64>],
+    share: &Share,
+    wanted: &Share,
+    forms: &[Form],
+) -> Result<bool, Lack>
+    ensures { IfOk result (λ covers. covers ≡ covers_share ranges.now share.now wanted.now forms.now) }
+{
+    let own = is_same(0, &share.own, &substituted(alloc, &wanted.own, forms)?);
+    let owned = most(ranges, &substituted(alloc, &wanted.owned, forms)?)?;
+    let fits = fits_in(owned, Some(share.owned.constant));
+    Ok(own && fits)
+}
+
+fn covers_share_at(
+    alloc: Global,
+    count: u32,
+    state: &KnownState,
+    target: &KnownState,
+    forms: &[Form],
+    i: u32,
+) -> Result<bool, Lack>
+    ensures { IfOk result (λ covers. covers ≡ covers_share state.now.ranges (get_or state.now.shares (count + i) no_share)
+        (get_or target.now.shares (count + i) no_share) forms.now) }
+{
+    let share = share_after(alloc, &state.shares, count, i)?;
+    let wanted = share_after(alloc, &target.shares, count, i)?;
+    covers_share(alloc, &state.ranges, &share, &wanted, forms)
+}
+
+/// Whether the shares of as many queues with tags as `tags`, after those of `count` others, say all that the other state's say.
+fn tags_lead(
+    alloc: Global,
+    count: u32,
+    tags: u32,
+    state: &KnownState,
+    target: &KnownState,
+    forms: &[Form],
+) -> Result<bool, Lack>
+    ensures { IfOk result (λ lead. lead ≡ tags_lead count tags state.now target.now forms.now) }
+{
+    let mut all = true;
+    for i in 0..tags {
+        all = covers_share_at(alloc, count, state, target, forms, i)? && all;
+    }
+    Ok(all)
+}
+
 fn settled_forms(alloc: Global, ranges: &[Option<u64>], forms: &[Form]) -> Result<Vec<Form>, Lack>
     ensures { IfOk result (λ fs. fs.items ≡ map (settled ranges.now) forms.now) }
 {
@@ -158,35 +210,40 @@ fn settled_here(alloc: Global, state: &KnownState) -> Result<KnownState, Lack>
     settled_state(alloc, state, ranges)
 }
 
-/// The same of what is left without variables that can only be 0.
+/// The same of what is left without variables that can only be 0, and of the shares of as many queues with tags as `tags`.
 fn arrow_leads(
     alloc: Global,
     queues: &[OpenedQueue],
+    tags: u32,
     state: &KnownState,
     target: &KnownState,
     forms: &[Form],
 ) -> Result<bool, Lack>
-    ensures { IfOk result (λ leads. leads ≡ arrow_leads (queue_in queues.now) (length queues.now) state.now target.now forms.now) }
+    ensures { IfOk result (λ leads. leads ≡ arrow_leads (queue_in queues.now) (length queues.now) tags state.now target.now forms.now) }
 {
     let settled = settled_here(alloc, state)?;
     let forms = settled_forms(alloc, &state.ranges, forms)?;
-    leads_to(alloc, queues, &settled, target, &forms)
+    let count = small(queues.len())?;
+    let told = tags_lead(alloc, count, tags, &settled, target, &forms)?;
+    let leads = leads_to(alloc, queues, &settled, target, &forms)?;
+    Ok(leads && told)
 }
 
 /// Whether the arrow leads from a state to one of these, which says no more.
 fn leads_among(
     alloc: Global,
     queues: &[OpenedQueue],
+    tags: u32,
     states: &[ListedState],
     state: &KnownState,
     arrow: &Arrow,
 ) -> Result<bool, Lack>
     ensures { IfOk result (λ leads. leads ≡ (nat_lt arrow.now.to (length states.now)
-        && arrow_leads (queue_in queues.now) (length queues.now) state.now (get_or states.now arrow.now.to nowhere).known arrow.now.forms)) }
+        && arrow_leads (queue_in queues.now) (length queues.now) tags state.now (get_or states.now arrow.now.to nowhere).known arrow.now.forms)) }
 {
     match states.get(arrow.to as usize) {
         None => Ok(false),
-        Some(target) => arrow_leads(alloc, queues, state, &target.known, &arrow.forms),
+        Some(target) => arrow_leads(alloc, queues, tags, state, &target.known, &arrow.forms),
     }
 }
 
@@ -199,22 +256,22 @@ fn one_leads(
     arrow: &Arrow,
 ) -> Result<bool, Lack>
     ensures { IfOk result (λ leads. leads ≡ (nat_lt arrow.now.to (length (part_of certificate.now hart).states)
-        && arrow_leads (queue_at certificate.now) (length certificate.now.queues) state.now
+        && arrow_leads (queue_at certificate.now) (length certificate.now.queues) (length certificate.now.tagged) state.now
         (state_at certificate.now hart arrow.now.to).known arrow.now.forms)) }
 {
     let states = listed_states(certificate, hart);
-    leads_among(alloc, &certificate.queues, states, state, arrow)
+    let tags = tagged_count(certificate)?;
+    leads_among(alloc, &certificate.queues, tags, states, state, arrow)
 }
 
 fn each_leads(
     alloc: Global,
     certificate: &QueueCertificate,
     hart: u32,
-    code: &[u32],
     mut states: &[KnownState],
     mut arrows: &[Arrow],
 ) -> Result<bool, Lack>
-    ensures { IfOk result (λ lead. lead ≡ each_leads certificate.now hart code.now states.now arrows.now) }
+    ensures { IfOk result (λ lead. lead ≡ each_leads certificate.now hart states.now arrows.now) }
 {
     'states: loop {
         match (states, arrows) {
@@ -236,14 +293,13 @@ pub(crate) fn all_lead(
     alloc: Global,
     certificate: &QueueCertificate,
     hart: u32,
-    code: &[u32],
     next: &Successors,
     arrows: &[Arrow],
 ) -> Result<bool, Lack>
-    ensures { IfOk result (λ lead. lead ≡ all_lead certificate.now hart code.now next.now arrows.now) }
+    ensures { IfOk result (λ lead. lead ≡ all_lead certificate.now hart next.now arrows.now) }
 {
     if next.shown {
-        each_leads(alloc, certificate, hart, code, &next.states, arrows)
+        each_leads(alloc, certificate, hart, &next.states, arrows)
     } else {
         Ok(false)
     }

@@ -1,6 +1,7 @@
 //! Certificates of queues, as `queue_certificates` defines them.
 
 use known_values::{Form, KnownValue, OpenedQueue};
+use queue_layouts::OpenedTagged;
 use std::marker::Model;
 
 /// Of a queue of which the hart is a party: its own count, and how many positions it owns.
@@ -163,10 +164,12 @@ impl Model for HartPart {
     ghost view = { λ p. record { own = p.own.items; first = p.first; numbers = p.numbers.items; states = p.states.items } };
 }
 
-/// Of each queue of a text how it opens, and of each hart its part.
+/// Of each queue of a text how it opens, of those with indices and of those with tags, and of each hart its part. The shares of a
+/// state are first those of the queues with indices, and then those of the queues with tags.
 #[derive(Drop)]
 pub struct QueueCertificate {
     pub queues: Vec<OpenedQueue>,
+    pub tagged: Vec<OpenedTagged>,
     pub harts: Vec<HartPart>,
 }
 
@@ -179,5 +182,5 @@ impl Model for QueueCertificate {
 
     ghost coded = { Prim.hlevel (codes, cases_code) };
 
-    ghost view = { λ c. record { queues = c.queues.items; harts = c.harts.items } };
+    ghost view = { λ c. record { queues = c.queues.items; tagged = c.tagged.items; harts = c.harts.items } };
 }

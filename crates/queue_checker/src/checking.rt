@@ -2,7 +2,7 @@
 
 ghost use Rattle.std.specs.Prelude.{◌≡◌, ◌<◌, ◌&&◌, IfOk, length, get_or};
 ghost use Rattle.queue_certificates.specs.Certificates.{part_of, is_closed, keeps_all_fields};
-ghost use Rattle.queue_checker.specs.Flaws.{hart_at, flaw_of_queue, state_holds, first_of, first_below, unless, hart_flaw, first_flaw};
+ghost use Rattle.queue_checker.specs.Flaws.{hart_at, flaw_of_queue, flaw_of_tagged, state_holds, first_of, first_below, unless, hart_flaw, first_flaw};
 ghost use Rattle.queue_checker.specs.Flaws.{opening_holds};
 ghost use Rattle.queue_checker.specs.declared.flaws.Flaw.TheVariants.{State};
 
@@ -13,6 +13,7 @@ use crate::opening::opening_holds;
 use crate::queues::queue_flaw;
 use crate::sending::keeps_all_fields;
 use crate::sites::{listed_states, queue_count, small};
+use crate::tagged_queues::{tagged_count, tagged_flaw};
 use known_values::Lack;
 use std::alloc::Global;
 use step_machine::{HartOpening, Opening};
@@ -40,6 +41,36 @@ fn first_queue_flaw(opening: &Opening, certificate: &QueueCertificate) -> Result
     let mut first = None;
     for i in 0..queue_count(certificate)? {
         first = queue_flaw_after(opening, certificate, first, i)?;
+    }
+    Ok(first)
+}
+
+fn tagged_flaw_after(
+    opening: &Opening,
+    certificate: &QueueCertificate,
+    first: Option<Flaw>,
+    t: u32,
+) -> Result<Option<Flaw>, Lack>
+    ensures { IfOk result (λ flaw. flaw ≡ first_of first (flaw_of_tagged opening.now certificate.now t)) }
+{
+    match first {
+        Some(flaw) => Ok(Some(flaw)),
+        None => match tagged_flaw(opening, certificate, t)? {
+            Some(flaw) => Ok(Some(Flaw::Tagged(t, flaw))),
+            None => Ok(None),
+        },
+    }
+}
+
+fn first_tagged_flaw(
+    opening: &Opening,
+    certificate: &QueueCertificate,
+) -> Result<Option<Flaw>, Lack>
+    ensures { IfOk result (λ flaw. flaw ≡ first_below (length certificate.now.tagged) (flaw_of_tagged opening.now certificate.now)) }
+{
+    let mut first = None;
+    for t in 0..tagged_count(certificate)? {
+        first = tagged_flaw_after(opening, certificate, first, t)?;
     }
     Ok(first)
 }
@@ -155,8 +186,8 @@ fn first_hart_flaw(
     Ok(first)
 }
 
-/// The first flaw of a certificate, of its queues first, and then of each hart how it opens and its states; none exactly where it is
-/// accepted.
+/// The first flaw of a certificate, of its queues first, those with tags last, and then of each hart how it opens and its states; none
+/// exactly where it is accepted.
 pub fn first_flaw(
     alloc: Global,
     opening: &Opening,
@@ -164,10 +195,13 @@ pub fn first_flaw(
 ) -> Result<Option<Flaw>, Lack>
     ensures { IfOk result (λ flaw. flaw ≡ first_flaw opening.now certificate.now) }
 {
-    match first_queue_flaw(opening, certificate)? {
-        Some(flaw) => Ok(Some(flaw)),
-        None => first_hart_flaw(alloc, opening, certificate),
+    if let Some(flaw) = first_queue_flaw(opening, certificate)? {
+        return Ok(Some(flaw));
     }
+    if let Some(flaw) = first_tagged_flaw(opening, certificate)? {
+        return Ok(Some(flaw));
+    }
+    first_hart_flaw(alloc, opening, certificate)
 }
 
 #[cfg(test)]
@@ -228,6 +262,7 @@ mod tests {
         };
         Ok(QueueCertificate {
             queues: Vec::new(alloc),
+            tagged: Vec::new(alloc),
             harts: vec![in alloc; part]?,
         })
     }

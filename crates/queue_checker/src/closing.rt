@@ -8,6 +8,7 @@ use crate::certificate::{Arrow, CaseNode, Cases, KnownState, QueueCertificate};
 use crate::fields::next_received;
 use crate::states::{high_state, settled_state};
 use crate::steps::{follow, instruction_at};
+use crate::tags::next_told;
 use known_values::lack::sum;
 use known_values::{Form, Lack};
 use std::alloc::Global;
@@ -134,8 +135,9 @@ fn is_leaf_closed(
 {
     let instruction = instruction_at(code, state.pc);
     let known = follow(alloc, certificate, hart, state, handed, instruction)?;
-    let next = next_received(alloc, certificate, hart, state, instruction, known)?;
-    all_lead(alloc, certificate, hart, code, &next, arrows)
+    let received = next_received(alloc, certificate, hart, state, instruction, known)?;
+    let next = next_told(alloc, certificate, hart, state, instruction, received)?;
+    all_lead(alloc, certificate, hart, &next, arrows)
 }
 
 /// Whether a variable of the state may be more than `most`.

@@ -1,20 +1,20 @@
 //! What an instruction of a queue's sender does to its slots and its count.
 
 ghost use Rattle.std.specs.Prelude.{◌≡◌, IfOk, length};
-ghost use Rattle.queue_certificates.specs.Certificates.{queue_at, own_of};
+ghost use Rattle.queue_certificates.specs.Certificates.{queue_at};
 ghost use Rattle.queue_certificates.specs.Effects.{published_by, filled_by, moves_head, effect_at, effect_of, value_stored};
 ghost use Rattle.queue_certificates.specs.Filled.{most_published};
 
 use crate::certificate::{KnownState, QueueCertificate, Share};
 use crate::loads::last_own_index;
-use crate::places::{anywhere, offset_at, position_at};
+use crate::places::{offset_at, position_at};
 use crate::slots::is_owned;
 use crate::states::share_in;
-use crate::steps::{address_value, operand};
+use crate::steps::operand;
 use crate::stores::store_width;
+use crate::targets::{Target, accessed, exchanged};
 use known_values::queues::queue_in;
 use known_values::ranges::most;
-use known_values::results::bounds;
 use known_values::values::any;
 use known_values::{Bounds, Form, Known, KnownValue, Lack, Queue};
 use queue_certificates::Effect;
@@ -37,7 +37,7 @@ fn published_by(handed: &Form, bound: Option<u64>) -> Option<Effect>
 }
 
 /// The effect of a store to a slot.
-fn filled_by(
+pub(crate) fn filled_by(
     alloc: Global,
     ranges: &[Option<u64>],
     queue: Queue,
@@ -73,8 +73,7 @@ fn moves_head(
     bounds: Bounds,
     width: u64,
 ) -> Result<bool, Lack>
-    ensures { IfOk result (λ moves. moves ≡ moves_head (queue_at certificate.now) (length certificate.now.queues) (own_of certificate.now)
-        (length certificate.now.harts) i bounds width) }
+    ensures { IfOk result (λ moves. moves ≡ moves_head (queue_at certificate.now) (length certificate.now.queues) i bounds width) }
 {
     let hart = queue_in(&certificate.queues, i).sender;
     match last_own_index(certificate, hart, bounds, width)? {
@@ -90,19 +89,24 @@ fn effect_at(
     i: u32,
     state: &KnownState,
     handed: &Form,
-    place: &KnownValue,
-    bounds: Bounds,
-    width: u64,
+    target: &Target,
 ) -> Result<Option<Effect>, Lack>
-    ensures { IfOk result (λ effect. effect ≡ effect_at (queue_at certificate.now) (length certificate.now.queues) (own_of certificate.now)
-        (length certificate.now.harts) i state.now handed.now place.now bounds width) }
+    ensures { IfOk result (λ effect. effect ≡ effect_at (queue_at certificate.now) (length certificate.now.queues) i state.now handed.now
+        target.now.place target.now.bounds target.now.width) }
 {
-    if moves_head(certificate, i, bounds, width)? {
+    if moves_head(certificate, i, target.bounds, target.width)? {
         Ok(published_by(handed, most(&state.ranges, handed)?))
     } else {
         let queue = queue_in(&certificate.queues, i);
         let share = share_in(alloc, &state.shares, i as usize)?;
-        let effect = filled_by(alloc, &state.ranges, queue, &share, place, width)?;
+        let effect = filled_by(
+            alloc,
+            &state.ranges,
+            queue,
+            &share,
+            &target.place,
+            target.width,
+        )?;
         Ok(Some(effect))
     }
 }
@@ -116,8 +120,7 @@ pub fn effect_of(
     handed: &Form,
     instruction: Option<Instr>,
 ) -> Result<Option<Effect>, Lack>
-    ensures { IfOk result (λ effect. effect ≡ effect_of (queue_at certificate.now) (length certificate.now.queues) (own_of certificate.now)
-        (length certificate.now.harts) i state.now handed.now instruction) }
+    ensures { IfOk result (λ effect. effect ≡ effect_of (queue_at certificate.now) (length certificate.now.queues) i state.now handed.now instruction) }
 {
     match instruction {
         Some(
@@ -128,23 +131,12 @@ pub fn effect_of(
                 ..
             },
         ) => {
-            let place = address_value(alloc, certificate, state, rs1, offset)?;
-            let bounds = anywhere(bounds(alloc, &state.ranges, &place)?);
-            effect_at(
-                alloc,
-                certificate,
-                i,
-                state,
-                handed,
-                &place,
-                bounds,
-                store_width(op),
-            )
+            let target = accessed(alloc, certificate, state, rs1, offset, store_width(op))?;
+            effect_at(alloc, certificate, i, state, handed, &target)
         }
         Some(Instr::Amo { rs1, .. }) => {
-            let place = operand(alloc, certificate, state, rs1)?;
-            let bounds = anywhere(bounds(alloc, &state.ranges, &place)?);
-            effect_at(alloc, certificate, i, state, handed, &place, bounds, 4)
+            let target = exchanged(alloc, certificate, state, rs1)?;
+            effect_at(alloc, certificate, i, state, handed, &target)
         }
         _ => Ok(Some(Effect::Leaves)),
     }
@@ -154,14 +146,11 @@ pub fn effect_of(
 pub(crate) fn value_stored(
     alloc: Global,
     certificate: &QueueCertificate,
-    i: u32,
     state: &KnownState,
     instruction: Option<Instr>,
 ) -> Result<KnownValue, Lack>
-    ensures { IfOk result (λ value. value ≡ value_stored (queue_at certificate.now) (length certificate.now.queues) (own_of certificate.now)
-        (length certificate.now.harts) i state.now instruction) }
+    ensures { IfOk result (λ value. value ≡ value_stored (queue_at certificate.now) state.now instruction) }
 {
-    let _queue = i;
     match instruction {
         Some(Instr::Store { rs2, .. }) => operand(alloc, certificate, state, rs2),
         _ => Ok(any()),

@@ -2,7 +2,7 @@
 
 ghost use Rattle.std.specs.Prelude.{◌≡◌, Some, IfOk, length};
 ghost use Rattle.rv_decode.specs.declared.instruction.Instr.TheVariants.{Load};
-ghost use Rattle.queue_certificates.specs.Certificates.{queue_at, own_of, fields_at};
+ghost use Rattle.queue_certificates.specs.Certificates.{queue_at, fields_at};
 ghost use Rattle.queue_certificates.specs.Fields.{field_number, keeps_numbers, field_there, field_or, field_in, field_below, after_field, next_received};
 
 use crate::certificate::{KnownState, QueueCertificate};
@@ -83,8 +83,7 @@ fn field_in(
     width: u64,
     i: u32,
 ) -> Result<Option<Field>, Lack>
-    ensures { IfOk result (λ field. field ≡ field_in (queue_at certificate.now) (fields_at certificate.now) (length certificate.now.queues) (own_of
-        certificate.now) (length certificate.now.harts) hart state.now place.now width i) }
+    ensures { IfOk result (λ field. field ≡ field_in (queue_at certificate.now) (fields_at certificate.now) hart state.now place.now width i) }
 {
     match &place.known {
         Known::Any => Ok(None),
@@ -113,8 +112,8 @@ fn field_of_any(
     place: &KnownValue,
     width: u64,
 ) -> Result<Option<Field>, Lack>
-    ensures { IfOk result (λ field. field ≡ field_below (queue_at certificate.now) (fields_at certificate.now) (length certificate.now.queues) (own_of
-        certificate.now) (length certificate.now.harts) hart state.now place.now width (length certificate.now.queues)) }
+    ensures { IfOk result (λ field. field ≡ field_below (queue_at certificate.now) (fields_at certificate.now) hart state.now place.now width (length
+        certificate.now.queues)) }
 {
     let mut found = None;
     for i in 0..queue_count(certificate)? {
@@ -129,8 +128,6 @@ fn field_of_any(
 /// The states that follow a load, if it is of this field and no look, and else these.
 fn after_field(
     alloc: Global,
-    certificate: &QueueCertificate,
-    hart: u32,
     state: &KnownState,
     op: LoadOp,
     rd: u8,
@@ -138,11 +135,8 @@ fn after_field(
     field: Option<Field>,
     states: Vec<KnownState>,
 ) -> Result<Vec<KnownState>, Lack>
-    ensures { IfOk result (λ next. next.items ≡ after_field (queue_at certificate.now) (fields_at certificate.now) (length certificate.now.queues)
-        (own_of certificate.now) (length certificate.now.harts) hart state.now op rd look field states.items) }
+    ensures { IfOk result (λ next. next.items ≡ after_field state.now op rd look field states.items) }
 {
-    let _certificate = certificate;
-    let _hart = hart;
     match (look, field) {
         (None, Some(field)) => {
             if keeps_numbers(op, field)? {
@@ -167,9 +161,8 @@ fn load_received(
     offset: i32,
     next: Successors,
 ) -> Result<Successors, Lack>
-    ensures { IfOk result (λ received. received ≡ next_received (queue_at certificate.now) (fields_at certificate.now) (length
-        certificate.now.queues) (own_of certificate.now) (length certificate.now.harts) hart state.now
-        (Some (Load op rd rs1 offset)) next) }
+    ensures { IfOk result (λ received. received ≡ next_received (queue_at certificate.now) (fields_at certificate.now) (length certificate.now.queues)
+        hart state.now (Some (Load op rd rs1 offset)) next) }
 {
     let place = address_value(alloc, certificate, state, rs1, offset)?;
     let bounds = anywhere(bounds(alloc, &state.ranges, &place)?);
@@ -177,17 +170,7 @@ fn load_received(
     let look = last_look(certificate, hart, bounds, width)?;
     let field = field_of_any(alloc, certificate, hart, state, &place, width)?;
     if next.shown {
-        let states = after_field(
-            alloc,
-            certificate,
-            hart,
-            state,
-            op,
-            rd.number,
-            look,
-            field,
-            next.states,
-        )?;
+        let states = after_field(alloc, state, op, rd.number, look, field, next.states)?;
         Ok(Successors {
             shown: true,
             states,
@@ -206,8 +189,8 @@ pub(crate) fn next_received(
     instruction: Option<Instr>,
     next: Successors,
 ) -> Result<Successors, Lack>
-    ensures { IfOk result (λ received. received ≡ next_received (queue_at certificate.now) (fields_at certificate.now) (length
-        certificate.now.queues) (own_of certificate.now) (length certificate.now.harts) hart state.now instruction next) }
+    ensures { IfOk result (λ received. received ≡ next_received (queue_at certificate.now) (fields_at certificate.now) (length certificate.now.queues)
+        hart state.now instruction next) }
 {
     match instruction {
         Some(

@@ -2,8 +2,8 @@
 
 ghost use Rattle.std.specs.Prelude.{ℕ, ◌≡◌, ◌↔◌, None, true};
 ghost use Rattle.step_machine.specs.History.{OpeningValue};
-ghost use Rattle.queue_certificates.specs.Certificates.{QueueCertificate, accepts, accepts_loads};
-ghost use Rattle.queue_checker.specs.Flaws.{first_flaw, first_unowned};
+ghost use Rattle.queue_certificates.specs.Certificates.{QueueCertificate, accepts, accepts_loads, accepts_rest};
+ghost use Rattle.queue_checker.specs.Flaws.{first_flaw, first_unowned, first_unowned_rest};
 
 /// Why a queue of a certificate is none, or doesn't open at its count.
 #[derive(Clone, Copy, PartialEq, Eq, Debug)]
@@ -34,18 +34,43 @@ pub enum QueueFlaw {
     WideField,
 }
 
-/// The part of a certificate that isn't accepted: a queue, how a hart opens, or one of a hart's states.
+/// Why a queue with tags of a certificate is none, or doesn't open with its slots free.
+#[derive(Clone, Copy, PartialEq, Eq, Debug)]
+pub enum TaggedFlaw {
+    /// One hart sends and receives.
+    OneHart,
+    /// There is no slot.
+    NoSlot,
+    /// A tag has no byte.
+    NoTag,
+    /// A tag has more than 4 bytes.
+    WideTag,
+    /// A tag reaches past its slot.
+    PastSlot,
+    /// A tag isn't a word, and positions' numbers tell.
+    NarrowNumber,
+    /// A position's number is the same for a free slot and for a full one.
+    SameNumbers,
+    /// Memory opens with a slot that isn't free for its position.
+    NotFree,
+}
+
+/// The part of a certificate that isn't accepted: a queue with indices; a queue with tags, by its number among those; how a hart
+/// opens; or one of a hart's states.
 #[derive(Clone, Copy, PartialEq, Eq, Debug)]
 pub enum Flaw {
     Queue(u32, QueueFlaw),
+    Tagged(u32, TaggedFlaw),
     Opening(u32),
     State { hart: u32, state: u32 },
 }
 
 /// A certificate is accepted exactly where there is no first flaw, and a hart's loads of a queue's slots exactly where there is no
-/// first state with one that isn't shown to be of an owned slot. It does nothing.
-#[tactic(auto, using(crate::proofs::FlawLaws::no_flaw, crate::proofs::FlawLaws::all_owned))]
+/// first state with one that isn't shown to be of an owned slot; the same of a queue with tags, whose tags may be loaded too. It
+/// does nothing.
+#[tactic(auto, using(crate::proofs::FlawLaws::no_flaw, crate::proofs::FlawLaws::all_owned, crate::proofs::FlawLaws::all_rest))]
 pub fn laws_of_flaws()
     ensures flaw { (o : OpeningValue) (c : QueueCertificate) → (first_flaw o c ≡ None) ↔ (accepts o c ≡ true) }
     ensures loads { (o : OpeningValue) (c : QueueCertificate) (i h : ℕ) → (first_unowned o c i h ≡ None) ↔ (accepts_loads o c i h ≡ true) }
+    ensures rest { (o : OpeningValue) (c : QueueCertificate) (t h : ℕ) → (first_unowned_rest o c t h ≡ None) ↔ (accepts_rest o c t h ≡ true) }
 {}

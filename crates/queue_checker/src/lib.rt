@@ -1,8 +1,8 @@
 //! Checks certificates of queues: whether `queue_certificates` accepts one, for an opening.
 //!
 //! The contract: [`first_flaw`] returns the first part of a certificate that isn't accepted, and none exactly where `accepts` holds
-//! ([`laws_of_flaws`]); [`first_unowned`] does the same for the loads of one hart. A [`Lack`](known_values::Lack) decides nothing. This
-//! crate finds no certificate, reads no text and runs no machine.
+//! ([`laws_of_flaws`]); [`first_unowned`] does the same for the loads of one hart, and [`first_unowned_rest`] for those of the slots of a
+//! queue with tags. A [`Lack`](known_values::Lack) decides nothing. This crate finds no certificate, reads no text and runs no machine.
 //!
 //! Called by `hart_safety`, `records_written`, `certificate_reader` and `certifying`.
 
@@ -12,6 +12,8 @@ pub mod accesses;
 mod arrows;
 pub mod certificate;
 mod checking;
+#[cfg(test)]
+mod checking_tags;
 pub mod closing;
 pub mod effects;
 mod fields;
@@ -19,7 +21,9 @@ mod filled;
 pub mod flaws;
 pub mod loads;
 mod opening;
+mod opening_tags;
 pub mod owning;
+mod owning_rest;
 pub mod places;
 mod queues;
 mod sending;
@@ -29,12 +33,22 @@ pub mod states;
 pub mod steps;
 pub mod stores;
 mod successors;
+pub mod tag_effects;
+mod tag_loads;
+mod tag_places;
+mod tag_stores;
+mod tag_values;
+pub mod tagged_queues;
+mod tags;
+pub mod targets;
 
-pub use accesses::{SlotAccess, slot_accesses};
+pub use accesses::{SlotAccess, slot_accesses, tagged_accesses};
 pub use certificate::{
     Arrow, CaseNode, Cases, Filled, FilledSlot, HartPart, KnownState, ListedState,
     QueueCertificate, Share,
 };
 pub use checking::first_flaw;
-pub use flaws::{Flaw, QueueFlaw, laws_of_flaws};
+pub use flaws::{Flaw, QueueFlaw, TaggedFlaw, laws_of_flaws};
 pub use owning::first_unowned;
+pub use owning_rest::first_unowned_rest;
+pub use queue_layouts::{Codec, OpenedTagged, TaggedQueue};

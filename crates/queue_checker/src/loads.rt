@@ -9,7 +9,7 @@ ghost use Rattle.queue_certificates.specs.Forms.{Form, number, plus, lifted};
 ghost use Rattle.queue_certificates.specs.States.{KnownState, KnownValue, Share, share_by, no_share, any, index_for};
 ghost use Rattle.queue_certificates.specs.Certificates.{queue_at, own_of};
 ghost use Rattle.queue_certificates.specs.Steps.{all_below, is_one, last_below, is_just, misses, owned_then, looked_share, is_look, is_own_index};
-ghost use Rattle.queue_certificates.specs.Steps.{is_index_below, signed_value, loaded, is_own_word, share_at};
+ghost use Rattle.queue_certificates.specs.Steps.{is_index_below, signed_value, most_loaded, loaded, is_own_word, share_at};
 ghost use Rattle.queue_certificates.specs.Steps.{word_loaded, index_loaded, value_loaded, extended_value};
 ghost use Rattle.queue_certificates.specs.Steps.{looked_word, after_look, after_load, may_load, load_by, loading};
 
@@ -23,7 +23,7 @@ use crate::successors::{Successors, not_shown, one};
 use known_values::forms::{first_variable, lifted, number, plus};
 use known_values::lack::{product, sum};
 use known_values::queues::queue_in;
-use known_values::results::{just, or_up_to};
+use known_values::results::or_up_to;
 use known_values::values::{any, index_for, signed_for};
 use known_values::{Bounds, Form, Known, KnownValue, Lack, Outcome, Queue};
 use rv_decode::instruction::LoadOp;
@@ -41,8 +41,7 @@ pub fn load_width(op: LoadOp) -> u64
 }
 
 fn is_look(certificate: &QueueCertificate, hart: u32, bounds: Bounds, width: u64, i: u32) -> bool
-    ensures { result ≡ is_look (queue_at certificate.now) (length certificate.now.queues) (own_of certificate.now) (length certificate.now.harts)
-        hart bounds width i }
+    ensures { result ≡ is_look (queue_at certificate.now) hart bounds width i }
 {
     is_one(bounds) && is_others(queue_in(&certificate.queues, i), hart, bounds.low, width)
 }
@@ -54,8 +53,7 @@ fn is_own_index(
     width: u64,
     i: u32,
 ) -> bool
-    ensures { result ≡ is_own_index (queue_at certificate.now) (length certificate.now.queues) (own_of certificate.now) (length
-        certificate.now.harts) hart bounds width i }
+    ensures { result ≡ is_own_index (queue_at certificate.now) hart bounds width i }
 {
     is_one(bounds) && is_own(queue_in(&certificate.queues, i), hart, bounds.low, width)
 }
@@ -67,8 +65,7 @@ pub(crate) fn last_look(
     bounds: Bounds,
     width: u64,
 ) -> Result<Option<u32>, Lack>
-    ensures { IfOk result (λ last. last ≡ last_below (length certificate.now.queues) (is_look (queue_at certificate.now) (length
-        certificate.now.queues) (own_of certificate.now) (length certificate.now.harts) hart bounds width)) }
+    ensures { IfOk result (λ last. last ≡ last_below (length certificate.now.queues) (is_look (queue_at certificate.now) hart bounds width)) }
 {
     let mut last = None;
     for i in 0..queue_count(certificate)? {
@@ -86,8 +83,7 @@ pub fn last_own_index(
     bounds: Bounds,
     width: u64,
 ) -> Result<Option<u32>, Lack>
-    ensures { IfOk result (λ last. last ≡ last_below (length certificate.now.queues) (is_own_index (queue_at certificate.now) (length
-        certificate.now.queues) (own_of certificate.now) (length certificate.now.harts) hart bounds width)) }
+    ensures { IfOk result (λ last. last ≡ last_below (length certificate.now.queues) (is_own_index (queue_at certificate.now) hart bounds width)) }
 {
     let mut last = None;
     for i in 0..queue_count(certificate)? {
@@ -130,8 +126,8 @@ pub(crate) fn value_loaded(
     bounds: Bounds,
     width: u64,
 ) -> Result<KnownValue, Lack>
-    ensures { IfOk result (λ v. v ≡ value_loaded (queue_at certificate.now) (length certificate.now.queues) (own_of certificate.now) (length
-        certificate.now.harts) hart state.now bounds width) }
+    ensures { IfOk result (λ v. v ≡ value_loaded (queue_at certificate.now) (length certificate.now.queues) (own_of certificate.now) hart state.now
+        bounds width) }
 {
     match last_own_index(certificate, hart, bounds, width)? {
         Some(i) => {
@@ -156,14 +152,11 @@ fn last_word(queue: Queue) -> Result<u64, Lack>
 /// Whether a value is the word of an index, each of which is below a limit.
 fn is_index_below(
     certificate: &QueueCertificate,
-    hart: u32,
     limit: u64,
     value: &KnownValue,
 ) -> Result<bool, Lack>
-    ensures { IfOk result (λ below. below ≡ is_index_below (queue_at certificate.now) (length certificate.now.queues) (own_of certificate.now)
-        (length certificate.now.harts) hart limit value.now) }
+    ensures { IfOk result (λ below. below ≡ is_index_below (queue_at certificate.now) limit value.now) }
 {
-    let _hart = hart;
     match &value.known {
         Known::Any => Ok(false),
         Known::Linear(_) => Ok(false),
@@ -179,31 +172,22 @@ fn is_index_below(
 /// What a signed load leaves of a number: itself, if its highest bit is 0.
 fn extended_value(
     certificate: &QueueCertificate,
-    hart: u32,
     op: LoadOp,
     value: KnownValue,
 ) -> Result<KnownValue, Lack>
-    ensures { IfOk result (λ v. v ≡ extended_value (queue_at certificate.now) (length certificate.now.queues) (own_of certificate.now)
-        (length certificate.now.harts) hart op value) }
+    ensures { IfOk result (λ v. v ≡ extended_value (queue_at certificate.now) op value) }
 {
     match op {
-        LoadOp::Byte => below_or_signed(certificate, hart, 1 << 7, 1, value),
-        LoadOp::Half => below_or_signed(certificate, hart, 1 << 15, 2, value),
+        LoadOp::Byte => below_or_signed(certificate, 1 << 7, 1, value),
+        LoadOp::Half => below_or_signed(certificate, 1 << 15, 2, value),
         LoadOp::Word | LoadOp::ByteUnsigned | LoadOp::HalfUnsigned => Ok(value),
     }
 }
 
 /// What a signed load leaves of an index's word; both have `width` bytes.
-fn signed_value(
-    certificate: &QueueCertificate,
-    hart: u32,
-    width: u32,
-    value: KnownValue,
-) -> KnownValue
-    ensures { result ≡ signed_value (queue_at certificate.now) (length certificate.now.queues) (own_of certificate.now)
-        (length certificate.now.harts) hart width value }
+fn signed_value(certificate: &QueueCertificate, width: u32, value: KnownValue) -> KnownValue
+    ensures { result ≡ signed_value (queue_at certificate.now) width value }
 {
-    let _hart = hart;
     match value.known {
         Known::IndexFor(i, form) if queue_in(&certificate.queues, i).index_width == width =>
             signed_for(i, form),
@@ -213,20 +197,28 @@ fn signed_value(
 
 fn below_or_signed(
     certificate: &QueueCertificate,
-    hart: u32,
     limit: u64,
     width: u32,
     value: KnownValue,
 ) -> Result<KnownValue, Lack>
-    ensures { IfOk result (λ v. v ≡ (if is_index_below (queue_at certificate.now) (length certificate.now.queues) (own_of certificate.now)
-        (length certificate.now.harts) hart limit value then value
-        else signed_value (queue_at certificate.now) (length certificate.now.queues) (own_of certificate.now)
-        (length certificate.now.harts) hart width value)) }
+    ensures { IfOk result (λ v. v ≡ (if is_index_below (queue_at certificate.now) limit value then value
+        else signed_value (queue_at certificate.now) width value)) }
 {
-    if is_index_below(certificate, hart, limit, &value)? {
+    if is_index_below(certificate, limit, &value)? {
         Ok(value)
     } else {
-        Ok(signed_value(certificate, hart, width, value))
+        Ok(signed_value(certificate, width, value))
+    }
+}
+
+/// The most that a load leaves in a register.
+pub(crate) fn most_loaded(op: LoadOp) -> u64
+    ensures { result ≡ most_loaded op }
+{
+    match op {
+        LoadOp::ByteUnsigned => 255,
+        LoadOp::HalfUnsigned => 65535,
+        LoadOp::Byte | LoadOp::Half | LoadOp::Word => (1 << 32) - 1,
     }
 }
 
@@ -234,20 +226,13 @@ fn below_or_signed(
 fn loaded(
     alloc: Global,
     certificate: &QueueCertificate,
-    hart: u32,
     op: LoadOp,
     value: KnownValue,
 ) -> Result<Outcome, Lack>
-    ensures { IfOk result (λ r. r ≡ loaded (queue_at certificate.now) (length certificate.now.queues) (own_of certificate.now)
-        (length certificate.now.harts) hart op value) }
+    ensures { IfOk result (λ r. r ≡ loaded (queue_at certificate.now) op value) }
 {
-    match op {
-        LoadOp::ByteUnsigned => or_up_to(alloc, 255, &value),
-        LoadOp::HalfUnsigned => or_up_to(alloc, 65535, &value),
-        LoadOp::Byte | LoadOp::Half | LoadOp::Word => {
-            just(alloc, &extended_value(certificate, hart, op, value)?)
-        }
-    }
+    let kept = extended_value(certificate, op, value)?;
+    or_up_to(alloc, most_loaded(op), &kept)
 }
 
 fn owned_then(alloc: Global, share: &Share) -> Result<Form, Lack>
@@ -276,8 +261,7 @@ fn looked_word(
     i: u32,
     share: &Share,
 ) -> Result<KnownValue, Lack>
-    ensures { IfOk result (λ v. v ≡ looked_word (queue_at certificate.now) (length certificate.now.queues) (own_of certificate.now) (length
-        certificate.now.harts) hart i share.now) }
+    ensures { IfOk result (λ v. v ≡ looked_word (queue_at certificate.now) hart i share.now) }
 {
     let upto = plus(
         alloc,
@@ -316,12 +300,11 @@ fn after_look(
     i: u32,
     share: &Share,
 ) -> Result<KnownState, Lack>
-    ensures { IfOk result (λ s. s ≡ after_look (queue_at certificate.now) (length certificate.now.queues) (own_of certificate.now) (length
-        certificate.now.harts) hart
+    ensures { IfOk result (λ s. s ≡ after_look (queue_at certificate.now) hart
         state.now op rd i share.now) }
 {
     let word = looked_word(alloc, certificate, hart, i, share)?;
-    let value = extended_value(certificate, hart, op, word)?;
+    let value = extended_value(certificate, op, word)?;
     let most = most_more(queue_in(&certificate.queues, i), share);
     let shares = looked_shares(alloc, &state.shares, i, share)?;
     let next = with_result(alloc, state, rd, next_pc(state.pc), Outcome { most, value })?;
@@ -338,13 +321,13 @@ fn after_load(
     bounds: Bounds,
     look: Option<u32>,
 ) -> Result<KnownState, Lack>
-    ensures { IfOk result (λ s. s ≡ after_load (queue_at certificate.now) (length certificate.now.queues) (own_of certificate.now) (length
-        certificate.now.harts) hart state.now op rd bounds look) }
+    ensures { IfOk result (λ s. s ≡ after_load (queue_at certificate.now) (length certificate.now.queues) (own_of certificate.now) hart state.now op
+        rd bounds look) }
 {
     match look {
         None => {
             let value = value_loaded(alloc, certificate, hart, state, bounds, load_width(op))?;
-            let outcome = loaded(alloc, certificate, hart, op, value)?;
+            let outcome = loaded(alloc, certificate, op, value)?;
             with_result(alloc, state, rd, next_pc(state.pc), outcome)
         }
         Some(i) => {
@@ -375,7 +358,7 @@ fn may_load_at(
 }
 
 /// Whether a load reads no index of the other's, whole, except of the queue that it looks at.
-fn may_load(
+pub(crate) fn may_load(
     certificate: &QueueCertificate,
     hart: u32,
     state: &KnownState,
@@ -383,8 +366,7 @@ fn may_load(
     width: u64,
     look: Option<u32>,
 ) -> Result<bool, Lack>
-    ensures { IfOk result (λ may. may ≡ may_load (queue_at certificate.now) (length certificate.now.queues) (own_of certificate.now) (length
-        certificate.now.harts) hart state.now bounds width look) }
+    ensures { IfOk result (λ may. may ≡ may_load (queue_at certificate.now) (length certificate.now.queues) hart state.now bounds width look) }
 {
     let mut all = true;
     for i in 0..queue_count(certificate)? {
@@ -403,8 +385,8 @@ pub(crate) fn loading(
     rd: u8,
     bounds: Bounds,
 ) -> Result<Successors, Lack>
-    ensures { IfOk result (λ next. next ≡ loading (queue_at certificate.now) (length certificate.now.queues) (own_of certificate.now) (length
-        certificate.now.harts) hart state.now op rd bounds) }
+    ensures { IfOk result (λ next. next ≡ loading (queue_at certificate.now) (length certificate.now.queues) (own_of certificate.now) hart state.now
+        op rd bounds) }
 {
     let width = load_width(op);
     let look = last_look(certificate, hart, bounds, width)?;

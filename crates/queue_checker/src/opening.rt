@@ -9,11 +9,12 @@ ghost use Rattle.owned_run.specs.Certified.{number_seen};
 ghost use Rattle.queue_certificates.specs.States.{any, no_share};
 ghost use Rattle.queue_certificates.specs.Steps.{all_below};
 ghost use Rattle.queue_certificates.specs.Certificates.{queue_at, start_at, own_of, part_of, state_at, no_queue};
-ghost use Rattle.queue_certificates.specs.Certificates.{is_value, is_at_most, are_in_ranges, opens_share, opens_in, opens_unfilled};
+ghost use Rattle.queue_certificates.specs.Certificates.{is_value, is_at_most, are_in_ranges, opens_share, opens_in, opens_unfilled, opens_all_told};
 ghost use Rattle.known_values.specs.Queues.{queue_in};
 ghost use Rattle.queue_checker.specs.Flaws.{hart_at, opening_holds};
 
 use crate::certificate::{HartPart, KnownState, QueueCertificate, Share};
+use crate::opening_tags::opens_all_told;
 use crate::sending::opens_unfilled;
 use crate::sites::{listed_states, own_words, queue_count};
 use crate::states::{share_in, value_in};
@@ -310,7 +311,8 @@ fn opens_part(
 ) -> Result<bool, Lack>
     requires { part.now ≡ part_of certificate.now hart }
     ensures { IfOk result (λ opens. opens ≡ (nat_lt part.now.first (length part.now.states) && opens_in opening.now certificate.now hart its.now
-        (state_at certificate.now hart part.now.first).known part.now.numbers && opens_unfilled certificate.now (state_at certificate.now hart
+        (state_at certificate.now hart part.now.first).known part.now.numbers && opens_all_told certificate.now hart (state_at certificate.now hart
+        part.now.first).known part.now.numbers && opens_unfilled certificate.now (state_at certificate.now hart
         part.now.first).filled)) }
 {
     match part.states.get(part.first as usize) {
@@ -325,7 +327,10 @@ fn opens_part(
                 &first.known,
                 &part.numbers,
             )?;
-            Ok(opens_unfilled(certificate, &first.filled)? && opens)
+            let numbers = &part.numbers;
+            let told = opens_all_told(alloc, certificate, hart, &first.known.shares, numbers)?;
+            let unfilled = opens_unfilled(certificate, &first.filled)?;
+            Ok(opens && told && unfilled)
         }
     }
 }

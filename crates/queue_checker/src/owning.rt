@@ -3,20 +3,20 @@
 ghost use Rattle.std.specs.Prelude.{◌≡◌, ◌<◌, ◌*◌, ◌||◌, ℕ, IfOk, length, get_or};
 ghost use Rattle.queue_certificates.specs.Steps.{is_apart, is_owned, loads_owned};
 ghost use Rattle.queue_certificates.specs.States.{no_share};
-ghost use Rattle.queue_certificates.specs.Certificates.{queue_at, own_of, part_of, owns_loads};
+ghost use Rattle.queue_certificates.specs.Certificates.{queue_at, part_of, owns_loads};
 ghost use Rattle.queue_checker.specs.Flaws.{hart_at, loads_hold, first_of, first_below, unless, first_unowned};
 
 use crate::certificate::{CaseNode, Cases, KnownState, QueueCertificate};
 use crate::closing::{goes_beyond, with_high, with_low};
 use crate::loads::load_width;
-use crate::places::{anywhere, is_apart, slot_bytes};
+use crate::places::misses_slots;
 use crate::sites::{listed_states, small};
 use crate::slots::is_owned;
 use crate::states::share_in;
-use crate::steps::{address_value, instruction_at, operand};
+use crate::steps::instruction_at;
+use crate::targets::{Target, accessed, exchanged};
+use known_values::Lack;
 use known_values::queues::queue_in;
-use known_values::results::bounds;
-use known_values::{Bounds, KnownValue, Lack};
 use rv_decode::Instr;
 use std::alloc::Global;
 use step_machine::Opening;
@@ -27,19 +27,25 @@ fn reads_owned(
     certificate: &QueueCertificate,
     state: &KnownState,
     i: u32,
-    place: &KnownValue,
-    bounds: Bounds,
-    width: u64,
+    target: &Target,
 ) -> Result<bool, Lack>
-    ensures { IfOk result (λ owned. owned ≡ (is_apart bounds width (queue_at certificate.now i).slots ((queue_at certificate.now i).size * (queue_at
-        certificate.now i).width) || is_owned state.now.ranges (queue_at certificate.now i) (get_or state.now.shares i no_share) place.now width)) }
+    ensures { IfOk result (λ owned. owned ≡ (is_apart target.now.bounds target.now.width (queue_at certificate.now i).slots
+        ((queue_at certificate.now i).size * (queue_at certificate.now i).width)
+        || is_owned state.now.ranges (queue_at certificate.now i) (get_or state.now.shares i no_share) target.now.place target.now.width)) }
 {
     let queue = queue_in(&certificate.queues, i);
-    if is_apart(bounds, width, u64::from(queue.slots), slot_bytes(queue)?)? {
+    if misses_slots(queue, target.bounds, target.width)? {
         Ok(true)
     } else {
         let share = share_in(alloc, &state.shares, i as usize)?;
-        is_owned(alloc, &state.ranges, queue, &share, place, width)
+        is_owned(
+            alloc,
+            &state.ranges,
+            queue,
+            &share,
+            &target.place,
+            target.width,
+        )
     }
 }
 
@@ -47,13 +53,11 @@ fn reads_owned(
 fn loads_owned(
     alloc: Global,
     certificate: &QueueCertificate,
-    hart: u32,
     state: &KnownState,
     i: u32,
     instruction: Option<Instr>,
 ) -> Result<bool, Lack>
-    ensures { IfOk result (λ owned. owned ≡ loads_owned (queue_at certificate.now) (length certificate.now.queues) (own_of certificate.now) (length
-        certificate.now.harts) hart state.now i instruction) }
+    ensures { IfOk result (λ owned. owned ≡ loads_owned (queue_at certificate.now) state.now i instruction) }
 {
     match instruction {
         Some(
@@ -64,14 +68,12 @@ fn loads_owned(
                 ..
             },
         ) => {
-            let place = address_value(alloc, certificate, state, rs1, offset)?;
-            let bounds = anywhere(bounds(alloc, &state.ranges, &place)?);
-            reads_owned(alloc, certificate, state, i, &place, bounds, load_width(op))
+            let target = accessed(alloc, certificate, state, rs1, offset, load_width(op))?;
+            reads_owned(alloc, certificate, state, i, &target)
         }
         Some(Instr::Amo { rs1, .. }) => {
-            let place = operand(alloc, certificate, state, rs1)?;
-            let bounds = anywhere(bounds(alloc, &state.ranges, &place)?);
-            reads_owned(alloc, certificate, state, i, &place, bounds, 4)
+            let target = exchanged(alloc, certificate, state, rs1)?;
+            reads_owned(alloc, certificate, state, i, &target)
         }
         _ => Ok(true),
     }
@@ -81,26 +83,25 @@ fn loads_owned(
 fn owns_loads(
     alloc: Global,
     certificate: &QueueCertificate,
-    hart: u32,
     code: &[u32],
     i: u32,
     state: &KnownState,
     cases: &Cases,
 ) -> Result<bool, Lack>
-    ensures { IfOk result (λ owns. owns ≡ owns_loads certificate.now hart code.now i state.now cases.now) }
+    ensures { IfOk result (λ owns. owns ≡ owns_loads certificate.now code.now i state.now cases.now) }
 {
     match &cases.node {
         CaseNode::Leaf(_, _) => {
             let instruction = instruction_at(code, state.pc);
-            loads_owned(alloc, certificate, hart, state, i, instruction)
+            loads_owned(alloc, certificate, state, i, instruction)
         }
         CaseNode::Split(variable, most, low, high) => {
             let below = with_low(alloc, state, *variable, *most)?;
-            let holds = owns_loads(alloc, certificate, hart, code, i, &below, low)?;
+            let holds = owns_loads(alloc, certificate, code, i, &below, low)?;
             if holds {
                 if goes_beyond(state, *variable, *most) {
                     let above = with_high(alloc, state, *variable, *most)?;
-                    owns_loads(alloc, certificate, hart, code, i, &above, high)
+                    owns_loads(alloc, certificate, code, i, &above, high)
                 } else {
                     Ok(true)
                 }
@@ -131,7 +132,6 @@ fn unowned_state(
             if owns_loads(
                 alloc,
                 certificate,
-                hart,
                 code,
                 queue,
                 &listed.known,

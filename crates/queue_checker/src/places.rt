@@ -26,6 +26,13 @@ pub(crate) fn slot_bytes(queue: Queue) -> Result<u64, Lack>
     product(u64::from(queue.size), u64::from(queue.width))
 }
 
+/// Whether `width` bytes from somewhere among these addresses on are none of the slots.
+pub(crate) fn misses_slots(queue: Queue, bounds: Bounds, width: u64) -> Result<bool, Lack>
+    ensures { IfOk result (λ misses. misses ≡ is_apart bounds width queue.slots (queue.size * queue.width)) }
+{
+    is_apart(bounds, width, u64::from(queue.slots), slot_bytes(queue)?)
+}
+
 /// Whether the bytes are none of the queue's.
 pub(crate) fn is_off(queue: Queue, bounds: Bounds, width: u64) -> Result<bool, Lack>
     ensures { IfOk result (λ off. off ≡ is_off queue bounds width) }

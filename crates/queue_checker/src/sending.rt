@@ -1,8 +1,7 @@
 //! Whether what a certificate says of the fields of records holds, in the states of senders and receivers.
 
-ghost use Rattle.std.specs.Prelude.{◌≡◌, ◌==◌, ◌||◌, ◌*◌, IfOk, [], false, length, get_or};
+ghost use Rattle.std.specs.Prelude.{◌≡◌, ◌==◌, ◌||◌, IfOk, [], false, length, get_or};
 ghost use Rattle.slot_queue.specs.Ownership.{party_of};
-ghost use Rattle.queue_certificates.specs.Steps.{is_apart};
 ghost use Rattle.queue_certificates.specs.Filled.{is_filled_after, are_so};
 ghost use Rattle.queue_certificates.specs.Certificates.{queue_at, fields_at, state_at, leaves_slots, arrows_fill, effect_sends, keeps_records};
 ghost use Rattle.queue_certificates.specs.Certificates.{keeps_fields, keeps_all_fields, opens_unfilled};
@@ -13,45 +12,28 @@ use crate::certificate::{
 use crate::closing::{goes_beyond, with_high, with_low};
 use crate::effects::{effect_of, value_stored};
 use crate::filled::{are_so, filled_in, may_send, says_nothing};
-use crate::places::{anywhere, is_apart, slot_bytes};
+use crate::places::misses_slots;
 use crate::sites::{listed_states, queue_count};
-use crate::steps::{address_value, instruction_at, operand};
+use crate::steps::instruction_at;
 use crate::stores::store_width;
+use crate::targets::{accessed, exchanged};
 use known_values::queues::{fields_in, queue_in};
-use known_values::results::bounds;
-use known_values::{Bounds, Form, KnownValue, Lack};
+use known_values::{Form, KnownValue, Lack};
 use queue_certificates::Effect;
 use rv_decode::Instr;
 use std::alloc::Global;
-
-/// Whether `width` bytes from somewhere among these addresses on are none of queue `i`'s slots.
-fn misses_slots(
-    certificate: &QueueCertificate,
-    i: u32,
-    bounds: Bounds,
-    width: u64,
-) -> Result<bool, Lack>
-    ensures { IfOk result (λ misses. misses ≡ is_apart bounds width (queue_at certificate.now i).slots ((queue_at certificate.now i).size * (queue_at
-        certificate.now i).width)) }
-{
-    let queue = queue_in(&certificate.queues, i);
-    is_apart(bounds, width, u64::from(queue.slots), slot_bytes(queue)?)
-}
 
 /// Whether an instruction stores nothing to queue `i`'s slots.
 fn leaves_slots(
     alloc: Global,
     certificate: &QueueCertificate,
-    hart: u32,
-    code: &[u32],
     i: u32,
     state: &KnownState,
     instruction: Option<Instr>,
 ) -> Result<bool, Lack>
-    ensures { IfOk result (λ leaves. leaves ≡ leaves_slots certificate.now hart code.now i state.now instruction) }
+    ensures { IfOk result (λ leaves. leaves ≡ leaves_slots certificate.now i state.now instruction) }
 {
-    let _hart = hart;
-    let _code = code;
+    let queue = queue_in(&certificate.queues, i);
     match instruction {
         Some(
             Instr::Store {
@@ -61,14 +43,12 @@ fn leaves_slots(
                 ..
             },
         ) => {
-            let place = address_value(alloc, certificate, state, rs1, offset)?;
-            let bounds = anywhere(bounds(alloc, &state.ranges, &place)?);
-            misses_slots(certificate, i, bounds, store_width(op))
+            let target = accessed(alloc, certificate, state, rs1, offset, store_width(op))?;
+            misses_slots(queue, target.bounds, target.width)
         }
         Some(Instr::Amo { rs1, .. }) => {
-            let place = operand(alloc, certificate, state, rs1)?;
-            let bounds = anywhere(bounds(alloc, &state.ranges, &place)?);
-            misses_slots(certificate, i, bounds, 4)
+            let target = exchanged(alloc, certificate, state, rs1)?;
+            misses_slots(queue, target.bounds, target.width)
         }
         _ => Ok(true),
     }
@@ -110,7 +90,6 @@ fn arrows_fill(
     alloc: Global,
     certificate: &QueueCertificate,
     hart: u32,
-    code: &[u32],
     i: u32,
     ranges: &[Option<u64>],
     stored: &KnownValue,
@@ -118,10 +97,9 @@ fn arrows_fill(
     effect: Effect,
     mut arrows: &[Arrow],
 ) -> Result<bool, Lack>
-    ensures { IfOk result (λ fill. fill ≡ arrows_fill certificate.now hart code.now i arrows.now (is_filled_after ranges.now (queue_at certificate.now i)
+    ensures { IfOk result (λ fill. fill ≡ arrows_fill certificate.now hart i arrows.now (is_filled_after ranges.now (queue_at certificate.now i)
         (fields_at certificate.now i) stored.now slots.now effect)) }
 {
-    let _code = code;
     'arrows: loop {
         match arrows {
             [] => return Ok(true),
@@ -151,7 +129,6 @@ fn effect_sends(
     alloc: Global,
     certificate: &QueueCertificate,
     hart: u32,
-    code: &[u32],
     i: u32,
     slots: &[FilledSlot],
     state: &KnownState,
@@ -159,7 +136,7 @@ fn effect_sends(
     stored: &KnownValue,
     effect: Option<Effect>,
 ) -> Result<bool, Lack>
-    ensures { IfOk result (λ sends. sends ≡ effect_sends certificate.now hart code.now i slots.now state.now arrows.now stored.now effect) }
+    ensures { IfOk result (λ sends. sends ≡ effect_sends certificate.now hart i slots.now state.now arrows.now stored.now effect) }
 {
     match effect {
         None => Ok(false),
@@ -171,7 +148,6 @@ fn effect_sends(
                 alloc,
                 certificate,
                 hart,
-                code,
                 i,
                 ranges,
                 stored,
@@ -189,7 +165,6 @@ fn keeps_records(
     alloc: Global,
     certificate: &QueueCertificate,
     hart: u32,
-    code: &[u32],
     i: u32,
     slots: &[FilledSlot],
     state: &KnownState,
@@ -197,18 +172,17 @@ fn keeps_records(
     arrows: &[Arrow],
     instruction: Option<Instr>,
 ) -> Result<bool, Lack>
-    ensures { IfOk result (λ keeps. keeps ≡ keeps_records certificate.now hart code.now i (party_of (queue_at certificate.now i) hart) slots.now state.now
+    ensures { IfOk result (λ keeps. keeps ≡ keeps_records certificate.now hart i (party_of (queue_at certificate.now i) hart) slots.now state.now
         handed.now arrows.now instruction) }
 {
     let queue = queue_in(&certificate.queues, i);
     if hart == queue.sender {
-        let stored = value_stored(alloc, certificate, i, state, instruction)?;
+        let stored = value_stored(alloc, certificate, state, instruction)?;
         let effect = effect_of(alloc, certificate, i, state, handed, instruction)?;
         effect_sends(
             alloc,
             certificate,
             hart,
-            code,
             i,
             slots,
             state,
@@ -217,7 +191,7 @@ fn keeps_records(
             effect,
         )
     } else if hart == queue.receiver {
-        leaves_slots(alloc, certificate, hart, code, i, state, instruction)
+        leaves_slots(alloc, certificate, i, state, instruction)
     } else {
         Ok(true)
     }
@@ -243,7 +217,6 @@ fn keeps_fields(
                 alloc,
                 certificate,
                 hart,
-                code,
                 i,
                 slots,
                 state,

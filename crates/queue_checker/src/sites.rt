@@ -1,6 +1,6 @@
 //! What a certificate says of a hart, by numbers.
 
-ghost use Rattle.std.specs.Prelude.{◌≡◌, IfOk, length};
+ghost use Rattle.std.specs.Prelude.{◌≡◌, ◌+◌, IfOk, length};
 ghost use Rattle.queue_certificates.specs.Certificates.{own_of, part_of};
 
 use crate::certificate::{ListedState, QueueCertificate};
@@ -13,7 +13,14 @@ pub fn small(count: usize) -> Result<u32, Lack>
     u32::try_from(count).map_err(|_| Lack::TooLarge)
 }
 
-/// How many queues there are.
+/// The number of queue `t` with tags among all queues, where there are `count` with indices.
+pub(crate) fn place_after(count: u32, t: u32) -> Result<u32, Lack>
+    ensures { IfOk result (λ n. n ≡ count + t) }
+{
+    count.checked_add(t).ok_or(Lack::TooLarge)
+}
+
+/// How many queues with indices there are.
 pub(crate) fn queue_count(certificate: &QueueCertificate) -> Result<u32, Lack>
     ensures { IfOk result (λ n. n ≡ length certificate.now.queues) }
 {

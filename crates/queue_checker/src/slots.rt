@@ -1,8 +1,9 @@
 //! Whether bytes are of a slot that a party owns.
 
 ghost use Rattle.std.specs.Prelude.{◌≡◌, IfOk};
+ghost use Rattle.queue_certificates.specs.Forms.{number, plus, remainder};
 ghost use Rattle.queue_certificates.specs.States.{linear};
-ghost use Rattle.queue_certificates.specs.Steps.{is_slot, is_owned};
+ghost use Rattle.queue_certificates.specs.Steps.{is_slot, is_owned, position_at, offset_at};
 
 use crate::certificate::Share;
 use crate::places::{offset_at, position_at};
@@ -37,6 +38,24 @@ fn is_slot(
     }
 }
 
+/// Whether a form is an address in the slot of the position that is as much further than the own count as the constants say.
+pub(crate) fn is_of_slot(
+    alloc: Global,
+    ranges: &[Option<u64>],
+    queue: Queue,
+    share: &Share,
+    form: &Form,
+) -> Result<bool, Lack>
+    ensures { IfOk result (λ inside. inside ≡ is_slot ranges.now queue form.now (offset_at queue form.now.constant)
+        (remainder ranges.now (plus share.now.own (number (position_at queue share.now.own.constant form.now.constant))) queue.size)) }
+{
+    let position = position_at(queue, share.own.constant, form.constant)?;
+    let count = plus(alloc, &share.own, &number(alloc, position))?;
+    let slot = remainder(alloc, ranges, &count, u64::from(queue.size))?;
+    let offset = offset_at(queue, form.constant);
+    is_slot(alloc, ranges, queue, form, offset, slot)
+}
+
 fn is_owned_form(
     alloc: Global,
     ranges: &[Option<u64>],
@@ -49,10 +68,8 @@ fn is_owned_form(
 {
     let position = position_at(queue, share.own.constant, form.constant)?;
     let offset = offset_at(queue, form.constant);
-    let count = plus(alloc, &share.own, &number(alloc, position))?;
-    let slot = remainder(alloc, ranges, &count, u64::from(queue.size))?;
-    let is_slot = is_slot(alloc, ranges, queue, form, offset, slot)?;
     let inside = sum(offset, width)? <= u64::from(queue.width);
+    let is_slot = is_of_slot(alloc, ranges, queue, share, form)?;
     Ok(position < share.owned.constant && inside && is_slot)
 }
 

@@ -7,6 +7,7 @@ ghost use Rattle.queue_certificates.specs.Steps.{with_register, with_result, goi
 ghost use Rattle.hart.specs.Effects.{next_pc};
 
 use crate::certificate::{KnownState, Share};
+use crate::sites::place_after;
 use known_values::forms::{lifted, number, raised};
 use known_values::ranges::settled;
 use known_values::values::{any, lifted_value, raised_value, settled_value};
@@ -50,6 +51,14 @@ pub fn share_in(alloc: Global, shares: &[Share], i: usize) -> Result<Share, Lack
             owned: number(alloc, 0),
         }),
     }
+}
+
+/// The share of a queue with tags, number `t` among these, whose shares come after those of `count` others.
+pub fn share_after(alloc: Global, shares: &[Share], count: u32, t: u32) -> Result<Share, Lack>
+    ensures { IfOk result (λ s. s ≡ get_or shares.now (count + t) no_share) }
+{
+    let i = place_after(count, t)?;
+    share_in(alloc, shares, i as usize)
 }
 
 pub(crate) fn push_copies(
@@ -230,6 +239,15 @@ pub(crate) fn with_shares(state: KnownState, shares: Vec<Share>) -> KnownState
 {
     let mut state = state;
     state.shares = shares;
+    state
+}
+
+/// The state with this share of queue `i`.
+pub(crate) fn with_share(state: KnownState, i: u32, share: Share) -> KnownState
+    ensures { result ≡ record state { shares = set state.shares i share } }
+{
+    let mut state = state;
+    put_share(&mut state.shares, i as usize, share);
     state
 }
 

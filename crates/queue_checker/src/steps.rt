@@ -6,7 +6,7 @@ ghost use Rattle.queue_certificates.specs.Results.{just, as_number, bounds, exac
 ghost use Rattle.queue_certificates.specs.Certificates.{queue_at, own_of};
 ghost use Rattle.queue_certificates.specs.Steps.{is_copy, immediate_result, with_result, shared, with_equal, when_taken, when_passed};
 ghost use Rattle.queue_certificates.specs.Steps.{goes_by, jumping, register_at, instruction_at, loading, storing, exchanging, follow};
-ghost use Rattle.queue_checker.specs.Operands.{operand_in, address_in, addresses_in};
+ghost use Rattle.queue_certificates.specs.Steps.{address_value, addresses, operand};
 
 use crate::certificate::{KnownState, QueueCertificate};
 use crate::loads::{load_width, loading};
@@ -63,7 +63,7 @@ pub fn operand(
     state: &KnownState,
     register: Reg,
 ) -> Result<KnownValue, Lack>
-    ensures { IfOk result (λ v. v ≡ operand_in certificate.now state.now register) }
+    ensures { IfOk result (λ v. v ≡ operand (queue_at certificate.now) state.now register) }
 {
     let value = register_at(alloc, state, register)?;
     plain(alloc, &certificate.queues, &state.ranges, &value)
@@ -77,7 +77,7 @@ pub fn address_value(
     register: Reg,
     offset: i32,
 ) -> Result<KnownValue, Lack>
-    ensures { IfOk result (λ v. v ≡ address_in certificate.now state.now register offset) }
+    ensures { IfOk result (λ v. v ≡ address_value (queue_at certificate.now) state.now register offset) }
 {
     let base = operand(alloc, certificate, state, register)?;
     let offset = linear(number(alloc, u64::from(offset.cast_unsigned())));
@@ -209,8 +209,8 @@ fn follow_load(
     rs1: Reg,
     offset: i32,
 ) -> Result<Successors, Lack>
-    ensures { IfOk result (λ next. next ≡ loading (queue_at certificate.now) (length certificate.now.queues) (own_of certificate.now) (length
-        certificate.now.harts) hart state.now op rd.number (addresses_in certificate.now state.now rs1 offset)) }
+    ensures { IfOk result (λ next. next ≡ loading (queue_at certificate.now) (length certificate.now.queues) (own_of certificate.now) hart state.now
+        op rd.number (addresses (queue_at certificate.now) state.now rs1 offset)) }
 {
     let place = address_value(alloc, certificate, state, rs1, offset)?;
     let bounds = anywhere(bounds(alloc, &state.ranges, &place)?);
@@ -229,8 +229,8 @@ fn follow_store(
     offset: i32,
 ) -> Result<Successors, Lack>
     ensures { IfOk result (λ next. next ≡ storing (queue_at certificate.now) (length certificate.now.queues) (own_of certificate.now) (length
-        certificate.now.harts) hart state.now handed.now (store_width op) (register_at state.now rs2) (address_in certificate.now state.now rs1
-        offset) (addresses_in certificate.now state.now rs1 offset)) }
+        certificate.now.harts) hart state.now handed.now (store_width op) (register_at state.now rs2) (address_value (queue_at certificate.now) state.now rs1
+        offset) (addresses (queue_at certificate.now) state.now rs1 offset)) }
 {
     let place = address_value(alloc, certificate, state, rs1, offset)?;
     let bounds = anywhere(bounds(alloc, &state.ranges, &place)?);
@@ -260,8 +260,8 @@ fn follow_amo(
     rs2: Reg,
 ) -> Result<Successors, Lack>
     ensures { IfOk result (λ next. next ≡ exchanging (queue_at certificate.now) (length certificate.now.queues) (own_of certificate.now) (length
-        certificate.now.harts) hart state.now handed.now op rd.number (register_at state.now rs2) (operand_in certificate.now state.now rs1) (bounds
-        state.now.ranges (operand_in certificate.now state.now rs1))) }
+        certificate.now.harts) hart state.now handed.now op rd.number (register_at state.now rs2) (operand (queue_at certificate.now) state.now rs1) (bounds
+        state.now.ranges (operand (queue_at certificate.now) state.now rs1))) }
 {
     let place = operand(alloc, certificate, state, rs1)?;
     let bounds = bounds(alloc, &state.ranges, &place)?;
@@ -325,7 +325,7 @@ fn follow_jalr(
     rs1: Reg,
     offset: i32,
 ) -> Result<Successors, Lack>
-    ensures { IfOk result (λ next. next ≡ jumping state.now rd.number offset (as_number (operand_in certificate.now state.now rs1))) }
+    ensures { IfOk result (λ next. next ≡ jumping state.now rd.number offset (as_number (operand (queue_at certificate.now) state.now rs1))) }
 {
     let value = operand(alloc, certificate, state, rs1)?;
     jumping(alloc, state, rd.number, offset, as_number(&value))
@@ -341,7 +341,7 @@ fn branch_known(
     rs2: Reg,
 ) -> Result<Option<bool>, Lack>
     ensures { IfOk result (λ known. known ≡ is_branch_taken (queue_at certificate.now) state.now.ranges op
-        (operand_in certificate.now state.now rs1) (operand_in certificate.now state.now rs2)) }
+        (operand (queue_at certificate.now) state.now rs1) (operand (queue_at certificate.now) state.now rs2)) }
 {
     let left = operand(alloc, certificate, state, rs1)?;
     let right = operand(alloc, certificate, state, rs2)?;
@@ -378,7 +378,7 @@ fn follow_branch(
 ) -> Result<Successors, Lack>
     ensures { IfOk result (λ next. next ≡ Some (goes_by (when_taken state.now op rs1 rs2) (when_passed state.now op rs1 rs2)
         (address state.now.pc offset) (next_pc state.now.pc) (is_branch_taken (queue_at certificate.now) state.now.ranges op
-        (operand_in certificate.now state.now rs1) (operand_in certificate.now state.now rs2)))) }
+        (operand (queue_at certificate.now) state.now rs1) (operand (queue_at certificate.now) state.now rs2)))) }
 {
     let known = branch_known(alloc, certificate, state, op, rs1, rs2)?;
     branch_by(alloc, state, op, rs1, rs2, offset, known)
@@ -424,11 +424,10 @@ fn immediate_result(
     value: &KnownValue,
     immediate: i32,
 ) -> Result<Outcome, Lack>
-    ensures { IfOk result (λ r. r ≡ immediate_result (queue_at certificate.now) (length certificate.now.queues) (own_of certificate.now) (length
-        certificate.now.harts) hart state.now op value.now immediate) }
+    ensures { IfOk result (λ r. r ≡ immediate_result (queue_at certificate.now) (length certificate.now.queues) state.now op value.now immediate) }
 {
     if is_copy(op, immediate) {
-        let kept = storable(alloc, certificate, hart, value)?;
+        let kept = storable(alloc, certificate, value)?;
         just(alloc, &kept)
     } else {
         operation_result(alloc, certificate, state, op, value, immediate)
@@ -446,8 +445,8 @@ fn follow_immediate(
     immediate: i32,
 ) -> Result<Successors, Lack>
     ensures { IfOk result (λ next. next ≡ Some (with_result state.now rd.number (next_pc state.now.pc)
-        (immediate_result (queue_at certificate.now) (length certificate.now.queues) (own_of certificate.now) (length certificate.now.harts) hart
-        state.now op (operand_in certificate.now state.now rs1) immediate) ∷ [])) }
+        (immediate_result (queue_at certificate.now) (length certificate.now.queues)
+        state.now op (operand (queue_at certificate.now) state.now rs1) immediate) ∷ [])) }
 {
     let value = operand(alloc, certificate, state, rs1)?;
     let outcome = immediate_result(alloc, certificate, hart, state, op, &value, immediate)?;
@@ -482,7 +481,7 @@ fn follow_shift(
     amount: u32,
 ) -> Result<Successors, Lack>
     ensures { IfOk result (λ next. next ≡ Some (with_result state.now rd.number (next_pc state.now.pc) (of_shift (queue_at certificate.now)
-        (length certificate.now.queues) state.now.ranges op (operand_in certificate.now state.now rs1) amount) ∷ [])) }
+        (length certificate.now.queues) state.now.ranges op (operand (queue_at certificate.now) state.now rs1) amount) ∷ [])) }
 {
     // An instruction has no such amount.
     if amount >= 32 {
@@ -520,7 +519,8 @@ fn follow_registers(
     rs2: Reg,
 ) -> Result<Successors, Lack>
     ensures { IfOk result (λ next. next ≡ Some (with_result state.now rd.number (next_pc state.now.pc) (of_registers (queue_at certificate.now)
-        (length certificate.now.queues) state.now.ranges op (operand_in certificate.now state.now rs1) (operand_in certificate.now state.now rs2)) ∷ [])) }
+        (length certificate.now.queues) state.now.ranges op (operand (queue_at certificate.now) state.now rs1) (operand (queue_at certificate.now)
+        state.now rs2)) ∷ [])) }
 {
     let left = operand(alloc, certificate, state, rs1)?;
     let right = operand(alloc, certificate, state, rs2)?;

@@ -98,15 +98,13 @@ fn stands_for(
 fn may_move(
     alloc: Global,
     certificate: &QueueCertificate,
-    hart: u32,
     state: &KnownState,
     handed: &Form,
     value: &KnownValue,
     i: u32,
     share: &Share,
 ) -> Result<bool, Lack>
-    ensures { IfOk result (λ may. may ≡ may_move (queue_at certificate.now) (length certificate.now.queues) (own_of certificate.now) (length
-        certificate.now.harts) hart state.now handed.now value.now i share.now) }
+    ensures { IfOk result (λ may. may ≡ may_move (queue_at certificate.now) state.now handed.now value.now i share.now) }
 {
     let count = plus(alloc, &share.own, handed)?;
     let stands = stands_for(alloc, certificate, state, value, i, count)?;
@@ -131,8 +129,7 @@ fn may_fill(
     width: u64,
     i: u32,
 ) -> Result<bool, Lack>
-    ensures { IfOk result (λ may. may ≡ may_fill (queue_at certificate.now) (length certificate.now.queues) (own_of certificate.now) (length
-        certificate.now.harts) hart state.now (party_of (queue_at certificate.now i) hart) place.now width i) }
+    ensures { IfOk result (λ may. may ≡ may_fill (queue_at certificate.now) state.now (party_of (queue_at certificate.now i) hart) place.now width i) }
 {
     let queue = queue_in(&certificate.queues, i);
     if hart == queue.sender || hart == queue.receiver {
@@ -157,12 +154,11 @@ fn may_store(
     moves: Option<u32>,
     i: u32,
 ) -> Result<bool, Lack>
-    ensures { IfOk result (λ may. may ≡ may_store (queue_at certificate.now) (length certificate.now.queues) (own_of certificate.now) (length
-        certificate.now.harts) hart state.now handed.now value.now place.now bounds width moves i) }
+    ensures { IfOk result (λ may. may ≡ may_store (queue_at certificate.now) hart state.now handed.now value.now place.now bounds width moves i) }
 {
     if moves == Some(i) {
         let share = share_in(alloc, &state.shares, i as usize)?;
-        may_move(alloc, certificate, hart, state, handed, value, i, &share)
+        may_move(alloc, certificate, state, handed, value, i, &share)
     } else if is_off(queue_in(&certificate.queues, i), bounds, width)? {
         Ok(true)
     } else {
@@ -189,8 +185,8 @@ fn may_store_all(
     width: u64,
     moves: Option<u32>,
 ) -> Result<bool, Lack>
-    ensures { IfOk result (λ may. may ≡ all_below (length certificate.now.queues) (may_store (queue_at certificate.now) (length
-        certificate.now.queues) (own_of certificate.now) (length certificate.now.harts) hart state.now handed.now value.now place.now bounds width moves)) }
+    ensures { IfOk result (λ may. may ≡ all_below (length certificate.now.queues) (may_store (queue_at certificate.now) hart state.now handed.now
+        value.now place.now bounds width moves)) }
 {
     let mut all = true;
     for i in 0..queue_count(certificate)? {
@@ -231,8 +227,7 @@ fn leaves_words_of(
     width: u64,
     other: u32,
 ) -> Result<bool, Lack>
-    ensures { IfOk result (λ leaves. leaves ≡ leaves_words (queue_at certificate.now) (length certificate.now.queues) (own_of certificate.now)
-        (length certificate.now.harts) hart bounds width other) }
+    ensures { IfOk result (λ leaves. leaves ≡ leaves_words (own_of certificate.now) hart bounds width other) }
 {
     if other == hart {
         Ok(true)
@@ -248,8 +243,7 @@ fn leaves_words(
     bounds: Bounds,
     width: u64,
 ) -> Result<bool, Lack>
-    ensures { IfOk result (λ leaves. leaves ≡ all_below (length certificate.now.harts) (leaves_words (queue_at certificate.now) (length
-        certificate.now.queues) (own_of certificate.now) (length certificate.now.harts) hart bounds width)) }
+    ensures { IfOk result (λ leaves. leaves ≡ all_below (length certificate.now.harts) (leaves_words (own_of certificate.now) hart bounds width)) }
 {
     let mut all = true;
     for other in 0..small(certificate.harts.len())? {
@@ -262,11 +256,9 @@ fn leaves_words(
 pub(crate) fn storable(
     alloc: Global,
     certificate: &QueueCertificate,
-    _hart: u32,
     value: &KnownValue,
 ) -> Result<KnownValue, Lack>
-    ensures { IfOk result (λ v. v ≡ storable (queue_at certificate.now) (length certificate.now.queues) (own_of certificate.now) (length
-        certificate.now.harts) _hart value.now) }
+    ensures { IfOk result (λ v. v ≡ storable (length certificate.now.queues) value.now) }
 {
     match &value.known {
         Known::IndexFor(i, _) if *i as usize >= certificate.queues.len() => Ok(any()),
@@ -279,20 +271,18 @@ pub(crate) fn storable(
 fn word_then(
     alloc: Global,
     certificate: &QueueCertificate,
-    hart: u32,
     bounds: Bounds,
     width: u64,
     value: &KnownValue,
     address: u32,
     word: &KnownValue,
 ) -> Result<KnownValue, Lack>
-    ensures { IfOk result (λ v. v ≡ word_then (queue_at certificate.now) (length certificate.now.queues) (own_of certificate.now) (length
-        certificate.now.harts) hart bounds width value.now address word.now) }
+    ensures { IfOk result (λ v. v ≡ word_then (length certificate.now.queues) bounds width value.now address word.now) }
 {
     if is_apart(bounds, width, u64::from(address), 4)? {
         word.copy(alloc)
     } else if is_one(bounds) && bounds.low == u64::from(address) && width == 4 {
-        storable(alloc, certificate, hart, value)
+        storable(alloc, certificate, value)
     } else {
         Ok(any())
     }
@@ -302,15 +292,13 @@ fn word_then(
 fn words_then(
     alloc: Global,
     certificate: &QueueCertificate,
-    hart: u32,
     bounds: Bounds,
     width: u64,
     value: &KnownValue,
     mut own: &[u32],
     mut words: &[KnownValue],
 ) -> Result<Vec<KnownValue>, Lack>
-    ensures { IfOk result (λ ws. ws.items ≡ words_then (queue_at certificate.now) (length certificate.now.queues) (own_of certificate.now) (length
-        certificate.now.harts) hart bounds width value.now own.now words.now) }
+    ensures { IfOk result (λ ws. ws.items ≡ words_then (length certificate.now.queues) bounds width value.now own.now words.now) }
 {
     let mut out = Vec::new(alloc);
     'words: loop {
@@ -321,16 +309,7 @@ fn words_then(
             }
             ([_first, _others @ ..], []) => return Ok(out),
             ([address, addresses @ ..], [word, more @ ..]) => {
-                out.push(word_then(
-                    alloc,
-                    certificate,
-                    hart,
-                    bounds,
-                    width,
-                    value,
-                    *address,
-                    word,
-                )?)?;
+                out.push(word_then(alloc, certificate, bounds, width, value, *address, word)?)?;
                 own = addresses;
                 words = more;
             }
@@ -341,14 +320,11 @@ fn words_then(
 /// The shares after as many positions as `handed` of queue `moves` are handed over.
 fn shares_moved(
     alloc: Global,
-    _certificate: &QueueCertificate,
-    _hart: u32,
     shares: &[Share],
     handed: &Form,
     moves: Option<u32>,
 ) -> Result<Vec<Share>, Lack>
-    ensures { IfOk result (λ ss. ss.items ≡ shares_moved (queue_at _certificate.now) (length _certificate.now.queues) (own_of _certificate.now)
-        (length _certificate.now.harts) _hart shares.now handed.now moves) }
+    ensures { IfOk result (λ ss. ss.items ≡ shares_moved shares.now handed.now moves) }
 {
     let mut out = copied_shares(alloc, shares)?;
     match moves {
@@ -374,24 +350,13 @@ fn stored_state(
     moves: Option<u32>,
 ) -> Result<KnownState, Lack>
     ensures { IfOk result (λ s. s ≡ record state.now {
-      words = words_then (queue_at certificate.now) (length certificate.now.queues) (own_of certificate.now)
-          (length certificate.now.harts) hart bounds width value.now (own_of certificate.now hart) state.now.words;
-      shares = shares_moved (queue_at certificate.now) (length certificate.now.queues) (own_of certificate.now)
-          (length certificate.now.harts) hart state.now.shares handed.now moves;
+      words = words_then (length certificate.now.queues) bounds width value.now (own_of certificate.now hart) state.now.words;
+      shares = shares_moved state.now.shares handed.now moves;
     }) }
 {
     let own = own_words(certificate, hart);
-    let words = words_then(
-        alloc,
-        certificate,
-        hart,
-        bounds,
-        width,
-        value,
-        own,
-        &state.words,
-    )?;
-    let shares = shares_moved(alloc, certificate, hart, &state.shares, handed, moves)?;
+    let words = words_then(alloc, certificate, bounds, width, value, own, &state.words)?;
+    let shares = shares_moved(alloc, &state.shares, handed, moves)?;
     let ranges = Vec::from_slice(alloc, &state.ranges)?;
     let registers = copied_values(alloc, &state.registers)?;
     Ok(KnownState {
@@ -415,8 +380,8 @@ fn after_store(
     bounds: Bounds,
     moves: Option<u32>,
 ) -> Result<KnownState, Lack>
-    ensures { IfOk result (λ s. s ≡ after_store (queue_at certificate.now) (length certificate.now.queues) (own_of certificate.now)
-        (length certificate.now.harts) hart state.now handed.now width value.now bounds moves) }
+    ensures { IfOk result (λ s. s ≡ after_store (length certificate.now.queues) (own_of certificate.now) hart state.now handed.now width value.now
+        bounds moves) }
 {
     let stored = stored_state(
         alloc,
@@ -482,17 +447,15 @@ pub(crate) fn storing(
 }
 
 /// The value that an AMO stores, of what it loads and what its register holds.
-fn updated_value(
+pub(crate) fn updated_value(
     alloc: Global,
     certificate: &QueueCertificate,
-    hart: u32,
     ranges: &[Option<u64>],
     op: AmoOp,
     old: &KnownValue,
     with: &KnownValue,
 ) -> Result<KnownValue, Lack>
-    ensures { IfOk result (λ v. v ≡ updated_value (queue_at certificate.now) (length certificate.now.queues) (own_of certificate.now) (length
-        certificate.now.harts) hart ranges.now op old.now with.now) }
+    ensures { IfOk result (λ v. v ≡ updated_value (queue_at certificate.now) ranges.now op old.now with.now) }
 {
     match op {
         AmoOp::Swap => with.copy(alloc),
@@ -517,8 +480,8 @@ fn after_exchange(
     bounds: Bounds,
     moves: Option<u32>,
 ) -> Result<KnownState, Lack>
-    ensures { IfOk result (λ s. s ≡ after_exchange (queue_at certificate.now) (length certificate.now.queues) (own_of certificate.now) (length
-        certificate.now.harts) hart state.now handed.now rd value.now bounds moves) }
+    ensures { IfOk result (λ s. s ≡ after_exchange (queue_at certificate.now) (length certificate.now.queues) (own_of certificate.now) hart state.now
+        handed.now rd value.now bounds moves) }
 {
     let stored = stored_state(
         alloc,
@@ -570,7 +533,7 @@ fn exchange_at(
         certificate.now.harts) hart state.now handed.now op rd with.now place.now (Some bounds)) }
 {
     let old = value_loaded(alloc, certificate, hart, state, bounds, 4)?;
-    let value = updated_value(alloc, certificate, hart, &state.ranges, op, &old, with)?;
+    let value = updated_value(alloc, certificate, &state.ranges, op, &old, with)?;
     let moves = last_own_index(certificate, hart, bounds, 4)?;
     let may = may_store_all(
         alloc,

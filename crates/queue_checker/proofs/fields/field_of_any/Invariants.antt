@@ -1,8 +1,8 @@
-use Rattle.std.proofs.Common.{◌≡◌, length}
-use Rattle.queue_certificates.specs.Certificates.{queue_at, own_of, fields_at}
+use Rattle.std.proofs.Common.{◌≡◌}
+use Rattle.queue_certificates.specs.Certificates.{queue_at, fields_at}
 use Rattle.queue_certificates.specs.Fields.{field_below}
 use Rattle.queue_checker.proofs.fields.field_of_any.Given as goal
 
 abbrev pub invariant-loop-i : goal.invariant-loop-i
 invariant-loop-i l = let c = l.certificate in
-    l.found ≡ field_below (queue_at c) (fields_at c) (length c.queues) (own_of c) (length c.harts) l.hart l.state l.place l.width l.i
+    l.found ≡ field_below (queue_at c) (fields_at c) l.hart l.state l.place l.width l.i

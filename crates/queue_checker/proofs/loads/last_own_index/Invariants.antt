@@ -1,8 +1,8 @@
-use Rattle.std.proofs.Common.{◌≡◌, length}
-use Rattle.queue_certificates.specs.Certificates.{queue_at, own_of}
+use Rattle.std.proofs.Common.{◌≡◌}
+use Rattle.queue_certificates.specs.Certificates.{queue_at}
 use Rattle.queue_certificates.specs.Steps.{last_below, is_own_index}
 use Rattle.queue_checker.proofs.loads.last_own_index.Given as goal
 
 abbrev pub invariant-loop-i : goal.invariant-loop-i
 invariant-loop-i l = let c = l.certificate in
-    l.last ≡ last_below l.i (is_own_index (queue_at c) (length c.queues) (own_of c) (length c.harts) l.hart l.bounds l.width)
+    l.last ≡ last_below l.i (is_own_index (queue_at c) l.hart l.bounds l.width)

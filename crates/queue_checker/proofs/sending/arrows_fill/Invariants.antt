@@ -5,7 +5,7 @@ use Rattle.queue_checker.proofs.sending.arrows_fill.Given as goal
 
 abbrev pub invariant-arrows : goal.invariant-arrows
 invariant-arrows l = let f = is_filled_after l.ranges (queue_at l.certificate l.i) (fields_at l.certificate l.i) l.stored l.slots l.effect in
-    arrows_fill l.certificate l.hart l.code l.i l.arrows f ≡ arrows_fill l.certificate l.hart l.code l.i l.initial.arrows f
+    arrows_fill l.certificate l.hart l.i l.arrows f ≡ arrows_fill l.certificate l.hart l.i l.initial.arrows f
 
 abbrev pub decreases-arrows : goal.decreases-arrows
 decreases-arrows l = length l.arrows

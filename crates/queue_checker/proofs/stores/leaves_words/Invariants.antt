@@ -1,9 +1,9 @@
-use Rattle.std.proofs.Common.{◌≡◌, length}
-use Rattle.queue_certificates.specs.Certificates.{queue_at, own_of}
+use Rattle.std.proofs.Common.{◌≡◌}
+use Rattle.queue_certificates.specs.Certificates.{own_of}
 use Rattle.queue_certificates.specs.Steps.{all_below, leaves_words}
 use Rattle.queue_checker.proofs.stores.leaves_words.Given as goal
 
 abbrev pub invariant-loop-other : goal.invariant-loop-other
 invariant-loop-other l = let c = l.certificate in
     l.all ≡ all_below l.other
-    (leaves_words (queue_at c) (length c.queues) (own_of c) (length c.harts) l.hart l.bounds l.width)
+    (leaves_words (own_of c) l.hart l.bounds l.width)

@@ -1,10 +1,10 @@
-use Rattle.std.proofs.Common.{◌≡◌, length}
-use Rattle.queue_certificates.specs.Certificates.{queue_at, own_of}
+use Rattle.std.proofs.Common.{◌≡◌}
+use Rattle.queue_certificates.specs.Certificates.{queue_at}
 use Rattle.queue_certificates.specs.Steps.{all_below, may_store}
 use Rattle.queue_checker.proofs.stores.may_store_all.Given as goal
 
 abbrev pub invariant-loop-i : goal.invariant-loop-i
 invariant-loop-i l = let c = l.certificate in
     l.all ≡ all_below l.i
-    (may_store (queue_at c) (length c.queues) (own_of c) (length c.harts) l.hart l.state l.handed l.value l.place
+    (may_store (queue_at c) l.hart l.state l.handed l.value l.place
     l.bounds l.width l.moves)

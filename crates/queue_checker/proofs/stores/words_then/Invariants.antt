@@ -1,12 +1,11 @@
 use Rattle.std.proofs.Common.{◌≡◌, ◌++◌, length}
-use Rattle.queue_certificates.specs.Certificates.{queue_at, own_of}
 use Rattle.queue_certificates.specs.Steps.{words_then}
 use Rattle.queue_checker.proofs.stores.words_then.Given as goal
 
 abbrev pub invariant-words : goal.invariant-words
 invariant-words l = let c = l.certificate in
-    l.out.items ++ words_then (queue_at c) (length c.queues) (own_of c) (length c.harts) l.hart l.bounds l.width l.value l.own l.words
-    ≡ words_then (queue_at c) (length c.queues) (own_of c) (length c.harts) l.hart l.bounds l.width l.value l.initial.own l.initial.words
+    l.out.items ++ words_then (length c.queues) l.bounds l.width l.value l.own l.words
+    ≡ words_then (length c.queues) l.bounds l.width l.value l.initial.own l.initial.words
 
 abbrev pub decreases-words : goal.decreases-words
 decreases-words l = length l.own

@@ -1,0 +1,187 @@
+//! What of what a certificate says of a queue with tags doesn't hold.
+
+ghost use Rattle.std.specs.Prelude.{◌≡◌, ◌+◌, IfOk, [], length, get_or, option_map};
+ghost use Rattle.store_buffers.specs.StoreBuffers.{memory_number};
+ghost use Rattle.queue_parties.specs.Parties.{the_sender};
+ghost use Rattle.slots_that_tell.specs.Slots.{tag_of};
+ghost use Rattle.queue_layouts.specs.Sides.{the_party};
+ghost use Rattle.queue_layouts.specs.Tagged.{slots_of, tells_by};
+ghost use Rattle.queue_certificates.specs.Tags.{bare, party_in};
+ghost use Rattle.queue_certificates.specs.Certificates.{no_tagged, opens_free};
+ghost use Rattle.queue_checker.specs.Flaws.{codec_flaw, tag_flaw, tagged_flaw};
+
+use crate::certificate::QueueCertificate;
+use crate::flaws::TaggedFlaw;
+use crate::opening::number_at;
+use crate::sites::small;
+use known_values::lack::{product, remainder_by, sum};
+use known_values::{Lack, Queue};
+use queue_layouts::{Codec, OpenedTagged, Party, TaggedQueue, party_among};
+use step_machine::Opening;
+
+const WORDS: u64 = 1 << 32;
+
+/// How many queues with tags there are.
+pub(crate) fn tagged_count(certificate: &QueueCertificate) -> Result<u32, Lack>
+    ensures { IfOk result (λ n. n ≡ length certificate.now.tagged) }
+{
+    small(certificate.tagged.len())
+}
+
+/// Queue `t` with tags; one without slots, if there are fewer.
+pub fn tagged_in(tagged: &[OpenedTagged], t: u32) -> TaggedQueue
+    ensures { result ≡ (get_or tagged.now t no_tagged).queue }
+{
+    match tagged.get(t as usize) {
+        Some(opened) => opened.queue,
+        None => TaggedQueue {
+            sender: 0,
+            receiver: 0,
+            slots: 0,
+            size: 0,
+            width: 0,
+            tag_offset: 0,
+            tag_width: 0,
+            codec: Codec::Zero,
+        },
+    }
+}
+
+/// Which party of a queue with tags a hart is.
+pub(crate) fn party_in(queue: TaggedQueue, hart: u32) -> Option<Party>
+    ensures { option_map the_party result ≡ party_in queue hart }
+{
+    party_among(queue.sender, queue.receiver, hart)
+}
+
+/// The position at which queue `t` with tags opens; 0, if there are fewer.
+pub fn tagged_start_in(tagged: &[OpenedTagged], t: u32) -> u64
+    ensures { result ≡ (get_or tagged.now t no_tagged).start }
+{
+    match tagged.get(t as usize) {
+        Some(opened) => opened.start,
+        None => 0,
+    }
+}
+
+/// The same slots as those of a queue without indices.
+pub fn bare(queue: TaggedQueue) -> Queue
+    ensures { result ≡ bare queue }
+{
+    Queue {
+        sender: queue.sender,
+        receiver: queue.receiver,
+        head: 0,
+        tail: 0,
+        index_width: 0,
+        slots: queue.slots,
+        size: queue.size,
+        width: queue.width,
+        capacity: queue.size,
+        base: 0,
+        scale: 0,
+        offset: 0,
+        modulus: 0,
+    }
+}
+
+/// What is wrong with how the queue's tags tell.
+fn codec_flaw(queue: TaggedQueue) -> Option<TaggedFlaw>
+    ensures { result ≡ codec_flaw queue queue.codec }
+{
+    match queue.codec {
+        Codec::Zero => None,
+        Codec::Number => {
+            if queue.tag_width != 4 {
+                Some(TaggedFlaw::NarrowNumber)
+            } else if u64::from(queue.size) % WORDS == 1 {
+                Some(TaggedFlaw::SameNumbers)
+            } else {
+                None
+            }
+        }
+    }
+}
+
+/// What is wrong with a queue with tags by itself.
+fn tag_flaw(queue: TaggedQueue) -> Option<TaggedFlaw>
+    ensures { result ≡ tag_flaw queue }
+{
+    if queue.sender == queue.receiver {
+        return Some(TaggedFlaw::OneHart);
+    }
+    if queue.size == 0 {
+        return Some(TaggedFlaw::NoSlot);
+    }
+    if queue.tag_width == 0 {
+        return Some(TaggedFlaw::NoTag);
+    }
+    if queue.tag_width > 4 {
+        return Some(TaggedFlaw::WideTag);
+    }
+    if u64::from(queue.tag_offset) + u64::from(queue.tag_width) > u64::from(queue.width) {
+        return Some(TaggedFlaw::PastSlot);
+    }
+    codec_flaw(queue)
+}
+
+/// Whether a tag of this number tells the sender that its slot is free for a position.
+fn tells_free(codec: Codec, position: u64, number: u64) -> bool
+    ensures { result ≡ tells_by codec the_sender position number }
+{
+    match codec {
+        Codec::Zero => number == 0,
+        Codec::Number => number == position % WORDS,
+    }
+}
+
+/// Where a position's tag lies.
+fn tag_of(queue: TaggedQueue, position: u64) -> Result<u64, Lack>
+    ensures { IfOk result (λ address. address ≡ tag_of (slots_of queue) position) }
+{
+    let slot = remainder_by(position, u64::from(queue.size));
+    let before = product(u64::from(queue.width), slot)?;
+    sum(
+        sum(u64::from(queue.slots), before)?,
+        u64::from(queue.tag_offset),
+    )
+}
+
+fn opens_free_at(opening: &Opening, queue: TaggedQueue, position: u64) -> Result<bool, Lack>
+    ensures { IfOk result (λ free. free ≡ tells_by queue.codec the_sender position (memory_number opening.now [] (tag_of (slots_of queue) position)
+        queue.tag_width)) }
+{
+    let number = number_at(&opening.words, tag_of(queue, position)?, queue.tag_width)?;
+    Ok(tells_free(queue.codec, position, number))
+}
+
+/// Whether each slot is free for its position of the round that begins at `start`, as the machine opens.
+fn opens_free(opening: &Opening, queue: TaggedQueue, start: u64) -> Result<bool, Lack>
+    ensures { IfOk result (λ free. free ≡ opens_free opening.now queue start) }
+{
+    let mut all = true;
+    for d in 0..queue.size {
+        let position = sum(start, u64::from(d))?;
+        all = opens_free_at(opening, queue, position)? && all;
+    }
+    Ok(all)
+}
+
+/// Why queue `t` with tags is none, or opens otherwise than the certificate says.
+pub(crate) fn tagged_flaw(
+    opening: &Opening,
+    certificate: &QueueCertificate,
+    t: u32,
+) -> Result<Option<TaggedFlaw>, Lack>
+    ensures { IfOk result (λ flaw. flaw ≡ tagged_flaw opening.now certificate.now t) }
+{
+    let queue = tagged_in(&certificate.tagged, t);
+    if let Some(flaw) = tag_flaw(queue) {
+        return Ok(Some(flaw));
+    }
+    if opens_free(opening, queue, tagged_start_in(&certificate.tagged, t))? {
+        Ok(None)
+    } else {
+        Ok(Some(TaggedFlaw::NotFree))
+    }
+}

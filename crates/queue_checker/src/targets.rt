@@ -1,0 +1,58 @@
+//! Which bytes an instruction accesses.
+
+ghost use Rattle.std.specs.Prelude.{◌≡◌, IfOk};
+ghost use Rattle.queue_checker.specs.Operands.{accessed_in, exchanged_in};
+
+use crate::certificate::{KnownState, QueueCertificate};
+use crate::places::anywhere;
+use crate::steps::{address_value, operand};
+use known_values::results::bounds;
+use known_values::{Bounds, KnownValue, Lack};
+use rv_decode::Reg;
+use std::alloc::Global;
+
+/// `width` bytes, from an address on of which `place` is known, and which lies in the bounds.
+#[derive(Drop)]
+pub struct Target {
+    pub place: KnownValue,
+    pub bounds: Bounds,
+    pub width: u64,
+}
+
+/// The bytes of a load or of a store, `offset` from where a register points.
+pub fn accessed(
+    alloc: Global,
+    certificate: &QueueCertificate,
+    state: &KnownState,
+    rs1: Reg,
+    offset: i32,
+    width: u64,
+) -> Result<Target, Lack>
+    ensures { IfOk result (λ target. target ≡ accessed_in certificate.now state.now rs1 offset width) }
+{
+    let place = address_value(alloc, certificate, state, rs1, offset)?;
+    let bounds = anywhere(bounds(alloc, &state.ranges, &place)?);
+    Ok(Target {
+        place,
+        bounds,
+        width,
+    })
+}
+
+/// The word of an AMO, where a register points.
+pub fn exchanged(
+    alloc: Global,
+    certificate: &QueueCertificate,
+    state: &KnownState,
+    rs1: Reg,
+) -> Result<Target, Lack>
+    ensures { IfOk result (λ target. target ≡ exchanged_in certificate.now state.now rs1) }
+{
+    let place = operand(alloc, certificate, state, rs1)?;
+    let bounds = anywhere(bounds(alloc, &state.ranges, &place)?);
+    Ok(Target {
+        place,
+        bounds,
+        width: 4,
+    })
+}
