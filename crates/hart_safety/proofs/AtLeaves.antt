@@ -1,67 +1,87 @@
--- What holds of a hart holds by one of the leaves of its state.
-use Rattle.std.proofs.Common.{ℕ, zero, suc, ◌+◌, ◌<◌, ◌≡◌, ◌⊎◌, inl, inr, if◌then◌else◌, Bool, true, false, Some, None}
-use Rattle.std.proofs.Common.{List, [], ◌∷◌, ◌++◌, length, get_or, refl, sym, subst, arith}
+-- What is made of all leaves of a hart: what each keeps is kept, and what is so of it in the end is so at the leaf where the hart is.
+use Rattle.std.proofs.Common.{ℕ, zero, suc, ◌+◌, ◌<◌, inl, inr, if◌then◌else◌, Bool, true, false, Some}
+use Rattle.std.proofs.Common.{List, length, get_or, subst, arith}
 use Rattle.std.proofs.lemmas.Bool.{cases_lt, cases_eq}
 use Rattle.hart.specs.State.{HartState}
 use Rattle.owned_run.specs.Certified.{View, AllCounts}
 use Rattle.queue_certificates.specs.States.{KnownState, MeansAt, Means}
-use Rattle.queue_certificates.specs.Certificates.{QueueCertificate, queue_at, own_of, state_at, Cases, leaf, split, with_low, with_high}
+use Rattle.queue_certificates.specs.Certificates.{QueueCertificate, queue_at, own_of, part_of, state_at, Cases, leaf, split, with_low, with_high}
+use Rattle.queue_certificates.specs.Certificates.{may_exceed}
 use Rattle.queue_certificates.proofs.Forms.{less_at}
 use Rattle.queue_certificates.proofs.States.{means-low, means-high, exceeds}
-use Rattle.hart_safety.specs.Leaves.{Leaf, leaves_in, leaves_below, first_other}
+use Rattle.hart_safety.specs.Leaves.{over_leaves, over_states, over_hart}
 
--- P holds of one of them
-abbrev pub AtLeaf : (KnownState → Type 0) → List Leaf → Type 0
-AtLeaf P [] = ⊥
-AtLeaf P (l ∷ ls) = P l.known ⊎ AtLeaf P ls
+module _ {A : Type 0} (f : ℕ → KnownState → A → A) (Q : A → Type 0) where
+  -- ---- what each leaf keeps
 
-at-front : (P : KnownState → Type 0) (ls ms : List Leaf) → AtLeaf P ls → AtLeaf P (ls ++ ms)
-at-front P [] ms at = absurd at
-at-front P (l ∷ ls) ms (inl here) = inl here
-at-front P (l ∷ ls) ms (inr later) = inr (at-front P ls ms later)
+  module _ (keeps : (n : ℕ) (k : KnownState) (a : A) → Q a → Q (f n k a)) where
+    keeps-cases : (n : ℕ) (k : KnownState) (t : Cases) (a : A) → Q a → Q (over_leaves f n k t a)
+    keeps-cases n k (leaf d arrows) a q = keeps n k a q
+    keeps-cases n k (split j v low high) a q = by (may_exceed v (get_or k.ranges j (Some 0))) (over_leaves f n (with_low k j v) low a)
+        (keeps-cases n (with_low k j v) low a q) (keeps-cases n (with_high k j v) high)
+      where
+        by : (t : Bool) (b : A) → Q b → ((b : A) → Q b → Q (over_leaves f n (with_high k j v) high b))
+            → Q (if t then over_leaves f n (with_high k j v) high b else b)
+        by true b q above = above b q
+        by false b q above = q
 
-at-back : (P : KnownState → Type 0) (ls ms : List Leaf) → AtLeaf P ms → AtLeaf P (ls ++ ms)
-at-back P [] ms at = at
-at-back P (l ∷ ls) ms at = inr (at-back P ls ms at)
+    keeps-states : (c : QueueCertificate) (h count : ℕ) (a : A) → Q a → Q (over_states f c h count a)
+    keeps-states c h zero a q = q
+    keeps-states c h (suc n) a q = keeps-cases n (state_at c h n).known (state_at c h n).cases (over_states f c h n a) (keeps-states c h n a q)
 
--- and so does f, where none is found of which it doesn't
-pub at-passing : (P : KnownState → Type 0) (f : KnownState → Bool) (ls : List Leaf) → first_other f ls ≡ None → AtLeaf P ls
-    → AtLeaf (λ k. P k × (f k ≡ true)) ls
-at-passing P f [] none at = absurd at
-at-passing P f (l ∷ ls) none at = by (f l.known) refl none at (at-passing P f ls)
-  where
-    by : (t : Bool) → f l.known ≡ t → (if t then first_other f ls else Some l.state) ≡ None → (P l.known ⊎ AtLeaf P ls)
-        → (first_other f ls ≡ None → AtLeaf P ls → AtLeaf (λ k. P k × (f k ≡ true)) ls) → AtLeaf (λ k. P k × (f k ≡ true)) (l ∷ ls)
-    by false other none at rest = absurd (cc)
-    by true passes none (inl here) rest = inl (here, passes)
-    by true passes none (inr later) rest = inr (rest none later)
+    pub keeps-over : (c : QueueCertificate) (h : ℕ) (a : A) → Q a → Q (over_hart f c h a)
+    keeps-over c h a q = keeps-states c h (length (part_of c h).states) a q
 
-pub some-leaf : (P : KnownState → Type 0) (ls : List Leaf) → AtLeaf P ls → (k : KnownState) × P k
-some-leaf P [] at = absurd at
-some-leaf P (l ∷ ls) (inl here) = (l.known, here)
-some-leaf P (l ∷ ls) (inr later) = some-leaf P ls later
+  -- ---- what is so after a leaf only if it was before
 
-module _ (c : QueueCertificate) (h : ℕ) (s : HartState) (m : View) (cs : AllCounts) where
-  abbrev pub MeansIt : KnownState → Type 0
-  MeansIt k = Means (queue_at c) (length c.queues) (own_of c h) h k s m cs
+  module _ (back : (n : ℕ) (k : KnownState) (a : A) → Q (f n k a) → Q a) where
+    back-cases : (n : ℕ) (k : KnownState) (t : Cases) (a : A) → Q (over_leaves f n k t a) → Q a
+    back-cases n k (leaf d arrows) a q = back n k a q
+    back-cases n k (split j v low high) a q = back-cases n (with_low k j v) low a
+        (by (may_exceed v (get_or k.ranges j (Some 0))) (over_leaves f n (with_low k j v) low a) q (back-cases n (with_high k j v) high))
+      where
+        by : (t : Bool) (b : A) → Q (if t then over_leaves f n (with_high k j v) high b else b)
+            → ((b : A) → Q (over_leaves f n (with_high k j v) high b) → Q b) → Q b
+        by true b q above = above b q
+        by false b q above = q
 
-  at-cases : (n : ℕ) (k : KnownState) (t : Cases) (xs : List ℕ) → MeansAt (queue_at c) (length c.queues) (own_of c h) h xs k s m cs
-      → AtLeaf MeansIt (leaves_in n k t)
-  at-cases n k (leaf d arrows) xs means = inl (xs, means)
-  at-cases n k (split j v low high) xs means = elim (cases_lt v (get_or xs j 0)) [
-    | inr under ↦ at-front MeansIt (leaves_in n (with_low k j v) low) _
-        (at-cases n (with_low k j v) low xs (means-low (queue_at c) (length c.queues) (own_of c h) h xs k s m cs j v means under))
-    | inl over ↦ at-back MeansIt (leaves_in n (with_low k j v) low) _
-        (subst (λ t. AtLeaf MeansIt (if t then leaves_in n (with_high k j v) high else []))
-        (sym (exceeds (queue_at c) (length c.queues) (own_of c h) h k.ranges xs j v means.ranges over))
-        (at-cases n (with_high k j v) high (less_at j (v + 1) xs) (means-high (queue_at c) (length c.queues) (own_of c h) h xs k s m cs j v means over)))
-  ]
+    module _ (c : QueueCertificate) (h : ℕ) (s : HartState) (m : View) (cs : AllCounts) where
+      -- a leaf that means it, and what is made of it is so
+      pub record AtLeaf : Type 0 where
+        pub state : ℕ
+        pub known : KnownState
+        pub numbers : List ℕ
+        pub means : MeansAt (queue_at c) (length c.queues) (own_of c h) h numbers known s m cs
+        pub before : A
+        pub so : Q (f state known before)
 
-  -- of a state that is listed
-  pub at-state : (n : ℕ) → MeansIt (state_at c h n).known → (count : ℕ) → n < count → AtLeaf MeansIt (leaves_below c h count)
-  at-state n means zero less = absurd (omega (arith, less))
-  at-state n means (suc count) less = elim (cases_eq n count) [
-    | inl same ↦ at-back MeansIt (leaves_below c h count) _ (subst (λ i. AtLeaf MeansIt (leaves_in i (state_at c h i).known (state_at c h i).cases)) same
-        (at-cases n (state_at c h n).known (state_at c h n).cases means.0 means.1))
-    | inr other ↦ at-front MeansIt (leaves_below c h count) _ (at-state n means count (omega (arith, less, other)))
-  ]
+      at-cases : (n : ℕ) (k : KnownState) (t : Cases) (xs : List ℕ) → MeansAt (queue_at c) (length c.queues) (own_of c h) h xs k s m cs
+          → (a : A) → Q (over_leaves f n k t a) → AtLeaf
+      at-cases n k (leaf d arrows) xs means a q = record { state = n; known = k; numbers = xs; means = means; before = a; so = q }
+      at-cases n k (split j v low high) xs means a q = elim (cases_lt v (get_or xs j 0)) [
+        | inr under ↦ at-cases n (with_low k j v) low xs (means-low (queue_at c) (length c.queues) (own_of c h) h xs k s m cs j v means under) a
+            (lower (may_exceed v (get_or k.ranges j (Some 0))) (over_leaves f n (with_low k j v) low a) q)
+        | inl over ↦ at-cases n (with_high k j v) high (less_at j (v + 1) xs)
+            (means-high (queue_at c) (length c.queues) (own_of c h) h xs k s m cs j v means over) (over_leaves f n (with_low k j v) low a)
+            (subst (λ t. Q (if t then over_leaves f n (with_high k j v) high (over_leaves f n (with_low k j v) low a)
+            else over_leaves f n (with_low k j v) low a)) (exceeds (queue_at c) (length c.queues) (own_of c h) h k.ranges xs j v means.ranges over) q)
+      ]
+        where
+          lower : (t : Bool) (b : A) → Q (if t then over_leaves f n (with_high k j v) high b else b) → Q b
+          lower true b q = back-cases n (with_high k j v) high b q
+          lower false b q = q
+
+      at-states : (n : ℕ) → Means (queue_at c) (length c.queues) (own_of c h) h (state_at c h n).known s m cs → (count : ℕ) → n < count
+          → (a : A) → Q (over_states f c h count a) → AtLeaf
+      at-states n means zero less a q = absurd (omega (arith, less))
+      at-states n means (suc count) less a q = elim (cases_eq n count) [
+        | inl same ↦ (let here = subst (λ i. Means (queue_at c) (length c.queues) (own_of c h) h (state_at c h i).known s m cs) same means in
+            at-cases count (state_at c h count).known (state_at c h count).cases here.0 here.1 (over_states f c h count a) q)
+        | inr other ↦ at-states n means count (omega (arith, less, other)) a
+            (back-cases count (state_at c h count).known (state_at c h count).cases (over_states f c h count a) q)
+      ]
+
+      -- of a state that is listed
+      pub at-leaf : (n : ℕ) → Means (queue_at c) (length c.queues) (own_of c h) h (state_at c h n).known s m cs → n < length (part_of c h).states
+          → (a : A) → Q (over_hart f c h a) → AtLeaf
+      at-leaf n means less a q = at-states n means (length (part_of c h).states) less a q

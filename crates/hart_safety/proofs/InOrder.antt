@@ -7,19 +7,18 @@ use Rattle.rv_decode.specs.declared.instruction.Instr.{Instr}
 use Rattle.rv_decode.specs.declared.instruction.Instr.TheVariants.{Lui, Auipc, Jal, Jalr, Branch, Load, Store}
 use Rattle.rv_decode.specs.declared.instruction.Instr.TheVariants.{Immediate, Shift, Register, Fence, FenceTso, Ecall}
 use Rattle.rv_decode.specs.declared.instruction.Instr.TheVariants.{Ebreak, Amo}
-use Rattle.hart.specs.Effects.{store_width}
 use Rattle.step_machine.specs.History.{OpeningValue}
 use Rattle.queue_certificates.specs.Forms.{Bounds, most_of_sum, risings, fallings, bounds_between}
 use Rattle.queue_certificates.specs.States.{KnownValue, any, linear, index_for, signed_for, KnownState}
 use Rattle.queue_certificates.specs.Results.{bounds}
-use Rattle.queue_certificates.specs.Steps.{instruction_at}
-use Rattle.queue_certificates.specs.Certificates.{QueueCertificate}
-use Rattle.queue_checker.specs.Flaws.{hart_at}
-use Rattle.queue_checker.specs.Operands.{operand_in, address_in}
+use Rattle.queue_certificates.specs.Steps.{anywhere, instruction_at, address_value, operand}
+use Rattle.queue_certificates.specs.Certificates.{QueueCertificate, queue_at}
+use Rattle.queue_checker.specs.declared.targets.Target.{Target}
+use Rattle.queue_checker.specs.Flaws.{hart_at, first_of}
 use Rattle.hart_safety.specs.declared.regions.Region.{Region}
-use Rattle.hart_safety.specs.Leaves.{Leaf, leaves_of}
-use Rattle.hart_safety.specs.Regions.{region_from, region_stored, ends_before, joined_region, with_region, with_stored, with_leaves}
-use Rattle.hart_safety.specs.Regions.{regions_written, AreInOrderFrom}
+use Rattle.hart_safety.specs.Regions.{region_of, ends_before, joined_region, with_region, AreInOrderFrom}
+use Rattle.hart_safety.specs.Writes.{stored_in, is_bounded, Writes, with_target, writes_at, regions_written}
+use Rattle.hart_safety.proofs.AtLeaves.{keeps-over}
 
 -- ---- a region has a byte
 
@@ -38,18 +37,20 @@ bounds-order rs (linear f) b is = by (f.constant % 2 ^ 32) (most_of_sum rs (risi
     by c (Some up) None is = absurd (cc)
     by c (Some up) (Some down) is = made c up down (nat_le down c && nat_le (c + up + 1) (2 ^ 32)) is
 
-abbrev HasByte : Option Region → Type 0
+anywhere-order : (rs : List (Option ℕ)) (v : KnownValue) → (anywhere (bounds rs v)).low ≤ (anywhere (bounds rs v)).high
+anywhere-order rs v = by (bounds rs v) refl
+  where
+    by : (b : Option Bounds) → bounds rs v ≡ b → (anywhere b).low ≤ (anywhere b).high
+    by None is = omega arith
+    by (Some b) is = bounds-order rs v b is
+
+abbrev HasByte : Option Target → Type 0
 HasByte None = Unit {0}
-HasByte (Some r) = r.from ≤ r.to
+HasByte (Some t) = t.bounds.low ≤ t.bounds.high
 
-from-has : (bs : Option Bounds) (width : ℕ) → ((b : Bounds) → bs ≡ Some b → b.low ≤ b.high) → HasByte (region_from bs width)
-from-has None width order = tt
-from-has (Some b) width order = let low : b.low ≤ b.high = order b refl in omega (arith, low)
-
-stored-has : (c : QueueCertificate) (k : KnownState) (i : Option Instr) → HasByte (region_stored c k i)
-stored-has c k (Some (Store op rs1 rs2 offset)) =
-    from-has (bounds k.ranges (address_in c k rs1 offset)) (store_width op) (bounds-order k.ranges (address_in c k rs1 offset))
-stored-has c k (Some (Amo op rd rs1 rs2 aq rl)) = from-has (bounds k.ranges (operand_in c k rs1)) 4 (bounds-order k.ranges (operand_in c k rs1))
+stored-has : (c : QueueCertificate) (k : KnownState) (i : Option Instr) → HasByte (stored_in c k i)
+stored-has c k (Some (Store op rs1 rs2 offset)) = anywhere-order k.ranges (address_value (queue_at c) k rs1 offset)
+stored-has c k (Some (Amo op rd rs1 rs2 aq rl)) = anywhere-order k.ranges (operand (queue_at c) k rs1)
 stored-has c k None = tt
 stored-has c k (Some (Lui rd upper)) = tt
 stored-has c k (Some (Auipc rd upper)) = tt
@@ -99,15 +100,19 @@ with-order n r (s ∷ ss) low has order = by (ends_before r s) (ends_before s r)
         let far : s.to + 1 < r.from = ltb-true (s.to + 1) r.from second in (order.0, order.1, apart (omega (arith, far)))
     by false false first second apart together = together
 
-stored-order : (r : Option Region) (rs : List Region) → HasByte r → AreInOrderFrom 0 rs → AreInOrderFrom 0 (with_stored r rs)
-stored-order None rs has order = order
-stored-order (Some r) rs has order = with-order 0 r rs (omega arith) has order
+abbrev IsInOrder : Writes → Type 0
+IsInOrder w = AreInOrderFrom 0 w.regions
 
-leaves-order : (c : QueueCertificate) (code : List ℕ) (ls : List Leaf) (rs : List Region) → AreInOrderFrom 0 rs → AreInOrderFrom 0 (with_leaves c code ls rs)
-leaves-order c code [] rs order = order
-leaves-order c code (l ∷ ls) rs order =
-    leaves-order c code ls (with_stored (region_stored c l.known (instruction_at code l.known.pc)) rs)
-    (stored-order (region_stored c l.known (instruction_at code l.known.pc)) rs (stored-has c l.known (instruction_at code l.known.pc)) order)
+target-order : (n : ℕ) (t : Option Target) (w : Writes) → HasByte t → IsInOrder w → IsInOrder (with_target n t w)
+target-order n None w has order = order
+target-order n (Some t) w has order = by (is_bounded t.bounds)
+  where
+    by : (b : Bool) → IsInOrder (if b then record { regions = with_region (region_of t) w.regions; unbounded = w.unbounded }
+        else record { regions = w.regions; unbounded = first_of w.unbounded (Some n) })
+    by true = with-order 0 (region_of t) w.regions (omega arith) (omega (arith, has)) order
+    by false = order
 
 pub regions_in_order : (o : OpeningValue) (c : QueueCertificate) (h : ℕ) → AreInOrderFrom 0 (regions_written o c h)
-regions_in_order o c h = leaves-order c (hart_at o h).code (leaves_of c h) [] tt
+regions_in_order o c h = keeps-over (writes_at c (hart_at o h).code) IsInOrder
+    (λ n k w order. target-order n (stored_in c k (instruction_at (hart_at o h).code k.pc)) w (stored-has c k (instruction_at (hart_at o h).code k.pc)) order)
+    c h (record { regions = []; unbounded = None }) tt

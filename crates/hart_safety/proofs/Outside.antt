@@ -5,17 +5,14 @@ use Rattle.std.proofs.lemmas.Bool.{leb-true, leb-false}
 use Rattle.queue_certificates.specs.States.{KnownState}
 use Rattle.queue_certificates.specs.Steps.{instruction_at}
 use Rattle.queue_certificates.specs.Certificates.{QueueCertificate}
+use Rattle.queue_checker.specs.declared.targets.Target.{Target}
+use Rattle.queue_checker.specs.Flaws.{first_of}
 use Rattle.hart_safety.specs.declared.regions.Region.{Region}
-use Rattle.hart_safety.specs.Leaves.{Leaf}
-use Rattle.hart_safety.specs.Regions.{region_stored, ends_before, joined_region, with_region, with_stored, with_leaves, IsInNone}
-use Rattle.hart_safety.proofs.AtLeaves.{AtLeaf}
+use Rattle.hart_safety.specs.Regions.{region_of, ends_before, joined_region, with_region, IsInNone}
+use Rattle.hart_safety.specs.Writes.{stored_in, is_bounded, Writes, with_target, writes_at}
 
 abbrev pub IsOutside : (x : ℕ) → Region → Type 0
 IsOutside x r = (x < r.from) ⊎ (r.to < x)
-
-abbrev pub IsNotStored : (x : ℕ) → Option Region → Type 0
-IsNotStored x None = Unit {0}
-IsNotStored x (Some r) = IsOutside x r
 
 outside-parts : (x : ℕ) (r s : Region) → IsOutside x (joined_region r s) → IsOutside x r × IsOutside x s
 outside-parts x r s (inl before) = by (nat_le r.from s.from) refl before
@@ -40,22 +37,29 @@ outside-with x r (s ∷ ss) out = by (ends_before r s) (ends_before s r) out (ou
     by false true out apart together = let rest = apart out.1 in (rest.0, (out.0, rest.1))
     by false false out apart together = let rest = together out in let parts = outside-parts x r s rest.0 in (parts.0, (parts.1, rest.1))
 
-outside-stored : (x : ℕ) (r : Option Region) (rs : List Region) → IsInNone x (with_stored r rs) → IsNotStored x r × IsInNone x rs
-outside-stored x None rs out = (tt, out)
-outside-stored x (Some r) rs out = outside-with x r rs out
+-- an instruction that stores to these bytes writes another one
+abbrev pub IsSpared : (x : ℕ) → Option Target → Type 0
+IsSpared x None = Unit {0}
+IsSpared x (Some t) = (is_bounded t.bounds ≡ true) × IsOutside x (region_of t)
 
-module _ (c : QueueCertificate) (code : List ℕ) (x : ℕ) where
-  abbrev stored : KnownState → Option Region
-  stored k = region_stored c k (instruction_at code k.pc)
+-- all stores are bounded, and the byte at x is of no region
+abbrev pub Spares : (x : ℕ) → Writes → Type 0
+Spares x w = (w.unbounded ≡ None) × IsInNone x w.regions
 
-  before : (ls : List Leaf) (rs : List Region) → IsInNone x (with_leaves c code ls rs) → IsInNone x rs
-  before [] rs out = out
-  before (l ∷ ls) rs out = (outside-stored x (stored l.known) rs (before ls (with_stored (stored l.known) rs) out)).1
+outside-target : (x n : ℕ) (t : Option Target) (w : Writes) → Spares x (with_target n t w) → IsSpared x t × Spares x w
+outside-target x n None w out = (tt, out)
+outside-target x n (Some t) w out = by (is_bounded t.bounds) refl out
+  where
+    none : (a : Option ℕ) → first_of a (Some n) ≡ None → ⊥
+    none None is = absurd (cc)
+    none (Some a) is = absurd (cc)
 
-  -- of the leaf at which P holds
-  pub outside-at : (P : KnownState → Type 0) (ls : List Leaf) (rs : List Region) → IsInNone x (with_leaves c code ls rs) → AtLeaf P ls
-      → AtLeaf (λ k. P k × IsNotStored x (region_stored c k (instruction_at code k.pc))) ls
-  outside-at P [] rs out at = absurd at
-  outside-at P (l ∷ ls) rs out (inl here) =
-      inl (here, (outside-stored x (stored l.known) rs (before ls (with_stored (stored l.known) rs) out)).0)
-  outside-at P (l ∷ ls) rs out (inr later) = inr (outside-at P ls (with_stored (stored l.known) rs) out later)
+    by : (b : Bool) → is_bounded t.bounds ≡ b
+        → Spares x (if b then record { regions = with_region (region_of t) w.regions; unbounded = w.unbounded }
+        else record { regions = w.regions; unbounded = first_of w.unbounded (Some n) }) → IsSpared x (Some t) × Spares x w
+    by true is out = let rest = outside-with x (region_of t) w.regions out.1 in ((is, rest.0), (out.0, rest.1))
+    by false is out = absurd (none w.unbounded out.0)
+
+pub spared : (c : QueueCertificate) (code : List ℕ) (x n : ℕ) (k : KnownState) (w : Writes) → Spares x (writes_at c code n k w)
+    → IsSpared x (stored_in c k (instruction_at code k.pc)) × Spares x w
+spared c code x n k w out = outside-target x n (stored_in c k (instruction_at code k.pc)) w out

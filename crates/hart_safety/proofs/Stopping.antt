@@ -27,17 +27,20 @@ use Rattle.owned_run.specs.Certified.{View, AllCounts, Acts}
 use Rattle.queue_certificates.specs.Forms.{form_value, number, is_same, InRanges, Bounds}
 use Rattle.queue_certificates.specs.States.{KnownValue, any, linear, index_for, signed_for, KnownState, Has, MeansAt}
 use Rattle.queue_certificates.specs.Results.{as_number, bounds}
-use Rattle.queue_certificates.specs.Steps.{anywhere, instruction_at}
+use Rattle.queue_certificates.specs.Steps.{anywhere, instruction_at, address_value, operand}
 use Rattle.queue_certificates.specs.Certificates.{QueueCertificate, queue_at, own_of}
 use Rattle.queue_certificates.proofs.Forms.{same-value, value-number}
 use Rattle.queue_certificates.proofs.Values.{has-plain, has-bounds, known-is}
 use Rattle.queue_certificates.proofs.Steps.{nobody_told, nothing_sent}
 use Rattle.queue_certificates.proofs.Steps as steps
-use Rattle.queue_checker.specs.Operands.{operand_in, address_in}
+use Rattle.queue_checker.specs.declared.targets.Target.{Target}
 use Rattle.hart_safety.specs.Stops.{is_within_memory, may_be_target, jumps_to_target, is_known_call, call_in, goes_on, goes_on_at}
 use Rattle.hart_safety.proofs.Going.{either, KeepsGoing, jump-keeps, access-keeps, call-keeps, IsGoing}
 
 -- ---- accesses
+
+abbrev target : List (Option ℕ) → (place : KnownValue) → (width : ℕ) → Target
+target rs place width = record { place = place; bounds = anywhere (bounds rs place); width = width }
 
 -- a remainder by 2 ^ 32 has the same remainder by it
 abbrev Divides : (width : ℕ) → Type 0
@@ -57,7 +60,7 @@ store-divides store_op.Word x = omega arith
 
 module _ (queues : ℕ → Queue) (rs : List (Option ℕ)) (xs : List ℕ) (ranges : InRanges rs xs) where
   inside-memory : (M : ℕ) (place : KnownValue) (a width : ℕ) → Divides width → Has queues xs place a
-      → is_within_memory M place (anywhere (bounds rs place)) width ≡ true → ((a % width == 0) ≡ true) × (nat_lt a (4 * M) ≡ true)
+      → is_within_memory M (target rs place width) ≡ true → ((a % width == 0) ≡ true) × (nat_lt a (4 * M) ≡ true)
   inside-memory M any a width divides has ok = absurd (cc)
   inside-memory M (index_for i f) a width divides has ok = absurd (cc)
   inside-memory M (signed_for i f) a width divides has ok = absurd (cc)
@@ -78,14 +81,14 @@ module _ (M : ℕ) (o : OpeningValue) (c : QueueCertificate) (h : ℕ) (xs : Lis
     (acts : Acts M o (length c.queues) (queue_at c) nobody_told nothing_sent h s m cs e) (size : 32 ≤ length s.registers)
     (fine : (j : ℕ) → j < length c.queues → IsQueue (queue_at c j) × TellsFull (queue_at c j) × ((queue_at c j).index_width ≤ 4))
     (means : MeansAt (queue_at c) (length c.queues) (own_of c h) h xs k s m cs) where
-  operand-has : (r : Reg) → Has (queue_at c) xs (operand_in c k r) (register_value s.registers r)
+  operand-has : (r : Reg) → Has (queue_at c) xs (operand (queue_at c) k r) (register_value s.registers r)
   operand-has = steps.operand-has M o (queue_at c) (length c.queues) (own_of c) (length c.harts) h xs k s m cs e acts size fine means
 
-  address-has : (r : Reg) (offset : ℤ) → Has (queue_at c) xs (address_in c k r offset) (address (register_value s.registers r) offset)
+  address-has : (r : Reg) (offset : ℤ) → Has (queue_at c) xs (address_value (queue_at c) k r offset) (address (register_value s.registers r) offset)
   address-has = steps.address-has M o (queue_at c) (length c.queues) (own_of c) (length c.harts) h xs k s m cs e acts size fine means
 
   access-goes : (place : KnownValue) (a width : ℕ) (n : Need) → Divides width → Has (queue_at c) xs place a
-      → is_within_memory M place (anywhere (bounds k.ranges place)) width ≡ true → KeepsGoing n → KeepsGoing (access_need s.words width a n)
+      → is_within_memory M (target k.ranges place width) ≡ true → KeepsGoing n → KeepsGoing (access_need s.words width a n)
   access-goes place a width n divides has ok keeps =
       let p = inside-memory (queue_at c) k.ranges xs means.ranges M place a width divides has ok in
       access-keeps s.words width a n p.0 (subst (λ w. nat_lt a (4 * w) ≡ true) (sym acts.words) p.1) keeps
@@ -95,11 +98,11 @@ module _ (M : ℕ) (o : OpeningValue) (c : QueueCertificate) (h : ℕ) (xs : Lis
   here : (offset : ℤ) → may_be_target (address k.pc offset) ≡ true → KeepsGoing (jump_need (address s.pc offset))
   here offset ok = subst (λ pc. KeepsGoing (jump_need (address pc offset))) (sym means.pc) (jump-keeps (address k.pc offset) ok)
 
-  jumps : (base : Option ℕ) (rs1 : Reg) (offset : ℤ) → as_number (operand_in c k rs1) ≡ base → jumps_to_target base offset ≡ true
+  jumps : (base : Option ℕ) (rs1 : Reg) (offset : ℤ) → as_number (operand (queue_at c) k rs1) ≡ base → jumps_to_target base offset ≡ true
       → KeepsGoing (jump_need (address (register_value s.registers rs1) offset / 2 * 2))
   jumps None rs1 offset is ok = absurd (cc)
   jumps (Some a) rs1 offset is ok = subst (λ x. KeepsGoing (jump_need (address x offset / 2 * 2)))
-      (sym (known-is (queue_at c) xs (operand_in c k rs1) (register_value s.registers rs1) a is (operand-has rs1)))
+      (sym (known-is (queue_at c) xs (operand (queue_at c) k rs1) (register_value s.registers rs1) a is (operand-has rs1)))
       (jump-keeps (address a offset / 2 * 2) ok)
 
   calls : (number : Option ℕ) → call_in c k ≡ number → is_known_call number ≡ true → KeepsGoing (need_for s Ecall)
@@ -110,15 +113,17 @@ module _ (M : ℕ) (o : OpeningValue) (c : QueueCertificate) (h : ℕ) (xs : Lis
 
   instruction-goes : (i : Instr) → goes_on M c k (Some i) ≡ true → KeepsGoing (need_for s i)
   instruction-goes (Jal rd offset) ok = here offset ok
-  instruction-goes (Jalr rd rs1 offset) ok = jumps (as_number (operand_in c k rs1)) rs1 offset refl ok
+  instruction-goes (Jalr rd rs1 offset) ok = jumps (as_number (operand (queue_at c) k rs1)) rs1 offset refl ok
   instruction-goes (Branch op rs1 rs2 offset) ok = either KeepsGoing (is_taken op (register_value s.registers rs1) (register_value s.registers rs2))
       (jump_need (address s.pc offset)) need.Inner (here offset ok) tt
-  instruction-goes (Load op rd rs1 offset) ok = access-goes (address_in c k rs1 offset) (address (register_value s.registers rs1) offset) (load_width op)
+  instruction-goes (Load op rd rs1 offset) ok = access-goes (address_value (queue_at c) k rs1 offset)
+      (address (register_value s.registers rs1) offset) (load_width op)
       (need.Load (address (register_value s.registers rs1) offset) (load_width op)) (load-divides op) (address-has rs1 offset) ok tt
-  instruction-goes (Store op rs1 rs2 offset) ok = access-goes (address_in c k rs1 offset) (address (register_value s.registers rs1) offset) (store_width op)
+  instruction-goes (Store op rs1 rs2 offset) ok = access-goes (address_value (queue_at c) k rs1 offset)
+      (address (register_value s.registers rs1) offset) (store_width op)
       (need.Store (address (register_value s.registers rs1) offset) (store_width op) (stored op (register_value s.registers rs2)))
       (store-divides op) (address-has rs1 offset) ok tt
-  instruction-goes (Amo op rd rs1 rs2 aq rl) ok = access-goes (operand_in c k rs1) (register_value s.registers rs1) 4
+  instruction-goes (Amo op rd rs1 rs2 aq rl) ok = access-goes (operand (queue_at c) k rs1) (register_value s.registers rs1) 4
       (need.Amo (register_value s.registers rs1) op (register_value s.registers rs2)) (store-divides store_op.Word) (operand-has rs1) ok tt
   instruction-goes Ecall ok = calls (call_in c k) refl ok
   instruction-goes Ebreak ok = absurd (cc)

@@ -3,7 +3,6 @@ use Rattle.std.proofs.Common.{ℕ, ◌*◌, ◌/◌, ◌%◌, ◌<◌, ◌≤◌
 use Rattle.std.proofs.Common.{Option, Some, None, List, length, refl, sym, subst, arith}
 use Rattle.std.specs.Prelude.{nat_lt, slice_index}
 use Rattle.std.specs.List.{slice_get}
-use Rattle.std.specs.Option.{is_some}
 use Rattle.std.proofs.lemmas.Bool.{ltb-true}
 use Rattle.rv_decode.specs.Meaning.{meaning}
 use Rattle.rv_decode.specs.declared.instruction.StoreOp.{StoreOp}
@@ -33,15 +32,14 @@ use Rattle.owned_run.specs.Certified.{View, AllCounts, Acts}
 use Rattle.queue_certificates.specs.Forms.{Bounds}
 use Rattle.queue_certificates.specs.States.{KnownValue, KnownState, Has, MeansAt}
 use Rattle.queue_certificates.specs.Results.{bounds}
-use Rattle.queue_certificates.specs.Steps.{instruction_at}
+use Rattle.queue_certificates.specs.Steps.{anywhere, instruction_at, address_value, operand}
 use Rattle.queue_certificates.specs.Certificates.{QueueCertificate, queue_at, own_of}
 use Rattle.queue_certificates.proofs.Values.{has-bounds}
 use Rattle.queue_certificates.proofs.Steps.{nobody_told, nothing_sent, no-code}
 use Rattle.queue_certificates.proofs.Steps as steps
-use Rattle.queue_checker.specs.Operands.{operand_in, address_in}
-use Rattle.hart_safety.specs.Regions.{region_from, region_stored, is_bounded}
+use Rattle.hart_safety.specs.Writes.{stored_in}
 use Rattle.hart_safety.proofs.Going.{either}
-use Rattle.hart_safety.proofs.Outside.{IsNotStored}
+use Rattle.hart_safety.proofs.Outside.{IsSpared}
 
 store-some : (op : StoreOp) → 1 ≤ store_width op
 store-some store_op.Byte = omega arith
@@ -70,16 +68,16 @@ module _ (M : ℕ) (o : OpeningValue) (c : QueueCertificate) (h : ℕ) (xs : Lis
       (either Spares (slice_index s.registers 17 == 93) need.Exit (need.Stop stop.UnknownCall) tt tt)))
 
   -- a store lies where its leaf says
-  not-covered : (bs : Option Bounds) (place : KnownValue) (a width v : ℕ) → bounds k.ranges place ≡ bs → is_some bs ≡ true
-      → Has (queue_at c) xs place a → 1 ≤ width → IsNotStored x (region_from bs width) → covers (write a width v) x ≡ false
-  not-covered None place a width v is known has some out = absurd (cc)
-  not-covered (Some b) place a width v is known has some out = by (covers (write a width v) x) refl
+  not-covered : (bs : Option Bounds) (place : KnownValue) (a width v : ℕ) → bounds k.ranges place ≡ bs → Has (queue_at c) xs place a → 1 ≤ width
+      → IsSpared x (Some (record { place = place; bounds = anywhere bs; width = width })) → covers (write a width v) x ≡ false
+  not-covered None place a width v is has some out = absurd (let no : false ≡ true = out.0 in cc)
+  not-covered (Some b) place a width v is has some out = by (covers (write a width v) x) refl
     where
       at : (b.low ≤ a) × (a ≤ b.high)
       at = has-bounds (queue_at c) k.ranges xs place a b means.ranges is has
 
       no : covers (write a width v) x ≡ true → ⊥
-      no covered = let p = covers-from (write a width v) x covered in elim out [
+      no covered = let p = covers-from (write a width v) x covered in elim out.1 [
         | inl before ↦ omega (arith, before, p.0, at.0)
         | inr after ↦ omega (arith, after, p.1, at.1, some)
       ]
@@ -88,47 +86,46 @@ module _ (M : ℕ) (o : OpeningValue) (c : QueueCertificate) (h : ℕ) (xs : Lis
       by false is = refl
       by true is = absurd (no is)
 
-  instruction-spares : (i : Instr) → is_bounded c k (Some i) ≡ true → IsNotStored x (region_stored c k (Some i)) → Spares (need_for s i)
-  instruction-spares (Store op rs1 rs2 offset) known out =
+  instruction-spares : (i : Instr) → IsSpared x (stored_in c k (Some i)) → Spares (need_for s i)
+  instruction-spares (Store op rs1 rs2 offset) out =
       access-spares (store_width op) (address (register_value s.registers rs1) offset)
       (need.Store (address (register_value s.registers rs1) offset) (store_width op) (stored op (register_value s.registers rs2)))
-      (not-covered (bounds k.ranges (address_in c k rs1 offset)) (address_in c k rs1 offset) (address (register_value s.registers rs1) offset) (store_width op)
-      (stored op (register_value s.registers rs2)) refl known
+      (not-covered (bounds k.ranges (address_value (queue_at c) k rs1 offset))
+      (address_value (queue_at c) k rs1 offset) (address (register_value s.registers rs1) offset) (store_width op)
+      (stored op (register_value s.registers rs2)) refl
       (steps.address-has M o (queue_at c) (length c.queues) (own_of c) (length c.harts) h xs k s m cs e acts size fine means rs1 offset) (store-some op) out)
-  instruction-spares (Amo op rd rs1 rs2 aq rl) known out =
+  instruction-spares (Amo op rd rs1 rs2 aq rl) out =
       access-spares 4 (register_value s.registers rs1) (need.Amo (register_value s.registers rs1) op (register_value s.registers rs2))
-      (inr (not-covered (bounds k.ranges (operand_in c k rs1)) (operand_in c k rs1) (register_value s.registers rs1) 4
-      (updated op (number_read e) (register_value s.registers rs2)) refl known
+      (inr (not-covered (bounds k.ranges (operand (queue_at c) k rs1)) (operand (queue_at c) k rs1) (register_value s.registers rs1) 4
+      (updated op (number_read e) (register_value s.registers rs2)) refl
       (steps.operand-has M o (queue_at c) (length c.queues) (own_of c) (length c.harts) h xs k s m cs e acts size fine means rs1) (omega arith) out))
-  instruction-spares (Jal rd offset) known out = jump-spares _
-  instruction-spares (Jalr rd rs1 offset) known out = jump-spares _
-  instruction-spares (Branch op rs1 rs2 offset) known out = either Spares (is_taken op (register_value s.registers rs1) (register_value s.registers rs2))
+  instruction-spares (Jal rd offset) out = jump-spares _
+  instruction-spares (Jalr rd rs1 offset) out = jump-spares _
+  instruction-spares (Branch op rs1 rs2 offset) out = either Spares (is_taken op (register_value s.registers rs1) (register_value s.registers rs2))
       (jump_need (address s.pc offset)) need.Inner (jump-spares (address s.pc offset)) tt
-  instruction-spares (Load op rd rs1 offset) known out = access-spares (load_width op) (address (register_value s.registers rs1) offset)
+  instruction-spares (Load op rd rs1 offset) out = access-spares (load_width op) (address (register_value s.registers rs1) offset)
       (need.Load (address (register_value s.registers rs1) offset) (load_width op)) tt
-  instruction-spares Ecall known out = call-spares
-  instruction-spares (Lui rd upper) known out = tt
-  instruction-spares (Auipc rd upper) known out = tt
-  instruction-spares (Immediate op rd rs1 n) known out = tt
-  instruction-spares (Shift op rd rs1 amount) known out = tt
-  instruction-spares (Register op rd rs1 rs2) known out = tt
-  instruction-spares (Fence pred succ) known out = tt
-  instruction-spares FenceTso known out = tt
-  instruction-spares Ebreak known out = tt
+  instruction-spares Ecall out = call-spares
+  instruction-spares (Lui rd upper) out = tt
+  instruction-spares (Auipc rd upper) out = tt
+  instruction-spares (Immediate op rd rs1 n) out = tt
+  instruction-spares (Shift op rd rs1 amount) out = tt
+  instruction-spares (Register op rd rs1 rs2) out = tt
+  instruction-spares (Fence pred succ) out = tt
+  instruction-spares FenceTso out = tt
+  instruction-spares Ebreak out = tt
 
   -- whatever the pc says
-  pub leaf-spares : is_bounded c k (instruction_at s.code k.pc) ≡ true → IsNotStored x (region_stored c k (instruction_at s.code k.pc))
-      → LeavesByteBy x (access_of e)
-  leaf-spares known out = subst (λ d. LeavesByteBy x (access_of d)) (sym acts.can.made) (by (nat_lt s.pc (4 * length s.code)) refl
-      (subst (λ pc. is_bounded c k (instruction_at s.code pc) ≡ true) (sym means.pc) known)
-      (subst (λ pc. IsNotStored x (region_stored c k (instruction_at s.code pc))) (sym means.pc) out))
+  pub leaf-spares : IsSpared x (stored_in c k (instruction_at s.code k.pc)) → LeavesByteBy x (access_of e)
+  leaf-spares out = subst (λ d. LeavesByteBy x (access_of d)) (sym acts.can.made) (by (nat_lt s.pc (4 * length s.code)) refl
+      (subst (λ pc. IsSpared x (stored_in c k (instruction_at s.code pc))) (sym means.pc) out))
     where
-      says : (i : Option Instr) → s.pc < 4 * length s.code → meaning (slice_index s.code (s.pc / 4)) ≡ i → is_bounded c k i ≡ true
-          → IsNotStored x (region_stored c k i) → Spares (need_of s)
-      says None within is known out = subst Spares (sym (illegal s within is)) tt
-      says (Some i) within is known out = subst Spares (sym (need_at (record { inside = within; says = is }))) (instruction-spares i known out)
+      says : (i : Option Instr) → s.pc < 4 * length s.code → meaning (slice_index s.code (s.pc / 4)) ≡ i → IsSpared x (stored_in c k i)
+          → Spares (need_of s)
+      says None within is out = subst Spares (sym (illegal s within is)) tt
+      says (Some i) within is out = subst Spares (sym (need_at (record { inside = within; says = is }))) (instruction-spares i out)
 
-      by : (t : Bool) → nat_lt s.pc (4 * length s.code) ≡ t → is_bounded c k (if t then meaning (slice_index s.code (s.pc / 4)) else None) ≡ true
-          → IsNotStored x (region_stored c k (if t then meaning (slice_index s.code (s.pc / 4)) else None)) → Spares (need_of s)
-      by false outside known out = subst Spares (sym (no-code s outside)) tt
-      by true within known out = says (meaning (slice_index s.code (s.pc / 4))) (ltb-true s.pc (4 * length s.code) within) refl known out
+      by : (t : Bool) → nat_lt s.pc (4 * length s.code) ≡ t
+          → IsSpared x (stored_in c k (if t then meaning (slice_index s.code (s.pc / 4)) else None)) → Spares (need_of s)
+      by false outside out = subst Spares (sym (no-code s outside)) tt
+      by true within out = says (meaning (slice_index s.code (s.pc / 4))) (ltb-true s.pc (4 * length s.code) within) refl out

@@ -1,28 +1,18 @@
--- The leaves of a hart's states, one by one: what is known where an instruction is executed.
-use Rattle.std.specs.Prelude.{ℕ, zero, suc, ◌++◌, if◌then◌else◌, Bool, Option, None, Some, List, [], ◌∷◌, length, get_or}
+-- The leaves of a hart's states, one after the other: what is known where an instruction is executed.
+use Rattle.std.specs.Prelude.{ℕ, zero, suc, if◌then◌else◌, Some, length, get_or}
 use Rattle.queue_certificates.specs.States.{KnownState}
 use Rattle.queue_certificates.specs.Certificates.{QueueCertificate, part_of, state_at, Cases, leaf, split, with_low, with_high, may_exceed}
 
--- a leaf of the hart's state of this number
-pub record Leaf : Type 0 where
-  pub state : ℕ
-  pub known : KnownState
+-- f makes of a what it does at each leaf, by the number of its state, which is n here
+abbrev pub over_leaves : {A : Type 0} → (ℕ → KnownState → A → A) → (n : ℕ) → KnownState → Cases → A → A
+over_leaves f n k (leaf d arrows) a = f n k a
+over_leaves f n k (split j v low high) a = if may_exceed v (get_or k.ranges j (Some 0))
+    then over_leaves f n (with_high k j v) high (over_leaves f n (with_low k j v) low a) else over_leaves f n (with_low k j v) low a
 
--- of state n, by its cases
-abbrev pub leaves_in : (n : ℕ) → KnownState → Cases → List Leaf
-leaves_in n k (leaf d arrows) = record { state = n; known = k } ∷ []
-leaves_in n k (split j v low high) = leaves_in n (with_low k j v) low
-    ++ (if may_exceed v (get_or k.ranges j (Some 0)) then leaves_in n (with_high k j v) high else [])
+-- at those of hart h's first n states
+abbrev pub over_states : {A : Type 0} → (ℕ → KnownState → A → A) → QueueCertificate → (h n : ℕ) → A → A
+over_states f c h zero a = a
+over_states f c h (suc n) a = over_leaves f n (state_at c h n).known (state_at c h n).cases (over_states f c h n a)
 
--- of hart h's first n states
-abbrev pub leaves_below : QueueCertificate → (h n : ℕ) → List Leaf
-leaves_below c h zero = []
-leaves_below c h (suc n) = leaves_below c h n ++ leaves_in n (state_at c h n).known (state_at c h n).cases
-
-abbrev pub leaves_of : QueueCertificate → (h : ℕ) → List Leaf
-leaves_of c h = leaves_below c h (length (part_of c h).states)
-
--- the state of the first leaf of which this isn't so
-abbrev pub first_other : (KnownState → Bool) → List Leaf → Option ℕ
-first_other f [] = None
-first_other f (l ∷ ls) = if f l.known then first_other f ls else Some l.state
+abbrev pub over_hart : {A : Type 0} → (ℕ → KnownState → A → A) → QueueCertificate → (h : ℕ) → A → A
+over_hart f c h a = over_states f c h (length (part_of c h).states) a

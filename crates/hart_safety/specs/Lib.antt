@@ -1,3 +1,4 @@
 pub mod Leaves
 pub mod Stops
 pub mod Regions
+pub mod Writes

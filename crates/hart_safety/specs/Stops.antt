@@ -4,14 +4,15 @@ use Rattle.rv_decode.specs.declared.instruction.Instr.{Instr}
 use Rattle.rv_decode.specs.declared.instruction.Instr.TheVariants.{Jal, Jalr, Branch, Load, Store, Ecall, Ebreak, Amo}
 use Rattle.hart.specs.Effects.{address, load_width, store_width}
 use Rattle.step_machine.specs.History.{OpeningValue}
-use Rattle.queue_certificates.specs.Forms.{number, is_same, Bounds}
+use Rattle.queue_certificates.specs.Forms.{number, is_same}
 use Rattle.queue_certificates.specs.States.{KnownValue, any, linear, index_for, signed_for, KnownState, plain}
-use Rattle.queue_certificates.specs.Results.{as_number, bounds}
-use Rattle.queue_certificates.specs.Steps.{anywhere, instruction_at}
+use Rattle.queue_certificates.specs.Results.{as_number}
+use Rattle.queue_certificates.specs.Steps.{instruction_at, operand}
 use Rattle.queue_certificates.specs.Certificates.{QueueCertificate, queue_at}
-use Rattle.queue_checker.specs.Flaws.{hart_at}
-use Rattle.queue_checker.specs.Operands.{operand_in, address_in, addresses_in}
-use Rattle.hart_safety.specs.Leaves.{leaves_of, first_other}
+use Rattle.queue_checker.specs.declared.targets.Target.{Target}
+use Rattle.queue_checker.specs.Flaws.{hart_at, first_of, unless}
+use Rattle.queue_checker.specs.Operands.{accessed_in, exchanged_in}
+use Rattle.hart_safety.specs.Leaves.{over_hart}
 
 -- it is a multiple of the width, whatever the variables are. The widths divide 2 ^ 32
 abbrev pub is_aligned : KnownValue → (width : ℕ) → Bool
@@ -20,9 +21,9 @@ is_aligned (linear f) width = is_same width f (number 0)
 is_aligned (index_for i f) width = false
 is_aligned (signed_for i f) width = false
 
--- an access there, at one of these addresses, is aligned and within M words of memory
-abbrev pub is_within_memory : (M : ℕ) → (place : KnownValue) → Bounds → (width : ℕ) → Bool
-is_within_memory M place b width = is_aligned place width && nat_lt b.high (4 * M)
+-- an access there is aligned and within M words of memory
+abbrev pub is_within_memory : (M : ℕ) → Target → Bool
+is_within_memory M t = is_aligned t.place t.width && nat_lt t.bounds.high (4 * M)
 
 abbrev pub may_be_target : (pc : ℕ) → Bool
 may_be_target pc = pc % 4 == 0
@@ -46,17 +47,21 @@ goes_on M c k None = false
 goes_on M c k (Some Ebreak) = false
 goes_on M c k (Some Ecall) = is_known_call (call_in c k)
 goes_on M c k (Some (Jal rd offset)) = may_be_target (address k.pc offset)
-goes_on M c k (Some (Jalr rd rs1 offset)) = jumps_to_target (as_number (operand_in c k rs1)) offset
+goes_on M c k (Some (Jalr rd rs1 offset)) = jumps_to_target (as_number (operand (queue_at c) k rs1)) offset
 goes_on M c k (Some (Branch op rs1 rs2 offset)) = may_be_target (address k.pc offset)
-goes_on M c k (Some (Load op rd rs1 offset)) = is_within_memory M (address_in c k rs1 offset) (addresses_in c k rs1 offset) (load_width op)
-goes_on M c k (Some (Store op rs1 rs2 offset)) = is_within_memory M (address_in c k rs1 offset) (addresses_in c k rs1 offset) (store_width op)
-goes_on M c k (Some (Amo op rd rs1 rs2 aq rl)) = is_within_memory M (operand_in c k rs1) (anywhere (bounds k.ranges (operand_in c k rs1))) 4
+goes_on M c k (Some (Load op rd rs1 offset)) = is_within_memory M (accessed_in c k rs1 offset (load_width op))
+goes_on M c k (Some (Store op rs1 rs2 offset)) = is_within_memory M (accessed_in c k rs1 offset (store_width op))
+goes_on M c k (Some (Amo op rd rs1 rs2 aq rl)) = is_within_memory M (exchanged_in c k rs1)
 goes_on M c k (Some other) = true
 
 -- just past its code a hart has ended, and executes nothing
 abbrev pub goes_on_at : (M : ℕ) → QueueCertificate → (code : List ℕ) → KnownState → Bool
 goes_on_at M c code k = (k.pc == 4 * length code) || goes_on M c k (instruction_at code k.pc)
 
+-- the first state that isn't shown to go on, where this is the first before a leaf of state n
+abbrev pub stop_at : (M : ℕ) → QueueCertificate → (code : List ℕ) → (n : ℕ) → KnownState → (first : Option ℕ) → Option ℕ
+stop_at M c code n k first = first_of first (unless (goes_on_at M c code k) n)
+
 -- hart h's first state whose instruction isn't shown to go on, with M words of memory
 abbrev pub first_stop : (M : ℕ) → OpeningValue → QueueCertificate → (h : ℕ) → Option ℕ
-first_stop M o c h = first_other (goes_on_at M c (hart_at o h).code) (leaves_of c h)
+first_stop M o c h = over_hart (stop_at M c (hart_at o h).code) c h None

@@ -1,17 +1,17 @@
 //! What else an accepted certificate of queues shows of a hart: that nothing stops it, and which bytes it writes.
 //!
 //! The contract: [`first_stop`] returns a hart's first state whose instruction isn't shown to go on, and where there is none, nothing
-//! stops the hart in any run ([`laws_of_hart_safety`]). [`first_unbounded`] returns its first state with a store that may go anywhere,
-//! and where there is none, the hart writes no byte outside of [`regions_written`]. This crate checks no certificate, reads no text and
-//! runs no machine.
+//! stops the hart in any run ([`laws_of_hart_safety`]). [`writes_of`] returns the regions that it may write, and its first state with a
+//! store that may go anywhere; where there is none, the hart writes no byte outside of the regions. This crate checks no certificate,
+//! reads no text and runs no machine.
 //!
 //! Called by `certifying`.
 
 #![tactic(auto)]
 
-mod leaves;
 mod regions;
 mod stops;
+mod writes;
 
 ghost use Rattle.std.specs.Prelude.{ℕ, ◌≡◌, List, [], ◌∷◌, ◌++◌, None, Some, true, false};
 ghost use Rattle.hart.specs.State.{HartState};
@@ -26,10 +26,12 @@ ghost use Rattle.step_machine.specs.Paths.{state_of};
 ghost use Rattle.store_buffers.specs.StoreBuffers.{LeavesByteBy};
 ghost use Rattle.queue_certificates.specs.Certificates.{QueueCertificate, accepts};
 ghost use Rattle.hart_safety.specs.Stops.{first_stop};
-ghost use Rattle.hart_safety.specs.Regions.{regions_written, IsInNone, first_unbounded, AreInOrderFrom};
+ghost use Rattle.hart_safety.specs.Regions.{IsInNone, AreInOrderFrom};
+ghost use Rattle.hart_safety.specs.Writes.{regions_written, first_unbounded};
 
-pub use regions::{Region, first_unbounded, regions_written};
+pub use regions::Region;
 pub use stops::first_stop;
+pub use writes::{Writes, writes_of};
 
 /// Where a certificate is accepted for an opening, in every legal run from it, of any length and with store buffers of any size. It
 /// does nothing.

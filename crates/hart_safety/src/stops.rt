@@ -1,24 +1,26 @@
 //! Whether a hart surely goes on from where a certificate lists it.
 
-ghost use Rattle.std.specs.Prelude.{◌≡◌, IfOk};
-ghost use Rattle.queue_certificates.specs.Certificates.{queue_at};
-ghost use Rattle.hart_safety.specs.Leaves.{first_other};
+ghost use Rattle.std.specs.Prelude.{◌≡◌, ◌<◌, IfOk, length, None};
+ghost use Rattle.queue_certificates.specs.Certificates.{queue_at, part_of, state_at};
+ghost use Rattle.queue_checker.specs.Flaws.{hart_at};
+ghost use Rattle.hart_safety.specs.Leaves.{over_leaves, over_states};
 ghost use Rattle.hart_safety.specs.Stops.{is_aligned, is_within_memory, may_be_target, jumps_to_target, is_known_call, call_in};
-ghost use Rattle.hart_safety.specs.Stops.{goes_on, goes_on_at, first_stop};
+ghost use Rattle.hart_safety.specs.Stops.{goes_on, goes_on_at, stop_at, first_stop};
 
-use crate::leaves::{Leaf, leaves_of};
 use known_values::forms::{is_same, number};
 use known_values::lack::product;
-use known_values::results::{as_number, bounds};
+use known_values::results::as_number;
 use known_values::values::plain;
-use known_values::{Bounds, Known, KnownValue, Lack};
+use known_values::{Known, KnownValue, Lack};
+use queue_checker::closing::{goes_beyond, with_high, with_low};
 use queue_checker::loads::load_width;
 use queue_checker::owning::code_of;
-use queue_checker::places::anywhere;
+use queue_checker::sites::{listed_states, small};
 use queue_checker::states::value_in;
-use queue_checker::steps::{address, address_value, instruction_at, operand};
+use queue_checker::steps::{address, instruction_at, operand};
 use queue_checker::stores::store_width;
-use queue_checker::{KnownState, QueueCertificate};
+use queue_checker::targets::{Target, accessed, exchanged};
+use queue_checker::{CaseNode, Cases, KnownState, QueueCertificate};
 use rv_decode::Instr;
 use std::alloc::Global;
 use step_machine::Opening;
@@ -34,18 +36,12 @@ fn is_aligned(alloc: Global, value: &KnownValue, width: u64) -> bool
     }
 }
 
-/// Whether an access at this value, which lies in these bounds, is aligned and within `words` words of memory.
-fn is_within_memory(
-    alloc: Global,
-    words: u64,
-    place: &KnownValue,
-    bounds: Bounds,
-    width: u64,
-) -> Result<bool, Lack>
-    ensures { IfOk result (λ within. within ≡ is_within_memory words place.now bounds width) }
+/// Whether an access of these bytes is aligned and within `words` words of memory.
+fn is_within_memory(alloc: Global, words: u64, target: &Target) -> Result<bool, Lack>
+    ensures { IfOk result (λ within. within ≡ is_within_memory words target.now) }
 {
     let bytes = product(4, words)?;
-    Ok(is_aligned(alloc, place, width) && bounds.high < bytes)
+    Ok(is_aligned(alloc, &target.place, target.width) && target.bounds.high < bytes)
 }
 
 fn may_be_target(pc: u32) -> bool
@@ -110,9 +106,8 @@ fn goes_on(
                 ..
             },
         ) => {
-            let place = address_value(alloc, certificate, state, rs1, offset)?;
-            let bounds = anywhere(bounds(alloc, &state.ranges, &place)?);
-            is_within_memory(alloc, words, &place, bounds, load_width(op))
+            let target = accessed(alloc, certificate, state, rs1, offset, load_width(op))?;
+            is_within_memory(alloc, words, &target)
         }
         Some(
             Instr::Store {
@@ -122,14 +117,12 @@ fn goes_on(
                 ..
             },
         ) => {
-            let place = address_value(alloc, certificate, state, rs1, offset)?;
-            let bounds = anywhere(bounds(alloc, &state.ranges, &place)?);
-            is_within_memory(alloc, words, &place, bounds, store_width(op))
+            let target = accessed(alloc, certificate, state, rs1, offset, store_width(op))?;
+            is_within_memory(alloc, words, &target)
         }
         Some(Instr::Amo { rs1, .. }) => {
-            let place = operand(alloc, certificate, state, rs1)?;
-            let bounds = anywhere(bounds(alloc, &state.ranges, &place)?);
-            is_within_memory(alloc, words, &place, bounds, 4)
+            let target = exchanged(alloc, certificate, state, rs1)?;
+            is_within_memory(alloc, words, &target)
         }
         _ => Ok(true),
     }
@@ -152,22 +145,56 @@ fn goes_on_at(
     }
 }
 
-fn first_stop_in(
+/// The first state that isn't shown to go on, where `first` is the first one before this leaf of state `n`.
+fn stop_at(
     alloc: Global,
     words: u64,
     certificate: &QueueCertificate,
     code: &[u32],
-    mut leaves: &[Leaf],
+    n: u32,
+    state: &KnownState,
+    first: Option<u32>,
 ) -> Result<Option<u32>, Lack>
-    ensures { IfOk result (λ state. state ≡ first_other (goes_on_at words certificate.now code.now) leaves.now) }
+    ensures { IfOk result (λ stop. stop ≡ stop_at words certificate.now code.now n state.now first) }
 {
-    while let [leaf, others @ ..] = leaves {
-        if !goes_on_at(alloc, words, certificate, code, &leaf.known)? {
-            return Ok(Some(leaf.state));
+    match first {
+        Some(stop) => Ok(Some(stop)),
+        None => {
+            if goes_on_at(alloc, words, certificate, code, state)? {
+                Ok(None)
+            } else {
+                Ok(Some(n))
+            }
         }
-        leaves = others;
     }
-    Ok(None)
+}
+
+/// The same with all leaves of state `n`, by its cases.
+fn stop_in(
+    alloc: Global,
+    words: u64,
+    certificate: &QueueCertificate,
+    code: &[u32],
+    n: u32,
+    state: &KnownState,
+    cases: &Cases,
+    first: Option<u32>,
+) -> Result<Option<u32>, Lack>
+    ensures { IfOk result (λ stop. stop ≡ over_leaves (stop_at words certificate.now code.now) n state.now cases.now first) }
+{
+    match &cases.node {
+        CaseNode::Leaf(_, _) => stop_at(alloc, words, certificate, code, n, state, first),
+        CaseNode::Split(variable, most, low, high) => {
+            let below = with_low(alloc, state, *variable, *most)?;
+            let lower = stop_in(alloc, words, certificate, code, n, &below, low, first)?;
+            if goes_beyond(state, *variable, *most) {
+                let above = with_high(alloc, state, *variable, *most)?;
+                stop_in(alloc, words, certificate, code, n, &above, high, lower)
+            } else {
+                Ok(lower)
+            }
+        }
+    }
 }
 
 /// The hart's first state whose instruction isn't shown to go on, with `words` words of memory.
@@ -180,6 +207,20 @@ pub fn first_stop(
 ) -> Result<Option<u32>, Lack>
     ensures { IfOk result (λ state. state ≡ first_stop words opening.now certificate.now hart) }
 {
-    let leaves = leaves_of(alloc, certificate, hart)?;
-    first_stop_in(alloc, words, certificate, code_of(opening, hart), &leaves)
+    let code = code_of(opening, hart);
+    let mut first = None;
+    for n in 0..small(listed_states(certificate, hart).len())? {
+        let listed = &listed_states(certificate, hart)[n as usize];
+        first = stop_in(
+            alloc,
+            words,
+            certificate,
+            code,
+            n,
+            &listed.known,
+            &listed.cases,
+            first,
+        )?;
+    }
+    Ok(first)
 }
