@@ -1,10 +1,9 @@
 -- What an entry of a queue's sender leads to from a state of the certificate: an effect that the state's marks allow, and a next state
 -- whose marks are so after it.
-use Rattle.std.proofs.Common.{ℕ, ◌+◌, ◌<◌, ◌≤◌, ◌≡◌, inl, inr, Bool, true, Option, Some, None, List, [], ◌∷◌}
-use Rattle.std.proofs.Common.{length, get_or, refl, sym, ◌∙◌, ap, subst}
-use Rattle.std.specs.Prelude.{map}
+use Rattle.std.proofs.Common.{ℕ, ◌+◌, ◌<◌, ◌≤◌, ◌≡◌, inl, inr, Bool, true, Option, Some, None, List, []}
+use Rattle.std.proofs.Common.{length, get_or, sym, ◌∙◌, ap, refl, subst}
 use Rattle.std.specs.List.{slice_get}
-use Rattle.std.proofs.lemmas.Bool.{and_parts, ltb-true, cases_lt}
+use Rattle.std.proofs.lemmas.Bool.{and_parts, cases_lt}
 use Rattle.std.proofs.lemmas.Option.{get_or_from_slice_get}
 use Rattle.rv_decode.specs.declared.instruction.Instr.{Instr}
 use Rattle.hart.specs.State.{HartState}
@@ -14,128 +13,150 @@ use Rattle.step_machine.specs.declared.events.Entry.{Entry}
 use Rattle.step_machine.specs.History.{HartOpeningValue, OpeningValue}
 use Rattle.step_machine.specs.Access.{Access, access_of}
 use Rattle.step_machine.specs.Paths.{number_read}
+use Rattle.slot_queue.specs.Queues.{slot_of}
+use Rattle.queue_parties.specs.Parties.{the_sender}
 use Rattle.slot_queue.specs.Ownership.{party_of, after_access}
-use Rattle.owned_run.specs.Certified.{View, AllCounts, view_then, Acts}
-use Rattle.queue_certificates.specs.Forms.{settled}
-use Rattle.queue_certificates.specs.States.{KnownValue, KnownState, MeansAt, Means}
+use Rattle.owned_run.specs.Certified.{View, AllCounts, view_then, Acts, kept_beside}
+use Rattle.queue_certificates.specs.Forms.{Form}
+use Rattle.queue_certificates.specs.States.{KnownState, MeansAt}
 use Rattle.queue_certificates.specs.Steps.{follow, instruction_at}
-use Rattle.queue_certificates.specs.Certificates.{Arrow, Cases, leaf, split, QueueCertificate, queue_at, part_of, own_of, state_at}
-use Rattle.queue_certificates.specs.Certificates.{fields_at, HasFields, MeetsFields, no_hart, with_low, with_high, next_states, each_leads, all_lead}
-use Rattle.queue_certificates.specs.Certificates.{is_closed, accepts}
-use Rattle.queue_certificates.specs.Fields.{next_received}
+use Rattle.queue_certificates.specs.Certificates.{Arrow, Cases, leaf, split, QueueCertificate, queue_at, part_of, own_of, state_at, tagged_at}
+use Rattle.queue_certificates.specs.Certificates.{HasFields, MeetsFields, SharesTold, MeansAll, told_beside, no_hart, with_low, with_high, next_states}
+use Rattle.queue_certificates.specs.Certificates.{all_lead, is_closed, accepts}
 use Rattle.queue_certificates.specs.Effects.{effect_of, value_stored}
+use Rattle.queue_certificates.specs.TagEffects.{tag_effect_of}
 use Rattle.queue_certificates.specs.Filled.{are_so}
 use Rattle.queue_certificates.specs.declared.effect.Effect.{Effect}
-use Rattle.queue_certificates.proofs.Forms.{values_of, less_at}
-use Rattle.queue_certificates.proofs.States.{at-below, means-low, means-high, means-arrow, exceeds}
-use Rattle.queue_certificates.proofs.Steps.{IsAmong, untold}
-use Rattle.queue_certificates.proofs.Received.{none-follows, next-goes}
-use Rattle.queue_certificates.proofs.Certified.{otherwise, fine, past, OfHart, fields-received}
-use Rattle.queue_certificates.proofs.Effects.{Does}
+use Rattle.queue_certificates.proofs.Forms.{less_at}
+use Rattle.queue_certificates.proofs.States.{at-below, means-low, means-high, exceeds}
+use Rattle.queue_certificates.proofs.Steps.{untold}
+use Rattle.queue_certificates.proofs.TagShares.{told-low, told-high}
+use Rattle.queue_certificates.proofs.Accesses.{hart-party}
+use Rattle.queue_certificates.proofs.Accepted.{otherwise, fine, past, OfHart, accepted-opens}
+use Rattle.queue_certificates.proofs.Leaves.{followed, Led, among-leads, leaf-goes}
+use Rattle.queue_certificates.proofs.Effects.{Sends, does-sends}
 use Rattle.queue_certificates.proofs.Sends.{state-does}
+use Rattle.records_written.specs.Senders.{IsListed, sender_in, size_in, slot_in, published_of, effect_in}
+use Rattle.records_written.specs.declared.senders.QueueNumber.{QueueNumber}
+use Rattle.records_written.specs.declared.senders.QueueNumber.TheVariants.{Indexed, Tagged}
 use Rattle.records_written.specs.Marks.{Marks, may_publish, has_mark_after, arrows_keep, effect_keeps, keeps_marks, shows_written}
 
-module _ (M : ℕ) (o : OpeningValue) (c : QueueCertificate) (ok : accepts o c ≡ true) (i : ℕ) (less : i < length c.queues)
-    (mask : List ℕ) (marks : List Marks) (shown : shows_written o c i mask marks ≡ true) where
+-- the counts after an access of hart h
+abbrev pub indexed_then : QueueCertificate → (h : ℕ) → Access → AllCounts → AllCounts
+indexed_then c h y cs = λ j. after_access (queue_at c j) (party_of (queue_at c j) h) y (cs j)
+
+abbrev pub tagged_then : QueueCertificate → (h : ℕ) → Access → AllCounts → AllCounts
+tagged_then c h y us = (kept_beside (told_beside c)).next h y us
+
+-- what the sender of queue w sends by an access, where its instruction has this effect
+abbrev pub SendsBy : QueueCertificate → (w : QueueNumber) → (cs us : AllCounts) → Effect → Access → HartState → Type 0
+SendsBy c w cs us f y z = Sends (size_in c w) (slot_in c w) (published_of w cs us)
+    (published_of w (indexed_then c (sender_in c w) y cs) (tagged_then c (sender_in c w) y us)) f y z
+
+leaf-sends : (M : ℕ) (o : OpeningValue) (c : QueueCertificate) (ok : accepts o c ≡ true) (w : QueueNumber) → IsListed c w → (x : HartOpeningValue)
+    → OfHart M o c ok (sender_in c w) x → (s : HartState) (m : View) (cs us : AllCounts) (e : Entry)
+    → Acts M o (length c.queues) (queue_at c) (HasFields c) (MeetsFields c) (sender_in c w) s m cs e
+    → (kept_beside (told_beside c)).Knows (sender_in c w) us m → s.code ≡ x.code → length s.registers ≡ length x.registers
+    → (k : KnownState) (d : Form) (xs : List ℕ) (ts : List KnownState)
+    → MeansAt (queue_at c) (length c.queues) (own_of c (sender_in c w)) (sender_in c w) xs k s m cs → SharesTold c (sender_in c w) xs k us
+    → next_states c (sender_in c w) x.code k d ≡ Some ts → (f : Effect) → effect_in c w k d (instruction_at x.code k.pc) ≡ Some f
+    → SendsBy c w cs us f (access_of e) (advanced s (number_read e))
+leaf-sends M o c ok (Indexed i) less x of s m cs us e acts knows code size k d xs ts means told may f effect =
+    let h : ℕ = (queue_at c i).sender in
+    let found = followed c (queue_at c i).sender x.code k d ts may in
+    subst (λ n. Sends (queue_at c i).size (slot_of (queue_at c i)) (cs i).published n f (access_of e) (advanced s (number_read e)))
+    (ap (λ r. (after_access (queue_at c i) r (access_of e) (cs i)).published)
+    (sym (hart-party (queue_at c i) (accepted-opens M o c ok i less).0 (queue_at c i).sender the_sender refl)))
+    (does-sends (queue_at c i) (cs i) k.ranges (value_stored (queue_at c) k (instruction_at s.code k.pc)) m f (access_of e) (advanced s (number_read e))
+    (state-does M o (queue_at c) (length c.queues) (own_of c) (length c.harts) i less xs k s m cs e
+    (untold M o (length c.queues) (queue_at c) (HasFields c) (MeetsFields c) h s m cs e acts)
+    (subst (λ n. 32 ≤ n) (sym size) of.registers) (fine M o c ok) means (past M o c ok) d f found.0
+    (ap (λ ws. follow (queue_at c) (length c.queues) (own_of c) (length c.harts) h k d (instruction_at ws k.pc)) code ∙ found.1)
+    (ap (λ ws. effect_of (queue_at c) (length c.queues) i k d (instruction_at ws k.pc)) code ∙ effect)))
+leaf-sends M o c ok (Tagged t) less x of s m cs us e acts knows code size k d xs ts means told may f effect =
+    let its : (Option Instr → Effect) =
+    tag_effect_of (tagged_at c) (length c.tagged) (queue_at c) (length c.queues) (tagged_at c t).sender t k in
+    let goes = leaf-goes M o c ok (tagged_at c t).sender x of s m cs us e acts knows code size k d xs ts means told may in
+    subst (λ g. SendsBy c (Tagged t) cs us g (access_of e) (advanced s (number_read e)))
+    (ap (λ n. its (instruction_at s.code n)) means.pc ∙ ap (λ ws. its (instruction_at ws k.pc)) code
+    ∙ (let same : its (instruction_at x.code k.pc) ≡ f = cc in same)) (goes.sends t less refl)
+
+module _ (M : ℕ) (o : OpeningValue) (c : QueueCertificate) (ok : accepts o c ≡ true) (w : QueueNumber) (less : IsListed c w)
+    (mask : List ℕ) (marks : List Marks) (shown : shows_written o c w mask marks ≡ true) where
   abbrev h : ℕ
-  h = (queue_at c i).sender
+  h = sender_in c w
 
   abbrev states : ℕ
-  states = length (part_of c (queue_at c i).sender).states
+  states = length (part_of c (sender_in c w)).states
 
   -- what is shown of the marks of each of the sender's states
-  pub marks-keep : (x : HartOpeningValue) → slice_get o.harts (queue_at c i).sender ≡ Some x → (n : ℕ) → n < states
-      → keeps_marks c i x.code mask marks (get_or marks n []) (state_at c h n).known (state_at c h n).cases ≡ true
+  pub marks-keep : (x : HartOpeningValue) → slice_get o.harts (sender_in c w) ≡ Some x → (n : ℕ) → n < states
+      → keeps_marks c w x.code mask marks (get_or marks n []) (state_at c h n).known (state_at c h n).cases ≡ true
   marks-keep x is n listed = subst
-      (λ y. keeps_marks c i y.code mask marks (get_or marks n []) (state_at c h n).known (state_at c h n).cases ≡ true)
+      (λ y. keeps_marks c w y.code mask marks (get_or marks n []) (state_at c h n).known (state_at c h n).cases ≡ true)
       (get_or_from_slice_get o.harts h x no_hart is)
-      (at-below states (λ n. keeps_marks c i (get_or o.harts h no_hart).code mask marks (get_or marks n []) (state_at c h n).known
+      (at-below states (λ n. keeps_marks c w (get_or o.harts h no_hart).code mask marks (get_or marks n []) (state_at c h n).known
       (state_at c h n).cases) (and_parts _ _ shown).1 n listed)
 
   -- a state of the sender's whose marks are so where f says so
-  pub record Found (f : ℕ → ℕ → Bool) (z : HartState) (m : View) (cs : AllCounts) : Type 0 where
+  pub record Found (f : ℕ → ℕ → Bool) (z : HartState) (m : View) (cs us : AllCounts) : Type 0 where
     pub state : ℕ
     pub listed : state < states
-    pub means : Means (queue_at c) (length c.queues) (own_of c h) h (state_at c h state).known z m cs
+    pub means : MeansAll c h (state_at c h state).known z m cs us
     pub so : are_so (get_or marks state []) f ≡ true
 
-  found-among : (code : List ℕ) (ks : List KnownState) (arrows : List Arrow) (f : ℕ → ℕ → Bool) (z : HartState) (m : View) (cs : AllCounts)
-      → each_leads c h code ks arrows ≡ true → arrows_keep marks arrows f ≡ true
-      → IsAmong (queue_at c) (length c.queues) (own_of c) h ks z m cs → Found f z m cs
-  found-among code [] arrows f z m cs leads keep w = absurd w
-  found-among code (k ∷ ks) [] f z m cs leads keep w = absurd (cc)
-  found-among code (k ∷ ks) (a ∷ arrows) f z m cs leads keep (inl w) = record {
-    state = a.to;
-    listed = ltb-true a.to states (and_parts _ _ (and_parts _ _ leads).0).0;
-    means = (
-      values_of (map (settled k.ranges) a.forms) w.0,
-      means-arrow (queue_at c) (length c.queues) (own_of c h) h w.0 k (state_at c h a.to).known a.forms z m cs (and_parts _ _ (and_parts _ _ leads).0).1 w.1,
-    );
-    so = (and_parts _ _ keep).0;
+  found-led : (arrows : List Arrow) (f : ℕ → ℕ → Bool) (z : HartState) (m : View) (cs us : AllCounts) → arrows_keep marks arrows f ≡ true
+      → Led c h arrows z m cs us → Found f z m cs us
+  found-led arrows f z m cs us keep found = record {
+    state = found.state;
+    listed = found.listed;
+    means = found.means;
+    so = found.passes (λ bs. arrows_keep marks bs f) (λ n. are_so (get_or marks n []) f) (λ b bs both. and_parts _ _ both) keep;
   }
-  found-among code (k ∷ ks) (a ∷ arrows) f z m cs leads keep (inr w) = found-among code ks arrows f z m cs (and_parts _ _ leads).1 (and_parts _ _ keep).1 w
 
   -- what an entry comes to from a state with these marks
-  pub record Leads (ms : Marks) (m : View) (cs : AllCounts) (y : Access) (z : HartState) : Type 0 where
+  pub record Leads (ms : Marks) (m : View) (cs us : AllCounts) (y : Access) (z : HartState) : Type 0 where
     pub effect : Effect
-    pub ranges : List (Option ℕ)
-    pub stored : KnownValue
-    pub does : Does (queue_at c i) (cs i) ranges stored m effect y z
+    pub sends : SendsBy c w cs us effect y z
     pub whole : may_publish mask ms effect ≡ true
     pub next : z.status ≡ status.Running
-        → Found (has_mark_after ms effect) z (view_then y m) (λ j. after_access (queue_at c j) (party_of (queue_at c j) h) y (cs j))
+        → Found (has_mark_after ms effect) z (view_then y m) (indexed_then c (sender_in c w) y cs) (tagged_then c (sender_in c w) y us)
 
-  pub leads : (x : HartOpeningValue) → OfHart M o c ok (queue_at c i).sender x → (s : HartState) (m : View) (cs : AllCounts) (e : Entry)
-      → Acts M o (length c.queues) (queue_at c) (HasFields c) (MeetsFields c) (queue_at c i).sender s m cs e → s.code ≡ x.code
-      → length s.registers ≡ length x.registers → (ms : Marks) (k : KnownState) (t : Cases) (xs : List ℕ) → is_closed c (queue_at c i).sender x.code k t ≡ true
-      → keeps_marks c i x.code mask marks ms k t ≡ true
-      → MeansAt (queue_at c) (length c.queues) (own_of c (queue_at c i).sender) (queue_at c i).sender xs k s m cs
-      → Leads ms m cs (access_of e) (advanced s (number_read e))
-  leads x of s m cs e acts code size ms k (leaf d arrows) xs closed keeps means =
-      by (follow (queue_at c) (length c.queues) (own_of c) (length c.harts) h k d (instruction_at x.code k.pc)) refl
-      (next_states c h x.code k d) refl
-      (effect_of (queue_at c) (length c.queues) (own_of c) (length c.harts) i k d (instruction_at x.code k.pc)) refl
-      closed keeps
+  pub leads : (x : HartOpeningValue) → OfHart M o c ok (sender_in c w) x → (s : HartState) (m : View) (cs us : AllCounts) (e : Entry)
+      → Acts M o (length c.queues) (queue_at c) (HasFields c) (MeetsFields c) (sender_in c w) s m cs e
+      → (kept_beside (told_beside c)).Knows (sender_in c w) us m → s.code ≡ x.code → length s.registers ≡ length x.registers
+      → (ms : Marks) (k : KnownState) (t : Cases) (xs : List ℕ) → is_closed c (sender_in c w) x.code k t ≡ true
+      → keeps_marks c w x.code mask marks ms k t ≡ true
+      → MeansAt (queue_at c) (length c.queues) (own_of c (sender_in c w)) (sender_in c w) xs k s m cs
+      → SharesTold c (sender_in c w) xs k us → Leads ms m cs us (access_of e) (advanced s (number_read e))
+  leads x of s m cs us e acts knows code size ms k (leaf d arrows) xs closed keeps means told =
+      by (next_states c h x.code k d) refl (effect_in c w k d (instruction_at x.code k.pc)) refl closed keeps
     where
-      here : {A : Type 0} (f : Option Instr → A) → f (instruction_at s.code k.pc) ≡ f (instruction_at x.code k.pc)
-      here f = ap (λ ws. f (instruction_at ws k.pc)) code
-
-      by : (ks : Option (List KnownState))
-          → follow (queue_at c) (length c.queues) (own_of c) (length c.harts) h k d (instruction_at x.code k.pc) ≡ ks
-          → (ts : Option (List KnownState)) → next_states c h x.code k d ≡ ts
-          → (f : Option Effect) → effect_of (queue_at c) (length c.queues) (own_of c) (length c.harts) i k d (instruction_at x.code k.pc) ≡ f
-          → all_lead c h x.code ts arrows ≡ true → effect_keeps mask marks ms arrows f ≡ true
-          → Leads ms m cs (access_of e) (advanced s (number_read e))
-      by ks found None may f effect closed keeps = absurd (cc)
-      by None found (Some ts) may f effect closed keeps = absurd (none-follows (queue_at c) (fields_at c) (length c.queues) (own_of c) (length c.harts) h k
-          (instruction_at x.code k.pc) ts
-          (ap (next_received (queue_at c) (fields_at c) (length c.queues) (own_of c) (length c.harts) h k (instruction_at x.code k.pc)) (sym found) ∙ may))
-      by (Some ks) found (Some ts) may None effect closed keeps = absurd (cc)
-      by (Some ks) found (Some ts) may (Some f) effect closed keeps =
-          let plain = untold M o (length c.queues) (queue_at c) (HasFields c) (MeetsFields c) h s m cs e acts in
-          let wide : 32 ≤ length s.registers = subst (λ n. 32 ≤ n) (sym size) of.registers in
-          let goes = next-goes M o (queue_at c) (length c.queues) (own_of c) (length c.harts) h xs k s m cs e plain wide (fine M o c ok) means
-          (fields_at c) (fields-received M o c h s m cs e acts) (past M o c ok) d ts
-          (here (λ j. next_received (queue_at c) (fields_at c) (length c.queues) (own_of c) (length c.harts) h k j
-          (follow (queue_at c) (length c.queues) (own_of c) (length c.harts) h k d j)) ∙ may) in
+      by : (ts : Option (List KnownState)) → next_states c h x.code k d ≡ ts
+          → (f : Option Effect) → effect_in c w k d (instruction_at x.code k.pc) ≡ f
+          → all_lead c h ts arrows ≡ true → effect_keeps mask marks ms arrows f ≡ true
+          → Leads ms m cs us (access_of e) (advanced s (number_read e))
+      by None may f effect closed keeps = absurd (cc)
+      by (Some ts) may None effect closed keeps = absurd (cc)
+      by (Some ts) may (Some f) effect closed keeps =
+          let goes = leaf-goes M o c ok h x of s m cs us e acts knows code size k d xs ts means told may in
           record {
             effect = f;
-            ranges = k.ranges;
-            stored = value_stored (queue_at c) (length c.queues) (own_of c) (length c.harts) i k (instruction_at s.code k.pc);
-            does = state-does M o (queue_at c) (length c.queues) (own_of c) (length c.harts) i less xs k s m cs e plain wide (fine M o c ok) means
-                (past M o c ok) d f ks
-                (here (follow (queue_at c) (length c.queues) (own_of c) (length c.harts) h k d) ∙ found)
-                (here (effect_of (queue_at c) (length c.queues) (own_of c) (length c.harts) i k d) ∙ effect);
+            sends = leaf-sends M o c ok w less x of s m cs us e acts knows code size k d xs ts means told may f effect;
             whole = (and_parts _ _ keeps).0;
-            next = λ runs. found-among x.code ts arrows (has_mark_after ms f) (advanced s (number_read e)) (view_then (access_of e) m)
-                (λ j. after_access (queue_at c j) (party_of (queue_at c j) h) (access_of e) (cs j)) closed (and_parts _ _ keeps).1 (goes.next runs);
+            next = λ runs. found-led arrows (has_mark_after ms f) (advanced s (number_read e)) (view_then (access_of e) m)
+                (indexed_then c h (access_of e) cs) (tagged_then c h (access_of e) us) (and_parts _ _ keeps).1
+                (among-leads c h xs ts arrows (advanced s (number_read e)) (view_then (access_of e) m)
+                (indexed_then c h (access_of e) cs) (tagged_then c h (access_of e) us) closed (goes.next runs));
           }
-  leads x of s m cs e acts code size ms k (split j v low high) xs closed keeps means =
+  leads x of s m cs us e acts knows code size ms k (split j v low high) xs closed keeps means told =
       let beyond = exceeds (queue_at c) (length c.queues) (own_of c h) h k.ranges xs j v means.ranges in
       elim (cases_lt v (get_or xs j 0)) [
-        | inr under ↦ leads x of s m cs e acts code size ms (with_low k j v) low xs (and_parts _ _ closed).0 (and_parts _ _ keeps).0
+        | inr under ↦ leads x of s m cs us e acts knows code size ms (with_low k j v) low xs (and_parts _ _ closed).0 (and_parts _ _ keeps).0
             (means-low (queue_at c) (length c.queues) (own_of c h) h xs k s m cs j v means under)
-        | inl over ↦ leads x of s m cs e acts code size ms (with_high k j v) high (less_at j (v + 1) xs)
+            (told-low (tagged_at c) (length c.tagged) (queue_at c) (length c.queues) (own_of c) (length c.harts) h xs k us j v means.ranges under told)
+        | inl over ↦ leads x of s m cs us e acts knows code size ms (with_high k j v) high (less_at j (v + 1) xs)
             (otherwise _ _ (beyond over) (and_parts _ _ closed).1) (otherwise _ _ (beyond over) (and_parts _ _ keeps).1)
             (means-high (queue_at c) (length c.queues) (own_of c h) h xs k s m cs j v means over)
+            (told-high (tagged_at c) (length c.tagged) (queue_at c) (length c.queues) (own_of c) (length c.harts) h xs k us j v means.ranges over told)
       ]

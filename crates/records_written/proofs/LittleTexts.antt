@@ -9,24 +9,26 @@ use Rattle.queue_certificates.specs.Forms.{number}
 use Rattle.queue_certificates.specs.States.{KnownValue, any, linear}
 use Rattle.queue_certificates.specs.Certificates.{leaf, ListedState, QueueCertificate, accepts}
 use Rattle.queue_certificates.proofs.OneSlotQueue.{certificate}
+use Rattle.records_written.specs.declared.senders.QueueNumber.TheVariants.{Indexed}
 use Rattle.records_written.specs.Marks.{Marks, shows_written}
+use Rattle.queue_certificates.specs.Tags.{told_by_store}
 
 abbrev word : List ℕ
 word = 0 ∷ 1 ∷ 2 ∷ 3 ∷ []
 
 -- ---- one slot: written at pc 12, published at pc 20
 
-one_slot_written : shows_written text certificate 0 word ([] ∷ [] ∷ [] ∷ [] ∷ (word ∷ []) ∷ (word ∷ []) ∷ [] ∷ []) ≡ true
-unfolding meaning
+one_slot_written : shows_written text certificate (Indexed 0) word ([] ∷ [] ∷ [] ∷ [] ∷ (word ∷ []) ∷ (word ∷ []) ∷ [] ∷ []) ≡ true
+unfolding meaning told_by_store
 one_slot_written = refl
 
 -- marks that say less, before the store of the head, or more, after it
-one_slot_unmarked : shows_written text certificate 0 word [] ≡ false
-unfolding meaning
+one_slot_unmarked : shows_written text certificate (Indexed 0) word [] ≡ false
+unfolding meaning told_by_store
 one_slot_unmarked = refl
 
-one_slot_kept : shows_written text certificate 0 word ([] ∷ [] ∷ [] ∷ [] ∷ (word ∷ []) ∷ (word ∷ []) ∷ (word ∷ []) ∷ []) ≡ false
-unfolding meaning
+one_slot_kept : shows_written text certificate (Indexed 0) word ([] ∷ [] ∷ [] ∷ [] ∷ (word ∷ []) ∷ (word ∷ []) ∷ (word ∷ []) ∷ []) ≡ false
+unfolding meaning told_by_store
 one_slot_kept = refl
 
 -- ---- three slots
@@ -71,6 +73,7 @@ listed n own owned x1 handed = record {
 abbrev certified : List ListedState → QueueCertificate
 certified states = record {
   queues = (record { queue = three_slots; start = 0; fields = [] }) ∷ [];
+  tagged = [];
   harts = (record { own = []; first = 0; numbers = []; states = states }) ∷ [];
 }
 
@@ -86,11 +89,11 @@ abbrev five_marks : List Marks
 five_marks = [] ∷ (word ∷ []) ∷ (word ∷ word ∷ []) ∷ (word ∷ word ∷ word ∷ []) ∷ (word ∷ word ∷ word ∷ []) ∷ [] ∷ []
 
 all_filled_accepted : accepts all_filled five ≡ true
-unfolding meaning
+unfolding meaning told_by_store
 all_filled_accepted = refl
 
-all_filled_written : shows_written all_filled five 0 word five_marks ≡ true
-unfolding meaning
+all_filled_written : shows_written all_filled five (Indexed 0) word five_marks ≡ true
+unfolding meaning told_by_store
 all_filled_written = refl
 
 -- the same without the store at pc 4
@@ -102,21 +105,21 @@ four = certified (listed 0 0 3 any 0 ∷ listed 1 0 3 any 0 ∷ listed 2 0 3 any
     ∷ listed 3 0 3 (linear (number 3)) 3 ∷ listed 4 3 0 any 0 ∷ [])
 
 two_filled_accepted : accepts two_filled four ≡ true
-unfolding meaning
+unfolding meaning told_by_store
 two_filled_accepted = refl
 
 -- with the marks that are so, and with those that would do
-two_filled_unwritten : shows_written two_filled four 0 word
+two_filled_unwritten : shows_written two_filled four (Indexed 0) word
     ([] ∷ (word ∷ []) ∷ (word ∷ [] ∷ word ∷ []) ∷ (word ∷ [] ∷ word ∷ []) ∷ [] ∷ []) ≡ false
-unfolding meaning
+unfolding meaning told_by_store
 two_filled_unwritten = refl
 
-two_filled_not_so : shows_written two_filled four 0 word
+two_filled_not_so : shows_written two_filled four (Indexed 0) word
     ([] ∷ (word ∷ []) ∷ (word ∷ word ∷ word ∷ []) ∷ (word ∷ word ∷ word ∷ []) ∷ [] ∷ []) ≡ false
-unfolding meaning
+unfolding meaning told_by_store
 two_filled_not_so = refl
 
 -- of bytes 0 and 1 alone nothing else is asked
-bytes_of_mask : shows_written all_filled five 0 (0 ∷ 1 ∷ []) five_marks ≡ true
-unfolding meaning
+bytes_of_mask : shows_written all_filled five (Indexed 0) (0 ∷ 1 ∷ []) five_marks ≡ true
+unfolding meaning told_by_store
 bytes_of_mask = refl

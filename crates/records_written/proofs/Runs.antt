@@ -16,85 +16,85 @@ use Rattle.step_machine.specs.Legal.{WellFormed}
 use Rattle.step_machine.proofs.Follows.{state_after}
 use Rattle.step_machine.proofs.OwnRuns.{kept-front}
 use Rattle.store_buffers.proofs.OwnEntries.{same_state, next_state, own_parts}
-use Rattle.slot_queue.specs.Queues.{Queue, slot_of}
-use Rattle.slot_queue.specs.Ownership.{party_of, after_access, counts_after}
+use Rattle.slot_queue.specs.Ownership.{counts_after}
 use Rattle.queue_parties.specs.Parties.{the_sender, all_at}
-use Rattle.owned_run.specs.Certified.{View, AllCounts, view_then, IsSameFor}
+use Rattle.owned_run.specs.Certified.{View, AllCounts, view_then, IsSameFor, kept_beside}
 use Rattle.owned_run.proofs.Every as every
-use Rattle.queue_certificates.specs.States.{KnownValue, Means}
-use Rattle.queue_certificates.specs.Certificates.{QueueCertificate, queue_at, start_at, part_of, own_of, state_at, HasFields, MeetsFields}
-use Rattle.queue_certificates.specs.Certificates.{IsOwnByte, IsAtState, accepts}
+use Rattle.queue_certificates.specs.States.{KnownState}
+use Rattle.queue_certificates.specs.Certificates.{QueueCertificate, queue_at, start_at, part_of, own_of, state_at, tagged_at, told_beside}
+use Rattle.queue_certificates.specs.Certificates.{IsKeptByte, MeansAll, accepts}
 use Rattle.queue_certificates.specs.Filled.{most_published}
 use Rattle.queue_certificates.specs.declared.effect.Effect.{Effect}
 use Rattle.queue_certificates.specs.declared.effect.Effect.TheVariants.{Leaves, Fills, Publishes, PublishesSome}
 use Rattle.queue_certificates.proofs.States.{means-frame}
-use Rattle.queue_certificates.proofs.Accesses.{hart-party}
 use Rattle.queue_certificates.proofs.Filled.{so-listed}
-use Rattle.queue_certificates.proofs.Effects.{published_then, IsDone}
-use Rattle.queue_certificates.proofs.Certified.{accepted-opens, accepted-certifies, of-hart, opens-means}
+use Rattle.queue_certificates.proofs.Effects.{IsSent, Sends}
+use Rattle.queue_certificates.proofs.TagShares.{told-frame, told-opens}
+use Rattle.queue_certificates.proofs.Accepted.{fine-tagged, of-hart, opens-means}
+use Rattle.queue_certificates.proofs.EveryRun.{sets}
+use Rattle.records_written.specs.declared.senders.QueueNumber.{QueueNumber}
+use Rattle.records_written.specs.declared.senders.QueueNumber.TheVariants.{Indexed, Tagged}
+use Rattle.records_written.specs.Senders.{IsListed, sender_in, size_in, slot_in, published_of, published_after}
 use Rattle.records_written.specs.Written.{IsWritten}
 use Rattle.records_written.specs.Marks.{Marks, has_mark, has_mark_after, shows_written}
 use Rattle.records_written.proofs.Marked.{whole-at}
-use Rattle.records_written.proofs.Leading.{marks-keep, Leads, leads}
+use Rattle.records_written.proofs.Leading.{indexed_then, tagged_then, marks-keep, Leads, leads}
 
 -- ---- a byte that is written stays so
 
-later : (q : Queue) (n : ℕ) (es : List Entry) (e : Entry) (k x : ℕ) → IsWritten q n es k x → IsWritten q n (es ++ e ∷ []) k x
-later q n es e k x w = record {
-  before = w.before;
-  writes = w.writes;
-  since = w.since ++ e ∷ [];
-  is = ap (λ fs. fs ++ e ∷ []) w.is ∙ append_assoc w.before (w.writes ∷ w.since) (e ∷ []);
-  sender = w.sender;
-  byte = w.byte;
-  after = w.after;
+later : (c : QueueCertificate) (w : QueueNumber) (es : List Entry) (e : Entry) (k x : ℕ) → IsWritten c w es k x → IsWritten c w (es ++ e ∷ []) k x
+later c w es e k x is = record {
+  before = is.before;
+  writes = is.writes;
+  since = is.since ++ e ∷ [];
+  is = ap (λ fs. fs ++ e ∷ []) is.is ∙ append_assoc is.before (is.writes ∷ is.since) (e ∷ []);
+  sender = is.sender;
+  byte = is.byte;
+  after = is.after;
 }
 
--- these marks are so after these entries
-abbrev AreWritten : Queue → (n : ℕ) → Marks → List Entry → Type 0
-AreWritten q n ms es = (d b : ℕ) → has_mark ms d b ≡ true
-    → IsWritten q n es ((counts_after q (all_at n) es).published + d) (slot_of q ((counts_after q (all_at n) es).published + d) + b)
+module _ (c : QueueCertificate) (w : QueueNumber) where
+  -- the byte of position k's slot at an offset is
+  abbrev IsWrittenAt : List Entry → (k b : ℕ) → Type 0
+  IsWrittenAt es k b = IsWritten c w es k (slot_in c w k + b)
 
--- the same position is d further than the count, after an entry that publishes
-written-on : (q : Queue) (n : ℕ) (es : List Entry) (e : Entry) (p d b : ℕ) → (counts_after q (all_at n) (es ++ e ∷ [])).published + d ≡ p
-    → IsWritten q n es p (slot_of q p + b) → IsWritten q n (es ++ e ∷ []) ((counts_after q (all_at n) (es ++ e ∷ [])).published + d)
-    (slot_of q ((counts_after q (all_at n) (es ++ e ∷ [])).published + d) + b)
-written-on q n es e p d b same w = subst (λ k. IsWritten q n (es ++ e ∷ []) k (slot_of q k + b)) (sym same) (later q n es e p (slot_of q p + b) w)
+  -- these marks are so after these entries
+  abbrev AreWritten : Marks → List Entry → Type 0
+  AreWritten ms es = (d b : ℕ) → has_mark ms d b ≡ true → IsWrittenAt es (published_after c w es + d) b
 
--- after an entry of the sender's whose effect is done, its marks are so
-marks-after : (q : Queue) (n : ℕ) (es : List Entry) (e : Entry) (ms : Marks) (rs : List (Option ℕ)) (u : KnownValue) (view : View) (f : Effect)
-    → hart_of e ≡ q.sender
-    → published_then q (counts_after q (all_at n) es) (access_of e) ≡ (counts_after q (all_at n) (es ++ e ∷ [])).published
-    → AreWritten q n ms es → IsDone q (counts_after q (all_at n) es) rs u view f (access_of e) → (d b : ℕ) → has_mark_after ms f d b ≡ true
-    → IsWritten q n (es ++ e ∷ []) ((counts_after q (all_at n) (es ++ e ∷ [])).published + d)
-    (slot_of q ((counts_after q (all_at n) (es ++ e ∷ [])).published + d) + b)
-marks-after q n es e ms rs u view Leaves mine to so done d b marked =
-    written-on q n es e ((counts_after q (all_at n) es).published + d) d b (omega (arith, to, done.0)) (so d b marked)
-marks-after q n es e ms rs u view (Publishes m) mine to so done d b marked =
-    written-on q n es e ((counts_after q (all_at n) es).published + (d + m)) d b (omega (arith, to, done.0)) (so (d + m) b marked)
-marks-after q n es e ms rs u view (PublishesSome m) mine to so done d b marked = absurd (cc)
-marks-after q n es e ms rs u view (Fills j offset width) mine to so done d b marked =
-    elim (or_cases ((j == d) && nat_le offset b && nat_lt b (offset + width)) (has_mark ms d b) marked) [
-      | inr old ↦ written-on q n es e ((counts_after q (all_at n) es).published + d) d b (omega (arith, to, done.0)) (so d b old)
-      | inl new ↦ (
-          let to-same : (counts_after q (all_at n) (es ++ e ∷ [])).published ≡ (counts_after q (all_at n) es).published = sym to ∙ done.0 in
-          let front : ((j == d) && nat_le offset b) ≡ true = (and_parts _ _ new).0 in
-          let at : j ≡ d = eqb-true j d (and_parts (j == d) (nat_le offset b) front).0 in
-          let low : offset ≤ b = leb-true offset b (and_parts (j == d) (nat_le offset b) front).1 in
-          let high : b < offset + width = ltb-true b (offset + width) (and_parts ((j == d) && nat_le offset b) (nat_lt b (offset + width)) new).1 in
-          subst (λ k. IsWritten q n (es ++ e ∷ []) k (slot_of q k + b))
-          (let same : (counts_after q (all_at n) es).published + j ≡ (counts_after q (all_at n) (es ++ e ∷ [])).published + d =
-          omega (arith, to, done.0, at) in same)
-          (record {
-            before = es;
-            writes = e;
-            since = [];
-            is = refl;
-            sender = mine;
-            byte = done.1.bytes b low high;
-            after = omega (arith, done.1.written.near);
-          }))
-    ]
+  -- the same position is d further than the count, after an entry that publishes
+  written-on : (es : List Entry) (e : Entry) (p d b : ℕ) → published_after c w (es ++ e ∷ []) + d ≡ p → IsWrittenAt es p b
+      → IsWrittenAt (es ++ e ∷ []) (published_after c w (es ++ e ∷ []) + d) b
+  written-on es e p d b same is = subst (λ k. IsWrittenAt (es ++ e ∷ []) k b) (sym same) (later c w es e p (slot_in c w p + b) is)
+
+  -- after an entry of the sender's whose effect is done, its marks are so
+  marks-after : (es : List Entry) (e : Entry) (ms : Marks) (f : Effect) → hart_of e ≡ sender_in c w → AreWritten ms es
+      → IsSent (size_in c w) (slot_in c w) (published_after c w es) (published_after c w (es ++ e ∷ [])) f (access_of e) → (d b : ℕ)
+      → has_mark_after ms f d b ≡ true → IsWrittenAt (es ++ e ∷ []) (published_after c w (es ++ e ∷ []) + d) b
+  marks-after es e ms Leaves mine so to d b marked = written-on es e (published_after c w es + d) d b (omega (arith, to)) (so d b marked)
+  marks-after es e ms (Publishes m) mine so to d b marked =
+      written-on es e (published_after c w es + (d + m)) d b (omega (arith, to)) (so (d + m) b marked)
+  marks-after es e ms (PublishesSome m) mine so to d b marked = absurd (cc)
+  marks-after es e ms (Fills j offset width) mine so sent d b marked =
+      elim (or_cases ((j == d) && nat_le offset b && nat_lt b (offset + width)) (has_mark ms d b) marked) [
+        | inr old ↦ written-on es e (published_after c w es + d) d b (omega (arith, sent.0)) (so d b old)
+        | inl new ↦ (
+            let front : ((j == d) && nat_le offset b) ≡ true = (and_parts _ _ new).0 in
+            let at : j ≡ d = eqb-true j d (and_parts (j == d) (nat_le offset b) front).0 in
+            let low : offset ≤ b = leb-true offset b (and_parts (j == d) (nat_le offset b) front).1 in
+            let high : b < offset + width = ltb-true b (offset + width) (and_parts ((j == d) && nat_le offset b) (nat_lt b (offset + width)) new).1 in
+            subst (λ k. IsWrittenAt (es ++ e ∷ []) k b)
+            (let same : published_after c w es + j ≡ published_after c w (es ++ e ∷ []) + d = omega (arith, sent.0, at) in same)
+            (record {
+              before = es;
+              writes = e;
+              since = [];
+              is = refl;
+              sender = mine;
+              byte = sent.2 b low high;
+              after = omega (arith, sent.1);
+            }))
+      ]
 
 module _ (B M : ℕ) (o : OpeningValue) (c : QueueCertificate) (ok : accepts o c ≡ true) where
   -- what hart h reads at each byte
@@ -105,59 +105,66 @@ module _ (B M : ℕ) (o : OpeningValue) (c : QueueCertificate) (ok : accepts o c
   abbrev Counted : List Entry → AllCounts
   Counted done = λ j. counts_after (queue_at c j) (all_at (start_at c j)) done
 
-  -- what a certificate that is accepted gives of a run
-  abbrev Holds : List Entry → Type 0
-  Holds = every.Holds B M o (length c.queues) (queue_at c) (start_at c) (HasFields c) (MeetsFields c) (IsOwnByte c) (IsAtState c)
-      (accepted-opens M o c ok) (accepted-certifies M o c ok)
+  -- and of each queue with tags
+  abbrev Told : List Entry → AllCounts
+  Told done = every.CountedBeside (sets B M o c ok) done
 
-  holds : (es : List Entry) → WellFormed B M (history_of o es) → Holds es
-  holds = every.holds B M o (length c.queues) (queue_at c) (start_at c) (HasFields c) (MeetsFields c) (IsOwnByte c) (IsAtState c)
-      (accepted-opens M o c ok) (accepted-certifies M o c ok)
+  -- what a state means stays so, where its hart sees the same
+  still-means : (h : ℕ) (k : KnownState) (z : HartState) (m n : View) (cs ds us vs : AllCounts) → MeansAll c h k z m cs us
+      → ((x : ℕ) → IsKeptByte c h x → n x ≡ m x) → ((j : ℕ) → j < length c.queues → IsSameFor (queue_at c j) h (cs j) (ds j))
+      → (kept_beside (told_beside c)).IsSame h us vs → MeansAll c h k z n ds vs
+  still-means h k z m n cs ds us vs w bytes same told = (
+    w.0,
+    means-frame (queue_at c) (length c.queues) (own_of c h) h w.0 k z m n cs ds w.1 (λ j x short low high. bytes x (j, short, low, high)) same,
+    told-frame (tagged_at c) (length c.tagged) (queue_at c) (length c.queues) (own_of c) (length c.harts) h w.0 k us vs w.2 told,
+  )
 
-  module _ (i : ℕ) (less : i < length c.queues) (mask : List ℕ) (marks : List Marks) (shown : shows_written o c i mask marks ≡ true) where
+  module _ (done : List Entry) (e : Entry) (run : WellFormed B M (history_of o (done ++ e ∷ []))) (holds : every.Holds (sets B M o c ok) done) where
+    -- another hart's entry, and a landing, publish nothing
+    count-left : (w : QueueNumber) → IsListed c w → is_own (sender_in c w) e ≡ false → published_after c w (done ++ e ∷ []) ≡ published_after c w done
+    count-left (Indexed i) less off = (every.counts_left (sets B M o c ok) done e run holds (queue_at c i).sender off i less).count the_sender refl
+    count-left (Tagged t) less off = (every.beside_left (sets B M o c ok) done e run holds (tagged_at c t).sender off t less).count the_sender refl
+
+    -- and the sender's own what its access does
+    count-acted : (w : QueueNumber) → IsListed c w → hart_of e ≡ sender_in c w
+        → published_of w (indexed_then c (sender_in c w) (access_of e) (Counted done)) (tagged_then c (sender_in c w) (access_of e) (Told done))
+        ≡ published_after c w (done ++ e ∷ [])
+    count-acted (Indexed i) less mine =
+        sym ((every.counts_acted (sets B M o c ok) done e run holds (queue_at c i).sender mine i).count the_sender refl)
+    count-acted (Tagged t) less mine =
+        sym ((every.beside_acted (sets B M o c ok) done e run holds (tagged_at c t).sender mine t less).count the_sender refl)
+
+  module _ (w : QueueNumber) (less : IsListed c w) (mask : List ℕ) (marks : List Marks) (shown : shows_written o c w mask marks ≡ true) where
     abbrev h : ℕ
-    h = (queue_at c i).sender
+    h = sender_in c w
 
     -- a listed state of the sender's, and its marks
     record IsMarked (done : List Entry) (s : HartState) : Type 0 where
       state : ℕ
       listed : state < length (part_of c h).states
-      means : Means (queue_at c) (length c.queues) (own_of c h) h (state_at c h state).known s (Sees h done) (Counted done)
-      written : AreWritten (queue_at c i) (start_at c i) (get_or marks state []) done
+      means : MeansAll c h (state_at c h state).known s (Sees h done) (Counted done) (Told done)
+      written : AreWritten c w (get_or marks state []) done
 
     -- a sender that runs is in such a state
     abbrev StaysMarked : List Entry → Type 0
     StaysMarked done = (s : HartState) → state_of M (history_of o done) h ≡ Some s → s.status ≡ status.Running → IsMarked done s
 
     module _ (done : List Entry) (e : Entry) (run : WellFormed B M (history_of o (done ++ e ∷ []))) (marked : StaysMarked done) where
-      w : Holds done
-      w = holds done (kept-front B M o done (e ∷ []) run)
-
-      -- of another hart's entry, and of landings, the sender's counts are the same
-      left : is_own h e ≡ false → (j : ℕ) → j < length c.queues → IsSameFor (queue_at c j) h (Counted done j) (Counted (done ++ e ∷ []) j)
-      left = every.counts_left B M o (length c.queues) (queue_at c) (start_at c) (HasFields c) (MeetsFields c) (IsOwnByte c) (IsAtState c)
-          (accepted-opens M o c ok) (accepted-certifies M o c ok) done e run w h
-
-      -- and after one of its own they are those that its access makes
-      acted : hart_of e ≡ h → (j : ℕ) → IsSameFor (queue_at c j) h
-          (after_access (queue_at c j) (party_of (queue_at c j) h) (access_of e) (Counted done j)) (Counted (done ++ e ∷ []) j)
-      acted = every.counts_acted B M o (length c.queues) (queue_at c) (start_at c) (HasFields c) (MeetsFields c) (IsOwnByte c) (IsAtState c)
-          (accepted-opens M o c ok) (accepted-certifies M o c ok) done e run w h
+      holds : every.Holds (sets B M o c ok) done
+      holds = every.holds (sets B M o c ok) done (kept-front B M o done (e ∷ []) run)
 
       -- an entry of the sender's, from its state and the marks of it
       record Stepped : Type 0 where
         state : HartState
         at : state_of M (history_of o done) h ≡ Some state
         ms : Marks
-        written : AreWritten (queue_at c i) (start_at c i) ms done
-        leading : Leads M o c ok i less mask marks shown ms (Sees h done) (Counted done) (access_of e) (advanced state (number_read e))
+        written : AreWritten c w ms done
+        leading : Leads M o c ok w less mask marks shown ms (Sees h done) (Counted done) (Told done) (access_of e) (advanced state (number_read e))
 
       stepped : hart_of e ≡ h → is_land e ≡ false → Stepped
       stepped mine act =
-          let k = every.state_known B M o (length c.queues) (queue_at c) (start_at c) (HasFields c) (MeetsFields c) (IsOwnByte c) (IsAtState c)
-          (accepted-opens M o c ok) (accepted-certifies M o c ok) done e run w h mine in
-          let a = every.acts B M o (length c.queues) (queue_at c) (start_at c) (HasFields c) (MeetsFields c) (IsOwnByte c) (IsAtState c)
-          (accepted-opens M o c ok) (accepted-certifies M o c ok) done e run w h k.0 mine act k.1 in
+          let k = every.state_known (sets B M o c ok) done e run holds h mine in
+          let a = every.acts (sets B M o c ok) done e run holds h k.0 mine act k.1 in
           let m = marked k.0 k.1 a.can.running in
           let of = of-hart M o c ok h a.opens a.is in
           record {
@@ -165,17 +172,17 @@ module _ (B M : ℕ) (o : OpeningValue) (c : QueueCertificate) (ok : accepts o c
             at = k.1;
             ms = get_or marks m.state [];
             written = m.written;
-            leading = leads M o c ok i less mask marks shown a.opens of k.0 (Sees h done) (Counted done) e a a.code a.size (get_or marks m.state [])
+            leading = leads M o c ok w less mask marks shown a.opens of k.0 (Sees h done) (Counted done) (Told done) e a
+                (every.knows_beside (sets B M o c ok) done holds h) a.code a.size (get_or marks m.state [])
                 (state_at c h m.state).known (state_at c h m.state).cases m.means.0 (of.closed m.state m.listed)
-                (marks-keep M o c ok i less mask marks shown a.opens a.is m.state m.listed) m.means.1;
+                (marks-keep M o c ok w less mask marks shown a.opens a.is m.state m.listed) m.means.1 m.means.2;
           }
 
-      published-is : hart_of e ≡ h
-          → published_then (queue_at c i) (Counted done i) (access_of e) ≡ (Counted (done ++ e ∷ []) i).published
-      published-is mine =
-          ap (λ t. (after_access (queue_at c i) t (access_of e) (Counted done i)).published)
-          (sym (hart-party (queue_at c i) (accepted-opens M o c ok i less).0 h the_sender refl))
-          ∙ sym ((acted mine i).count the_sender refl)
+      -- what it sends, by the counts of the run
+      sends : (mine : hart_of e ≡ h) (act : is_land e ≡ false) → Sends (size_in c w) (slot_in c w) (published_after c w done)
+          (published_after c w (done ++ e ∷ [])) (stepped mine act).leading.effect (access_of e) (advanced (stepped mine act).state (number_read e))
+      sends mine act = subst (λ n. Sends (size_in c w) (slot_in c w) (published_after c w done) n (stepped mine act).leading.effect (access_of e)
+          (advanced (stepped mine act).state (number_read e))) (count-acted done e run holds w less mine) (stepped mine act).leading.sends
 
       marked-next : StaysMarked (done ++ e ∷ [])
       marked-next z at runs = by (is_own h e) refl
@@ -183,19 +190,15 @@ module _ (B M : ℕ) (o : OpeningValue) (c : QueueCertificate) (ok : accepts o c
           by : (b : Bool) → is_own h e ≡ b → IsMarked (done ++ e ∷ []) z
           by false off =
               let m = marked z (same_state M o done e h off z at) runs in
+              let kept : published_after c w (done ++ e ∷ []) ≡ published_after c w done = count-left done e run holds w less off in
               record {
                 state = m.state;
                 listed = m.listed;
-                means = (
-                  m.means.0,
-                  means-frame (queue_at c) (length c.queues) (own_of c h) h m.means.0 (state_at c h m.state).known z (Sees h done) (Sees h (done ++ e ∷ []))
-                      (Counted done) (Counted (done ++ e ∷ [])) m.means.1 (λ j x short low high.
-                      every.view_other B M o (length c.queues) (queue_at c) (start_at c) (HasFields c) (MeetsFields c) (IsOwnByte c) (IsAtState c)
-                      (accepted-opens M o c ok) (accepted-certifies M o c ok) done e run w h x (inl (j, short, low, high)) off) (left off),
-                );
-                written = λ d b is. written-on (queue_at c i) (start_at c i) done e ((Counted done i).published + d) d b
-                    (let kept : (Counted (done ++ e ∷ []) i).published ≡ (Counted done i).published = (left off i less).count the_sender refl in
-                    omega (arith, kept)) (m.written d b is);
+                means = still-means h (state_at c h m.state).known z (Sees h done) (Sees h (done ++ e ∷ [])) (Counted done) (Counted (done ++ e ∷ []))
+                    (Told done) (Told (done ++ e ∷ [])) m.means
+                    (λ x kept. every.view_other (sets B M o c ok) done e run holds h x (inl kept) off)
+                    (every.counts_left (sets B M o c ok) done e run holds h off) (every.beside_left (sets B M o c ok) done e run holds h off);
+                written = λ d b is. written-on c w done e (published_after c w done + d) d b (omega (arith, kept)) (m.written d b is);
               }
           by true on =
               let parts = own_parts h e on in
@@ -206,39 +209,33 @@ module _ (B M : ℕ) (o : OpeningValue) (c : QueueCertificate) (ok : accepts o c
               record {
                 state = found.state;
                 listed = found.listed;
-                means = subst (λ y. Means (queue_at c) (length c.queues) (own_of c h) h (state_at c h found.state).known y (Sees h (done ++ e ∷ []))
-                    (Counted (done ++ e ∷ []))) same (
-                      found.means.0,
-                      means-frame (queue_at c) (length c.queues) (own_of c h) h found.means.0 (state_at c h found.state).known
-                          (advanced st.state (number_read e)) (view_then (access_of e) (Sees h done)) (Sees h (done ++ e ∷ []))
-                          (λ j. after_access (queue_at c j) (party_of (queue_at c j) h) (access_of e) (Counted done j)) (Counted (done ++ e ∷ [])) found.means.1
-                          (λ j x short low high.
-                          every.view_acted B M o (length c.queues) (queue_at c) (start_at c) (HasFields c) (MeetsFields c) (IsOwnByte c) (IsAtState c)
-                          (accepted-opens M o c ok) (accepted-certifies M o c ok) done e run w h x parts.0 parts.1) (λ j short. acted parts.0 j),
-                    );
-                written = λ d b is. marks-after (queue_at c i) (start_at c i) done e st.ms st.leading.ranges st.leading.stored (Sees h done)
-                    st.leading.effect parts.0 (published-is parts.0) st.written
-                    (st.leading.does.done running) d b (so-listed (get_or marks found.state []) (has_mark_after st.ms st.leading.effect) found.so d b is);
+                means = subst (λ y. MeansAll c h (state_at c h found.state).known y (Sees h (done ++ e ∷ [])) (Counted (done ++ e ∷ []))
+                    (Told (done ++ e ∷ []))) same
+                    (still-means h (state_at c h found.state).known (advanced st.state (number_read e)) (view_then (access_of e) (Sees h done))
+                    (Sees h (done ++ e ∷ [])) (indexed_then c h (access_of e) (Counted done)) (Counted (done ++ e ∷ []))
+                    (tagged_then c h (access_of e) (Told done)) (Told (done ++ e ∷ [])) found.means
+                    (λ x kept. every.view_acted (sets B M o c ok) done e run holds h x parts.0 parts.1)
+                    (λ j short. every.counts_acted (sets B M o c ok) done e run holds h parts.0 j)
+                    (every.beside_acted (sets B M o c ok) done e run holds h parts.0));
+                written = λ d b is. marks-after c w done e st.ms st.leading.effect parts.0 st.written ((sends parts.0 parts.1).done running) d b
+                    (so-listed (get_or marks found.state []) (has_mark_after st.ms st.leading.effect) found.so d b is);
               }
 
       -- what it publishes was written
-      written-there : (k : ℕ) → (Counted done i).published ≤ k → k < (Counted (done ++ e ∷ []) i).published → (b : ℕ) → Contains mask b
-          → IsWritten (queue_at c i) (start_at c i) done k (slot_of (queue_at c i) k + b)
+      written-there : (k : ℕ) → published_after c w done ≤ k → k < published_after c w (done ++ e ∷ []) → (b : ℕ) → Contains mask b → IsWrittenAt c w done k b
       written-there k from past b among = by (is_own h e) refl
         where
-          by : (t : Bool) → is_own h e ≡ t → IsWritten (queue_at c i) (start_at c i) done k (slot_of (queue_at c i) k + b)
-          by false off = absurd (let same : (Counted (done ++ e ∷ []) i).published ≡ (Counted done i).published =
-              (left off i less).count the_sender refl in omega (arith, same, from, past))
+          by : (t : Bool) → is_own h e ≡ t → IsWrittenAt c w done k b
+          by false off = absurd (let same : published_after c w (done ++ e ∷ []) ≡ published_after c w done = count-left done e run holds w less off in
+              omega (arith, same, from, past))
           by true on =
               let parts = own_parts h e on in
               let st = stepped parts.0 parts.1 in
-              let upto : published_then (queue_at c i) (Counted done i) (access_of e) ≤ (Counted done i).published + most_published st.leading.effect =
-              st.leading.does.upto in
-              let to : published_then (queue_at c i) (Counted done i) (access_of e) ≡ (Counted (done ++ e ∷ []) i).published = published-is parts.0 in
-              subst (λ p. IsWritten (queue_at c i) (start_at c i) done p (slot_of (queue_at c i) p + b))
-              (let at : (Counted done i).published + (k - (Counted done i).published) ≡ k = omega (arith, from) in at)
-              (st.written (k - (Counted done i).published) b
-              (whole-at mask st.ms st.leading.effect st.leading.whole (k - (Counted done i).published) (omega (arith, upto, to, from, past)) b among))
+              let upto : published_after c w (done ++ e ∷ []) ≤ published_after c w done + most_published st.leading.effect = (sends parts.0 parts.1).upto in
+              subst (λ p. IsWrittenAt c w done p b)
+              (let at : published_after c w done + (k - published_after c w done) ≡ k = omega (arith, from) in at)
+              (st.written (k - published_after c w done) b
+              (whole-at mask st.ms st.leading.effect st.leading.whole (k - published_after c w done) (omega (arith, upto, from, past)) b among))
 
     first : StaysMarked []
     first s at runs = opened (slice_get o.harts h) refl at
@@ -254,6 +251,7 @@ module _ (B M : ℕ) (o : OpeningValue) (c : QueueCertificate) (ok : accepts o c
               means = (
                 (part_of c h).numbers,
                 opens-means M o c ok h x (state_at c h (part_of c h).first).known (part_of c h).numbers of.opens,
+                told-opens c h (state_at c h (part_of c h).first).known (part_of c h).numbers (fine-tagged M o c ok) of.told,
               );
               written = λ d b marked. absurd (let no : false ≡ true =
                   so-listed (get_or marks (part_of c h).first []) (λ d b. false) (and_parts _ _ shown).0 d b marked in
@@ -269,7 +267,5 @@ module _ (B M : ℕ) (o : OpeningValue) (c : QueueCertificate) (ok : accepts o c
 
     -- EVERY record, in every run, is written before it is published
     pub each_written : (es : List Entry) (e : Entry) → WellFormed B M (history_of o (es ++ e ∷ [])) → (k : ℕ)
-        → (counts_after (queue_at c i) (all_at (start_at c i)) es).published ≤ k
-        → k < (counts_after (queue_at c i) (all_at (start_at c i)) (es ++ e ∷ [])).published → (b : ℕ) → Contains mask b
-        → IsWritten (queue_at c i) (start_at c i) es k (slot_of (queue_at c i) k + b)
+        → published_after c w es ≤ k → k < published_after c w (es ++ e ∷ []) → (b : ℕ) → Contains mask b → IsWritten c w es k (slot_in c w k + b)
     each_written es e run = written-there es e run (from [] es (kept-front B M o es (e ∷ []) run) first)

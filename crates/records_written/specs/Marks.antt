@@ -6,10 +6,11 @@ use Rattle.std.specs.List.{list_all, list_any}
 use Rattle.step_machine.specs.History.{OpeningValue}
 use Rattle.queue_certificates.specs.States.{KnownState}
 use Rattle.queue_certificates.specs.Steps.{all_below, instruction_at}
-use Rattle.queue_certificates.specs.Effects.{effect_of}
 use Rattle.queue_certificates.specs.Filled.{are_so, most_published}
-use Rattle.queue_certificates.specs.Certificates.{Arrow, Cases, leaf, split, QueueCertificate, queue_at, part_of, own_of, state_at}
+use Rattle.queue_certificates.specs.Certificates.{Arrow, Cases, leaf, split, QueueCertificate, part_of, state_at}
 use Rattle.queue_certificates.specs.Certificates.{no_hart, with_low, with_high, may_exceed}
+use Rattle.records_written.specs.Senders.{sender_in, effect_in}
+use Rattle.records_written.specs.declared.senders.QueueNumber.{QueueNumber}
 use Rattle.queue_certificates.specs.declared.effect.Effect.{Effect}
 use Rattle.queue_certificates.specs.declared.effect.Effect.TheVariants.{Leaves, Fills, Publishes, PublishesSome}
 
@@ -43,19 +44,18 @@ abbrev pub effect_keeps : (mask : List ℕ) (marks : List Marks) → Marks → L
 effect_keeps mask marks ms arrows None = false
 effect_keeps mask marks ms arrows (Some e) = may_publish mask ms e && arrows_keep marks arrows (has_mark_after ms e)
 
-module _ (c : QueueCertificate) (i : ℕ) (code : List ℕ) (mask : List ℕ) (marks : List Marks) where
+module _ (c : QueueCertificate) (w : QueueNumber) (code : List ℕ) (mask : List ℕ) (marks : List Marks) where
   abbrev pub keeps_marks : Marks → KnownState → Cases → Bool
-  keeps_marks ms k (leaf d arrows) = effect_keeps mask marks ms arrows
-      (effect_of (queue_at c) (length c.queues) (own_of c) (length c.harts) i k d (instruction_at code k.pc))
+  keeps_marks ms k (leaf d arrows) = effect_keeps mask marks ms arrows (effect_in c w k d (instruction_at code k.pc))
   keeps_marks ms k (split j v low high) = keeps_marks ms (with_low k j v) low
       && (not (may_exceed v (get_or k.ranges j (Some 0))) || keeps_marks ms (with_high k j v) high)
 
--- With these marks of the states of queue i's sender: the certificate shows that it writes the bytes of the mask of each record
-abbrev pub shows_written : OpeningValue → QueueCertificate → (i : ℕ) → (mask : List ℕ) → List Marks → Bool
-shows_written o c i mask marks = are_so (get_or marks (part_of c (queue_at c i).sender).first []) (λ d b. false)
-    && all_below (length (part_of c (queue_at c i).sender).states) (λ n. keeps_marks c i (get_or o.harts (queue_at c i).sender no_hart).code mask marks
-    (get_or marks n []) (state_at c (queue_at c i).sender n).known (state_at c (queue_at c i).sender n).cases)
+-- With these marks of the states of queue w's sender: the certificate shows that it writes the bytes of the mask of each record
+abbrev pub shows_written : OpeningValue → QueueCertificate → (w : QueueNumber) → (mask : List ℕ) → List Marks → Bool
+shows_written o c w mask marks = are_so (get_or marks (part_of c (sender_in c w)).first []) (λ d b. false)
+    && all_below (length (part_of c (sender_in c w)).states) (λ n. keeps_marks c w (get_or o.harts (sender_in c w) no_hart).code mask marks
+    (get_or marks n []) (state_at c (sender_in c w) n).known (state_at c (sender_in c w) n).cases)
 
 -- there are such marks
-abbrev pub IsShownWritten : OpeningValue → QueueCertificate → (i : ℕ) → (mask : List ℕ) → Type 0
-IsShownWritten o c i mask = (marks : List Marks) × (shows_written o c i mask marks ≡ true)
+abbrev pub IsShownWritten : OpeningValue → QueueCertificate → (w : QueueNumber) → (mask : List ℕ) → Type 0
+IsShownWritten o c w mask = (marks : List Marks) × (shows_written o c w mask marks ≡ true)

@@ -1,23 +1,24 @@
 //! The first byte of records that isn't shown to be written.
 
 ghost use Rattle.std.specs.Prelude.{◌≡◌, ◌<◌, IfOk, IfSome, None, length};
-ghost use Rattle.queue_certificates.specs.Certificates.{queue_at, part_of};
+ghost use Rattle.queue_certificates.specs.Certificates.{part_of};
+ghost use Rattle.records_written.specs.Senders.{sender_in};
 ghost use Rattle.records_written.specs.Marks.{IsShownWritten};
 
 use crate::keeping::has_mark;
 use crate::leaves::{Leaf, StateLeaves, sender_leaves};
 use crate::marking::StateMarks;
 use crate::searching::most_marks;
+use crate::senders::{QueueNumber, sender_in};
 use crate::showing::{first_state, shows_written};
 use known_values::Lack;
-use known_values::queues::queue_in;
 use queue_checker::QueueCertificate;
 use queue_checker::effects::most_published;
 use queue_checker::sites::{listed_states, small};
 use std::alloc::Global;
 use step_machine::Opening;
 
-/// The first byte of the mask that isn't shown to be written, in the records of queue `i`: at the sender's state of this number, which
+/// The first byte of the mask that isn't shown to be written, in the records of a queue: at the sender's state of this number, which
 /// publishes.
 #[derive(Clone, Copy)]
 pub struct Unwritten {
@@ -103,16 +104,16 @@ fn judged(
     alloc: Global,
     opening: &Opening,
     certificate: &QueueCertificate,
-    i: u32,
+    queue: QueueNumber,
     mask: &[u64],
     states: u32,
     all: &[StateLeaves],
     marks: &[StateMarks],
 ) -> Result<Option<Unwritten>, Lack>
-    ensures shown { IfOk result (λ unwritten. unwritten ≡ None → IsShownWritten opening.now certificate.now i mask.now) }
+    ensures shown { IfOk result (λ unwritten. unwritten ≡ None → IsShownWritten opening.now certificate.now queue mask.now) }
     ensures within { IfOk result (λ unwritten. IfSome unwritten (λ u. u.state < states)) }
 {
-    let shows = shows_written(alloc, opening, certificate, i, mask, marks)?;
+    let shows = shows_written(alloc, opening, certificate, queue, mask, marks)?;
     if shows {
         return Ok(None);
     }
@@ -127,23 +128,32 @@ fn judged(
     }
 }
 
-/// Looks for marks that show that queue `i`'s sender writes the bytes of the mask of each record. None: there are some. Otherwise the first
+/// Looks for marks that show that the queue's sender writes the bytes of the mask of each record. None: there are some. Otherwise the first
 /// state that may publish a position with a byte for which the search found no mark: its lowest byte of the first such position. A sender
 /// that writes it in a way that marks don't express is named too.
 pub fn first_unwritten(
     alloc: Global,
     opening: &Opening,
     certificate: &QueueCertificate,
-    i: u32,
+    queue: QueueNumber,
     mask: &[u64],
 ) -> Result<Option<Unwritten>, Lack>
-    ensures shown { IfOk result (λ unwritten. unwritten ≡ None → IsShownWritten opening.now certificate.now i mask.now) }
-    ensures within { IfOk result (λ unwritten. IfSome unwritten (λ u. u.state < length (part_of certificate.now (queue_at certificate.now i).sender).states)) }
+    ensures shown { IfOk result (λ unwritten. unwritten ≡ None → IsShownWritten opening.now certificate.now queue mask.now) }
+    ensures within { IfOk result (λ unwritten. IfSome unwritten (λ u. u.state < length (part_of certificate.now (sender_in certificate.now queue)).states)) }
 {
-    let hart = queue_in(&certificate.queues, i).sender;
+    let hart = sender_in(certificate, queue);
     let states = small(listed_states(certificate, hart).len())?;
-    let first = first_state(certificate, i);
-    let all = sender_leaves(alloc, opening, certificate, i)?;
+    let first = first_state(certificate, queue);
+    let all = sender_leaves(alloc, opening, certificate, queue)?;
     let marks = most_marks(alloc, &all, states, first, mask)?;
-    judged(alloc, opening, certificate, i, mask, states, &all, &marks)
+    judged(
+        alloc,
+        opening,
+        certificate,
+        queue,
+        mask,
+        states,
+        &all,
+        &marks,
+    )
 }

@@ -2,11 +2,10 @@
 
 ghost use Rattle.std.specs.Prelude.{◌≡◌, IfOk, map};
 
+use crate::senders::{QueueNumber, effect_in, sender_in};
 use known_values::Lack;
-use known_values::queues::queue_in;
 use queue_certificates::Effect;
 use queue_checker::closing::{goes_beyond, with_high, with_low};
-use queue_checker::effects::effect_of;
 use queue_checker::owning::code_of;
 use queue_checker::sites::listed_states;
 use queue_checker::steps::instruction_at;
@@ -38,7 +37,7 @@ fn targets_of(alloc: Global, arrows: &[Arrow]) -> Result<Vec<u32>, Lack>
 fn push_leaves(
     alloc: Global,
     certificate: &QueueCertificate,
-    i: u32,
+    queue: QueueNumber,
     code: &[u32],
     state: &KnownState,
     cases: &Cases,
@@ -47,17 +46,17 @@ fn push_leaves(
     match &cases.node {
         CaseNode::Leaf(handed, arrows) => {
             let instruction = instruction_at(code, state.pc);
-            let effect = effect_of(alloc, certificate, i, state, handed, instruction)?;
+            let effect = effect_in(alloc, certificate, queue, state, handed, instruction)?;
             let targets = targets_of(alloc, arrows)?;
             leaves.push(Leaf { effect, targets })?;
             Ok(())
         }
         CaseNode::Split(variable, most, low, high) => {
             let below = with_low(alloc, state, *variable, *most)?;
-            push_leaves(alloc, certificate, i, code, &below, low, leaves)?;
+            push_leaves(alloc, certificate, queue, code, &below, low, leaves)?;
             if goes_beyond(state, *variable, *most) {
                 let above = with_high(alloc, state, *variable, *most)?;
-                push_leaves(alloc, certificate, i, code, &above, high, leaves)?;
+                push_leaves(alloc, certificate, queue, code, &above, high, leaves)?;
             }
             Ok(())
         }
@@ -67,7 +66,7 @@ fn push_leaves(
 fn leaves_of(
     alloc: Global,
     certificate: &QueueCertificate,
-    i: u32,
+    queue: QueueNumber,
     code: &[u32],
     listed: &ListedState,
 ) -> Result<StateLeaves, Lack> {
@@ -75,7 +74,7 @@ fn leaves_of(
     push_leaves(
         alloc,
         certificate,
-        i,
+        queue,
         code,
         &listed.known,
         &listed.cases,
@@ -84,18 +83,18 @@ fn leaves_of(
     Ok(StateLeaves { leaves })
 }
 
-/// The leaves of each state of queue `i`'s sender.
+/// The leaves of each state of the queue's sender.
 pub(crate) fn sender_leaves(
     alloc: Global,
     opening: &Opening,
     certificate: &QueueCertificate,
-    i: u32,
+    queue: QueueNumber,
 ) -> Result<Vec<StateLeaves>, Lack> {
-    let hart = queue_in(&certificate.queues, i).sender;
+    let hart = sender_in(certificate, queue);
     let code = code_of(opening, hart);
     let mut all = Vec::new(alloc);
     for listed in listed_states(certificate, hart) {
-        all.push(leaves_of(alloc, certificate, i, code, listed)?)?;
+        all.push(leaves_of(alloc, certificate, queue, code, listed)?)?;
     }
     Ok(all)
 }

@@ -2,18 +2,18 @@
 
 ghost use Rattle.std.specs.Prelude.{◌≡◌, ◌<◌, IfOk, length, get_or, [], false};
 ghost use Rattle.queue_certificates.specs.Steps.{all_below};
-ghost use Rattle.queue_certificates.specs.Certificates.{queue_at, part_of, state_at};
+ghost use Rattle.queue_certificates.specs.Certificates.{part_of, state_at};
 ghost use Rattle.queue_certificates.specs.Filled.{are_so};
 ghost use Rattle.queue_checker.specs.Flaws.{hart_at};
+ghost use Rattle.records_written.specs.Senders.{sender_in};
 ghost use Rattle.records_written.specs.Marks.{has_mark_after, arrows_keep, effect_keeps, keeps_marks, shows_written};
 
 use crate::keeping::{are_so, may_publish};
 use crate::marking::StateMarks;
+use crate::senders::{QueueNumber, effect_in, sender_in};
 use known_values::Lack;
-use known_values::queues::queue_in;
 use queue_certificates::Effect;
 use queue_checker::closing::{goes_beyond, with_high, with_low};
-use queue_checker::effects::effect_of;
 use queue_checker::owning::code_of;
 use queue_checker::sites::{listed_states, small};
 use queue_checker::steps::instruction_at;
@@ -81,7 +81,7 @@ fn effect_keeps(
 fn keeps_marks(
     alloc: Global,
     certificate: &QueueCertificate,
-    i: u32,
+    queue: QueueNumber,
     code: &[u32],
     mask: &[u64],
     marks: &[StateMarks],
@@ -89,21 +89,41 @@ fn keeps_marks(
     state: &KnownState,
     cases: &Cases,
 ) -> Result<bool, Lack>
-    ensures { IfOk result (λ keeps. keeps ≡ keeps_marks certificate.now i code.now mask.now marks.now own.now state.now cases.now) }
+    ensures { IfOk result (λ keeps. keeps ≡ keeps_marks certificate.now queue code.now mask.now marks.now own.now state.now cases.now) }
 {
     match &cases.node {
         CaseNode::Leaf(handed, arrows) => {
             let instruction = instruction_at(code, state.pc);
-            let effect = effect_of(alloc, certificate, i, state, handed, instruction)?;
+            let effect = effect_in(alloc, certificate, queue, state, handed, instruction)?;
             effect_keeps(mask, marks, own, arrows, effect)
         }
         CaseNode::Split(variable, most, low, high) => {
             let below = with_low(alloc, state, *variable, *most)?;
-            let holds = keeps_marks(alloc, certificate, i, code, mask, marks, own, &below, low)?;
+            let holds = keeps_marks(
+                alloc,
+                certificate,
+                queue,
+                code,
+                mask,
+                marks,
+                own,
+                &below,
+                low,
+            )?;
             if holds {
                 if goes_beyond(state, *variable, *most) {
                     let above = with_high(alloc, state, *variable, *most)?;
-                    keeps_marks(alloc, certificate, i, code, mask, marks, own, &above, high)
+                    keeps_marks(
+                        alloc,
+                        certificate,
+                        queue,
+                        code,
+                        mask,
+                        marks,
+                        own,
+                        &above,
+                        high,
+                    )
                 } else {
                     Ok(true)
                 }
@@ -119,29 +139,39 @@ fn state_keeps(
     alloc: Global,
     opening: &Opening,
     certificate: &QueueCertificate,
-    i: u32,
+    queue: QueueNumber,
     mask: &[u64],
     marks: &[StateMarks],
     n: u32,
 ) -> Result<bool, Lack>
-    requires { n < length (part_of certificate.now (queue_at certificate.now i).sender).states }
-    ensures { IfOk result (λ keeps. keeps ≡ keeps_marks certificate.now i (hart_at opening.now (queue_at certificate.now i).sender).code mask.now marks.now
-        (get_or marks.now n []) (state_at certificate.now (queue_at certificate.now i).sender n).known (state_at certificate.now (queue_at
-        certificate.now i).sender n).cases) }
+    requires { n < length (part_of certificate.now (sender_in certificate.now queue)).states }
+    ensures { IfOk result (λ keeps. keeps ≡ keeps_marks certificate.now queue (hart_at opening.now (sender_in certificate.now queue)).code mask.now
+        marks.now (get_or marks.now n []) (state_at certificate.now (sender_in certificate.now queue) n).known (state_at certificate.now
+        (sender_in certificate.now queue) n).cases) }
 {
-    let hart = queue_in(&certificate.queues, i).sender;
+    let hart = sender_in(certificate, queue);
     let code = code_of(opening, hart);
     let listed = &listed_states(certificate, hart)[n as usize];
     let state = &listed.known;
     let cases = &listed.cases;
     match marks.get(n as usize) {
-        Some(own) => keeps_marks(alloc, certificate, i, code, mask, marks, own, state, cases),
+        Some(own) => keeps_marks(
+            alloc,
+            certificate,
+            queue,
+            code,
+            mask,
+            marks,
+            own,
+            state,
+            cases,
+        ),
         None => {
             let none = unmarked(alloc);
             keeps_marks(
                 alloc,
                 certificate,
-                i,
+                queue,
                 code,
                 mask,
                 marks,
@@ -167,27 +197,27 @@ fn states_keep(
     alloc: Global,
     opening: &Opening,
     certificate: &QueueCertificate,
-    i: u32,
+    queue: QueueNumber,
     mask: &[u64],
     marks: &[StateMarks],
 ) -> Result<bool, Lack>
-    ensures { IfOk result (λ keep. keep ≡ all_below (length (part_of certificate.now (queue_at certificate.now i).sender).states) (λ n. keeps_marks
-        certificate.now i (hart_at opening.now (queue_at certificate.now i).sender).code mask.now marks.now (get_or marks.now n []) (state_at certificate.now
-        (queue_at certificate.now i).sender n).known (state_at certificate.now (queue_at certificate.now i).sender n).cases)) }
+    ensures { IfOk result (λ keep. keep ≡ all_below (length (part_of certificate.now (sender_in certificate.now queue)).states) (λ n. keeps_marks
+        certificate.now queue (hart_at opening.now (sender_in certificate.now queue)).code mask.now marks.now (get_or marks.now n []) (state_at
+        certificate.now (sender_in certificate.now queue) n).known (state_at certificate.now (sender_in certificate.now queue) n).cases)) }
 {
-    let hart = queue_in(&certificate.queues, i).sender;
+    let hart = sender_in(certificate, queue);
     let mut all = true;
     for n in 0..small(listed_states(certificate, hart).len())? {
-        all = state_keeps(alloc, opening, certificate, i, mask, marks, n)? && all;
+        all = state_keeps(alloc, opening, certificate, queue, mask, marks, n)? && all;
     }
     Ok(all)
 }
 
 /// The number of the state in which the sender opens.
-pub(crate) fn first_state(certificate: &QueueCertificate, i: u32) -> u32
-    ensures { result ≡ (part_of certificate.now (queue_at certificate.now i).sender).first }
+pub(crate) fn first_state(certificate: &QueueCertificate, queue: QueueNumber) -> u32
+    ensures { result ≡ (part_of certificate.now (sender_in certificate.now queue)).first }
 {
-    let hart = queue_in(&certificate.queues, i).sender;
+    let hart = sender_in(certificate, queue);
     match certificate.harts.get(hart as usize) {
         Some(part) => part.first,
         None => 0,
@@ -198,28 +228,34 @@ pub(crate) fn first_state(certificate: &QueueCertificate, i: u32) -> u32
 fn opens_unmarked(
     alloc: Global,
     certificate: &QueueCertificate,
-    i: u32,
+    queue: QueueNumber,
     marks: &[StateMarks],
 ) -> Result<bool, Lack>
-    ensures { IfOk result (λ opens. opens ≡ are_so (get_or marks.now (part_of certificate.now (queue_at certificate.now i).sender).first []) (λ d b. false)) }
+    ensures { IfOk result (λ opens. opens ≡ are_so (get_or marks.now (part_of certificate.now (sender_in certificate.now queue)).first []) (λ d b. false)) }
 {
     // after this effect nothing is marked
     let effect = Effect::PublishesSome(0);
-    target_keeps(marks, first_state(certificate, i), &unmarked(alloc), effect)
+    target_keeps(
+        marks,
+        first_state(certificate, queue),
+        &unmarked(alloc),
+        effect,
+    )
 }
 
-/// Whether the certificate shows, with these marks of the states of queue `i`'s sender, that it writes the bytes of the mask of each record.
+/// Whether the certificate shows, with these marks of the states of the queue's sender, that it writes the bytes of the mask of each
+/// record.
 pub fn shows_written(
     alloc: Global,
     opening: &Opening,
     certificate: &QueueCertificate,
-    i: u32,
+    queue: QueueNumber,
     mask: &[u64],
     marks: &[StateMarks],
 ) -> Result<bool, Lack>
-    ensures { IfOk result (λ shows. shows ≡ shows_written opening.now certificate.now i mask.now marks.now) }
+    ensures { IfOk result (λ shows. shows ≡ shows_written opening.now certificate.now queue mask.now marks.now) }
 {
-    let opens = opens_unmarked(alloc, certificate, i, marks)?;
-    let keep = states_keep(alloc, opening, certificate, i, mask, marks)?;
+    let opens = opens_unmarked(alloc, certificate, queue, marks)?;
+    let keep = states_keep(alloc, opening, certificate, queue, mask, marks)?;
     Ok(opens && keep)
 }
