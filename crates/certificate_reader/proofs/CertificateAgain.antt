@@ -9,24 +9,26 @@ use Rattle.std.proofs.lemmas.List.{append-nil, reverse-reverse}
 use Rattle.std.proofs.lemmas.List.Sums.{sum_by-cons}
 use Rattle.queue_certificates.specs.States.{KnownValue, any, Share, no_share, KnownState}
 use Rattle.queue_certificates.specs.Certificates.{OpenedQueue, ListedState, HartPart, QueueCertificate}
+use Rattle.queue_layouts.specs.declared.tagged.OpenedTagged.{OpenedTagged}
 use Rattle.queue_checker.specs.Trees.{height}
 use Rattle.certificate_reader.specs.declared.stages.Keyword.TheVariants as keyword
 use Rattle.certificate_reader.specs.declared.stages.Stage.{Stage}
 use Rattle.certificate_reader.specs.declared.stages.Stage.TheVariants as stage
 use Rattle.certificate_reader.specs.CaseTexts.{case_lines}
-use Rattle.certificate_reader.specs.Stages.{keyword_named, stage_after, is_queues, may_end, is_described, wanted}
+use Rattle.certificate_reader.specs.Stages.{keyword_named, stage_after, lists_queues, may_end, is_described, wanted}
 use Rattle.certificate_reader.specs.Drafts.{DraftValue, no_draft, by_words, by_keyword, with_queue, with_pc, with_state, state_closed}
 use Rattle.certificate_reader.specs.Drafts.{state_closed_at, hart_closed, hart_closed_at, hart_listed, with_hart, own_of, hart_opening, with_value, finished}
 use Rattle.certificate_reader.specs.Reading.{certificate_from, certificate_at}
 use Rattle.certificate_reader.specs.Writing.{LineOfWords, line_if, range_text, value_lines, share_lines, known_lines, filled_lines, described_lines}
 use Rattle.certificate_reader.specs.Writing.{tree_lines, state_lines, part_lines}
-use Rattle.certificate_reader.specs.Writing.{numbers_of, queue_lines, certificate_lines, certificate_text}
+use Rattle.certificate_reader.specs.Writing.{numbers_of, queue_lines, tagged_line, certificate_lines, certificate_text}
 use Rattle.certificate_reader.specs.Written.{FitsWord, FitsCount, FitsValue, FitsState, FitsPart, FitsQueue, CanBeWritten}
 use Rattle.certificate_reader.proofs.Growing.{cases_again}
 use Rattle.certificate_reader.proofs.NumbersAgain.{only_word_again, first_word_again, queue_again, words_again, counts_again}
 use Rattle.certificate_reader.proofs.LinesAgain.{told, told-append, told_lines, lines_again, by_name}
 use Rattle.certificate_reader.proofs.FieldsAgain.{with_queues, fields_told, AreFew, are_few, with_all_filled, after_filled, filled_told, filled_described}
 use Rattle.certificate_reader.proofs.FieldsAgain.{from_none}
+use Rattle.certificate_reader.proofs.TagsAgain.{with_all_tagged, after_tagged, lists_after, tagged_told}
 use Rattle.certificate_reader.proofs.StatesAgain.{after_ranges, ranges_told, after_values, described_after, values_told, after_shares, shares_told}
 use Rattle.certificate_reader.proofs.StatesAgain.{reverse_first, cases_told}
 use Rattle.certificate_reader.proofs.SolidLines.{certificate_solid}
@@ -35,6 +37,7 @@ use Rattle.certificate_reader.proofs.SolidLines.{certificate_solid}
 
 pub record Core : Type 0 where
   pub queues : List OpenedQueue
+  pub tagged : List OpenedTagged
   pub harts : List HartPart
   pub own : List ℕ
   pub first : ℕ
@@ -45,6 +48,7 @@ pub record Core : Type 0 where
 abbrev pub core_of : DraftValue → Core
 core_of d = record {
   queues = d.queues;
+  tagged = d.tagged;
   harts = d.harts;
   own = d.own;
   first = d.first;
@@ -124,9 +128,10 @@ words_told : (d : DraftValue) (values : List KnownValue) (s : Stage) → length 
 words_told d values s few small fewer is all = values_told (length d.queues) (length d.ranges) 0 (codes "word") (with_words d) (omega arith)
     small (omega arith) (word_line d) [] values 0 s refl (omega arith) is (λ low. absurd (omega arith)) all
 
-known_told : (d : DraftValue) (s : ListedState) → length d.queues ≤ 16 → length d.own ≤ 64 → FitsState d.queues (length d.own) s
+known_told : (d : DraftValue) (s : ListedState) → length d.queues ≤ 16 → length d.tagged ≤ 16 → length d.own ≤ 64
+    → FitsState d.queues (length d.tagged) (length d.own) s
     → told (begun_state d s.known.pc) (known_lines s.known) ≡ Ok (known_draft d s.known (after_known s.known))
-known_told d s few few_own fits =
+known_told d s few few_tagged few_own fits =
     told-append start three (most ++ registers ++ words) shares
     (told-append start two (most ++ registers) words (told-append start one most registers ranges_read ∙ registers_read) ∙ words_read) ∙ shares_read
   where
@@ -180,10 +185,10 @@ known_told d s few few_own fits =
 abbrev described_draft : DraftValue → ListedState → DraftValue
 described_draft d s = with_all_filled (known_draft d s.known (after_known s.known)) s.filled (after_filled (after_known s.known) s.filled)
 
-described_told : (d : DraftValue) (s : ListedState) → AreFew d.queues → length d.own ≤ 64 → FitsState d.queues (length d.own) s
-    → told (begun_state d s.known.pc) (described_lines s) ≡ Ok (described_draft d s)
-described_told d s few few_own fits =
-    told-append (begun_state d s.known.pc) known (known_lines s.known) (filled_lines 0 s.filled) (known_told d s few.queues few_own fits)
+described_told : (d : DraftValue) (s : ListedState) → AreFew d.queues → length d.tagged ≤ 16 → length d.own ≤ 64
+    → FitsState d.queues (length d.tagged) (length d.own) s → told (begun_state d s.known.pc) (described_lines s) ≡ Ok (described_draft d s)
+described_told d s few few_tagged few_own fits =
+    told-append (begun_state d s.known.pc) known (known_lines s.known) (filled_lines 0 s.filled) (known_told d s few.queues few_tagged few_own fits)
     ∙ filled_told known [] s.filled 0 (after_known s.known) few (known_described s.known) (omega arith) (omega (arith, fits.few_filled, few.queues))
     fits.full_filled fits.filled
     ∙ ap (λ filled. Ok (with_all_filled known filled (after_filled (after_known s.known) s.filled))) (from_none s.filled)
@@ -225,10 +230,10 @@ described_wants stage.Known is = refl
 described_wants other is = absurd cc
 
 state_told : (d : DraftValue) (c : Core) (s : ListedState) → core_of (state_closed d) ≡ c → may_end d.stage ≡ true → AreFew c.queues
-    → length c.own ≤ 64 → c.listed < 16384 → FitsState c.queues (length c.own) s
+    → length c.tagged ≤ 16 → length c.own ≤ 64 → c.listed < 16384 → FitsState c.queues (length c.tagged) (length c.own) s
     → Reads d (state_lines s) (record c { states = s ∷ c.states; listed = c.listed + 1 })
 unfolding state_closed
-state_told d c s core ends few_queues few_own few fits = record {
+state_told d c s core ends few_queues few_tagged few_own few fits = record {
   end = after;
   read = rw (state_begun d c s.known.pc core few fits.pc ends)
       (told-append (begun_state x s.known.pc) known (described_lines s) (tree_lines (case_lines s.cases)) known_read ∙ cases_read);
@@ -247,12 +252,12 @@ state_told d c s core ends few_queues few_own few fits = record {
     after : DraftValue
     after = record known { nodes = reverse (case_lines s.cases) ++ []; splits = 0 + height s.cases; stage = stage.Leaf 0 }
 
-    fits_x : FitsState x.queues (length x.own) s
-    fits_x = subst (λ (y : Core). FitsState y.queues (length y.own) s) (sym core) fits
+    fits_x : FitsState x.queues (length x.tagged) (length x.own) s
+    fits_x = subst (λ (y : Core). FitsState y.queues (length y.tagged) (length y.own) s) (sym core) fits
 
     known_read : told (begun_state x s.known.pc) (described_lines s) ≡ Ok known
     known_read = described_told x s (subst (λ (y : Core). AreFew y.queues) (sym core) few_queues)
-        (subst (λ (y : Core). length y.own ≤ 64) (sym core) few_own) fits_x
+        (subst (λ (y : Core). length y.tagged ≤ 16) (sym core) few_tagged) (subst (λ (y : Core). length y.own ≤ 64) (sym core) few_own) fits_x
 
     is : is_described known.stage ≡ true
     is = filled_described (after_known s.known) s.filled (known_described s.known)
@@ -262,15 +267,16 @@ state_told d c s core ends few_queues few_own few fits = record {
         (omega (arith, fits.splits)) (omega (arith, fits.variables)) fits.cases
 
 states_told : (d : DraftValue) (c : Core) (ss : List ListedState) → core_of (state_closed d) ≡ c → may_end d.stage ≡ true → AreFew c.queues
-    → length c.own ≤ 64 → c.listed + length ss ≤ 16384 → AllByRecursion (FitsState c.queues (length c.own)) ss
+    → length c.tagged ≤ 16 → length c.own ≤ 64 → c.listed + length ss ≤ 16384
+    → AllByRecursion (FitsState c.queues (length c.tagged) (length c.own)) ss
     → Reads d (flat_map state_lines ss) (record c { states = reverse ss ++ c.states; listed = c.listed + length ss })
-states_told d c [] core ends few_queues few_own few all =
+states_told d c [] core ends few_queues few_tagged few_own few all =
     let same : c.listed ≡ c.listed + 0 = omega arith in
     record { end = d; read = refl; core = core ∙ ap (λ (n : ℕ). record c { listed = n }) same; ends = ends }
-states_told d c (s ∷ ss) core ends few_queues few_own few all =
-    let first = state_told d c s core ends few_queues few_own (omega arith) all.0 in
-    let rest = states_told first.end (record c { states = s ∷ c.states; listed = c.listed + 1 }) ss first.core first.ends few_queues few_own
-    (omega arith) all.1 in
+states_told d c (s ∷ ss) core ends few_queues few_tagged few_own few all =
+    let first = state_told d c s core ends few_queues few_tagged few_own (omega arith) all.0 in
+    let rest = states_told first.end (record c { states = s ∷ c.states; listed = c.listed + 1 }) ss first.core first.ends few_queues
+    few_tagged few_own (omega arith) all.1 in
     record {
       end = rest.end;
       read = told-append d first.end (state_lines s) (flat_map state_lines ss) first.read ∙ rest.read;
@@ -287,13 +293,14 @@ states_told d c (s ∷ ss) core ends few_queues few_own few all =
 -- ---- a hart
 
 -- the harts so far are these, and they have this many states
-pub record IsAt (qs : List OpenedQueue) (hs : List HartPart) (n : ℕ) (d : DraftValue) : Type 0 where
+pub record IsAt (qs : List OpenedQueue) (ts : List OpenedTagged) (hs : List HartPart) (n : ℕ) (d : DraftValue) : Type 0 where
   pub queues : (hart_closed (state_closed d)).queues ≡ qs
+  pub tagged : (hart_closed (state_closed d)).tagged ≡ ts
   pub harts : (hart_closed (state_closed d)).harts ≡ hs
   pub own : (hart_closed (state_closed d)).own ≡ []
   pub states : (hart_closed (state_closed d)).states ≡ []
   pub listed : (hart_closed (state_closed d)).listed ≡ n
-  pub begins : (is_queues d.stage || may_end d.stage) ≡ true
+  pub begins : (lists_queues d.stage || may_end d.stage) ≡ true
 
 closed_at : (s : Stage) (d : DraftValue) → d.stage ≡ s → may_end s ≡ true → (state_closed_at s d).stage ≡ stage.Opened
 closed_at stage.Opened d is may = is
@@ -308,7 +315,7 @@ hart_named : keyword_named (codes "hart") ≡ Some keyword.Hart
 unfolding keyword_named
 hart_named = refl
 
-hart_staged : (s : Stage) → (is_queues s || may_end s) ≡ true → stage_after s keyword.Hart ≡ Some stage.Hart
+hart_staged : (s : Stage) → (lists_queues s || may_end s) ≡ true → stage_after s keyword.Hart ≡ Some stage.Hart
 unfolding stage_after
 hart_staged s begins = rw begins refl
 
@@ -352,10 +359,10 @@ unfolding hart_opening
 opening_again first numbers small few all =
     rw (first_word_again first (map decimal numbers) small, counts_again numbers all, le-ltb 64 (length numbers) few) refl
 
-pub record ReadsHarts (d : DraftValue) (ls : List LineOfWords) (qs : List OpenedQueue) (hs : List HartPart) (n : ℕ) : Type 0 where
+pub record ReadsHarts (d : DraftValue) (ls : List LineOfWords) (qs : List OpenedQueue) (ts : List OpenedTagged) (hs : List HartPart) (n : ℕ) : Type 0 where
   pub end : DraftValue
   pub read : told d ls ≡ Ok end
-  pub at : IsAt qs hs n end
+  pub at : IsAt qs ts hs n end
   pub ends : may_end end.stage ≡ true
 
 -- a draft whose last state is over, and its hart's part too
@@ -367,9 +374,10 @@ either_may : (a b : Bool) → b ≡ true → (a || b) ≡ true
 either_may true b may = refl
 either_may false b may = may
 
-is_at_end : (qs : List OpenedQueue) (hs : List HartPart) (n : ℕ) (p : HartPart) (d : DraftValue) → may_end d.stage ≡ true
+is_at_end : (qs : List OpenedQueue) (ts : List OpenedTagged) (hs : List HartPart) (n : ℕ) (p : HartPart) (d : DraftValue) → may_end d.stage ≡ true
     → core_of (state_closed d) ≡ record {
       queues = qs;
+      tagged = ts;
       harts = hs;
       own = p.own;
       first = p.first;
@@ -377,16 +385,17 @@ is_at_end : (qs : List OpenedQueue) (hs : List HartPart) (n : ℕ) (p : HartPart
       states = reverse p.states ++ [];
       listed = n;
     }
-    → IsAt qs (hs ++ p ∷ []) n d
-is_at_end qs hs n p d ends core = record {
+    → IsAt qs ts (hs ++ p ∷ []) n d
+is_at_end qs ts hs n p d ends core = record {
   queues = ap (λ (e : DraftValue). e.queues) closed ∙ ap (λ (c : Core). c.queues) core;
+  tagged = ap (λ (e : DraftValue). e.tagged) closed ∙ ap (λ (c : Core). c.tagged) core;
   harts = ap (λ (e : DraftValue). e.harts) closed
       ∙ ap (λ (c : Core). c.harts ++ record { own = c.own; first = c.first; numbers = c.numbers; states = reverse c.states } ∷ []) core
       ∙ ap (λ (states : List ListedState). hs ++ record { own = p.own; first = p.first; numbers = p.numbers; states = states } ∷ []) turned;
   own = ap (λ (e : DraftValue). e.own) closed;
   states = ap (λ (e : DraftValue). e.states) closed;
   listed = ap (λ (e : DraftValue). e.listed) closed ∙ ap (λ (c : Core). c.listed) core;
-  begins = either_may (is_queues d.stage) (may_end d.stage) ends;
+  begins = either_may (lists_queues d.stage) (may_end d.stage) ends;
 }
   where
     closed : hart_closed (state_closed d) ≡ hart_listed (state_closed d)
@@ -395,14 +404,15 @@ is_at_end qs hs n p d ends core = record {
     turned : reverse (reverse p.states ++ []) ≡ p.states
     turned = ap (λ (xs : List ListedState). reverse xs) (append-nil (reverse p.states)) ∙ reverse-reverse p.states
 
-part_told : (d : DraftValue) (qs : List OpenedQueue) (hs : List HartPart) (n : ℕ) (p : HartPart) → IsAt qs hs n d → length hs < 64 → AreFew qs
-    → n + length p.states ≤ 16384 → FitsPart qs p → ReadsHarts d (part_lines p) qs (hs ++ p ∷ []) (n + length p.states)
+part_told : (d : DraftValue) (qs : List OpenedQueue) (ts : List OpenedTagged) (hs : List HartPart) (n : ℕ) (p : HartPart) → IsAt qs ts hs n d
+    → length hs < 64 → AreFew qs → length ts ≤ 16 → n + length p.states ≤ 16384 → FitsPart qs (length ts) p
+    → ReadsHarts d (part_lines p) qs ts (hs ++ p ∷ []) (n + length p.states)
 unfolding with_hart state_closed
-part_told d qs hs n p at few_harts few_queues few fits = record {
+part_told d qs ts hs n p at few_harts few_queues few_tagged few fits = record {
   end = states.end;
   read = told-append d opened (((codes "hart", []) ∷ own_lines) ++ opening ∷ []) (flat_map state_lines p.states)
       (told-append d owned ((codes "hart", []) ∷ own_lines) (opening ∷ []) (rw hart_read own_read) ∙ rw open_read refl) ∙ states.read;
-  at = is_at_end qs hs (n + length p.states) p states.end states.ends states.core;
+  at = is_at_end qs ts hs (n + length p.states) p states.end states.ends states.core;
   ends = states.ends;
 }
   where
@@ -436,12 +446,13 @@ part_told d qs hs n p at few_harts few_queues few fits = record {
         stage.Opened open_named (open_staged p.own) (rw (opening_again p.first p.numbers fits.first fits.few_numbers fits.numbers) refl)
 
     core : core_of (state_closed opened)
-        ≡ record { queues = qs; harts = hs; own = p.own; first = p.first; numbers = p.numbers; states = []; listed = n }
-    core = rw (at.queues, at.harts, at.states, at.listed) refl
+        ≡ record { queues = qs; tagged = ts; harts = hs; own = p.own; first = p.first; numbers = p.numbers; states = []; listed = n }
+    core = rw (at.queues, at.tagged, at.harts, at.states, at.listed) refl
 
     states : Reads opened (flat_map state_lines p.states)
         (record {
           queues = qs;
+          tagged = ts;
           harts = hs;
           own = p.own;
           first = p.first;
@@ -449,36 +460,38 @@ part_told d qs hs n p at few_harts few_queues few fits = record {
           states = reverse p.states ++ [];
           listed = n + length p.states;
         })
-    states = states_told opened (record { queues = qs; harts = hs; own = p.own; first = p.first; numbers = p.numbers; states = []; listed = n })
-        p.states core refl few_queues fits.few_words few fits.states
+    states = states_told opened
+        (record { queues = qs; tagged = ts; harts = hs; own = p.own; first = p.first; numbers = p.numbers; states = []; listed = n })
+        p.states core refl few_queues few_tagged fits.few_words few fits.states
 
 abbrev listed_states : HartPart → ℕ
 listed_states part = length part.states
 
-harts_told : (d : DraftValue) (qs : List OpenedQueue) (hs : List HartPart) (n : ℕ) (p : HartPart) (ps : List HartPart) → IsAt qs hs n d
-    → length hs + length (p ∷ ps) ≤ 64 → AreFew qs → n + sum_by listed_states (p ∷ ps) ≤ 16384 → AllByRecursion (FitsPart qs) (p ∷ ps)
-    → ReadsHarts d (flat_map part_lines (p ∷ ps)) qs (hs ++ p ∷ ps) (n + sum_by listed_states (p ∷ ps))
-harts_told d qs hs n p [] at few_harts few_queues few all =
+harts_told : (d : DraftValue) (qs : List OpenedQueue) (ts : List OpenedTagged) (hs : List HartPart) (n : ℕ) (p : HartPart) (ps : List HartPart)
+    → IsAt qs ts hs n d → length hs + length (p ∷ ps) ≤ 64 → AreFew qs → length ts ≤ 16 → n + sum_by listed_states (p ∷ ps) ≤ 16384
+    → AllByRecursion (FitsPart qs (length ts)) (p ∷ ps)
+    → ReadsHarts d (flat_map part_lines (p ∷ ps)) qs ts (hs ++ p ∷ ps) (n + sum_by listed_states (p ∷ ps))
+harts_told d qs ts hs n p [] at few_harts few_queues few_tagged few all =
     let total = sum_by-cons listed_states p [] in
-    let first = part_told d qs hs n p at (omega arith) few_queues (omega (arith, total)) all.0 in
+    let first = part_told d qs ts hs n p at (omega arith) few_queues few_tagged (omega (arith, total)) all.0 in
     let same : n + length p.states ≡ n + sum_by listed_states (p ∷ []) = omega (arith, total) in
     record {
       end = first.end;
       read = told-append d first.end (part_lines p) [] first.read;
-      at = subst (λ (k : ℕ). IsAt qs (hs ++ p ∷ []) k first.end) same first.at;
+      at = subst (λ (k : ℕ). IsAt qs ts (hs ++ p ∷ []) k first.end) same first.at;
       ends = first.ends;
     }
-harts_told d qs hs n p (q ∷ ps) at few_harts few_queues few all =
+harts_told d qs ts hs n p (q ∷ ps) at few_harts few_queues few_tagged few all =
     let total = sum_by-cons listed_states p (q ∷ ps) in
-    let first = part_told d qs hs n p at (omega arith) few_queues (omega (arith, total)) all.0 in
-    let rest = harts_told first.end qs (hs ++ p ∷ []) (n + length p.states) q ps first.at (omega (arith, length-append hs (p ∷ []))) few_queues
-    (omega (arith, total)) all.1 in
+    let first = part_told d qs ts hs n p at (omega arith) few_queues few_tagged (omega (arith, total)) all.0 in
+    let rest = harts_told first.end qs ts (hs ++ p ∷ []) (n + length p.states) q ps first.at (omega (arith, length-append hs (p ∷ []))) few_queues
+    few_tagged (omega (arith, total)) all.1 in
     let same : n + length p.states + sum_by listed_states (q ∷ ps) ≡ n + sum_by listed_states (p ∷ q ∷ ps) = omega (arith, total) in
     record {
       end = rest.end;
       read = told-append d first.end (part_lines p) (flat_map part_lines (q ∷ ps)) first.read ∙ rest.read;
-      at = subst (λ (k : ℕ). IsAt qs (hs ++ p ∷ q ∷ ps) k rest.end) same
-          (subst (λ (parts : List HartPart). IsAt qs parts (n + length p.states + sum_by listed_states (q ∷ ps)) rest.end)
+      at = subst (λ (k : ℕ). IsAt qs ts (hs ++ p ∷ q ∷ ps) k rest.end) same
+          (subst (λ (parts : List HartPart). IsAt qs ts parts (n + length p.states + sum_by listed_states (q ∷ ps)) rest.end)
           (append_assoc hs (p ∷ []) (q ∷ ps)) rest.at);
       ends = rest.ends;
     }
@@ -520,34 +533,46 @@ queues_told d queues (q ∷ qs) few all =
 head_read : by_words no_draft (codes "ztso-queues") (codes "1" ∷ []) ≡ Ok (record no_draft { stage = stage.Queues })
 head_read = refl
 
-begins_at : (qs : List OpenedQueue) → IsAt qs [] 0 (record no_draft { queues = qs; stage = stage.Queues })
+begins_at : (qs : List OpenedQueue) (ts : List OpenedTagged) (s : Stage) → lists_queues s ≡ true
+    → IsAt qs ts [] 0 (record no_draft { queues = qs; tagged = ts; stage = s })
 unfolding state_closed hart_closed
-begins_at qs = record { queues = refl; harts = refl; own = refl; states = refl; listed = refl; begins = refl }
+begins_at qs ts stage.Queues lists = record { queues = refl; tagged = refl; harts = refl; own = refl; states = refl; listed = refl; begins = refl }
+begins_at qs ts stage.Tagged lists = record { queues = refl; tagged = refl; harts = refl; own = refl; states = refl; listed = refl; begins = refl }
+begins_at qs ts other lists = absurd cc
 
-lines_told : (c : QueueCertificate) → CanBeWritten c → ReadsHarts no_draft (certificate_lines c) c.queues c.harts (sum_by listed_states c.harts)
+lines_told : (c : QueueCertificate) → CanBeWritten c → ReadsHarts no_draft (certificate_lines c) c.queues c.tagged c.harts (sum_by listed_states c.harts)
 lines_told c fits = by_harts c.harts refl
   where
-    start : DraftValue
-    start = record no_draft { queues = c.queues; stage = stage.Queues }
+    listed : DraftValue
+    listed = record no_draft { queues = c.queues; stage = stage.Queues }
 
-    queues_read : told no_draft ((codes "ztso-queues", codes "1" ∷ []) ∷ flat_map queue_lines c.queues) ≡ Ok start
+    start : DraftValue
+    start = with_all_tagged listed c.tagged (after_tagged stage.Queues c.tagged)
+
+    first_lines : List LineOfWords
+    first_lines = (codes "ztso-queues", codes "1" ∷ []) ∷ flat_map queue_lines c.queues
+
+    queues_read : told no_draft first_lines ≡ Ok listed
     queues_read = rw head_read (queues_told no_draft [] c.queues (omega (arith, fits.few_queues)) fits.queues)
 
+    listed_read : told no_draft (first_lines ++ map tagged_line c.tagged) ≡ Ok start
+    listed_read = told-append no_draft listed first_lines (map tagged_line c.tagged) queues_read
+        ∙ tagged_told listed [] c.tagged stage.Queues refl (omega (arith, fits.few_tagged)) fits.tagged
+
     by_harts : (hs : List HartPart) → c.harts ≡ hs
-        → ReadsHarts no_draft ((codes "ztso-queues", codes "1" ∷ []) ∷ flat_map queue_lines c.queues ++ flat_map part_lines hs) c.queues hs
-        (sum_by listed_states hs)
+        → ReadsHarts no_draft (first_lines ++ map tagged_line c.tagged ++ flat_map part_lines hs) c.queues c.tagged hs (sum_by listed_states hs)
     by_harts [] same = absurd (omega (arith, fits.some_hart, ap (λ (hs : List HartPart). length hs) same))
     by_harts (p ∷ ps) same =
-        let harts = harts_told start c.queues [] 0 p ps (begins_at c.queues)
-        (omega (arith, fits.few_harts, ap (λ (hs : List HartPart). length hs) same)) (are_few c.queues fits.few_queues fits.queues)
+        let harts = harts_told start c.queues c.tagged [] 0 p ps (begins_at c.queues c.tagged (after_tagged stage.Queues c.tagged)
+        (lists_after stage.Queues c.tagged refl)) (omega (arith, fits.few_harts, ap (λ (hs : List HartPart). length hs) same))
+        (are_few c.queues fits.few_queues fits.queues) fits.few_tagged
         (omega (arith, fits.few_states, ap (λ (hs : List HartPart). sum_by listed_states hs) same))
-        (subst (λ (hs : List HartPart). AllByRecursion (FitsPart c.queues) hs) same fits.harts) in
+        (subst (λ (hs : List HartPart). AllByRecursion (FitsPart c.queues (length c.tagged)) hs) same fits.harts) in
         let none : 0 + sum_by listed_states (p ∷ ps) ≡ sum_by listed_states (p ∷ ps) = omega arith in
         record {
           end = harts.end;
-          read = told-append no_draft start ((codes "ztso-queues", codes "1" ∷ []) ∷ flat_map queue_lines c.queues) (flat_map part_lines (p ∷ ps)) queues_read
-              ∙ harts.read;
-          at = subst (λ (k : ℕ). IsAt c.queues (p ∷ ps) k harts.end) none harts.at;
+          read = told-append no_draft start (first_lines ++ map tagged_line c.tagged) (flat_map part_lines (p ∷ ps)) listed_read ∙ harts.read;
+          at = subst (λ (k : ℕ). IsAt c.queues c.tagged (p ∷ ps) k harts.end) none harts.at;
           ends = harts.ends;
         }
 
@@ -557,7 +582,7 @@ certificate_again c fits =
     let harts = lines_told c fits in
     let solid = certificate_solid c fits in
     let said = told_lines no_draft harts.end 1 (certificate_lines c) solid harts.read in
-    rw (lines_again (certificate_lines c) solid, said.1, harts.ends, harts.at.queues, harts.at.harts) refl
+    rw (lines_again (certificate_lines c) solid, said.1, harts.ends, harts.at.queues, harts.at.tagged, harts.at.harts) refl
 
 -- what the writer has written
 pub written_again : (text : List ℕ) (c : QueueCertificate) → CanBeWritten c → text ≡ certificate_text c → certificate_at text ≡ Ok c

@@ -6,6 +6,7 @@ pub mod NumbersAgain
 pub mod FormsAgain
 pub mod LinesAgain
 pub mod FieldsAgain
+pub mod TagsAgain
 pub mod SolidLines
 pub mod StatesAgain
 pub mod CertificateAgain

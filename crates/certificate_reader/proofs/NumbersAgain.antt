@@ -54,7 +54,7 @@ pub only_word_again : (n : ℕ) → n < 2 ^ 32 → only_word (decimal n ∷ []) 
 unfolding only_word
 only_word_again n small = rw (first_word_again n [] small) refl
 
-five_again : (a b c d e : ℕ) (words : List (List ℕ)) → AllByRecursion FitsWord (a ∷ b ∷ c ∷ d ∷ e ∷ [])
+pub five_again : (a b c d e : ℕ) (words : List (List ℕ)) → AllByRecursion FitsWord (a ∷ b ∷ c ∷ d ∷ e ∷ [])
     → five_at (decimal a ∷ decimal b ∷ decimal c ∷ decimal d ∷ decimal e ∷ words) ≡ Ok ((a, b, c, d, e), words)
 unfolding five_at
 five_again a b c d e words all = rw (

@@ -10,12 +10,16 @@ use Rattle.queue_certificates.specs.States.{KnownValue, any, linear, index_for, 
 use Rattle.owned_run.specs.Certificates.{Field}
 use Rattle.queue_certificates.specs.Certificates.{OpenedQueue, no_queue, Arrow, Cases, leaf, split, ListedState, HartPart, QueueCertificate}
 use Rattle.queue_certificates.specs.Filled.{Filled}
+use Rattle.queue_layouts.specs.declared.tagged.Codec.{Codec}
+use Rattle.queue_layouts.specs.declared.tagged.Codec.TheVariants as codec
+use Rattle.queue_layouts.specs.declared.tagged.OpenedTagged.{OpenedTagged}
 use Rattle.certificate_reader.specs.CaseTexts.{arrow_lines, case_lines}
 use Rattle.certificate_reader.specs.Writing.{LineOfWords, form_text, value_line, value_lines, share_lines, range_text, line_if}
 use Rattle.certificate_reader.specs.Writing.{slot_lines, filled_lines, known_lines, described_lines, node_line, tree_lines, state_lines}
 use Rattle.certificate_reader.specs.Writing.{part_lines, numbers_of, field_numbers, field_line, queue_line, queue_lines, certificate_lines, value_text}
+use Rattle.certificate_reader.specs.Writing.{codec_text, tagged_numbers, tagged_line}
 use Rattle.certificate_reader.specs.Written.{FitsWord, FitsCount, FitsForm, FitsValue, FitsShare, FitsRange, FitsArrow}
-use Rattle.certificate_reader.specs.Written.{FitsCases, FitsFilled, FitsState, FitsPart, FitsField, FitsQueue}
+use Rattle.certificate_reader.specs.Written.{FitsCases, FitsFilled, FitsState, FitsPart, FitsField, FitsQueue, FitsTagged}
 use Rattle.certificate_reader.specs.Written.{CanBeWritten}
 use Rattle.certificate_reader.proofs.FormsAgain.{form_solid}
 use Rattle.certificate_reader.proofs.FieldsAgain.{AreFew, are_few}
@@ -135,8 +139,9 @@ filled_solid queues i (slots ∷ filled) few place fits = all_append IsSolidLine
     (slots_solid (length (get_or queues i no_queue).fields) i 0 slots (few.fields i) (omega arith) (omega (arith, fits.0.few)) fits.0.fields)
     (filled_solid queues (i + 1) filled few (omega arith) fits.1)
 
-state_solid : (queues : List OpenedQueue) (words : ℕ) (s : ListedState) → AreFew queues → words ≤ 64 → FitsState queues words s → AreSolid (state_lines s)
-state_solid queues words s few few_words fits =
+state_solid : (queues : List OpenedQueue) (T words : ℕ) (s : ListedState) → AreFew queues → T ≤ 16 → words ≤ 64 → FitsState queues T words s
+    → AreSolid (state_lines s)
+state_solid queues T words s few few_tagged few_words fits =
     let N = length queues in
     let few_queues : length queues ≤ 2 ^ 32 = omega (arith, few.queues) in
     let n = length s.known.ranges in
@@ -160,8 +165,8 @@ state_solid queues words s few few_words fits =
           (cases_solid n s.cases small fits.cases),
     )
 
-part_solid : (queues : List OpenedQueue) (p : HartPart) → AreFew queues → FitsPart queues p → AreSolid (part_lines p)
-part_solid queues p few fits =
+part_solid : (queues : List OpenedQueue) (T : ℕ) (p : HartPart) → AreFew queues → T ≤ 16 → FitsPart queues T p → AreSolid (part_lines p)
+part_solid queues T p few few_tagged fits =
     let own = if_solid (codes "own") (map decimal p.own) (solid_by_test (codes "own") refl) (all_map FitsWord Solid decimal word_solid p.own fits.own) in
     let numbers : AllByRecursion Solid (map decimal (p.first ∷ p.numbers)) =
     (word_solid p.first fits.first, all_map FitsCount Solid decimal count_solid p.numbers fits.numbers) in
@@ -170,8 +175,8 @@ part_solid queues p few fits =
     (flat_map state_lines p.states)
     (all_append IsSolidLine ((codes "hart", []) ∷ line_if (codes "own") (map decimal p.own)) ((codes "open", map decimal (p.first ∷ p.numbers)) ∷ [])
     (line_solid (codes "hart") [] (solid_by_test (codes "hart") refl) tt, own) (opening, tt))
-    (all_flat (FitsState queues (length p.own)) IsSolidLine state_lines
-    (λ s fits_s. state_solid queues (length p.own) s few fits.few_words fits_s) p.states fits.states)
+    (all_flat (FitsState queues T (length p.own)) IsSolidLine state_lines
+    (λ s fits_s. state_solid queues T (length p.own) s few few_tagged fits.few_words fits_s) p.states fits.states)
 
 counts_of_queue : (o : OpenedQueue) → FitsQueue o → AllByRecursion FitsCount (numbers_of o)
 counts_of_queue o fits =
@@ -206,11 +211,33 @@ field_solid f fits = line_solid (codes "field") (map decimal (field_numbers f)) 
 queue_lines_solid : (o : OpenedQueue) → FitsQueue o → AreSolid (queue_lines o)
 queue_lines_solid o fits = (queue_solid o fits, all_map FitsField IsSolidLine field_line field_solid o.fields fits.fields)
 
+codec_solid : (c : Codec) → Solid (codec_text c)
+codec_solid codec.Zero = solid_by_test (codes "zero") refl
+codec_solid codec.Number = solid_by_test (codes "number") refl
+
+tagged_solid : (o : OpenedTagged) → FitsTagged o → IsSolidLine (tagged_line o)
+tagged_solid o fits =
+    let q = o.queue in
+    let slots = all_map FitsWord Solid decimal word_solid (q.sender ∷ q.receiver ∷ q.slots ∷ q.size ∷ q.width ∷ []) fits.slots in
+    let tag = all_map FitsWord Solid decimal word_solid (q.tag_offset ∷ q.tag_width ∷ []) fits.tag in
+    line_solid (codes "tagged") (map decimal (tagged_numbers q) ++ codec_text q.codec ∷ decimal o.start ∷ []) (solid_by_test (codes "tagged") refl) (
+      slots.0,
+      (
+        slots.1.0,
+        (
+          slots.1.1.0,
+          (slots.1.1.1.0, (slots.1.1.1.1.0, (tag.0, (tag.1.0, (codec_solid q.codec, (count_solid o.start fits.start, tt)))))),
+        ),
+      ),
+    )
+
 pub certificate_solid : (c : QueueCertificate) → CanBeWritten c → AreSolid (certificate_lines c)
 certificate_solid c fits =
-    all_append IsSolidLine ((codes "ztso-queues", codes "1" ∷ []) ∷ flat_map queue_lines c.queues) (flat_map part_lines c.harts) (
-      line_solid (codes "ztso-queues") (codes "1" ∷ []) (solid_by_test (codes "ztso-queues") refl) (solid_by_test (codes "1") refl, tt),
-      all_flat FitsQueue IsSolidLine queue_lines queue_lines_solid c.queues fits.queues,
-    )
-    (all_flat (FitsPart c.queues) IsSolidLine part_lines (λ p fits_p. part_solid c.queues p (are_few c.queues fits.few_queues fits.queues) fits_p) c.harts
-    fits.harts)
+    let head = line_solid (codes "ztso-queues") (codes "1" ∷ []) (solid_by_test (codes "ztso-queues") refl) (solid_by_test (codes "1") refl, tt) in
+    let queues = all_flat FitsQueue IsSolidLine queue_lines queue_lines_solid c.queues fits.queues in
+    let tagged = all_map FitsTagged IsSolidLine tagged_line tagged_solid c.tagged fits.tagged in
+    let few = are_few c.queues fits.few_queues fits.queues in
+    let harts = all_flat (FitsPart c.queues (length c.tagged)) IsSolidLine part_lines
+    (λ p fits_p. part_solid c.queues (length c.tagged) p few fits.few_tagged fits_p) c.harts fits.harts in
+    all_append IsSolidLine (((codes "ztso-queues", codes "1" ∷ []) ∷ flat_map queue_lines c.queues) ++ map tagged_line c.tagged) (flat_map part_lines c.harts)
+    (all_append IsSolidLine ((codes "ztso-queues", codes "1" ∷ []) ∷ flat_map queue_lines c.queues) (map tagged_line c.tagged) (head, queues) tagged) harts

@@ -1,5 +1,5 @@
 -- Parts and lines of which some are written.
-use Rattle.std.proofs.Common.{◌≡◌, ℕ, Bool, true, false, List, [], ◌∷◌, ◌++◌, length, map, cond, Result, Ok, Err, refl, ap, ◌∙◌}
+use Rattle.std.proofs.Common.{◌≡◌, ℕ, Bool, true, false, List, [], ◌∷◌, ◌++◌, length, map, cond, Result, Ok, Err, refl, sym, ap, ◌∙◌, append_assoc}
 use Rattle.std.specs.Prelude.{codes, is_ok, OnOk}
 use Rattle.std.specs.Fmt.{decimal}
 use Rattle.std.proofs.lemmas.List.{append-nil}
@@ -22,6 +22,18 @@ pub line_after : {A : Type 0} (front name first : List ℕ) (word : A → List �
     → lines_text front ((name, first ∷ map word xs) ∷ []) ≡ front ++ name ++ (32 ∷ first ++ spaced word xs) ++ 10 ∷ []
 line_after front name first word xs = append-nil (front ++ name ++ (32 ∷ first ++ spaced itself (map word xs)) ++ 10 ∷ [])
     ∙ ap (λ (words : List ℕ). front ++ name ++ (32 ∷ first ++ words) ++ 10 ∷ []) (flat_map-map (λ w. 32 ∷ itself w) word xs)
+
+-- the same with two words more at the end
+pub line_with_two : {A : Type 0} (front name : List ℕ) (word : A → List ℕ) (xs : List A) (one other : List ℕ)
+    → lines_text front ((name, map word xs ++ one ∷ other ∷ []) ∷ []) ≡ front ++ name ++ spaced word xs ++ (32 ∷ one ++ 32 ∷ other) ++ 10 ∷ []
+line_with_two {A = A} front name word xs one other = append-nil (front ++ name ++ spaced itself (map word xs ++ one ∷ other ∷ []) ++ 10 ∷ [])
+    ∙ ap (λ (words : List ℕ). front ++ name ++ words ++ 10 ∷ []) (spaced_two xs)
+    ∙ ap (λ (text : List ℕ). text ++ 10 ∷ []) (sym (append_assoc (front ++ name) (spaced word xs) (32 ∷ one ++ 32 ∷ other)))
+  where
+    spaced_two : (ys : List A) → spaced itself (map word ys ++ one ∷ other ∷ []) ≡ spaced word ys ++ (32 ∷ one ++ 32 ∷ other)
+    spaced_two [] = ap (λ (text : List ℕ). 32 ∷ one ++ 32 ∷ text) (append-nil other)
+    spaced_two (y ∷ ys) = ap (λ (text : List ℕ). (32 ∷ word y) ++ text) (spaced_two ys)
+        ∙ sym (append_assoc (32 ∷ word y) (spaced word ys) (32 ∷ one ++ 32 ∷ other))
 
 pub line_if_some : {A : Type 0} (front name : List ℕ) (word : A → List ℕ) (xs : List A) → (length xs ≡ 0 → ⊥)
     → lines_text front (line_if name (map word xs)) ≡ front ++ name ++ spaced word xs ++ 10 ∷ []

@@ -7,6 +7,7 @@ abbrev pub draft_value : Draft → DraftValue
 draft_value d = record {
   stage = d.stage;
   queues = d.queues.items;
+  tagged = d.tagged.items;
   harts = d.harts.items;
   own = d.own.items;
   first = d.first;

@@ -9,6 +9,7 @@ use Rattle.queue_certificates.specs.Forms.{Form}
 use Rattle.queue_certificates.specs.States.{KnownValue, any, Share, no_share, KnownState}
 use Rattle.queue_certificates.specs.Certificates.{OpenedQueue, HartPart, ListedState, QueueCertificate}
 use Rattle.queue_certificates.specs.Filled.{Filled}
+use Rattle.queue_layouts.specs.declared.tagged.OpenedTagged.{OpenedTagged}
 use Rattle.certificate_reader.specs.declared.faults.CertificateFault.{CertificateFault}
 use Rattle.certificate_reader.specs.declared.faults.CertificateFault.TheVariants.{BadHead, BadLine, Misplaced, TooMany, Unfinished}
 use Rattle.certificate_reader.specs.declared.cases.Node.{Node}
@@ -24,15 +25,17 @@ use Rattle.certificate_reader.specs.Numbers.{first_word_in, first_count_in, ende
 use Rattle.certificate_reader.specs.FormTexts.{form_of, known_value_in}
 use Rattle.certificate_reader.specs.Lists.{few, one_more, words_in, counts_in, ranges_in, forms_in}
 use Rattle.certificate_reader.specs.Fields.{with_field, with_filled}
+use Rattle.certificate_reader.specs.Tags.{with_tagged}
 use Rattle.certificate_reader.specs.CaseTexts.{cases_of}
 use Rattle.certificate_reader.specs.Stages.{keyword_named, may_end, stage_after}
 
--- What the lines so far say: the queues, and the harts whose parts are over; then of the hart at hand its own words, how it opens and
--- its states that are over; then what is known in the state at hand, which fields are right, and its lines of cases. All states are counted, and the splits
--- of the one at hand. The newest of the states and of the lines of cases stands first.
+-- What the lines so far say: the queues, those with indices and those with tags, and the harts whose parts are over; then of the hart at
+-- hand its own words, how it opens and its states that are over; then what is known in the state at hand, which fields are right, and its
+-- lines of cases. All states are counted, and the splits of the one at hand. The newest of the states and of the lines of cases stands first.
 pub record DraftValue : Type 0 where
   pub stage : Stage
   pub queues : List OpenedQueue
+  pub tagged : List OpenedTagged
   pub harts : List HartPart
   pub own : List ℕ
   pub first : ℕ
@@ -52,6 +55,7 @@ abbrev pub no_draft : DraftValue
 no_draft = record {
   stage = stage.Head;
   queues = [];
+  tagged = [];
   harts = [];
   own = [];
   first = 0;
@@ -153,7 +157,7 @@ with_hart d words = do
   over ← ended words
   few_harts (hart_closed (state_closed d))
 
--- nothing is known but the pc
+-- nothing is known but the pc. There is a share of each queue, first of those with indices
 abbrev pub with_pc : DraftValue → (pc : ℕ) → DraftValue
 with_pc d pc = record d {
   listed = d.listed + 1;
@@ -161,7 +165,7 @@ with_pc d pc = record d {
   ranges = [];
   registers = replicate 32 any;
   words = replicate (length d.own) any;
-  shares = replicate (length d.queues) no_share;
+  shares = replicate (length d.queues + length d.tagged) no_share;
   filled = [];
   nodes = [];
   splits = 0;
@@ -265,6 +269,9 @@ by_keyword d keyword.Queue words = do
 by_keyword d keyword.Field words = do
   queues ← with_field d.queues words
   Ok (record d { queues = queues })
+by_keyword d keyword.Tagged words = do
+  tagged ← with_tagged d.tagged words
+  Ok (record d { tagged = tagged })
 by_keyword d keyword.Hart words = with_hart d words
 by_keyword d keyword.Own words = do
   own ← own_of words
@@ -336,7 +343,7 @@ unfinished stage.Head = BadHead
 unfinished other = Unfinished
 
 abbrev pub certificate_of : DraftValue → QueueCertificate
-certificate_of d = record { queues = d.queues; harts = d.harts }
+certificate_of d = record { queues = d.queues; tagged = d.tagged; harts = d.harts }
 
 -- the certificate, where the last hart's part may end here
 unfoldable pub finished : DraftValue → Result QueueCertificate CertificateFault

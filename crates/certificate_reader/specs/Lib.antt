@@ -3,6 +3,7 @@ pub mod Numbers
 pub mod FormTexts
 pub mod Lists
 pub mod Fields
+pub mod Tags
 pub mod CaseTexts
 pub mod Growths
 pub mod Stages

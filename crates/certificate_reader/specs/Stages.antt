@@ -12,10 +12,9 @@ use Rattle.certificate_reader.specs.declared.stages.TheConstants.{MAX_SPLITS}
 
 abbrev pub part_keyword : List ℕ → Option Keyword
 part_keyword name =
-    if bytes_eq name (codes "queue") then Some keyword.Queue else
-    (if bytes_eq name (codes "hart") then Some keyword.Hart else
+    if bytes_eq name (codes "hart") then Some keyword.Hart else
     (if bytes_eq name (codes "own") then Some keyword.Own else
-    (if bytes_eq name (codes "open") then Some keyword.Open else None)))
+    (if bytes_eq name (codes "open") then Some keyword.Open else None))
 
 abbrev pub state_keyword : List ℕ → Option Keyword
 state_keyword name =
@@ -31,19 +30,27 @@ case_keyword name =
     (if bytes_eq name (codes "leaf") then Some keyword.Leaf else
     (if bytes_eq name (codes "to") then Some keyword.To else None)))
 
-abbrev pub field_keyword : List ℕ → Option Keyword
-field_keyword name =
-    if bytes_eq name (codes "field") then Some keyword.Field else
-    (if bytes_eq name (codes "filled") then Some keyword.Filled else None)
+abbrev pub queue_keyword : List ℕ → Option Keyword
+queue_keyword name =
+    if bytes_eq name (codes "queue") then Some keyword.Queue else
+    (if bytes_eq name (codes "field") then Some keyword.Field else
+    (if bytes_eq name (codes "tagged") then Some keyword.Tagged else
+    (if bytes_eq name (codes "filled") then Some keyword.Filled else None)))
 
 unfoldable pub keyword_named : List ℕ → Option Keyword
-keyword_named name = option_or (option_or (option_or (part_keyword name) (state_keyword name)) (case_keyword name)) (field_keyword name)
+keyword_named name = option_or (option_or (option_or (part_keyword name) (state_keyword name)) (case_keyword name)) (queue_keyword name)
 
 -- ---- how far a text has come
 
 abbrev pub is_queues : Stage → Bool
 is_queues stage.Queues = true
 is_queues other = false
+
+-- no hart has come: a queue with tags may come, and a hart
+abbrev pub lists_queues : Stage → Bool
+lists_queues stage.Queues = true
+lists_queues stage.Tagged = true
+lists_queues other = false
 
 abbrev pub is_hart : Stage → Bool
 is_hart stage.Hart = true
@@ -94,7 +101,8 @@ where_it b s = if b then Some s else None
 unfoldable pub stage_after : Stage → Keyword → Option Stage
 stage_after s keyword.Queue = where_it (is_queues s) stage.Queues
 stage_after s keyword.Field = where_it (is_queues s) stage.Queues
-stage_after s keyword.Hart = where_it (is_queues s || may_end s) stage.Hart
+stage_after s keyword.Tagged = where_it (lists_queues s) stage.Tagged
+stage_after s keyword.Hart = where_it (lists_queues s || may_end s) stage.Hart
 stage_after s keyword.Own = where_it (is_hart s) stage.Owned
 stage_after s keyword.Open = where_it (is_hart s || is_owned s) stage.Opened
 stage_after s keyword.State = where_it (may_end s) stage.State

@@ -8,6 +8,10 @@ use Rattle.queue_certificates.specs.Forms.{Form}
 use Rattle.queue_certificates.specs.States.{KnownValue, any, linear, index_for, signed_for, Share, KnownState}
 use Rattle.queue_certificates.specs.Certificates.{OpenedQueue, ListedState, HartPart, QueueCertificate}
 use Rattle.queue_certificates.specs.Filled.{Filled}
+use Rattle.queue_layouts.specs.declared.tagged.Codec.{Codec}
+use Rattle.queue_layouts.specs.declared.tagged.Codec.TheVariants as codec
+use Rattle.queue_layouts.specs.declared.tagged.TaggedQueue.{TaggedQueue}
+use Rattle.queue_layouts.specs.declared.tagged.OpenedTagged.{OpenedTagged}
 use Rattle.certificate_reader.specs.declared.cases.Node.{Node}
 use Rattle.certificate_reader.specs.declared.cases.Node.TheVariants as node
 use Rattle.certificate_reader.specs.CaseTexts.{case_lines}
@@ -157,10 +161,23 @@ field_line f = (codes "field", map decimal (field_numbers f))
 abbrev pub queue_lines : OpenedQueue → List LineOfWords
 queue_lines o = queue_line o ∷ map field_line o.fields
 
+-- how its tags tell
+abbrev pub codec_text : Codec → List ℕ
+codec_text codec.Zero = codes "zero"
+codec_text codec.Number = codes "number"
+
+-- the numbers of a queue with tags before that
+abbrev pub tagged_numbers : TaggedQueue → List ℕ
+tagged_numbers q = q.sender ∷ q.receiver ∷ q.slots ∷ q.size ∷ q.width ∷ q.tag_offset ∷ q.tag_width ∷ []
+
+abbrev pub tagged_line : OpenedTagged → LineOfWords
+tagged_line o = (codes "tagged", map decimal (tagged_numbers o.queue) ++ codec_text o.queue.codec ∷ decimal o.start ∷ [])
+
 -- ---- all of it
 
 abbrev pub certificate_lines : QueueCertificate → List LineOfWords
-certificate_lines c = (codes "ztso-queues", codes "1" ∷ []) ∷ flat_map queue_lines c.queues ++ flat_map part_lines c.harts
+certificate_lines c = (codes "ztso-queues", codes "1" ∷ []) ∷ flat_map queue_lines c.queues ++ map tagged_line c.tagged
+    ++ flat_map part_lines c.harts
 
 unfoldable pub certificate_text : QueueCertificate → List ℕ
 certificate_text c = lines_text [] (certificate_lines c)

@@ -6,9 +6,11 @@ use Rattle.queue_certificates.specs.Forms.{Form}
 use Rattle.queue_certificates.specs.States.{KnownValue, any, linear, index_for, signed_for, Share}
 use Rattle.queue_certificates.specs.Certificates.{OpenedQueue, no_queue, Arrow, Cases, leaf, split, ListedState, HartPart, QueueCertificate}
 use Rattle.queue_certificates.specs.Filled.{Filled}
+use Rattle.queue_layouts.specs.declared.tagged.OpenedTagged.{OpenedTagged}
 use Rattle.queue_checker.specs.Trees.{height}
 use Rattle.certificate_reader.specs.declared.stages.TheConstants.{MAX_SPLITS}
-use Rattle.certificate_reader.specs.declared.limits.TheConstants.{MAX_QUEUES, MAX_FIELDS, MAX_POSITIONS, MAX_HARTS, MAX_WORDS, MAX_VARIABLES, MAX_STATES}
+use Rattle.certificate_reader.specs.declared.limits.TheConstants.{MAX_QUEUES, MAX_TAGGED, MAX_SLOTS, MAX_FIELDS, MAX_POSITIONS}
+use Rattle.certificate_reader.specs.declared.limits.TheConstants.{MAX_HARTS, MAX_WORDS, MAX_VARIABLES, MAX_STATES}
 
 abbrev pub FitsWord : ℕ → Type 0
 FitsWord n = n < 2 ^ 32
@@ -23,7 +25,7 @@ pub record FitsForm (n : ℕ) (f : Form) : Type 0 where
   pub factors : AllByRecursion FitsCount f.factors
   pub few : length f.factors ≤ n
 
--- where there are N queues
+-- where there are N queues with indices
 abbrev pub FitsValue : (N n : ℕ) → KnownValue → Type 0
 FitsValue N n any = Unit {0}
 FitsValue N n (linear f) = FitsForm n f
@@ -64,9 +66,9 @@ abbrev pub FitsFilled : List OpenedQueue → (i : ℕ) → List Filled → Type 
 FitsFilled queues i [] = Unit {0}
 FitsFilled queues i (slots ∷ filled) = FitsSlots (length (get_or queues i no_queue).fields) slots × FitsFilled queues (i + 1) filled
 
--- of a hart with `own` own words: a value or none of each register and own word, a share or none of each queue, and the fields that are
--- right without an empty list at an end
-pub record FitsState (queues : List OpenedQueue) (own : ℕ) (s : ListedState) : Type 0 where
+-- of a hart with `own` own words: a value or none of each register and own word, a share or none of each queue, of those with indices and
+-- of the T with tags, and the fields that are right without an empty list at an end
+pub record FitsState (queues : List OpenedQueue) (T own : ℕ) (s : ListedState) : Type 0 where
   pub pc : FitsWord s.known.pc
   pub variables : length s.known.ranges ≤ MAX_VARIABLES
   pub ranges : AllByRecursion FitsRange s.known.ranges
@@ -76,20 +78,20 @@ pub record FitsState (queues : List OpenedQueue) (own : ℕ) (s : ListedState) :
   pub words : AllByRecursion (FitsValue (length queues) (length s.known.ranges)) s.known.words
   pub all_words : length s.known.words ≡ own
   pub shares : AllByRecursion (FitsShare (length s.known.ranges)) s.known.shares
-  pub all_shares : length s.known.shares ≡ length queues
+  pub all_shares : length s.known.shares ≡ length queues + T
   pub filled : FitsFilled queues 0 s.filled
   pub few_filled : length s.filled ≤ length queues
   pub full_filled : EndsFull s.filled
   pub cases : FitsCases (length s.known.ranges) s.cases
   pub splits : height s.cases ≤ MAX_SPLITS
 
-pub record FitsPart (queues : List OpenedQueue) (p : HartPart) : Type 0 where
+pub record FitsPart (queues : List OpenedQueue) (T : ℕ) (p : HartPart) : Type 0 where
   pub own : AllByRecursion FitsWord p.own
   pub few_words : length p.own ≤ MAX_WORDS
   pub first : FitsWord p.first
   pub numbers : AllByRecursion FitsCount p.numbers
   pub few_numbers : length p.numbers ≤ MAX_VARIABLES
-  pub states : AllByRecursion (FitsState queues (length p.own)) p.states
+  pub states : AllByRecursion (FitsState queues T (length p.own)) p.states
 
 pub record FitsField (f : Field) : Type 0 where
   pub at : FitsWord f.at
@@ -105,10 +107,18 @@ pub record FitsQueue (o : OpenedQueue) : Type 0 where
   pub fields : AllByRecursion FitsField o.fields
   pub few_fields : length o.fields ≤ MAX_FIELDS
 
+pub record FitsTagged (o : OpenedTagged) : Type 0 where
+  pub slots : AllByRecursion FitsWord (o.queue.sender ∷ o.queue.receiver ∷ o.queue.slots ∷ o.queue.size ∷ o.queue.width ∷ [])
+  pub few_slots : o.queue.size ≤ MAX_SLOTS
+  pub tag : AllByRecursion FitsWord (o.queue.tag_offset ∷ o.queue.tag_width ∷ [])
+  pub start : FitsCount o.start
+
 pub record CanBeWritten (c : QueueCertificate) : Type 0 where
   pub queues : AllByRecursion FitsQueue c.queues
   pub few_queues : length c.queues ≤ MAX_QUEUES
-  pub harts : AllByRecursion (FitsPart c.queues) c.harts
+  pub tagged : AllByRecursion FitsTagged c.tagged
+  pub few_tagged : length c.tagged ≤ MAX_TAGGED
+  pub harts : AllByRecursion (FitsPart c.queues (length c.tagged)) c.harts
   pub some_hart : 1 ≤ length c.harts
   pub few_harts : length c.harts ≤ MAX_HARTS
   pub few_states : sum_by (λ part. length part.states) c.harts ≤ MAX_STATES

@@ -20,8 +20,10 @@ use crate::parts::{
     variables,
 };
 use crate::stages::{Keyword, MAX_SPLITS, Stage, keyword_of};
+use crate::tagged::add_tagged;
 use known_values::{KnownValue, OpenedQueue};
 use queue_checker::{Filled, HartPart, KnownState, ListedState, QueueCertificate, Share};
+use queue_layouts::OpenedTagged;
 use std::alloc::{AllocError, Global};
 use std::mem;
 use texts::first_token;
@@ -31,6 +33,7 @@ use texts::first_token;
 pub struct Draft {
     pub stage: Stage,
     pub queues: Vec<OpenedQueue>,
+    pub tagged: Vec<OpenedTagged>,
     /// Those whose parts are over.
     pub harts: Vec<HartPart>,
     /// Of the hart at hand: its own words, how it opens, and its states that are over.
@@ -83,6 +86,7 @@ impl Draft {
         Draft {
             stage: Stage::Head,
             queues: Vec::new(alloc),
+            tagged: Vec::new(alloc),
             harts: Vec::new(alloc),
             own: Vec::new(alloc),
             first: 0,
@@ -190,7 +194,7 @@ impl Draft {
     {
         self.registers = unknown(alloc, 32)?;
         self.words = unknown(alloc, self.own.len())?;
-        self.shares = no_shares(alloc, self.queues.len())?;
+        self.shares = no_shares(alloc, self.queues.len() + self.tagged.len())?;
         self.ranges = Vec::new(alloc);
         self.filled = Vec::new(alloc);
         self.nodes = Vec::new(alloc);
@@ -290,6 +294,7 @@ impl Draft {
         match keyword {
             Keyword::Queue => add_queue(alloc, &mut self.queues, rest),
             Keyword::Field => add_field(&mut self.queues, rest),
+            Keyword::Tagged => add_tagged(&mut self.tagged, rest),
             Keyword::Hart => self.begin_hart(alloc, rest),
             Keyword::Own => self.set_own(alloc, rest),
             Keyword::Open => self.set_opening(alloc, rest),
@@ -360,6 +365,7 @@ impl Draft {
     {
         QueueCertificate {
             queues: mem::replace(&mut self.queues, Vec::new(alloc)),
+            tagged: mem::replace(&mut self.tagged, Vec::new(alloc)),
             harts: mem::replace(&mut self.harts, Vec::new(alloc)),
         }
     }

@@ -36,6 +36,6 @@ pub fn push_known_at(
 {
     match flaw {
         Flaw::State { hart, state } => push_known_text(out, certificate, hart, state),
-        Flaw::Queue(..) | Flaw::Opening(_) => Ok(()),
+        Flaw::Queue(..) | Flaw::Tagged(..) | Flaw::Opening(_) => Ok(()),
     }
 }

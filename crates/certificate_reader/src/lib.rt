@@ -29,6 +29,7 @@ mod numbers;
 mod parts;
 pub mod reading;
 mod stages;
+mod tagged;
 pub mod writing;
 
 pub use faults::{CertificateError, CertificateFault};

@@ -1,7 +1,13 @@
 //! The limits of a certificate. They keep what is read of a text in proportion to its length.
 
-/// The most queues.
+/// The most queues with indices.
 pub const MAX_QUEUES: usize = 16;
+
+/// The most queues with tags.
+pub const MAX_TAGGED: usize = 16;
+
+/// The most slots of a queue with tags: the tag of each is looked at where the test opens.
+pub const MAX_SLOTS: u32 = 65_536;
 
 /// The most fields of a queue.
 pub const MAX_FIELDS: usize = 16;

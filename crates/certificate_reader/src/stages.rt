@@ -1,8 +1,8 @@
 //! What a line begins with, and which lines may come.
 
 ghost use Rattle.std.specs.Prelude.{◌≡◌};
-ghost use Rattle.certificate_reader.specs.Stages.{part_keyword, state_keyword, case_keyword, field_keyword, keyword_named};
-ghost use Rattle.certificate_reader.specs.Stages.{is_queues, is_hart, is_owned, may_end};
+ghost use Rattle.certificate_reader.specs.Stages.{part_keyword, state_keyword, case_keyword, queue_keyword, keyword_named};
+ghost use Rattle.certificate_reader.specs.Stages.{is_queues, lists_queues, is_hart, is_owned, may_end};
 ghost use Rattle.certificate_reader.specs.Stages.{is_state, is_described, wanted, after_split, after_leaf, after_arrow, stage_after};
 
 /// The most splits that a state may have.
@@ -13,6 +13,7 @@ pub const MAX_SPLITS: usize = 1024;
 pub enum Keyword {
     Queue,
     Field,
+    Tagged,
     Hart,
     Own,
     Open,
@@ -32,8 +33,10 @@ pub enum Keyword {
 pub enum Stage {
     /// Nothing has come.
     Head,
-    /// The head, and queues with their fields.
+    /// The head, and queues with indices and their fields.
     Queues,
+    /// Queues with tags.
+    Tagged,
     /// `hart`.
     Hart,
     /// The hart's own words.
@@ -54,7 +57,6 @@ fn part_keyword(word: &[u8]) -> Option<Keyword>
     ensures { result ≡ part_keyword word.now }
 {
     match word {
-        b"queue" => Some(Keyword::Queue),
         b"hart" => Some(Keyword::Hart),
         b"own" => Some(Keyword::Own),
         b"open" => Some(Keyword::Open),
@@ -86,11 +88,15 @@ fn case_keyword(word: &[u8]) -> Option<Keyword>
     }
 }
 
-fn field_keyword(word: &[u8]) -> Option<Keyword>
-    ensures { result ≡ field_keyword word.now }
+fn queue_keyword(word: &[u8]) -> Option<Keyword>
+    ensures { result ≡ queue_keyword word.now }
 {
-    if word == b"field".as_slice() {
+    if word == b"queue".as_slice() {
+        Some(Keyword::Queue)
+    } else if word == b"field".as_slice() {
         Some(Keyword::Field)
+    } else if word == b"tagged".as_slice() {
+        Some(Keyword::Tagged)
     } else if word == b"filled".as_slice() {
         Some(Keyword::Filled)
     } else {
@@ -105,7 +111,7 @@ pub fn keyword_of(word: &[u8]) -> Option<Keyword>
     part_keyword(word)
         .or_else(|| state_keyword(word))
         .or_else(|| case_keyword(word))
-        .or_else(|| field_keyword(word))
+        .or_else(|| queue_keyword(word))
 }
 
 impl Stage {
@@ -114,6 +120,16 @@ impl Stage {
     {
         match self {
             Stage::Queues => true,
+            _ => false,
+        }
+    }
+
+    /// Whether no hart has come, and a queue with tags may come.
+    fn lists_queues(self) -> bool
+        ensures { result ≡ lists_queues self }
+    {
+        match self {
+            Stage::Queues | Stage::Tagged => true,
             _ => false,
         }
     }
@@ -213,7 +229,8 @@ impl Stage {
     {
         match keyword {
             Keyword::Queue | Keyword::Field => self.is_queues().then_some(Stage::Queues),
-            Keyword::Hart => (self.is_queues() || self.may_end()).then_some(Stage::Hart),
+            Keyword::Tagged => self.lists_queues().then_some(Stage::Tagged),
+            Keyword::Hart => (self.lists_queues() || self.may_end()).then_some(Stage::Hart),
             Keyword::Own => self.is_hart().then_some(Stage::Owned),
             Keyword::Open => (self.is_hart() || self.is_owned()).then_some(Stage::Opened),
             Keyword::State => self.may_end().then_some(Stage::State),

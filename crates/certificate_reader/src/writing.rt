@@ -9,12 +9,14 @@ ghost use Rattle.certificate_reader.specs.declared.cases.Node.TheVariants as nod
 ghost use Rattle.certificate_reader.specs.Reading.{certificate_at};
 ghost use Rattle.certificate_reader.specs.Written.{CanBeWritten};
 ghost use Rattle.certificate_reader.specs.Writing.{lines_text, line_if, form_text, node_line, tree_lines, state_lines, part_lines, numbers_of};
-ghost use Rattle.certificate_reader.specs.Writing.{queue_line, field_numbers, field_line, queue_lines, certificate_text};
+ghost use Rattle.certificate_reader.specs.Writing.{queue_line, field_numbers, field_line, queue_lines};
+ghost use Rattle.certificate_reader.specs.Writing.{codec_text, tagged_numbers, tagged_line, certificate_text};
 
 use crate::form_texts::{push_addresses, push_form, push_forms, push_numbers};
 use crate::known_texts::push_described;
 use known_values::{Field, Form, OpenedQueue};
 use queue_checker::{Arrow, CaseNode, Cases, HartPart, ListedState, QueueCertificate};
+use queue_layouts::{Codec, OpenedTagged, TaggedQueue};
 use std::alloc::{AllocError, Global};
 use texts::push_decimal;
 
@@ -209,12 +211,67 @@ fn push_queues(out: &mut String, queues: &[OpenedQueue]) -> Result<(), AllocErro
     Ok(())
 }
 
+fn codec_text(codec: Codec) -> &'static str
+    ensures { result.now ≡ codec_text codec }
+{
+    match codec {
+        Codec::Zero => "zero",
+        Codec::Number => "number",
+    }
+}
+
+/// The numbers of a queue with tags up to how these tell, in order.
+fn tagged_numbers(queue: TaggedQueue) -> [u64; 7]
+    ensures { result ≡ tagged_numbers queue }
+{
+    [
+        u64::from(queue.sender),
+        u64::from(queue.receiver),
+        u64::from(queue.slots),
+        u64::from(queue.size),
+        u64::from(queue.width),
+        u64::from(queue.tag_offset),
+        u64::from(queue.tag_width),
+    ]
+}
+
+/// Appends how its tags tell and the position with which it opens, each after a space.
+fn push_telling(out: &mut String, codec: Codec, start: u64) -> Result<(), AllocError>
+    ensures { OnOk result (string_bytes out.new ≡ string_bytes out.old ++ (32 ∷ codec_text codec ++ 32 ∷ decimal start)) }
+{
+    out.push_str(" ")?;
+    out.push_str(codec_text(codec))?;
+    out.push_str(" ")?;
+    push_decimal(out, start)
+}
+
+/// Appends the line of a queue with tags.
+fn push_tagged(out: &mut String, opened: OpenedTagged) -> Result<(), AllocError>
+    ensures { OnOk result (string_bytes out.new ≡ string_bytes out.old ++ lines_text [] (tagged_line opened ∷ [])) }
+{
+    let numbers = tagged_numbers(opened.queue);
+    out.push_str("tagged")?;
+    push_numbers(out, &numbers)?;
+    push_telling(out, opened.queue.codec, opened.start)?;
+    out.push_str("\n")
+}
+
+fn push_all_tagged(out: &mut String, tagged: &[OpenedTagged]) -> Result<(), AllocError>
+    ensures { OnOk result (string_bytes out.new ≡ string_bytes out.old ++ lines_text [] (map tagged_line tagged.now)) }
+{
+    for opened in tagged {
+        push_tagged(out, *opened)?;
+    }
+    Ok(())
+}
+
 #[tactic(auto, unfolding(crate::specs::Writing::certificate_text))]
 fn text_of(alloc: Global, certificate: &QueueCertificate) -> Result<String, AllocError>
     ensures { IfOk result (λ text. string_bytes text ≡ certificate_text certificate.now) }
 {
     let mut text = String::from_str(alloc, "ztso-queues 1\n")?;
     push_queues(&mut text, &certificate.queues)?;
+    push_all_tagged(&mut text, &certificate.tagged)?;
     push_parts(&mut text, &certificate.harts)?;
     Ok(text)
 }

@@ -1,0 +1,59 @@
+-- The queues with tags of a certificate, as lines say them.
+use Rattle.std.specs.Prelude.{ℕ, nat_lt, List, [], ◌∷◌, Option, Some, None, Result, Ok, Err, if◌then◌else◌, codes}
+use Rattle.std.specs.Str.{bytes_eq}
+use Rattle.texts.specs.Results.{◌>>=◌}
+use Rattle.queue_layouts.specs.declared.tagged.Codec.{Codec}
+use Rattle.queue_layouts.specs.declared.tagged.Codec.TheVariants as codec
+use Rattle.queue_layouts.specs.declared.tagged.OpenedTagged.{OpenedTagged}
+use Rattle.certificate_reader.specs.declared.faults.CertificateFault.{CertificateFault}
+use Rattle.certificate_reader.specs.declared.faults.CertificateFault.TheVariants.{BadLine, TooMany}
+use Rattle.certificate_reader.specs.declared.limits.TheConstants.{MAX_TAGGED, MAX_SLOTS}
+use Rattle.certificate_reader.specs.Faults.{or_bad_line}
+use Rattle.certificate_reader.specs.Numbers.{first_word_in, first_count_in, ended, five_at}
+use Rattle.certificate_reader.specs.Lists.{one_more}
+
+-- how a tag tells
+abbrev pub codec_of : List ℕ → Option Codec
+codec_of word =
+    if bytes_eq word (codes "zero") then Some codec.Zero else
+    (if bytes_eq word (codes "number") then Some codec.Number else None)
+
+-- the same as the first word says it, and the words after it
+unfoldable pub first_codec_in : List (List ℕ) → Result (Codec × List (List ℕ)) CertificateFault
+first_codec_in [] = Err BadLine
+first_codec_in (word ∷ others) = do
+  tells ← or_bad_line (codec_of word)
+  Ok (tells, others)
+
+-- sender, receiver, slots, size, width; where in a slot its tag begins, the bytes of that, and how it tells; and the position with
+-- which the queue opens
+unfoldable pub tagged_of : List (List ℕ) → Result OpenedTagged CertificateFault
+tagged_of words = do
+  a ← five_at words
+  b ← first_word_in a.1
+  c ← first_word_in b.1
+  d ← first_codec_in c.1
+  e ← first_count_in d.1
+  over ← ended e.1
+  Ok (record {
+    queue = record {
+      sender = a.0.0;
+      receiver = a.0.1;
+      slots = a.0.2;
+      size = a.0.3;
+      width = a.0.4;
+      tag_offset = b.0;
+      tag_width = c.0;
+      codec = d.0;
+    };
+    start = e.0;
+  })
+
+abbrev pub few_slots : OpenedTagged → Result OpenedTagged CertificateFault
+few_slots opened = if nat_lt MAX_SLOTS opened.queue.size then Err TooMany else Ok opened
+
+unfoldable pub with_tagged : List OpenedTagged → List (List ℕ) → Result (List OpenedTagged) CertificateFault
+with_tagged tagged words = do
+  opened ← tagged_of words
+  queue ← few_slots opened
+  one_more MAX_TAGGED tagged queue
