@@ -1,6 +1,6 @@
 -- What answers a litmus text and a certificate is one answer, and what it promises holds.
-use Rattle.std.proofs.Common.{◌≡◌, ◌⊎◌, ◌&&◌, ℕ, ◌<◌, ◌↔◌, Bool, true, false, List, length, Result, Ok, Err, refl, sym, ap, ◌∙◌, subst, inl, inr}
-use Rattle.std.specs.Prelude.{Option, Some, None, option_map}
+use Rattle.std.proofs.Common.{arith, ◌≡◌, ◌⊎◌, ◌&&◌, ℕ, ◌+◌, ◌<◌, ◌↔◌, Bool, true, false, List, length, Result, Ok, Err, refl, sym, ap, ◌∙◌, subst, inl, inr}
+use Rattle.std.specs.Prelude.{Option, Some, None}
 use Rattle.std.specs.List.{list_all}
 use Rattle.std.proofs.lemmas.Bool.{and_parts}
 use Rattle.texts.specs.Results.{map_err}
@@ -10,11 +10,15 @@ use Rattle.step_machine.specs.declared.events.Entry.{Entry}
 use Rattle.step_machine.specs.History.{history_of}
 use Rattle.step_machine.specs.Legal.{WellFormed}
 use Rattle.queue_parties.specs.Parties.{Party, all_at, the_sender, the_receiver}
+use Rattle.certified_runs.specs.TwoParties.{EachIs}
+use Rattle.slots_that_tell.specs.Telling.{teller_hart}
+use Rattle.telling_run.specs.Certified.{LoadsRestOwned, telling}
 use Rattle.slot_queue.specs.Ownership.{hart}
 use Rattle.owned_run.specs.Certified.{ReadsOwned}
-use Rattle.queue_certificates.specs.Certificates.{QueueCertificate, queue_at, start_at, accepts, accepts_loads}
+use Rattle.queue_certificates.specs.Certificates.{QueueCertificate, queue_at, start_at, tagged_at, tagged_start, accepts, accepts_loads, accepts_rest}
+use Rattle.queue_layouts.specs.Tagged.{slots_of}
 use Rattle.queue_checker.specs.declared.flaws.Flaw.{Flaw}
-use Rattle.queue_checker.specs.Flaws.{first_flaw, first_of, first_unowned}
+use Rattle.queue_checker.specs.Flaws.{first_flaw, first_unowned, first_unowned_rest}
 use Rattle.drawn_runs.specs.Samples.{DrawnRuns}
 use Rattle.engine_support.specs.declared.fault.Refusal.{Refusal}
 use Rattle.engine_support.specs.Inputs.After.{read}
@@ -25,18 +29,20 @@ use Rattle.certifying.specs.Answers.{judged_reads, kept_answer, kept_judgement}
 use Rattle.certifying.specs.Questions.{Questions}
 use Rattle.certifying.specs.Harts.{harts_lines, harts_safe}
 use Rattle.certifying.specs.Inputs.{SaysCertificate, certificate_of, certificates}
-use Rattle.certifying.specs.Kept.{AreSameAnswers, AreJudged, AreQueueAnswers, DifferInRecords, IsPromised, KeepsProtocol, LoadsOwnedSlots}
-use Rattle.certifying.specs.Kept.{ReceivesFields}
+use Rattle.certifying.specs.Kept.{AreSameAnswers, AreJudged, AreQueueAnswers, DifferInRecords, IsPromised, KeepsProtocol, KeepsTags, LoadsOwnedSlots}
+use Rattle.certifying.specs.Kept.{LoadsTagsOrOwned, ReceivesFields}
+use Rattle.certifying.specs.Queues.{queue_count, slots_by, tagged_number}
 use Rattle.certifying.specs.Records.{AreFoundFor, is_shown}
 use Rattle.certifying.specs.declared.records.Records.{Records}
-use Rattle.certifying.specs.Unread.{first_unread, unread_by, unread_of}
+use Rattle.certifying.specs.Unread.{first_unread, unowned_by, unread_of}
 use Rattle.certifying.specs.Unused.{first_unused}
 use Rattle.certifying.specs.declared.judgement.Judgement.{Judgement}
 use Rattle.certifying.specs.declared.judgement.Judgement.TheVariants as judgement
 use Rattle.certifying.specs.declared.unread.Unread.{Unread}
 use Rattle.certifying.specs.declared.unused.Unused.{Unused}
 use Rattle.certifying.proofs.AskedLaws.{AskedLaws, keeps-harts, writes}
-use Rattle.certifying.proofs.DrawnLaws.{DrawnLaws, SomeSlots, breaks, none-below, one-trial, sized}
+use Rattle.certifying.proofs.DrawnLaws.{DrawnLaws, SomeSlots, breaks, no_first, none-below, one-trial, sized, unmapped}
+use Rattle.certifying.proofs.Numbers.{is_indexed, is_tagged}
 
 -- ---- one answer
 
@@ -53,7 +59,7 @@ one_certificate = is_one SaysCertificate certificate_of said_once read_as
 alike : (a b judged : List ℕ × Judgement) → a ≡ judged → b ≡ judged → AreSameAnswers a b
 alike a b judged is other = let same : a ≡ b = is ∙ sym other in (ap (λ (x : List ℕ × Judgement). x.1) same, λ shows. ap (λ (x : List ℕ × Judgement). x.0) same)
 
--- two answers where what is asked is told: one answer, unless records are asked about
+-- two answers where the certificate is accepted: one answer, unless records are asked about
 module _ (M : ℕ) (asked : Questions) (o : OpeningValue) (c : QueueCertificate) where
   one_kept : (written : Option (List ℕ)) → asked.written ≡ written → (a b : List ℕ × Judgement) → IsKeptAnswer M asked o c a
       → IsKeptAnswer M asked o c b → AreSameAnswers a b ⊎ DifferInRecords M asked a b
@@ -106,42 +112,65 @@ one_queue_answer laws d asked file certificate =
 
 -- ---- what is promised
 
-no_first : {A : Type 0} (a b : Option A) → first_of a b ≡ None → (a ≡ None) × (b ≡ None)
-no_first None b e = (refl, e)
-no_first (Some x) b e = (cc, cc)
-
-unmapped : {A C : Type 0} (f : A → C) (a : Option A) → option_map f a ≡ None → a ≡ None
-unmapped f None e = refl
-unmapped f (Some x) e = cc
-
 -- what the crates below promise: of the checker, of accepted certificates, and of drawn runs
 pub record Laws : Type 0 where
   pub no_flaw : (o : OpeningValue) (c : QueueCertificate) → (first_flaw o c ≡ None) ↔ (accepts o c ≡ true)
   pub all_owned : (o : OpeningValue) (c : QueueCertificate) (i h : ℕ) → (first_unowned o c i h ≡ None) ↔ (accepts_loads o c i h ≡ true)
+  pub all_rest : (o : OpeningValue) (c : QueueCertificate) (t h : ℕ) → (first_unowned_rest o c t h ≡ None) ↔ (accepts_rest o c t h ≡ true)
   pub every_run : (o : OpeningValue) (c : QueueCertificate) → accepts o c ≡ true → KeepsProtocol o c
+  pub tells : (o : OpeningValue) (c : QueueCertificate) → accepts o c ≡ true → KeepsTags o c
   pub sent : (o : OpeningValue) (c : QueueCertificate) → accepts o c ≡ true → ReceivesFields o c
   pub reads_owned : (B M : ℕ) (o : OpeningValue) (c : QueueCertificate) → accepts o c ≡ true → (i : ℕ) (p : Party) → i < length c.queues
       → accepts_loads o c i (hart (queue_at c i) p) ≡ true → (es : List Entry) → WellFormed B M (history_of o es)
       → ReadsOwned (queue_at c i) p (all_at (start_at c i)) es
+  pub rest_owned : (B M : ℕ) (o : OpeningValue) (c : QueueCertificate) → accepts o c ≡ true → (t : ℕ) (p : Party) → t < length c.tagged
+      → accepts_rest o c t (teller_hart (slots_of (tagged_at c t)) p) ≡ true → (es : List Entry) → WellFormed B M (history_of o es)
+      → EachIs (telling (slots_of (tagged_at c t))) (teller_hart (slots_of (tagged_at c t)) p) (LoadsRestOwned (slots_of (tagged_at c t)) p)
+      (all_at (tagged_start c t)) es
   pub asked : AskedLaws
   pub drawn : DrawnLaws
 
 module _ (laws : Laws) (o : OpeningValue) (c : QueueCertificate) where
+  -- no state of a queue's parties has such a load
+  abbrev AreRead : (i : ℕ) → (t : Option ℕ) → Type 0
+  AreRead i t = (unowned_by o c i t (slots_by c i t).sender ≡ None) × (unowned_by o c i t (slots_by c i t).receiver ≡ None)
+
+  none_unread : first_unread o c ≡ None → (i : ℕ) → i < queue_count c → AreRead i (tagged_number c i)
+  none_unread none i less = let both = no_first _ _ (none-below (unread_of o c) (queue_count c) i none less) in
+      (unmapped _ _ both.0, unmapped _ _ both.1)
+
   all_read : first_unread o c ≡ None → (i : ℕ) → i < length c.queues → (p : Party) → accepts_loads o c i (hart (queue_at c i) p) ≡ true
   all_read none i less p = at p
     where
-      both : (unread_by o c i (queue_at c i).sender ≡ None) × (unread_by o c i (queue_at c i).receiver ≡ None)
-      both = no_first _ _ (none-below (unread_of o c) (length c.queues) i none less)
+      both : AreRead i None
+      both = subst (AreRead i) (is_indexed c i less) (none_unread none i (omega (arith, less)))
 
       at : (p : Party) → accepts_loads o c i (hart (queue_at c i) p) ≡ true
-      at the_sender = (laws.all_owned o c i (queue_at c i).sender).0 (unmapped _ _ both.0)
-      at the_receiver = (laws.all_owned o c i (queue_at c i).receiver).0 (unmapped _ _ both.1)
+      at the_sender = (laws.all_owned o c i (queue_at c i).sender).0 both.0
+      at the_receiver = (laws.all_owned o c i (queue_at c i).receiver).0 both.1
+
+  all_rest_read : first_unread o c ≡ None → (t : ℕ) → t < length c.tagged → (p : Party)
+      → accepts_rest o c t (teller_hart (slots_of (tagged_at c t)) p) ≡ true
+  all_rest_read none t less p = at p
+    where
+      both : AreRead (length c.queues + t) (Some t)
+      both = subst (AreRead (length c.queues + t)) (is_tagged c t) (none_unread none (length c.queues + t) (omega (arith, less)))
+
+      at : (p : Party) → accepts_rest o c t (teller_hart (slots_of (tagged_at c t)) p) ≡ true
+      at the_sender = (laws.all_rest o c t (tagged_at c t).sender).0 both.0
+      at the_receiver = (laws.all_rest o c t (tagged_at c t).receiver).0 both.1
 
   loads : first_flaw o c ≡ None → first_unread o c ≡ None → LoadsOwnedSlots o c
   loads none owned B M es legal i less p = laws.reads_owned B M o c ((laws.no_flaw o c).0 none) i p less (all_read owned i less p) es legal
 
+  loads_tags : first_flaw o c ≡ None → first_unread o c ≡ None → LoadsTagsOrOwned o c
+  loads_tags none owned B M es legal t less p = laws.rest_owned B M o c ((laws.no_flaw o c).0 none) t p less (all_rest_read owned t less p) es legal
+
   keeps : first_flaw o c ≡ None → KeepsProtocol o c
   keeps none = laws.every_run o c ((laws.no_flaw o c).0 none)
+
+  keeps_tags : first_flaw o c ≡ None → KeepsTags o c
+  keeps_tags none = laws.tells o c ((laws.no_flaw o c).0 none)
 
   receives : first_flaw o c ≡ None → ReceivesFields o c
   receives none = laws.sent o c ((laws.no_flaw o c).0 none)
@@ -153,18 +182,20 @@ module _ (laws : Laws) (o : OpeningValue) (c : QueueCertificate) where
         let accepted = (laws.no_flaw o c).0 none in
         let both = and_parts _ _ shown in (
           keeps none,
+          keeps_tags none,
           receives none,
           loads none owned,
+          loads_tags none owned,
           writes o c laws.asked accepted asked.written found are both.0,
           keeps-harts o c laws.asked accepted M asked.harts both.1,
         )
-    promised_all none owned found are false shown = (keeps none, receives none, loads none owned)
+    promised_all none owned found are false shown = (keeps none, keeps_tags none, receives none, loads none owned, loads_tags none owned)
 
     promised_reads : first_flaw o c ≡ None → (found : List Records) → AreFoundFor o c asked.written found → (u : Option Unread) → first_unread o c ≡ u
         → IsPromised M asked (judged_reads o c asked found (harts_lines M o c asked.harts) (harts_safe M o c asked.harts) u).1 o c
     promised_reads none found are None e =
         promised_all none e found are (list_all is_shown found && harts_safe M o c asked.harts) refl
-    promised_reads none found are (Some unread) e = (keeps none, receives none)
+    promised_reads none found are (Some unread) e = (keeps none, keeps_tags none, receives none)
 
     promised_use : first_flaw o c ≡ None → (u : Option Unused) → (answer : List ℕ × Judgement) → IsUseAnswer M asked o c u answer
         → IsPromised M asked answer.1 o c

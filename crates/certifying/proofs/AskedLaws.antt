@@ -1,9 +1,11 @@
 -- What is shown of records and of harts, where the certificate is accepted.
-use Rattle.std.proofs.Common.{arith, ◌≡◌, ℕ, zero, suc, ◌+◌, ◌<◌, ◌≤◌, Bool, true, false, not, List, [], ◌∷◌, ◌++◌, length, Some, None, refl}
-use Rattle.std.proofs.Common.{subst}
+use Rattle.std.proofs.Common.{arith, ◌≡◌, ◌≢◌, ◌⊎◌, inl, inr, ℕ, zero, suc, ◌+◌, ◌<◌, ◌≤◌, Bool, true, false, not, List, [], ◌∷◌, ◌++◌, length}
+use Rattle.std.proofs.Common.{Some, None, refl, ap, subst}
 use Rattle.std.specs.Prelude.{Option, is_some}
-use Rattle.std.specs.List.{Contains, list_all}
-use Rattle.std.proofs.lemmas.Bool.{and_parts}
+use Rattle.std.specs.List.{Contains, filter, list_all}
+use Rattle.std.proofs.lemmas.Bool.{and_parts, cases_eq}
+use Rattle.std.proofs.lemmas.List.Elements.{Contains-append_right}
+use Rattle.std.proofs.lemmas.Map.Made.{Contains-tail}
 use Rattle.hart.specs.State.{HartState}
 use Rattle.hart.specs.declared.status.Stop.{Stop}
 use Rattle.hart.specs.declared.status.Status.TheVariants.{Stopped}
@@ -14,27 +16,30 @@ use Rattle.step_machine.specs.History.{OpeningValue, history_of}
 use Rattle.step_machine.specs.Legal.{WellFormed}
 use Rattle.step_machine.specs.Paths.{state_of}
 use Rattle.store_buffers.specs.StoreBuffers.{LeavesByteBy}
-use Rattle.slot_queue.specs.Queues.{slot_of}
-use Rattle.queue_certificates.specs.Certificates.{QueueCertificate, accepts, queue_at, start_at}
+use Rattle.queue_certificates.specs.Certificates.{QueueCertificate, accepts}
 use Rattle.queue_certificates.proofs.States.{at-below}
 use Rattle.record_bytes.specs.Naming.{names_byte}
 use Rattle.record_bytes.proofs.OffsetLaws.{offset-within, some-offset}
 use Rattle.records_written.specs.Marks.{IsShownWritten}
+use Rattle.records_written.specs.declared.senders.QueueNumber.{QueueNumber}
+use Rattle.records_written.specs.Senders.{IsListed, published_after, slot_in}
 use Rattle.records_written.specs.Written.{IsWritten}
-use Rattle.hart_safety.specs.Regions.{IsInNone, first_unbounded, regions_written}
+use Rattle.hart_safety.specs.Regions.{IsInNone}
+use Rattle.hart_safety.specs.Writes.{first_unbounded, regions_written}
 use Rattle.hart_safety.specs.Stops.{first_stop}
 use Rattle.certifying.specs.Harts.{harts_safe, is_safe}
-use Rattle.certifying.specs.Kept.{KeepsHarts, WritesRecords, published_after}
-use Rattle.certifying.specs.Records.{AreFoundFor, AreFoundFrom, IsFound, asked_bytes, is_shown}
+use Rattle.certifying.specs.Kept.{KeepsHarts, WritesRecords}
+use Rattle.certifying.specs.Queues.{is_tag_byte, number_by, number_in, queue_count, slots_at}
+use Rattle.certifying.specs.Records.{AreFoundFor, AreFoundFrom, IsFound, asked_bytes, is_shown, rest_bytes}
 use Rattle.certifying.specs.declared.records.Records.{Records}
 use Rattle.certifying.specs.declared.records.Records.TheVariants.{NoBytes, Shown, NotShown}
+use Rattle.certifying.proofs.Numbers.{of_either}
 
 -- what the crates below promise of records and of harts, where a certificate is accepted
 pub record AskedLaws : Type 0 where
-  pub written : (B M : ℕ) (o : OpeningValue) (c : QueueCertificate) → accepts o c ≡ true → (i : ℕ) → i < length c.queues → (mask : List ℕ)
-      → IsShownWritten o c i mask → (es : List Entry) (e : Entry) → WellFormed B M (history_of o (es ++ e ∷ [])) → (k : ℕ)
-      → published_after c i es ≤ k → k < published_after c i (es ++ e ∷ []) → (b : ℕ) → Contains mask b
-      → IsWritten (queue_at c i) (start_at c i) es k (slot_of (queue_at c i) k + b)
+  pub written : (B M : ℕ) (o : OpeningValue) (c : QueueCertificate) → accepts o c ≡ true → (w : QueueNumber) → IsListed c w → (mask : List ℕ)
+      → IsShownWritten o c w mask → (es : List Entry) (e : Entry) → WellFormed B M (history_of o (es ++ e ∷ [])) → (k : ℕ)
+      → published_after c w es ≤ k → k < published_after c w (es ++ e ∷ []) → (b : ℕ) → Contains mask b → IsWritten c w es k (slot_in c w k + b)
   pub never_stopped : (B M : ℕ) (o : OpeningValue) (c : QueueCertificate) → accepts o c ≡ true → (h : ℕ) → first_stop M o c h ≡ None
       → (es : List Entry) → WellFormed B M (history_of o es) → (s : HartState) → state_of M (history_of o es) h ≡ Some s → (why : Stop)
       → s.status ≡ Stopped why → ⊥
@@ -44,9 +49,20 @@ pub record AskedLaws : Type 0 where
 
 -- ---- records
 
+-- an element that passes a test is among those that do
+kept-in : (f : ℕ → Bool) (bs : List ℕ) (b : ℕ) → Contains bs b → f b ≡ true → Contains (filter f bs) b
+kept-in f [] b among ok = absurd (omega (arith, among.1))
+kept-in f (a ∷ bs) b among ok = by (λ far. kept-in f bs b (Contains-tail a bs b far among) ok) (f a) refl (cases_eq a b)
+  where
+    by : ((a ≡ b → ⊥) → Contains (filter f bs) b) → (t : Bool) → f a ≡ t → (a ≡ b) ⊎ (a ≢ b) → Contains (filter f (a ∷ bs)) b
+    by rest true is (inl same) = rw is (subst (λ (q : ℕ). Contains (a ∷ filter f bs) q) same (0, omega arith, refl))
+    by rest true is (inr far) = rw is (Contains-append_right (a ∷ []) (filter f bs) b (rest far))
+    by rest false is (inl same) = absurd (cc)
+    by rest false is (inr far) = rw is (rest far)
+
 module _ (o : OpeningValue) (c : QueueCertificate) where
   abbrev IsWhole : (bytes : List ℕ) → (i : ℕ) → Type 0
-  IsWhole bytes i = (asked_bytes c bytes i ≡ [] → ⊥) × IsShownWritten o c i (asked_bytes c bytes i)
+  IsWhole bytes i = (asked_bytes c bytes i ≡ [] → ⊥) × IsShownWritten o c (number_in c i) (rest_bytes c i (asked_bytes c bytes i))
 
   one-shown : (bytes : List ℕ) (i : ℕ) (r : Records) → IsFound o c i (asked_bytes c bytes i) r → is_shown r ≡ true → IsWhole bytes i
   one-shown bytes i NoBytes is shown = absurd (cc)
@@ -73,17 +89,26 @@ module _ (o : OpeningValue) (c : QueueCertificate) where
       (are.0, found-more bytes (first + 1) found r are.1 (subst (λ (i : ℕ). IsFound o c i (asked_bytes c bytes i) r) same next))
 
   module _ (laws : AskedLaws) (accepted : accepts o c ≡ true) where
-    whole : (bytes : List ℕ) (found : List Records) → AreFoundFor o c (Some bytes) found → list_all is_shown found ≡ true → (i : ℕ) → i < length c.queues
+    whole : (bytes : List ℕ) (found : List Records) → AreFoundFor o c (Some bytes) found → list_all is_shown found ≡ true → (i : ℕ) → i < queue_count c
         → IsWhole bytes i
     whole bytes found are shown i less = subst (IsWhole bytes) (omega arith) (all-shown bytes 0 found are.1 shown i (omega (arith, less, are.0)))
+
+    listed : (i : ℕ) → i < queue_count c → IsListed c (number_in c i)
+    listed = of_either c (λ (i : ℕ) (t : Option ℕ). IsListed c (number_by i t)) (λ i less. less) (λ t less. less)
+
+    asked-of : (bytes : List ℕ) (i b : ℕ) → b < (slots_at c i).width → names_byte bytes b ≡ true → is_tag_byte c i b ≡ false
+        → Contains (rest_bytes c i (asked_bytes c bytes i)) b
+    asked-of bytes i b within named free = kept-in (λ b. not (is_tag_byte c i b)) (asked_bytes c bytes i) b
+        (offset-within (names_byte bytes) (slots_at c i).width b within named) (ap not free)
 
     pub writes : (written : Option (List ℕ)) (found : List Records) → AreFoundFor o c written found → list_all is_shown found ≡ true
         → WritesRecords written o c
     writes None found are shown = tt
     writes (Some bytes) found are shown = (
-      λ i less. some-offset (names_byte bytes) (queue_at c i).width (whole bytes found are shown i less).0,
-      λ B M es e formed i less k low high b within named. (laws.written B M o c accepted i less (asked_bytes c bytes i)
-          (whole bytes found are shown i less).1 es e formed k low high b (offset-within (names_byte bytes) (queue_at c i).width b within named)),
+      λ i less. some-offset (names_byte bytes) (slots_at c i).width (whole bytes found are shown i less).0,
+      λ B M es e formed i less k low high b within named free. laws.written B M o c accepted (number_in c i) (listed i less)
+          (rest_bytes c i (asked_bytes c bytes i)) (whole bytes found are shown i less).1 es e formed k low high b
+          (asked-of bytes i b within named free),
     )
 
     -- ---- harts

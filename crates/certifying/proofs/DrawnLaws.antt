@@ -10,35 +10,50 @@ use Rattle.step_machine.specs.History.{OpeningValue, history_of, at_opening}
 use Rattle.step_machine.specs.Legal.{WellFormed}
 use Rattle.step_machine.proofs.Running.{kept-at_opening, kept-run, opening_kept}
 use Rattle.queue_parties.specs.Parties.{QueueCounts, all_at}
-use Rattle.slot_queue.specs.Queues.{Queue}
-use Rattle.slot_queue.specs.Ownership.{KeepsOwnership}
-use Rattle.queue_certificates.specs.Certificates.{QueueCertificate, queue_at, start_at, is_queue, opens_empty}
+use Rattle.queue_layouts.specs.declared.AnyQueue.{AnyQueue}
+use Rattle.queue_certificates.specs.Certificates.{QueueCertificate, queue_at, start_at, tagged_at, is_queue, opens_empty}
 use Rattle.queue_checker.specs.declared.flaws.Flaw.{Flaw}
 use Rattle.queue_checker.specs.declared.flaws.Flaw.TheVariants as flaw
 use Rattle.queue_checker.specs.declared.flaws.QueueFlaw.{QueueFlaw}
-use Rattle.queue_checker.specs.Flaws.{first_below, first_flaw, first_of, hart_flaw, queue_flaw, flaw_of_queue}
+use Rattle.queue_checker.specs.declared.flaws.TaggedFlaw.{TaggedFlaw}
+use Rattle.queue_checker.specs.Flaws.{first_below, first_flaw, first_of, flaw_of_queue, flaw_of_tagged, hart_flaw, queue_flaw, tagged_flaw, unless}
 use Rattle.queue_checker.proofs.FlawLaws.{no_queue_flaw}
 use Rattle.drawn_runs.specs.Samples.{DrawnRuns}
 use Rattle.ownership_runs.specs.declared.violations.Violation.{Violation}
 use Rattle.ownership_runs.specs.declared.runs.Moved.{Moved}
+use Rattle.ownership_runs.specs.Protocols.{HasSlot, Keeps}
 use Rattle.ownership_runs.specs.Violations.{first_ownership_violation}
 use Rattle.ownership_runs.specs.Runs.{HasKeptRun, HasBrokenRun}
 use Rattle.ownership_runs.proofs.Judged.{moves-one}
 use Rattle.certifying.specs.Answers.{IsBrokenText, IsTriedText, IsTrialAnswer, is_of_queue, tried_text}
 use Rattle.certifying.specs.Kept.{AreSameAnswers, BreaksProtocol}
+use Rattle.certifying.specs.Queues.{any_queue, any_start, queue_by, queue_count}
 use Rattle.certifying.specs.Trials.{AllKeep, EndsBroken, IsBrokenBy, IsOfTrial, IsTrialBroken, QueuesKeep, trial_schedule}
 use Rattle.certifying.specs.declared.trials.Trial.{Trial}
 use Rattle.certifying.specs.declared.trials.Trial.TheVariants as trial
 use Rattle.certifying.specs.declared.judgement.Judgement.{Judgement}
 use Rattle.certifying.specs.declared.judgement.Judgement.TheVariants as judgement
+use Rattle.certifying.proofs.Numbers.{of_either}
 
 -- what `ownership_runs` promises
 pub record DrawnLaws : Type 0 where
-  pub none : (q : Queue) (c : QueueCounts) (es : List _) → 1 ≤ q.size → KeepsOwnership q c es → first_ownership_violation q c es ≡ None
-  pub apart : (B M : ℕ) (o : OpeningValue) (q : Queue) (start : QueueCounts) (events : List Event) (b : Violation) → 1 ≤ q.size
+  pub none : (q : AnyQueue) (c : QueueCounts) (es : List _) → HasSlot q → Keeps q c es → first_ownership_violation q c es ≡ None
+  pub apart : (B M : ℕ) (o : OpeningValue) (q : AnyQueue) (start : QueueCounts) (events : List Event) (b : Violation) → HasSlot q
       → HasKeptRun B M o q start events → HasBrokenRun B M o q start events b → ⊥
 
 -- ---- queues that open at their counts have slots
+
+pub no_first : {A : Type 0} (a b : Option A) → first_of a b ≡ None → (a ≡ None) × (b ≡ None)
+no_first None b e = (refl, e)
+no_first (Some x) b e = (cc, cc)
+
+pub unmapped : {A C : Type 0} (f : A → C) (a : Option A) → option_map f a ≡ None → a ≡ None
+unmapped f None e = refl
+unmapped f (Some x) e = cc
+
+holds-unless : {A : Type 0} (b : Bool) (a : A) → unless b a ≡ None → b ≡ true
+holds-unless true a e = refl
+holds-unless false a e = cc
 
 pub none-below : {A : Type 0} (f : ℕ → Option A) (n i : ℕ) → first_below n f ≡ None → i < n → f i ≡ None
 none-below f zero i none less = absurd (omega arith)
@@ -52,7 +67,7 @@ none-below f (suc n) i none less = at (first_below n f) (f n) refl refl none (no
 
 module _ (o : OpeningValue) (c : QueueCertificate) where
   abbrev pub SomeSlots : Type 0
-  SomeSlots = (i : ℕ) → i < length c.queues → 1 ≤ (queue_at c i).size
+  SomeSlots = (i : ℕ) → i < queue_count c → HasSlot (any_queue c i)
 
   one-of-queues : (i : ℕ) (f : Flaw) → flaw_of_queue o c i ≡ Some f → is_of_queue f ≡ true
   one-of-queues i f is = at (queue_flaw o c i) is
@@ -61,30 +76,52 @@ module _ (o : OpeningValue) (c : QueueCertificate) where
       at None none = cc
       at (Some why) some = let same : flaw.Queue i why ≡ f = cc in ap is_of_queue (sym same)
 
-  first-of-queues : (n : ℕ) (f : Flaw) → first_below n (flaw_of_queue o c) ≡ Some f → is_of_queue f ≡ true
-  first-of-queues zero f is = cc
-  first-of-queues (suc n) f is = at (first-of-queues n f) (first_below n (flaw_of_queue o c)) refl is
+  one-of-tagged : (t : ℕ) (f : Flaw) → flaw_of_tagged o c t ≡ Some f → is_of_queue f ≡ true
+  one-of-tagged t f is = at (tagged_flaw o c t) is
     where
-      at : (first_below n (flaw_of_queue o c) ≡ Some f → is_of_queue f ≡ true) → (before : Option Flaw) → first_below n (flaw_of_queue o c) ≡ before
-          → first_of before (flaw_of_queue o c n) ≡ Some f → is_of_queue f ≡ true
-      at earlier None before here = one-of-queues n f here
-      at earlier (Some g) before here = earlier (before ∙ here)
+      at : (why : Option TaggedFlaw) → option_map (λ why. flaw.Tagged t why) why ≡ Some f → is_of_queue f ≡ true
+      at None none = cc
+      at (Some why) some = let same : flaw.Tagged t why ≡ f = cc in ap is_of_queue (sym same)
+
+  -- the first of flaws of queues is one
+  module _ (at : ℕ → Option Flaw) (of_queues : (i : ℕ) (f : Flaw) → at i ≡ Some f → is_of_queue f ≡ true) where
+    first-of-queues : (n : ℕ) (f : Flaw) → first_below n at ≡ Some f → is_of_queue f ≡ true
+    first-of-queues zero f is = cc
+    first-of-queues (suc n) f is = by (first-of-queues n f) (first_below n at) refl is
+      where
+        by : (first_below n at ≡ Some f → is_of_queue f ≡ true) → (before : Option Flaw) → first_below n at ≡ before → first_of before (at n) ≡ Some f
+            → is_of_queue f ≡ true
+        by earlier None before here = of_queues n f here
+        by earlier (Some g) before here = earlier (before ∙ here)
 
   left : (a b : Bool) → (a && b) ≡ true → a ≡ true
   left a b ok = (and_parts a b ok).0
 
-  some-slot : (i : ℕ) → (is_queue (queue_at c i) && opens_empty o (queue_at c i) (start_at c i)) ≡ true → 1 ≤ (queue_at c i).size
+  some-slot : (i : ℕ) → (is_queue (queue_at c i) && opens_empty o (queue_at c i) (start_at c i)) ≡ true → HasSlot (queue_by c i None)
   some-slot i holds =
       leb-true 1 (queue_at c i).size
       ((and_parts _ _ (left _ _ (left _ _ (left _ _ (left _ _ (left _ _ (left _ _ (left _ _ (left _ _ holds))))))))).1)
 
+  -- the second conjunct of `is_tagged`
+  some-tagged-slot : (i t : ℕ) → flaw_of_tagged o c t ≡ None → HasSlot (queue_by c i (Some t))
+  some-tagged-slot i t none =
+      let tag = no_first _ _ (unmapped _ (tagged_flaw o c t) none) in
+      let harts_and_slots = no_first _ _ (no_first _ _ (no_first _ _ (no_first _ _ (no_first _ _ tag.0).0).0).0).0 in
+      leb-true 1 (tagged_at c t).size (holds-unless _ _ harts_and_slots.1)
+
   pub sized : (f : Flaw) → first_flaw o c ≡ Some f → is_of_queue f ≡ false → SomeSlots
-  sized f first other i less = at (first_below (length c.queues) (flaw_of_queue o c)) refl first
+  sized f first other = at (first_below (length c.queues) (flaw_of_queue o c)) (first_below (length c.tagged) (flaw_of_tagged o c)) refl refl first
     where
-      at : (before : Option Flaw) → first_below (length c.queues) (flaw_of_queue o c) ≡ before
-          → first_of before (first_below (length o.harts) (hart_flaw o c)) ≡ Some f → 1 ≤ (queue_at c i).size
-      at None none later = some-slot i (no_queue_flaw o c i (none-below (flaw_of_queue o c) (length c.queues) i none less))
-      at (Some g) some is = let queue = first-of-queues (length c.queues) f (some ∙ is) in absurd (cc)
+      at : (indexed tagged : Option Flaw) → first_below (length c.queues) (flaw_of_queue o c) ≡ indexed
+          → first_below (length c.tagged) (flaw_of_tagged o c) ≡ tagged
+          → first_of (first_of indexed tagged) (first_below (length o.harts) (hart_flaw o c)) ≡ Some f → SomeSlots
+      at None None none free later = of_either c (λ (i : ℕ) (t : Option ℕ). HasSlot (queue_by c i t))
+          (λ i less. some-slot i (no_queue_flaw o c i (none-below (flaw_of_queue o c) (length c.queues) i none less)))
+          (λ t less. some-tagged-slot (length c.queues + t) t (none-below (flaw_of_tagged o c) (length c.tagged) t free less))
+      at None (Some g) none free is =
+          let queue = first-of-queues (flaw_of_tagged o c) one-of-tagged (length c.tagged) f (free ∙ is) in absurd (cc)
+      at (Some g) tagged some free is =
+          let queue = first-of-queues (flaw_of_queue o c) one-of-queues (length c.queues) f (some ∙ is) in absurd (cc)
 
 -- ---- what a trial is, queue by queue
 
@@ -99,7 +136,7 @@ module _ (d : DrawnRuns) (o : OpeningValue) (c : QueueCertificate) where
   pub some-event : (i : ℕ) (part : List Event) (b : Violation) → EndsBroken d o c i part b → 1 ≤ length part
   some-event i part b ends = omega (arith, length-append ends.front (ends.last ∷ []), ap (λ (xs : List Event). length xs) ends.events_are)
 
-  pub is-broken : (i : ℕ) (part : List Event) (b : Violation) (moved : List Moved) (t : Trial) → IsTrialBroken d.B d.M o i part b t → i < length c.queues
+  pub is-broken : (i : ℕ) (part : List Event) (b : Violation) (moved : List Moved) (t : Trial) → IsTrialBroken d.B d.M o i part b t → i < queue_count c
       → length moved ≡ i → QueuesKeep d o c 0 moved → IsBrokenBy d o c i part b → EndsBroken d o c i part b → IsOfTrial d o c t
   is-broken i part b moved (trial.Kept kept) is inside earlier before told ends = absurd is
   is-broken i part b moved (trial.Broken j given violation pc) is inside earlier before told ends =
@@ -122,7 +159,7 @@ module _ (d : DrawnRuns) (o : OpeningValue) (c : QueueCertificate) where
   one-moved i (m ∷ moved) [] same kept also = absurd (omega (arith, same))
   one-moved i (m ∷ moved) (n ∷ others) same kept also =
       ap₂ (λ (x : Moved) (xs : List Moved). x ∷ xs)
-      (moves-one d.B d.M o (queue_at c i) (all_at (start_at c i)) _ m n kept.0.counted also.0.counted)
+      (moves-one d.B d.M o (any_queue c i) (all_at (any_start c i)) _ m n kept.0.counted also.0.counted)
       (one-moved (i + 1) moved others (omega (arith, same)) kept.1 also.1)
 
   one-tried : (f : Flaw) (text other : List ℕ) → IsTriedText d o c f text → IsTriedText d o c f other → text ≡ other
@@ -146,7 +183,7 @@ module _ (d : DrawnRuns) (o : OpeningValue) (c : QueueCertificate) where
         let all = kept-at 0 is.moved broken.queue (subst (λ (n : ℕ). broken.queue < n) (sym is.count) first.inside) is.kept in
         let at : 0 + broken.queue ≡ broken.queue = omega arith in
         let kept : AllKeep d o c broken.queue all.0 = subst (λ (j : ℕ). AllKeep d o c j all.0) at all.1 in
-        laws.apart d.B d.M o (queue_at c broken.queue) (all_at (start_at c broken.queue)) (trial_schedule d o first.told.number) first.told.flaw
+        laws.apart d.B d.M o (any_queue c broken.queue) (all_at (any_start c broken.queue)) (trial_schedule d o first.told.number) first.told.flaw
         (some broken.queue first.inside) (kept.good first.told.number (omega arith) flawed.within) flawed.has
 
     pub one-trial : (f : Flaw) (a b : List ℕ × Judgement) → IsTrialAnswer d o c f a → IsTrialAnswer d o c f b → AreSameAnswers a b
@@ -170,8 +207,8 @@ module _ (d : DrawnRuns) (o : OpeningValue) (c : QueueCertificate) where
     breaks text is =
         let first = is.is_first in
         let has = first.told.shown.has in
-        let q = queue_at c is.queue in
-        let start = all_at (start_at c is.queue) in
+        let q = any_queue c is.queue in
+        let start = all_at (any_start c is.queue) in
         let formed : WellFormed d.B d.M has.history = kept-run d.B d.M (at_opening o) is.part has.history (kept-at_opening d.B d.M o) has.run in
         record {
           B = d.B;

@@ -2,3 +2,4 @@ mod AnswerLaws
 mod AskedLaws
 mod Certificates
 mod DrawnLaws
+mod Numbers

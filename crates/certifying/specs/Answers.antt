@@ -1,15 +1,15 @@
 -- The command `queue`: whether a certificate shows that every run of a litmus text keeps the protocol of its queues, and what is promised then.
-use Rattle.std.specs.Prelude.{ℕ, ◌≡◌, ◌&&◌, Bool, true, false, List, [], ◌∷◌, ◌++◌, length, get_or, codes, Option, Some, None, is_some, Result, Ok, Err}
+use Rattle.std.specs.Prelude.{ℕ, ◌≡◌, ◌==◌, ◌&&◌, Bool, true, false, List, [], ◌∷◌, ◌++◌, length, codes, Option, Some, None, is_some, Result, Ok, Err}
 use Rattle.std.specs.List.{list_all}
 use Rattle.step_machine.specs.History.{OpeningValue}
 use Rattle.step_machine.specs.declared.events.Event.{Event}
-use Rattle.queue_certificates.specs.Certificates.{QueueCertificate, no_queue}
+use Rattle.queue_certificates.specs.Certificates.{QueueCertificate}
 use Rattle.drawn_runs.specs.Samples.{DrawnRuns}
 use Rattle.ownership_runs.specs.declared.violations.Violation.{Violation}
 use Rattle.ownership_runs.specs.declared.runs.Moved.{Moved}
 use Rattle.queue_checker.specs.Flaws.{first_flaw}
 use Rattle.queue_checker.specs.declared.flaws.Flaw.{Flaw}
-use Rattle.queue_checker.specs.declared.flaws.Flaw.TheVariants.{Queue, Opening, State}
+use Rattle.queue_checker.specs.declared.flaws.Flaw.TheVariants.{Queue, Tagged, Opening, State}
 use Rattle.certificate_reader.specs.Known.{known_at}
 use Rattle.known_values.specs.declared.lack.Lack.{Lack}
 use Rattle.known_values.specs.declared.lack.Lack.TheVariants as lack
@@ -26,6 +26,7 @@ use Rattle.certifying.specs.Descriptions.{all_queue_lines}
 use Rattle.certifying.specs.Harts.{harts_lines, harts_safe}
 use Rattle.certifying.specs.Inputs.{certificates}
 use Rattle.certifying.specs.NotShown.{flaw_line, likely_line}
+use Rattle.certifying.specs.Queues.{queue_count}
 use Rattle.certifying.specs.Records.{AreFoundFor, is_shown, record_lines}
 use Rattle.certifying.specs.Trials.{IsFirstBroken, QueuesKeep}
 use Rattle.certifying.specs.Unread.{first_unread, unread_line}
@@ -43,17 +44,26 @@ abbrev pub kept_line : (all : Bool) → List ℕ
 kept_line true = codes "kept in every run" ++ 10 ∷ []
 kept_line false = codes "kept in every run, but not all that was asked is shown" ++ 10 ∷ []
 
-unfoldable pub protocol_text : List ℕ
-protocol_text = codes "promised: in every legal run, of any length and schedule, with store buffers of any size, the protocol of ownership is kept"
+unfoldable pub every_run_text : List ℕ
+every_run_text = codes "promised: in every legal run, of any length and schedule, with store buffers of any size, the protocol"
+
+-- by whether there are queues with indices and with tags
+abbrev pub kept_protocols : (no_index no_tag : Bool) → List ℕ
+kept_protocols no_index true = codes " of ownership is kept"
+kept_protocols true false = codes " of slots that tell is kept"
+kept_protocols false false = codes "s of ownership and of slots that tell are kept"
+
+abbrev pub protocol_text : QueueCertificate → List ℕ
+protocol_text c = every_run_text ++ kept_protocols (length c.queues == 0) (length c.tagged == 0)
 
 unfoldable pub promise_end : List ℕ
 promise_end = codes ", so records arrive in order, each once, with all that was written before" ++ 10 ∷ []
 
-abbrev pub promise_line : List ℕ
-promise_line = protocol_text ++ promise_end
+abbrev pub promise_line : QueueCertificate → List ℕ
+promise_line c = protocol_text c ++ promise_end
 
-unfoldable pub protocol_line : List ℕ
-protocol_line = protocol_text ++ 10 ∷ []
+abbrev pub protocol_line : QueueCertificate → List ℕ
+protocol_line c = protocol_text c ++ 10 ∷ []
 
 unfoldable pub reads_line : List ℕ
 reads_line = codes "not promised: that what is loaded from a slot is a record that the hart owns" ++ 10 ∷ []
@@ -92,11 +102,11 @@ abbrev pub asked_lines : OpeningValue → QueueCertificate → Questions → Lis
 asked_lines o c asked found harts = record_lines o c asked.written found ++ harts
 
 abbrev pub kept_text : OpeningValue → QueueCertificate → Questions → List Records → (harts : List ℕ) → (all : Bool) → List ℕ
-kept_text o c asked found harts all = kept_line all ++ all_queue_lines o c ++ asked_lines o c asked found harts ++ promise_line
+kept_text o c asked found harts all = kept_line all ++ all_queue_lines o c ++ asked_lines o c asked found harts ++ promise_line c
     ++ limit_lines (records_shown asked found)
 
 abbrev pub unread_text : OpeningValue → QueueCertificate → Questions → List Records → (harts : List ℕ) → Unread → List ℕ
-unread_text o c asked found harts unread = unread_line o c unread ++ all_queue_lines o c ++ asked_lines o c asked found harts ++ protocol_line
+unread_text o c asked found harts unread = unread_line o c unread ++ all_queue_lines o c ++ asked_lines o c asked found harts ++ protocol_line c
     ++ reads_line ++ limit_lines (records_shown asked found)
 
 abbrev pub unused_text : Unused → List ℕ
@@ -138,7 +148,7 @@ tried_text d o c flaw moved =
 
 pub record IsTriedText (d : DrawnRuns) (o : OpeningValue) (c : QueueCertificate) (flaw : Flaw) (text : List ℕ) : Type 0 where
   pub moved : List Moved
-  pub count : length moved ≡ length c.queues
+  pub count : length moved ≡ queue_count c
   pub kept : QueuesKeep d o c 0 moved
   pub text_is : text ≡ tried_text d o c flaw moved
 
@@ -149,16 +159,17 @@ pub record IsBrokenText (d : DrawnRuns) (o : OpeningValue) (c : QueueCertificate
   pub violation : Violation
   pub pc : ℕ
   pub is_first : IsFirstBroken d o c queue part violation pc
-  pub text_is : text ≡ broken_text d.B o queue (get_or c.queues queue no_queue) part violation pc
+  pub text_is : text ≡ broken_text d.B o c queue part violation pc
 
 abbrev pub IsTrialAnswer : DrawnRuns → OpeningValue → QueueCertificate → Flaw → List ℕ × Judgement → Type 0
 IsTrialAnswer d o c flaw (text, NotShown) = IsTriedText d o c flaw text
 IsTrialAnswer d o c flaw (text, Broken) = IsBrokenText d o c text
 IsTrialAnswer d o c flaw (text, other) = ⊥
 
--- a queue isn't one that opens at its count: then no run is drawn
+-- a queue isn't one, or doesn't open as it says: then no run is drawn
 abbrev pub is_of_queue : Flaw → Bool
 is_of_queue (Queue i why) = true
+is_of_queue (Tagged t why) = true
 is_of_queue (Opening h) = false
 is_of_queue (State h n) = false
 

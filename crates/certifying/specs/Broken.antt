@@ -4,12 +4,13 @@ use Rattle.std.specs.Fmt.{decimal}
 use Rattle.step_machine.specs.declared.events.Event.{Event}
 use Rattle.step_machine.specs.History.{OpeningValue}
 use Rattle.recorder.specs.Writing.{canon}
-use Rattle.queue_certificates.specs.Certificates.{OpenedQueue}
+use Rattle.queue_certificates.specs.Certificates.{QueueCertificate}
 use Rattle.ownership_runs.specs.declared.violations.Violation.{Violation}
 use Rattle.ownership_runs.specs.declared.violations.Owned.{Owned}
 use Rattle.ownership_runs.specs.declared.runs.Moved.{Moved}
-use Rattle.certifying.specs.Descriptions.{form_lines}
+use Rattle.certifying.specs.Descriptions.{form_by}
 use Rattle.certifying.specs.Instructions.{instruction_place}
+use Rattle.certifying.specs.Queues.{tagged_number}
 
 -- ---- a violation
 
@@ -31,16 +32,25 @@ owned_text (Some o) = if nat_lt o.from o.end then positions_text o else codes ",
 abbrev pub stored_line : (i : ℕ) → Violation → List ℕ
 stored_line i b = stored_text i b ++ owned_text b.owned ++ 10 ∷ []
 
-unfoldable pub other_line : List ℕ
-other_line =
+unfoldable pub other_than_indices : List ℕ
+other_than_indices =
     codes "another protocol may fit: that of a queue that overwrites, that has several senders or receivers, or whose slots tell whose they are" ++ 10 ∷ []
+
+unfoldable pub other_than_tags : List ℕ
+other_than_tags =
+    codes "another protocol may fit: that of a queue that overwrites, that has several senders or receivers, or of two indices and slots" ++ 10 ∷ []
+
+-- of a queue that may be one with tags
+abbrev pub other_line : (t : Option ℕ) → List ℕ
+other_line None = other_than_indices
+other_line (Some t) = other_than_tags
 
 unfoldable pub shown_line : (B : ℕ) → List ℕ
 shown_line B = codes "shown by this schedule, whose last event it is, with --buffer " ++ (decimal B ++ (codes ":" ++ 10 ∷ []))
 
-abbrev pub broken_text : (B : ℕ) → OpeningValue → (i : ℕ) → OpenedQueue → (part : List Event) → Violation → (pc : ℕ) → List ℕ
-broken_text B o i opened part b pc =
-    broken_line o b.hart pc ++ stored_line i b ++ form_lines i opened ++ other_line ++ shown_line B ++ canon part
+abbrev pub broken_text : (B : ℕ) → OpeningValue → QueueCertificate → (i : ℕ) → (part : List Event) → Violation → (pc : ℕ) → List ℕ
+broken_text B o c i part b pc = broken_line o b.hart pc ++ stored_line i b ++ form_by c i (tagged_number c i) ++ other_line (tagged_number c i)
+    ++ shown_line B ++ canon part
 
 -- ---- runs that keep the protocol
 

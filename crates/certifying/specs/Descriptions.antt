@@ -1,36 +1,42 @@
 -- What a certificate says of a queue, in lines, and which instructions use it.
-use Rattle.std.specs.Prelude.{ℕ, List, [], ◌∷◌, ◌++◌, codes, if◌then◌else◌}
+use Rattle.std.specs.Prelude.{ℕ, ◌==◌, List, [], ◌∷◌, ◌++◌, length, get_or, codes, if◌then◌else◌, Option, None, Some}
 use Rattle.std.specs.List.{flat_map}
 use Rattle.std.specs.Fmt.{decimal}
 use Rattle.step_machine.specs.History.{OpeningValue}
 use Rattle.slot_queue.specs.Queues.{Queue}
 use Rattle.owned_run.specs.Certificates.{Field}
-use Rattle.queue_certificates.specs.Certificates.{OpenedQueue, QueueCertificate}
+use Rattle.queue_certificates.specs.Certificates.{OpenedQueue, QueueCertificate, no_queue, no_tagged}
+use Rattle.queue_layouts.specs.declared.tagged.Codec.{Codec}
+use Rattle.queue_layouts.specs.declared.tagged.Codec.TheVariants.{Zero, Number}
+use Rattle.queue_layouts.specs.declared.tagged.TaggedQueue.{TaggedQueue}
+use Rattle.queue_layouts.specs.declared.tagged.OpenedTagged.{OpenedTagged}
 use Rattle.queue_checker.specs.Accesses.{slot_accesses}
 use Rattle.queue_checker.specs.declared.accesses.SlotAccess.{SlotAccess}
 use Rattle.engine_support.specs.OpeningTexts.{numbered}
 use Rattle.certifying.specs.Instructions.{instruction_place}
+use Rattle.certifying.specs.Queues.{accesses_at}
 
 -- how each line of a queue begins
 abbrev pub queue_front : (i : ℕ) → List ℕ
 queue_front i = codes "queue " ++ decimal i ++ codes ": "
 
-unfoldable pub parties_line : (i : ℕ) → Queue → List ℕ
-parties_line i q = codes "queue " ++ decimal i ++ codes ": hart " ++ decimal q.sender ++ codes " sends and hart " ++ decimal q.receiver
+unfoldable pub parties_line : (i sender receiver : ℕ) → List ℕ
+parties_line i sender receiver = codes "queue " ++ decimal i ++ codes ": hart " ++ decimal sender ++ codes " sends and hart " ++ decimal receiver
     ++ codes " receives" ++ 10 ∷ []
 
 unfoldable pub indices_line : (i : ℕ) → Queue → List ℕ
 indices_line i q = codes "queue " ++ (decimal i ++ (codes ": its head is the " ++ (decimal q.index_width ++ (codes " bytes at " ++ (decimal q.head
     ++ (codes ", its tail those at " ++ (decimal q.tail ++ 10 ∷ [])))))))
 
-unfoldable pub slots_front : (i : ℕ) → Queue → List ℕ
-slots_front i q = codes "queue " ++ (decimal i ++ (codes ": it has " ++ (decimal q.size ++ (codes " slots of " ++ (decimal q.width ++ codes " bytes")))))
+unfoldable pub slots_front : (i size width : ℕ) → List ℕ
+slots_front i size width = codes "queue " ++ (decimal i ++ (codes ": it has " ++ (decimal size ++ (codes " slots of " ++ (decimal width
+    ++ codes " bytes")))))
 
 unfoldable pub slots_end : Queue → List ℕ
 slots_end q = codes " from " ++ (decimal q.slots ++ (codes " on, of which " ++ (decimal q.capacity ++ (codes " may be in use" ++ 10 ∷ []))))
 
 abbrev pub slots_line : (i : ℕ) → Queue → List ℕ
-slots_line i q = slots_front i q ++ slots_end q
+slots_line i q = slots_front i q.size q.width ++ slots_end q
 
 unfoldable pub count_front : (i : ℕ) → Queue → List ℕ
 count_front i q = codes "queue " ++ (decimal i ++ (codes ": count n is the word " ++ (decimal q.base ++ (codes " + " ++ (decimal q.scale ++ codes " * ")))))
@@ -53,6 +59,37 @@ field_end f = decimal f.low ++ (codes " + " ++ (decimal f.step ++ (codes " * j, 
 abbrev pub field_line : (i : ℕ) → Field → List ℕ
 field_line i f = field_front i f ++ field_end f
 
+-- ---- of a queue with tags
+
+unfoldable pub from_end : (slots : ℕ) → List ℕ
+from_end slots = codes " from " ++ (decimal slots ++ (codes " on" ++ 10 ∷ []))
+
+abbrev pub tagged_slots_line : (i : ℕ) → TaggedQueue → List ℕ
+tagged_slots_line i q = slots_front i q.size q.width ++ from_end q.slots
+
+unfoldable pub tag_front : (i : ℕ) → List ℕ
+tag_front i = codes "queue " ++ (decimal i ++ codes ": its tag is the ")
+
+abbrev pub tag_bytes : (width : ℕ) → List ℕ
+tag_bytes width = if width == 1 then codes "byte" else decimal width ++ codes " bytes"
+
+unfoldable pub tag_place : (offset : ℕ) → List ℕ
+tag_place offset = codes " at " ++ (decimal offset ++ codes " of each slot, ")
+
+abbrev pub codec_text : Codec → List ℕ
+codec_text Zero = codes "0 where it is free and any other number where it is full"
+codec_text Number = codes "k where it is free for position k and k + 1 where it is full of it, modulo 4294967296"
+
+unfoldable pub opens_end : (start : ℕ) → List ℕ
+opens_end start = codes ", and it opens at " ++ (decimal start ++ 10 ∷ [])
+
+-- how its tag tells, and the position with which it opens
+abbrev pub tag_line : (i : ℕ) → OpenedTagged → List ℕ
+tag_line i opened = tag_front i ++ tag_bytes opened.queue.tag_width ++ tag_place opened.queue.tag_offset ++ codec_text opened.queue.codec
+    ++ opens_end opened.start
+
+-- ---- its use
+
 -- an instruction that in some state may store to a slot, and one that may load from one
 abbrev pub use_line : OpeningValue → (i : ℕ) → (does : List ℕ) → SlotAccess → List ℕ
 use_line o i does access = queue_front i ++ does ++ instruction_place o access.hart access.pc ++ 10 ∷ []
@@ -66,12 +103,27 @@ load_line o i access = if access.loads then use_line o i (codes "loaded from by 
 abbrev pub access_lines : OpeningValue → (i : ℕ) → SlotAccess → List ℕ
 access_lines o i access = store_line o i access ++ load_line o i access
 
--- what a queue is
+-- ---- all of it
+
+-- what a queue with indices is
 unfoldable pub form_lines : (i : ℕ) → OpenedQueue → List ℕ
-form_lines i opened = parties_line i opened.queue ++ indices_line i opened.queue ++ slots_line i opened.queue ++ count_line i opened
+form_lines i opened = parties_line i opened.queue.sender opened.queue.receiver ++ indices_line i opened.queue ++ slots_line i opened.queue
+    ++ count_line i opened
+
+-- what a queue with tags is
+unfoldable pub tagged_form_lines : (i : ℕ) → OpenedTagged → List ℕ
+tagged_form_lines i opened = parties_line i opened.queue.sender opened.queue.receiver ++ tagged_slots_line i opened.queue ++ tag_line i opened
+
+-- what a queue is, which may be one with tags
+abbrev pub form_by : QueueCertificate → (i : ℕ) → (t : Option ℕ) → List ℕ
+form_by c i None = form_lines i (get_or c.queues i no_queue)
+form_by c i (Some t) = tagged_form_lines i (get_or c.tagged t no_tagged)
 
 unfoldable pub queue_lines : OpeningValue → QueueCertificate → (i : ℕ) → OpenedQueue → List ℕ
 queue_lines o c i opened = form_lines i opened ++ flat_map (field_line i) opened.fields ++ flat_map (access_lines o i) (slot_accesses o c i)
 
+unfoldable pub tagged_lines : OpeningValue → QueueCertificate → (i : ℕ) → OpenedTagged → List ℕ
+tagged_lines o c i opened = tagged_form_lines i opened ++ flat_map (access_lines o i) (accesses_at o c i)
+
 unfoldable pub all_queue_lines : OpeningValue → QueueCertificate → List ℕ
-all_queue_lines o c = numbered (queue_lines o c) 0 c.queues
+all_queue_lines o c = numbered (queue_lines o c) 0 c.queues ++ numbered (tagged_lines o c) (length c.queues) c.tagged

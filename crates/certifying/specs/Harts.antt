@@ -6,7 +6,7 @@ use Rattle.queue_certificates.specs.Certificates.{QueueCertificate}
 use Rattle.queue_certificates.specs.Steps.{all_below}
 use Rattle.record_bytes.specs.declared.ranges.ByteRange.{ByteRange}
 use Rattle.hart_safety.specs.declared.regions.Region.{Region}
-use Rattle.hart_safety.specs.Regions.{first_unbounded, regions_written}
+use Rattle.hart_safety.specs.Writes.{first_unbounded, regions_written}
 use Rattle.hart_safety.specs.Stops.{first_stop}
 use Rattle.engine_support.specs.OpeningTexts.{numbered}
 use Rattle.certifying.specs.ByteTexts.{bytes_text}

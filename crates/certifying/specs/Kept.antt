@@ -12,29 +12,42 @@ use Rattle.step_machine.specs.Legal.{WellFormed}
 use Rattle.step_machine.specs.Paths.{state_of}
 use Rattle.store_buffers.specs.StoreBuffers.{LeavesByteBy}
 use Rattle.queue_parties.specs.Parties.{Party, all_at}
-use Rattle.slot_queue.specs.Queues.{slot_of}
-use Rattle.slot_queue.specs.Ownership.{KeepsOwnership, counts_after}
+use Rattle.certified_runs.specs.TwoParties.{EachIs}
+use Rattle.slots_that_tell.specs.Laws.{FollowsTelling}
+use Rattle.slots_that_tell.specs.Telling.{teller_hart}
+use Rattle.telling_run.specs.Certified.{LoadsRestOwned, telling}
+use Rattle.slot_queue.specs.Ownership.{counts_after}
 use Rattle.slot_queue.specs.Laws.{FollowsOwnership}
 use Rattle.owned_run.specs.Certified.{ReadsOwned}
-use Rattle.queue_certificates.specs.Certificates.{QueueCertificate, queue_at, start_at, MeetsFields}
+use Rattle.queue_certificates.specs.Certificates.{QueueCertificate, queue_at, start_at, tagged_at, tagged_start, MeetsFields}
+use Rattle.queue_layouts.specs.Tagged.{slots_of}
+use Rattle.ownership_runs.specs.Protocols.{Keeps}
 use Rattle.record_bytes.specs.Naming.{names_byte}
+use Rattle.records_written.specs.Senders.{published_after, slot_in}
 use Rattle.records_written.specs.Written.{IsWritten}
-use Rattle.hart_safety.specs.Regions.{IsInNone, regions_written}
+use Rattle.hart_safety.specs.Regions.{IsInNone}
+use Rattle.hart_safety.specs.Writes.{regions_written}
 use Rattle.engine_support.specs.declared.fault.Refusal.{Refusal}
 use Rattle.engine_support.specs.Inputs.{Reads}
 use Rattle.engine_support.specs.Tests.{tests}
 use Rattle.certifying.specs.Answers.{kept_answer, undecided}
 use Rattle.certifying.specs.Questions.{Questions}
 use Rattle.certifying.specs.Inputs.{certificates}
+use Rattle.certifying.specs.Queues.{any_queue, any_start, is_tag_byte, number_in, queue_count, slots_at}
 use Rattle.certifying.specs.Records.{AreFoundFor}
 use Rattle.certifying.specs.declared.records.Records.{Records}
 use Rattle.certifying.specs.declared.judgement.Judgement.{Judgement}
 use Rattle.certifying.specs.declared.judgement.Judgement.TheVariants.{Kept, ReadsNotShown, AskedNotShown, NotShown, Broken}
 
--- each run keeps the protocol of ownership of each queue, with store buffers of any size
+-- each run keeps the protocol of ownership of each queue with indices, with store buffers of any size
 abbrev pub KeepsProtocol : OpeningValue → QueueCertificate → Type 0
 KeepsProtocol o c = (B M : ℕ) (es : List Entry) → WellFormed B M (history_of o es) → (i : ℕ) → i < length c.queues
     → FollowsOwnership B (queue_at c i) (all_at (start_at c i)) o [] es
+
+-- and that of slots that tell of each queue with tags
+abbrev pub KeepsTags : OpeningValue → QueueCertificate → Type 0
+KeepsTags o c = (B M : ℕ) (es : List Entry) → WellFormed B M (history_of o es) → (t : ℕ) → t < length c.tagged
+    → FollowsTelling B (slots_of (tagged_at c t)) (all_at (tagged_start c t)) o [] es
 
 -- and in each the receiver of a queue whose records have fields reads in each slot that it owns, as each field, one of the field's numbers
 abbrev pub ReceivesFields : OpeningValue → QueueCertificate → Type 0
@@ -43,23 +56,25 @@ ReceivesFields o c = (B M : ℕ) (es : List Entry) → WellFormed B M (history_o
     → k < (counts_after (queue_at c i) (all_at (start_at c i)) es).known_published
     → MeetsFields c i k (λ x. read_byte o es (queue_at c i).receiver x)
 
--- and in each a party of a queue loads no byte of a slot that it doesn't own
+-- and in each a party of a queue with indices loads no byte of a slot that it doesn't own
 abbrev pub LoadsOwnedSlots : OpeningValue → QueueCertificate → Type 0
 LoadsOwnedSlots o c = (B M : ℕ) (es : List Entry) → WellFormed B M (history_of o es) → (i : ℕ) → i < length c.queues → (p : Party)
     → ReadsOwned (queue_at c i) p (all_at (start_at c i)) es
 
--- how many positions the sender of queue i has published after these entries
-abbrev pub published_after : QueueCertificate → (i : ℕ) → List Entry → ℕ
-published_after c i es = (counts_after (queue_at c i) (all_at (start_at c i)) es).published
+-- and a party of a queue with tags no byte of a slot that it doesn't own, except of tags
+abbrev pub LoadsTagsOrOwned : OpeningValue → QueueCertificate → Type 0
+LoadsTagsOrOwned o c = (B M : ℕ) (es : List Entry) → WellFormed B M (history_of o es) → (t : ℕ) → t < length c.tagged → (p : Party)
+    → EachIs (telling (slots_of (tagged_at c t))) (teller_hart (slots_of (tagged_at c t)) p) (LoadsRestOwned (slots_of (tagged_at c t)) p)
+    (all_at (tagged_start c t)) es
 
--- Of the bytes that a text asks about: the records of each queue have some; and in each run, where the sender moves its head past a position, it
--- has written each of them in that position's slot since the record before in that slot was published
+-- Of the bytes that a text asks about: the records of each queue have some of them; and in each run, where a sender publishes a position, it
+-- has written each of them, except those of a tag, in that position's slot since the record before in that slot was published
 abbrev pub WritesRecords : (written : Option (List ℕ)) → OpeningValue → QueueCertificate → Type 0
 WritesRecords None o c = Unit {0}
-WritesRecords (Some bytes) o c = ((i : ℕ) → i < length c.queues → (b : ℕ) × (b < (queue_at c i).width) × (names_byte bytes b ≡ true))
-    × ((B M : ℕ) (es : List Entry) (e : Entry) → WellFormed B M (history_of o (es ++ e ∷ [])) → (i : ℕ) → i < length c.queues → (k : ℕ)
-    → published_after c i es ≤ k → k < published_after c i (es ++ e ∷ []) → (b : ℕ) → b < (queue_at c i).width → names_byte bytes b ≡ true
-    → IsWritten (queue_at c i) (start_at c i) es k (slot_of (queue_at c i) k + b))
+WritesRecords (Some bytes) o c = ((i : ℕ) → i < queue_count c → (b : ℕ) × (b < (slots_at c i).width) × (names_byte bytes b ≡ true))
+    × ((B M : ℕ) (es : List Entry) (e : Entry) → WellFormed B M (history_of o (es ++ e ∷ [])) → (i : ℕ) → i < queue_count c → (k : ℕ)
+    → published_after c (number_in c i) es ≤ k → k < published_after c (number_in c i) (es ++ e ∷ []) → (b : ℕ) → b < (slots_at c i).width
+    → names_byte bytes b ≡ true → is_tag_byte c i b ≡ false → IsWritten c (number_in c i) es k (slot_in c (number_in c i) k + b))
 
 -- in each run with M words of memory no hart is ever stopped
 abbrev pub NeverStops : (M : ℕ) → OpeningValue → Type 0
@@ -76,17 +91,17 @@ abbrev pub KeepsHarts : (M : ℕ) → (harts : Bool) → OpeningValue → QueueC
 KeepsHarts M true o c = NeverStops M o × WritesWithinRegions o c
 KeepsHarts M false o c = Unit {0}
 
--- a legal run breaks it for a queue
+-- a legal run breaks that of a queue of either kind
 pub record BreaksProtocol (o : OpeningValue) (c : QueueCertificate) : Type 0 where
   pub B : ℕ
   pub M : ℕ
   pub entries : List Entry
   pub legal : WellFormed B M (history_of o entries)
   pub queue : ℕ
-  pub inside : queue < length c.queues
-  pub breaks : KeepsOwnership (queue_at c queue) (all_at (start_at c queue)) entries → ⊥
+  pub inside : queue < queue_count c
+  pub breaks : Keeps (any_queue c queue) (all_at (any_start c queue)) entries → ⊥
 
--- what the readers tell says a test and a certificate, of which this holds
+-- what the readers give stands for a test and a certificate, of which this holds
 pub record AreJudged (file certificate : Option (List ℕ)) (Holds : OpeningValue → QueueCertificate → Type 0) : Type 0 where
   pub test : LitmusTest
   pub listed : QueueCertificate
@@ -96,10 +111,10 @@ pub record AreJudged (file certificate : Option (List ℕ)) (Holds : OpeningValu
 
 -- what is promised where this is returned, with M words of memory
 abbrev pub IsPromised : (M : ℕ) → Questions → Judgement → OpeningValue → QueueCertificate → Type 0
-IsPromised M asked Kept o c = KeepsProtocol o c × ReceivesFields o c × LoadsOwnedSlots o c × WritesRecords asked.written o c
-    × KeepsHarts M asked.harts o c
-IsPromised M asked AskedNotShown o c = KeepsProtocol o c × ReceivesFields o c × LoadsOwnedSlots o c
-IsPromised M asked ReadsNotShown o c = KeepsProtocol o c × ReceivesFields o c
+IsPromised M asked Kept o c = KeepsProtocol o c × KeepsTags o c × ReceivesFields o c × LoadsOwnedSlots o c × LoadsTagsOrOwned o c
+    × WritesRecords asked.written o c × KeepsHarts M asked.harts o c
+IsPromised M asked AskedNotShown o c = KeepsProtocol o c × KeepsTags o c × ReceivesFields o c × LoadsOwnedSlots o c × LoadsTagsOrOwned o c
+IsPromised M asked ReadsNotShown o c = KeepsProtocol o c × KeepsTags o c × ReceivesFields o c
 IsPromised M asked NotShown o c = Unit {0}
 IsPromised M asked Broken o c = BreaksProtocol o c
 

@@ -1,4 +1,5 @@
 pub mod Instructions
+pub mod Queues
 pub mod Descriptions
 pub mod Unused
 pub mod Unread

@@ -1,8 +1,9 @@
 -- Whether the senders of queues write bytes of their records, as lines state it.
-use Rattle.std.specs.Prelude.{ℕ, ◌≡◌, ◌+◌, Bool, true, false, List, [], ◌∷◌, ◌++◌, length, codes, Option, Some, None}
+use Rattle.std.specs.Prelude.{ℕ, ◌≡◌, ◌+◌, not, Bool, true, false, List, [], ◌∷◌, ◌++◌, length, codes, Option, Some, None}
+use Rattle.std.specs.List.{filter}
 use Rattle.std.specs.Fmt.{decimal}
 use Rattle.step_machine.specs.History.{OpeningValue}
-use Rattle.queue_certificates.specs.Certificates.{QueueCertificate, queue_at}
+use Rattle.queue_certificates.specs.Certificates.{QueueCertificate}
 use Rattle.record_bytes.specs.declared.ranges.ByteRange.{ByteRange}
 use Rattle.record_bytes.specs.Naming.{names_byte, offsets_below}
 use Rattle.record_bytes.specs.Ranges.{byte_ranges}
@@ -10,20 +11,26 @@ use Rattle.records_written.specs.declared.finding.Unwritten.{Unwritten}
 use Rattle.records_written.specs.Marks.{IsShownWritten}
 use Rattle.engine_support.specs.OpeningTexts.{numbered}
 use Rattle.certifying.specs.ByteTexts.{bytes_text, is_one_byte}
+use Rattle.certifying.specs.Descriptions.{queue_front}
+use Rattle.certifying.specs.Queues.{is_tag_byte, number_in, queue_count, slots_at}
 use Rattle.certifying.specs.Unread.{pc_place}
 use Rattle.certifying.specs.declared.records.Records.{Records}
 use Rattle.certifying.specs.declared.records.Records.TheVariants.{NoBytes, Shown, NotShown}
 
 -- the bytes that a text asks of the records of queue i, by their offsets
 abbrev pub asked_bytes : QueueCertificate → (bytes : List ℕ) → (i : ℕ) → List ℕ
-asked_bytes c bytes i = offsets_below (names_byte bytes) (queue_at c i).width
+asked_bytes c bytes i = offsets_below (names_byte bytes) (slots_at c i).width
+
+-- those that its sender writes before it publishes the record: what publishes it writes its tag
+abbrev pub rest_bytes : QueueCertificate → (i : ℕ) → List ℕ → List ℕ
+rest_bytes c i mask = filter (λ b. not (is_tag_byte c i b)) mask
 
 -- ---- what is found. Which byte isn't shown, and at which state, depends on the search
 
 module _ (o : OpeningValue) (c : QueueCertificate) where
   abbrev pub IsFound : (i : ℕ) → (mask : List ℕ) → Records → Type 0
   IsFound i mask NoBytes = mask ≡ []
-  IsFound i mask Shown = (mask ≡ [] → ⊥) × IsShownWritten o c i mask
+  IsFound i mask Shown = (mask ≡ [] → ⊥) × IsShownWritten o c (number_in c i) (rest_bytes c i mask)
   IsFound i mask (NotShown unwritten) = mask ≡ [] → ⊥
 
   -- from queue i on, one queue for each of these
@@ -34,7 +41,7 @@ module _ (o : OpeningValue) (c : QueueCertificate) where
   -- of each queue, if that is asked
   abbrev pub AreFoundFor : (written : Option (List ℕ)) → List Records → Type 0
   AreFoundFor None found = found ≡ []
-  AreFoundFor (Some bytes) found = (length found ≡ length c.queues) × AreFoundFrom bytes 0 found
+  AreFoundFor (Some bytes) found = (length found ≡ queue_count c) × AreFoundFrom bytes 0 found
 
 abbrev pub is_shown : Records → Bool
 is_shown NoBytes = false
@@ -53,9 +60,6 @@ written_text ranges = bytes_text ranges ++ of_each (is_one_byte ranges)
 unfoldable pub none_line : (i : ℕ) → List ℕ
 none_line i = codes "queue " ++ (decimal i ++ (codes ": its records have none of these bytes" ++ 10 ∷ []))
 
-unfoldable pub records_front : (i : ℕ) → List ℕ
-records_front i = codes "queue " ++ decimal i ++ codes ": "
-
 unfoldable pub shown_end : List ℕ
 shown_end = codes " after the record before in its slot was published" ++ 10 ∷ []
 
@@ -63,13 +67,13 @@ unfoldable pub unshown_front : (i : ℕ) → List ℕ
 unshown_front i = codes "queue " ++ decimal i ++ codes ": not shown that "
 
 abbrev pub unwritten_end : OpeningValue → QueueCertificate → (i : ℕ) → Unwritten → List ℕ
-unwritten_end o c i unwritten = codes ": byte " ++ decimal unwritten.byte ++ codes ", hart " ++ decimal (queue_at c i).sender ++ codes ", "
-    ++ pc_place o c (queue_at c i).sender unwritten.state ++ 10 ∷ []
+unwritten_end o c i unwritten = codes ": byte " ++ decimal unwritten.byte ++ codes ", hart " ++ decimal (slots_at c i).sender ++ codes ", "
+    ++ pc_place o c (slots_at c i).sender unwritten.state ++ 10 ∷ []
 
 -- of queue i, and of the bytes of these ranges
 abbrev pub record_line : OpeningValue → QueueCertificate → (i : ℕ) → List ByteRange → Records → List ℕ
 record_line o c i ranges NoBytes = none_line i
-record_line o c i ranges Shown = records_front i ++ written_text ranges ++ shown_end
+record_line o c i ranges Shown = queue_front i ++ written_text ranges ++ shown_end
 record_line o c i ranges (NotShown unwritten) = unshown_front i ++ written_text ranges ++ unwritten_end o c i unwritten
 
 -- a line for each queue, if that is asked

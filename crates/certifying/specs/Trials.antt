@@ -1,11 +1,11 @@
--- Drawn runs of a text whose certificate isn't accepted, judged by the protocol of each queue of the certificate.
+-- Drawn runs of a text whose certificate isn't accepted, judged by the protocol of each of its queues.
 use Rattle.std.specs.Prelude.{ℕ, ◌≡◌, ◌+◌, ◌-◌, ◌<◌, List, [], ◌∷◌, length, take}
 use Rattle.step_machine.specs.declared.events.Event.{Event}
 use Rattle.step_machine.specs.History.{OpeningValue, History}
 use Rattle.step_machine.specs.Paths.{IsPc}
 use Rattle.step_machine.specs.Runs.{Run}
 use Rattle.queue_parties.specs.Parties.{all_at}
-use Rattle.queue_certificates.specs.Certificates.{QueueCertificate, queue_at, start_at}
+use Rattle.queue_certificates.specs.Certificates.{QueueCertificate}
 use Rattle.drawn_runs.specs.Samples.{DrawnRuns, schedule_in}
 use Rattle.judged_runs.specs.Finding.{AreAllGood}
 use Rattle.judged_runs.specs.Telling.{IsFlawTold, IsTold}
@@ -14,6 +14,7 @@ use Rattle.ownership_runs.specs.declared.violations.Violation.{Violation}
 use Rattle.ownership_runs.specs.declared.runs.Moved.{Moved}
 use Rattle.ownership_runs.specs.Ends.{EndsInViolation}
 use Rattle.ownership_runs.specs.Runs.{HasKeptRun, HasBrokenRun, IsOfOneHart, AreMovesOf}
+use Rattle.certifying.specs.Queues.{any_queue, any_start, queue_count}
 use Rattle.certifying.specs.declared.trials.Trial.{Trial}
 use Rattle.certifying.specs.declared.trials.Trial.TheVariants.{Kept, Broken}
 
@@ -25,22 +26,22 @@ trial_schedule d o = schedule_in d (length o.harts)
 module _ (d : DrawnRuns) (o : OpeningValue) (c : QueueCertificate) (i : ℕ) where
   -- what is stated of all runs
   abbrev pub IsToldOf : Told Moved Violation → Type 0
-  IsToldOf told = IsTold (HasKeptRun d.B d.M o (queue_at c i) (all_at (start_at c i))) (HasBrokenRun d.B d.M o (queue_at c i) (all_at (start_at c i)))
-      IsOfOneHart (AreMovesOf d.B d.M o (queue_at c i) (all_at (start_at c i))) (trial_schedule d o) d.number told
+  IsToldOf told = IsTold (HasKeptRun d.B d.M o (any_queue c i) (all_at (any_start c i))) (HasBrokenRun d.B d.M o (any_queue c i) (all_at (any_start c i)))
+      IsOfOneHart (AreMovesOf d.B d.M o (any_queue c i) (all_at (any_start c i))) (trial_schedule d o) d.number told
 
   -- all keep the protocol, and the parties moved on by this much in them
   abbrev pub AllKeep : Moved → Type 0
-  AllKeep moved = AreAllGood (HasKeptRun d.B d.M o (queue_at c i) (all_at (start_at c i))) (AreMovesOf d.B d.M o (queue_at c i) (all_at (start_at c i)))
+  AllKeep moved = AreAllGood (HasKeptRun d.B d.M o (any_queue c i) (all_at (any_start c i))) (AreMovesOf d.B d.M o (any_queue c i) (all_at (any_start c i)))
       (trial_schedule d o) 0 d.number moved
 
   -- this is a part of the events of the first run that breaks it, with no event to spare, whose own run has this first violation
   abbrev pub IsBrokenBy : (part : List Event) → Violation → Type 0
-  IsBrokenBy part violation = IsFlawTold (HasKeptRun d.B d.M o (queue_at c i) (all_at (start_at c i)))
-      (HasBrokenRun d.B d.M o (queue_at c i) (all_at (start_at c i))) IsOfOneHart (trial_schedule d o) d.number part violation
+  IsBrokenBy part violation = IsFlawTold (HasKeptRun d.B d.M o (any_queue c i) (all_at (any_start c i)))
+      (HasBrokenRun d.B d.M o (any_queue c i) (all_at (any_start c i))) IsOfOneHart (trial_schedule d o) d.number part violation
 
   -- the last of these events makes the violation
   abbrev pub EndsBroken : (part : List Event) → Violation → Type 0
-  EndsBroken part violation = EndsInViolation d.B d.M o (queue_at c i) (all_at (start_at c i)) part violation
+  EndsBroken part violation = EndsInViolation d.B d.M o (any_queue c i) (all_at (any_start c i)) part violation
 
 -- ---- of all queues
 
@@ -58,7 +59,7 @@ pub record IsPcBeforeLast (B M : ℕ) (o : OpeningValue) (events : List Event) (
 -- the first queue whose protocol a run breaks, as the last of these events shows, and the pc of that instruction
 pub record IsFirstBroken (d : DrawnRuns) (o : OpeningValue) (c : QueueCertificate) (queue : ℕ) (part : List Event)
     (violation : Violation) (pc : ℕ) : Type 0 where
-  pub inside : queue < length c.queues
+  pub inside : queue < queue_count c
   pub moved : List Moved
   pub earlier : length moved ≡ queue
   pub kept : QueuesKeep d o c 0 moved
@@ -67,7 +68,7 @@ pub record IsFirstBroken (d : DrawnRuns) (o : OpeningValue) (c : QueueCertificat
   pub at_pc : IsPcBeforeLast d.B d.M o part violation.hart pc
 
 abbrev pub IsOfTrial : DrawnRuns → OpeningValue → QueueCertificate → Trial → Type 0
-IsOfTrial d o c (Kept moved) = (length moved.items ≡ length c.queues) × QueuesKeep d o c 0 moved.items
+IsOfTrial d o c (Kept moved) = (length moved.items ≡ queue_count c) × QueuesKeep d o c 0 moved.items
 IsOfTrial d o c (Broken queue part violation pc) = IsFirstBroken d o c queue part.items violation pc
 
 -- it has this queue, part and violation, and the pc of the violation's hart

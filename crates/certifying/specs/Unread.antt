@@ -1,15 +1,20 @@
--- The first load of a queue's slots that isn't shown to be of one that its party owns.
-use Rattle.std.specs.Prelude.{ℕ, List, [], ◌∷◌, ◌++◌, length, codes, Option, option_map}
+-- The first load of a queue's slots that is shown neither to be of one that its party owns nor of a tag.
+use Rattle.std.specs.Prelude.{ℕ, List, [], ◌∷◌, ◌++◌, codes, Option, Some, None, option_map}
 use Rattle.std.specs.Fmt.{decimal}
 use Rattle.step_machine.specs.History.{OpeningValue}
-use Rattle.queue_certificates.specs.Certificates.{QueueCertificate, queue_at, state_at}
-use Rattle.queue_checker.specs.Flaws.{first_below, first_of, first_unowned}
+use Rattle.queue_certificates.specs.Certificates.{QueueCertificate, state_at}
+use Rattle.queue_checker.specs.Flaws.{first_below, first_of, first_unowned, first_unowned_rest}
 use Rattle.certifying.specs.Instructions.{instruction_at_pc, instruction_place}
+use Rattle.certifying.specs.Queues.{queue_count, slots_at, tagged_number}
 use Rattle.certifying.specs.declared.unread.Unread.{Unread}
 
--- the first such state of a hart, of this queue
+-- the first such state of a hart, of this queue, which may be one with tags
+abbrev pub unowned_by : OpeningValue → QueueCertificate → (i : ℕ) → (t : Option ℕ) → (h : ℕ) → Option ℕ
+unowned_by o c i None h = first_unowned o c i h
+unowned_by o c i (Some t) h = first_unowned_rest o c t h
+
 abbrev pub unread_by : OpeningValue → QueueCertificate → (i h : ℕ) → Option Unread
-unread_by o c i h = option_map (λ n. record { queue = i; hart = h; state = n }) (first_unowned o c i h)
+unread_by o c i h = option_map (λ n. record { queue = i; hart = h; state = n }) (unowned_by o c i (tagged_number c i) h)
 
 -- of the one party, else of the other
 abbrev pub unread_between : OpeningValue → QueueCertificate → (i sender receiver : ℕ) → Option Unread
@@ -17,11 +22,11 @@ unread_between o c i sender receiver = first_of (unread_by o c i sender) (unread
 
 -- of a queue's sender, else of its receiver
 abbrev pub unread_of : OpeningValue → QueueCertificate → (i : ℕ) → Option Unread
-unread_of o c i = unread_between o c i (queue_at c i).sender (queue_at c i).receiver
+unread_of o c i = unread_between o c i (slots_at c i).sender (slots_at c i).receiver
 
 -- of the first queue that has one
 abbrev pub first_unread : OpeningValue → QueueCertificate → Option Unread
-first_unread o c = first_below (length c.queues) (unread_of o c)
+first_unread o c = first_below (queue_count c) (unread_of o c)
 
 -- the instruction of a hart's state, which has this number
 unfoldable pub state_place : OpeningValue → QueueCertificate → (h n : ℕ) → List ℕ

@@ -4,7 +4,8 @@ ghost use Rattle.std.specs.Prelude.{◌≡◌, ◌++◌, IfOk, OnOk};
 ghost use Rattle.std.specs.String.{string_bytes};
 ghost use Rattle.engine_support.specs.OpeningTexts.{numbered};
 ghost use Rattle.certificate_reader.specs.Known.{known_at};
-ghost use Rattle.certifying.specs.Answers.{asked_lines, flaw_text, kept_line, kept_text, limit_lines, limit_of_records, nothing_line};
+ghost use Rattle.certifying.specs.Answers.{asked_lines, every_run_text, flaw_text, kept_line, kept_protocols, kept_text, limit_lines};
+ghost use Rattle.certifying.specs.Answers.{limit_of_records, nothing_line};
 ghost use Rattle.certifying.specs.Answers.{other_bytes_line, progress_line, promise_end, protocol_line, protocol_text, reads_line, records_line, records_shown};
 ghost use Rattle.certifying.specs.Answers.{unread_text, unused_text};
 ghost use Rattle.certifying.specs.Questions.{questions_by};
@@ -112,13 +113,37 @@ fn push_kept(out: &mut String, all: bool) -> Result<(), AllocError>
     }
 }
 
-#[tactic(auto, unfolding(crate::specs::Answers::protocol_text))]
-fn push_protocol(out: &mut String) -> Result<(), AllocError>
-    ensures { OnOk result (string_bytes out.new ≡ string_bytes out.old ++ protocol_text) }
+#[tactic(auto, unfolding(crate::specs::Answers::every_run_text))]
+fn push_every_run(out: &mut String) -> Result<(), AllocError>
+    ensures { OnOk result (string_bytes out.new ≡ string_bytes out.old ++ every_run_text) }
 {
     write!(
         out,
-        "promised: in every legal run, of any length and schedule, with store buffers of any size, the protocol of ownership is kept"
+        "promised: in every legal run, of any length and schedule, with store buffers of any size, the protocol"
+    )
+}
+
+fn push_kept_protocols(out: &mut String, no_index: bool, no_tag: bool) -> Result<(), AllocError>
+    ensures { OnOk result (string_bytes out.new ≡ string_bytes out.old ++ kept_protocols no_index no_tag) }
+{
+    if no_tag {
+        out.push_str(" of ownership is kept")
+    } else if no_index {
+        out.push_str(" of slots that tell is kept")
+    } else {
+        out.push_str("s of ownership and of slots that tell are kept")
+    }
+}
+
+/// What is kept in every run.
+fn push_protocol(out: &mut String, certificate: &QueueCertificate) -> Result<(), AllocError>
+    ensures { OnOk result (string_bytes out.new ≡ string_bytes out.old ++ protocol_text certificate.now) }
+{
+    push_every_run(out)?;
+    push_kept_protocols(
+        out,
+        certificate.queues.len() == 0,
+        certificate.tagged.len() == 0,
     )
 }
 
@@ -149,17 +174,16 @@ pub fn kept_text(
     push_kept(&mut out, all)?;
     push_queues(alloc, &mut out, opening, certificate)?;
     push_asked(alloc, &mut out, opening, certificate, asked, found, harts)?;
-    push_protocol(&mut out)?;
+    push_protocol(&mut out, certificate)?;
     push_promise_end(&mut out)?;
     push_limits(&mut out, are_records_shown(asked, found))?;
     Ok(out)
 }
 
-#[tactic(auto, unfolding(crate::specs::Answers::protocol_line))]
-fn push_protocol_line(out: &mut String) -> Result<(), AllocError>
-    ensures { OnOk result (string_bytes out.new ≡ string_bytes out.old ++ protocol_line) }
+fn push_protocol_line(out: &mut String, certificate: &QueueCertificate) -> Result<(), AllocError>
+    ensures { OnOk result (string_bytes out.new ≡ string_bytes out.old ++ protocol_line certificate.now) }
 {
-    push_protocol(out)?;
+    push_protocol(out, certificate)?;
     writeln!(out, "")
 }
 
@@ -189,7 +213,7 @@ pub fn unread_text(
     push_unread(&mut out, opening, certificate, unread)?;
     push_queues(alloc, &mut out, opening, certificate)?;
     push_asked(alloc, &mut out, opening, certificate, asked, found, harts)?;
-    push_protocol_line(&mut out)?;
+    push_protocol_line(&mut out, certificate)?;
     push_reads(&mut out)?;
     push_limits(&mut out, are_records_shown(asked, found))?;
     Ok(out)

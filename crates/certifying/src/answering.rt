@@ -11,7 +11,8 @@ ghost use Rattle.engine_support.specs.OpeningTexts.{numbered};
 ghost use Rattle.litmus.specs.declared.litmus_test.TheConstants.{MAX_LOCATIONS};
 ghost use Rattle.drawn_runs.specs.Samples.{runs_of};
 ghost use Rattle.step_machine.specs.History.{FitsIn};
-ghost use Rattle.queue_certificates.specs.Certificates.{queue_at};
+ghost use Rattle.ownership_runs.specs.Protocols.{HasSlot};
+ghost use Rattle.certifying.specs.Queues.{any_queue, queue_count};
 ghost use Rattle.queue_checker.specs.Flaws.{first_flaw};
 ghost use Rattle.certifying.specs.Answers.{IsAnswerTo, IsCertificateAnswer, IsFlawAnswer, IsKeptAnswer, IsQueueAnswer, IsTrialAnswer, IsUseAnswer};
 ghost use Rattle.certifying.specs.Answers.{fault_of, is_of_queue, judged_reads, kept_judgement, kept_text, nothing_line};
@@ -70,7 +71,7 @@ fn kept_judgement(all: bool) -> Judgement
     }
 }
 
-/// What is answered where the certificate is accepted, and its queues are used, with what is found of records and told of harts.
+/// What is answered where the certificate is accepted, and its queues are used, with what is found of records and of harts.
 fn judged_reads(
     alloc: Global,
     opening: &Opening,
@@ -149,7 +150,7 @@ fn judged_by_runs<
     requires some_word { 1 ≤ M }
     requires size { M ≤ 65536 }
     requires fits { FitsIn M opening.now }
-    requires some_slot { (i : ℕ) → i < length certificate.now.queues → 1 ≤ (queue_at certificate.now i).size }
+    requires some_slot { (i : ℕ) → i < queue_count certificate.now → HasSlot (any_queue certificate.now i) }
     ensures { IfOk result (λ answer. IsTrialAnswer (runs_of B M G.Rng.stream sample.now) opening.now certificate.now flaw
         (text_and_value answer)) }
 {
@@ -164,19 +165,19 @@ fn judged_by_runs<
             violation,
             pc,
         } => {
-            let opened = &certificate.queues[queue as usize];
-            let text = broken_text(alloc, B, opening, queue, opened, &part, violation, pc)?;
+            let text = broken_text(alloc, B, opening, certificate, queue, &part, violation, pc)?;
             Ok((text, Judgement::Broken))
         }
     }
 }
 
-/// Whether a flaw is that a queue isn't one that opens at its count.
+/// Whether a flaw is that a queue isn't one, or doesn't open as it says.
 fn is_of_queue(flaw: Flaw) -> bool
     ensures { result ≡ is_of_queue flaw }
 {
     match flaw {
         Flaw::Queue(..) => true,
+        Flaw::Tagged(..) => true,
         Flaw::Opening(_) => false,
         Flaw::State { .. } => false,
     }
@@ -305,12 +306,12 @@ fn made<
 /// Reads a litmus text and then a certificate, each to its end, and writes whether the certificate shows that every run of the text
 /// keeps the protocol of each of its queues, with what is promised then. It returns the judgement.
 ///
-/// If the certificate isn't accepted, but its queues open at their counts, the runs of the sample are made of the text for each queue,
+/// If the certificate isn't accepted, but its queues open as it says, the runs of the sample are made of the text for each queue,
 /// with store buffers of `B` pairs and `M` words of memory: then it writes a short schedule of the first run that breaks the protocol
-/// of the first such queue, or that all keep it. That depends neither on the jobs nor on the progress. Where the certificate is accepted
-/// `B` isn't part of the answer, and `M` only of what is asked of the harts.
+/// of the first such queue, or that all keep it. That depends neither on the jobs nor on the progress. Where the certificate is
+/// accepted `B` isn't part of the answer, and `M` only of what is asked of the harts.
 ///
-/// What is asked besides is told only where the certificate is accepted.
+/// What is asked besides is answered only where the certificate is accepted.
 ///
 /// Each input is refused as too large ([`engine_support::fault::TOO_LARGE`]), else as no text
 /// ([`engine_support::fault::NOT_TEXT`]), else as [`litmus_reader::read`] or [`certificate_reader::read_certificate`] says, at the

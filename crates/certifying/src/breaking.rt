@@ -3,14 +3,16 @@
 ghost use Rattle.std.specs.Prelude.{◌≡◌, ◌<◌, ◌++◌, IfOk, OnOk};
 ghost use Rattle.std.specs.String.{string_bytes};
 ghost use Rattle.engine_support.specs.OpeningTexts.{numbered};
-ghost use Rattle.certifying.specs.Broken.{broken_line, broken_text, other_line, owned_text, positions_text, runs_end, runs_front, runs_line};
-ghost use Rattle.certifying.specs.Broken.{shown_line, stored_line, stored_text};
+ghost use Rattle.certifying.specs.Broken.{broken_line, broken_text, other_line, other_than_indices, other_than_tags, owned_text, positions_text};
+ghost use Rattle.certifying.specs.Broken.{runs_end, runs_front, runs_line, shown_line, stored_line, stored_text};
+ghost use Rattle.certifying.specs.Queues.{queue_count, tagged_number};
 
 use crate::descriptions::push_form;
 use crate::instructions::push_place;
-use crate::unused::number_of;
-use known_values::{Lack, OpenedQueue};
+use crate::queues::{number_of, tagged_number};
+use known_values::Lack;
 use ownership_runs::{Moved, Owned, Violation};
+use queue_checker::QueueCertificate;
 use recorder::schedule_text;
 use std::alloc::{AllocError, Global};
 use step_machine::{Event, Opening};
@@ -72,14 +74,34 @@ fn push_stored(out: &mut String, index: u32, violation: Violation) -> Result<(),
     writeln!(out, "")
 }
 
-#[tactic(auto, unfolding(crate::specs::Broken::other_line))]
-fn push_other(out: &mut String) -> Result<(), AllocError>
-    ensures { OnOk result (string_bytes out.new ≡ string_bytes out.old ++ other_line) }
+#[tactic(auto, unfolding(crate::specs::Broken::other_than_indices))]
+fn push_other_than_indices(out: &mut String) -> Result<(), AllocError>
+    ensures { OnOk result (string_bytes out.new ≡ string_bytes out.old ++ other_than_indices) }
 {
     writeln!(
         out,
         "another protocol may fit: that of a queue that overwrites, that has several senders or receivers, or whose slots tell whose they are"
     )
+}
+
+#[tactic(auto, unfolding(crate::specs::Broken::other_than_tags))]
+fn push_other_than_tags(out: &mut String) -> Result<(), AllocError>
+    ensures { OnOk result (string_bytes out.new ≡ string_bytes out.old ++ other_than_tags) }
+{
+    writeln!(
+        out,
+        "another protocol may fit: that of a queue that overwrites, that has several senders or receivers, or of two indices and slots"
+    )
+}
+
+/// What else may fit, where a queue of indices or one with tags is broken.
+fn push_other(out: &mut String, tagged: Option<u32>) -> Result<(), AllocError>
+    ensures { OnOk result (string_bytes out.new ≡ string_bytes out.old ++ other_line tagged) }
+{
+    match tagged {
+        None => push_other_than_indices(out),
+        Some(_) => push_other_than_tags(out),
+    }
 }
 
 #[tactic(auto, unfolding(crate::specs::Broken::shown_line))]
@@ -97,19 +119,20 @@ pub fn broken_text(
     alloc: Global,
     stores: usize,
     opening: &Opening,
+    certificate: &QueueCertificate,
     index: u32,
-    opened: &OpenedQueue,
     part: &[Event],
     violation: Violation,
     pc: u32,
 ) -> Result<String, AllocError>
-    ensures { IfOk result (λ text. string_bytes text ≡ broken_text stores opening.now index opened.now part.now violation pc) }
+    requires inside { index < queue_count certificate.now }
+    ensures { IfOk result (λ text. string_bytes text ≡ broken_text stores opening.now certificate.now index part.now violation pc) }
 {
     let mut out = String::new(alloc);
     push_broken(&mut out, opening, violation.hart, pc)?;
     push_stored(&mut out, index, violation)?;
-    push_form(&mut out, index, opened)?;
-    push_other(&mut out)?;
+    push_form(&mut out, certificate, index)?;
+    push_other(&mut out, tagged_number(certificate, index))?;
     push_shown(&mut out, stores)?;
     let schedule = schedule_text(alloc, part)?;
     out.push_str(&schedule)?;

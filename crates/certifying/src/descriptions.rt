@@ -1,28 +1,27 @@
 //! What a certificate says of a queue, in lines, and which instructions use it.
 
-ghost use Rattle.std.specs.Prelude.{◌≡◌, ◌++◌, IfOk, OnOk};
+ghost use Rattle.std.specs.Prelude.{◌≡◌, ◌<◌, ◌++◌, IfOk, OnOk, length};
 ghost use Rattle.std.specs.List.{flat_map};
 ghost use Rattle.std.specs.String.{string_bytes};
-ghost use Rattle.certifying.specs.Descriptions.{access_lines, all_queue_lines, count_end, count_front, count_line, field_end, field_front, field_line};
-ghost use Rattle.certifying.specs.Descriptions.{form_lines, indices_line, load_line, parties_line, queue_lines, slots_end, slots_front, slots_line};
-ghost use Rattle.certifying.specs.Descriptions.{store_line};
+ghost use Rattle.engine_support.specs.OpeningTexts.{numbered};
+ghost use Rattle.certifying.specs.Descriptions.{access_lines, all_queue_lines, codec_text, count_end, count_front, count_line, field_end, field_front};
+ghost use Rattle.certifying.specs.Descriptions.{field_line, form_by, form_lines, from_end, indices_line, load_line, opens_end, parties_line, queue_lines};
+ghost use Rattle.certifying.specs.Descriptions.{slots_end, slots_front, slots_line, store_line, tag_bytes, tag_front, tag_line, tag_place};
+ghost use Rattle.certifying.specs.Descriptions.{tagged_form_lines, tagged_lines, tagged_slots_line};
+ghost use Rattle.certifying.specs.Queues.{queue_count, tagged_number};
 
 use crate::instructions::push_place;
-use crate::unused::number_of;
+use crate::queues::{accesses_at, number_of, number_of_tagged, tagged_number};
 use known_values::{Field, Lack, OpenedQueue, Queue};
 use queue_checker::{QueueCertificate, SlotAccess, slot_accesses};
+use queue_layouts::{Codec, OpenedTagged, TaggedQueue};
 use std::alloc::{AllocError, Global};
 use step_machine::Opening;
 
 #[tactic(auto, unfolding(crate::specs::Descriptions::parties_line))]
-fn push_parties(out: &mut String, index: u32, queue: &Queue) -> Result<(), AllocError>
-    ensures { OnOk result (string_bytes out.new ≡ string_bytes out.old ++ parties_line index queue.now) }
+fn push_parties(out: &mut String, index: u32, sender: u32, receiver: u32) -> Result<(), AllocError>
+    ensures { OnOk result (string_bytes out.new ≡ string_bytes out.old ++ parties_line index sender receiver) }
 {
-    let Queue {
-        sender,
-        receiver,
-        ..
-    } = queue;
     writeln!(
         out,
         "queue {index}: hart {sender} sends and hart {receiver} receives"
@@ -46,10 +45,9 @@ fn push_indices(out: &mut String, index: u32, queue: &Queue) -> Result<(), Alloc
 }
 
 #[tactic(auto, unfolding(crate::specs::Descriptions::slots_front))]
-fn push_slots_front(out: &mut String, index: u32, queue: &Queue) -> Result<(), AllocError>
-    ensures { OnOk result (string_bytes out.new ≡ string_bytes out.old ++ slots_front index queue.now) }
+fn push_slots_front(out: &mut String, index: u32, size: u32, width: u32) -> Result<(), AllocError>
+    ensures { OnOk result (string_bytes out.new ≡ string_bytes out.old ++ slots_front index size width) }
 {
-    let Queue { size, width, .. } = queue;
     write!(out, "queue {index}: it has {size} slots of {width} bytes")
 }
 
@@ -68,7 +66,7 @@ fn push_slots_end(out: &mut String, queue: &Queue) -> Result<(), AllocError>
 fn push_slots(out: &mut String, index: u32, queue: &Queue) -> Result<(), AllocError>
     ensures { OnOk result (string_bytes out.new ≡ string_bytes out.old ++ slots_line index queue.now) }
 {
-    push_slots_front(out, index, queue)?;
+    push_slots_front(out, index, queue.size, queue.width)?;
     push_slots_end(out, queue)
 }
 
@@ -141,6 +139,77 @@ fn push_fields(out: &mut String, index: u32, fields: &[Field]) -> Result<(), All
     Ok(())
 }
 
+// ---- of a queue with tags
+
+#[tactic(auto, unfolding(crate::specs::Descriptions::from_end))]
+fn push_from(out: &mut String, slots: u32) -> Result<(), AllocError>
+    ensures { OnOk result (string_bytes out.new ≡ string_bytes out.old ++ from_end slots) }
+{
+    writeln!(out, " from {slots} on")
+}
+
+fn push_tagged_slots(out: &mut String, index: u32, queue: TaggedQueue) -> Result<(), AllocError>
+    ensures { OnOk result (string_bytes out.new ≡ string_bytes out.old ++ tagged_slots_line index queue) }
+{
+    push_slots_front(out, index, queue.size, queue.width)?;
+    push_from(out, queue.slots)
+}
+
+#[tactic(auto, unfolding(crate::specs::Descriptions::tag_front))]
+fn push_tag_front(out: &mut String, index: u32) -> Result<(), AllocError>
+    ensures { OnOk result (string_bytes out.new ≡ string_bytes out.old ++ tag_front index) }
+{
+    write!(out, "queue {index}: its tag is the ")
+}
+
+fn push_tag_bytes(out: &mut String, width: u32) -> Result<(), AllocError>
+    ensures { OnOk result (string_bytes out.new ≡ string_bytes out.old ++ tag_bytes width) }
+{
+    if width == 1 {
+        write!(out, "byte")
+    } else {
+        write!(out, "{width} bytes")
+    }
+}
+
+#[tactic(auto, unfolding(crate::specs::Descriptions::tag_place))]
+fn push_tag_place(out: &mut String, offset: u32) -> Result<(), AllocError>
+    ensures { OnOk result (string_bytes out.new ≡ string_bytes out.old ++ tag_place offset) }
+{
+    write!(out, " at {offset} of each slot, ")
+}
+
+/// How a tag tells.
+fn push_codec(out: &mut String, codec: Codec) -> Result<(), AllocError>
+    ensures { OnOk result (string_bytes out.new ≡ string_bytes out.old ++ codec_text codec) }
+{
+    match codec {
+        Codec::Zero => out.push_str("0 where it is free and any other number where it is full"),
+        Codec::Number => out.push_str(
+            "k where it is free for position k and k + 1 where it is full of it, modulo 4294967296",
+        ),
+    }
+}
+
+#[tactic(auto, unfolding(crate::specs::Descriptions::opens_end))]
+fn push_opens(out: &mut String, start: u64) -> Result<(), AllocError>
+    ensures { OnOk result (string_bytes out.new ≡ string_bytes out.old ++ opens_end start) }
+{
+    writeln!(out, ", and it opens at {start}")
+}
+
+fn push_tag(out: &mut String, index: u32, opened: OpenedTagged) -> Result<(), AllocError>
+    ensures { OnOk result (string_bytes out.new ≡ string_bytes out.old ++ tag_line index opened) }
+{
+    push_tag_front(out, index)?;
+    push_tag_bytes(out, opened.queue.tag_width)?;
+    push_tag_place(out, opened.queue.tag_offset)?;
+    push_codec(out, opened.queue.codec)?;
+    push_opens(out, opened.start)
+}
+
+// ---- its use
+
 /// The line of an instruction that may store to a slot.
 fn push_store(
     out: &mut String,
@@ -190,18 +259,45 @@ fn push_accesses(
     Ok(())
 }
 
-/// The lines of what a queue is.
+// ---- all of it
+
+/// The lines of what a queue with indices is.
 #[tactic(auto, unfolding(crate::specs::Descriptions::form_lines))]
-pub fn push_form(out: &mut String, index: u32, opened: &OpenedQueue) -> Result<(), AllocError>
+fn push_indexed_form(out: &mut String, index: u32, opened: &OpenedQueue) -> Result<(), AllocError>
     ensures { OnOk result (string_bytes out.new ≡ string_bytes out.old ++ form_lines index opened.now) }
 {
-    push_parties(out, index, &opened.queue)?;
+    push_parties(out, index, opened.queue.sender, opened.queue.receiver)?;
     push_indices(out, index, &opened.queue)?;
     push_slots(out, index, &opened.queue)?;
     push_count(out, index, opened)
 }
 
-/// The lines of a queue.
+/// The lines of what a queue with tags is.
+#[tactic(auto, unfolding(crate::specs::Descriptions::tagged_form_lines))]
+fn push_tagged_form(out: &mut String, index: u32, opened: OpenedTagged) -> Result<(), AllocError>
+    ensures { OnOk result (string_bytes out.new ≡ string_bytes out.old ++ tagged_form_lines index opened) }
+{
+    push_parties(out, index, opened.queue.sender, opened.queue.receiver)?;
+    push_tagged_slots(out, index, opened.queue)?;
+    push_tag(out, index, opened)
+}
+
+/// The lines of what a queue is, of either kind.
+pub fn push_form(
+    out: &mut String,
+    certificate: &QueueCertificate,
+    index: u32,
+) -> Result<(), AllocError>
+    requires inside { index < queue_count certificate.now }
+    ensures { OnOk result (string_bytes out.new ≡ string_bytes out.old ++ form_by certificate.now index (tagged_number certificate.now index)) }
+{
+    match tagged_number(certificate, index) {
+        None => push_indexed_form(out, index, &certificate.queues[index as usize]),
+        Some(t) => push_tagged_form(out, index, certificate.tagged[t as usize]),
+    }
+}
+
+/// The lines of a queue with indices.
 #[tactic(auto, unfolding(crate::specs::Descriptions::queue_lines))]
 fn push_queue(
     alloc: Global,
@@ -214,9 +310,61 @@ fn push_queue(
     ensures { OnOk result (string_bytes out.new ≡ string_bytes out.old ++ queue_lines opening.now certificate.now index opened.now) }
 {
     let accesses = slot_accesses(alloc, opening, certificate, index)?;
-    push_form(out, index, opened)?;
+    push_indexed_form(out, index, opened)?;
     push_fields(out, index, &opened.fields)?;
     push_accesses(out, opening, index, &accesses)?;
+    Ok(())
+}
+
+/// The lines of a queue with tags.
+#[tactic(auto, unfolding(crate::specs::Descriptions::tagged_lines))]
+fn push_tagged(
+    alloc: Global,
+    out: &mut String,
+    opening: &Opening,
+    certificate: &QueueCertificate,
+    index: u32,
+    opened: OpenedTagged,
+) -> Result<(), Lack>
+    ensures { OnOk result (string_bytes out.new ≡ string_bytes out.old ++ tagged_lines opening.now certificate.now index opened) }
+{
+    let accesses = accesses_at(alloc, opening, certificate, index)?;
+    push_tagged_form(out, index, opened)?;
+    push_accesses(out, opening, index, &accesses)?;
+    Ok(())
+}
+
+/// The lines of all queues with indices.
+fn push_indexed_queues(
+    alloc: Global,
+    out: &mut String,
+    opening: &Opening,
+    certificate: &QueueCertificate,
+) -> Result<(), Lack>
+    ensures { OnOk result (string_bytes out.new ≡ string_bytes out.old
+        ++ numbered (queue_lines opening.now certificate.now) 0 certificate.now.queues) }
+{
+    for (place, opened) in certificate.queues.iter().enumerate() {
+        let index = number_of(place)?;
+        push_queue(alloc, out, opening, certificate, index, opened)?;
+    }
+    Ok(())
+}
+
+/// The lines of all queues with tags.
+fn push_tagged_queues(
+    alloc: Global,
+    out: &mut String,
+    opening: &Opening,
+    certificate: &QueueCertificate,
+) -> Result<(), Lack>
+    ensures { OnOk result (string_bytes out.new ≡ string_bytes out.old
+        ++ numbered (tagged_lines opening.now certificate.now) (length certificate.now.queues) certificate.now.tagged) }
+{
+    for (place, opened) in certificate.tagged.iter().enumerate() {
+        let index = number_of_tagged(certificate, place)?;
+        push_tagged(alloc, out, opening, certificate, index, *opened)?;
+    }
     Ok(())
 }
 
@@ -230,9 +378,6 @@ pub fn push_queues(
 ) -> Result<(), Lack>
     ensures { OnOk result (string_bytes out.new ≡ string_bytes out.old ++ all_queue_lines opening.now certificate.now) }
 {
-    for (place, opened) in certificate.queues.iter().enumerate() {
-        let index = number_of(place)?;
-        push_queue(alloc, out, opening, certificate, index, opened)?;
-    }
-    Ok(())
+    push_indexed_queues(alloc, out, opening, certificate)?;
+    push_tagged_queues(alloc, out, opening, certificate)
 }

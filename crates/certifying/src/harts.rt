@@ -4,13 +4,14 @@ ghost use Rattle.std.specs.Prelude.{◌≡◌, ◌++◌, IfOk, OnOk, map, true};
 ghost use Rattle.std.specs.String.{string_bytes};
 ghost use Rattle.record_bytes.specs.declared.ranges.ByteRange.{ByteRange};
 ghost use Rattle.hart_safety.specs.declared.regions.Region.{Region};
+ghost use Rattle.hart_safety.specs.Writes.{first_unbounded, writes_of};
 ghost use Rattle.certifying.specs.Harts.{anywhere_front, anywhere_line, hart_lines, harts_lines, harts_safe, is_safe, never_line, nothing_written};
 ghost use Rattle.certifying.specs.Harts.{only_end, range_of_region, regions_line, stop_front, stop_line, writes_front, writes_line};
 
 use crate::byte_texts::push_bytes;
+use crate::queues::number_of;
 use crate::unread::push_pc_place;
-use crate::unused::number_of;
-use hart_safety::{Region, first_stop, first_unbounded, regions_written};
+use hart_safety::{Region, Writes, first_stop, writes_of};
 use known_values::Lack;
 use queue_checker::QueueCertificate;
 use record_bytes::ByteRange;
@@ -125,28 +126,29 @@ fn push_anywhere(
     writeln!(out, "")
 }
 
-/// The line of where a hart writes, of which this is the first state with a store that may go anywhere.
+/// The line of where a hart writes.
 fn push_writes(
     alloc: Global,
     out: &mut String,
     opening: &Opening,
     certificate: &QueueCertificate,
     hart: u32,
-    unbounded: Option<u32>,
+    writes: &Writes,
 ) -> Result<(), Lack>
-    ensures { OnOk result (string_bytes out.new ≡ string_bytes out.old ++ writes_line opening.now certificate.now hart unbounded) }
+    requires its { writes.now ≡ writes_of opening.now certificate.now hart }
+    ensures { OnOk result (string_bytes out.new ≡ string_bytes out.old ++ writes_line opening.now certificate.now hart (first_unbounded opening.now
+        certificate.now hart)) }
 {
-    match unbounded {
+    match writes.unbounded {
         None => {
-            let regions = regions_written(alloc, opening, certificate, hart)?;
-            let ranges = ranges_of_regions(alloc, &regions)?;
+            let ranges = ranges_of_regions(alloc, &writes.regions)?;
             Ok(push_ranges(out, hart, &ranges)?)
         }
         Some(state) => Ok(push_anywhere(out, opening, certificate, hart, state)?),
     }
 }
 
-/// Appends the lines of a hart, and tells whether both are shown.
+/// Appends the lines of a hart, and returns whether both are shown.
 #[tactic(auto, unfolding(crate::specs::Harts::hart_lines, crate::specs::Harts::is_safe))]
 fn push_hart(
     alloc: Global,
@@ -160,10 +162,10 @@ fn push_hart(
     ensures safe { IfOk result (λ safe. safe ≡ is_safe words opening.now certificate.now hart) }
 {
     let stop = first_stop(alloc, opening, certificate, words, hart)?;
-    let unbounded = first_unbounded(alloc, opening, certificate, hart)?;
+    let writes = writes_of(alloc, opening, certificate, hart)?;
     push_stop(out, opening, certificate, hart, stop)?;
-    push_writes(alloc, out, opening, certificate, hart, unbounded)?;
-    Ok(stop.is_none() && unbounded.is_none())
+    push_writes(alloc, out, opening, certificate, hart, &writes)?;
+    Ok(stop.is_none() && writes.unbounded.is_none())
 }
 
 fn all_told(

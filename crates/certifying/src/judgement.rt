@@ -3,11 +3,13 @@
 /// What comes of a certificate.
 #[derive(Clone, Copy)]
 pub enum Judgement {
-    /// Every run keeps the protocol of each queue, and its parties load only slots that they own. All that was asked besides is shown.
+    /// Every run keeps the protocol of each queue, and its parties load only slots that they own, and tags. All that was asked besides
+    /// is shown.
     Kept,
-    /// Every run keeps the protocol of each queue. That its parties load only slots that they own isn't shown.
+    /// Every run keeps the protocol of each queue. That its parties load only slots that they own, and tags, isn't shown.
     ReadsNotShown,
-    /// Every run keeps the protocol of each queue, and its parties load only slots that they own. Not all that was asked besides is shown.
+    /// Every run keeps the protocol of each queue, and its parties load only slots that they own, and tags. Not all that was asked
+    /// besides is shown.
     AskedNotShown,
     /// Nothing is claimed.
     NotShown,

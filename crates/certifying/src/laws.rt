@@ -17,13 +17,14 @@ use records_written::laws_of_written_records;
 /// What the command promises. It does nothing.
 ///
 /// - `promised`: where its answer is that the protocol is kept, every legal run of the text, of any length and schedule and with store
-///   buffers of any size, keeps the protocol of ownership of each queue, so that all that `slot_queue::laws_of_ownership` promises
-///   holds of it, and what a receiver owns has the numbers of the fields that the answer lists; and where its reads are shown too, no
-///   party loads a byte of a slot that it doesn't own. Where all that was asked is shown
-///   too, in each such run the sender of each queue has written each byte that was asked about of each record that it publishes, since
-///   the record before in that slot was published; and if the harts were asked about, none is ever stopped on a machine of this memory,
-///   and each writes only bytes of its regions. Where its answer is that the protocol is broken, some legal run of the text doesn't keep
-///   that of some queue.
+///   buffers of any size, keeps the protocol of ownership of each queue with indices, so that all that `slot_queue::laws_of_ownership`
+///   promises holds of it, and that of slots that tell of each queue with tags, so that all that `slots_that_tell::laws_of_telling`
+///   promises does; and what a receiver owns has the numbers of the fields that the answer lists. Where its reads are shown too, no party
+///   loads a byte of a slot that it doesn't own, except of tags. Where all that was asked is shown too, and bytes of records were asked
+///   about, in each such run the sender of each queue has written each of these bytes, except those of a tag, of each record that it
+///   publishes, since the record before in that slot was published; and if the harts were asked about, none is ever stopped on a machine
+///   of this memory, and each writes only bytes of its regions. Where its answer is that the protocol is broken, some legal run of the
+///   text doesn't keep that of some queue.
 /// - `one`: two answers to one input by the same drawn runs have one judgement, and are one text unless it has a schedule; or they are
 ///   refusals of one number, except that a check may be given up where a number in it passes 2^64 - 1. Where bytes of records are asked
 ///   about, two may differ in what is found of the records. Of a refused litmus text it isn't said on which line its first fault stands.

@@ -1,7 +1,8 @@
 //! The command `queue`: whether a certificate shows that every run of a litmus text keeps the protocol of its queues, then what is asked
-//! of their records and of the harts, and otherwise whether a drawn run breaks it.
+//! of their records and of the harts, and otherwise whether a drawn run breaks it. Queues have indices or tags: those with tags are
+//! numbered on after the others.
 //!
-//! The contract: the engine's clause says what it writes for what its readers tell, byte for byte (`IsQueueAnswer`), and
+//! The contract: the engine's clause says what it writes for what its readers give, byte for byte (`IsQueueAnswer`), and
 //! [`laws::laws_of_answers`] what a `kept` and a `broken` mean. This crate finds no certificate, knows no command line, opens no file and names
 //! no standard stream. It has no tests: the cases of the program run the engine.
 //!
@@ -21,6 +22,7 @@ pub mod judgement;
 pub mod laws;
 pub mod not_shown;
 pub mod questions;
+pub mod queues;
 pub mod records;
 pub mod trials;
 pub mod unread;

@@ -2,12 +2,12 @@
 
 ghost use Rattle.std.specs.Prelude.{◌≡◌, ◌++◌, IfOk, OnOk};
 ghost use Rattle.std.specs.String.{string_bytes};
-ghost use Rattle.certifying.specs.NotShown.{flaw_line, is_unlisted, likely_opening, opening_line, queue_fault};
+ghost use Rattle.certifying.specs.NotShown.{flaw_line, is_unlisted, likely_opening, opening_line, queue_fault, tagged_fault};
 ghost use Rattle.certifying.specs.NotShown.{likely_at, likely_jump, likely_line, likely_load, likely_of, likely_other, likely_store};
 
 use crate::instructions::instruction_of;
 use crate::unread::{pc_of, push_state_place};
-use queue_checker::{Flaw, QueueCertificate, QueueFlaw};
+use queue_checker::{Flaw, QueueCertificate, QueueFlaw, TaggedFlaw};
 use rv_decode::Instr;
 use std::alloc::AllocError;
 use step_machine::Opening;
@@ -54,7 +54,7 @@ fn push_likely_opening(out: &mut String, unlisted: bool) -> Result<(), AllocErro
     }
 }
 
-/// What is wrong with a queue.
+/// What is wrong with a queue with indices.
 fn push_queue_fault(out: &mut String, why: QueueFlaw) -> Result<(), AllocError>
     ensures { OnOk result (string_bytes out.new ≡ string_bytes out.old ++ queue_fault why) }
 {
@@ -84,6 +84,24 @@ fn push_queue_fault(out: &mut String, why: QueueFlaw) -> Result<(), AllocError>
     }
 }
 
+/// What is wrong with a queue with tags.
+fn push_tagged_fault(out: &mut String, why: TaggedFlaw) -> Result<(), AllocError>
+    ensures { OnOk result (string_bytes out.new ≡ string_bytes out.old ++ tagged_fault why) }
+{
+    match why {
+        TaggedFlaw::OneHart => out.push_str(" has one hart as its sender and its receiver"),
+        TaggedFlaw::NoSlot => out.push_str(" has no slot"),
+        TaggedFlaw::NoTag => out.push_str(" has a tag without a byte"),
+        TaggedFlaw::WideTag => out.push_str(" has a tag of more than 4 bytes"),
+        TaggedFlaw::PastSlot => out.push_str(" has a tag that reaches past its slot"),
+        TaggedFlaw::NarrowNumber => out.push_str(" has numbers in a tag that isn't a word"),
+        TaggedFlaw::SameNumbers => out.push_str(
+            " has numbers that are the same for free and for full slots",
+        ),
+        TaggedFlaw::NotFree => out.push_str(" has a slot that isn't free where it opens"),
+    }
+}
+
 pub fn push_flaw(
     out: &mut String,
     opening: &Opening,
@@ -96,6 +114,12 @@ pub fn push_flaw(
         Flaw::Queue(queue, why) => {
             write!(out, "not shown: queue {queue}")?;
             push_queue_fault(out, why)?;
+            writeln!(out, "")
+        }
+        Flaw::Tagged(tagged, why) => {
+            let queue = certificate.queues.len() + tagged as usize;
+            write!(out, "not shown: queue {queue}")?;
+            push_tagged_fault(out, why)?;
             writeln!(out, "")
         }
         Flaw::Opening(hart) => push_opening(out, is_unlisted(certificate, hart), hart),
@@ -189,7 +213,9 @@ pub fn push_likely(
     ensures { OnOk result (string_bytes out.new ≡ string_bytes out.old ++ likely_line opening.now certificate.now flaw) }
 {
     match flaw {
-        Flaw::Queue(..) => writeln!(out, "likely: the queue isn't described as the text has it"),
+        Flaw::Queue(..) | Flaw::Tagged(..) => {
+            writeln!(out, "likely: the queue isn't described as the text has it")
+        }
         Flaw::Opening(hart) => push_likely_opening(out, is_unlisted(certificate, hart)),
         Flaw::State { hart, state } => {
             push_likely_at(

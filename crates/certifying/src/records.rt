@@ -1,20 +1,21 @@
 //! Whether the senders of queues write bytes of their records.
 
-ghost use Rattle.std.specs.Prelude.{◌≡◌, ◌<◌, ◌++◌, IfOk, OnOk, length, option_map};
+ghost use Rattle.std.specs.Prelude.{◌≡◌, ◌++◌, IfOk, OnOk, length, option_map};
 ghost use Rattle.std.specs.List.{list_all};
 ghost use Rattle.std.specs.String.{string_bytes};
 ghost use Rattle.engine_support.specs.OpeningTexts.{numbered};
 ghost use Rattle.record_bytes.specs.declared.ranges.ByteRange.{ByteRange};
 ghost use Rattle.record_bytes.specs.Ranges.{byte_ranges};
 ghost use Rattle.records_written.specs.declared.finding.Unwritten.{Unwritten};
+ghost use Rattle.certifying.specs.Descriptions.{queue_front};
+ghost use Rattle.certifying.specs.Queues.{queue_count};
 ghost use Rattle.certifying.specs.Records.{AreFoundFor, AreFoundFrom, IsFound, asked_bytes, is_shown, none_line, of_each, record_line};
-ghost use Rattle.certifying.specs.Records.{record_lines, records_front, shown_end, unshown_front, unwritten_end, written_text};
+ghost use Rattle.certifying.specs.Records.{record_lines, rest_bytes, shown_end, unshown_front, unwritten_end, written_text};
 
 use crate::byte_texts::{is_one_byte, push_bytes};
+use crate::queues::{is_tag_byte, number_in, number_of, queue_count, slots_at};
 use crate::unread::push_pc_place;
-use crate::unused::number_of;
 use known_values::Lack;
-use known_values::queues::queue_in;
 use queue_checker::QueueCertificate;
 use record_bytes::{ByteRange, byte_ranges, offsets_in};
 use records_written::{Unwritten, first_unwritten};
@@ -41,8 +42,26 @@ fn asked_bytes(
 ) -> Result<Vec<u64>, AllocError>
     ensures { IfOk result (λ mask. mask.items ≡ asked_bytes certificate.now bytes.now index) }
 {
-    let width = queue_in(&certificate.queues, index).width;
+    let width = slots_at(certificate, index).width;
     offsets_in(alloc, bytes, u64::from(width))
+}
+
+/// Those of these bytes that the sender writes before it publishes the record: all but a tag's.
+fn rest_bytes(
+    alloc: Global,
+    certificate: &QueueCertificate,
+    index: u32,
+    mask: &[u64],
+) -> Result<Vec<u64>, AllocError>
+    ensures { IfOk result (λ rest. rest.items ≡ rest_bytes certificate.now index mask.now) }
+{
+    let mut rest = Vec::new(alloc);
+    for byte in mask {
+        if !is_tag_byte(certificate, index, *byte) {
+            rest.push(*byte)?;
+        }
+    }
+    Ok(rest)
 }
 
 /// What is found of these bytes.
@@ -58,7 +77,9 @@ fn found_of(
     if mask.is_empty() {
         return Ok(Records::NoBytes);
     }
-    match first_unwritten(alloc, opening, certificate, index, mask)? {
+    let rest = rest_bytes(alloc, certificate, index, mask)?;
+    let queue = number_in(certificate, index);
+    match first_unwritten(alloc, opening, certificate, queue, &rest)? {
         None => Ok(Records::Shown),
         Some(unwritten) => Ok(Records::NotShown(unwritten)),
     }
@@ -84,11 +105,11 @@ fn found_in(
     certificate: &QueueCertificate,
     bytes: &str,
 ) -> Result<Vec<Records>, Lack>
-    ensures count { IfOk result (λ found. length found.items ≡ length certificate.now.queues) }
+    ensures count { IfOk result (λ found. length found.items ≡ queue_count certificate.now) }
     ensures found { IfOk result (λ found. AreFoundFrom opening.now certificate.now bytes.now 0 found.items) }
 {
     let mut found = Vec::new(alloc);
-    for index in 0..number_of(certificate.queues.len())? {
+    for index in 0..queue_count(certificate)? {
         found.push(found_at(alloc, opening, certificate, bytes, index)?)?;
     }
     Ok(found)
@@ -153,9 +174,8 @@ fn push_none(out: &mut String, index: u32) -> Result<(), AllocError>
     writeln!(out, "queue {index}: its records have none of these bytes")
 }
 
-#[tactic(auto, unfolding(crate::specs::Records::records_front))]
 fn push_front(out: &mut String, index: u32) -> Result<(), AllocError>
-    ensures { OnOk result (string_bytes out.new ≡ string_bytes out.old ++ records_front index) }
+    ensures { OnOk result (string_bytes out.new ≡ string_bytes out.old ++ queue_front index) }
 {
     write!(out, "queue {index}: ")
 }
@@ -184,7 +204,7 @@ fn push_unwritten(
     ensures { OnOk result (string_bytes out.new ≡ string_bytes out.old ++ unwritten_end opening.now certificate.now index unwritten) }
 {
     let Unwritten { state, byte } = unwritten;
-    let hart = queue_in(&certificate.queues, index).sender;
+    let hart = slots_at(certificate, index).sender;
     write!(out, ": byte {byte}, hart {hart}, ")?;
     push_pc_place(out, opening, certificate, hart, state)?;
     writeln!(out, "")

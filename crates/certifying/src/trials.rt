@@ -4,14 +4,15 @@ ghost use Rattle.std.specs.Prelude.{◌≡◌, ◌≤◌, ◌<◌, ◌-◌, ℕ,
 ghost use Rattle.drawn_runs.specs.Samples.{runs_of};
 ghost use Rattle.step_machine.specs.History.{FitsIn};
 ghost use Rattle.queue_parties.specs.Parties.{all_at};
-ghost use Rattle.queue_certificates.specs.Certificates.{queue_at, start_at};
+ghost use Rattle.ownership_runs.specs.Protocols.{HasSlot};
+ghost use Rattle.certifying.specs.Queues.{any_queue, queue_count};
 ghost use Rattle.certifying.specs.Trials.{IsOfTrial, IsPcBeforeLast, IsToldOf, IsTrialBroken};
 
-use crate::unused::number_of;
+use crate::queues::{any_queue, any_start, queue_count};
 use drawn_runs::progress::Progress;
 use drawn_runs::{Jump, Sample};
 use judged_runs::Told;
-use known_values::{Lack, OpenedQueue};
+use known_values::Lack;
 use ownership_runs::laws::laws_of_judged_runs;
 use ownership_runs::{Counts, Moved, Violation, check_runs};
 use queue_checker::QueueCertificate;
@@ -34,7 +35,7 @@ pub enum Trial {
     },
 }
 
-/// The counts of a queue that opens empty.
+/// The counts of a queue that opens empty at this one.
 fn counts_at(start: u64) -> Counts
     ensures { result ≡ all_at start }
 {
@@ -110,20 +111,12 @@ fn told_of<const B: usize, const M: usize, G: Jump + Sync + Drop, T: Threads + S
     requires some_word { 1 ≤ M }
     requires size { M ≤ 65536 }
     requires fits { FitsIn M opening.now }
-    requires inside { index < length certificate.now.queues }
-    requires some_slot { 1 ≤ (queue_at certificate.now index).size }
+    requires some_slot { HasSlot (any_queue certificate.now index) }
     ensures { IfOk result (IsToldOf (runs_of B M G.Rng.stream sample.now) opening.now certificate.now index) }
 {
-    let opened = &certificate.queues[index as usize];
-    check_runs::<B, M, G, T, P>(
-        rt,
-        alloc,
-        opening,
-        &opened.queue,
-        counts_at(opened.start),
-        sample,
-        progress,
-    )
+    let queue = any_queue(certificate, index);
+    let start = counts_at(any_start(certificate, index));
+    check_runs::<B, M, G, T, P>(rt, alloc, opening, &queue, start, sample, progress)
 }
 
 /// Makes the runs of a sample from an opening, as [`check_runs`] does, for each queue of a certificate: what that shows.
@@ -146,12 +139,12 @@ pub fn trial_of<
     requires some_word { 1 ≤ M }
     requires size { M ≤ 65536 }
     requires fits { FitsIn M opening.now }
-    requires some_slot { (i : ℕ) → i < length certificate.now.queues → 1 ≤ (queue_at certificate.now i).size }
+    requires some_slot { (i : ℕ) → i < queue_count certificate.now → HasSlot (any_queue certificate.now i) }
     ensures { IfOk result (IsOfTrial (runs_of B M G.Rng.stream sample.now) opening.now certificate.now) }
 {
     laws_of_judged_runs();
     let mut kept = Vec::new(alloc);
-    for index in 0..number_of(certificate.queues.len())? {
+    for index in 0..queue_count(certificate)? {
         match told_of::<B, M, G, T, P>(rt, alloc, opening, certificate, index, sample, progress)? {
             Told::Good(moved) => kept.push(moved)?,
             Told::Flawed { part, flaw } => {

@@ -1,24 +1,42 @@
-//! The first load of a queue's slots that isn't shown to be of one that its party owns.
+//! The first load of a queue's slots that is shown neither to be of one that its party owns nor of a tag.
 
-ghost use Rattle.std.specs.Prelude.{◌≡◌, ◌<◌, ◌++◌, IfOk, OnOk, length};
+ghost use Rattle.std.specs.Prelude.{◌≡◌, ◌++◌, IfOk, OnOk};
 ghost use Rattle.std.specs.String.{string_bytes};
 ghost use Rattle.queue_certificates.specs.Certificates.{state_at};
 ghost use Rattle.queue_checker.specs.Flaws.{first_of};
-ghost use Rattle.certifying.specs.Unread.{first_unread, pc_place, state_place, unread_between, unread_by, unread_end, unread_front, unread_line, unread_of};
+ghost use Rattle.certifying.specs.Queues.{tagged_number};
+ghost use Rattle.certifying.specs.Unread.{first_unread, pc_place, state_place, unowned_by, unread_between, unread_by, unread_end, unread_front};
+ghost use Rattle.certifying.specs.Unread.{unread_line, unread_of};
 
 use crate::instructions::{push_at_pc, push_place};
-use crate::unused::number_of;
+use crate::queues::{queue_count, slots_at, tagged_number};
 use known_values::{Lack, Queue};
-use queue_checker::{QueueCertificate, first_unowned};
+use queue_checker::{QueueCertificate, first_unowned, first_unowned_rest};
 use std::alloc::{AllocError, Global};
 use step_machine::Opening;
 
-/// A state of a hart with a load of a queue's slots that isn't shown to be of an owned one.
+/// A state of a hart with a load of a queue's slots that is shown neither to be of an owned one nor of a tag.
 #[derive(Clone, Copy)]
 pub struct Unread {
     pub queue: u32,
     pub hart: u32,
     pub state: u32,
+}
+
+/// The number of the first such state of a hart.
+fn unowned_by(
+    alloc: Global,
+    opening: &Opening,
+    certificate: &QueueCertificate,
+    queue: u32,
+    hart: u32,
+) -> Result<Option<u32>, Lack>
+    ensures { IfOk result (λ state. state ≡ unowned_by opening.now certificate.now queue (tagged_number certificate.now queue) hart) }
+{
+    match tagged_number(certificate, queue) {
+        None => first_unowned(alloc, opening, certificate, queue, hart),
+        Some(t) => first_unowned_rest(alloc, opening, certificate, t, hart),
+    }
 }
 
 /// The first such state of a hart.
@@ -31,7 +49,7 @@ fn unread_by(
 ) -> Result<Option<Unread>, Lack>
     ensures { IfOk result (λ unread. unread ≡ unread_by opening.now certificate.now queue hart) }
 {
-    match first_unowned(alloc, opening, certificate, queue, hart)? {
+    match unowned_by(alloc, opening, certificate, queue, hart)? {
         None => Ok(None),
         Some(state) => Ok(Some(Unread { queue, hart, state })),
     }
@@ -62,7 +80,6 @@ fn unread_after(
     first: Option<Unread>,
     index: u32,
 ) -> Result<Option<Unread>, Lack>
-    requires { index < length certificate.now.queues }
     ensures { IfOk result (λ unread. unread ≡ first_of first (unread_of opening.now certificate.now index)) }
 {
     match first {
@@ -72,7 +89,7 @@ fn unread_after(
                 sender,
                 receiver,
                 ..
-            } = certificate.queues[index as usize].queue;
+            } = slots_at(certificate, index);
             unread_between(alloc, opening, certificate, index, sender, receiver)
         }
     }
@@ -87,7 +104,7 @@ pub fn first_unread(
     ensures { IfOk result (λ unread. unread ≡ first_unread opening.now certificate.now) }
 {
     let mut first = None;
-    for index in 0..number_of(certificate.queues.len())? {
+    for index in 0..queue_count(certificate)? {
         first = unread_after(alloc, opening, certificate, first, index)?;
     }
     Ok(first)

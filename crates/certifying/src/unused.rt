@@ -1,15 +1,15 @@
 //! Certificates of no queue, and queues that a text doesn't use.
 
-ghost use Rattle.std.specs.Prelude.{◌≡◌, ◌<◌, ◌++◌, IfOk, OnOk, length};
+ghost use Rattle.std.specs.Prelude.{◌≡◌, ◌++◌, IfOk, OnOk};
 ghost use Rattle.std.specs.List.{list_any};
 ghost use Rattle.std.specs.String.{string_bytes};
-ghost use Rattle.queue_certificates.specs.Certificates.{queue_at};
-ghost use Rattle.queue_checker.specs.Accesses.{slot_accesses};
 ghost use Rattle.queue_checker.specs.Flaws.{first_below, first_of};
+ghost use Rattle.certifying.specs.Queues.{accesses_at, queue_count, slots_at};
 ghost use Rattle.certifying.specs.Unused.{first_unused, unused_by, unused_line};
 
+use crate::queues::{accesses_at, queue_count, slots_at};
 use known_values::{Lack, Queue};
-use queue_checker::{QueueCertificate, SlotAccess, slot_accesses};
+use queue_checker::{QueueCertificate, SlotAccess};
 use std::alloc::{AllocError, Global};
 use step_machine::Opening;
 
@@ -22,16 +22,6 @@ pub enum Unused {
     NoRoom(u32),
     NoStore(u32),
     NoLoad(u32),
-}
-
-/// A count of queues, or the place of one, where it has 32 bits.
-pub fn number_of(count: usize) -> Result<u32, Lack>
-    ensures { IfOk result (λ number. number ≡ count) }
-{
-    match u32::try_from(count) {
-        Ok(number) => Ok(number),
-        Err(_) => Err(Lack::TooLarge),
-    }
 }
 
 fn any_stores(accesses: &[SlotAccess]) -> bool
@@ -47,8 +37,8 @@ fn any_loads(accesses: &[SlotAccess]) -> bool
 }
 
 /// Why a queue with these accesses to its slots isn't used.
-fn unused_by(index: u32, queue: &Queue, accesses: &[SlotAccess]) -> Option<Unused>
-    ensures { result ≡ unused_by index queue.now accesses.now }
+fn unused_by(index: u32, queue: Queue, accesses: &[SlotAccess]) -> Option<Unused>
+    ensures { result ≡ unused_by index queue accesses.now }
 {
     if queue.width == 0 {
         return Some(Unused::NoBytes(index));
@@ -73,15 +63,14 @@ fn unused_after(
     first: Option<Unused>,
     index: u32,
 ) -> Result<Option<Unused>, Lack>
-    requires { index < length certificate.now.queues }
     ensures { IfOk result (λ unused. unused ≡ first_of first
-        (unused_by index (queue_at certificate.now index) (slot_accesses opening.now certificate.now index))) }
+        (unused_by index (slots_at certificate.now index) (accesses_at opening.now certificate.now index))) }
 {
     match first {
         Some(unused) => Ok(Some(unused)),
         None => {
-            let accesses = slot_accesses(alloc, opening, certificate, index)?;
-            Ok(unused_by(index, &certificate.queues[index as usize].queue, &accesses))
+            let accesses = accesses_at(alloc, opening, certificate, index)?;
+            Ok(unused_by(index, slots_at(certificate, index), &accesses))
         }
     }
 }
@@ -91,11 +80,11 @@ fn unused_of_queues(
     opening: &Opening,
     certificate: &QueueCertificate,
 ) -> Result<Option<Unused>, Lack>
-    ensures { IfOk result (λ unused. unused ≡ first_below (length certificate.now.queues)
-        (λ i. unused_by i (queue_at certificate.now i) (slot_accesses opening.now certificate.now i))) }
+    ensures { IfOk result (λ unused. unused ≡ first_below (queue_count certificate.now)
+        (λ i. unused_by i (slots_at certificate.now i) (accesses_at opening.now certificate.now i))) }
 {
     let mut first = None;
-    for index in 0..number_of(certificate.queues.len())? {
+    for index in 0..queue_count(certificate)? {
         first = unused_after(alloc, opening, certificate, first, index)?;
     }
     Ok(first)
@@ -109,7 +98,7 @@ pub fn first_unused(
 ) -> Result<Option<Unused>, Lack>
     ensures { IfOk result (λ unused. unused ≡ first_unused opening.now certificate.now) }
 {
-    if certificate.queues.is_empty() {
+    if certificate.queues.is_empty() && certificate.tagged.is_empty() {
         return Ok(Some(Unused::NoQueue));
     }
     unused_of_queues(alloc, opening, certificate)

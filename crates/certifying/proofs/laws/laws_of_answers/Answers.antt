@@ -5,9 +5,12 @@ pub returns-clause-promised : goal.returns-clause-promised
 returns-clause-promised c = answers.promised (record {
   no_flaw = c.laws_of_flaws.ensures.flaw;
   all_owned = c.laws_of_flaws.ensures.loads;
+  all_rest = c.laws_of_flaws.ensures.rest;
   every_run = λ o listed accepted B M. c.laws_of_queue_certificates.ensures.every_run B M o listed accepted;
+  tells = λ o listed accepted B M es formed t less. c.laws_of_queue_certificates.ensures.tells B M o listed accepted es formed t less;
   sent = λ o listed accepted B M es formed i less. c.laws_of_queue_certificates.ensures.sent B M o listed accepted i less es formed;
   reads_owned = c.laws_of_queue_certificates.ensures.reads_owned;
+  rest_owned = c.laws_of_queue_certificates.ensures.rest_owned;
   asked = record {
     written = λ B M o listed accepted. c.laws_of_written_records.ensures.shown B M o listed accepted;
     never_stopped = c.laws_of_hart_safety.ensures.never_stopped;

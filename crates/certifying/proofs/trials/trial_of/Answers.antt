@@ -1,9 +1,9 @@
 use Rattle.std.proofs.Common.{rules, ℕ, ◌≡◌, ◌<◌, ◌+◌, ◌∷◌, [], List, length, sym, ap, subst, ◌∙◌, arith}
 use Rattle.std.proofs.lemmas.List.{length-append}
 use Rattle.queue_parties.specs.Parties.{all_at}
-use Rattle.queue_certificates.specs.Certificates.{queue_at, start_at}
 use Rattle.drawn_runs.specs.Samples.{runs_of}
 use Rattle.ownership_runs.specs.declared.runs.Moved.{Moved}
+use Rattle.certifying.specs.Queues.{any_queue, any_start, queue_count}
 use Rattle.certifying.specs.Trials.{AllKeep, IsToldOf, QueuesKeep, trial_schedule}
 use Rattle.certifying.proofs.DrawnLaws.{is-broken, keep-more}
 use Rattle.certifying.proofs.trials.trial_of.Goals as goal
@@ -14,9 +14,9 @@ returns-in-Flawed g c =
     let o = c.args.opening.now in
     let listed = c.args.certificate.now in
     let i = c.loop-index.index in
-    let less : i < length listed.queues = search rules in
+    let less : i < queue_count listed = search rules in
     let told = subst (IsToldOf d o listed i) c.in-Flawed.is c.in_ok-moved.ensures in
-    let ends = c.laws_of_judged_runs.ensures.ends g.row.B g.row.M o (queue_at listed i) (all_at (start_at listed i)) (trial_schedule d o) d.number
+    let ends = c.laws_of_judged_runs.ensures.ends g.row.B g.row.M o (any_queue listed i) (all_at (any_start listed i)) (trial_schedule d o) d.number
     c.in-Flawed.part.items c.in-Flawed.flaw told in
     is-broken d o listed i c.in-Flawed.part.items c.in-Flawed.flaw c.loop-index.kept.items c.in_ok-broken_by-in-Flawed.field-0
     c.in_ok-broken_by-in-Flawed.ensures less c.loop-index.invariant.count c.loop-index.invariant.kept told ends

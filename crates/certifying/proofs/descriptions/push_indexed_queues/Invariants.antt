@@ -2,7 +2,7 @@ use Rattle.std.proofs.Common.{◌≡◌, ◌++◌, drop}
 use Rattle.std.specs.String.{string_bytes}
 use Rattle.engine_support.specs.OpeningTexts.{numbered}
 use Rattle.certifying.specs.Descriptions.{queue_lines}
-use Rattle.certifying.proofs.descriptions.push_queues.Given as goal
+use Rattle.certifying.proofs.descriptions.push_indexed_queues.Given as goal
 
 abbrev pub invariant-loop-place : goal.invariant-loop-place
 invariant-loop-place l =
