@@ -5,7 +5,7 @@ use drawn_runs::{Draw, Runs, Sample};
 use judged_runs::Told;
 use litmus::Test;
 use ownership_runs::{Counts, Moved, Owned, Violation, check_runs, first_violation};
-use queue_layouts::Queue;
+use queue_layouts::{AnyQueue, Codec, Queue, TaggedQueue};
 use rand_core::SeedableRng;
 use rand_pcg::Pcg32;
 use std::alloc::{AllocError, Global};
@@ -27,6 +27,18 @@ const RECORDS: Queue = Queue {
     scale: 1,
     offset: 0,
     modulus: 4,
+};
+
+/// Of each slot the first word is the tag.
+const NUMBERED: TaggedQueue = TaggedQueue {
+    sender: 0,
+    receiver: 1,
+    slots: 128,
+    size: 4,
+    width: 8,
+    tag_offset: 0,
+    tag_width: 4,
+    codec: Codec::Number,
 };
 
 fn counts(published: u64, taken: u64) -> Counts {
@@ -84,7 +96,8 @@ fn runs_that_keep_ownership_have_no_violation(rt: HostRuntime) {
         (counts(1, 1), &round as &[Entry]),
         (counts(0, 0), &same_word as &[Entry]),
     ] {
-        assert_same!(rt; first_violation(&RECORDS, start, entries) == None, true);
+        let queue = AnyQueue::Indexed(RECORDS);
+        assert_same!(rt; first_violation(&queue, start, entries) == None, true);
     }
 }
 
@@ -113,7 +126,37 @@ fn the_first_violation_says_what_was_owned(rt: HostRuntime) {
         ),
     ];
     for (entries, wanted) in rows {
-        assert_same!(rt; first_violation(&RECORDS, counts(0, 0), &entries) == Some(wanted), true);
+        let queue = AnyQueue::Indexed(RECORDS);
+        assert_same!(rt; first_violation(&queue, counts(0, 0), &entries) == Some(wanted), true);
+    }
+}
+
+#[test]
+fn slots_with_tags_are_stored_to_by_whom_they_tell(rt: HostRuntime) {
+    let queue = AnyQueue::Tagged(NUMBERED);
+    let sent_and_taken = [
+        store(0, 132, 7),
+        store(0, 128, 1),
+        load(1, 128, 1),
+        stored(1, 135, 1, 9),
+        store(1, 128, 4),
+        load(0, 128, 4),
+        store(2, 200, 1),
+    ];
+    assert_same!(rt; first_violation(&queue, counts(0, 0), &sent_and_taken) == None, true);
+    // the receiver hasn't looked at the tag, or hands nothing over by its AMO, which has
+    let rows = [
+        (
+            [store(0, 128, 1), store(1, 128, 4)],
+            violation(1, 1, 128, 4, Some((0, 0))),
+        ),
+        (
+            [store(0, 128, 1), amo(1, 128, 1, 1)],
+            violation(1, 1, 128, 1, Some((0, 1))),
+        ),
+    ];
+    for (entries, wanted) in rows {
+        assert_same!(rt; first_violation(&queue, counts(0, 0), &entries) == Some(wanted), true);
     }
 }
 
@@ -173,7 +216,7 @@ fn told<T: Threads + Sync>(
         rt,
         alloc,
         &opening,
-        &WORDS,
+        &AnyQueue::Indexed(WORDS),
         counts(0, 0),
         &sample,
         &mut NoProgress,
