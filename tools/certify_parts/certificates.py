@@ -3,6 +3,7 @@
 A certificate's variables begin at 0; a step adds one, which comes first. docs/queues.md has the grammar.
 """
 
+from . import handed
 from .forms import SIZE, Word, signed
 from .sent import marked
 
@@ -28,8 +29,9 @@ class Layout:
                 self.add(("t", which), share.begin, share.end)
             if share and share.low < share.high:
                 self.add(("A", which), share.low, share.high)
-        for which, (low, high) in enumerate(state.others):
-            self.add(("z", which), low, high)
+        for kind, ranges in (("z", state.others), ("w", state.handed)):
+            for which, (low, high) in enumerate(ranges):
+                self.add((kind, which), low, high)
 
     def add(self, variable, low, high):
         self.variables.append(variable)
@@ -50,7 +52,7 @@ class Layout:
         """A variable of the search: a number and the multiples of the certificate's variables, after `lift` new ones."""
         kind, which = variable
         at = self.variables.index(variable) + lift if variable in self.variables else None
-        share = self.state.shares[which] if kind != "z" else None
+        share = self.state.shares[which] if kind not in "zw" else None
         if kind == "n":
             if at is None:
                 return share.count, {}
@@ -132,7 +134,7 @@ class Writer:
                     yield f"split {layout.variables.index(tree[1])} {limit}"
                 yield from self.tree(tree[3 + is_high], half)
             return
-        moved = [step for following in tree[2] for step in following.moved if step]
+        moved = [step for following in tree[2] for step, queue in zip(following.moved, self.program.queues) if step and not queue.has_tags]
         yield f"leaf {moved[0] if moved else 0}"
         for following in tree[2]:
             to = self.covering(following.state)
@@ -142,30 +144,44 @@ class Writer:
         """A variable of the state that is reached, by those of the leaf and the one that comes with the step."""
         kind, which = variable
         begins = self.layouts[to].begins[variable]
-        if kind in "npt":
+        if kind == "n":
             share, queue = layout.state.shares[which], self.program.queues[which]
-            turns = (layout.begins.get(("p", which), share.first) + following.moved[which]) // queue.period()
-            again = (layout.begins.get(("t", which), share.begin) + turns) // queue.turns()
-            if kind != "n":
-                constant, terms = layout.named(variable, 1)
-                on = following.moved[which] - turns * queue.period() if kind == "p" else turns - again * queue.turns()
-                return written(constant + on - begins, terms)
+            _, again = self.turned(which, following, layout)
             at = layout.variables.index(variable) + 1 if variable in layout.variables else None
             return written(again + (share.count // (queue.period() * queue.turns()) if at is None else 0), {} if at is None else {at: 1})
-        if kind == "A" and following.looked[which]:
-            return written(layout.named(variable, 1)[0] - begins, {0: 1})
-        old = following.kept[which] if kind == "z" else which
-        if old is None:
-            return written(-begins, {0: 1})
-        constant, terms = layout.named((kind, old), 1)
-        return written(constant - (following.moved[which] if kind == "A" else 0) - begins, terms)
+        first, multiples = handed.put_for(which, self.states[to], following.state, self.program) if kind == "w" else (0, [(variable, 1)])
+        constant, terms = first - begins, {}
+        for each, m in multiples:
+            more, parts = self.after(*each, following, layout)
+            constant += m * more
+            terms = {at: terms.get(at, 0) + m * parts.get(at, 0) for at in {*terms, *parts}}
+        return written(constant, terms)
+
+    def turned(self, which, following, layout):
+        """By how many turns of the slots, and of all the turns that an index counts, a step moves on."""
+        share, queue = layout.state.shares[which], self.program.queues[which]
+        turns = (layout.begins.get(("p", which), share.first) + following.moved[which]) // queue.period()
+        return turns, (layout.begins.get(("t", which), share.begin) + turns) // queue.turns()
+
+    def after(self, kind, which, following, layout):
+        """A variable of the search after a step, by those of the leaf and the one that comes with it."""
+        if kind in "pt":
+            queue, (turns, again) = self.program.queues[which], self.turned(which, following, layout)
+            constant, terms = layout.named((kind, which), 1)
+            return constant + (following.moved[which] - turns * queue.period() if kind == "p" else turns - again * queue.turns()), terms
+        if kind == "A":
+            constant, terms = layout.named((kind, which), 1)
+            return (constant, {0: 1}) if following.looked[which] else (constant - following.moved[which], terms)
+        old, more = following.words[which] if kind == "w" else (following.kept[which], 0)
+        constant, terms = (0, {0: 1}) if old is None else layout.named((kind, old), 1)
+        return constant + more, terms
 
 
 def text(queues, found):
     """The certificate of all queues and harts. A hart that isn't covered has no states."""
     lines, records = ["ztso-queues 1"], found[0].program.records
     for which, queue in enumerate(queues):
-        lines += [queue.text(), *(records.lines(which) if records else ())]
+        lines += [queue.text(), *(records.lines(which) if records and not queue.has_tags else ())]
     for hart in found:
         lines += ["hart", "open 0"] if hart.refused else Writer(hart.program, hart.search).lines()
     return "\n".join(lines) + "\n"

@@ -1,7 +1,8 @@
 """Values as linear forms: a number and multiples of variables, modulo 2^32.
 
-A variable is a pair: ("n", i) is the party's own count of queue i, ("A", i) how many of its positions it owns, ("z", k) any other number
-of a range. A value is None (anything), a `Form`, or a `Word`: what an index of a queue holds that stands for a count.
+A variable is a pair: ("n", i) is the party's own count of queue i, ("A", i) how many of its positions it owns, ("w", k) a word that a tag's store
+may hand over (handed.py), ("z", k) any other number of a range. A value is None (anything), a `Form`, or a `Word`: what an index of a queue holds
+that stands for a count.
 """
 
 from typing import NamedTuple
@@ -12,6 +13,14 @@ SIZE = 1 << 32
 def signed(number, bits=32):
     number &= (1 << bits) - 1
     return number - (1 << bits) if number >> (bits - 1) else number
+
+
+class Split(Exception):
+    """The numbers of a variable are to be parted after `at`."""
+
+    def __init__(self, variable, at):
+        super().__init__(variable, at)
+        self.variable, self.at = variable, at
 
 
 class Form(NamedTuple):
@@ -61,6 +70,11 @@ def number(constant):
 
 def variable_of(kind, which, factor=1, constant=0):
     return form(constant, {(kind, which): factor})
+
+
+def has_word(value):
+    """Whether a value has a variable for a word that is handed over."""
+    return isinstance(value, Form) and any(kind == "w" for (kind, _), _ in value.terms)
 
 
 def bounds(value, ranges, is_exact=False):

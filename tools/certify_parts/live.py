@@ -36,16 +36,55 @@ def returns_of(code):
     return [4 * at + 4 for at, word in enumerate(code) if word & 127 in (JAL, JALR) and word >> 7 & 31]
 
 
+def handed_before(word, after, is_handed):
+    """The registers that a tag's store may hand over before an instruction, by those after it and whether what it stores is handed over."""
+    kind, to, x, y = word & 127, word >> 7 & 31, word >> 15 & 31, word >> 20 & 31
+    read = {x} if kind in (IMMEDIATE, REGISTER) and to in after else set()
+    if kind in (STORE, AMO) and is_handed or kind == REGISTER and to in after:
+        read.add(y)
+    return (after if kind in (STORE, BRANCH) else after - {to}) | read - {0}
+
+
+def address_parts(word, after, matters):
+    """The registers that an address is made of before an instruction, by those after it."""
+    kind, to, x, y = word & 127, word >> 7 & 31, word >> 15 & 31, word >> 20 & 31
+    read = {x} if kind in (LOAD, JALR, STORE, AMO) or kind in (IMMEDIATE, REGISTER) and to in after else set()
+    if kind in (STORE, AMO) and matters or kind == REGISTER and to in after:
+        read.add(y)
+    return (after if kind in (STORE, BRANCH) else after - {to}) | read - {0}
+
+
+class Hands(NamedTuple):
+    """What the stores of tags may hand over: at which pcs it is stored, to a tag or to an own word, and the places of those words; the places of own
+    words of which an address is made; and for each place of the code the registers of which the one is so, and of which the other."""
+
+    pcs: frozenset
+    places: frozenset
+    addresses: frozenset
+    registers: list
+    in_addresses: list
+
+
 class Needed(NamedTuple):
     """What is needed of a code's registers: for each place those that are from there on, none at its end; by the place of each call those that
-    are just after it, by what is called and where that returns to; and at which places what is stored matters."""
+    are just after it, by what is called and where that returns to; at which places what is stored matters; and what is handed over, or None of a
+    hart that sends by no tags of which more than one number is full."""
 
     registers: list
     after_calls: dict
     matters: frozenset
+    hands: object = None
+
+    def with_hands(self, code, pcs=frozenset(), places=frozenset(), addresses=frozenset()):
+        """The same with what is handed over, and these besides."""
+        if self.hands:
+            pcs, places, addresses = pcs | self.hands.pcs, places | self.hands.places, addresses | self.hands.addresses
+        following = [returns_of(code) if each is None else each for each in (followers(4 * at, word) for at, word in enumerate(code))]
+        return self._replace(hands=Hands(pcs, places, addresses, lived(code, pcs, following, handed_before),
+                                         lived(code, frozenset(), following, address_parts)))
 
 
-def needed_of(code, matters=frozenset()):
+def needed_of(code, matters=frozenset(), hands=None):
     """What is needed of a code's registers, if what is stored matters at these places. A return goes on after any call."""
     returns = set(returns_of(code))
     goals = {4 * at: followers(4 * at, word) for at, word in enumerate(code)}
@@ -53,17 +92,17 @@ def needed_of(code, matters=frozenset()):
     inside = lived(code, matters, [[*(each or ()), *([pc + 4] if pc + 4 in returns else ())] for pc, each in goals.items()])
     after = {pc: registers[pc // 4 + 1].union(*(inside[goal // 4] for goal in goals[pc] if 0 <= goal <= 4 * len(code)), {code[pc // 4] >> 7 & 31})
              for pc in goals if pc + 4 in returns and goals[pc]}
-    return Needed(registers, after, matters)
+    return Needed(registers, after, matters, hands)
 
 
-def lived(code, matters, following):
+def lived(code, matters, following, before=needed_before):
     """For each place of the code, and its end, the registers that are needed from there on, if control goes from each to those that follow."""
     live, changed = [frozenset()] * (len(code) + 1), True
     while changed:
         changed = False
         for at in range(len(code) - 1, -1, -1):
             after = frozenset().union(*(live[goal // 4] for goal in following[at] if 0 <= goal <= 4 * len(code)))
-            now = needed_before(code[at], after, 4 * at in matters)
+            now = before(code[at], after, 4 * at in matters)
             if now != live[at]:
                 live[at], changed = now, True
     return live

@@ -33,6 +33,8 @@ class Queue(NamedTuple):
     modulus: int
     start: int
 
+    has_tags = False
+
     def word(self, count):
         return self.base + self.scale * ((count + self.offset) % self.modulus)
 
@@ -97,7 +99,9 @@ class Queue(NamedTuple):
         head, tail = (test.number(place, self.index_width) for place in (self.head, self.tail))
         index, rest = divmod(head - self.base, self.scale)
         if rest or not 0 <= index < self.modulus:
-            raise Wrong(f"the head opens as {head}, and not as {self.word(0)}, which stands for 0 records")
+            pointer = f": of an index that is a pointer say index=wrapping,scale={self.width},base=PLACE, the place of the slots"
+            raise Wrong(f"the head opens as {head}, and not as {self.word(0)}, which stands for 0 records"
+                        + pointer * (self.slots <= head < self.slots + self.size * self.width))
         if tail != head:
             raise Wrong(f"the tail opens as {tail}, and not as {head}, as the head does: a queue opens empty")
         return self._replace(start=(index - self.offset) % self.modulus)
@@ -122,14 +126,9 @@ def described(places, given):
     missing = [name for name in ("head", "tail", "slots") if name not in places] + ["size"] * ("size" not in given)
     if missing:
         raise Wrong(f"a queue needs {missing[0]}=")
-    for name, value in given.items():
-        if name not in KEYS:
-            raise Wrong(f"a queue has no {name}: it has {', '.join(KEYS)}")
-        if name != "index" and not value.removeprefix("-" if name == "offset" else "").isdigit():
-            raise Wrong(f"{name} takes a number")
+    numbers = numbers_given(given, KEYS, NUMBERS, ("index",), "a queue")
     if given.get("index", "counting") not in ("counting", "wrapping"):
         raise Wrong("index is counting or wrapping")
-    numbers = {name: int(given.get(name, value)) for name, value in NUMBERS.items() if name in given or value is not None}
     size, width = numbers["size"], numbers["bytes"]
     for name in ("size", "width", "scale"):
         if numbers[name] < 1:
@@ -159,8 +158,18 @@ def described(places, given):
     return queue
 
 
+def numbers_given(given, keys, numbers, words, what):
+    """The numbers of what is given, and of what isn't but has one; Wrong where a key is none of these, or no number and none of these words."""
+    for name, value in given.items():
+        if name not in keys:
+            raise Wrong(f"{what} has no {name}: it has {', '.join(keys)}")
+        if name not in words and not value.removeprefix("-" if name == "offset" else "").isdigit():
+            raise Wrong(f"{name} takes a number")
+    return {name: int(given.get(name, value)) for name, value in numbers.items() if name in given or value is not None}
+
+
 def given_of(text):
-    """What a --queue gives, by its keys."""
+    """What a --queue or a --tagged gives, by its keys."""
     given = {}
     for part in text.split(","):
         name, equals, value = part.partition("=")

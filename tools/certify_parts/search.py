@@ -8,6 +8,7 @@ import time
 from enum import Enum
 from heapq import heappop, heappush
 
+from . import handed
 from .forms import SIZE, Form, Word, bounds, number, signed, variable_of
 from .steps import Refused, leaves
 from .values import Share
@@ -107,10 +108,12 @@ class Search:
 
     def covers(self, old, state):
         """Whether each state that `state` stands for is one that `old` does, of two with one key."""
-        for share, other in zip(old.shares, state.shares):
-            if share and not (share.low <= other.low and other.high <= share.high and share.first <= other.first and other.last <= share.last
-                              and share.begin <= other.begin and other.end <= share.end and share.count in (None, other.count)):
+        for share, other, queue in zip(old.shares, state.shares, self.program.queues):
+            if share and not (share.low <= other.low and (other.high <= share.high or queue.has_tags) and share.first <= other.first
+                              and other.last <= share.last and share.begin <= other.begin and other.end <= share.end and share.count in (None, other.count)):
                 return False
+        if old.handed or state.handed:
+            return handed.covers(self, old, state)
         for new, wanted in zip(state.registers + state.words, old.registers + old.words):
             if new != wanted and not self.is_value(new, state, wanted):
                 return False
@@ -119,9 +122,7 @@ class Search:
     def spellings(self, values, states):
         """Values that all of these may be: each as it stands; what the other's index holds; and forms of counts through two numbers."""
         yield from list(dict.fromkeys(values))[:4]
-        for which, party in enumerate(self.program.parties):
-            if party is not None:
-                yield self.program.other_index(which)
+        yield from self.program.looks
         known = [(self.program.known(value, state), state) for value, state in zip(values, states)]
         known = [(value, self.program.ranges(state)) for value, state in known if value is not None]
         for at in {1, len(known) // 2, len(known) - 1} - {0, -1}:
@@ -166,8 +167,7 @@ class Search:
         known = [self.program.known(value, state) for value, state in zip(values, states)]
         if self.contradict(known, states):
             return None
-        copies = [self.program.other_index(which) for which, party in enumerate(self.program.parties) if party is not None] if is_copy else ()
-        for each in (*copies, *self.spellings(values, states)):
+        for each in (*(self.program.looks if is_copy else ()), *self.spellings(values, states)):
             if all(self.is_value(value, state, each) for value, state in zip(values, states)):
                 return each
         return None
@@ -185,9 +185,9 @@ class Search:
         failed = self.failed.setdefault(states[0].pc, [])
         if is_whole and any(self.is_lost(where, columns[where], states) for where in failed):
             return None, 1
-        values, lost = [], 0
+        values, lost, meeting = [], 0, self.meeting(states)
         for where, column in enumerate(columns):
-            values.append(self.spelled(where, column, states))
+            values.append(self.spelled_among(meeting, where, column, states))
             if values[-1] is None and None not in column:
                 lost += 1
                 if is_whole:
@@ -197,19 +197,33 @@ class Search:
                     return None, 1
         shares = []
         for which, each in enumerate(zip(*(state.shares for state in states))):
+            if each[0] and self.program.queues[which].has_tags and any(share.low != each[0].low for share in each):
+                lost += 1
+                if is_whole:
+                    return None, 1
             shares.append(self.joined_share(which, each) if each[0] else None)
-        return states[0]._replace(registers=tuple(values[:32]), words=tuple(values[32:]), shares=tuple(shares)), lost
+        found = states[0]._replace(registers=tuple(values[:32]), words=tuple(values[32:]), shares=tuple(shares))
+        return meeting.settled(found) if meeting else found, lost
+
+    def meeting(self, states):
+        """What joins words that may be handed over, or None where there are none."""
+        return handed.Meeting(self, states) if self.program.needed.hands or any(state.handed for state in states) else None
+
+    def spelled_among(self, meeting, where, column, states):
+        return meeting.spelled(where, column) if meeting and meeting.is_asked(where, column) else self.spelled(where, column, states)
 
     def is_lost(self, where, column, states):
         """Whether a join loses the value of a column."""
-        return None not in column and self.spelled(where, column, states) is None
+        return None not in column and self.spelled_among(self.meeting(states), where, column, states) is None
 
     def joined_share(self, which, shares):
         queue = self.program.queues[which]
         count = shares[0].count if all(share.count == shares[0].count for share in shares) else None
         low, high = min(share.low for share in shares), max(share.high for share in shares)
         first, last = min(share.first for share in shares), max(share.last for share in shares)
-        if len({(share.low, share.high) for share in shares}) > EARLY:
+        if queue.has_tags:
+            high = low
+        elif len({(share.low, share.high) for share in shares}) > EARLY:
             low, high = min(low, 1), queue.capacity
         begin, end = min(share.begin for share in shares), max(share.end for share in shares)
         if self.mode in TOGETHER and len({(share.first, share.last) for share in shares}) > EARLY:
@@ -228,9 +242,11 @@ class Search:
         anew or lost. Elsewhere only forms are joined, which are parted again where need be: after an access the parts of the position by where
         its slots begin anew, say. A split that told where an index's word wraps is kept."""
         shares = one.shares
+        if one.handed != other.handed:
+            return None
         if shares != other.shares:
             differ = [which for which, (a, b) in enumerate(zip(shares, other.shares)) if a != b]
-            share = self.one_range(shares[differ[0]], other.shares[differ[0]]) if len(differ) == 1 else None
+            share = self.one_range(shares[differ[0]], other.shares[differ[0]], self.program.queues[differ[0]]) if len(differ) == 1 else None
             if share is None:
                 return None
             shares = (*shares[:differ[0]], share, *shares[differ[0] + 1:])
@@ -245,11 +261,11 @@ class Search:
         return one._replace(registers=tuple(values[:32]), words=tuple(values[32:]), shares=shares)
 
     @staticmethod
-    def one_range(a, b):
+    def one_range(a, b, queue):
         """Two shares as one, if they differ in one range and both make one range; or None."""
         first, second = ((share[1:3], share[3:5], share[5:7]) for share in (a, b))
         differ = [(x, y) for x, y in zip(first, second) if x != y]
-        if a.count != b.count or len(differ) > 1:
+        if a.count != b.count or len(differ) > 1 or queue.has_tags and a.low != b.low:
             return None
         if differ and max(differ[0][0][0], differ[0][1][0]) > min(differ[0][0][1], differ[0][1][1]) + 1:
             return None

@@ -10,8 +10,8 @@ from typing import NamedTuple
 
 from .forms import Form, number, numbers_of, signed, variable_of
 from .harts import Harts
-from .live import followers, returns_of
-from .steps import AMO, BRANCH, IMMEDIATE, JALR, LOAD, REGISTER, STORE, Matters, Refused, leaves
+from .live import address_parts, followers, returns_of
+from .steps import AMO, LOAD, STORE, Matters, Refused, leaves
 
 # in so many rounds the numbers of a part may grow
 MOST_GROWN = 12
@@ -110,7 +110,7 @@ class Records:
         () where nothing is sent yet, so that the hart doesn't go on from there."""
         low, high = program.limits(place, state)
         for which, (queue, party) in enumerate(zip(program.queues, program.parties)):
-            if party == 1 and queue.slots <= low and high + width <= queue.slots + queue.size * queue.width:
+            if party == 1 and not queue.has_tags and queue.slots <= low and high + width <= queue.slots + queue.size * queue.width:
                 if state.pc not in program.address_loads or not program.owns(which, place, width, state):
                     return None
                 part = Part(which, slot_of(program, which, place, state)[1], width)
@@ -186,15 +186,6 @@ def slot_store(program, which, state):
 
 
 # ---- which loads are of numbers that an address may be made of
-
-def address_parts(word, after, matters):
-    """The registers that an address is made of before an instruction, by those after it."""
-    kind, to, x, y = word & 127, word >> 7 & 31, word >> 15 & 31, word >> 20 & 31
-    read = {x} if kind in (LOAD, JALR, STORE, AMO) or kind in (IMMEDIATE, REGISTER) and to in after else set()
-    if kind in (STORE, AMO) and matters or kind == REGISTER and to in after:
-        read.add(y)
-    return (after if kind in (STORE, BRANCH) else after - {to}) | read - {0}
-
 
 def address_loads(code, matters):
     """The places of loads whose numbers an address may be made of, or what is stored where that matters."""

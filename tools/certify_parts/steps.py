@@ -6,8 +6,9 @@ or refuses by `Refused` what isn't shown to keep the protocol.
 
 from typing import NamedTuple
 
-from .forms import SIZE, Form, Word, bounds, form, number, numbers_of, signed, variable_of
-from .values import MOST_TRIED, ZERO, Share, Split, State, Values
+from . import handed, tags
+from .forms import SIZE, Form, Split, Word, bounds, form, has_word, number, numbers_of, signed, variable_of
+from .values import MOST_TRIED, ZERO, Share, State, Values
 
 # the kinds of instructions, by their low seven bits
 LOAD, FENCE, IMMEDIATE, AUIPC, STORE, AMO, REGISTER, LUI, BRANCH, JALR, JAL, SYSTEM = (
@@ -35,21 +36,25 @@ class Matters(Exception):
 
 class Next(NamedTuple):
     """A state after a step, and where its variables come from: of each queue by how much the own count moved, and whether what is owned is new;
-    of each ("z", k) a variable of the state before, or None where it is new."""
+    of each ("z", k) a variable of the state before, or None where it is new; of each ("w", k) the same, and how much more than that it is."""
 
     state: State
     moved: tuple
     looked: tuple
     kept: tuple
+    words: tuple
 
 
 class Program(Values):
     """One hart's code with what holds of all its states."""
 
-    def __init__(self, test, queues, hart, kept, needed, with_bytes=False, loosens=True, records=None):
+    def __init__(self, test, queues, hart, kept, needed, with_bytes=False, loosens=True, records=None, opens_full=False):
         self.hart, self.code = hart, test.harts[hart].code
         super().__init__(queues, hart, loosens)
+        self.tagged = [(which, queue, party) for which, (queue, party) in enumerate(zip(queues, self.parties)) if queue.has_tags and party is not None]
+        self.word_stores = {}    # by an own word: the pcs of its stores
         self.other_indices = [self.looked(which) for which in range(len(queues))]
+        self.looks = [index for index in self.other_indices if index is not None]
         self.kept, self.with_bytes = kept, with_bytes
         self.at = {place: which for which, place in enumerate(kept)}
         self.stored = set()    # words that it may store to, apart from queues
@@ -63,9 +68,11 @@ class Program(Values):
             records.begin(self)
         registers = tuple(number(test.harts[hart].registers.get(which, 0)) if which in needed.registers[0] or not which else None for which in range(32))
         words = tuple(number(test.words.get(place, 0)) for place in kept)
-        shares = tuple(None if party is None else Share(queue.start, *[queue.start % queue.period()] * 2, *[queue.first_owned(party)] * 2,
+        # at least nothing is owned of a queue with tags, unless it is asked with all that is
+        owned = [0 if queue.has_tags and not opens_full or party is None else queue.first_owned(party) for queue, party in zip(queues, self.parties)]
+        shares = tuple(None if party is None else Share(queue.start, *[queue.start % queue.period()] * 2, *[first] * 2,
                                                         *[queue.start // queue.period() % queue.turns()] * 2)
-                       for queue, party in zip(queues, self.parties))
+                       for queue, party, first in zip(queues, self.parties, owned))
         self.start = State(0, registers, words, shares, ())
 
     # ---- memory
@@ -87,9 +94,9 @@ class Program(Values):
 
     def looked(self, which):
         """What the other's index holds just after a look, or None of a queue of which the hart is no party."""
-        if self.parties[which] is None:
-            return None
         queue = self.queues[which]
+        if self.parties[which] is None or queue.has_tags:
+            return None
         count = form(-queue.known_less(self.parties[which]), {("n", which): 1, ("A", which): 1})
         return count.times(queue.scale).plus(number(queue.base + queue.scale * queue.offset)) if queue.is_linear() else Word(which, count)
 
@@ -153,6 +160,9 @@ class Program(Values):
         for which, (queue, party) in enumerate(zip(self.queues, self.parties)):
             if party is None or not queue.meets(low, high - low + width):
                 continue
+            if queue.has_tags:
+                tags.read_rest(self, which, state, value, width)
+                return None, None
             if queue.meets_slots(low, high - low + width):
                 self.slot_loads.add(state.pc)
                 is_inside = queue.slots <= low and high + width <= queue.slots + queue.size * queue.width
@@ -178,7 +188,7 @@ class Program(Values):
     def refuse_looks(self, state, low, high, width):
         """A load that may be of the other's index, whole, would move what is known."""
         for queue, party in zip(self.queues, self.parties):
-            if party is not None and width == queue.index_width and low <= queue.other(party) <= high:
+            if party is not None and not queue.has_tags and width == queue.index_width and low <= queue.other(party) <= high:
                 raise Refused(state.pc, "a load that may be of the other's index")
 
     def own_word(self, state, place, width):
@@ -187,7 +197,20 @@ class Program(Values):
         self.reads.add(self.at[place])
         if self.at[place] in self.dropped:
             raise Matters(self.dropped[self.at[place]])
+        if self.needed.hands:
+            handed.see_load(self, place, state.pc)
         return state.words[self.at[place]]
+
+    def hands_over(self, state, queue):
+        """Asks for a search that knows that what a store stores is handed over by a tag."""
+        if state.pc not in self.needed.matters:
+            raise Matters({state.pc})
+        if queue.tells == tags.ZERO and queue.party(self.hart) == 0 and state.pc not in self.needed.hands.pcs:
+            raise handed.Hands({state.pc})
+
+    @staticmethod
+    def refuse(pc, why):
+        raise Refused(pc, why)
 
     def store(self, state, value_of_place, width, value):
         """The words after a store, and by how much it moves the own count of which queue, or None."""
@@ -197,6 +220,8 @@ class Program(Values):
                 continue
             if party is None:
                 raise Refused(state.pc, "a store that may be to the queue, by another hart")
+            if queue.has_tags:
+                return state.words, tags.stored(self, which, state, value_of_place, width, value)
             if low == high and (low, width) == (queue.own(party), queue.index_width):
                 if state.pc not in self.needed.matters:
                     raise Matters({state.pc})
@@ -206,8 +231,7 @@ class Program(Values):
                 raise Refused(state.pc, f"a store {where}")
             share = state.shares[which]
             if not self.owns(which, value_of_place, width, state):
-                raise Refused(state.pc, f"a store to a slot that isn't known to be owned, where the own position is "
-                              f"{self.told(share.first, share.last)} and {self.told(share.low, share.high)} are known to be owned")
+                raise Refused(state.pc, self.not_owned(queue, share.first, share.last, share.low, share.high))
             if self.records:
                 self.records.stores(self, which, state, value_of_place, width, value)
             return state.words, None
@@ -221,6 +245,12 @@ class Program(Values):
     def told(first, last):
         return str(first) if first == last else f"{first} to {last}"
 
+    def not_owned(self, queue, first, last, low, high):
+        """Why a store to a slot is refused, where the own position is from `first` to `last` and of `low` to `high` it is known that they are owned."""
+        next_one, number = "slot" if queue.period() == queue.size else "position", self.told(low, high) if high else "no"
+        return (f"a store to a slot that isn't known to be its own, where the hart's next {next_one} is {self.told(first, last)}, and {number} "
+                f"{'slot is' if high in (0, 1) and low == high else 'slots are'} known to be its own")
+
     def written(self, state, place, width, value):
         words = list(state.words)
         for at in range(place & ~3, place + width, 4):
@@ -230,6 +260,9 @@ class Program(Values):
 
     def kept_there(self, pc, which, value):
         """What is known of an own word after a store of the whole: nothing if the word is never loaded."""
+        self.word_stores.setdefault(which, set()).add(pc)
+        if self.needed.hands and self.kept[which] in self.needed.hands.places and pc not in self.needed.hands.pcs:
+            raise handed.Hands({pc})
         if pc in self.needed.matters:
             return value
         if which in self.reads:
@@ -300,6 +333,8 @@ class Program(Values):
         if kind in (IMMEDIATE, REGISTER):
             y = y if kind == REGISTER else number(word >> 20 & 31 if third in (1, 5) else given)
             name = "sub" if kind == REGISTER and third == 0 and word >> 30 & 1 else "sra" if third == 5 and word >> 30 & 1 else NAMES[third]
+            if state.handed and name in ("add", "sub", "sll") and (has_word(x) or has_word(y)):
+                return [self.put(state, to, handed.computed(name, x, y, kind == IMMEDIATE, state, handed.is_handed(self, pc + 4, to)))]
             value, fresh = self.computed(name, x, y, state, kind == IMMEDIATE)
             return [self.put(state, to, value, fresh=fresh)]
         if kind == FENCE:
@@ -316,10 +351,14 @@ class Program(Values):
             return self.branched(state, word, third, x, y)
         if kind == LOAD:
             width = 1 << (third & 3)
-            place = self.offset(x, given, state)
+            place, most = self.offset(x, given, state), 256 ** width - 1 if third > 3 else SIZE - 1
+            if self.tagged and (seen := tags.looked(self, state, place, width)):
+                return tags.after_load(self, state, to, *seen, most)
             value, looked = self.loaded(state, place, width, third < 2)
             if self.records and value is None and looked is None and (found := self.records.received(self, state, place, width, third < 2)) is not None:
                 return [self.put(state, to, found[0], fresh=found[1])] if found else []
+            if value is None and looked is None and handed.is_handed(self, pc + 4, to):
+                return [self.put(state, to, None, word=(0, most))]
             is_range = self.with_bytes and value is None and looked is None and third > 3
             return [self.put(state, to, value, fresh=(0, 256 ** width - 1) if is_range else None, looked=looked)]
         if kind == STORE:
@@ -352,23 +391,32 @@ class Program(Values):
         return found
 
     def exchanged(self, state, operation, to, x, y):
-        place = self.place(x, state)
-        if place is None:
-            raise Refused(state.pc, "an AMO at an address that is not known")
-        old, looked = self.loaded(state, number(place), 4, False)
+        place = x if isinstance(x, Form) and self.may_be_tag(x, state) else self.place_of_exchange(x, state)
+        old, looked = self.loaded(state, place, 4, False)
         if looked is not None:
             raise Refused(state.pc, "an AMO on the other's index")
         new = y if operation == 1 else self.computed("add", old, y, state)[0] if operation == 0 and old is not None else None
-        words, move = self.store(state, number(place), 4, new)
+        words, move = self.store(state, place, 4, new)
         return self.put(state._replace(words=words), to, old, move=move)
+
+    def may_be_tag(self, value, state):
+        """Whether a word there may be of the slots of a queue with tags of which the hart is a party."""
+        low, high = self.limits(value, state)
+        return any(queue.meets_slots(low, high - low + 4) for _, queue, _ in self.tagged)
+
+    def place_of_exchange(self, value, state):
+        place = self.place(value, state)
+        if place is None:
+            raise Refused(state.pc, "an AMO at an address that is not known")
+        return number(place)
 
     def called(self, state):
         """An environment call: whatever its number is, it may go on, with any numbers in a0 and a1."""
         return [self.put(state._replace(registers=state.registers[:10] + (None, None) + state.registers[12:]), 0, None)]
 
-    def put(self, state, to, value, pc=None, fresh=None, looked=None, move=None):
-        """The state after an instruction that leaves this value in a register: with a new variable for it, after a look at the other's index,
-        or after a store that moved an own count."""
+    def put(self, state, to, value, pc=None, fresh=None, looked=None, move=None, word=None, told=None):
+        """The state after an instruction that leaves this value in a register: with a new variable for it, a word or another one, after a look
+        at the other's index, after a tag told how much is owned, or after a store that moved an own count."""
         others, shares, registers, words = state.others, list(state.shares), list(state.registers), state.words
         kept = list(range(len(others)))
         if fresh:
@@ -379,6 +427,10 @@ class Program(Values):
             registers = [self.without(each, old, share) for each in registers]
             words = tuple(self.without(each, old, share) for each in words)
             shares[looked] = share._replace(high=self.queues[looked].capacity)
+        if word:
+            value = variable_of("w", len(state.handed))
+        if told:
+            shares[told[0]] = shares[told[0]]._replace(low=told[1], high=told[1])
         if to:
             registers[to] = self.records.forgotten(value) if self.records else value
         if move:
@@ -399,8 +451,10 @@ class Program(Values):
         if state.pc in self.needed.after_calls:
             needed &= self.needed.after_calls[state.pc]
         registers = (ZERO, *(value if which in needed else None for which, value in enumerate(registers) if which))
-        after = State(pc, registers, tuple(words), tuple(shares), others)
-        return self.tidied(after, kept, move, looked)
+        after = State(pc, registers, tuple(words), tuple(shares), others, state.handed + ((word,) if word else ()))
+        after, origins = handed.numbered(after)
+        origins = [(old, more) if old < len(state.handed) else (None, more + word[0]) for old, more in origins]
+        return self.tidied(after, kept, move, looked, tuple(origins))
 
     def without(self, value, variable, share):
         """A value in which no variable stands for what was owned before a look."""
@@ -422,7 +476,7 @@ class Program(Values):
         value = value.put(("t", which), variable_of("t", which, 1, -further))
         return value.put(("A", which), variable_of("A", which, 1, step))
 
-    def tidied(self, state, kept, move, looked):
+    def tidied(self, state, kept, move, looked, words):
         """The state without the variables ("z", k) that nothing names, or that are a number."""
         used = {variable for value in (*state.registers, *state.words) if value is not None
                 for variable in (value.count if isinstance(value, Word) else value).variables() if variable[0] == "z"}
@@ -444,16 +498,17 @@ class Program(Values):
             state = state._replace(registers=tuple(map(renamed, state.registers)), words=tuple(map(renamed, state.words)),
                                    others=tuple(state.others[which] for which in stay))
         moves = tuple(move[1] if move and move[0] == which else 0 for which in range(len(self.queues)))
-        return Next(state, moves, tuple(looked == which for which in range(len(self.queues))), tuple(kept[which] for which in stay))
+        return Next(state, moves, tuple(looked == which for which in range(len(self.queues))), tuple(kept[which] for which in stay), words)
 
     def halves(self, state, split):
         """The state where a variable is at most `at`, and where it is more."""
         kind, which = split.variable
         for low, high in ((None, split.at), (split.at + 1, None)):
-            if kind == "z":
-                first, last = state.others[which]
-                limits = first if low is None else low, last if high is None else high
-                yield state._replace(others=state.others[:which] + (limits,) + state.others[which + 1:])
+            if kind in "zw":
+                ranges = state.others if kind == "z" else state.handed
+                first, last = ranges[which]
+                ranges = ranges[:which] + ((first if low is None else low, last if high is None else high),) + ranges[which + 1:]
+                yield state._replace(others=ranges) if kind == "z" else state._replace(handed=ranges)
             else:
                 share, names = state.shares[which], {"p": ("first", "last"), "t": ("begin", "end"), "A": ("low", "high")}[kind]
                 share = share._replace(**{name: limit for name, limit in zip(names, (low, high)) if limit is not None})

@@ -6,7 +6,8 @@ A question that has one answer for some numbers of a variable and another for ot
 from bisect import bisect_left
 from typing import NamedTuple
 
-from .forms import SIZE, Word, bounds, form, number, numbers_of, signed, variable_of
+from . import handed
+from .forms import SIZE, Split, Word, bounds, form, has_word, number, numbers_of, signed, variable_of
 
 ZERO = number(0)
 OPERATIONS = {
@@ -21,17 +22,10 @@ MOST_TRIED = 4200
 MOST_MASK = 1 << 16
 
 
-class Split(Exception):
-    """The numbers of a variable are to be parted after `at`."""
-
-    def __init__(self, variable, at):
-        super().__init__(variable, at)
-        self.variable, self.at = variable, at
-
-
 class Share(NamedTuple):
     """What a state says of a queue of which its hart is a party: the own count if it is known, bounds of the count modulo the period, of
-    how many positions are owned, and of the turn of the slots that the own position is in, of those that an index counts."""
+    how many positions are owned, and of the turn of the slots that the own position is in, of those that an index counts. Of a queue with tags
+    the bounds of what is owned are one number, and at least so many are."""
 
     count: object
     first: int
@@ -48,6 +42,7 @@ class State(NamedTuple):
     words: tuple      # of the hart's own words, in the order of `Program.kept`
     shares: tuple     # a Share for each queue, or None where the hart is no party
     others: tuple     # the ranges of the variables ("z", k)
+    handed: tuple = ()  # and of the variables ("w", k)
 
 
 class Values:
@@ -61,17 +56,20 @@ class Values:
 
     def ranges(self, state):
         """The range of each variable that has one; not to be changed."""
-        found = self.known_ranges.get((state.shares, state.others))
+        key = state.shares, state.others, state.handed
+        found = self.known_ranges.get(key)
         if found is None:
-            found = self.known_ranges[state.shares, state.others] = self.ranges_anew(state)
+            found = self.known_ranges[key] = self.ranges_anew(state)
         return found
 
-    @staticmethod
-    def ranges_anew(state):
-        found = {("z", which): limits for which, limits in enumerate(state.others)}
+    def ranges_anew(self, state):
+        found = {("z", which): limits for which, limits in enumerate(state.others)} | {("w", which): limits for which, limits in enumerate(state.handed)}
         for which, share in enumerate(state.shares):
             if share:
                 found["A", which], found["p", which], found["t", which] = (share.low, share.high), (share.first, share.last), (share.begin, share.end)
+                if self.queues[which].has_tags:
+                    # more may be owned
+                    del found["A", which]
                 if share.count is not None:
                     found["n", which] = share.count, share.count
         return found
@@ -109,6 +107,8 @@ class Values:
         """Asks for the split that makes a value a number, if a few numbers of its variables are all that is open."""
         if isinstance(value, Word) and (value.is_signed or not self.queues[value.queue].has_known_words()):
             return
+        if state.handed and has_word(value):
+            return
         terms = value.terms if value is not None and not isinstance(value, Word) else value.count.terms if value else ()
         ranges = self.ranges(state)
         open_ones = [(ranges[variable][1] - ranges[variable][0], variable) for variable, _ in terms
@@ -131,7 +131,9 @@ class Values:
         if kind < 2:
             x, y = x.minus(y), ZERO
         answer = self.answer(kind, x, y, self.ranges(state))
-        if answer is None:
+        if answer is None and state.handed and (has_word(x) or has_word(y)):
+            handed.split_compare(kind, x, y, state)
+        elif answer is None:
             self.split_turns(lambda ranges: self.answer(kind, x, y, ranges), x.variables() + y.variables(), state)
             self.split_compare(kind, x, y, state)
         return answer
@@ -267,7 +269,7 @@ class Values:
             x, y = self.as_form(x, state), self.as_form(y, state)
             if isinstance(x, Word) or isinstance(y, Word):
                 return self.word_computed(name, x, y, state, b if is_immediate else None)
-        if name == "xor" and is_immediate and b == SIZE - 1 and x is not None:
+        if name == "xor" and is_immediate and b == SIZE - 1 and x is not None and not has_word(x):
             return y.minus(x), None
         if name in ("slt", "sltu"):
             answer = self.compared(4 if name == "slt" else 6, x, y, state)
@@ -279,7 +281,7 @@ class Values:
         if name == "sll" and is_immediate:
             return x.times(1 << (b & 31)), None
         rest = self.shifted_back(x, b & 31, state) if name == "srl" and is_immediate else None
-        if rest is not None:
+        if rest is not None or state.handed and (has_word(x) or has_word(y)):
             return rest, None
         limits = numbers_of(x, self.ranges(state))
         if name == "srl" and is_immediate and limits and limits[0] >> b == 0 < limits[1] >> b:
@@ -303,7 +305,7 @@ class Values:
             return None
         for which in reversed(range(len(self.queues))):
             queue = self.queues[which]
-            if (queue.base, queue.scale, queue.modulus) == (0, 1, modulus):
+            if not queue.has_tags and (queue.base, queue.scale, queue.modulus) == (0, 1, modulus):
                 return Word(which, form(signed(value.constant - queue.offset), {name: m % modulus for name, m in value.terms}))
         return None
 
@@ -333,7 +335,9 @@ class Values:
             return value and (value, SIZE)
         queue = self.queues[value.queue]
         by = queue.scale * queue.modulus
-        return None if SIZE % by or value.is_signed and 256 ** queue.index_width % by else (value.count.plus(number(queue.offset)).times(queue.scale).plus(number(queue.base)), by)
+        if SIZE % by or value.is_signed and 256 ** queue.index_width % by:
+            return None
+        return value.count.plus(number(queue.offset)).times(queue.scale).plus(number(queue.base)), by
 
     def word_computed(self, name, x, y, state, given):
         """What an operation makes of words that are no forms, and the range of a new variable."""
@@ -369,6 +373,9 @@ class Values:
             found = part and self.remainder(part, (mask + low) // low, state)
             if found is not None:
                 return found.times(low), None
+            known = self.known(self.in_round(rest[0], mask + low, state), state)
+            if known is not None and known % low == 0:
+                return number(known & mask), None
         self.split_to_know(value, state, 64)
         return None, (0, mask) if mask < MOST_MASK else None
 
@@ -381,15 +388,9 @@ class Values:
 
     def remainder(self, value, modulus, state):
         """A form modulo a power of two as a form of variables with ranges, or None; asks for the split after which it doesn't wrap."""
-        rest = number(value.constant)
-        for variable, m in value.terms:
-            kind, which = variable
-            if kind == "n" and state.shares[which].count is None:
-                if m * self.queues[which].period() * self.queues[which].turns() % modulus:
-                    return None
-                rest = rest.plus(self.position(which).times(m))
-            else:
-                rest = rest.plus(variable_of(*variable, m))
+        rest = self.in_round(value, modulus, state)
+        if rest is None:
+            return None
         # by factors from 0 on, or each by the nearer of it and what it lacks of the modulus
         for rest in (form(rest.constant, {variable: m % modulus for variable, m in rest.terms}),
                      form(rest.constant, {variable: m % modulus - modulus * (2 * (m % modulus) >= modulus) for variable, m in rest.terms})):
@@ -401,10 +402,23 @@ class Values:
             self.split_where(lambda found: found // modulus, rest, state)
         return None
 
+    def in_round(self, value, modulus, state):
+        """A form with positions in the place of own counts that aren't known, if that is the same modulo this; or None."""
+        rest = number(value.constant)
+        for variable, m in value.terms:
+            kind, which = variable
+            if kind == "n" and state.shares[which].count is None:
+                if m * self.queues[which].period() * self.queues[which].turns() % modulus:
+                    return None
+                rest = rest.plus(self.position(which).times(m))
+            else:
+                rest = rest.plus(variable_of(*variable, m))
+        return rest
+
     def split_where(self, part, value, state):
         """Asks for a split of the one open variable of a form, where `part` of its number changes."""
         ranges = self.ranges(state)
-        if not all(variable in ranges for variable in value.variables()):
+        if state.handed and has_word(value) or not all(variable in ranges for variable in value.variables()):
             return
 
         def answer(numbers):

@@ -8,9 +8,10 @@ from digits import of_digits
 from faults import at_line
 
 HEAD, LINE, PLACE, LIMIT, UNFINISHED = 45, 46, 47, 48, 49
-QUEUES, FIELDS, POSITIONS, HARTS, OWN, STATES, VARIABLES, SPLITS = 16, 16, 64, 64, 64, 16_384, 64, 1024
-NAMES = ("queue", "field", "hart", "own", "open", "state", "most", "reg", "word", "share", "filled", "split", "leaf", "to")
+QUEUES, SLOTS, FIELDS, POSITIONS, HARTS, OWN, STATES, VARIABLES, SPLITS = 16, 65_536, 16, 64, 64, 64, 16_384, 64, 1024
+NAMES = ("queue", "field", "tagged", "hart", "own", "open", "state", "most", "reg", "word", "share", "filled", "split", "leaf", "to")
 KNOWN = ("reg", "word", "share", "filled")
+TELLS = ("zero", "number")
 ROUND = 2**32
 
 sys.setrecursionlimit(10_000)
@@ -58,7 +59,7 @@ class Reader:
     def __init__(self, text):
         split = words.lines(text)
         self.lines = [(at, found) for at, line in enumerate(split, 1) if (found := re.findall(r"[^ \t]+", line))]
-        self.end, self.at, self.listed, self.queues = len(split) + 1, 0, 0, []
+        self.end, self.at, self.listed, self.queues, self.tagged = len(split) + 1, 0, 0, [], []
 
     def fault(self, kind):
         return at_line(kind, self.lines[self.at][0] if self.at < len(self.lines) else self.end)
@@ -95,9 +96,11 @@ class Reader:
             fields = self.queues[-1][1]
             while self.name() == "field":
                 fields.append(self.take(("field",), self.field, lambda found: len(fields) < FIELDS))  # pylint: disable=cell-var-from-loop
+        while self.name() == "tagged":
+            self.tagged.append(self.take(("tagged",), self.with_tags, lambda found: found[3] <= SLOTS and len(self.tagged) < QUEUES))
         while not harts or self.name():
             harts.append(self.hart(len(harts)))
-        return self.queues, harts
+        return self.queues, self.tagged, harts
 
     def queue(self, *given):
         need(len(given) == 14)
@@ -108,9 +111,13 @@ class Reader:
         need(len(given) == 5)
         return [*map(number, given[:2]), *map(count, given[2:])]
 
+    @staticmethod
+    def with_tags(*given):
+        need(len(given) == 9 and given[7] in TELLS)
+        return [*map(number, given[:7]), given[7], count(given[8])]
+
     def hart(self, before):
-        expected = ("hart",) if before or self.name() == "hart" or not self.name() else ("queue", "hart")
-        self.take(expected, lambda: None, lambda found: before < HARTS)
+        self.take(("hart",), lambda: None, lambda found: before < HARTS)
         self.own, states = [], []
         if self.name() == "own":
             self.own = self.take(("own",), lambda *given: [*map(number, given)], lambda found: len(found) <= OWN)
@@ -145,7 +152,7 @@ class Reader:
         return made
 
     def share(self, queue, own, owned):
-        need(number(queue) < len(self.queues))
+        need(number(queue) < len(self.queues) + len(self.tagged))
         return number(queue), (form(own, len(self.most)), form(owned, len(self.most)))
 
     def filled(self, queue, further, *given):
@@ -170,5 +177,6 @@ class Reader:
 
 
 def read(text):
-    """What a text says: the numbers of each queue with those of its fields, and of each hart its own words, how it opens, and its states."""
+    """What a text says: the numbers of each queue with those of its fields, what each queue with tags has, and of each hart its own words, how it
+    opens, and its states."""
     return Reader(text).certificate()

@@ -1,6 +1,6 @@
 """Certificates of queues: when one is accepted for a text. Definition by definition, and by the same names, what crates/queue_certificates/specs
 defines, so that the two can be read side by side: Forms, States, Results, Steps and Certificates in this order; sent.py has Fields, Effects and
-Filled. Numbers have no limit. Nothing here searches; docs/queues.md has what a certificate says, and certificate_lines.py reads its text.
+Filled, and tags.py has Tags. Numbers have no limit. Nothing here searches; docs/queues.md has what a certificate says, and certificate_lines.py reads its text.
 
 A list is a tuple, `None` is no number, and what the definitions take from a module around them (the queues, the hart) comes first, or as `self`.
 """
@@ -9,6 +9,7 @@ from functools import cache
 from typing import NamedTuple
 
 import sent
+import tags
 import words
 
 M32 = 1 << 32
@@ -804,6 +805,10 @@ def is_copy(op, n):
     return op == "addi" and n == 0
 
 
+def most_loaded(op):
+    return {"lbu": 255, "lhu": 65535}.get(op, M32 - 1)
+
+
 class Steps:
     """Of hart h, where the harts have own words at these addresses."""
 
@@ -867,9 +872,7 @@ class Steps:
         return v
 
     def loaded(self, op, v):
-        if op in ("lbu", "lhu"):
-            return or_up_to(255 if op == "lbu" else 65535, v)
-        return just(self.extended_value(op, v))
+        return or_up_to(most_loaded(op), self.extended_value(op, v))
 
     def looked_word(self, i, s):
         return IndexFor(i, plus(plus(lifted(s.own), owned_then(s)), number(back_of(self.queues[i], self.parties[i]))))
@@ -1057,7 +1060,10 @@ class OpenedQueue(NamedTuple):
 
 
 class QueueCertificate(NamedTuple):
+    """Of queues with indices, and of those with tags, how each opens, and of each hart its part."""
+
     queues: tuple
+    tagged: tuple
     harts: tuple
 
 
@@ -1105,10 +1111,11 @@ def leads_to(queues, k, t, forms):
         and all_below(len(queues), lambda i: is_share(get_or(k.shares, i, NO_SHARE), get_or(t.shares, i, NO_SHARE), forms))
 
 
-def arrow_leads(queues, k, t, forms):
+def arrow_leads(queues, number_tagged, k, t, forms):
     def to(f):
         return settled(k.ranges, f)
-    return leads_to(queues, state_by(to, k.ranges, k), t, tuple(to(g) for g in forms))
+    k, forms = state_by(to, k.ranges, k), tuple(to(g) for g in forms)
+    return leads_to(queues, k, t, forms) and tags.tags_lead(len(queues), number_tagged, k, t, forms)
 
 
 # cases
@@ -1153,12 +1160,13 @@ def leaves(k, cases):
 def each_leads(c, h, states, arrows):
     queues, listed = [each.queue for each in c.queues], part_of(c, h).states
     return len(arrows) >= len(states) and all(
-        a.to < len(listed) and arrow_leads(queues, k, listed[a.to].known, a.forms) for k, a in zip(states, arrows))
+        a.to < len(listed) and arrow_leads(queues, len(c.tagged), k, listed[a.to].known, a.forms) for k, a in zip(states, arrows))
 
 
 def next_states(c, h, code, k, handed):
-    steps, instruction = steps_of(c, h), instruction_at(code, k.pc)
-    return sent.next_received(steps, [each.fields for each in c.queues], k, instruction, steps.follow(k, handed, instruction))
+    told, instruction = tags.tags_of(c, h), instruction_at(code, k.pc)
+    states = told.steps.follow(k, handed, instruction)
+    return told.next_told(k, instruction, sent.next_received(told.steps, [each.fields for each in c.queues], k, instruction, states))
 
 
 def is_closed(c, h, code, k, cases):
@@ -1228,11 +1236,12 @@ def opens_hart(opening, c, h):
     """What `accepts_hart` asks of where a hart opens."""
     part, registers = part_of(c, h), opening.harts[h][1]
     return len(registers) >= 32 and part.first < len(part.states) \
-        and opens_in(opening, c, h, registers, part.states[part.first].known, part.numbers) and sent.opens_unfilled(c, part.states[part.first].filled)
+        and opens_in(opening, c, h, registers, part.states[part.first].known, part.numbers) \
+        and tags.opens_all_told(c, h, part.states[part.first].known, part.numbers) and sent.opens_unfilled(c, part.states[part.first].filled)
 
 
 class Flaw(NamedTuple):
-    """What of a certificate isn't accepted: ("queue", i), ("opening", hart) or ("state", hart, state)."""
+    """What of a certificate isn't accepted: ("queue", i), ("tagged", t), ("opening", hart) or ("state", hart, state)."""
 
     kind: str
     at: int
@@ -1244,6 +1253,9 @@ def flaws(opening, c):
     for i, each in enumerate(c.queues):
         if not (is_queue(each.queue) and opens_empty(opening, each.queue, each.start) and all(sent.is_field(each.queue, f) for f in each.fields)):
             yield Flaw("queue", i)
+    for t, each in enumerate(c.tagged):
+        if not tags.accepts_tagged(opening, each):
+            yield Flaw("tagged", t)
     for h, (code, _) in enumerate(opening.harts):
         if not opens_hart(opening, c, h):
             yield Flaw("opening", h)
@@ -1272,7 +1284,12 @@ def accepts_loads(opening, c, i, h):
 
 def slot_accesses(opening, c, i):
     """By hart and pc, each once, of which instructions an access in some state may be of a byte of queue i's slots: whether it stores, and loads."""
-    found, q = {}, c.queues[i].queue
+    return accesses_of(opening, c, c.queues[i].queue)
+
+
+def accesses_of(opening, c, q):
+    """The same of a queue's slots."""
+    found = {}
     for h, (code, _) in enumerate(opening.harts):
         steps = steps_of(c, h)
         for known, cases, _ in part_of(c, h).states:

@@ -1,5 +1,9 @@
 """What ends a command without an answer: the line for standard error, and the exit status."""
 
+import os
+import signal
+import sys
+
 HEADER, INIT, TABLE, INSTRUCTION, CONDITION, MANY = 21, 22, 23, 24, 25, 26
 HEAD, TOKEN, HART, COUNT, TRUNCATED = 27, 28, 29, 30, 31
 NO_TEXT, TOO_LARGE, DIFFERS, OUTCOME, NOT_FINISHED = 36, 37, 38, 39, 40
@@ -42,3 +46,15 @@ def cut(states):
 
 def read_failed():
     return Fault("ztso: read failed", 3)
+
+
+def ended(main):
+    """The exit status of a command's main; a reader of its output that leaves is no fault."""
+    try:
+        try:
+            return main()
+        finally:
+            sys.stdout.flush()
+    except BrokenPipeError:
+        os.dup2(os.open(os.devnull, os.O_WRONLY), sys.stdout.fileno())
+        return 128 + signal.SIGPIPE

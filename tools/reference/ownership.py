@@ -1,7 +1,9 @@
-"""Drawn runs of a litmus test, each held against a queue's protocol of ownership (docs/queues.md), for the command `queue`."""
+"""Drawn runs of a litmus test, each held against a queue's protocol, of ownership or of slots that tell (docs/queues.md), for the command `queue`."""
 
 from collections import namedtuple
 
+import certificates
+import tags
 from draws import event_of, runs_of
 from machine import Machine
 
@@ -12,11 +14,28 @@ Breach = namedtuple("Breach", "hart pc address width value owned")
 
 
 class Counts:
-    """How far the parties of a queue have come, and what each knows of the other."""
+    """How far the parties of a queue have come, each by its hart."""
 
     def __init__(self, queue, start):
         self.queue = queue
         self.own = {queue.sender: start, queue.receiver: start}
+
+    def is_slot_byte(self, byte):
+        return self.queue.slots <= byte < self.queue.slots + self.queue.size * self.queue.width
+
+    def position(self, own, byte):
+        """The first position from this one on in whose slot the byte lies."""
+        return own + ((byte - self.queue.slots) // self.queue.width - own) % self.queue.size
+
+
+class IndexCounts(Counts):
+    """Of a queue with indices, and what each party knows of the other."""
+
+    # an AMO that writes the word that it read is a load alone
+    is_load_alone = True
+
+    def __init__(self, queue, start):
+        super().__init__(queue, start)
         self.known = dict(self.own)
 
     def index(self, hart):
@@ -55,15 +74,55 @@ class Counts:
         return all(self.may_fill(owned, byte) for byte in range(address, address + width))
 
     def may_fill(self, owned, byte):
-        q = self.queue
-        if q.slots <= byte < q.slots + q.size * q.width:
-            slot = (byte - q.slots) // q.width
-            return owned is not None and owned[0] + (slot - owned[0]) % q.size < owned[1]
-        return not any(place <= byte < place + q.index_width for place in (q.head, q.tail))
+        if self.is_slot_byte(byte):
+            return owned is not None and self.position(owned[0], byte) < owned[1]
+        return not any(place <= byte < place + self.queue.index_width for place in (self.queue.head, self.queue.tail))
 
     def stored(self, hart, address, width, value):
         if self.is_index(hart, address, width):
             self.own[hart] = self.least(self.own[hart], value)
+
+
+class TagCounts(Counts):
+    """Of a queue with tags, and up to which position each party was told that it owns them."""
+
+    is_load_alone = False
+
+    def __init__(self, queue, start):
+        super().__init__(queue, start)
+        self.end = {queue.sender: start + queue.size, queue.receiver: start}
+
+    def owned(self, hart):
+        return (self.own[hart], self.end[hart]) if hart in self.own else None
+
+    def is_tag(self, hart, address, width):
+        is_whole = width == self.queue.tag_width and (address - self.queue.slots) % self.queue.width == self.queue.tag_offset
+        return hart in self.own and is_whole and self.is_slot_byte(address)
+
+    def loaded(self, hart, address, width, value):
+        if self.is_tag(hart, address, width):
+            position = self.position(self.own[hart], address)
+            if tags.tells_by(self.queue.codec, tags.party_in(self.queue, hart), position, value):
+                self.end[hart] = max(self.end[hart], position + 1)
+
+    def may_store(self, hart, address, width, value):
+        owned = self.owned(hart)
+        if self.is_tag(hart, address, width) and self.position(owned[0], address) == owned[0] < owned[1]:
+            party = tags.party_in(self.queue, hart)
+            handed = owned[0] + (0 if party == certificates.SENDER else self.queue.size)
+            if tags.tells_by(self.queue.codec, certificates.other(party), handed, value):
+                return True
+        return all(self.may_fill(owned, byte) for byte in range(address, address + width))
+
+    def may_fill(self, owned, byte):
+        if not self.is_slot_byte(byte):
+            return True
+        is_of_tag = 0 <= (byte - self.queue.slots) % self.queue.width - self.queue.tag_offset < self.queue.tag_width
+        return owned is not None and self.position(owned[0], byte) < owned[1] and not is_of_tag
+
+    def stored(self, hart, address, width, value):
+        if self.is_tag(hart, address, width):
+            self.own[hart] += 1
 
 
 class Runs:
@@ -80,7 +139,8 @@ class Runs:
 
     def judged(self, events):
         """The first breach of a run, or None, and the counts."""
-        state, counts = self.machine.opening, Counts(self.queue, self.start)
+        counts_of = TagCounts if isinstance(self.queue, tags.TaggedQueue) else IndexCounts
+        state, counts = self.machine.opening, counts_of(self.queue, self.start)
         for event in events:
             outcome, is_entry, after = self.step(state, event)
             if is_entry and event[0] == "a":
@@ -103,7 +163,7 @@ class Runs:
         if name == "amo":
             address, old, value = numbers
             counts.loaded(hart, address, 4, old)
-            width, is_free = 4, value == old
+            width, is_free = 4, counts.is_load_alone and value == old
         else:
             (address, value), width, is_free = numbers, STORES[name], False
         if not is_free and not counts.may_store(hart, address, width, value):

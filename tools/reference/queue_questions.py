@@ -5,6 +5,7 @@ a hart is never stopped, and which bytes it writes. By the definitions of crates
 import re
 
 import certificates
+import tags
 from certificates import ANY, LOADS, STORES, TAKEN, M32, Linear
 
 WORDS = 4096
@@ -50,13 +51,15 @@ def bytes_text(ranges):
     return f"byte{'s'[is_one:]} {' and '.join(filter(None, (', '.join(each[:-1]), each[-1])))}", is_one
 
 
-# ---- what the sender of queue i does to its queue
+# ---- what a queue's sender does to its queue
 
 class Sender:
-    """The leaves of its states: of each what it does, and the states to which it leads."""
+    """The leaves of its states: of each what it does, and the states to which it leads. Queues with tags are numbered on after those with indices."""
 
-    def __init__(self, opening, listed, i):
-        self.i, self.queue = i, listed.queues[i].queue
+    def __init__(self, opening, listed, index):
+        self.index, self.before = index, len(listed.queues)
+        self.queue = (*listed.queues, *listed.tagged)[index].queue
+        self.tags = tags.tags_of(listed, self.queue.sender)
         self.hart, self.part = self.queue.sender, certificates.part_of(listed, self.queue.sender)
         self.steps = certificates.steps_of(listed, self.hart)
         self.code = opening.harts[self.hart][0]
@@ -70,11 +73,13 @@ class Sender:
         if not access or not access[4]:
             return None
         place, bounds, width = access[:3]
-        queues = len(self.steps.queues)
-        if certificates.last_below(queues, lambda at: self.steps.is_own_index(bounds, width, at)) == self.i:
+        if self.index >= self.before:
+            if self.tags.moved_tag(known, place, width) == self.index - self.before:
+                return "publishes", 1
+        elif certificates.last_below(self.before, lambda at: self.steps.is_own_index(bounds, width, at)) == self.index:
             most = certificates.most(known.ranges, handed)
             return ("publishes" if most == handed.constant else "some"), most
-        share = self.steps.share_at(known, self.i)
+        share = self.steps.share_at(known, self.index)
         if not certificates.is_owned(known.ranges, self.queue, share, place, width):
             return None
         return ("fills", certificates.position_at(self.queue, share.own.constant, place.form.constant),

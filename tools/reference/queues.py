@@ -7,12 +7,13 @@ import programs
 import queue_questions
 import schedules
 import sent
+import tags
 import words
 
 KEPT, READS_NOT_SHOWN, NOT_SHOWN, BROKEN, ASKED_NOT_SHOWN = 0, 6, 7, 8, 9
 REGISTERS = 32
-PROTOCOL = "promised: in every legal run, of any length and schedule, with store buffers of any size, the protocol of ownership is kept"
-PROMISE = f"{PROTOCOL}, so records arrive in order, each once, with all that was written before"
+EVERY_RUN = "promised: in every legal run, of any length and schedule, with store buffers of any size, the"
+PROMISE_END = ", so records arrive in order, each once, with all that was written before"
 READS = "not promised: that what is loaded from a slot is a record that the hart owns"
 REST = "what the code does with it, what memory outside of the queue holds"
 RECORDS = {False: f"not promised: that a record was freshly or wholly written, {REST}",
@@ -22,7 +23,9 @@ STORES = "likely: it may store to a slot that the hart doesn't own, to another h
 LIKELY = {0x23: STORES, 0x2F: STORES,
           0x03: "likely: it may load a part of the other party's index, or leads to a state that isn't listed",
           0x67: "likely: where it jumps isn't known, or it leads to a state that isn't listed"}
-FIT = "another protocol may fit: that of a queue that overwrites, that has several senders or receivers, or whose slots tell whose they are"
+FIT = "another protocol may fit: that of a queue that overwrites, that has several senders or receivers, or"
+# of a queue with tags, or with indices
+OF = {True: "of two indices and slots", False: "whose slots tell whose they are"}
 OTHER = "likely: it leads to a state that isn't listed, as where the certificate is of another text"
 
 
@@ -66,13 +69,13 @@ def filled_of(found):
 
 def read(text):
     """The certificate of a text, as certificates.py takes it."""
-    queues, harts = certificate_lines.read(text)
+    queues, tagged, harts = certificate_lines.read(text)
 
     def state(own, pc, most, known, filled, cases):
         def listed(name, number, made, other):
             return tuple(made(known[name, at]) if (name, at) in known else other for at in range(number))
 
-        shares = listed("share", len(queues), lambda forms: certificates.Share(*map(form_of, forms)), certificates.NO_SHARE)
+        shares = listed("share", len(queues) + len(tagged), lambda forms: certificates.Share(*map(form_of, forms)), certificates.NO_SHARE)
         registers = listed("reg", REGISTERS, value_of, certificates.ANY)
         return certificates.ListedState(
             certificates.KnownState(pc, tuple(most), registers, listed("word", len(own), value_of, certificates.ANY), shares), cases_of(cases),
@@ -81,6 +84,7 @@ def read(text):
     return certificates.QueueCertificate(
         tuple(certificates.OpenedQueue(certificates.Queue(*numbers[:13]), numbers[13], tuple(sent.Field(*field) for field in fields))
               for numbers, fields in queues),
+        tuple(tags.OpenedTagged(tags.TaggedQueue(*found[:8]), found[8]) for found in tagged),
         tuple(certificates.HartPart(tuple(own), first, tuple(numbers), tuple(state(own, *each) for each in states))
               for own, (first, numbers), states in harts))
 
@@ -140,9 +144,18 @@ def known_lines(listed):
                 yield " ".join(map(str, ("filled", queue, further, *fields)))
 
 
+def tag_text(queue):
+    """Where in its slot a tag lies, and how it tells."""
+    tells = {tags.ZERO: "0 where it is free and any other number where it is full",
+             tags.NUMBER: f"k where it is free for position k and k + 1 where it is full of it, modulo {certificates.M32}"}
+    return f"{'byte' if queue.tag_width == 1 else f'{queue.tag_width} bytes'} at {queue.tag_offset} of each slot, {tells[queue.codec]}"
+
+
 class Judge:
     def __init__(self, test, text):
         self.test, self.opening, self.listed = test, opening_of(test), read(text)
+        # each queue by its number: those with tags after those with indices
+        self.opened, self.with_indices = (*self.listed.queues, *self.listed.tagged), len(self.listed.queues)
 
     # ---- what isn't shown
 
@@ -151,10 +164,11 @@ class Judge:
         found = certificates.first_flaw(self.opening, self.listed)
         if found is None:
             return None
-        self.may_draw = found.kind != "queue"
+        self.may_draw = found.kind not in ("queue", "tagged")
         if found.kind == "queue":
-            return [f"not shown: queue {found.at} has {queue_fault(self.opening, self.listed.queues[found.at])}",
-                    "likely: the queue isn't described as the text has it"]
+            return self.queue_flaw(found.at, queue_fault(self.opening, self.listed.queues[found.at]))
+        if found.kind == "tagged":
+            return self.queue_flaw(self.with_indices + found.at, tags.tagged_fault(self.listed.tagged[found.at].queue))
         if found.kind == "opening" and not (found.at < len(self.listed.harts) and self.listed.harts[found.at].states):
             return [f"not shown: the certificate has no state of hart {found.at}",
                     "likely: the search for its states found none, which says nothing of the queue"]
@@ -166,17 +180,31 @@ class Judge:
                 *(f"known: {line}" for line in known_lines(self.listed.harts[found.at].states[found.state])),
                 LIKELY.get(None if word is None else word & 127, OTHER)]
 
+    @staticmethod
+    def queue_flaw(index, fault):
+        return [f"not shown: queue {index} has {fault}", "likely: the queue isn't described as the text has it"]
+
+    def has_tags(self, index):
+        return index >= self.with_indices
+
     def accesses(self, index):
+        if self.has_tags(index):
+            return tags.tagged_accesses(self.opening, self.listed, index - self.with_indices)
         return certificates.slot_accesses(self.opening, self.listed, index)
+
+    def first_unowned(self, index, hart):
+        if self.has_tags(index):
+            return tags.first_unowned_rest(self.opening, self.listed, index - self.with_indices, hart)
+        return certificates.first_unowned(self.opening, self.listed, index, hart)
 
     def unused(self):
         """Why the certificate says nothing of the text, or None."""
-        if not self.listed.queues:
+        if not self.opened:
             return "not shown: the certificate has no queue"
-        for index, (queue, *_) in enumerate(self.listed.queues):
+        for index, (queue, *_) in enumerate(self.opened):
             if not queue.width:
                 return f"not shown: queue {index} has slots without a byte"
-            if not queue.capacity:
+            if not self.has_tags(index) and not queue.capacity:
                 return f"not shown: queue {index} has no slot that may be in use"
             if not any(stores for _, _, stores, _ in self.accesses(index)):
                 return f"not shown: no instruction stores to a slot of queue {index}"
@@ -186,9 +214,9 @@ class Judge:
 
     def unread(self):
         """The first load of a slot that isn't shown to be of an owned one, as a line; or None."""
-        for index, (queue, *_) in enumerate(self.listed.queues):
+        for index, (queue, *_) in enumerate(self.opened):
             for hart in (queue.sender, queue.receiver):
-                state = certificates.first_unowned(self.opening, self.listed, index, hart)
+                state = self.first_unowned(index, hart)
                 if state is not None:
                     return f"kept in every run, but reads not shown: {self.state_place(hart, state)}, of queue {index}"
         return None
@@ -215,17 +243,21 @@ class Judge:
         return self.state_place(hart, state).removeprefix(f"hart {hart} at ")
 
     def form(self, index):
-        queue, start, _ = self.listed.queues[index]
+        queue, start = self.opened[index][:2]
         front = f"queue {index}:"
         yield f"{front} hart {queue.sender} sends and hart {queue.receiver} receives"
+        if self.has_tags(index):
+            yield f"{front} it has {queue.size} slots of {queue.width} bytes from {queue.slots} on"
+            yield f"{front} its tag is the {tag_text(queue)}, and it opens at {start}"
+            return
         yield f"{front} its head is the {queue.index_width} bytes at {queue.head}, its tail those at {queue.tail}"
         yield f"{front} it has {queue.size} slots of {queue.width} bytes from {queue.slots} on, of which {queue.capacity} may be in use"
         yield f"{front} count n is the word {queue.base} + {queue.scale} * ((n + {queue.offset}) mod {queue.modulus}), and it opens at {start}"
 
     def described(self):
-        for index in range(len(self.listed.queues)):
+        for index, opened in enumerate(self.opened):
             yield from self.form(index)
-            for field in self.listed.queues[index].fields:
+            for field in () if self.has_tags(index) else opened.fields:
                 yield (f"queue {index}: the {field.width} bytes from {field.at} on of each record are {field.low} + {field.step} * j, "
                        f"with j from 0 to {field.count}")
             for hart, pc, stores, loads in self.accesses(index):
@@ -238,17 +270,25 @@ class Judge:
 
     def records(self, index, text):
         """The line about these bytes of a queue's records."""
-        queue = self.listed.queues[index].queue
+        queue = self.opened[index].queue
         mask = queue_questions.bytes_named(text, queue.width)
         if not mask:
             return f"queue {index}: its records have none of these bytes", False
         named, is_one = queue_questions.bytes_text(queue_questions.joined((at, at) for at in mask))
         written = f"{named} of each record {'is' if is_one else 'are'} written"
-        unwritten = queue_questions.Sender(self.opening, self.listed, index).unwritten(mask)
+        # what publishes a record writes its tag
+        rest = [at for at in mask if not (self.has_tags(index) and tags.is_tag_byte(queue, at))]
+        unwritten = queue_questions.Sender(self.opening, self.listed, index).unwritten(rest)
         if unwritten is None:
             return f"queue {index}: {written} after the record before in its slot was published", True
         state, byte = unwritten
         return f"queue {index}: not shown that {written}: byte {byte}, hart {queue.sender}, {self.pc_place(queue.sender, state)}", False
+
+    def protocol(self):
+        """What is kept in every run."""
+        if not self.listed.tagged:
+            return f"{EVERY_RUN} protocol of ownership is kept"
+        return f"{EVERY_RUN} protocol{'s of ownership and' if self.listed.queues else ''} of slots that tell {'are' if self.listed.queues else 'is'} kept"
 
     def hart(self, number):
         """The lines about a hart."""
@@ -274,13 +314,14 @@ class Judge:
         else:
             owned = "and owned no position"
         return [f"broken: {self.place(breach.hart, breach.pc)}",
-                f"queue {index}: it stored {breach.value} to the {breach.width} bytes at {breach.address}, {owned}", *self.form(index), FIT,
+                f"queue {index}: it stored {breach.value} to the {breach.width} bytes at {breach.address}, {owned}", *self.form(index),
+                f"{FIT} {OF[self.has_tags(index)]}",
                 f"shown by this schedule, whose last event it is, with --buffer {capacity}:", *schedules.written(events).splitlines()]
 
     def tried(self, flaw, capacity, number, drawing):
         """What drawn runs show where the certificate has this flaw."""
         lines = []
-        for index, (queue, start, _) in enumerate(self.listed.queues):
+        for index, (queue, start, *_) in enumerate(self.opened):
             shown, moved = ownership.trial(ownership.Runs(self.test, capacity, queue, start), number, drawing)
             if shown:
                 return self.broken(index, *shown, capacity), BROKEN
@@ -290,15 +331,15 @@ class Judge:
 
     def kept(self, written, harts):
         """The lines, and the exit status, where the protocol is kept: of these bytes of records, if any, and of the harts, if they are asked about."""
-        records = [self.records(index, written) for index in range(len(self.listed.queues))] if written is not None else []
+        records = [self.records(index, written) for index in range(len(self.opened))] if written is not None else []
         told = [*records, *(line for number in range(len(self.opening.harts)) if harts for line in self.hart(number))]
         lines = [*self.described(), *(line for line, _ in told)]
         limits = [RECORDS[bool(records) and all(shown for _, shown in records)], PROGRESS]
         if unread := self.unread():
-            return [unread, *lines, PROTOCOL, READS, *limits], READS_NOT_SHOWN
+            return [unread, *lines, self.protocol(), READS, *limits], READS_NOT_SHOWN
         if all(shown for _, shown in told):
-            return ["kept in every run", *lines, PROMISE, *limits], KEPT
-        return ["kept in every run, but not all that was asked is shown", *lines, PROMISE, *limits], ASKED_NOT_SHOWN
+            return ["kept in every run", *lines, self.protocol() + PROMISE_END, *limits], KEPT
+        return ["kept in every run, but not all that was asked is shown", *lines, self.protocol() + PROMISE_END, *limits], ASKED_NOT_SHOWN
 
     def answer(self, capacity, number, drawing, written=None, harts=False):
         """The lines, and the exit status."""

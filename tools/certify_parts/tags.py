@@ -1,0 +1,218 @@
+"""Queues whose slots tell whose they are: how one is described, and what a load or a store makes of their tags.
+
+A party's share says of such a queue how many positions are owned at least, as a number, so a state that says less covers one that says more.
+"""
+
+from typing import NamedTuple
+
+from .forms import SIZE, Form, bounds, number, numbers_of, variable_of
+from .queues import Wrong, numbers_given
+
+ZERO, NUMBER = "zero", "number"
+WORD = 4
+
+
+class Tagged(NamedTuple):
+    """Of each slot the `tag_width` bytes from `tag_offset` on tell whose it is: with `zero` it is free if they are 0 and full otherwise, with
+    `number` it is free for position k if they are k, and full of it if they are k + 1. Position k lies in slot k mod `size`."""
+
+    sender: int
+    receiver: int
+    slots: int
+    size: int
+    width: int
+    tag_offset: int
+    tag_width: int
+    tells: str
+    start: int
+
+    has_tags = True
+
+    def turns(self):
+        return 1
+
+    def period(self):
+        return self.size
+
+    def counting(self):
+        return self
+
+    def party(self, hart):
+        return 0 if hart == self.sender else 1 if hart == self.receiver else None
+
+    def first_owned(self, party):
+        return 0 if party else self.size
+
+    def meets(self, place, width):
+        return self.meets_slots(place, width)
+
+    def meets_slots(self, place, width):
+        return place < self.slots + self.size * self.width and self.slots < place + width
+
+    def parts(self):
+        return (("slots", self.slots, self.size * self.width),)
+
+    def text(self):
+        return " ".join(map(str, ("tagged", *self)))
+
+    def tag(self, position):
+        """Where the tag of a position lies."""
+        return self.slots + position % self.size * self.width + self.tag_offset
+
+    def free(self, position):
+        """The tag of a slot that is free for a position."""
+        return 0 if self.tells == ZERO else position % SIZE
+
+    def opened(self, test, is_given):
+        """The queue with the position with which it opens: the given one, or else 0 or the first of the positions whose numbers the tags are."""
+        first = self
+        if not is_given and self.tells == NUMBER:
+            round_before = test.number(self.tag(0), self.tag_width) - self.size
+            starts = [position % SIZE for position in range(round_before + 1, round_before + self.size + 1)]
+            first = self._replace(start=next((start for start in starts if self._replace(start=start).is_free(test)), 0))
+        for position in range(first.start, first.start + first.size):
+            found, wanted = test.number(first.tag(position), first.tag_width), first.free(position)
+            if found != wanted:
+                raise Wrong(f"the tag of slot {position % first.size} opens as {found}, and not as {wanted}, which says that it is free for position "
+                            f"{position}: a queue opens with all slots free, and start= and tells= say what their tags are")
+        return first
+
+    def is_free(self, test):
+        """Whether each slot of a round opens free."""
+        return all(test.number(self.tag(position), self.tag_width) == self.free(position) for position in range(self.start, self.start + self.size))
+
+
+NUMBERS = {"size": None, "width": WORD, "start": 0, "sender": 0, "receiver": 1}
+KEYS = ("slots", "tag", "tells", *NUMBERS)
+
+
+def tag_given(text, width):
+    """Where in a slot a tag begins, and its bytes."""
+    offset, plus, count = text.partition("+")
+    if not offset.isdigit() or plus and not count.isdigit():
+        raise Wrong(f"tag is where in its slot a tag begins, as 4 or as the name of the first slot's, or that and its bytes, as 4+1, and not {text}")
+    return int(offset), int(count) if plus else min(WORD, max(width - int(offset), 1))
+
+
+def described(places, given, test):
+    """The queue of a --tagged: its places, and what else is given."""
+    missing = [name for name in ("slots",) if name not in places] + ["size"] * ("size" not in given)
+    if missing:
+        raise Wrong(f"a queue whose slots tell needs {missing[0]}=")
+    numbers = numbers_given(given, KEYS, NUMBERS, ("tag", "tells"), "a queue whose slots tell")
+    size, width, start = numbers["size"], numbers["width"], numbers["start"]
+    for name in ("size", "width"):
+        if numbers[name] < 1:
+            raise Wrong(f"{name} is {numbers[name]}, and must be at least 1")
+    tells = given.get("tells", ZERO)
+    if tells not in (ZERO, NUMBER):
+        raise Wrong("tells is zero or number")
+    offset, count = tag_given(given.get("tag", "0"), width)
+    if not 1 <= count <= WORD:
+        raise Wrong(f"a tag has 1 to {WORD} bytes, and not {count}")
+    if offset + count > width:
+        raise Wrong(f"the tag's {count} bytes from {offset} on reach past a slot of {width}: width is the bytes of a slot")
+    if tells == NUMBER and count != WORD:
+        raise Wrong(f"with tells=number a tag has {WORD} bytes, and not {count}")
+    if tells == NUMBER and size == 1:
+        raise Wrong("numbers don't tell of one slot whose it is: 1 says that it is full of position 0, and free for position 1")
+    if start >= SIZE:
+        raise Wrong(f"start is below {SIZE}")
+    if numbers["sender"] == numbers["receiver"]:
+        raise Wrong("the sender and the receiver are two harts")
+    queue = Tagged(numbers["sender"], numbers["receiver"], places["slots"], size, width, offset, count, tells, start)
+    last = max(test.words, default=-4) + 4
+    if queue.slots + size * width > last:
+        raise Wrong(f"{size} slots of {width} bytes from {queue.slots} on end past the text's words, which end at {last}: size is the number of slots,"
+                    " and width the bytes of one")
+    if max(queue.sender, queue.receiver) >= len(test.harts):
+        raise Wrong(f"the text has {len(test.harts)} harts")
+    return queue.opened(test, "start" in given)
+
+
+# ---- loads
+
+def place_in(program, which, state, place, width):
+    """The position, from the own count on, and the offset in its slot, of an access of slots; None where these aren't known."""
+    queue, (low, high) = program.queues[which], program.limits(place, state)
+    if low < queue.slots or high + width > queue.slots + queue.size * queue.width:
+        return None
+    found = program.positions(which, place, width, state)
+    return found and (found[0], (low - queue.slots) % queue.width)
+
+
+def looked(program, state, place, width):
+    """The queue, and the position from the own count on, of which a load reads the whole tag; or None."""
+    low, high = program.limits(place, state)
+    seen = None
+    for which, queue, _ in program.tagged:
+        if width == queue.tag_width and queue.meets_slots(low, high - low + width):
+            found = place_in(program, which, state, place, width)
+            if found is not None and found[1] == queue.tag_offset:
+                seen = which, found[0]
+    return seen
+
+
+def read_rest(program, which, state, place, width):
+    """Takes down a load of slots that isn't shown to be of a tag or of an owned slot."""
+    queue, found = program.queues[which], place_in(program, which, state, place, width)
+    if found is not None and (found[0] < state.shares[which].low or queue.tag_offset <= found[1] and found[1] + width <= queue.tag_offset + queue.tag_width):
+        return
+    program.unowned.setdefault(which, state.pc)
+
+
+def after_load(program, state, to, which, position, most):
+    """The states after a load of a tag that leaves at most so much: the party is told that it owns up to that position, or not yet."""
+    queue, party, own = program.queues[which], program.parties[which], variable_of("n", which)
+    if queue.tells == ZERO:
+        values = [{"value": number(0)}, {"word": (1, most)}]
+        told, other = reversed(values) if party else values
+    else:
+        told, other = ({"value": own.plus(number(position + more))} for more in ((1, 0) if party else (0, 1 - queue.size)))
+    is_owned = position < state.shares[which].low
+    found = [program.put(state, to, told.get("value"), word=told.get("word"), told=None if is_owned else (which, position + 1))]
+    return found if is_owned else [*found, program.put(state, to, other.get("value"), word=other.get("word"))]
+
+
+# ---- stores
+
+def stored(program, which, state, place, width, value):
+    """By how much a store that may be of slots moves the own count of which queue, or None."""
+    queue, share, found = program.queues[which], state.shares[which], place_in(program, which, state, place, width)
+    if found is None:
+        program.refuse(state.pc, "a store that may be to slots, or to a tag, of which slot isn't known")
+    position, offset = found
+    if (offset, width) == (queue.tag_offset, queue.tag_width):
+        if position:
+            program.refuse(state.pc, f"a store to the tag of another position than its own, which is {position} before it")
+        if not share.low:
+            program.refuse(state.pc, "a store to the tag of its own position, which isn't known to be owned")
+        program.hands_over(state, queue)
+        check_handed(program, which, state, value)
+        return which, 1
+    if offset < queue.tag_offset + queue.tag_width and queue.tag_offset < offset + width:
+        program.refuse(state.pc, "a store to a part of a tag, or to a tag and what lies beside it")
+    if position >= share.low:
+        program.refuse(state.pc, program.not_owned(queue, share.first, share.last, share.low, share.low))
+    return None
+
+
+def check_handed(program, which, state, value):
+    """Refuses a store of the own tag that isn't known to hand its position over."""
+    queue, party, pc = program.queues[which], program.parties[which], state.pc
+    known = program.known(value, state)
+    value = number(known) if known is not None else value if isinstance(value, Form) else None
+    if queue.tells == NUMBER:
+        own = variable_of("n", which, 1, queue.size if party else 1)
+        found = value and bounds(value.minus(own), program.ranges(state), True)
+        if found is None or found[0] != found[1]:
+            program.split_to_know(value and value.minus(own), state, 64)
+        if found is None or not found[0] == found[1] == found[0] // SIZE * SIZE:
+            program.refuse(pc, f"the tag that it stores isn't known to be the position's number and {queue.size if party else 1}")
+        return
+    limits = value and numbers_of(value, program.ranges(state))
+    if party and not (limits and limits[0] == limits[1] and limits[0] % 256 ** queue.tag_width == 0):
+        program.refuse(pc, "the tag that it stores isn't known to be 0")
+    if not party and not (limits and 1 <= limits[0] and limits[1] < 256 ** queue.tag_width):
+        program.refuse(pc, "the tag that it stores may be 0, which says that the slot is free" if not limits or not limits[0] else
+                       f"the tag that it stores isn't known to fit its {queue.tag_width} bytes")

@@ -1,0 +1,322 @@
+"""Queues whose slots tell whose they are by a tag: what their tags tell, what a load and a store of one make of a known state, and when it is
+shown that their protocol is kept. Definition by definition, and by the same names, what crates/queue_certificates/specs defines in Tags and, of
+queues with tags, in Certificates. `certificates.py` has what these stand on, and asks this where it judges a certificate.
+
+A queue with tags has slots, a size and a width as one with indices has: what asks of a place in slots takes either. Those that have tags are
+numbered by `t` here. In a state their shares stand after those of the queues with indices, and outside they are numbered on after these.
+"""
+
+from typing import NamedTuple
+
+import certificates
+
+ZERO, NUMBER = "zero", "number"
+WORD = 4
+
+
+class TaggedQueue(NamedTuple):
+    """Of each slot of `width` bytes the `tag_width` bytes from `tag_offset` on are its tag, which tells as `codec` says."""
+
+    sender: int
+    receiver: int
+    slots: int
+    size: int
+    width: int
+    tag_offset: int
+    tag_width: int
+    codec: str
+
+
+class OpenedTagged(NamedTuple):
+    """A queue, and the position with which it opens."""
+
+    queue: TaggedQueue
+    start: int
+
+
+# ---- tags
+
+def zero_is_free(party, v):
+    return (v == 0) == (party == certificates.SENDER)
+
+
+def position_number(m, party, k, v):
+    return v == (k if party == certificates.SENDER else k + 1) % m
+
+
+def tells_by(codec, party, k, v):
+    return zero_is_free(party, v) if codec == ZERO else position_number(certificates.M32, party, k, v)
+
+
+def party_in(q, h):
+    return certificates.party_of(q, h)
+
+
+def owned_at_first(q, party):
+    """How many positions a party owns where nothing was sent yet: `owned_end`, from the position on with which the queue opens."""
+    return q.size if party == certificates.SENDER else 0
+
+
+def is_tag_byte(q, at):
+    """A slot's byte is one of its tag, by its offset."""
+    return q.tag_offset <= at < q.tag_offset + q.tag_width
+
+
+def tag_of(q, k):
+    return q.slots + q.width * certificates.mod(k, q.size) + q.tag_offset
+
+
+def tag_flaws(q):
+    """What `is_tagged` asks, in its order, each with what is wrong where it isn't so."""
+    number = q.codec == NUMBER
+    return ((q.sender != q.receiver, "one hart as its sender and its receiver"),
+            (q.size >= 1, "no slot"),
+            (q.tag_width >= 1, "a tag without a byte"),
+            (q.tag_width <= WORD, "a tag of more than 4 bytes"),
+            (q.tag_offset + q.tag_width <= q.width, "a tag that reaches past its slot"),
+            (not number or q.tag_width == WORD, "numbers in a tag that isn't a word"),
+            (not number or q.size % certificates.M32 != 1, "numbers that are the same for free and for full slots"))
+
+
+def is_tagged(q):
+    return all(holds for holds, _ in tag_flaws(q))
+
+
+# ---- accesses of slots, at an address that is a form
+
+def is_in_slot(ranges, q, s, f):
+    position = certificates.position_at(q, s.own.constant, f.constant)
+    return certificates.is_slot(ranges, q, f, certificates.offset_at(q, f.constant),
+                                certificates.remainder(ranges, certificates.plus(s.own, certificates.number(position)), q.size))
+
+
+def tag_position(ranges, q, s, place, width):
+    """How much further than the own count the position is whose whole tag this is, or None."""
+    if not isinstance(place, certificates.Linear) or width != q.tag_width or certificates.offset_at(q, place.form.constant) != q.tag_offset:
+        return None
+    return certificates.position_at(q, s.own.constant, place.form.constant) if is_in_slot(ranges, q, s, place.form) else None
+
+
+def is_of_rest(ranges, q, s, place, width):
+    if not isinstance(place, certificates.Linear):
+        return False
+    offset = certificates.offset_at(q, place.form.constant)
+    return (offset + width <= q.tag_offset or q.tag_offset + q.tag_width <= offset) and certificates.is_owned(ranges, q, s, place, width)
+
+
+def is_of_tag(ranges, q, s, place, width):
+    if not isinstance(place, certificates.Linear):
+        return False
+    offset = certificates.offset_at(q, place.form.constant)
+    return q.tag_offset <= offset and offset + width <= q.tag_offset + q.tag_width and is_in_slot(ranges, q, s, place.form)
+
+
+def is_beside_slots(q, b, width):
+    return certificates.is_apart(b, width, q.slots, q.size * q.width)
+
+
+# ---- what a party loads, and what hands its position over
+
+def further(own, n):
+    return certificates.plus(own, certificates.number(n))
+
+
+def just_further(own, n):
+    return certificates.just(certificates.Linear(further(own, n)))
+
+
+def some_up_to(n):
+    """A number that isn't 0."""
+    return certificates.Result(certificates.monus(n, 1), certificates.Linear(certificates.Form(1, (1,))))
+
+
+def told_value(codec, party, op, own, j):
+    """What the party loads that has the position j further."""
+    if codec == NUMBER:
+        return just_further(own, j if party == certificates.SENDER else j + 1)
+    return certificates.just(certificates.Linear(certificates.number(0))) if party == certificates.SENDER else some_up_to(certificates.most_loaded(op))
+
+
+def other_value(q, party, op, own, j):
+    """What it loads where the other still has the slot."""
+    if q.codec == ZERO:
+        return told_value(ZERO, certificates.other(party), op, own, j)
+    return just_further(own, j + 1 + certificates.monus(certificates.M32, q.size % certificates.M32) if party == certificates.SENDER else j)
+
+
+def is_positive(width, b):
+    return b is not None and b.low >= 1 and b.high < 256 ** width
+
+
+def is_number(n, v, g):
+    return isinstance(v, certificates.Linear) and certificates.is_same(n, v.form, g)
+
+
+def hands_over(ranges, q, party, own, v):
+    if q.codec == NUMBER:
+        return is_number(certificates.M32, v, further(own, 1 if party == certificates.SENDER else q.size))
+    if party == certificates.SENDER:
+        return is_positive(q.tag_width, certificates.bounds(ranges, v))
+    return is_number(256 ** q.tag_width, v, certificates.number(0))
+
+
+def handed(s):
+    return certificates.Share(further(certificates.lifted(s.own), 1), certificates.number(certificates.monus(s.owned.constant, 1)))
+
+
+class Tags:
+    """Of a hart, whose steps these are where there were no tags."""
+
+    def __init__(self, steps, tagged):
+        self.steps, self.tagged, self.before = steps, tagged, len(steps.queues)
+        self.parties = [party_in(q, steps.h) for q in tagged]
+
+    def tag_share(self, k, t):
+        return certificates.get_or(k.shares, self.before + t, certificates.NO_SHARE)
+
+    def with_share(self, t, s, k):
+        return k._replace(shares=certificates.put_at(k.shares, self.before + t, s))
+
+    def tag_at(self, k, place, width, t):
+        return self.parties[t] and tag_position(k.ranges, self.tagged[t], self.tag_share(k, t), place, width)
+
+    def last(self, holds):
+        return certificates.last_below(len(self.tagged), holds)
+
+    def each(self, holds):
+        return certificates.all_below(len(self.tagged), holds)
+
+    # loads
+
+    def after(self, k, rd, value):
+        return certificates.with_result(k, rd, certificates.next_pc(k.pc), value)
+
+    def after_tag(self, k, op, rd, t, j):
+        q, party, s = self.tagged[t], self.parties[t], self.tag_share(k, t)
+        told = self.after(k, rd, told_value(q.codec, party, op, s.own, j))
+        if j < s.owned.constant:
+            return [told]
+        owns = certificates.Share(certificates.lifted(s.own), certificates.number(j + 1))
+        return [self.with_share(t, owns, told), self.after(k, rd, other_value(q, party, op, s.own, j))]
+
+    def load_tells(self, k, op, rd, place, b, states):
+        width = certificates.LOADS[op]
+        look = self.last(lambda t: self.tag_at(k, place, width, t) is not None)
+        if look is None:
+            return states
+        return self.after_tag(k, op, rd, look, self.tag_at(k, place, width, look)) if self.steps.may_load(k, b, width, None) else None
+
+    # stores, and those of AMOs
+
+    def moved_tag(self, k, place, width):
+        """The queue of whose own position this is the tag, whole."""
+        return self.last(lambda t: self.tag_at(k, place, width, t) == 0)
+
+    def may_tell(self, k, v, place, b, width, move, t):
+        q, party, s = self.tagged[t], self.parties[t], self.tag_share(k, t)
+        if move == t:
+            return s.owned.constant >= 1 and self.before + t < len(k.shares) and hands_over(k.ranges, q, party, s.own, v)
+        return is_beside_slots(q, b, width) or party is not None and is_of_rest(k.ranges, q, s, place, width)
+
+    def value_stored(self, k, instruction):
+        """What is known of it: of an AMO's without what it loads."""
+        op, *parts = instruction
+        if op in certificates.STORES:
+            return self.steps.operand(k, parts[0])
+        return self.steps.updated_value(k.ranges, op, certificates.ANY, self.steps.operand(k, parts[1]))
+
+    def store_tells(self, k, v, place, b, width, move, states):
+        if not self.each(lambda t: self.may_tell(k, v, place, b, width, move, t)):
+            return None
+        return states if move is None else [self.with_share(move, handed(self.tag_share(k, move)), state) for state in states]
+
+    # instructions
+
+    def next_told(self, k, instruction, states):
+        """The states that may follow, where `states` do if there were no tags."""
+        access = self.steps.accessed(k, instruction)
+        if states is None or access is None:
+            return states
+        op, *parts = instruction
+        place, b, width = access[:3]
+        if op in certificates.LOADS:
+            return self.load_tells(k, op, parts[0], place, b, states)
+        return self.store_tells(k, self.value_stored(k, instruction), place, b, width, self.moved_tag(k, place, width), states)
+
+    # each byte of a load that is of queue t's slots is of a tag, or of an owned slot
+
+    def reads_rest(self, k, t, place, b, width):
+        q, s = self.tagged[t], self.tag_share(k, t)
+        return is_beside_slots(q, b, width) or is_of_tag(k.ranges, q, s, place, width) or certificates.is_owned(k.ranges, q, s, place, width)
+
+    def loads_rest(self, k, t, instruction):
+        access = self.steps.accessed(k, instruction)
+        return not access or not access[3] or self.reads_rest(k, t, *access[:3])
+
+
+# ---- certificates
+
+def tags_of(c, h):
+    return Tags(certificates.steps_of(c, h), [each.queue for each in c.tagged])
+
+
+def covers_share(ranges, s, t, forms):
+    """The same count, and no more is said to be owned."""
+    return certificates.is_same(0, s.own, certificates.substituted(t.own, forms)) \
+        and certificates.fits_in(certificates.most(ranges, certificates.substituted(t.owned, forms)), s.owned.constant)
+
+
+def tags_lead(before, number, k, t, forms):
+    def share(state, at):
+        return certificates.get_or(state.shares, before + at, certificates.NO_SHARE)
+    return certificates.all_below(number, lambda at: covers_share(k.ranges, share(k, at), share(t, at), forms))
+
+
+def owns_rest(c, h, code, t, k, cases):
+    tags = tags_of(c, h)
+    return all(tags.loads_rest(leaf, t, certificates.instruction_at(code, leaf.pc)) for leaf, _ in certificates.leaves(k, cases))
+
+
+def opens_told(q, party, start, s, numbers):
+    if party is None:
+        return True
+    own, owned = (certificates.form_value(f, numbers) for f in s)
+    return start == own and own + owned <= start + owned_at_first(q, party)
+
+
+def opens_all_told(c, h, k, numbers):
+    return all(opens_told(each.queue, party_in(each.queue, h), each.start, certificates.get_or(k.shares, len(c.queues) + t, certificates.NO_SHARE), numbers)
+               for t, each in enumerate(c.tagged))
+
+
+def opens_free(opening, q, start):
+    """Each slot of a round tells the sender that it is free."""
+    # what lies past memory's words is 0, so of slots that 0 frees only those within are looked at
+    within = max(0, 4 * len(opening.words) - q.slots) // q.width + 1
+    slots = range(min(q.size, within) if q.codec == ZERO else q.size)
+    return all(tells_by(q.codec, certificates.SENDER, k, certificates.number_seen(opening, tag_of(q, k), q.tag_width))
+               for k in (start + (slot - start) % q.size for slot in slots))
+
+
+def accepts_tagged(opening, each):
+    return is_tagged(each.queue) and opens_free(opening, *each)
+
+
+def first_unowned_rest(opening, c, t, h):
+    """The first state of the hart with a load of tagged queue t's slots that isn't shown to be of tags and of owned slots."""
+    code = opening.harts[h][0]
+    return next((n for n, (known, cases, _) in enumerate(certificates.part_of(c, h).states) if not owns_rest(c, h, code, t, known, cases)), None)
+
+
+def accepts_rest(opening, c, t, h):
+    return first_unowned_rest(opening, c, t, h) is None
+
+
+def tagged_accesses(opening, c, t):
+    """As `slot_accesses`, of tagged queue t's slots."""
+    return certificates.accesses_of(opening, c, c.tagged[t].queue)
+
+
+def tagged_fault(q):
+    """What is wrong with a queue that isn't accepted."""
+    return next((fault for holds, fault in tag_flaws(q) if not holds), "a slot that isn't free where it opens")
