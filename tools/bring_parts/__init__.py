@@ -17,6 +17,8 @@ CHOOSER, INSTALLED = ROOT / "scripts/program", ROOT.parent.parent / "lib/ztso/zt
 REFERENCE = TOOLS / "reference/ztso"
 sys.path.insert(0, str(TOOLS / "reference"))
 
+from faults import ended  # noqa: E402, F401
+
 # what the program reads of a text at most
 MOST = 1 << 20
 
@@ -95,9 +97,10 @@ def put(path, text):
             part.unlink()
 
 
-def program_of(named=None):
-    """The program that is named, or the one that ./ztso runs, or the reference where there is none."""
-    program = Path(named) if named else chosen()
+def program_of(named=None, *, says=False):
+    """The program that is named, or the one that ./ztso runs, or the reference where there is none. With `says` standard error says if
+    nothing is proved of it."""
+    program = Path(named) if named else chosen(says)
     if not program:
         print("the second implementation answers, tools/reference/ztso, of which nothing is proved", file=sys.stderr)
         program = REFERENCE
@@ -106,11 +109,11 @@ def program_of(named=None):
     return program.resolve()
 
 
-def chosen():
+def chosen(says=False):
     """The program that ./ztso runs, made if it isn't there, or None."""
     if not CHOOSER.exists():
         return INSTALLED if INSTALLED.exists() else None
-    made = subprocess.run([CHOOSER, "--quiet"], stdin=subprocess.DEVNULL, stdout=subprocess.PIPE, text=True, check=False)
+    made = subprocess.run([CHOOSER] if says else [CHOOSER, "--quiet"], stdin=subprocess.DEVNULL, stdout=subprocess.PIPE, text=True, check=False)
     return None if made.returncode else Path(made.stdout.strip())
 
 

@@ -14,6 +14,11 @@ ROW = re.compile(r" *([0-9]+)(?: |$)")
 NOTE = re.compile(r"((?:[\w.+-]+:)?[0-9]+)(?:: (.*))?")
 ADDRESS = re.compile(r"(?<![\w@])@([0-9]+)(?![\w])")
 WIDTH = 110
+# what stands in a cell's comment for what would end it
+STANDINS = (("|", "¦"), (";", "⁏"), ("(*", "(∗"), ("*)", "∗)"))
+# an instruction of which no line of a source is known, and what is said of it
+NO_LINE, UNKNOWN = re.compile(r"at 0x[0-9a-f]+"), " (no debugging information)"
+WRITTEN = str.maketrans("¦⁏∗", "|;*")
 # of a picture as SVG: a row's number, the picture's size, and how wide a character is, how high a row, how wide the margin, and
 # how far below the picture's end the first further line stands
 ROW_TEXT = re.compile(r"<text [^>]*? y='([0-9]+)' class='quiet' id='row-([0-9]+)'>")
@@ -21,14 +26,24 @@ SIZE = re.compile(r"(<(?:svg|rect) .*?width=')([0-9]+)(' height=')([0-9]+)'")
 CHARACTER, ROW_HEIGHT, MARGIN, LINE = 8, 22, 16, 5
 
 
+def in_cell(line):
+    """A line of a source as a cell's comment has it: without braces and semicolons at its ends, except those of what is open in it."""
+    text = re.sub(r"[^\x20-\x7e]", " ", line).lstrip(" ;{}").rstrip(" ;{")
+    while text.endswith("}") and text.count("}") > text.count("{"):
+        text = text[:-1].rstrip(" ;{")
+    for mark, other in STANDINS:
+        text = text.replace(mark, other)
+    return " ".join(text.split())
+
+
 def notes_of(test):
-    """For each hart the comment of each of its instructions. One that is the number of a C line gets the line's text,
-    which from-c writes once."""
+    """For each hart the comment of each of its instructions, as its author wrote it. One that is the number of a C line gets the
+    line's text, which from-c writes once."""
     for column in test.columns:
-        comments = [cell.partition("#")[2].strip() for _, cell, _, words in column for _ in range(words)]
+        comments = [cell.partition("#")[2].strip().translate(WRITTEN) for _, cell, _, words in column for _ in range(words)]
         shapes = [NOTE.fullmatch(comment) for comment in comments]
         lines = {shape[1]: shape[2] for shape in shapes if shape and shape[2]}
-        yield [f"{shape[1]}: {lines[shape[1]]}" if shape and shape[1] in lines else comment
+        yield [f"{shape[1]}: {lines[shape[1]]}" if shape and shape[1] in lines else comment + UNKNOWN * bool(NO_LINE.fullmatch(comment))
                for shape, comment in zip(shapes, comments)]
 
 
@@ -47,13 +62,15 @@ def rows_of(test, buffer, steps):
 
 def shown_notes(rows, notes):
     """What stands beside each of these rows: the hart and the note, of which only the number where the hart goes on in one
-    line."""
+    line, and what isn't known once for each hart."""
     shown, before = {}, {}
     for row in rows:
         hart, note = notes.get(row, (None, ""))
         shape = NOTE.fullmatch(note)
         if note:
             shown[row] = f"P{hart} {shape[1] if shape and note == before.get(hart) else note}"
+            if before.get(hart, "").endswith(UNKNOWN):
+                shown[row] = shown[row].removesuffix(UNKNOWN)
         before[hart] = note
     return shown
 

@@ -7,6 +7,8 @@ from bring_parts import Refused
 
 # where a local's last value is kept for the condition
 RESULTS = (*(f"a{number}" for number in range(8)), *(f"t{number}" for number in range(7)))
+# the type of a parameter that points to no known type
+VOID = re.compile(r"(?:(?:const|volatile) )*void(?: (?:const|volatile))* ?\* ?(?:(?:const|volatile|restrict) ?)*")
 
 
 def results_of(source):
@@ -64,6 +66,8 @@ def storage_of(source):
     for hart, function in enumerate(source.functions):
         for each in function.parameters:
             if each.count and (hart, each.name) not in source.settings:
+                if VOID.fullmatch(each.kind):
+                    raise Refused(f"P{hart}'s parameter `{each.name}` is a void *: P0 and P1 take nothing, numbers, or pointers to known types")
                 declared.setdefault(each.name, (f"__typeof__(*({each.kind})0)", each.count))
     if source.is_litmus:
         for name in source.words:

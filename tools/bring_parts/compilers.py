@@ -31,6 +31,12 @@ SECONDS, FILE_BYTES, LINES = 60, 16 << 20, 12
 NO_HEADER = re.compile(r"fatal error: '?([^':]+)'?(?:: No such file or directory| file not found)")
 # an instruction that GNU as knows, and not of this machine
 NO_EXTENSION = re.compile(r"(?:.*/)?([^/:]+:[0-9]+): Error: unrecognized opcode `(([\w.]+)[^']*)', extension")
+# what assemblers say of `pause` where they don't know it, or only as a part of an extension; and what defines it
+NO_PAUSE = re.compile(r"(?=.*(?:unrecognized (?:opcode|instruction)|'Zihintpause'))(?=.*\bpause\b)", re.DOTALL)
+PAUSE = ["--include=pause_word.h"]
+# what mapping.h asserts, and a place in another file
+MAPPED = re.compile(r'static.assert.*"(a mapped [^"]*)"')
+SOURCE_PLACE = re.compile(r"(?:.*/)?(?!mapping\.h)([^/: ]+:[0-9]+):[0-9]+: (?:error|note):")
 # the headers of the host's libstdc++, and of a C library for RISC-V without a system
 CXX_ROOT, PICOLIBC = Path("/usr/include"), Path("/usr/lib/picolibc/riscv64-unknown-elf/include")
 PICOLIBC_PACKAGE = "picolibc-riscv64-unknown-elf"
@@ -69,24 +75,17 @@ class Compiler:
         headers = cxx_headers() if language == CXX and shutil.which(command[0]) else ()
         own = [word for folder in headers for word in ("-isystem", folder)]
         include = [word for folder in (HERE / "c", *folders) for word in ("-I", folder)]
-        flags, rest = [*self.flags(language), *flags], ["-c", "-o", module, "-x", KINDS[language], source]
+        given, flags, rest = flags, [*self.flags(language), *flags], ["-c", "-o", module, "-x", KINDS[language], source]
         variables = {"TMPDIR": str(Path(module).parent)}
         try:
             output([*command, *flags, *own, *include, *rest], variables)
         except Refused as refused:
-            if (missing := missing_header(refused)) and PICOLIBC.is_dir():
-                flags += ["-idirafter", str(PICOLIBC)]
-                return self.again([*command, *flags, *own, *include, *rest], variables, flags, language)
-            raise said_otherwise(refused, missing, language) from None
-        return flags
-
-    @staticmethod
-    def again(words, variables, flags, language):
-        """Compiles once more, with the headers of a C library."""
-        try:
-            output(words, variables)
-        except Refused as refused:
-            raise said_otherwise(refused, missing_header(refused), language) from None
+            further = [word for word in remedy(refused) if word not in flags]
+            if not further:
+                raise said_otherwise(refused, missing_header(refused), language) from None
+            # the preprocessor takes what it includes
+            language = ASSEMBLY if language == PLAIN_ASSEMBLY else language
+            return self.compile(source, module, [*given, *further], folders, language)
         return flags
 
     def macros(self, header, folders):
@@ -121,6 +120,13 @@ def missing_header(refused):
     return shape and shape[1]
 
 
+def remedy(refused):
+    """The flags with which a compiler may take what it has refused: the headers of a C library, or the word of `pause`."""
+    if missing_header(refused) and PICOLIBC.is_dir():
+        return ["-idirafter", str(PICOLIBC)]
+    return PAUSE if NO_PAUSE.match("\n".join(refused.before)) else []
+
+
 def said_otherwise(refused, missing, language):
     """What a compiler complains of, with what helps."""
     if missing and language == CXX and PICOLIBC.is_dir():
@@ -130,9 +136,18 @@ def said_otherwise(refused, missing, language):
                        "only memcpy and memset are here", refused.before)
     if missing:
         return Refused(f"{refused}: it looks for headers beside the C file, and there is no C library", refused.before)
+    if mapped := unmapped(refused.before):
+        return Refused(mapped)
     if shape := next(filter(None, map(NO_EXTENSION.match, refused.before)), None):
         return Refused(f"{shape[1]}: `{shape[2]}`: {columns.reason_of(shape[3])}")
     return refused
+
+
+def unmapped(lines):
+    """What mapping.h doesn't take, with the place in the source, or None, by what a compiler complains of."""
+    shape = MAPPED.search(lines[0]) if lines else None
+    place = next((found[1] + ": " for found in map(SOURCE_PLACE.match, lines) if found), "")
+    return shape and place + shape[1]
 
 
 def binutil(name):

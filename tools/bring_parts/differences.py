@@ -67,8 +67,9 @@ def between(comparison, name, others):
         show = [each for each in found if values in found[each].schedules]
         if lack := [each for each in found if each not in show]:
             told = ", ".join(f"by {each} in {found[each].states} states" for each in lack)
-            yield Difference(comparison.path, comparison.compiler, comparison.names[show[0]], tuple(show), tuple(lack), values, found[show[0]].schedules[values], comparison.ways[show[0]].text, told,
-                             any(found[each].cut for each in lack), name in show)
+            is_cut, first = any(found[each].cut for each in lack), show[0]
+            yield Difference(comparison.path, comparison.compiler, comparison.names[first], tuple(show), tuple(lack), values,
+                             found[first].schedules[values], comparison.ways[first].text, told, is_cut, name in show)
 
 
 def pictures(program, difference):
@@ -165,7 +166,8 @@ def summary(comparisons, found):
     lost = sum(not one.is_new for one in found)
     line += f"; {counted(lost, 'outcome')} that another mapping shows and yours doesn't" if lost else ""
     refused = sum(bool(each.refused) for each in comparisons)
-    return line + (f"; {refused} of {counted(len(comparisons), 'compilation')} refused, whole or in part" if refused else "")
+    has = "has" if refused == 1 else "have"
+    return line + (f"; {refused} of {counted(len(comparisons), 'compilation')} {has} refused rows" if refused else "")
 
 
 def version_of(compiler):

@@ -34,7 +34,7 @@ class Functions:
             if each.is_defined() and each.at >= TEXT and (each.kind == "FUNC" or is_label):
                 names.setdefault(each.at, each.name)
         there = {each.at for each in image.code}
-        self.names = {at: names.get(at, f"function at {at - TEXT:x}") for at in sorted({*names, *calls} & there)}
+        self.names = {at: names.get(at, f"function at {at - TEXT:#x}") for at in sorted({*names, *calls} & there)}
         self.starts, self.harts = list(self.names), {each.at for each in harts}
         self.parts = {at: [] for at in self.starts}
         for each in image.code:
@@ -55,7 +55,7 @@ class Functions:
         code = self.whole(start, self.parts[start])
         if start in self.sizes or any(each.at == address for each in code):
             return self.names[start], code
-        name = self.names[address] = f"place at {address - TEXT:x}"
+        name = self.names[address] = f"place at {address - TEXT:#x}"
         return name, self.whole(address, [each for each in self.parts[start] if each.at >= address])
 
     def whole(self, start, part):

@@ -3,7 +3,7 @@ rewritten in its place, and all else stays as its author wrote it."""
 
 import re
 
-from bring_parts import Refused, conditions, statements, texts
+from bring_parts import Refused, conditions, statements, texts, unsigned
 
 import litmus
 from faults import Fault
@@ -19,6 +19,8 @@ class Rewriter(litmus.Reader):
         # the pieces, and for each change its lines
         self.edits, self.notes = [], {}
         self.objects = statements.Objects()
+        # each hart's cells as their author wrote them, and the condition
+        self.given, self.ending = [], None
         for shape in SPACED.finditer(self.text):
             # of the same length, so that all other places stay
             self.edit(shape.start(), shape.end(), f"{shape[1]}{shape[2]}~exists", "no blank after ~")
@@ -49,7 +51,13 @@ class Rewriter(litmus.Reader):
                 self.harts_of_init.append((int(hart[1]), start))
             return None
 
+    def first_row(self, begin, row):
+        super().first_row(begin, row)
+        self.given = [[] for _ in row]
+
     def cells(self, begin, row, cells):
+        for column, cell in zip(self.given, row):
+            column.append(cell)
         at, made = self.text.rfind("\n", 0, begin) + 1, []
         for cell in row:
             text, note = self.with_line(begin, statements.cell, cell, self.objects)
@@ -62,7 +70,7 @@ class Rewriter(litmus.Reader):
     def condition(self, start):
         if start is None:
             raise Refused("there is no condition: a line that begins with exists, ~exists or forall")
-        ending = self.with_line(start, conditions.ending, self.text[start:])
+        ending = self.ending = self.with_line(start, conditions.ending, self.text[start:])
         for each in ending.equations():
             if each.value.startswith("-") and each.left in self.objects.small:
                 raise Refused(f"condition: {each.left} is declared with fewer than 32 bits, and as a word is never "
@@ -97,7 +105,7 @@ def rewritten(text):
     try:
         rewriter.read()
         made = rewriter.made()
-        litmus.read(made)
+        unsigned.check(rewriter.given, rewriter.test, litmus.read(made).registers, rewriter.ending)
     except Fault as fault:
         raise Refused(texts.said_of(fault)) from None
     return made, {**notes, **rewriter.notes}

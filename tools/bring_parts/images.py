@@ -28,7 +28,9 @@ MADE_BEFORE = re.compile(r"\.((init|fini|preinit)_array|[cd]tors)(\..*)?")
 RELOCATION = re.compile(r"([0-9a-f]+) +[0-9a-f]+ (R_RISCV_\w+)(?: +([0-9a-f]+) +(.*?)(?: \+ [0-9a-f]+)?)?$")
 WITHOUT_PLACE = ("R_RISCV_RELAX", "R_RISCV_ALIGN")
 # what is said of names that nothing defines
-REMEDIES = [(r"__atomic_.*", "an atomic object of this size needs a library"),
+REMEDIES = [(r"__atomic_\w*_[124]", "an atomic object of this size needs a library: exchange, or add to, a word"),
+            (r"__atomic_.*", "the code is compiled for RV32: take at most 4 bytes, as uint32_t or size_t"),
+            (r"__builtin_riscv_pause", 'this compiler lacks it: write `__asm__ volatile("pause")`'),
             (r".*(panic|unwrap_failed|expect_failed|slice_\w*_fail).*", "this may panic: write it so that the compiler sees that it "
              "doesn't, as by `&` of a power of two"),
             (r".*__throw_.*|__cxa_(throw|begin_catch|allocate_exception).*|_Unwind.*", "what throws isn't taken"),

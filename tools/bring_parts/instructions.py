@@ -7,7 +7,7 @@ from dataclasses import dataclass, replace
 from functools import lru_cache
 from pathlib import Path
 
-from bring_parts import ROOT, compressed
+from bring_parts import ROOT
 
 import assembly
 
@@ -24,6 +24,18 @@ UPPER, LOWER = re.compile(r"(x[0-9]+),0x([0-9a-f]+)"), re.compile(r"(x[01]),(-?[
 # the low part of an address in an instruction's operands
 LOW = re.compile(r"(.*?,)(-?[0-9]+)(\(x[0-9]+\))?")
 
+# the instruction that each compressed one stands for, as the C extension's chapter of the manual has them and objdump writes them, by its
+# operands: `{0}` and on, of which a place `n(reg)` is one
+EXPANDED = {
+    "lwsp": "lw {0},{1}", "swsp": "sw {0},{1}", "lw": "lw {0},{1}", "sw": "sw {0},{1}",
+    "j": "jal x0,{0}", "jal": "jal x1,{0}", "jr": "jalr x0,0({0})", "jalr": "jalr x1,0({0})",
+    "beqz": "beq {0},x0,{1}", "bnez": "bne {0},x0,{1}", "li": "addi {0},x0,{1}", "lui": "lui {0},{1}",
+    "addi": "addi {0},{0},{1}", "addi16sp": "addi x2,x2,{1}", "addi4spn": "addi {0},x2,{2}", "slli": "slli {0},{0},{1}",
+    "srli": "srli {0},{0},{1}", "srai": "srai {0},{0},{1}", "andi": "andi {0},{0},{1}", "mv": "add {0},x0,{1}",
+    "add": "add {0},{0},{1}", "and": "and {0},{0},{1}", "or": "or {0},{0},{1}", "xor": "xor {0},{0},{1}",
+    "sub": "sub {0},{0},{1}", "nop": "addi x0,x0,0", "ebreak": "ebreak",
+}
+
 
 @dataclass(frozen=True)
 class Instruction:
@@ -37,7 +49,7 @@ class Instruction:
     path: str = ""
 
     def where(self):
-        return f"{self.file}:{self.line}" if self.file else f"at {self.at - TEXT:x}"
+        return f"{self.file}:{self.line}" if self.file else f"at {self.at - TEXT:#x}"
 
     def target(self):
         """The address that a jump or branch names."""
@@ -79,7 +91,24 @@ def listed(listing, sources=()):
             # objdump names the callers at each instruction, and its own place only where it is another
             there = place[2], int(place[3])
             own, callers = (own, [*callers, there]) if place[1] else (there, callers)
-    return direct([compressed.expanded(each) for each in found])
+    return direct([named_fence(expanded(each)) for each in found])
+
+
+def expanded(instruction):
+    """The instruction, by the one of 32 bits that does the same if it is compressed and there is one."""
+    form = EXPANDED.get(instruction.name[2:]) if instruction.name.startswith("c.") else None
+    if form is None:
+        return instruction
+    try:
+        name, _, operands = form.format(*instruction.operands.split(",")).partition(" ")
+    except IndexError:
+        return instruction  # a hint, which has fewer operands
+    return replace(instruction, name=name, operands=operands)
+
+
+def named_fence(instruction):
+    """The instruction, by the fence that its word is if it is `pause`."""
+    return replace(instruction, name="fence", operands="w,0") if instruction.name == "pause" else instruction
 
 
 @lru_cache(maxsize=None)

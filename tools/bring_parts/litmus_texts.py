@@ -108,7 +108,7 @@ def litmus_text(modules, question, named, compiler, fences, note, told, sources=
     say how the text was made, and `sources` the files whose lines the instructions have."""
     with tempfile.TemporaryDirectory() as folder:
         linked = Linked(complete(modules, compiler, folder), question, named, sources, folder)
-    words = Memory(linked.image.values, linked.objects, linked.longer)
+    words = Memory(linked.image.values, linked.objects, linked.longer, bool(linked.information.variables))
     words.open(question.words)
     check_asked(question, linked)
     made, openings = [], []

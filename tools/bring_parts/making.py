@@ -7,7 +7,7 @@ import tempfile
 from dataclasses import dataclass, replace
 from pathlib import Path
 
-from bring_parts import (ROOT, Refused, c_source, c_tests, columns, compilers, complain, dwarf, languages, litmus_texts, objects, put,
+from bring_parts import (ROOT, Refused, c_lines, c_source, c_tests, columns, compilers, complain, dwarf, languages, litmus_texts, objects, put,
                          questions, queues, rust, text_of)
 from bring_parts.languages import C, OBJECT, RUST
 
@@ -15,6 +15,8 @@ from bring_parts.languages import C, OBJECT, RUST
 MAPPINGS, BASE = ROOT / "examples/mappings", "mapping.h"
 # what mapping.h defines
 GUARD = "MAPPING_H"
+# how the text before a row's own instruction ends, and how that after it begins: at the end of a line of assembly, or with a label or comment
+ENDED, BEGUN = re.compile(r"(?:^|\\n|;|:)(?:\\t|\s)*$"), re.compile(r"(?:\\t|\s)*(?:\\n|;|#|$)")
 LONGEST = 44
 # what a source asks in which nothing is asked: each text has a word of this name
 UNASKED = "\n// exists (null=0)\n"
@@ -204,6 +206,8 @@ def by_compiler(file, language, way, module, c):
         written = module.with_name(f"{module.name}.c") / c.file
         written.parent.mkdir()
         written.write_text(c_tests.c_text(c, c_tests.results_of(c)))
+    if way.mapping and language == C:
+        check_rows(way.mapping)
     of_mapping = ["-include", str(mapping_of(way.mapping))] if way.mapping and language == C else []
     # a mapping of one's own finds what it includes
     folders = [Path(file).resolve().parent, *[MAPPINGS] * bool(of_mapping), queues.HEADERS]
@@ -215,6 +219,16 @@ def by_compiler(file, language, way, module, c):
             raise Refused(f"{refused}, and {way.mapping} has no row {', '.join(missing)}", refused.before) from None
         raise
     return [compiler.version(), " ".join(each for each in flags if each not in of_mapping)]
+
+
+def check_rows(name):
+    """Refuses a mapping in which a row's load or store stands in one line with another instruction."""
+    text = text_of(mapping_of(name)).replace("\\\n", " ")
+    for row, own, body in re.findall(r"^[ \t]*#[ \t]*define[ \t]+((?:LOAD|STORE)_\w+)\((\w+)\)(.*)", text, re.MULTILINE):
+        before = re.search(rf'"((?:[^"\\]|\\.)*)"\s*{own}\b', body)
+        after = re.search(rf'\b{own}\s*"((?:[^"\\]|\\.)*)"', body)
+        if before and not ENDED.search(before[1]) or after and not BEGUN.match(after[1]):
+            raise Refused(f'{name}: {row}: rows need \\n\\t between instructions, as in {own} "\\n\\tfence r,rw"')
 
 
 def missing_rows(compiler, name, folders):
@@ -232,7 +246,7 @@ def missing_rows(compiler, name, folders):
 
 def noted(sources):
     """What gives for each hart the comments beside its instructions: the number of the line in the first source, and its text
-    where it is another than the one before; lines of others have their names. A cell's comment has no `|` and no `;`."""
+    where it is another than the one before; lines of others have their names."""
     first, lines = next(iter(sources)), {name: text.split("\n") for name, text in sources.items()}
 
     def lines_of(instruction):
@@ -249,8 +263,7 @@ def noted(sources):
             if not 1 <= instruction.line <= len(there):
                 return instruction.where()
             is_same, before = place == before, place
-            text = re.sub(r"[^\x20-\x7e]", " ", there[instruction.line - 1]).strip(" ;{}")
-            text = " ".join(text.replace("|", "¦").replace(";", ",").replace("(*", "( *").replace("*)", "* )").split())
+            text = c_lines.in_cell(there[instruction.line - 1])
             text = text if len(text) <= LONGEST else text[:LONGEST - 2] + ".."
             number = str(instruction.line) if instruction.file == first else instruction.where()
             return number if is_same or not text else f"{number}: {text}"

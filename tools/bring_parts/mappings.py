@@ -115,9 +115,11 @@ class Comparison:
         kept, full = self.ways[KEPT], self.ways[FULL]
         needless = kept.fences - full.fences
         if needless:
-            yield f"{self.compiler}: {listed(needless)} aren't full: without them {told_added(self.added(FULL))}"
+            are, them = ("isn't", "it") if sum(needless.values()) == 1 else ("aren't", "them")
+            yield f"{self.compiler}: {listed(needless)} {are} full: without {them} {told_added(self.added(FULL))}"
         if full.fences:
-            yield f"{self.compiler}: {listed(full.fences)} are full: without any fence {told_added(self.added(NONE))}"
+            are = "is" if sum(full.fences.values()) == 1 else "are"
+            yield f"{self.compiler}: {listed(full.fences)} {are} full: without any fence {told_added(self.added(NONE))}"
         if not kept.fences:
             yield f"{self.compiler}: there is no fence"
         if RVWMO in self.ways and ZTSO in self.ways:

@@ -25,16 +25,17 @@ class Placed:
 
 class Memory:
     """The names and opening values of memory's words. Word 0 has a name of its own, since its address is that of a
-    null pointer. `longer` has for an object its author's longer name of it."""
+    null pointer. `longer` has for an object its author's longer name of it, and `is_described` says whether there is debugging information of any."""
 
-    def __init__(self, values, objects, longer=()):
-        self.values, self.names = values, [None] * len(values)
+    def __init__(self, values, objects, longer=(), is_described=True):
+        self.values, self.names, self.is_described = values, [None] * len(values), is_described
         self.longer = {full: name for name, full in dict(longer).items() if full != name}
         # the word of an object's name, and of its further words; that of a part by its name; and the names of what has
         # fewer than 4 bytes
         self.places, self.parts, self.small = {}, {}, {each.name for each in objects if each.size < 4}
-        # where objects and parts of them begin, by their names
+        # where objects and parts of them begin, and how many bytes each part has, by their names
         self.begins = {part.name: each.at + part.at for each in objects for part in each.parts} | {each.name: each.at for each in objects}
+        self.sizes = {part.name: part.size for each in objects for part in each.parts}
         called = self.called_by_parts(objects)
         words = [(each.at // 4 + at, each.name, at) for each in objects for at in range((each.size + 3) // 4 or 1)]
         for place, name, at in sorted(words, key=lambda word: word[2]):
@@ -79,7 +80,7 @@ class Memory:
         shape = re.fullmatch(r"(.+?)(?:\[([0-9]+)\])?", text)
         place = self.parts.get(text, self.places.get((shape[1], int(shape[2] or 0))) if shape else None)
         if place is None and text not in self.names:
-            raise Refused(f"{what} {text}, which is no shared word: {self.there()}")
+            raise Refused(f"{what} {text}, which is no shared word: {self.there()}{self.undescribed(text)}")
         return text if place is None else self.names[place]
 
     def there(self):
@@ -87,6 +88,13 @@ class Memory:
         known = [name for name in self.begins if not re.search(r"\[[1-9]", name)
                  and not any(other.startswith((f"{name}.", f"{name}[")) for other in self.begins)]
         return f"there are {', '.join(known[:SHOWN])}" + ", .." * (len(known) > SHOWN) if known else "there are none"
+
+    def undescribed(self, text, by_bytes=False):
+        """What helps if the text may be a part of an object of which there is no debugging information."""
+        name = re.split(r"[.\[+]", text)[0]
+        if self.is_described or name == text or name not in self.begins:
+            return ""
+        return "; compile with -g" + f", or say {name}+BYTES" * by_bytes
 
     def address(self, text):
         """Where an object begins or a part of one, as its author calls it; or what has this name in the text, and `name+4` bytes on."""
@@ -98,7 +106,7 @@ class Memory:
         if begins is None and name.isdigit():
             begins = int(name)
         if begins is None or bytes_on and not bytes_on.isdigit():
-            raise Refused(f"{whole} is no place of the program: {self.there()}")
+            raise Refused(f"{whole} is no place of the program: {self.there()}{self.undescribed(text, True)}")
         return begins + int(bytes_on or 0)
 
     def value(self, text, what):

@@ -17,12 +17,12 @@ SHORTER = {"addiw": "addi", "addw": "add", "subw": "sub", "sllw": "sll", "srlw":
 # pseudoinstructions, by what they stand for
 LONGER = {"bgt": "blt {1},{0},{2}", "ble": "bge {1},{0},{2}", "bgtu": "bltu {1},{0},{2}", "bleu": "bgeu {1},{0},{2}",
           "bltz": "blt {0},x0,{1}", "bgez": "bge {0},x0,{1}", "bgtz": "blt x0,{0},{1}", "blez": "bge x0,{0},{1}",
-          "sltz": "slt {0},{1},x0", "sgtz": "slt {0},x0,{1}", "sext.w": "addi {0},{1},0", "b": "jal x0,{0}"}
+          "sltz": "slt {0},{1},x0", "sgtz": "slt {0},x0,{1}", "sext.w": "addi {0},{1},0", "b": "jal x0,{0}", "pause": "fence w,0"}
 REASONS = [(r"(lr|sc)\.[wd](\..*)?", "ztso has no LR and SC"),
            (r"l[bhwd]u?\.aq.*|s[bhwd]\.rl.*", "a load or store with an ordering, which is no instruction"),
            (r"csr.*|rd.*", "a control register"), (r"f[ls][wd]|f.*\.[sd]", "floating point"),
            (r"mul.*|div.*|rem.*", "the M extension"), (r"c\..*", "a compressed instruction"),
-           (r"cbo.*|prefetch.*|pause", "a hint or a cache operation"),
+           (r"cbo.*|prefetch.*", "a cache operation"),
            (r"jr|call|tail|la|lla", "it needs addresses of code or of symbols"),
            (r"amo.*\.[bh](\..*)?|amocas.*", "ztso has the word AMOs of the A extension alone")]
 ITEM = re.compile(r"(?:((?:\w+ )*\w+) ?(\**) ?(?<=[ *]))?(?:([0-9]+) ?: ?)?\[?([A-Za-z_]\w*)\]?(\[[0-9]*\])?"
@@ -75,6 +75,8 @@ def item(text, objects):
         number = assembly.integer(value)
         if size >= 4 and not -1 << 31 <= number < 1 << 32:
             raise Refused(f"init: `{text}`: more than 32 bits")
+        if size == 8 and number >> 31 == 1:
+            raise Refused(f"init: `{text}`: 32 bits without a sign, which as a word would be negative")
         if size < 4 and not 0 <= number < 1 << 8 * size:
             raise Refused(f"init: `{text}`: as a word it isn't what `{kind}` holds")
     elif not re.fullmatch(r"[A-Za-z_]\w*", value):

@@ -1,0 +1,102 @@
+"""What helps after an answer of `ztso queue`."""
+
+import re
+
+from bring_parts import compilers
+from bring_parts.queue_types import counted
+from certify_parts.queues import Queue
+from certify_parts.tags import Tagged
+
+NO_USE = re.compile(r"no instruction (loads from|stores to) a slot")
+REMEDIES = {"loads from": "the compiler leaves out a load whose value nobody uses: store what was received to a volatile object, or return it",
+            "stores to": "the compiler leaves out a store that nobody can read: let both functions use one global object"}
+DIVIDES = ("`%` and `/` by what is no power of two are loops here if the quotient is above 1, and of the result nothing is known: count as in "
+           "`i + 1 == N ? 0 : i + 1`, with index=wrapping, or take N slots that are a power of two")
+COPIES = "a copy by a loop, as memcpy's is here, and that of a large struct, isn't covered: assign the record's fields one by one"
+# the functions of support.c that divide, and those that copy
+DIVISION, COPYING = {"divided", "size_of", "__udivsi3", "__umodsi3", "__divsi3", "__modsi3"}, {"memcpy", "memset"}
+SUPPORT = re.compile(r"support\.c:([0-9]+)")
+REFUSED = re.compile(r"hart ([0-9]+) is not covered: at pc ([0-9]+)")
+BROKEN = re.compile(r"queue ([0-9]+): it stored ")
+DRAWN = re.compile(r"queue ([0-9]+): kept in ([0-9]+) drawn runs of ([0-9]+) events, in which ([0-9]+) positions were published")
+QUEUE = re.compile(r"^(queue|tagged) (.*)$", re.MULTILINE)
+# to which length longer runs are proposed, how many of them, and to how many counts an index is thought to turn in one
+LONGEST, FEW_RUNS, MOST_COUNTS = 100_000, 20, 1 << 16
+
+
+def queues_of(certificate):
+    """The queues of a certificate's text."""
+    kinds = {"queue": Queue, "tagged": Tagged}
+    return [kinds[kind](*(int(word) if word.isdigit() else word for word in words.split())) for kind, words in QUEUE.findall(certificate)]
+
+
+def support_function(note):
+    """The function of support.c of which an instruction's note names a line, or None."""
+    shape = SUPPORT.match(note)
+    lines = (compilers.HERE / "c/support.c").read_text().split("\n")[:int(shape[1])] if shape else ()
+    heads = [re.match(r"[a-z].*?(\w+)\(", line) for line in lines]
+    return next((head[1] for head in reversed(heads) if head), None)
+
+
+def of_uncovered(answer, notes):
+    """What helps where the search found nothing of a hart."""
+    for hart, pc in REFUSED.findall(answer):
+        of_hart = [support_function(note) for note in notes[int(hart)]] if int(hart) < len(notes) else []
+        at = of_hart[int(pc) // 4] if int(pc) // 4 < len(of_hart) else None
+        if at not in COPYING and DIVISION & set(of_hart):
+            yield DIVIDES
+        elif COPYING & set(of_hart):
+            yield COPIES
+
+
+def of_use(answer):
+    """What helps where the compiler left out what the queue is for."""
+    if shape := NO_USE.search(answer):
+        yield REMEDIES[shape[1]]
+
+
+def counting(queue):
+    """How a queue's indices count, in words."""
+    if (queue.base, queue.scale, queue.offset) != (0, 1, 0) or queue.modulus not in (queue.size, 256 ** queue.index_width):
+        return f"whose word of count n is {queue.base} + {queue.scale} * ((n + {queue.offset}) mod {queue.modulus})"
+    return "that go back to 0 after the last slot" if queue.modulus == queue.size else "that count on"
+
+
+def or_described_wrong(number, queue):
+    """What is to be looked at where a queue is broken."""
+    slots = f"{counted(queue.size, 'slot')} of {counted(queue.width, 'byte')}"
+    if queue.has_tags:
+        told = "0 where it is free" if queue.tells == "zero" else "the position's number where it is free"
+        form = f"{slots} with the tag in bytes {queue.tag_offset}-{queue.tag_offset + queue.tag_width - 1} of each, {told}"
+        keys = "size=, width=, tag=, tells=, sender= and receiver="
+    else:
+        form = f"{slots} with indices of {counted(queue.index_width, 'byte')} {counting(queue)}"
+        keys = f"size=, width=, bytes=, index={'counting' if queue.modulus == queue.size else 'wrapping'}, and whether head= and tail= are exchanged"
+    return f"if queue {number} isn't {form}, the fault is in its description: see {keys}"
+
+
+def longer(number, queue, drawn):
+    """What to try where drawn runs of a queue that isn't shown came only so far, or None."""
+    runs, length, published = map(int, drawn)
+    turn = queue.size if queue.has_tags or queue.modulus > MOST_COUNTS else max(queue.size, queue.modulus)
+    proposed = min(LONGEST, 1000 * -(-2 * turn * length * runs // (max(published, 1) * 1000)))
+    if published >= 2 * turn * runs or proposed <= length:
+        return None
+    return (f"queue {number}: the runs published about {round(published / runs, 1):g} positions each, and one turn of its "
+            f"{'slots' if turn == queue.size else 'index'} is {turn}: try --length {proposed} --runs {FEW_RUNS}")
+
+
+def added(lines, found, notes, certificate):
+    """The lines of an answer, with what helps: of a broken queue after what was stored, of one that isn't shown at the end. `found` is what
+    tools/certify says of the harts."""
+    queues, is_broken, said, more = queues_of(certificate), False, "", []
+    for line in lines:
+        yield line
+        said += f"{line}\n"
+        if shape := BROKEN.match(line):
+            is_broken = True
+            yield or_described_wrong(int(shape[1]), queues[int(shape[1])])
+        if shape := DRAWN.match(line):
+            more.append(longer(int(shape[1]), queues[int(shape[1])], shape.groups()[1:]))
+    if not is_broken:
+        yield from filter(None, [*of_use(said), *dict.fromkeys(of_uncovered(found, notes)), *more])
