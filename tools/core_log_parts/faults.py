@@ -1,5 +1,8 @@
 """What is wrong with a run's log, and a record can't say: each fault with the line of the log where it shows."""
 
+from typing import NamedTuple
+
+from .event import Event
 from .log import Drained, Retired, Trapped
 from .record import ECALL, FETCH_FAULT, has_landings
 
@@ -7,20 +10,42 @@ from .record import ECALL, FETCH_FAULT, has_landings
 JUMPS = (0x63, 0x67, 0x6F)
 
 
+class Note(NamedTuple):
+    """A fault: its kind, `drain`, `order`, `code` or `cut`, what is said of it, and the step that shows it, if one does."""
+    kind: str
+    text: str
+    step: object = None
+
+
+def refused(letter="a", hart=0):
+    """An event that `ztso check` refuses: the test has this hart, so no run has this outcome."""
+    return Event(letter, hart, "nohart", (), None)
+
+
+def ended(events, notes):
+    """The events of a run with these faults: up to the first event that shows one, or all, and then one that is refused."""
+    if not notes:
+        return events
+    steps = {id(note.step) for note in notes if note.step}
+    for number, event in enumerate(events, 1):
+        if id(event.step) in steps:
+            return [*events[:number], refused(event.letter, event.hart)]
+    return [*events, refused()]
+
+
 def faults(run, opening, events, order):
-    """The faults of a run with these events in this order: their kinds, `drain`, `order`, `code` and `cut`, and what is
-    said of them."""
+    """The faults of a run with these events in this order."""
     if has_landings(run):
         yield from drains(run, events)
     elif run.has_drains and order != "placed":
-        yield "drain", "it has stores and no line `drain`: --order placed searches for the landings of such a log"
+        yield Note("drain", "it has stores and no line `drain`: --order placed searches for the landings of such a log")
     yield from backward(run)
     yield from other_words(run, opening)
-    yield from (("cut", note) for note in run.notes)
+    yield from (Note("cut", note) for note in run.notes)
     if run.timed_out:
-        yield "cut", f"the run was cut after {run.cycles} cycles"
+        yield Note("cut", f"the run was cut after {run.cycles} cycles")
     elif run.cycles is None:
-        yield "cut", f"the run that begins in line {run.line} has no line `end`: the log was cut"
+        yield Note("cut", f"the run that begins in line {run.line} has no line `end`: the log was cut")
     else:
         yield from unended(run, opening)
 
@@ -38,11 +63,11 @@ def drains(run, events):
             if oldest is None or (step.address, step.lanes, step.data) != (oldest.address, oldest.write_lanes, oldest.written):
                 drained = store_text(step.address, step.lanes, step.data)
                 kept = store_text(oldest.address, oldest.write_lanes, oldest.written) if oldest else "none"
-                yield "drain", f"line {step.line}: hart {step.hart} drains {drained}, its oldest store is {kept}"
+                yield Note("drain", f"line {step.line}: hart {step.hart} drains {drained}, its oldest store is {kept}", step)
     if run.cycles is not None and not run.timed_out:
         for store in (store for hart in sorted(pending) for store in pending[hart]):
             text = store_text(store.address, store.write_lanes, store.written)
-            yield "drain", f"line {store.line}: hart {store.hart} stores {text}, and no line `drain` lets it out"
+            yield Note("drain", f"line {store.line}: hart {store.hart} stores {text}, and no line `drain` lets it out")
 
 
 def store_text(address, lanes, data):
@@ -56,8 +81,8 @@ def backward(run):
         if not isinstance(step, Drained):
             above = last.get(step.hart)
             if above and step.cycle < above.cycle:
-                yield "order", (f"line {step.line}: hart {step.hart} retires in cycle {step.cycle} what stands after line "
-                                f"{above.line}, of cycle {above.cycle}: a hart's lines go in its program's order")
+                yield Note("order", f"line {step.line}: hart {step.hart} retires in cycle {step.cycle} what stands after line "
+                           f"{above.line}, of cycle {above.cycle}: a hart's lines go in its program's order", step)
             last[step.hart] = step
 
 
@@ -71,7 +96,8 @@ def other_words(run, opening):
         word = code[place] if place < len(code) and step.pc % 4 == 0 else None
         if step.insn != word:
             there = "has no instruction" if word is None else f"has {word:08x}"
-            yield "code", f"line {step.line}: hart {step.hart} has {step.insn:08x} at pc {step.pc:x}, where its code {there}"
+            yield Note("code", f"line {step.line}: hart {step.hart} has {step.insn:08x} at pc {step.pc:x}, where its code {there}",
+                       step)
 
 
 def unended(run, opening):
@@ -80,6 +106,6 @@ def unended(run, opening):
     for hart, code in enumerate(opening.codes):
         step = last.get(hart)
         if step is None and code:
-            yield "cut", f"hart {hart} has {len(code)} words of code and no line; of RVFI or Spike, is --code right?"
+            yield Note("cut", f"hart {hart} has {len(code)} words of code and no line; of RVFI or Spike, is --code right?")
         elif isinstance(step, Retired) and step.insn & 0x7F not in JUMPS and step.insn != ECALL and step.pc + 4 < 4 * len(code):
-            yield "cut", f"line {step.line}: hart {hart}'s last instruction is at pc {step.pc:x}, and its code goes on"
+            yield Note("cut", f"line {step.line}: hart {hart}'s last instruction is at pc {step.pc:x}, and its code goes on")

@@ -3,20 +3,21 @@
 import re
 from dataclasses import dataclass, field
 
-# decimal and hex, of 64 bits at most
-D, H = "[0-9]{1,20}", "[0-9A-Fa-f]{1,16}"
-# the fields of each line: decimal or hex. What begins with any other word is no line of the log
-SHAPES = {
-    "run": (D,),
-    "retire": (D, D, H, H, D, H, H, H, H, H, H, f"{D}|-"),
-    "trap": (D, D, H, H, D),
-    "drain": (D, D, H, H, H),
-    "end": (D,),
-    "timeout": (D,),
-    "hart": (D, D, D),
-    "reg": (D, D, D),
-    "word": (D, D),
-}
+# the fields of each line, decimal or, where marked, hex. What begins with any other word is no line of the log
+HEX = "ₕ"
+SHAPES = {kind: tuple(fields.split()) for kind, fields in {
+    "run": "SEED",
+    "retire": "CYCLE HART PCₕ INSNₕ RD RD_WDATAₕ ADDRₕ RMASKₕ WMASKₕ RDATAₕ WDATAₕ PERFORMED",
+    "trap": "CYCLE HART PCₕ INSNₕ CAUSE",
+    "drain": "CYCLE HART ADDRₕ MASKₕ DATAₕ",
+    "end": "CYCLES",
+    "timeout": "CYCLES",
+    "hart": "HART PC PENDING",
+    "reg": "HART NUMBER VALUE",
+    "word": "ADDR VALUE",
+}.items()}
+# numbers of 64 bits at most
+DECIMAL, HEXADECIMAL = re.compile("[0-9]{1,20}"), re.compile("[0-9A-Fa-f]{1,16}")
 
 
 class LogError(Exception):
@@ -89,15 +90,21 @@ MOST_SKIPPED = 20
 
 def fields_of(kind, words, number):
     """The numbers of a line."""
-    shapes = SHAPES[kind]
-    if len(words) != len(shapes):
-        raise LogError(f"line {number}: `{kind}` has {len(shapes)} fields, not {len(words)}")
-    for word, shape in zip(words, shapes):
-        if not re.fullmatch(shape, word):
-            raise LogError(f"line {number}: `{word[:40]}` is no field of `{kind}`")
-    if words[-1] == "-":
+    fields = SHAPES[kind]
+    if len(words) != len(fields):
+        raise LogError(f"line {number}: `{kind}` has {len(fields)} fields, not {len(words)}")
+    if fields[-1] == "PERFORMED" and words[-1] == "-":
         words = [*words[:-1], words[0]]
-    return [int(word, 16 if shape == H else 10) for word, shape in zip(words, shapes)]
+    return [number_of(field, word, number) for field, word in zip(fields, words)]
+
+
+def number_of(field, word, number):
+    """The number of a field of a line."""
+    name, is_hex = field.removesuffix(HEX), field.endswith(HEX)
+    if not (HEXADECIMAL if is_hex else DECIMAL).fullmatch(word):
+        taken = "1 to 16 hex digits" if is_hex else "1 to 20 decimal digits" + " or `-`" * (name == "PERFORMED")
+        raise LogError(f"line {number}: {name} is `{word[:40]}`: it takes {taken}")
+    return int(word, 16 if is_hex else 10)
 
 
 def is_of_words(step):
