@@ -1,5 +1,5 @@
 /* Three records published by one store, and a receiver that takes all that wait.
-   queue: head=q_sent,tail=q_taken,slots=q_word,size=8
+   queue: head=q.sent,tail=q.taken,slots=q.word,size=8
    answer: kept in every run */
 #include <stdatomic.h>
 

@@ -1,5 +1,5 @@
 /* Sends addresses of buffers of a pool: the receiver writes into what it received, and so into the pool alone.
-   queue: head=q_head,tail=q_tail,slots=q_at,size=4
+   queue: head=q.head,tail=q.tail,slots=q.at,size=4
    answer: kept in every run */
 #include <stdatomic.h>
 

@@ -1,5 +1,5 @@
 /* A ring of bytes: width=1 says that a slot is one byte.
-   queue: head=q_in,tail=q_out,slots=q_data,size=16,width=1
+   queue: head=q.in,tail=q.out,slots=q.data,size=16,width=1
    answer: kept in every run */
 #include <stdatomic.h>
 #include <stdint.h>

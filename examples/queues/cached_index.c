@@ -1,5 +1,5 @@
 /* Each party keeps a copy of the other's index, and looks again only where the copy says full or empty.
-   queue: head=q_sent,tail=q_taken,slots=q_word,size=8
+   queue: head=q.sent,tail=q.taken,slots=q.word,size=8
    answer: kept in every run */
 #include <stdatomic.h>
 

@@ -1,6 +1,6 @@
 /* Numbers of buffers, which go there full and come back free. Both queues open empty: hart 1 first sends all buffers to the free list.
-   queue: head=full_sent,tail=full_taken,slots=full_word,size=2
-   queue: head=free_sent,tail=free_taken,slots=free_word,size=2,sender=1,receiver=0
+   queue: head=full.sent,tail=full.taken,slots=full.word,size=2
+   queue: head=free.sent,tail=free.taken,slots=free.word,size=2,sender=1,receiver=0
    answer: kept in every run */
 #include <stdatomic.h>
 

@@ -1,5 +1,5 @@
 /* Records of 12 bytes, filled where they lie: the slots have the name of their first field.
-   queue: head=q_sent,tail=q_taken,slots=q_record_0_time,size=4,width=12
+   queue: head=q.sent,tail=q.taken,slots=q.record,size=4,width=12
    answer: kept in every run */
 #include <stdatomic.h>
 

@@ -1,5 +1,5 @@
 /* Counts that run on in a word: a power of 2 for the slots, and all of them in use.
-   queue: head=q_sent,tail=q_taken,slots=q_word,size=8
+   queue: head=q.sent,tail=q.taken,slots=q.word,size=8
    answer: kept in every run */
 #include <stdatomic.h>
 

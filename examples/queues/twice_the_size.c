@@ -1,5 +1,5 @@
 /* Numbers modulo twice the slots: any number of slots, and all of them in use.
-   queue: head=q_put,tail=q_get,slots=q_word,size=5,index=wrapping,modulus=10
+   queue: head=q.put,tail=q.get,slots=q.word,size=5,index=wrapping,modulus=10
    answer: kept in every run */
 #include <stdatomic.h>
 

@@ -66,8 +66,8 @@ def check_run(report, asked, entry, test, run, events, line):
             report.add("refused", run.seed, lambda: line)
         return
     found = list(faults.faults(run, test, events, asked.order))
-    for kind, words in {kind: words for kind, words in reversed(found)}.items():
-        report.add(kind, run.seed, lambda words=words: words)
+    for note in {note.kind: note for note in reversed(found)}.values():
+        report.add(note.kind, run.seed, lambda note=note: note.text)
     if line not in (judge.ACCEPTED, judge.UNFINISHED):
         report.add("refused", run.seed, lambda: explaining.refused(asked, path, events, line))
         return

@@ -8,6 +8,9 @@ from core_log_parts.log import Drained
 
 from . import judge
 
+# the opcodes of STORE, BRANCH, MISC-MEM and SYSTEM, whose instructions write no register
+WITHOUT_RD = (0x23, 0x63, 0x0F, 0x73)
+
 
 def refused(asked, path, events, line):
     """The line of a refused record with its event's pc, and the chart of what led to it."""
@@ -54,12 +57,19 @@ def blocks(output):
     yield block
 
 
+def written_register(insn):
+    """The number of the register that an instruction writes, or 0."""
+    return 0 if insn & 0x7F in WITHOUT_RD else insn >> 7 & 31
+
+
 def different(step, before, after):
     """What a step of the log has otherwise than the machine, or nothing."""
     pc = int(before[0].split()[-3])
     if step.pc != pc:
         return f"the core is at pc {step.pc}, the machine at {pc}"
     rd = getattr(step, "rd", 0)
+    if rd and rd != (meant := written_register(step.insn)):
+        return f"the core writes x{rd}, the instruction {f'x{meant}' if meant else 'no register'}"
     value = int(dict(line.split(" = ") for line in after[1:]).get(f"x{rd}", 0))
     if rd and step.rd_value != value:
         return f"the core writes {step.rd_value} to x{rd}, the machine {value}"

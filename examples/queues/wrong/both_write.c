@@ -1,5 +1,5 @@
 /* A sender that finds the queue full drops the oldest record: both harts write one index.
-   queue: head=q_sent,tail=q_taken,slots=q_word,size=8
+   queue: head=q.sent,tail=q.taken,slots=q.word,size=8
    answer: hart 0 at line 17 */
 #include <stdatomic.h>
 

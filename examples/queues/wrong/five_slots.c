@@ -1,5 +1,5 @@
 /* Five slots and a count that runs on in a word: 2^32 is no multiple of 5, so slots are skipped where the count wraps.
-   queue: head=q_sent,tail=q_taken,slots=q_word,size=5
+   queue: head=q.sent,tail=q.taken,slots=q.word,size=5
    answer: not shown: hart 0 at line 17 */
 #include <stdatomic.h>
 

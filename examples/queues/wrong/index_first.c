@@ -1,5 +1,5 @@
 /* The index moves on before the record is stored, so the receiver may read what stood there.
-   queue: head=q_sent,tail=q_taken,slots=q_word,size=8
+   queue: head=q.sent,tail=q.taken,slots=q.word,size=8
    answer: hart 0 at line 18 */
 #include <stdatomic.h>
 

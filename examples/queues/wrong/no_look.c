@@ -1,5 +1,5 @@
 /* The sender never looks at the other index, so it fills slots that still wait to be read.
-   queue: head=q_sent,tail=q_taken,slots=q_word,size=8
+   queue: head=q.sent,tail=q.taken,slots=q.word,size=8
    answer: hart 0 at line 15 */
 #include <stdatomic.h>
 

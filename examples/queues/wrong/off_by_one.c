@@ -1,5 +1,5 @@
 /* The test for a full queue is off by one, so a record is overwritten.
-   queue: head=q_sent,tail=q_taken,slots=q_word,size=8
+   queue: head=q.sent,tail=q.taken,slots=q.word,size=8
    answer: hart 0 at line 17 */
 #include <stdatomic.h>
 

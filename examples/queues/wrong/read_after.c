@@ -1,5 +1,5 @@
 /* The receiver reads a slot after it gave it back.
-   queue: head=q_sent,tail=q_taken,slots=q_word,size=8
+   queue: head=q.sent,tail=q.taken,slots=q.word,size=8
    answer: reads of hart 1 at line 29 */
 #include <stdatomic.h>
 

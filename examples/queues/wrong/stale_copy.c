@@ -1,5 +1,5 @@
 /* The sender moves its copy of the other index on without a look, where the copy says full.
-   queue: head=q_sent,tail=q_taken,slots=q_word,size=8
+   queue: head=q.sent,tail=q.taken,slots=q.word,size=8
    answer: hart 0 at line 21 */
 #include <stdatomic.h>
 
