@@ -6,7 +6,7 @@ import tempfile
 from collections import Counter
 from pathlib import Path
 
-from bring_parts import ROOT, Refused, compilers, compressed, instructions, making, search
+from bring_parts import ROOT, Refused, compilers, instructions, making, search
 from bring_parts.instructions import Instruction
 from bring_parts.making import Way
 from bring_parts.mappings import joined
@@ -100,7 +100,7 @@ def half_words(count):
         listings = [listed(folder, [f".insn 2, {value}" for value in every], "rv32ic", options)
                     for options in ("numeric", "numeric,no-aliases")]
         pairs = [(shown, Instruction(at, name, operands, "", 0)) for (_, *shown), (at, name, operands) in zip(*listings)]
-        made = [(shown, before, compressed.expanded(before)) for shown, before in pairs]
+        made = [(shown, before, instructions.expanded(before)) for shown, before in pairs]
         # a shift by more than 31 is none of RV32's
         made = [each for each in made if each[2] is not each[1] and not re.fullmatch(r"s[lr][la]i .*,0x[2-3].", written(each[2]))]
         jumps = [each for each in made if each[2].name in instructions.JUMPS]

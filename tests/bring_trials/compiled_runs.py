@@ -6,8 +6,10 @@ import tempfile
 from pathlib import Path
 from xml.dom import minidom
 
-from bring_parts import Refused, dwarf, fields, memory
+from bring_parts import Refused, c_lines, dwarf, fields, memory
 from bring_trials.counting import run, write
+
+import litmus
 
 # struct { atomic int head; struct { short low; } in[2]; struct empty {} none[1000][1000]; int m[2][2]; } q; the
 # `name` of one has its place in a table of strings before it, as two compilers write them
@@ -122,6 +124,13 @@ def names(count):
     count.told("what is no word", refused == "asks for q.in, which is no shared word: there are q.head, q.in[0].low, q.m[0][0]", refused)
     asked = [words.address(text) for text in ("q.head", "q", "q.in", "q.in[1].low", "q.m", "q.m[1][0]", "q+6", "q_m_1_1", "null", "12")]
     count.told("places that C names", asked == [4, 4, 8, 12, 16, 24, 10, 28, 0, 12], str(asked))
+    bare = memory.Memory([0] * 8, [memory.Placed(4, 28, "q")], is_described=False)
+    for text, wanted in (("q.tail", "there are q; compile with -g, or say q+BYTES"), ("r.tail", "there are q")):
+        try:
+            refused = bare.address(text)
+        except Refused as error:
+            refused = str(error)
+        count.told(f"a part without debugging information, {text}", refused == f"{text} is no place of the program: {wanted}", str(refused))
     for text in ("q.tail", "q+x", "40x"):
         try:
             refused = words.address(text)
@@ -129,6 +138,25 @@ def names(count):
             refused = str(error)
         wanted = f"{text} is no place of the program: there are q.head, q.in[0].low, q.m[0][0]"
         count.told(f"what is no place, {text}", refused == wanted, str(refused))
+
+
+# lines of a source, and how they are shown
+SHOWN = [("  for (int i = 0; i < 2; i++) {", "for (int i = 0; i < 2; i++)"), ("\t} else {", "else"), ("if (x) { y = a | b; }", "if (x) { y = a | b; }"),
+         ("return (*p)(&q);  }", "return (*p)(&q)"), ("x = (int *)p; // é", "x = (int *)p; //")]
+# the comments of a hart's cells, and what stands beside rows of them
+UNKNOWN = [("at 0x0", "P0 at 0x0 (no debugging information)"), ("at 0x1c", "P0 at 0x1c"), ("4: x = 1", "P0 4: x = 1")]
+
+
+def lines_in_cells(count):
+    """A line of a source goes through a cell's comment to who reads it; of code without lines that is said once."""
+    for line, wanted in SHOWN:
+        cell = c_lines.in_cell(line)
+        test = litmus.read(f"RISCV t\n{{ }}\n P0 ;\n nop # 4: {cell} ;\nexists (x=0)\n")
+        count.told(f"the line {line!r}", next(c_lines.notes_of(test)) == [f"4: {wanted}"], cell)
+    rows = "".join(f" nop # {comment} ;\n" for comment, _ in UNKNOWN)
+    notes = next(c_lines.notes_of(litmus.read(f"RISCV t\n{{ }}\n P0 ;\n{rows}exists (x=0)\n")))
+    shown = c_lines.shown_notes(range(len(notes)), {at: (0, note) for at, note in enumerate(notes)})
+    count.told("code without lines", list(shown.values()) == [wanted for _, wanted in UNKNOWN], str(shown))
 
 
 # names for which a picture has no room, and what is said of their addresses
@@ -161,6 +189,7 @@ def as_svg(count, printed, error):
 
 def part(count, program):
     names(count)
+    lines_in_cells(count)
     with tempfile.TemporaryDirectory() as folder:
         file, schedule = write(folder, "t.litmus", TEXT), write(folder, "t.schedule", SCHEDULE)
         for words, wanted in BESIDE.items():

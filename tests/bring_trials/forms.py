@@ -19,6 +19,16 @@ OPTIONS = [(["--flag=-O0"], 0, "-fno-ipa-icf -O0"), (["--flag=-no-such-flag"], 2
            (["--compiler", "clang -Wall"], 0, "clang version"), (["--compiler", "true"], 2, "true makes no object"),
            (["--compiler", "false"], 2, "said nothing"), (["--fences", "full"], 0, "--fences full"),
            (["--lines"], 0, "# 2: int P0(void) { return x")]
+# C of which a mapping takes not every operation, and what is said of it
+MAPPED = [("_Atomic unsigned long long x;\nint P0(void) { atomic_store_explicit(&x, 0x1ff, memory_order_release); return 0; }\n",
+           "c.c:3: a mapped load or store has 1, 2 or 4 bytes"),
+          ("_Atomic unsigned long long x;\nint P0(void) { return (int)atomic_load_explicit(&x, memory_order_acquire); }\n",
+           "c.c:3: a mapped load or store has 1, 2 or 4 bytes"),
+          ("_Atomic struct { int a, b; } x;\nint P0(void) {\n  return atomic_load(&x).a; }\n", "c.c:4: a mapped load or store has 1, 2 or 4 bytes"),
+          ("_Atomic struct { short a, b; } x;\nint P0(void) { return atomic_load(&x).a; }\n", "c.c:3: a mapped load or store takes a number or"),
+          ("_Atomic unsigned char x;\nint P0(void) { return atomic_fetch_add(&x, 1); }\n", "c.c:3: a mapped AMO has 4 bytes"),
+          ("_Atomic unsigned char x; atomic_int *_Atomic p; _Atomic short h; _Atomic enum { A } e; atomic_int y;\n"
+           "int P0(void) { atomic_store(&x, 1); atomic_store(&p, &y); atomic_store(&h, 2); atomic_store(&e, A); return atomic_load(&x); }\n", "")]
 # where a form has states without end
 STATES = 3000
 
@@ -31,6 +41,17 @@ def answer(path, way):
         return None, "refused: " + str(refused).split("\n")[0]
     found = search.outcomes(text, 4, STATES)
     return text, (" ".join(map(joined, sorted(found.schedules))) + " and more" * found.cut).strip()
+
+
+def mapped(count):
+    """What is said of C that a mapping doesn't take."""
+    with tempfile.TemporaryDirectory() as folder:
+        for code, wanted in MAPPED:
+            path = counting.write(folder, "c.c", f"#include <stdatomic.h>\n{code}// exists (0:a0=0)\n")
+            for compiler in COMPILERS:
+                text, came = answer(path, Way(compiler, mapping="ztso.h"))
+                is_good = came.startswith(f"refused: {wanted}") if wanted else text
+                count.told(f"a mapping by {compiler} of {code}", is_good, f"{came}, and {wanted} is wanted")
 
 
 def sources():

@@ -2,6 +2,7 @@
 
 import os
 import shutil
+import signal
 import subprocess
 import sys
 import tempfile
@@ -201,9 +202,9 @@ SOURCES = [
     from_c(C.replace("exists", f"init {ESCAPE}\n// exists"), 2, "`?[31m?2J?` is no item"),
     from_c(C.replace("(void)", f"({ESCAPE})"), 2, "the parameter `?[31m"),
     from_c(C, 2, f"there is no mapping a?", words=("--mapping", "a\x1b.h")),
-    to_record("run 1" + filled("1", 5000), 2, "is no field of `run`"),
-    to_record("run 1\nend " + filled("1", MIB), 2, "is no field of `end`"),
-    to_record("run 1\nretire 0 0 " + filled("f", 9000) + " 13 0 0 0 0 0 0 0 0\n", 2, "is no field of `retire`"),
+    to_record("run 1" + filled("1", 5000), 2, "it takes 1 to 20 decimal digits"),
+    to_record("run 1\nend " + filled("1", MIB), 2, "it takes 1 to 20 decimal digits"),
+    to_record("run 1\nretire 0 0 " + filled("f", 9000) + " 13 0 0 0 0 0 0 0 0\n", 2, "it takes 1 to 16 hex digits"),
     to_record("run 1\n" + "retire 1 0 0 532023 0 0 0 0 f 0 1 1\n" * 3000, 2, "more than 2000 acts",
               "--order", "placed"),
     to_record(filled("1"), 2, "it is no VCD", "--log", "rvfi"),
@@ -213,7 +214,7 @@ SOURCES = [
     to_record(filled("core   0: 3 0x"), 2, "--code gives", "--log", "spike"),
     to_record(f"core   0: exception {ESCAPE}, epc 0x0\n", 2, "--code gives", "--log", "spike"),
     to_record(f"core   9: 3 0x0 (0x13){ESCAPE}\n", 2, "the log has a hart 9", "--log", "spike"),
-    to_record(f"run 1\ndrain 1 0 0 f {ESCAPE}\n", 2, "`?[31m?2J?` is no field of `drain`"),
+    to_record(f"run 1\ndrain 1 0 0 f {ESCAPE}\n", 2, "DATA is `?[31m?2J?`: it takes 1 to 16 hex digits"),
     to_record(b"\xff\nrun 1\nend 1\n", 1, "hart 0 has 2 words of code and no line"),
     Row("compare-mappings", None, 2, "refused", words=("--compiler", "no-such-compiler")),
     *[row for tool in ("reference/explore", "reference/axioms") for row in (
@@ -263,6 +264,16 @@ def crash(count):
             count.told(f"{compiler} on {text!r} leaves nothing", not left, str(left))
 
 
+def unread(count):
+    """A reader that leaves before a tool prints is no fault."""
+    with tempfile.TemporaryDirectory() as folder:
+        path, (reads, writes) = write(folder, "sb.litmus", SB), os.pipe()
+        os.close(reads)
+        done = subprocess.run([TOOLS / "from-herd", path], stdout=writes, stderr=subprocess.PIPE, text=True, check=False)
+        os.close(writes)
+        count.told("a reader that leaves", (done.returncode, done.stderr) == (128 + signal.SIGPIPE, ""), done)
+
+
 def failure(job):
     """What is wrong with a row's answer, or nothing."""
     row, folder = job
@@ -286,3 +297,4 @@ def part(count):
             count.told(f"{row.tool} {row.words} on {text!r}, {stdin!r}", not wrong, wrong)
     missing(count)
     crash(count)
+    unread(count)

@@ -56,7 +56,7 @@ QUEUE_CALLS = """
 COLUMNS = [
     (["addi\tx10,x0,1", "jalr\tx0,0(x1)"], ["addi x10,x0,1"]), (["jalr\tx0,0(x1)"], []),
     (["fence\tw,unknown", "amoswap.w.aqrl\tx0,x5,(x6)"], ["fence w,0", "amoswap.w.aqrl x0,x5,(x6)"]),
-    (["jal\tx0,100000 <P0>"], ["L0: jal x0,L0"]),
+    (["pause", "jal\tx0,100000 <P0>"], ["L0: fence w,0", "jal x0,L0"]), (["jal\tx0,100000 <P0>"], ["L0: jal x0,L0"]),
     (["lr.w\tx5,(x6)"], "a.c:1: `lr.w x5,(x6)`: ztso has no LR and SC"),
     (["jalr\tx0,0(x15)"], "a jump to a computed place"), (["add\tx5,x5,x4"], "a thread-local variable"),
     (["mul\tx5,x5,x6"], "the M extension"), (["csrrw\tx0,cycle,x0"], "a control register"), (["unimp"], "unreachable"), (["wfi"], "privileged code"),
@@ -118,6 +118,13 @@ def sources(count):
     text = c_tests.c_text(source, results)
     count.told("a local is kept", results == [{"r0": "a0"}, {}] and text.count("result_a0") == 2, text)
     count.told("the code's lines", "#line 1 \"a__b_.c\"\n// A question" in text, text)
+    for kind, wanted in (("void *", True), ("const void*const ", True), ("void **", False), ("int *", False)):
+        source = c_source.read(f"int P0({kind}p) {{ return 0; }}\n// exists (0:a0=0)\n", "a.c")
+        try:
+            said = c_tests.c_text(source, c_tests.results_of(source))
+        except Refused as refused:
+            said = str(refused)
+        count.told(f"a parameter {kind}", said.startswith("P0's parameter `p` is a void *: ") == wanted, said)
     words = memory.Memory([0, 7, 0, 0, 0, 0, 0], [Placed(4, 4, "x"), Placed(8, 8, "y.0"), Placed(16, 4, "y_0_1"), Placed(20, 4, "null")])
     words.open({"x": ["null"]})
     words.push_stack(0, 4)

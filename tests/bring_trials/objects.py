@@ -4,7 +4,7 @@ import tempfile
 from pathlib import Path
 from types import SimpleNamespace
 
-from bring_parts import Refused, arguments, compressed, dwarf, fields, functions, instructions, memory, questions
+from bring_parts import Refused, arguments, dwarf, fields, functions, instructions, memory, questions
 from bring_parts import objects as tried
 from bring_parts.instructions import TEXT, Instruction
 from bring_parts.objects import Symbol
@@ -33,10 +33,10 @@ CODES = [
     ("it runs on past its end", {"P0": 0}, ["jal\tx1,100000"], "a.s:1: P0 runs on past its end", {}),
     ("it runs on into another function", {"P0": 0, "f": 4}, ["jal\tx1,100004", "jalr\tx0,0(x1)"], {"P0": 2, "f": 1}, {}),
     ("a call at the end of a compiler's function", {"P0": 0, "P1": 4}, ["jal\tx1,100008", "jalr\tx0,0(x1)", "jalr\tx0,0(x1)"],
-     {"P0": 1, "function at 8": 1}, {"P0": 4}),
+     {"P0": 1, "function at 0x8": 1}, {"P0": 4}),
     ("a label inside", {"P0": 0, "again": 4}, ["addi\tx5,x0,3", "addi\tx5,x5,-1", "bne\tx5,x0,100004", "jalr\tx0,0(x1)"], {"P0": 4}, {}),
     ("a place after another function", {"P0": 0, "P1": 8}, ["beq\tx0,x0,10000c", "jalr\tx0,0(x1)", "jalr\tx0,0(x1)", "addi\tx10,x0,3",
-                                                           "jalr\tx0,0(x1)"], {"P0": 2, "place at c": 2}, {}),
+                                                           "jalr\tx0,0(x1)"], {"P0": 2, "place at 0xc": 2}, {}),
 ]
 # a namespace `std` with a class template's one member; app::q of that type, a static taken apart, and P0(int, app::q *)
 INFORMATION = """
@@ -130,7 +130,7 @@ def listing(lines):
 
 def expansions(count):
     for name, operands, wanted in EXPANDED:
-        made = compressed.expanded(Instruction(TEXT, name, operands, "", 0))
+        made = instructions.expanded(Instruction(TEXT, name, operands, "", 0))
         count.told(f"{name} {operands}", f"{made.name} {made.operands}".rstrip() == wanted.rstrip(), f"{made}")
     made = [f"{each.name} {each.operands}" for each in instructions.absolute(instructions.listed(listing(PLACES)), RELOCATIONS)]
     count.told("addresses by auipc", made == ABSOLUTE, str(made))

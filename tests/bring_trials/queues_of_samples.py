@@ -5,7 +5,8 @@ import runpy
 import tempfile
 from pathlib import Path
 
-from bring_parts import ROOT, TOOLS, compilers
+from bring_parts import ROOT, TOOLS, Refused, compilers, memory, queue_hints, queue_types
+from bring_parts.fields import Part
 from bring_trials import counting
 
 EXAMPLES = ROOT / "examples"
@@ -17,22 +18,121 @@ QUEUES = {
 }
 # places as a source names them, and as a text does that has these locations
 NAMED = [("ring::queue.write_", "queue_write"), ("queue_write", "queue_write"), ("queue+64", "queue+64"), ("queue.write_+2", "queue_write+2"),
-         ("a::b::words[1].id", "words_1_id"), ("queue.other", "queue.other"), ("64", "64")]
-LOCATIONS = {"null": 0, "queue": 4, "queue_write": 68, "words_1_id": 72}
-# an answer, the notes of a hart, and a part of what helps
-HINTS = [("not shown: no instruction loads from a slot of queue 0\n", [], "volatile object"),
-         ("not shown: no instruction stores to a slot of queue 0\n", [], "one global object"),
-         ("hart 0 is not covered: at pc 80\n", ["12: i % 6", "support.c:30"], "`%` and `/` by what is no power of two"),
-         ("hart 0 is not covered: at pc 80\n", ["12: i % 6"], ""), ("kept in every run\n", ["support.c:30"], "")]
+         ("a::b::words[1].id", "words_1_id"), ("queue.record", "queue_record_0_time"), ("queue.record+4", "queue_record_0_time+4"),
+         ("queue.other", "queue.other"), ("64", "64")]
+LOCATIONS = {"null": 0, "queue": 4, "queue_write": 68, "words_1_id": 72, "queue_record_0_time": 76}
+# what the search says and what is answered, the notes of a hart, a certificate's queue, and parts of what helps
+COUNTS, TAGS = "queue 0 1 4 8 1 12 16 8 16 0 1 0 256 0\n", "tagged 0 1 12 8 12 4 1 zero 0\n"
+NOT_COVERED = "hart 0 is not covered: at pc 4, sw x1,0(x2): why\n"
+DRAWN = "queue 0: kept in 1000 drawn runs of 1000 events, in which {} positions were published"
+BROKEN = "broken: hart 0 at pc 4\nqueue 0: it stored 1 to the 4 bytes at 12, and owned no position\n"
+HINTS = [
+    ("", "not shown: no instruction loads from a slot of queue 0\n", [], COUNTS, ["volatile object"]),
+    ("", "not shown: no instruction stores to a slot of queue 0\n", [], COUNTS, ["one global object"]),
+    (NOT_COVERED, "not shown\n", ["12: i % 6", "12", "support.c:30"], COUNTS, ["`%` and `/` by what is no power of two"]),
+    (NOT_COVERED, "not shown\n", ["12: i % 6", "support.c:61", "support.c:30"], COUNTS, ["a copy by a loop"]),
+    (NOT_COVERED, "not shown\n", ["12: i * 6", "12", "support.c:4"], COUNTS, []),
+    (NOT_COVERED, "not shown\n", ["12: i % 6", "12"], COUNTS, []),
+    (NOT_COVERED, BROKEN, ["12: i % 6", "12", "support.c:30"], COUNTS,
+     ["if queue 0 isn't 16 slots of 8 bytes with indices of 1 byte that count on, the fault is in its description: see size=, width=, bytes=, index=wrapping"]),
+    ("", BROKEN, [], COUNTS.replace("16 0 1 0 256", "15 0 1 0 16"), ["indices of 1 byte that go back to 0 after the last slot", "index=counting"]),
+    ("", BROKEN, [], COUNTS.replace("0 1 0 256", "12 8 0 16"), ["whose word of count n is 12 + 8 * ((n + 0) mod 16)"]),
+    ("", BROKEN, [], TAGS, ["8 slots of 12 bytes with the tag in bytes 4-4 of each, 0 where it is free, the fault", "tag=, tells="]),
+    ("", "not shown\n" + DRAWN.format(10999), [], COUNTS, ["about 11 positions each, and one turn of its index is 256: try --length 47000 --runs 20"]),
+    ("", "not shown\n" + DRAWN.format(0), [], TAGS, ["about 0 positions each, and one turn of its slots is 8: try --length 100000 --runs 20"]),
+    ("", "not shown\n" + DRAWN.format(512000), [], COUNTS, []),
+    ("", "kept in every run\n", ["support.c:30"], COUNTS, []),
+]
+# the parts of objects, as `q` with two indices of a byte and structs of 8 bytes; descriptions, and what is made of them or refused
+PARTS = [Part(0, 1, "q.in"), Part(1, 1, "q.out"), Part(2, 2, "q.wide"), *(Part(4 + 8 * at + 4 * of, 4 - 3 * of, f"q.slot[{at}].{name}")
+         for at in range(4) for of, name in enumerate(("id", "full")))]
+LONG = [Part(0, 8, "l.head"), Part(8, 8, "l.tail"), *(Part(16 + at, 1, f"l.byte[{at}]") for at in range(32)),
+        *(Part(48 + 8 * at + 4 * of, 4, f"l.row[{at}][{of}]") for at in range(3) for of in range(2)), Part(72, 4, "l.one[0]"),
+        Part(76, 4, "l.either.word"), Part(76, 1, "l.either.bytes[0]")]
+OF_Q, OF_L = "head=q.in,tail=q.out,slots=q.slot", "head=q.in,tail=q.out,slots=l."
+TYPED = [
+    ("--queue", OF_Q, OF_Q + ",size=4,width=8,bytes=1"), ("--queue", OF_Q + ",size=2,bytes=1", OF_Q + ",size=2,bytes=1,width=8"),
+    ("--queue", "head=q_in,tail=q+1,slots=q_slot_0_id", "head=q_in,tail=q+1,slots=q_slot_0_id,size=4,width=8,bytes=1"),
+    ("--queue", OF_L + "byte", OF_L + "byte,size=32,width=1,bytes=1"), ("--queue", OF_L + "byte,width=8", OF_L + "byte,width=8,size=4,bytes=1"),
+    ("--queue", OF_L + "row", OF_L + "row,size=3,width=8,bytes=1"), ("--queue", OF_L + "row,size=6,width=4", OF_L + "row,size=6,width=4,bytes=1"),
+    ("--queue", OF_L + "row[1]", OF_L + "row[1],size=2,width=4,bytes=1"), ("--queue", OF_L + "one", OF_L + "one,size=1,width=4,bytes=1"),
+    ("--queue", "head=l.either,tail=l.either+2,slots=12", "head=l.either,tail=l.either+2,slots=12"),
+    ("--queue", "head=l.either.word,tail=l.one,slots=12", "head=l.either.word,tail=l.one,slots=12,bytes=4"),
+    ("--queue", OF_Q + ",size", OF_Q + ",size"), ("--queue", OF_Q + ",size=2,size=4", OF_Q + ",size=2,size=4"), ("--queue", "head=q.in", "head=q.in"),
+    ("--queue", OF_Q + ",width=4", "q.slot has 4 elements of 8 bytes, and not of width=4, which is in bytes: leave width out, or say width=8"),
+    ("--queue", OF_Q + ",size=8,width=8",
+     "q.slot has 4 elements of 8 bytes, too few for 8 slots of 8 bytes: leave size and width out, or say size=4,width=8"),
+    ("--queue", OF_L + "byte,size=16,width=32",
+     "l.byte has 32 elements of 1 byte, too few for 16 slots of 32 bytes: leave size and width out, or say size=32,width=1"),
+    ("--queue", OF_Q + ",bytes=4", "q.in has 1 byte, and not bytes=4: leave bytes out, or say bytes=1"),
+    ("--queue", OF_Q.replace("q.out", "q.wide"), "q.in has 1 byte and q.wide 2: both indices must have the same type"),
+    ("--queue", "head=l.head,tail=l.tail,slots=q.slot",
+     "l.head has 8 bytes, and an index has 1, 2 or 4: the code is compiled for RV32, take uint32_t or size_t"),
+    ("--tagged", "slots=q.slot", "slots=q.slot,size=4,width=8,tag=0+4"), ("--tagged", "slots=q.slot,tag=4", "slots=q.slot,tag=4+1,size=4,width=8"),
+    ("--tagged", "slots=q.slot,tag=q.slot[0].full,size=2", "slots=q.slot,tag=q.slot[0].full+1,size=2,width=8"),
+    ("--tagged", "slots=q.slot,tag=q.slot[0].full+4", "the tag q.slot[0].full has 1 byte, and not 4: leave +4 out, or say tag=q.slot[0].full+1"),
+    ("--tagged", "slots=l", "the tag at 0 has 8 bytes, and may have at most 4: say which they are, as tag=0+4"),
+]
+# a line after a schedule's first one, and what a terminal is shown
+SCHEDULES = [("a0*3 l0", "a0*3 l0"), ("a0*3 l0 " * 60, "a0*3 l0 " * 49 + "a0*3 l0 .. 240 events in all: -o FOLDER keeps them")]
 # edits of examples/cpp/queue.cpp, the places, and parts of what comes
 PLACES = QUEUES["cpp/queue"]
 EDITS = [
     ((), PLACES, ["kept in every run", "    P0 32: slots_[write] = value"]),
     ((("16 * seen + *word", "seen + 1"),), PLACES, ["no instruction loads from a slot", "a volatile object"]),
-    ((("write + 1;", "(write + 1) % slots_.size();"),), PLACES, ["is not covered", "`%` and `/` by what is no power of two"]),
+    ((("write + 1;", "(write + 1) % slots_.size();"),), PLACES, ["kept in every run"]),
     ((), PLACES.replace("write_", "wrote"),
      ["ring::queue.wrote is no place of the program: there are queue.slots_[0], queue.write_, queue.read_cache_"]),
     ((("extern", "extern int no; extern"), ("pushed +", "no + pushed +")), PLACES, ["`no` isn't defined"]),
+]
+# a queue of structs in C, with indices of one type, and one whose slots tell whose they are by a byte; what is asked of it, and parts of what comes
+RING = """#include <stdint.h>
+struct { volatile TYPE head, tail; volatile struct { int id, price, many; } order[8]; } ring;
+volatile int out;
+void P0(void) {
+  for (int n = 0;; n++) {
+    while ((TYPE)(ring.head - ring.tail) >= 8) {}
+    ring.order[ring.head % 8].id = n;
+    ring.head++;
+  }
+}
+void P1(void) {
+  for (;;) {
+    while (ring.head == ring.tail) {}
+    out = ring.order[ring.tail % 8].id;
+    ring.tail++;
+  }
+}
+"""
+FLAGS = """volatile struct { int value; unsigned char full; } slot[4];
+volatile int out;
+void P0(void) {
+  for (unsigned n = 0;; n++) {
+    while (slot[n % 4].full) {}
+    slot[n % 4].value = n;
+    slot[n % 4].full = 1;
+  }
+}
+void P1(void) {
+  for (unsigned n = 0;; n++) {
+    while (!slot[n % 4].full) {}
+    out = slot[n % 4].value;
+    slot[n % 4].full = 0;
+  }
+}
+"""
+OF_RING = "head=ring.head,tail=ring.tail,slots=ring.order"
+OF_TYPES = [(RING.replace("TYPE", f"uint{bits}_t"), "--queue", OF_RING,
+             ["kept in every run", f"its head is the {bits // 8} bytes at ", "has 8 slots of 12 bytes"])
+            for bits in (8, 16, 32)]
+OF_TYPES += [
+    (RING.replace("TYPE", "uint64_t"), "--queue", OF_RING, ["queue: ring.head has 8 bytes, and an index has 1, 2 or 4: the code is compiled for RV32"]),
+    (RING.replace("TYPE", "uint8_t"), "--queue", f"{OF_RING},size=8,width=4", ["ring.order has 8 elements of 12 bytes, and not of width=4"]),
+    (RING.replace("(TYPE)", "(uint8_t)").replace("TYPE", "uint8_t").replace(">= 8", "> 8"), "--queue", OF_RING,
+     ["broken: ", "\nif queue 0 isn't 8 slots of 12 bytes with indices of 1 byte that count on, the fault is in its description: "]),
+    (re.sub("% 8|>= 8", lambda shape: shape[0].replace("8", "3"), RING).replace("[8]", "[3]").replace("TYPE", "uint32_t"), "--queue", OF_RING,
+     ["is not covered", "not shown: ", "\n`%` and `/` by what is no power of two"]),
+    (FLAGS, "--tagged", "slots=slot,tag=slot[0].full", ["kept in every run", "its tag is the byte at 4 of each slot"]),
 ]
 ROW = re.compile(r"\| \[([\w-]+)\]\([\w.-]+\) \| `(head=.*?)` \| (.*) \|")
 
@@ -60,9 +160,19 @@ def part(count, program):
     queue = runpy.run_path(str(TOOLS / "queue"))
     for place, wanted in NAMED:
         count.told(f"the place {place} of a text", queue["named_in"](LOCATIONS, place) == wanted, queue["named_in"](LOCATIONS, place))
-    for answer, notes, wanted in HINTS:
-        came = "\n".join(queue["hints"](answer, [notes]))
-        count.told(f"what helps after {answer!r}", wanted in came and bool(came) == bool(wanted), came)
+    for found, answer, notes, certificate, wanted in HINTS:
+        lines = answer.splitlines()
+        came = "\n".join(line for line in queue_hints.added(iter(lines), found, [notes], certificate) if line not in lines)
+        count.told(f"what helps after {found + answer!r}", all(part in came for part in wanted) and bool(came) == bool(wanted), came)
+    types = queue_types.Types(memory.Memory([0] * 40, [memory.Placed(4, 36, "q", PARTS), memory.Placed(40, 80, "l", LONG)]))
+    for kind, given, wanted in TYPED:
+        try:
+            came = queue_types.completed(kind, given, types)
+        except Refused as refused:
+            came = str(refused)
+        count.told(f"what the types say of {given}", came == wanted, came)
+    for line, wanted in SCHEDULES:
+        count.told(f"a schedule of {len(line)} characters at a terminal", queue["shown"](line, True) == wanted, queue["shown"](line, True))
 
 
 def compiled(count, program, _):
@@ -77,6 +187,11 @@ def compiled(count, program, _):
             for compiler in ("gcc", "clang"):
                 _, printed, error = counting.run("queue", file, "--queue", places, "--compiler", compiler, "--program", program)
                 count.told(f"tools/queue of {edits or places} by {compiler}", all(part in printed + error for part in wanted), printed + error)
+        for source, kind, places, wanted in OF_TYPES:
+            file = counting.write(folder, "mine.c", source)
+            for compiler in ("gcc", "clang"):
+                _, printed, error = counting.run("queue", file, kind, places, "--compiler", compiler, "--program", program)
+                count.told(f"tools/queue of {places} and of types by {compiler}", all(part in printed + error for part in wanted), printed + error)
         module = Path(folder, "mine.o")
         compilers.Compiler("gcc").compile(counting.write(folder, "mine.cpp", text), module, language="C++")
         _, printed, error = counting.run("queue", module, "--queue", PLACES, "--program", program)

@@ -32,19 +32,26 @@ BAD_ENDINGS = [
 # an item of init, a row, and what stands in the text that is made
 REWRITTEN = [
     ("uint64_t x;", "nop ;", "\nint x=0;\n"), ("uint8_t x=255;", "nop ;", "\nint x=255;\n"),
-    ("int *x=&y;", "nop ;", "\nint x=y;\n"), ("atomic_int x = 1 ;", "nop ;", "\nint x=1 ;\n"),
+    ("int *x=&y;", "nop ;", "\nint x=y;\n"), ("uint64_t x=-1;", "nop ;", "\nint x=-1;\n"), ("atomic_int x = 1 ;", "nop ;", "\nint x=1 ;\n"),
     ("int 0:x9;", "nop ;", "\n;\n"), ("uint64_t 0:x9=3;", "nop ;", "\n0:x9=3;\n"),
     ("x=1; (* a (* b *) c; *)", "nop ;", "x=1; (* a (  b  ) c; *)\n"), ("", "bleu x5,x6,L ;", " bgeu x6,x5,L ;\n"),
     ("", "bltz x5,L  ;", " blt x5,x0,L ;\n"), ("", "b L ;", " jal x0,L ;\n"),
     ("", "sd x5,(x6) # a ;", " sw x5,(x6) # a ;\n"),
     ("", "amoadd.d.aq x5,x7,0(x6) ;", " amoadd.w.aq x5,x7,0(x6) ;\n"),
-    ("", "M: fence.i      ;", " M: nop          ;\n"),
+    ("", "M: fence.i      ;", " M: nop          ;\n"), ("", "pause ;", " fence w,0 ;\n"),
+    *(("0:x9=1;", f"lwu x5,0(x6) ;\n li x8,1 ;\n lhu x7,0(x6) ;\n {row}", " lw x5,0(x6)  ;\n")
+      for row in ("sw x5,0(x6) ;", "amoadd.w x7,x5,(x6) ;", "addiw x5,x5,1 ;", "sext.w x7,x5 ;", "xor x7,x5,x5 ;", "andi x7,x5,255 ;",
+                  "beqz x5,L ;", "snez x7,x5 ;", "bne x8,x5,L ;", "bltu x5,x7,L ;", "bgtu x5,x9,L ;", "sltiu x7,x5,9 ;", "lui x5,1 ;")),
 ]
 REFUSED = [
     ("int x[2]={1,2};", "nop ;", "array"), ("mutex_t x;", "nop ;", "the type `mutex_t`"),
     ("x;", "nop ;", "no value"), ("x=0x123456789;", "nop ;", "more than 32 bits"),
+    ("uint64_t x=0xffffffff;", "nop ;", "as a word would be negative"), ("long 0:x9=0x80000000;", "nop ;", "as a word would be negative"),
     ("int8_t x=-1;", "nop ;", "isn't what `int8_t` holds"), ("", "ld x5,8(x6) ;", "a part of an object of 64 bits"),
     ("", "sd x5,0(x6) ;\n lw x5,0(x6) ;", "beside narrower ones"), ("", "mul x5,x6,x7 ;", "the M extension"),
+    *(("0:x9=-1;", f"lwu x5,0(x6) ;\n lw x7,0(x6) ;\n {row} ;", f"line 10: `{row}`: x5 holds what `lwu` loads, and its upper 32 bits")
+      for row in ("bltz x5,L", "blt x5,x0,L", "slt x8,x5,x0", "sra x8,x5,x7", "add x8,x5,x7", "mv x8,x5", "beq x5,x7,L", "bltu x5,x9,L",
+                  "andi x8,x5,-1", "sltiu x8,x5,-1", "lw x8,0(x5)", "sw x5,0(x5)", "amoswap.w x8,x7,(x5)")),
     ("", "li x5,x6 ;", "no statement"), ("", "nop ; nop", "refused 23"), ("0:x77=1;", "nop ;", "refused 22"),
     ("7:x5=1;", "nop ;", "refused 22"), ("", "L: nop ;", "refused 24"),
 ]
@@ -114,6 +121,17 @@ def pieces(count):
         count.told(f"{item} {row}", is_good, made)
 
 
+def of_lwu(count):
+    """What a condition may ask of a register that `lwu` loads."""
+    for value, row, wanted in (("-1", "nop", "refused: condition: 0:x5=-1, and 0:x5 holds"), ("x", "nop", "refused: condition: 0:x5=x"), ("1", "nop", "lw x5"),
+                               ("0xffffffff", "nop", "lw x5"), ("0xffffffff", "lw x5,4(x6)", "refused: condition: 0:x5=0xffffffff")):
+        try:
+            made, _ = herd.rewritten(f"{FRONT} lwu x5,0(x6) ;\n {row} ;\nexists (0:x5={value})\n".replace("0:x5=1; ", ""))
+        except Refused as refused:
+            made = f"refused: {refused}"
+        count.told(f"lwu, {row} and {value}", wanted in made and made.startswith("refused") == wanted.startswith("refused"), made)
+
+
 def answers(count):
     """The texts of examples/herd, with the answers of their table."""
     rows = [line.split("\t") for line in (HERD / "answers.tsv").read_text().splitlines()[1:]]
@@ -141,4 +159,5 @@ def part(count):
     endings(count)
     drawn(count)
     pieces(count)
+    of_lwu(count)
     answers(count)

@@ -1,5 +1,6 @@
 """Installing below a prefix, and taking that away again."""
 
+import re
 import signal
 import subprocess
 from pathlib import Path
@@ -7,6 +8,20 @@ from pathlib import Path
 import tree
 
 from . import SB, below, call, install, workplace
+
+# the lines that explain a name in a checkout begin with these, where N stands for the number of a line
+WINDOWS = ["poll_close::Invariant::Blocks::window: crates/poll_close/specs/Invariant/Blocks.antt:N, a definition",
+           "slot_queue::laws_of_ownership::window: crates/slot_queue/src/lib.rt:N, a clause",
+           "slots_that_tell::laws_of_telling::window: crates/slots_that_tell/src/lib.rt:N, a clause",
+           "Ask for one by its whole name: tools/explain slots_that_tell::laws_of_telling::window"]
+NAMES = (("window", WINDOWS), ("slot_queue.window", [WINDOWS[1], "  `window`: neither party", "  ensures window {", "      → "]),
+         (WINDOWS[2].partition(":N,")[0].split(": ")[0], [WINDOWS[2], "  `window`: "]),
+         ("slot_queue", ["slot_queue: crates/slot_queue/src/lib.rt:N, a crate", "  A queue between two harts"]),
+         ("publication", ["slot_queue::laws_of_ownership::publication: "]),
+         ("Happens", ["step_machine::Runs::Happens: crates/step_machine/specs/Runs.antt:N, a definition", "  the event has", "named by:"]),
+         ("step_machine::Machine::step", ["step_machine::machine::Machine::step: crates/step_machine/src/machine.rt:N, a function"]))
+NO_SECTION = "explain: docs/errors.md has no section on "
+NO_NAME = ", and crates/ has no definition, function, clause or crate of this name\n"
 
 
 def part(count, program):
@@ -18,6 +33,7 @@ def part(count, program):
         count.told("installs", status == 0 and not faults and str(prefix / "bin") in said, said + faults)
         whole = contents(prefix)
         runs(count, prefix, elsewhere, alone)
+        explains_names(count, prefix, elsewhere)
         manual(count, prefix / "share/man", elsewhere)
         page(count, prefix, elsewhere)
         whole_parts(count, prefix / "share/ztso")
@@ -57,6 +73,21 @@ def runs(count, prefix, elsewhere, alone):
     status, said, faults = call(prefix / "bin/ztso", *words)
     count.same("without its program", (status, said, faults.startswith("ztso: ") and faults.count("\n")), (70, "", 1))
     (elsewhere / "ztso").rename(prefix / "lib/ztso/ztso")
+
+
+def explains_names(count, prefix, elsewhere):
+    """In a checkout names are explained, and a fault says where they were looked for."""
+    explain = tree.TOP / "tools/explain"
+    for name, wanted in NAMES:
+        status, said, faults = call(explain, name, folder=elsewhere)
+        lines = re.sub(r":\d+, a ", ":N, a ", said).splitlines()
+        begins = len(lines) >= len(wanted) and all(line.startswith(front) for line, front in zip(lines, wanted))
+        count.told(f"explains {name}", status == 0 and begins, said + faults)
+    for name in ("no_such_name", "slot_queue::Happens", "99999"):
+        count.same(f"explains no {name}", call(explain, name, folder=elsewhere), (1, "", NO_SECTION + name + NO_NAME))
+    count.same("explains no words", call(explain, "no", "words", folder=elsewhere), (1, "", f"{NO_SECTION}no words\n"))
+    count.same("explains no name where it is installed", call(prefix / "bin/ztso-explain", "window", folder=elsewhere),
+               (1, "", f"{NO_SECTION}window\n"))
 
 
 def manual(count, folder, elsewhere):

@@ -5,6 +5,7 @@ import json
 import os
 import signal
 import subprocess
+from contextlib import suppress
 from pathlib import Path
 
 from page_parts import ROOT, TOOLS
@@ -71,8 +72,11 @@ class Served:
 
     def children(self):
         """The children of the server that run now."""
-        return [int(pid) for task in Path(f"/proc/{self.process.pid}/task").iterdir()
-                for pid in (task / "children").read_text().split()]
+        found = []
+        for task in Path(f"/proc/{self.process.pid}/task").iterdir():
+            with suppress(OSError):  # the thread may have ended
+                found += map(int, (task / "children").read_text().split())
+        return found
 
     def end(self, by=signal.SIGINT):
         """The status with which a signal ends it, or None where it doesn't."""

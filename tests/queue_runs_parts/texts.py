@@ -8,24 +8,26 @@ from typing import NamedTuple
 
 import certificates
 import queues as reference
+import tags
 import words
 from certify_parts import certificates as writer
 from certify_parts import harts
 from certify_parts import queues as descriptions
 from certify_parts import sent, texts
+from certify_parts import tags as described_tags
 
 TOP = Path(__file__).resolve().parents[2]
 REGISTERS = 32
 NOP = 0x13
 # each way of the search is gone once; of a changed text the first ways alone, for so many seconds of the processor
 FEW_WAYS, FEW_SECONDS = 2, 0.4
-SAID = re.compile(r"/\* .*?\n((?: +queue: \S+\n)+) +answer: (.*?) \*/", re.S)
+SAID = re.compile(r"/\* .*?\n((?: +(?:queue|tagged): \S+\n)+) +answer: (.*?) \*/", re.S)
 # a count that opens at so much less than 2^32, or at a few less, wraps soon
 BEFORE_THE_WRAP = 4
 
 
 class Source(NamedTuple):
-    """A queue in C: its text, where its parts lie, and which answer it must get."""
+    """A queue in C: its text, of each queue its kind and where its parts lie, and which answer it must get."""
 
     name: str
     text: str
@@ -49,17 +51,19 @@ class Accepted(NamedTuple):
 def source_of(path):
     text = path.read_text()
     queues, answer = SAID.match(text).groups()
-    return Source(path.stem, text, tuple(re.findall(r"queue: (\S+)", queues)), answer)
+    return Source(path.stem, text, tuple(re.findall(r"(queue|tagged): (\S+)", queues)), answer)
 
 
 def variants(source):
     """The source itself, with other numbers of slots, and with counts that open shortly before they wrap."""
     yield source
-    if re.search(r"#define SLOTS \d+\n", source.text) and len(source.queues) == 1 and "base" not in source.queues[0]:
+    (kind, words_of_queue), *more = source.queues
+    # numbers in slots are as many as these
+    if re.search(r"#define SLOTS \d+\n", source.text) and not more and "base" not in words_of_queue and "tells=number" not in words_of_queue:
         size = int(re.search(r"#define SLOTS (\d+)\n", source.text)[1])
         for other in {2, 8} - {size}:
             yield source._replace(text=re.sub(r"#define SLOTS \d+\n", f"#define SLOTS {other}\n", source.text),
-                                  queues=(re.sub(r"\bsize=\d+", f"size={other}", source.queues[0]),))
+                                  queues=((kind, re.sub(r"\bsize=\d+", f"size={other}", words_of_queue)),))
 
 
 def made(source, compiler, flag, program, folder):
@@ -74,25 +78,32 @@ def made(source, compiler, flag, program, folder):
 def before_the_wrap(test, words_of_queues):
     """The test and its queues where counts in words open shortly before they wrap, or None if the queues count otherwise."""
     found, described = dict(test.words), []
-    for text in words_of_queues:
-        if re.search(r"index=wrapping|bytes=|scale=|offset=", text):
+    for kind, text in words_of_queues:
+        if kind == "tagged" or re.search(r"index=wrapping|bytes=|scale=|offset=", text):
             return None
         given = dict(part.split("=") for part in text.split(","))
         size = int(given["size"])
         start = (2**32 - BEFORE_THE_WRAP) // size * size
         for name in ("head", "tail"):
             found[place_of(test, given[name])] = start
-        described.append(f"{text},offset={start}")
+        described.append((kind, f"{text},offset={start}"))
     return test._replace(words=found), tuple(described)
 
 
 def place_of(test, word):
     name, _, further = word.partition("+")
+    if name not in test.places:  # as the source calls it
+        shown = re.sub(r"\W+", "_", name)
+        name = next((each for each in test.places if each == shown or each.startswith(f"{shown}_0_")), name)
     return int(word) if word.isdigit() else test.places[name] + int(further or 0)
 
 
-def described(test, text):
+def described(test, kind, text):
     given = dict(part.split("=") for part in text.split(","))
+    if kind == "tagged":
+        return described_tags.described({"slots": place_of(test, given.pop("slots"))}, given, test)
+    if "base" in given:
+        given["base"] = str(place_of(test, given["base"]))
     return descriptions.described({name: place_of(test, given.pop(name)) for name in ("head", "tail", "slots")}, given)
 
 
@@ -107,7 +118,7 @@ def opening_of(test):
 
 def accepted(test, words_of_queues, is_quick=False):
     """The text with a certificate that the search finds and the check accepts, or None."""
-    queues = [described(test, text) for text in words_of_queues]
+    queues = [described(test, *each) for each in words_of_queues]
     found = searched(test, queues, is_quick)
     if any(hart.refused for hart in found):
         return None
@@ -127,17 +138,20 @@ def searched(test, queues, is_quick):
 
 def unjudged(test, words_of_queues):
     """The text with its queues alone, of which nothing is shown."""
-    queues = tuple(certificates.OpenedQueue(certificates.Queue(*queue[:13]), queue.start) for queue in (described(test, text) for text in words_of_queues))
-    return Accepted(test, opening_of(test), certificates.QueueCertificate(queues, ()), frozenset())
+    queues = [described(test, *each) for each in words_of_queues]
+    indices = tuple(certificates.OpenedQueue(certificates.Queue(*queue[:13]), queue.start) for queue in queues if not queue.has_tags)
+    tagged = tuple(tags.OpenedTagged(tags.TaggedQueue(*queue[:8]), queue.start) for queue in queues if queue.has_tags)
+    return Accepted(test, opening_of(test), certificates.QueueCertificate(indices, tagged, ()), frozenset())
 
 
 def checked(test, certificate):
     opening = opening_of(test)
     if certificates.first_flaw(opening, certificate):
         return None
+    asked = [(certificates.accepts_loads, i, each) for i, each in enumerate(certificate.queues)]
+    asked += [(tags.accepts_rest, t, each) for t, each in enumerate(certificate.tagged)]
     return Accepted(test, opening, certificate, frozenset(
-        (i, h) for i, each in enumerate(certificate.queues) for h in (each.queue.sender, each.queue.receiver)
-        if certificates.accepts_loads(opening, certificate, i, h)))
+        (at, h) for at, (accepts, i, each) in enumerate(asked) for h in (each.queue.sender, each.queue.receiver) if accepts(opening, certificate, i, h)))
 
 
 def mutants(test, seed):

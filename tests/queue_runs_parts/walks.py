@@ -3,7 +3,8 @@ certificate is followed from one listed state to the next, with the numbers that
 
 import certificates
 import machine
-from protocol_trials import ownership
+import tags
+from protocol_trials import ownership, telling
 from protocol_trials.machine import Access
 from protocol_trials.runs import RECEIVER, SENDER, THIRD, Counts
 
@@ -11,16 +12,14 @@ MASK = machine.MASK
 KINDS = {"load": "load", "store": "store", "amo": "exchange"}
 
 
-class Ownership(ownership.Ownership):  # pylint: disable=super-init-not-called
-    """The protocol of ownership of one queue, of a run that something else makes."""
+class Protocol:
+    """A protocol of one queue, of a run that something else makes: its parties, its counts, and the bytes that it speaks of."""
 
-    def __init__(self, queue, start):
-        self.queue = ownership.Queue(queue.index_width, queue.modulus, queue.size, queue.width, queue.capacity, queue.base, queue.scale,
-                                     queue.offset, (queue.head, queue.tail), queue.slots)
+    def begin(self, queue, start, *places):
         self.counts = Counts((start, start), (start, start))
         self.parties = {queue.sender: SENDER, queue.receiver: RECEIVER}
-        places = (queue.head, queue.tail, queue.slots)
-        self.low, self.high = min(places), max(queue.head + queue.index_width, queue.tail + queue.index_width, queue.slots + queue.size * queue.width)
+        places += ((queue.slots, queue.size * queue.width),)
+        self.low, self.high = min(a for a, _ in places), max(a + count for a, count in places)
 
     def share(self, hart):
         """The own count of a hart's party, and how many positions it owns."""
@@ -29,7 +28,30 @@ class Ownership(ownership.Ownership):  # pylint: disable=super-init-not-called
 
     def owns_load(self, hart, access):
         p = self.parties.get(hart)
-        return p is None or all(self.owns_byte(p, self.counts, x) for x in access.bytes() if self.is_slot_byte(x))
+        return p is None or all(self.may_be_read(p, x) for x in access.bytes() if self.is_slot_byte(x))
+
+
+class Ownership(Protocol, ownership.Ownership):  # pylint: disable=super-init-not-called
+    """The protocol of ownership."""
+
+    def __init__(self, queue, start):
+        self.queue = ownership.Queue(queue.index_width, queue.modulus, queue.size, queue.width, queue.capacity, queue.base, queue.scale,
+                                     queue.offset, (queue.head, queue.tail), queue.slots)
+        self.begin(queue, start, (queue.head, queue.index_width), (queue.tail, queue.index_width))
+
+    def may_be_read(self, p, x):
+        return self.owns_byte(p, self.counts, x)
+
+
+class Telling(Protocol, telling.Telling):  # pylint: disable=super-init-not-called
+    """The protocol of slots that tell."""
+
+    def __init__(self, queue, start):
+        self.queue = telling.Slots(queue.size, queue.width, queue.tag_offset, queue.tag_width, 2**32 if queue.codec == tags.NUMBER else 0, queue.slots)
+        self.begin(queue, start)
+
+    def may_be_read(self, p, x):
+        return self.is_tag_byte(self.first_position(x, 0), x) or self.owns_rest(p, self.counts, x)
 
 
 # ---- certificates as functions
@@ -49,6 +71,7 @@ class Followed:
     def __init__(self, accepted):
         self.certificate, self.opening = accepted.certificate, accepted.opening
         self.index_words = [each.queue.index_word for each in self.certificate.queues]
+        self.parties = [{each.queue.sender, each.queue.receiver} for each in (*self.certificate.queues, *self.certificate.tagged)]
         self.inside, self.leaves = {}, {}
 
     def first(self, h):
@@ -67,8 +90,9 @@ class Followed:
         terms += [f"n[{j}] <= {most}" for j, most in enumerate(known.ranges) if most is not None]
         terms += [f"r[{j}] == {self.value(v)}" for j, v in enumerate(known.registers) if v is not certificates.ANY]
         terms += [f"read({a}) == {self.value(v)}" for a, v in zip(own, known.words) if v is not certificates.ANY]
-        terms += [f"s[{i}] == ({written(share.own)}, {written(share.owned)})" for i, share in enumerate(known.shares)
-                  if certificates.party_of(self.certificate.queues[i].queue, h)]
+        # of a queue with tags a state says how many positions are owned at least
+        terms += [f"s[{i}][0] == {written(share.own)} and s[{i}][1] {'==' if i < len(self.index_words) else '>='} {written(share.owned)}"
+                  for i, share in enumerate(known.shares) if h in self.parties[i]]
         return function("n, pc, r, read, s", " and ".join(terms), word=self.index_words)
 
     @staticmethod
@@ -141,7 +165,8 @@ class Walks:
         """One run, of the events of these numbers, up to the first thing that must not be."""
         made = machine.Machine(self.test, capacity)
         state, events, step = made.opening, self.events, made.step
-        self.protocols = [Ownership(each.queue, each.start) for each in self.accepted.certificate.queues]
+        self.protocols = [*(Ownership(each.queue, each.start) for each in self.accepted.certificate.queues),
+                          *(Telling(each.queue, each.start) for each in self.accepted.certificate.tagged)]
         self.shares = [[protocol.share(h) for protocol in self.protocols] for h in self.harts]
         follows = self.accepted.certificate.harts
         at = [self.followed.first(h) for h in self.harts] if follows else []

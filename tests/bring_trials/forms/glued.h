@@ -1,0 +1,3 @@
+#include "ztso.h"
+#undef STORE_SEQ_CST
+#define STORE_SEQ_CST(s) "fence w,w" s

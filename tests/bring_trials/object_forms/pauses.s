@@ -1,0 +1,12 @@
+.globl P0, P1
+P0: li a0, 1
+ sw a0, x, a1
+ ret
+P1: pause
+ lw a0, x
+ beqz a0, P1
+ ret
+.bss
+.globl x
+x: .word 0
+# exists (1:a0=1)

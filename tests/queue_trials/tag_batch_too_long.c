@@ -1,0 +1,28 @@
+/* Wrong: of a batch one more is taken than was looked at.
+   tagged: slots=q,size=8
+   answer: hart 1, broken */
+#include <stdatomic.h>
+#include <stdint.h>
+
+#define N 8
+#define BATCH 4
+volatile unsigned q[N];
+
+void P0(void) { unsigned put = 0; for (unsigned i = 1;;) {
+  while (q[(put + BATCH - 1) % N]) {}
+  for (int j = 0; j < BATCH; j++) {
+    q[put % N] = i;
+    put++;
+    if (!++i) i = 1;
+  }
+} }
+int P1(void) { unsigned get = 0, sum = 0; for (;;) {
+  while (!q[(get + BATCH - 2) % N]) {}
+  for (int j = 0; j < BATCH; j++) {
+    sum += q[get % N];
+    q[get % N] = 0;
+    get++;
+  }
+  if (sum == 77777) return sum;
+} }
+/* exists (1:x10=0) */

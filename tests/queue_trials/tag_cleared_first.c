@@ -1,0 +1,24 @@
+/* Wrong: a slot is freed before its record is read.
+   tagged: slots=q_0_value,size=4,width=8,tag=4+1
+   answer: reads of hart 1 */
+#include <stdatomic.h>
+#include <stdint.h>
+
+#define N 4
+struct { int value; atomic_uchar full; } q[N];
+unsigned put, get;
+
+void P0(void) { for (int v = 0;; v++) {
+  while (atomic_load_explicit(&q[put].full, memory_order_acquire)) {}
+  q[put].value = v;
+  atomic_store_explicit(&q[put].full, 1, memory_order_release);
+  put = put + 1 == N ? 0 : put + 1;
+} }
+int P1(void) { for (int sum = 0;;) {
+  while (!atomic_load_explicit(&q[get].full, memory_order_acquire)) {}
+  atomic_store_explicit(&q[get].full, 0, memory_order_release);
+  sum += q[get].value;
+  get = get + 1 == N ? 0 : get + 1;
+  if (sum == 77777) return sum;
+} }
+/* exists (1:x10=0) */
