@@ -7,7 +7,7 @@ from pathlib import Path
 from .links import ROOT
 
 WIDEST = 160
-FILES = 4_370  # that git tracks; lower it when some go
+FILES = 4_500  # that git tracks; lower it when some go
 ADVICE = {".antt": "scripts/fold-lines breaks it", ".rt": "break its clause, its imports or its text"}
 # An attribute of the prover: `rt fmt` writes each on one line.
 ATTRIBUTE = "#[tactic("

@@ -25,12 +25,17 @@ def callers(crates):
     return {name: [user for user in codes if name in crates.uses[user] and re.search(rf"\b{name}::", codes[user])] for name in codes}
 
 
+def citing(name, crates):
+    """The crates that cite a library of definitions and laws, which none calls."""
+    return [user for user in crates.names if name in crates.uses[user] and not user.startswith("tests_")]
+
+
 def said(name, users, crates):
-    """The line: its callers, or, of a library of definitions and laws that none calls, the crates that cite it."""
-    if not users:
-        citing = [user for user in crates.names if name in crates.uses[user] and not user.startswith("tests_")]
-        return f"{BEGINS}none, and cited by {listed(citing)}." if citing else f"{BEGINS}none: its laws are what it is for."
-    return f"{BEGINS}{listed(users)}."
+    """The line: its callers, or if none calls it the crates that cite it."""
+    if users:
+        return f"{BEGINS}{listed(users)}."
+    cited = citing(name, crates)
+    return f"{BEGINS}none, and cited by {listed(cited)}." if cited else f"{BEGINS}none: its laws are what it is for."
 
 
 def listed(users):
@@ -42,7 +47,7 @@ def listed(users):
 
 def names_two(line, users):
     """Whether a line names a lower and a higher one of more callers than are named."""
-    named = re.fullmatch(rf"{BEGINS}more than {NAMED} crates, from `(\w+)` to `(\w+)`\.", line)
+    named = re.fullmatch(rf"{BEGINS}(?:none, and cited by )?more than {NAMED} crates, from `(\w+)` to `(\w+)`\.", line)
     return len(users) > NAMED and named is not None and set(named.groups()) <= set(users) and users.index(named[1]) < users.index(named[2])
 
 
@@ -52,7 +57,7 @@ def wanted():
     for name, users in callers(crates).items():
         root = TOP / "crates" / name / "src/lib.rt"
         if root.is_file():
-            yield root, users, said(name, users, crates)
+            yield root, users or citing(name, crates), said(name, users, crates)
 
 
 def wrong():

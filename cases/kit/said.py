@@ -5,7 +5,7 @@ from collections import defaultdict
 
 from . import links
 
-WORDS = 76_800  # of all pages, as `wc -w` counts them; lower it when pages get shorter
+WORDS = 78_200  # of all pages, as `wc -w` counts them; lower it when pages get shorter
 IN_A_ROW = 10
 MAY_SAY_AGAIN = {"CHANGELOG.md", *(f"examples/{folder}/README.md" for folder in ("assembly", "c", "cpp", "rust"))}  # each is read alone
 MAY_BOTH_SAY = [{"docs/from-c.md", "docs/tour.md"}]
