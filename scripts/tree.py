@@ -37,12 +37,13 @@ TEXTS = {
     # README.md, and each page outside of the folders below that it links
     **{f"{SHARE}/{name}": name for name in (
         "README.md", "CHANGELOG.md", "CONTRIBUTING.md", "tools/README.md", "tools/reference/README.md", "crates/README.md",
-        "crates/mutants.md", "bench/README.md", "bench/tried.md", "stock/README.md", "tests/README.md", "tests/outside/README.md",
-        "scripts/README.md", "cases/README.md")},
+        "crates/mutants.md", "stock/README.md", "tests/README.md", "tests/outside/README.md", "scripts/README.md", "cases/README.md")},
 }
 # the folders of the pages, the shelf, the examples and what the tools are made of, with what their files are
 FOLDERS = {
     "docs": (".md", ".png", ".svg"),
+    # to read: its page links each
+    "bench": ("", ".md", ".py", ".c", ".rs", ".rattle", ".pml", ".litmus"),
     "litmus": (".litmus", ".schedule", ".md"),
     "examples": (".litmus", ".certificate", ".schedule", ".steps", ".lists", ".asm", ".words", ".c", ".cpp", ".rs", ".h", ".s", ".S", ".ld",
                  ".log", ".spike", ".vcd", ".md", ".py", ".sv", ".edit"),

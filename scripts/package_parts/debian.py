@@ -19,8 +19,8 @@ Several RISC-V harts (RV32I and the word AMOs) with FIFO store buffers over
 one memory, one event at a time: litmus tests are run, tried by drawn
 schedules, searched, drawn as pictures, shortened and debugged, and every run
 can be replayed. Of a queue between two harts it can show that every run keeps
-its protocol. The program is proved to follow the model, each function against
-its contract.
+its protocol. The program's sources are proved to follow the model, each
+function against its contract.
 """
 COPYRIGHT = """\
 ztso
@@ -29,10 +29,9 @@ Copyright (C) 2026 the authors of ztso
 
 No licence is granted yet; the choice is open. All rights are reserved.
 """
-# lintian asks for a program without its table of symbols. This one is, byte for byte, the one that was proved and
-# tested.
+# lintian asks for a program without its table of symbols. This one is, byte for byte, the one that was tested.
 OVERRIDES = """\
-# the very bytes of the program that was proved and tested
+# the very bytes of the program that was tested
 ztso: unstripped-binary-or-object [usr/lib/ztso/ztso]
 """
 

@@ -5,7 +5,7 @@ use crate::item::{Fields, Item, Shape};
 /// The `impl` of `Display`.
 pub(crate) fn display_of(item: &Item) -> String {
     let Item { name, generics, shapes } = item;
-    let bounds: String = generics.iter().map(|generic| format!("{generic}: ::core::fmt::Display, ")).collect();
+    let bounds = generics.iter().map(|generic| format!("{generic}: ::core::fmt::Display, ")).collect::<Vec<_>>().concat();
     let arms: String = shapes.iter().map(|shape| arm(name, shape)).collect();
     format!(
         "impl<{bounds}> ::core::fmt::Display for {name}<{}> {{
@@ -27,7 +27,7 @@ fn arm(name: &str, shape: &Shape) -> String {
     match &shape.fields {
         Fields::Named(names) => format!("{path} {{ {} }} => ::core::write!(f, {text}),", names.join(", ")),
         Fields::InPlaces(count) => {
-            let binds: String = (0..*count).map(|place| format!("{place}: _{place}, ")).collect();
+            let binds = (0..*count).map(|place| format!("{place}: _{place}, ")).collect::<Vec<_>>().concat();
             let text = (0..*count).fold(text.to_owned(), |text, place| {
                 text.replace(&format!("{{{place}}}"), &format!("{{_{place}}}"))
             });
