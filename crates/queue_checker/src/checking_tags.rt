@@ -48,41 +48,151 @@ fn form(alloc: Global, constant: u64, factors: &[u64]) -> Result<Form, AllocErro
     })
 }
 
-/// An arrow to a state whose variables are the own count, of which `more` is new, and maybe the number that was loaded.
-fn arrow(alloc: Global, to: u32, more: u64, loaded: bool) -> Result<Arrow, AllocError> {
-    let mut forms = vec![in alloc; form(alloc, more, &[0, 1])?]?;
-    if loaded {
-        forms.push(form(alloc, 0, &[1])?)?;
-    }
-    Ok(Arrow { to, forms })
+/// What x1 holds: the number that was loaded is not 0, and 1 more than variable 1.
+#[derive(Clone, Copy)]
+enum Loaded {
+    Unknown,
+    Zero,
+    More,
 }
 
-/// A state of registers that are known, whose hart owns as many positions from its own count on. A number that was loaded is variable 1.
-fn listed(
-    alloc: Global,
+/// An arrow to a state whose variables are the own count, of which `handed` is new, and variable 1 if that state has one.
+#[derive(Clone, Copy)]
+struct Step {
+    to: u32,
+    handed: u64,
+    has_number: bool,
+}
+
+/// A state: its hart owns as many positions from its own count on, which is variable 0.
+#[derive(Clone, Copy)]
+struct Row {
     pc: u32,
-    x1: KnownValue,
-    x3: u64,
-    loaded: bool,
+    x1: Loaded,
     owned: u64,
-    arrows: Vec<Arrow>,
-) -> Result<ListedState, AllocError> {
+    step: Step,
+    other: Option<Step>,
+}
+
+fn goes_to(to: u32, handed: u64, has_number: bool) -> Step {
+    Step {
+        to,
+        handed,
+        has_number,
+    }
+}
+
+fn at(pc: u32, x1: Loaded, owned: u64, step: Step, other: Option<Step>) -> Row {
+    Row {
+        pc,
+        x1,
+        owned,
+        step,
+        other,
+    }
+}
+
+/// The sender's states at its four instructions, two at the second: told that it has its position, and not.
+fn sending() -> [Row; 5] {
+    [
+        at(
+            0,
+            Loaded::Unknown,
+            0,
+            goes_to(1, 0, false),
+            Some(goes_to(2, 0, true)),
+        ),
+        at(4, Loaded::Zero, 1, goes_to(3, 0, false), None),
+        at(4, Loaded::More, 0, goes_to(0, 0, false), None),
+        at(8, Loaded::Unknown, 1, goes_to(4, 1, false), None),
+        at(12, Loaded::Unknown, 0, goes_to(0, 0, false), None),
+    ]
+}
+
+/// The receiver's, of which the tag that isn't 0 tells.
+fn receiving() -> [Row; 5] {
+    [
+        at(
+            0,
+            Loaded::Unknown,
+            0,
+            goes_to(1, 0, true),
+            Some(goes_to(2, 0, false)),
+        ),
+        at(4, Loaded::More, 1, goes_to(3, 0, false), None),
+        at(4, Loaded::Zero, 0, goes_to(0, 0, false), None),
+        at(8, Loaded::Unknown, 1, goes_to(4, 1, false), None),
+        at(12, Loaded::Unknown, 0, goes_to(0, 0, false), None),
+    ]
+}
+
+fn arrow(alloc: Global, step: Step) -> Result<Arrow, AllocError> {
+    let mut forms = vec![in alloc; form(alloc, step.handed, &[0, 1])?]?;
+    if step.has_number {
+        forms.push(form(alloc, 0, &[1])?)?;
+    }
+    Ok(Arrow { to: step.to, forms })
+}
+
+fn arrows(alloc: Global, row: Row) -> Result<Vec<Arrow>, AllocError> {
+    let mut arrows = vec![in alloc; arrow(alloc, row.step)?]?;
+    if let Some(step) = row.other {
+        arrows.push(arrow(alloc, step)?)?;
+    }
+    Ok(arrows)
+}
+
+fn ranges(alloc: Global, x1: Loaded) -> Result<Vec<Option<u64>>, AllocError> {
     let mut ranges: Vec<Option<u64>> = vec![in alloc; None]?;
-    if loaded {
+    if let Loaded::More = x1 {
         ranges.push(Some(MOST))?;
     }
+    Ok(ranges)
+}
+
+fn first_value(alloc: Global, x1: Loaded) -> Result<KnownValue, AllocError> {
+    match x1 {
+        Loaded::Unknown => Ok(any()),
+        Loaded::Zero => Ok(linear(number(alloc, 0))),
+        Loaded::More => Ok(linear(form(alloc, 1, &[0, 1])?)),
+    }
+}
+
+/// Registers x0 to x3.
+fn registers(alloc: Global, x1: Loaded, x3: u64) -> Result<Vec<KnownValue>, AllocError> {
+    let mut registers = vec![in alloc; any()]?;
+    registers.push(first_value(alloc, x1)?)?;
+    registers.push(any())?;
+    registers.push(linear(number(alloc, x3)))?;
+    Ok(registers)
+}
+
+fn shares(alloc: Global, owned: u64) -> Result<Vec<Share>, AllocError> {
     let share = Share {
         own: form(alloc, 0, &[1])?,
         owned: number(alloc, owned),
     };
+    Ok(vec![in alloc; share]?)
+}
+
+fn known(alloc: Global, row: Row, x3: u64) -> Result<KnownState, AllocError> {
+    let registers = registers(alloc, row.x1, x3)?;
+    let shares = shares(alloc, row.owned)?;
+    let ranges = ranges(alloc, row.x1)?;
+    Ok(KnownState {
+        pc: row.pc,
+        ranges,
+        registers,
+        words: Vec::new(alloc),
+        shares,
+    })
+}
+
+fn listed(alloc: Global, row: Row, x3: u64) -> Result<ListedState, AllocError> {
+    let known = known(alloc, row, x3)?;
+    let arrows = arrows(alloc, row)?;
     Ok(ListedState {
-        known: KnownState {
-            pc,
-            ranges,
-            registers: vec![in alloc; any(), x1, any(), linear(number(alloc, x3))]?,
-            words: Vec::new(alloc),
-            shares: vec![in alloc; share]?,
-        },
+        known,
         filled: Vec::new(alloc),
         cases: Cases {
             node: CaseNode::Leaf(number(alloc, 0), arrows),
@@ -90,32 +200,21 @@ fn listed(
     })
 }
 
-/// A party's states at its four instructions, two at the second: told that it has its position, and not.
-fn part(alloc: Global, sends: bool) -> Result<HartPart, AllocError> {
-    let zero = linear(number(alloc, 0));
-    let some = linear(form(alloc, 1, &[0, 1])?);
-    let (told, other) = if sends { (zero, some) } else { (some, zero) };
-    let x3 = if sends { 7 } else { 0 };
-    let looks = vec![in alloc; arrow(alloc, 1, 0, !sends)?, arrow(alloc, 2, 0, sends)?]?;
-    let goes_on = vec![in alloc; arrow(alloc, 3, 0, false)?]?;
-    let again = vec![in alloc; arrow(alloc, 0, 0, false)?]?;
-    let hands_over = vec![in alloc; arrow(alloc, 4, 1, false)?]?;
-    let back = vec![in alloc; arrow(alloc, 0, 0, false)?]?;
+fn part(alloc: Global, rows: [Row; 5], x3: u64) -> Result<HartPart, AllocError> {
+    let mut states = Vec::new(alloc);
+    for row in rows {
+        states.push(listed(alloc, row, x3)?)?;
+    }
     Ok(HartPart {
         own: Vec::new(alloc),
         first: 0,
         numbers: vec![in alloc; 0]?,
-        states: vec![in alloc;
-            listed(alloc, 0, any(), x3, false, 0, looks)?,
-            listed(alloc, 4, told, x3, !sends, 1, goes_on)?,
-            listed(alloc, 4, other, x3, sends, 0, again)?,
-            listed(alloc, 8, any(), x3, false, 1, hands_over)?,
-            listed(alloc, 12, any(), x3, false, 0, back)?,
-        ]?,
+        states,
     })
 }
 
-fn certificate(alloc: Global) -> Result<QueueCertificate, AllocError> {
+/// A certificate of one queue of one slot, whose tag has this width in bytes.
+fn certificate(alloc: Global, tag_width: u32) -> Result<QueueCertificate, AllocError> {
     let queue = TaggedQueue {
         sender: 0,
         receiver: 1,
@@ -123,13 +222,13 @@ fn certificate(alloc: Global) -> Result<QueueCertificate, AllocError> {
         size: 1,
         width: 4,
         tag_offset: 0,
-        tag_width: 4,
+        tag_width,
         codec: Codec::Zero,
     };
     Ok(QueueCertificate {
         queues: Vec::new(alloc),
         tagged: vec![in alloc; OpenedTagged { queue, start: 0 }]?,
-        harts: vec![in alloc; part(alloc, true)?, part(alloc, false)?]?,
+        harts: vec![in alloc; part(alloc, sending(), 7)?, part(alloc, receiving(), 0)?]?,
     })
 }
 
@@ -137,11 +236,11 @@ fn certificate(alloc: Global) -> Result<QueueCertificate, AllocError> {
 fn a_queue_of_one_tag_has_no_flaw(rt: HostRuntime) -> Result<(), Fail> {
     let alloc = rt.alloc();
     let opening = opening(alloc)?;
-    let mut certificate = certificate(alloc)?;
-    assert!(rt; first_flaw(alloc, &opening, &certificate) == Ok(None));
-    assert!(rt; first_unowned_rest(alloc, &opening, &certificate, 0, 1) == Ok(None));
-    certificate.tagged[0].queue.tag_width = 5;
+    let right = certificate(alloc, 4)?;
+    assert!(rt; first_flaw(alloc, &opening, &right) == Ok(None));
+    assert!(rt; first_unowned_rest(alloc, &opening, &right, 0, 1) == Ok(None));
+    let wide = certificate(alloc, 5)?;
     let flaw = Flaw::Tagged(0, TaggedFlaw::WideTag);
-    assert!(rt; first_flaw(alloc, &opening, &certificate) == Ok(Some(flaw)));
+    assert!(rt; first_flaw(alloc, &opening, &wide) == Ok(Some(flaw)));
     Ok(())
 }
