@@ -9,6 +9,11 @@ import os
 import sys
 from pathlib import Path
 
+sys.dont_write_bytecode = True
+sys.path.append(str(Path(__file__).resolve().parent.parent / "tools/reference"))
+
+from faults import ended  # noqa: E402
+
 # what one check takes at most of those measured, with room for what grows, in bytes
 MEMORY = 2_500_000_000
 # the limits of a container
@@ -50,9 +55,14 @@ def processes():
     return min(processors(), room())
 
 
-if __name__ == "__main__":
+def main():
     if sys.argv[1:]:
         asked = sys.argv[1] in ("-h", "--help")
         print(__doc__.strip(), file=sys.stdout if asked else sys.stderr)
-        sys.exit(0 if asked else 64)
+        return 0 if asked else 64
     print(processes())
+    return 0
+
+
+if __name__ == "__main__":
+    sys.exit(ended(main))
