@@ -8,6 +8,7 @@ import shlex
 import shutil
 import subprocess
 import sys
+from difflib import SequenceMatcher
 from pathlib import Path
 
 TOOLS = Path(__file__).resolve().parent.parent
@@ -21,6 +22,8 @@ from faults import ended  # noqa: E402, F401
 
 # what the program reads of a text at most
 MOST = 1 << 20
+# so many names are named in place of one that isn't there, if so much of them is the same
+NEAREST, LIKE = 3, 0.6
 
 
 class Refused(Exception):
@@ -29,6 +32,12 @@ class Refused(Exception):
     def __init__(self, words, before=()):
         super().__init__(words)
         self.before = before
+
+
+def nearest(name, names):
+    """The names that are most like this one, capitals aside: three at most, or none."""
+    alike = [(SequenceMatcher(None, name.lower(), each.lower()).ratio(), each) for each in names]
+    return [each for ratio, each in sorted(alike, key=lambda row: -row[0]) if ratio >= LIKE][:NEAREST]
 
 
 def plain(text):
