@@ -41,16 +41,30 @@ class Parts:
 
     def of_kind(self, kind, name):
         """The parts of an object of this type."""
+        return self.some(part for part in self.parts(kind, 0, name) if part.size)
+
+    def begins(self, kind, name):
+        """Where in an object of this type the classes inside begin, by their names: before their first part, if a bit-field is before that."""
+        found = {}
+        for part in self.some(part for part in self.parts(kind, 0, name) if not part.size):
+            # what has no name of its own, as a base, is called as the class that it is in, which comes first
+            found.setdefault(part.name, part.at)
+        return found
+
+    @staticmethod
+    def some(parts):
+        """These parts, or the first of them."""
         try:
-            return list(islice(self.parts(kind, 0, name), MOST))
+            return list(islice(parts, MOST))
         except RecursionError:
             return []
 
     def parts(self, kind, at, name):
-        """The parts of an object of this type, at this place of a larger one."""
+        """The parts of an object of this type, at this place of a larger one, and before those of a class itself, without bytes."""
         if not self.size_of(kind):
             return  # or many objects without bytes would take long
         if kind.tag in CLASSES:
+            yield Part(at, 0, name)
             for member, is_named in self.members(kind):
                 inner = member.name() if is_named else ""
                 yield from self.parts(self.information.kind_of(member), at + member.number("data_member_location"),
@@ -59,6 +73,29 @@ class Parts:
             yield from self.elements(self.information.kind_of(kind), [self.length(each) for each in kind.inside], at, name)
         else:
             yield Part(at, kind.number("byte_size", default=4), name)
+
+    def whole(self, name):
+        """The type of the variable that the linker calls so, if the compiler says one and didn't take it apart."""
+        entry = self.information.variable(name)
+        is_one = entry is not None and not any(length for *_, length in self.information.pieces(entry))
+        return self.information.kind_of(entry) if is_one else None
+
+    def is_plain(self, kind):
+        """Whether the bytes of an object of this type that are in no part are padding: it has no bit-fields, and no variants as of an enum of Rust."""
+        try:
+            return self.is_made_of_parts(kind)
+        except RecursionError:
+            return False
+
+    def is_made_of_parts(self, kind):
+        if kind is None:
+            return False
+        if kind.tag == "array_type":
+            return self.is_made_of_parts(self.information.kind_of(kind))
+        inside = [each for each in kind.inside if each.tag in ("member", "inheritance", "variant_part")
+                  and not {"external", "declaration"} & set(each.attributes)] if kind.tag in CLASSES else []
+        return all(each.tag != "variant_part" and "bit_size" not in each.attributes and self.is_made_of_parts(self.information.kind_of(each))
+                   for each in inside)
 
     def members(self, kind):
         """The members and bases of a class that have bytes of their own: each with whether it is called by its name. The only

@@ -74,13 +74,13 @@ class Linked:
         opened = [arguments.opened(hart, question, self.information) for hart in self.harts]
         self.registers = [registers for registers, _ in opened]
         there, parts = {memory.short(symbol.plain) for _, _, symbol in self.image.data()}, fields.Parts(self.information)
-        pointed = {name: (parts.size_of(kind) or 4, parts.of_kind(kind, name)) for _, kinds in opened
-                   for name, kind in kinds.items() if name not in there}
+        pointed = {name: (parts.size_of(kind) or 4, {"parts": parts.of_kind(kind, name), "begins": parts.begins(kind, name), "is_whole": parts.is_plain(kind)})
+                   for _, kinds in opened for name, kind in kinds.items() if name not in there}
         if pointed:
             module = storage_for({name: size for name, (size, _) in pointed.items()}, folder)
             self.load([*modules, module], named, sources, folder)
         found, self.longer = memory.objects_of(self.image, fields.Parts(self.information))
-        self.objects = [replace(each, parts=pointed[each.name][1]) if each.name in pointed else each for each in found]
+        self.objects = [replace(each, **pointed[each.name][1]) if each.name in pointed else each for each in found]
         self.calls = [queues.calls_of(code) for code in self.functions]
         self.queues = queues.among(self.objects, self.calls)
         self.objects += queues.fixed(self.objects, self.queues)

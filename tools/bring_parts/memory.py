@@ -5,7 +5,7 @@ import re
 from collections import Counter
 from dataclasses import dataclass, field
 
-from bring_parts import Refused
+from bring_parts import Refused, nearest
 
 # the names that ztso has for words
 LOCATIONS = 1024
@@ -16,11 +16,14 @@ SHOWN = 12
 
 @dataclass(frozen=True)
 class Placed:
-    """An object of the data, or a piece of one: its address, its bytes, its name, and its parts by their places in it."""
+    """An object of the data, or a piece of one: its address, its bytes, its name, and its parts by their places in it; where in it those begin that
+    have parts, and whether what is in no part is padding."""
     at: int
     size: int
     name: str
     parts: list = field(default_factory=list)
+    begins: dict = field(default_factory=dict)
+    is_whole: bool = False
 
 
 class Memory:
@@ -36,6 +39,10 @@ class Memory:
         # where objects and parts of them begin, and how many bytes each part has, by their names
         self.begins = {part.name: each.at + part.at for each in objects for part in each.parts} | {each.name: each.at for each in objects}
         self.sizes = {part.name: part.size for each in objects for part in each.parts}
+        # all of these, and where objects inside begin that have parts
+        self.starts = {name: each.at + at for each in objects for name, at in each.begins.items()} | self.begins
+        # the objects of which all that is in no part is padding, and the first byte of each hart's stack
+        self.whole, self.stacks = {each.name for each in objects if each.is_whole}, {}
         called = self.called_by_parts(objects)
         words = [(each.at // 4 + at, each.name, at) for each in objects for at in range((each.size + 3) // 4 or 1)]
         for place, name, at in sorted(words, key=lambda word: word[2]):
@@ -80,13 +87,15 @@ class Memory:
         shape = re.fullmatch(r"(.+?)(?:\[([0-9]+)\])?", text)
         place = self.parts.get(text, self.places.get((shape[1], int(shape[2] or 0))) if shape else None)
         if place is None and text not in self.names:
-            raise Refused(f"{what} {text}, which is no shared word: {self.there()}{self.undescribed(text)}")
+            raise Refused(f"{what} {text}, which is no shared word: {self.there(text)}{self.undescribed(text)}")
         return text if place is None else self.names[place]
 
-    def there(self):
-        """What is said of the names that there are, of an array's elements of the first one."""
+    def there(self, text):
+        """What is said of the names that there are, of an array's elements of the first one; if not all are named, the nearest ones first."""
         known = [name for name in self.begins if not re.search(r"\[[1-9]", name)
                  and not any(other.startswith((f"{name}.", f"{name}[")) for other in self.begins)]
+        near = nearest(text, known) if len(known) > SHOWN else []
+        known = [*near, *(name for name in known if name not in near)]
         return f"there are {', '.join(known[:SHOWN])}" + ", .." * (len(known) > SHOWN) if known else "there are none"
 
     def undescribed(self, text, by_bytes=False):
@@ -100,13 +109,13 @@ class Memory:
         """Where an object begins or a part of one, as its author calls it; or what has this name in the text, and `name+4` bytes on."""
         whole, text = text, self.shorter(text)
         name, _, bytes_on = text.partition("+")
-        begins = self.begins.get(name, next((at for part, at in self.begins.items() if part.startswith((f"{name}.", f"{name}["))), None))
+        begins = self.starts.get(name, next((at for part, at in self.starts.items() if part.startswith((f"{name}.", f"{name}["))), None))
         if begins is None and name in self.names:
             begins = 4 * self.names.index(name)
         if begins is None and name.isdigit():
             begins = int(name)
         if begins is None or bytes_on and not bytes_on.isdigit():
-            raise Refused(f"{whole} is no place of the program: {self.there()}{self.undescribed(text, True)}")
+            raise Refused(f"{whole} is no place of the program: {self.there(name)}{self.undescribed(text, True)}")
         return begins + int(bytes_on or 0)
 
     def value(self, text, what):
@@ -125,6 +134,7 @@ class Memory:
 
     def push_stack(self, hart, size):
         """Room for a hart's stack; returns its upper end."""
+        self.stacks[hart] = 4 * len(self.names)
         for at in range(size // 4):
             self.names.append(self.fresh(f"stack{hart}_{at}"))
             self.values.append(0)
@@ -169,6 +179,7 @@ def objects_of(image, parts):
     for at, size, symbol, plain in found:
         name, number = names[plain], pieces[plain]
         pieces[plain] += 1
+        kind = parts.whole(symbol.name)
         placed.append(Placed(at, size, f"{name}_{number}" if number else name,
-                             parts.of_variable(symbol.name, name, at, size)))
+                             parts.of_variable(symbol.name, name, at, size), parts.begins(kind, name), parts.is_plain(kind)))
     return placed, {name: plain for plain, name in names.items()}

@@ -13,6 +13,9 @@ REMEDIES = {"loads from": "the compiler leaves out a load whose value nobody use
 DIVIDES = ("`%` and `/` by what is no power of two are loops here if the quotient is above 1, and of the result nothing is known: count as in "
            "`i + 1 == N ? 0 : i + 1`, with index=wrapping, or take N slots that are a power of two")
 COPIES = "a copy by a loop, as memcpy's is here, and that of a large struct, isn't covered: assign the record's fields one by one"
+# what `likely:` says of an index, and what that is of a queue with tags
+TAGS = {"another count to its index": "of a queue with tags: it may store a part of a tag, or a tag that doesn't hand its own position over",
+        "the other party's index": "of a queue with tags: what a tag that it loads may tell leads to a state that isn't listed"}
 # the functions of support.c that divide, and those that copy
 DIVISION, COPYING = {"divided", "size_of", "__udivsi3", "__umodsi3", "__divsi3", "__modsi3"}, {"memcpy", "memset"}
 SUPPORT = re.compile(r"support\.c:([0-9]+)")
@@ -75,6 +78,12 @@ def or_described_wrong(number, queue):
     return f"if queue {number} isn't {form}, the fault is in its description: see {keys}"
 
 
+def of_tags(line, queues):
+    """What a line on what is likely means of a queue with tags."""
+    if line.startswith("likely: ") and any(queue.has_tags for queue in queues):
+        yield from (meant for index, meant in TAGS.items() if index in line)
+
+
 def longer(number, queue, drawn):
     """What to try where drawn runs of a queue that isn't shown came only so far, or None."""
     runs, length, published = map(int, drawn)
@@ -92,6 +101,7 @@ def added(lines, found, notes, certificate):
     queues, is_broken, said, more = queues_of(certificate), False, "", []
     for line in lines:
         yield line
+        yield from of_tags(line, queues)
         said += f"{line}\n"
         if shape := BROKEN.match(line):
             is_broken = True

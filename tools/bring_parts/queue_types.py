@@ -1,7 +1,8 @@
 """What the types of a source say of a queue: the bytes of its indices, slots and tags, and how many slots there are. What its description
-leaves out is taken from them, and what contradicts them is refused."""
+leaves out is taken from them, and what contradicts them is refused. Lines of an answer that name bytes are followed by the names of these."""
 
 import re
+from os.path import commonprefix
 from dataclasses import dataclass
 
 from bring_parts import Refused
@@ -9,6 +10,14 @@ from bring_parts.fields import MOST
 
 INDEX, TAG = (1, 2, 4), 4
 ELEMENT = re.compile(r"\[([0-9]+)\](.*)")
+# a name's steps from an object to a part, and how many names a line has
+STEP, SHOWN = re.compile(r"\.?[^.\[]+|\[[0-9]+\]"), 12
+RANGE = re.compile(r"([0-9]+)(?:-([0-9]+))?")
+# lines of an answer that name bytes of records, or of memory
+RECORDS = re.compile(r"queue ([0-9]+): bytes? (.*) of each record (?:are|is) written ")
+FIELD = re.compile(r"queue ([0-9]+): the ([0-9]+) bytes from ([0-9]+) on of ")
+UNWRITTEN = re.compile(r"queue ([0-9]+): not shown that bytes? .* of each record .*: byte ([0-9]+), hart ")
+WRITES = re.compile(r"hart [0-9]+: writes bytes? (.*) of ")
 
 
 @dataclass(frozen=True)
@@ -25,7 +34,7 @@ class Types:
     """The types of a program's places, by its words of memory. Where the compiler says none, there are none."""
 
     def __init__(self, words):
-        self.words, self.sizes, self.begins = words, words.sizes, words.begins
+        self.words, self.sizes, self.begins = words, words.sizes, words.starts
 
     def bytes_of(self, place):
         """The bytes of the number that is called so, or that alone begins there; or None."""
@@ -36,7 +45,7 @@ class Types:
     def arrays_at(self, place):
         """The arrays that begin there, first the one that is called so, then the outer ones before their elements."""
         name, at = self.words.shorter(place), self.words.address(place)
-        names = {part[:shape.start()] for part in self.sizes if self.begins[part] == at for shape in re.finditer(r"\[0\]", part)}
+        names = {part[:shape.start()] for part, begin in self.begins.items() if begin == at for shape in re.finditer(r"\[0\]", part)}
         found = [self.array(each) for each in sorted(names, key=lambda each: (each != name, len(each)))]
         return [each for each in found if each and each.at == at]
 
@@ -48,11 +57,91 @@ class Types:
         found = [(ELEMENT.fullmatch(part[len(name):]), part) for part in self.sizes if part.startswith(f"{name}[")]
         begins = {}
         for shape, part in found:
-            begins.setdefault(int(shape[1]), self.begins[part])
+            begins.setdefault(int(shape[1]), self.begins.get(f"{name}[{shape[1]}]", self.begins[part]))
         numbers = {self.sizes[part] for _, part in found} if all(re.fullmatch(r"(\[[0-9]+\])*", shape[2]) for shape, _ in found) else set()
         number = min(numbers, default=None)
         step = begins[1] - begins[0] if 1 in begins else number if len(found) == 1 else None
         return Array(name, begins[0], len(begins), step, number) if step else None
+
+
+    def of_memory(self):
+        """All parts of objects, and the stacks: of each its first byte, its end and its name."""
+        stacks = sorted((begin, f"stack of hart {hart}") for hart, begin in self.words.stacks.items())
+        ends = [*(begin for begin, _ in stacks[1:]), 4 * len(self.words.names)]
+        return [*((self.begins[name], self.begins[name] + size, name) for name, size in self.sizes.items()),
+                *((begin, end, name) for (begin, name), end in zip(stacks, ends))]
+
+    def slots_of(self, queue):
+        """The array that a queue's slots are, or None."""
+        return next((array for array in self.arrays_at(str(queue.slots)) if array.step == queue.width), None)
+
+    def of_record(self, queue):
+        """The members of a record, if it is a struct."""
+        array = self.slots_of(queue)
+        first = f"{array.name}[0]" if array else None
+        return [(self.begins[name] - array.at, self.begins[name] - array.at + size, name[len(first):].removeprefix("."))
+                for name, size in self.sizes.items() if first and name.startswith((f"{first}.", f"{first}["))]
+
+    def padding(self, queue):
+        """The bytes of a record that are padding, as far as that is known, and the name of the slots."""
+        array = self.slots_of(queue)
+        if not array or re.match(r"[^.\[]*", array.name)[0] not in self.words.whole or array.number:
+            return set(), None
+        return set(range(queue.width)) - {at for begin, end, _ in self.of_record(queue) for at in range(begin, end)}, array.name
+
+
+def named(ranges, parts):
+    """What these bytes are called, by the parts that have them: `0-3 (time), 4 (kind)`. The elements of an array are one, and so is what shares bytes."""
+    found = []
+    for first, last in ranges:
+        groups = {}
+        for begin, end, name in sorted(parts):
+            if begin <= last and first < end:
+                groups.setdefault(name.partition("[")[0], []).append((max(begin, first), min(end, last + 1), name))
+        for group in groups.values():
+            begin, end = group[0][0], max(each[1] for each in group)
+            name = "".join(commonprefix([STEP.findall(each[2]) for each in group]))
+            if found and begin < found[-1][1]:
+                found[-1] = (found[-1][0], max(found[-1][1], end), f"{found[-1][2]} or {name}")
+            else:
+                found.append((begin, end, name))
+    return ", ".join(f"{ranged([(begin, end - 1)])} ({name})" for begin, end, name in found[:SHOWN]) + ", .." * (len(found) > SHOWN)
+
+
+def ranged(ranges):
+    """`0-3,6`."""
+    return ",".join(str(first) if first == last else f"{first}-{last}" for first, last in ranges)
+
+
+def ranges_of(places):
+    """The ranges of these numbers."""
+    begins = [at for at in sorted(places) if at - 1 not in places]
+    return [(begin, next(at for at in range(begin, begin + len(places)) if at + 1 not in places)) for begin in begins]
+
+
+def names_of(line, queues, types):
+    """The line for the names of the bytes that a line of an answer names, if there are any, and for padding that isn't written."""
+    if shape := UNWRITTEN.match(line):
+        queue, byte = queues[int(shape[1])], int(shape[2])
+        padding, slots = types.padding(queue)
+        if byte in padding:
+            yield f"    byte {byte} is padding of {slots}: try --written {ranged(ranges_of(set(range(queue.width)) - padding))}"
+            return
+        found = named([(byte, byte)], types.of_record(queue))
+    elif shape := RECORDS.match(line):
+        found = named(ranges_in(shape[2]), types.of_record(queues[int(shape[1])]))
+    elif shape := FIELD.match(line):
+        found = named([(int(shape[3]), int(shape[3]) + int(shape[2]) - 1)], types.of_record(queues[int(shape[1])]))
+    else:
+        shape = WRITES.match(line)
+        found = named(ranges_in(shape[1]), types.of_memory()) if shape else ""
+    if found:
+        yield f"    {found}"
+
+
+def ranges_in(text):
+    """The ranges of a line: of `0-3, 8 and 12`."""
+    return [(int(first), int(last or first)) for first, last in RANGE.findall(text)]
 
 
 def counted(number, of):
