@@ -2,8 +2,8 @@
 leaves out is taken from them, and what contradicts them is refused. Lines of an answer that name bytes are followed by the names of these."""
 
 import re
-from os.path import commonprefix
 from dataclasses import dataclass
+from os.path import commonprefix
 
 from bring_parts import Refused
 from bring_parts.fields import MOST
@@ -62,7 +62,6 @@ class Types:
         number = min(numbers, default=None)
         step = begins[1] - begins[0] if 1 in begins else number if len(found) == 1 else None
         return Array(name, begins[0], len(begins), step, number) if step else None
-
 
     def of_memory(self):
         """All parts of objects, and the stacks: of each its first byte, its end and its name."""
