@@ -1,6 +1,5 @@
 -- The first violation of a run: there is none exactly where each entry keeps the protocol.
-use Rattle.std.proofs.Common.{ℕ, suc, ◌+◌, ◌≡◌, Bool, true, false, ◌<◌, List, [], ◌∷◌, ◌++◌, length, drop, get_or}
-use Rattle.std.proofs.Common.{drop-cons, add-one, Some, None, Ok, Err, refl, sym, ap, ◌∙◌, arith}
+use Rattle.std.proofs.Common.{ℕ, suc, ◌+◌, ◌≡◌, Bool, true, false, List, [], ◌∷◌, ◌++◌, length, Some, None, refl, sym, ap, ◌∙◌, arith}
 use Rattle.std.specs.Prelude.{if◌then◌else◌}
 use Rattle.step_machine.specs.declared.events.Entry.{Entry}
 use Rattle.queue_parties.specs.Parties.{QueueCounts, KeepsEach}
@@ -9,41 +8,8 @@ use Rattle.queue_layouts.specs.declared.AnyQueue.{AnyQueue}
 use Rattle.ownership_runs.specs.declared.violations.Violation.{Violation}
 use Rattle.ownership_runs.specs.Protocols.{KeepsOne, Keeps, HasSlot, entry_counts, run_counts}
 use Rattle.ownership_runs.specs.Keeping.{keeps_entry}
-use Rattle.ownership_runs.specs.Violations.{violation_at, judged_entry, violation_from, first_ownership_violation, IsFirstViolation}
+use Rattle.ownership_runs.specs.Violations.{violation_at, violation_from, first_ownership_violation, IsFirstViolation}
 use Rattle.ownership_runs.proofs.Decisions.{decides-entry, keeps-each, each-keeps}
-
--- ---- one entry more
-
-module _ (q : AnyQueue) (place : ℕ) (c : QueueCounts) (e : Entry) (rest : List Entry) where
-  pub one-kept : (next : QueueCounts) → judged_entry q place c e ≡ Ok next → violation_from q place c (e ∷ rest) ≡ violation_from q (place + 1) next rest
-  one-kept next is = by (keeps_entry q c e) is
-    where
-      by : (ok : Bool) → (if ok then Ok (entry_counts q c e) else Err (violation_at q place c e)) ≡ Ok next
-          → (if ok then violation_from q (place + 1) (entry_counts q c e) rest else Some (violation_at q place c e)) ≡ violation_from q (place + 1) next rest
-      by true same = let now : entry_counts q c e ≡ next = cc in ap (λ (d : QueueCounts). violation_from q (place + 1) d rest) now
-      by false other = cc
-
-  pub one-broken : (b : Violation) → judged_entry q place c e ≡ Err b → violation_from q place c (e ∷ rest) ≡ Some b
-  one-broken b is = by (keeps_entry q c e) is
-    where
-      by : (ok : Bool) → (if ok then Ok (entry_counts q c e) else Err (violation_at q place c e)) ≡ Err b
-          → (if ok then violation_from q (place + 1) (entry_counts q c e) rest else Some (violation_at q place c e)) ≡ Some b
-      by true other = cc
-      by false same = cc
-
--- the same of the entry at a place of a list, and those after it
-module _ (q : AnyQueue) (place : ℕ) (c : QueueCounts) (es : List Entry) (d : Entry) (within : place < length es) where
-  at_place : drop place es ≡ get_or es place d ∷ drop (place + 1) es
-  at_place = rw (add-one, drop-cons es place d) refl
-
-  pub next-kept : (next : QueueCounts) → judged_entry q place c (get_or es place d) ≡ Ok next
-      → violation_from q place c (drop place es) ≡ violation_from q (place + 1) next (drop (place + 1) es)
-  next-kept next is = ap (violation_from q place c) at_place ∙ one-kept q place c (get_or es place d) (drop (place + 1) es) next is
-
-  pub next-broken : (b : Violation) → judged_entry q place c (get_or es place d) ≡ Err b → violation_from q place c (drop place es) ≡ Some b
-  next-broken b is = ap (violation_from q place c) at_place ∙ one-broken q place c (get_or es place d) (drop (place + 1) es) b is
-
--- ---- the first violation
 
 module _ (q : AnyQueue) (some : HasSlot q) where
   abbrev Each : QueueCounts → List Entry → Type 0

@@ -1,7 +1,5 @@
 pub mod Bytes
 pub mod Slots
-pub mod IndexedDecisions
-pub mod TaggedDecisions
 pub mod Decisions
 pub mod First
 pub mod Judged

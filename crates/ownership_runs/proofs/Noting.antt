@@ -1,5 +1,5 @@
 -- What is noted of a run, one entry more.
-use Rattle.std.proofs.Common.{ℕ, ◌+◌, ◌≡◌, Bool, true, false, List, [], ◌∷◌, ◌++◌, length, Some, None, Ok, Err, sym, ap, ◌∙◌, subst, arith, length-append}
+use Rattle.std.proofs.Common.{ℕ, ◌+◌, ◌≡◌, Bool, true, false, List, [], ◌∷◌, ◌++◌, length, Some, None, Ok, Err, refl, sym, ap, ◌∙◌, subst, arith, length-append}
 use Rattle.std.specs.Prelude.{if◌then◌else◌}
 use Rattle.step_machine.specs.declared.events.Entry.{Entry}
 use Rattle.step_machine.specs.declared.events.Event.{Event}
@@ -11,12 +11,11 @@ use Rattle.queue_parties.specs.Parties.{QueueCounts}
 use Rattle.queue_parties.proofs.Parties.{counts-append}
 use Rattle.queue_layouts.specs.declared.AnyQueue.{AnyQueue}
 use Rattle.ownership_runs.specs.declared.violations.Violation.{Violation}
-use Rattle.ownership_runs.specs.declared.judging.RunNotes.{RunNotes}
+use Rattle.ownership_runs.specs.declared.deciding.RunNotes.{RunNotes}
 use Rattle.ownership_runs.specs.Protocols.{entry_counts, run_counts}
 use Rattle.ownership_runs.specs.Keeping.{keeps_entry}
 use Rattle.ownership_runs.specs.Violations.{violation_at, judged_entry, violation_from, first_ownership_violation}
 use Rattle.ownership_runs.specs.inner.Noting.{AreRunNotes, IsEventJudged}
-use Rattle.ownership_runs.proofs.First.{one-kept, one-broken}
 
 module _ (q : AnyQueue) (e : Entry) where
   -- entries that break nothing, and then one more
@@ -48,12 +47,23 @@ module _ (q : AnyQueue) (e : Entry) where
       by later true rest = later rest
       by later false here = here
 
-  kept-next : (place : ℕ) (c next : QueueCounts) → judged_entry q place c e ≡ Ok next → entry_counts q c e ≡ next
-  kept-next place c next is = by (keeps_entry q c e) is
+  -- what is judged of one entry is what is found of it alone
+  one-kept : (place : ℕ) (c next : QueueCounts) → judged_entry q place c e ≡ Ok next
+      → (violation_from q place c (e ∷ []) ≡ None) × (entry_counts q c e ≡ next)
+  one-kept place c next is = by (keeps_entry q c e) is
     where
-      by : (ok : Bool) → (if ok then Ok (entry_counts q c e) else Err (violation_at q place c e)) ≡ Ok next → entry_counts q c e ≡ next
-      by true same = cc
-      by false other = cc
+      by : (ok : Bool) → (if ok then Ok (entry_counts q c e) else Err (violation_at q place c e)) ≡ Ok next
+          → ((if ok then None else Some (violation_at q place c e)) ≡ None) × (entry_counts q c e ≡ next)
+      by true same = (refl, cc)
+      by false other = (cc, cc)
+
+  one-broken : (place : ℕ) (c : QueueCounts) (b : Violation) → judged_entry q place c e ≡ Err b → violation_from q place c (e ∷ []) ≡ Some b
+  one-broken place c b is = by (keeps_entry q c e) is
+    where
+      by : (ok : Bool) → (if ok then Ok (entry_counts q c e) else Err (violation_at q place c e)) ≡ Err b
+          → (if ok then None else Some (violation_at q place c e)) ≡ Some b
+      by true other = cc
+      by false same = cc
 
   module _ (start : QueueCounts) (es : List Entry) (notes : RunNotes) (are : AreRunNotes q start es notes) where
     after-none : notes.found ≡ None → first_ownership_violation q start (es ++ e ∷ []) ≡ violation_from q notes.place notes.counts (e ∷ [])
@@ -65,8 +75,8 @@ module _ (q : AnyQueue) (e : Entry) where
     pub more-noted : notes.found ≡ None → (next : QueueCounts) → judged_entry q notes.place notes.counts e ≡ Ok next → (new : RunNotes)
         → new ≡ record { found = None; counts = next; place = notes.place + 1 } → AreRunNotes q start (es ++ e ∷ []) new
     more-noted none next is new same = subst (AreRunNotes q start (es ++ e ∷ [])) (sym same) (record {
-      found = sym (after-none none ∙ one-kept q notes.place notes.counts e [] next is);
-      counts = λ _. sym (kept-next notes.place notes.counts next is) ∙ ap (λ (c : QueueCounts). entry_counts q c e) (are.counts none)
+      found = sym (after-none none ∙ (one-kept notes.place notes.counts next is).0);
+      counts = λ _. sym (one-kept notes.place notes.counts next is).1 ∙ ap (λ (c : QueueCounts). entry_counts q c e) (are.counts none)
           ∙ sym (counts-append (entry_counts q) start es (e ∷ []));
       place = λ _. ap (λ (n : ℕ). n + 1) (are.place none) ∙ sym (length-append es (e ∷ []));
     })
@@ -74,7 +84,7 @@ module _ (q : AnyQueue) (e : Entry) where
     pub broken-noted : notes.found ≡ None → (b : Violation) → judged_entry q notes.place notes.counts e ≡ Err b → (new : RunNotes) → new.found ≡ Some b
         → AreRunNotes q start (es ++ e ∷ []) new
     broken-noted none b is new same = record {
-      found = same ∙ sym (after-none none ∙ one-broken q notes.place notes.counts e [] b is);
+      found = same ∙ sym (after-none none ∙ one-broken notes.place notes.counts b is);
       counts = λ no_violation. cc;
       place = λ no_violation. cc;
     }

@@ -1,8 +1,12 @@
 //! Whether the entries of a run keep a queue's protocol.
 
-ghost use Rattle.std.specs.Prelude.{◌≡◌, ◌≤◌, ◌+◌, ℕ, option_map, Ok, IfOk};
+ghost use Rattle.std.specs.Prelude.{◌≡◌, ◌≤◌, ◌<◌, ◌+◌, ◌-◌, ◌^◌, ◌++◌, ◌∷◌, ℕ, [], List, option_map, Ok, IfOk};
+ghost use Rattle.step_machine.specs.declared.events.Entry.{Entry};
+ghost use Rattle.queue_parties.specs.Parties.{QueueCounts};
+ghost use Rattle.queue_layouts.specs.declared.AnyQueue.{AnyQueue};
 ghost use Rattle.ownership_runs.specs.Violations.{judged_store, judged_exchange, judged_entry, first_ownership_violation};
 ghost use Rattle.ownership_runs.specs.inner.Bounds.{STEP, ROOM, AreCountsWithin};
+ghost use Rattle.ownership_runs.specs.inner.Noting.{AreRunNotes, AreNotesWithin};
 ghost use Rattle.queue_layouts.specs.Sides.{the_party};
 
 use crate::counts::{Counts, RunCounts, at_start};
@@ -103,17 +107,57 @@ pub(crate) fn note_entry(
     }
 }
 
+/// What is noted of a run: its first violation, if there is one. While there is none, the counts, and how many entries there were.
+#[derive(Clone, Copy)]
+pub(crate) struct RunNotes {
+    pub(crate) found: Option<Violation>,
+    pub(crate) counts: RunCounts,
+    pub(crate) place: usize,
+}
+
+/// What is noted before the first entry of a run that begins where the parties have come as far as `start`.
+pub(crate) fn nothing_noted(start: Counts) -> RunNotes
+    ensures noted { (q : AnyQueue) → AreRunNotes q start [] result }
+    ensures within { AreNotesWithin 0 result }
+{
+    RunNotes {
+        found: None,
+        counts: at_start(start),
+        place: 0,
+    }
+}
+
+/// Takes in an entry.
+pub(crate) fn note_more(queue: &AnyQueue, notes: RunNotes, entry: Entry) -> RunNotes
+    requires counts { AreCountsWithin ROOM ROOM notes.counts }
+    requires place { notes.place < 2 ^ 64 - 1 }
+    ensures noted { (start : QueueCounts) (es : List Entry) → AreRunNotes queue.now start es notes → AreRunNotes queue.now start (es ++ entry ∷ []) result }
+    ensures within { (i : ℕ) → AreNotesWithin i notes → AreNotesWithin (i + 1) result }
+{
+    match notes.found {
+        Some(_) => notes,
+        None => match note_entry(queue, notes.place, notes.counts, entry) {
+            Ok(after) => RunNotes {
+                found: None,
+                counts: after,
+                place: notes.place + 1,
+            },
+            Err(violation) => RunNotes {
+                found: Some(violation),
+                ..notes
+            },
+        },
+    }
+}
+
 /// The first entry of a run that breaks a queue's protocol, if there is one. The run begins where the parties have come
 /// as far as `start`. Loads are free.
 pub fn first_violation(queue: &AnyQueue, start: Counts, entries: &[Entry]) -> Option<Violation>
     ensures { result ≡ first_ownership_violation queue.now start entries.now }
 {
-    let mut counts = at_start(start);
-    for (place, entry) in entries.iter().enumerate() {
-        match note_entry(queue, place, counts, *entry) {
-            Ok(after) => counts = after,
-            Err(violation) => return Some(violation),
-        }
+    let mut notes = nothing_noted(start);
+    for entry in entries {
+        notes = note_more(queue, notes, *entry);
     }
-    None
+    notes.found
 }

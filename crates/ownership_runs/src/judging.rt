@@ -1,49 +1,15 @@
-//! One run, judged as its entries come.
+//! One run, judged as its events happen.
 
-ghost use Rattle.std.specs.Prelude.{◌≡◌, ◌≤◌, ◌<◌, ◌+◌, ◌-◌, ◌^◌, ◌++◌, ◌∷◌, ℕ, [], List, None, IfOk, OnOk};
-ghost use Rattle.step_machine.specs.declared.events.Entry.{Entry};
+ghost use Rattle.std.specs.Prelude.{◌≡◌, ◌≤◌, ◌<◌, ◌+◌, ◌-◌, ◌^◌, ℕ, IfOk, OnOk};
 ghost use Rattle.step_machine.specs.Runs.{Run};
-ghost use Rattle.queue_parties.specs.Parties.{QueueCounts};
 ghost use Rattle.ownership_runs.specs.inner.Bounds.{ROOM, AreCountsWithin};
 ghost use Rattle.ownership_runs.specs.inner.Noting.{AreRunNotes, AreNotesWithin, IsEventJudged};
 
-use crate::counts::{Counts, RunCounts, at_start};
-use crate::deciding::note_entry;
-use crate::violations::Violation;
+use crate::counts::Counts;
+use crate::deciding::{RunNotes, note_more, nothing_noted};
 use queue_layouts::AnyQueue;
 use std::alloc::AllocError;
-use step_machine::{Entry, Event, Machine, Outcome};
-
-/// What is noted of a run: its first violation, if there is one. While there is none, the counts, and how many entries there were.
-#[derive(Clone, Copy)]
-pub(crate) struct RunNotes {
-    pub(crate) found: Option<Violation>,
-    pub(crate) counts: RunCounts,
-    pub(crate) place: usize,
-}
-
-/// Takes in an entry.
-fn note_more(queue: &AnyQueue, notes: RunNotes, entry: Entry) -> RunNotes
-    requires counts { AreCountsWithin ROOM ROOM notes.counts }
-    requires place { notes.place < 2 ^ 64 - 1 }
-    ensures noted { (start : QueueCounts) (es : List Entry) → AreRunNotes queue.now start es notes → AreRunNotes queue.now start (es ++ entry ∷ []) result }
-    ensures within { (i : ℕ) → AreNotesWithin i notes → AreNotesWithin (i + 1) result }
-{
-    match notes.found {
-        Some(_) => notes,
-        None => match note_entry(queue, notes.place, notes.counts, entry) {
-            Ok(after) => RunNotes {
-                found: None,
-                counts: after,
-                place: notes.place + 1,
-            },
-            Err(violation) => RunNotes {
-                found: Some(violation),
-                ..notes
-            },
-        },
-    }
-}
+use step_machine::{Event, Machine, Outcome};
 
 /// Lets an event happen, and takes in what it did.
 fn note_event<const B: usize, const M: usize>(
@@ -79,11 +45,7 @@ pub(crate) fn judge<const B: usize, const M: usize>(
     ensures opening { machine.new.history.opening ≡ machine.old.history.opening }
 {
     machine.restart();
-    let mut notes = RunNotes {
-        found: None,
-        counts: at_start(start),
-        place: 0,
-    };
+    let mut notes = nothing_noted(start);
     for event in events {
         notes = note_event(queue, machine, notes, *event)?;
     }

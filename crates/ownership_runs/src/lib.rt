@@ -16,9 +16,9 @@
 pub mod checking;
 pub mod counts;
 pub mod deciding;
+mod indexed_moves;
 mod judging;
 pub mod laws;
-mod moves;
 mod numbers;
 mod parties;
 mod protocols;

@@ -1,10 +1,10 @@
-//! Division by any number, and the positions that lie in a slot.
+//! Quotients and remainders by any number, ranges of bytes, and the positions that lie in a slot.
 
 ghost use Rattle.std.specs.Prelude.{◌≡◌, ◌≤◌, ◌<◌, ◌+◌, ◌/◌, ◌%◌, ◌^◌};
 ghost use Rattle.ownership_runs.specs.Keeping.{is_in_bytes, position_from};
 ghost use Rattle.ownership_runs.specs.inner.Bounds.{ROOM};
 
-/// n / m, and 0 where m is 0.
+/// n / m, and 0 where m is 0: of a queue it isn't known that its numbers divide.
 pub(crate) fn quotient(n: u128, m: u128) -> u128
     ensures value { result ≡ n / m }
     ensures small { result ≤ n }
@@ -20,7 +20,7 @@ pub(crate) fn remainder(n: u128, m: u128) -> u128
     if m == 0 { n } else { n % m }
 }
 
-/// Whether x is one of `count` bytes from an address on.
+/// Whether x is one of `count` bytes from `from` on.
 pub(crate) fn is_in_bytes(from: u128, count: u64, x: u64) -> bool
     ensures { result ≡ is_in_bytes from count x }
 {
@@ -28,7 +28,7 @@ pub(crate) fn is_in_bytes(from: u128, count: u64, x: u64) -> bool
     from <= x && x - from < u128::from(count)
 }
 
-/// The least position from `from` on that lies in this slot of `size`.
+/// The least position from `from` on that lies in slot number `slot` of `size`.
 pub(crate) fn position_from(size: u32, from: u128, slot: u128) -> u128
     requires from { from ≤ ROOM }
     requires slot { slot < 2 ^ 64 }

@@ -1,4 +1,4 @@
-//! The counts of the two parties of a queue.
+//! The counts of a run by party: its own, and what it knows of the other's.
 
 ghost use Rattle.std.specs.Prelude.{◌≡◌};
 ghost use Rattle.queue_parties.specs.Parties.{count, known, with_count, with_known};
@@ -17,7 +17,7 @@ pub(crate) fn count(party: Party, counts: RunCounts) -> u128
     }
 }
 
-/// How many of the other's it knows of.
+/// How many of the other's positions it knows of.
 pub(crate) fn known(party: Party, counts: RunCounts) -> u128
     ensures { result ≡ known (the_party party) counts }
 {
@@ -27,6 +27,7 @@ pub(crate) fn known(party: Party, counts: RunCounts) -> u128
     }
 }
 
+/// The counts with this one as a party's own.
 pub(crate) fn with_count(party: Party, n: u128, counts: RunCounts) -> RunCounts
     ensures { result ≡ with_count (the_party party) n counts }
 {
@@ -39,6 +40,7 @@ pub(crate) fn with_count(party: Party, n: u128, counts: RunCounts) -> RunCounts
     }
 }
 
+/// The counts with this one as what a party knows of the other's.
 pub(crate) fn with_known(party: Party, n: u128, counts: RunCounts) -> RunCounts
     ensures { result ≡ with_known (the_party party) n counts }
 {

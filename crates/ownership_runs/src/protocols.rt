@@ -1,4 +1,4 @@
-//! What is decided by the kind of a queue.
+//! What differs between the kinds of queues, decided for a queue of either: each function hands on to that of the queue's kind.
 
 ghost use Rattle.std.specs.Prelude.{◌≡◌, ◌+◌, ℕ, option_map};
 ghost use Rattle.step_machine.specs.Access.{load, store};
@@ -8,7 +8,7 @@ ghost use Rattle.ownership_runs.specs.inner.Bounds.{STEP, ROOM, AreCountsWithin}
 ghost use Rattle.queue_layouts.specs.Sides.{the_party};
 
 use crate::counts::RunCounts;
-use crate::{moves, tagged_moves};
+use crate::{indexed_moves, tagged_moves};
 use memory::writes::Write;
 use queue_layouts::{AnyQueue, Party, party_among};
 
@@ -28,7 +28,7 @@ pub(crate) fn end_in(queue: &AnyQueue, party: Party, counts: RunCounts) -> u128
     ensures { result ≡ end_in queue.now (the_party party) counts }
 {
     match queue {
-        AnyQueue::Indexed(queue) => moves::end(queue, party, counts),
+        AnyQueue::Indexed(queue) => indexed_moves::end(queue, party, counts),
         AnyQueue::Tagged(queue) => tagged_moves::owned_end(queue, party, counts),
     }
 }
@@ -49,7 +49,7 @@ pub(crate) fn after_load(
     let Some(party) = party else { return counts };
     match queue {
         AnyQueue::Indexed(queue) => {
-            moves::after_load(queue, party, address, width, value, counts)
+            indexed_moves::after_load(queue, party, address, width, value, counts)
         }
         AnyQueue::Tagged(queue) => {
             tagged_moves::after_load(queue, party, address, width, value, counts)
@@ -70,7 +70,7 @@ pub(crate) fn after_store(
 {
     let Some(party) = party else { return counts };
     match queue {
-        AnyQueue::Indexed(queue) => moves::after_store(queue, party, write, counts),
+        AnyQueue::Indexed(queue) => indexed_moves::after_store(queue, party, write, counts),
         AnyQueue::Tagged(queue) => tagged_moves::after_store(queue, party, write, counts),
     }
 }
@@ -87,7 +87,7 @@ pub(crate) fn moves_on(
 {
     let Some(party) = party else { return false };
     match queue {
-        AnyQueue::Indexed(queue) => moves::moves_index(queue, party, counts, write),
+        AnyQueue::Indexed(queue) => indexed_moves::moves_index(queue, party, counts, write),
         AnyQueue::Tagged(queue) => tagged_moves::hands_on(queue, party, counts, write),
     }
 }

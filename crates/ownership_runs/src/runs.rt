@@ -22,12 +22,13 @@ pub struct Moved {
     pub taken: u64,
 }
 
-/// None.
+/// What no run moves on by.
 const NOTHING_MOVED: Moved = Moved {
     published: 0,
     taken: 0,
 };
 
+/// A number of positions, counted up to 18,446,744,073,709,551,615.
 fn capped(n: u128) -> u64
     ensures { result ≡ min n MOST }
 {
@@ -47,7 +48,7 @@ fn moved_by(start: Counts, counts: RunCounts) -> Moved
     }
 }
 
-/// By how much those of some runs and of further ones did.
+/// By how much the parties moved on in some runs and in further ones together.
 fn both(moved: Moved, more: Moved) -> Moved
     ensures published { result.published ≡ min (moved.published + more.published) MOST }
     ensures taken { result.taken ≡ min (moved.taken + more.taken) MOST }

@@ -1,4 +1,4 @@
-//! How tags move counts.
+//! Queues with tags: how accesses to the tags move the counts on.
 
 ghost use Rattle.std.specs.Prelude.{◌≡◌, ◌≤◌, ◌<◌, ◌+◌, ◌-◌, ◌%◌, ◌^◌, ◌==◌, ℕ};
 ghost use Rattle.queue_parties.specs.Parties.{other};
@@ -15,7 +15,8 @@ use crate::parties::{count, known, with_count, with_known};
 use memory::writes::Write;
 use queue_layouts::{Codec, Party, TaggedQueue, other};
 
-/// How far on the position is that a party's tag hands to the other.
+/// How far after its own position the one is that a party's tag hands to the other: the sender hands over the position itself, the
+/// receiver the slot's next one.
 fn gap(queue: &TaggedQueue, party: Party) -> u128
     ensures value { result ≡ gap (slots_of queue.now) (the_party party) }
     ensures small { result < 2 ^ 32 }
@@ -34,7 +35,7 @@ pub(crate) fn owned_end(queue: &TaggedQueue, party: Party, counts: RunCounts) ->
     known(party, counts) + gap(queue, other(party))
 }
 
-/// Whether a tag's number tells a party that it has a position.
+/// Whether a tag of this value tells a party that it has a position.
 fn tells(codec: Codec, party: Party, position: u128, value: u32) -> bool
     requires { position < 2 ^ 128 - 1 }
     ensures { result ≡ tells_by codec (the_party party) position value }
@@ -59,13 +60,14 @@ fn is_tag_of(queue: &TaggedQueue, n: u128, address: u32) -> bool
     ensures { result ≡ (address == tag_of (slots_of queue.now) n) }
 {
     let first = u128::from(queue.slots) + u128::from(queue.tag_offset);
+    // a remainder is as large as a position where the queue has no slot, so that the product may be too large for any address
     let tag = u128::from(queue.width)
         .checked_mul(remainder(n, u128::from(queue.size)))
         .and_then(|far| far.checked_add(first));
     tag == Some(u128::from(address))
 }
 
-/// In which slot an address lies.
+/// The number of the slot in which an address lies.
 fn slot_at(queue: &TaggedQueue, x: u64) -> u128
     ensures value { result ≡ slot_at (slots_of queue.now) x }
     ensures small { result ≤ x }
@@ -147,11 +149,11 @@ pub(crate) fn after_store(
     }
 }
 
-/// The number that the lowest `bytes` bytes of a value are.
-fn in_bytes(value: u32, bytes: u32) -> u32
-    ensures { result ≡ value % 256 ^ bytes }
+/// The number in the lowest `count` bytes of a value.
+fn low_bytes(value: u32, count: u32) -> u32
+    ensures { result ≡ value % 256 ^ count }
 {
-    match bytes {
+    match count {
         0 => 0,
         1 => value % 256,
         2 => value % 65_536,
@@ -165,7 +167,7 @@ fn is_tag_store(queue: &TaggedQueue, party: Party, n: u128, write: Write) -> boo
     requires { n ≤ ROOM }
     ensures { result ≡ is_tag_store (slots_of queue.now) (the_party party) n write }
 {
-    let value = in_bytes(write.value, queue.tag_width);
+    let value = low_bytes(write.value, queue.tag_width);
     is_tag_of(queue, n, write.addr)
         && write.width == queue.tag_width
         && tells(queue.codec, other(party), n + gap(queue, party), value)

@@ -10,7 +10,7 @@ use Rattle.queue_layouts.specs.declared.AnyQueue.{AnyQueue}
 use Rattle.ownership_runs.specs.Protocols.{run_counts}
 use Rattle.ownership_runs.specs.Violations.{first_ownership_violation}
 use Rattle.ownership_runs.specs.inner.Bounds.{STEP, AreCountsWithin}
-use Rattle.ownership_runs.specs.declared.judging.RunNotes.{RunNotes}
+use Rattle.ownership_runs.specs.declared.deciding.RunNotes.{RunNotes}
 
 -- what is noted after these entries: the first violation, if there is one; while there is none, the counts, and how many entries there were
 pub record AreRunNotes (q : AnyQueue) (start : QueueCounts) (es : List Entry) (notes : RunNotes) : Type 0 where

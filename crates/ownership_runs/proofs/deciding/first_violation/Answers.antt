@@ -1,20 +1,23 @@
-use Rattle.std.proofs.Common.{ℕ, ◌≡◌, ◌+◌, ◌*◌, ◌-◌, ◌^◌, sym, ◌∙◌, subst, arith}
-use Rattle.ownership_runs.specs.inner.Bounds.{STEP, AreCountsWithin}
-use Rattle.ownership_runs.proofs.First.{next-kept, next-broken}
+use Rattle.std.proofs.Common.{List, take, ◌∙◌, sym, ap, subst}
+use Rattle.std.proofs.lemmas.List.{take_more, take_all}
+use Rattle.step_machine.specs.declared.events.Entry.{Entry}
+use Rattle.ownership_runs.specs.Violations.{first_ownership_violation}
+use Rattle.ownership_runs.specs.inner.Noting.{AreRunNotes}
 use Rattle.ownership_runs.proofs.deciding.first_violation.Goals as goal
 
-pub loop-place-preserved : goal.loop-place-preserved
-loop-place-preserved c =
-    let bound : ℕ = 2 ^ 64 - 1 + STEP * c.loop-place.place in
-    let further : bound + STEP ≡ 2 ^ 64 - 1 + STEP * (c.loop-place.place + 1) = omega arith in
+pub loop-entry-init : goal.loop-entry-init
+loop-entry-init c = record { noted = c.nothing_noted-notes.ensures.noted c.args.queue.now; within = c.nothing_noted-notes.ensures.within }
+
+pub loop-entry-preserved : goal.loop-entry-preserved
+loop-entry-preserved c =
+    let i = c.loop-entry.entry-index in
+    let es = c.args.entries.now in
     record {
-      within = subst (λ (n : ℕ). AreCountsWithin n n c.in-Ok.after) further (c.in-Ok.ensures.within bound c.loop-place.invariant.within);
-      kept = c.loop-place.invariant.kept
-          ∙ next-kept c.args.queue.now c.loop-place.place c.loop-place.counts c.args.entries.now _ c.loop-place-test.true c.in-Ok.after
-          (sym c.note_entry.ensures.value ∙ c.in-Ok.is);
+      noted = subst (λ (xs : List Entry). AreRunNotes c.args.queue.now c.args.start xs c.note_more-notes.result)
+          (sym (take_more es i _ c.loop-entry-test.true)) (c.note_more-notes.ensures.noted c.args.start (take i es) c.loop-entry.invariant.noted);
+      within = c.note_more-notes.ensures.within i c.loop-entry.invariant.within;
     }
 
-pub returns-in-Err : goal.returns-in-Err
-returns-in-Err c = sym (c.loop-place.invariant.kept
-    ∙ next-broken c.args.queue.now c.loop-place.place c.loop-place.counts c.args.entries.now _ c.loop-place-test.true c.in-Err.violation
-    (sym c.note_entry.ensures.value ∙ c.in-Err.is))
+pub returns : goal.returns
+returns c = c.loop-entry.invariant.noted.found
+    ∙ ap (first_ownership_violation c.args.queue.now c.args.start) (take_all c.loop-entry.entry-index c.args.entries.now c.loop-entry-test.false)

@@ -1,11 +1,9 @@
-use Rattle.std.proofs.Common.{◌≡◌, ◌+◌, ◌-◌, ◌*◌, ◌^◌, drop}
-use Rattle.ownership_runs.specs.Violations.{violation_from, first_ownership_violation}
-use Rattle.ownership_runs.specs.inner.Bounds.{STEP, AreCountsWithin}
+use Rattle.std.proofs.Common.{take}
+use Rattle.ownership_runs.specs.inner.Noting.{AreRunNotes, AreNotesWithin}
 use Rattle.ownership_runs.proofs.deciding.first_violation.Given as goal
 
--- nothing was broken so far
-abbrev pub invariant-loop-place : goal.invariant-loop-place
-invariant-loop-place l = record {
-  within : AreCountsWithin (2 ^ 64 - 1 + STEP * l.place) (2 ^ 64 - 1 + STEP * l.place) l.counts;
-  kept : first_ownership_violation l.queue l.fn.start l.entries ≡ violation_from l.queue l.place l.counts (drop l.place l.entries);
+abbrev pub invariant-loop-entry : goal.invariant-loop-entry
+invariant-loop-entry l = record {
+  noted : AreRunNotes l.queue l.fn.start (take l.entry-index l.entries) l.notes;
+  within : AreNotesWithin l.entry-index l.notes;
 }

@@ -1,7 +1,7 @@
 use Rattle.std.proofs.Common.{ℕ, ◌≡◌, ◌+◌, ◌*◌, ◌-◌, ◌^◌, refl, sym, ◌∙◌, subst, arith}
 use Rattle.ownership_runs.specs.inner.Bounds.{STEP, AreCountsWithin}
 use Rattle.ownership_runs.proofs.Noting.{more-noted, broken-noted, still-broken}
-use Rattle.ownership_runs.proofs.judging.note_more.Goals as goal
+use Rattle.ownership_runs.proofs.deciding.note_more.Goals as goal
 
 pub returns-in-Some-clause-noted : goal.returns-in-Some-clause-noted
 returns-in-Some-clause-noted c start es are = still-broken c.args.queue.now c.args.entry start es c.args.notes are _ c.in-Some.is

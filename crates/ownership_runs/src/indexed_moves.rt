@@ -1,4 +1,4 @@
-//! How indices move counts.
+//! Queues with indices: how accesses to the indices move the counts on.
 
 ghost use Rattle.std.specs.Prelude.{◌≡◌, ◌≤◌, ◌<◌, ◌+◌, ◌/◌, ◌%◌, ◌^◌, ◌==◌, ℕ, option_map};
 ghost use Rattle.queue_parties.specs.Parties.{other};
@@ -15,7 +15,7 @@ use crate::parties::{count, known, with_count, with_known};
 use memory::writes::Write;
 use queue_layouts::{Party, Queue, other};
 
-/// Where the index lies that a party stores, and the other loads.
+/// Where the index lies that a party stores and the other loads.
 fn index(queue: &Queue, party: Party) -> u32
     ensures { result ≡ index queue.now (the_party party) }
 {
@@ -57,6 +57,7 @@ fn is_index_word(queue: &Queue, n: u128, word: u32) -> bool
     ensures { result ≡ (word == index_word queue.now n) }
 {
     let turned = remainder(n + u128::from(queue.offset), u128::from(queue.modulus));
+    // `turned` is as large as a count where the modulus is 0, so that the product may be too large for any word
     let index = u128::from(queue.scale)
         .checked_mul(turned)
         .and_then(|scaled| scaled.checked_add(u128::from(queue.base)));
@@ -84,7 +85,7 @@ pub(crate) fn after_load(
     }
 }
 
-/// Whether a write is one to the party's own index, whole.
+/// Whether a write is to the party's own index, whole.
 fn is_index_store(queue: &Queue, party: Party, write: Write) -> bool
     ensures { result ≡ is_index_store queue.now (the_party party) write }
 {
