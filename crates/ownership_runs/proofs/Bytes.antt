@@ -15,7 +15,7 @@ pub decides-le : (a b : ℕ) → Decides (nat_le a b) (a ≤ b)
 decides-le a b = (λ ok. leb-true a b ok, λ le. le-leb a b le)
 
 pub decides-bytes : (from count x : ℕ) → Decides (is_in_bytes from count x) (IsInBytes from count x)
-decides-bytes from count x = Decides-and (nat_le from x) (nat_lt x (from + count)) (decides-le from x) (Decides-ltb x (from + count))
+decides-bytes from count x = Decides-and _ _ (decides-le from x) (Decides-ltb x (from + count))
 
 module _ (q : AnyQueue) (o : Option Owned) where
   decides-each : (P : ℕ → Type 0) → ((x : ℕ) → Decides (may_fill q o x) (P x)) → (a n : ℕ) → Decides (fills q o a n) ((k : ℕ) → k < n → P (a + k))
@@ -37,7 +37,7 @@ module _ (q : AnyQueue) (o : Option Owned) where
 
   pub decides-bytes_of : (P : ℕ → Type 0) → ((x : ℕ) → Decides (may_fill q o x) (P x)) → (w : Write)
       → Decides (fills q o w.addr w.width) ((x : ℕ) → covers w x ≡ true → P x)
-  decides-bytes_of P each w = Decides-like (fills q o w.addr w.width) there back (decides-each P each w.addr w.width)
+  decides-bytes_of P each w = Decides-like _ there back (decides-each P each w.addr w.width)
     where
       there : ((k : ℕ) → k < w.width → P (w.addr + k)) → (x : ℕ) → covers w x ≡ true → P x
       there all x over =

@@ -1,10 +1,10 @@
 -- What is decided of an entry is what its queue's protocol asks, of one entry and of a run's.
-use Rattle.std.proofs.Common.{ℕ, ◌+◌, ◌*◌, ◌%◌, ◌^◌, ◌≤◌, ◌≡◌, ◌==◌, ◌&&◌, ◌||◌, ◌⊎◌, inl, inr, not, true, false, Option, Some, None, List}
+use Rattle.std.proofs.Common.{ℕ, ◌+◌, ◌*◌, ◌%◌, ◌^◌, ◌≤◌, ◌≡◌, ◌==◌, ◌||◌, ◌⊎◌, true, Option, Some, None, List}
 use Rattle.std.proofs.Common.{refl, sym, ap, ◌∙◌, subst}
-use Rattle.std.specs.Prelude.{nat_le, nat_lt}
 use Rattle.std.specs.Bool.{Decides}
+use Rattle.std.proofs.Math.Bool.{or-false}
 use Rattle.std.proofs.Math.Nat.{mod-mod}
-use Rattle.std.proofs.lemmas.Bool.Decides.{Decides-and, Decides-or, Decides-not, Decides-like, Decides-eqb, Decides-ltb}
+use Rattle.std.proofs.lemmas.Bool.Decides.{Decides-and, Decides-or, Decides-not, Decides-at, Decides-like, Decides-eqb, Decides-ltb}
 use Rattle.memory.specs.declared.writes.Write.{Write}
 use Rattle.memory.specs.Writes.{write, covers}
 use Rattle.step_machine.specs.declared.events.Entry.{Entry}
@@ -13,7 +13,7 @@ use Rattle.step_machine.specs.Entries.{hart_of}
 use Rattle.queue_parties.specs.Parties.{Party, other, QueueCounts, count, KeepsEach}
 use Rattle.queue_parties.specs.Positions.{IsInBytes}
 use Rattle.slot_queue.specs.Queues.{IsOutside, index_word, least}
-use Rattle.slot_queue.specs.Ownership.{index, end, OwnsByte, is_index_store, MovesOn, KeepsAccess}
+use Rattle.slot_queue.specs.Ownership.{index, end, OwnsByte, MovesOn, KeepsAccess}
 use Rattle.slots_that_tell.specs.Slots.{Slots, gap, tag_of, slot_at, IsSlotByte, IsOutside as IsOffSlots}
 use Rattle.slots_that_tell.specs.Telling.{owned_end, OwnsRest, IsTagStore, MovesOn as HandsOn, TellsAccess}
 use Rattle.queue_layouts.specs.declared.AnyQueue.{AnyQueue}
@@ -21,7 +21,7 @@ use Rattle.queue_layouts.specs.declared.AnyQueue.TheVariants.{Indexed, Tagged}
 use Rattle.queue_layouts.specs.Tagged.{slots_of}
 use Rattle.ownership_runs.specs.declared.violations.Owned.{Owned}
 use Rattle.ownership_runs.specs.Protocols.{party_for, access_counts, entry_counts, KeepsOne, Keeps, HasSlot}
-use Rattle.ownership_runs.specs.Keeping.{is_in_bytes, is_outside, is_of_owned, is_tag_byte, is_to_fill, owned_by, fills, moves_index, is_tag_store, hands_on}
+use Rattle.ownership_runs.specs.Keeping.{is_outside, is_to_fill, owned_by, is_tag_store}
 use Rattle.ownership_runs.specs.Keeping.{moves_on, keeps_store, keeps_access, keeps_entry}
 use Rattle.ownership_runs.proofs.Bytes.{decides-le, decides-bytes, decides-bytes_of}
 use Rattle.ownership_runs.proofs.Slots.{IsByteOfOwned, slot-there, decides-owned}
@@ -33,16 +33,11 @@ Outside (Indexed q) x = IsOutside q x
 Outside (Tagged q) x = IsOffSlots (slots_of q) x
 
 decides-outside : (q : AnyQueue) (x : ℕ) → Decides (is_outside q x) (Outside q x)
-decides-outside (Indexed q) x =
-    let h = is_in_bytes q.head q.index_width x in
-    let t = is_in_bytes q.tail q.index_width x in
-    let s = is_in_bytes q.slots (q.size * q.width) x in
-    Decides-like (not h && not t && not s) (λ none. record { head = none.0.0; tail = none.0.1; slots = none.1 })
+decides-outside (Indexed q) x = Decides-like _ (λ none. record { head = none.0.0; tail = none.0.1; slots = none.1 })
     (λ (is : IsOutside q x). ((is.head, is.tail), is.slots))
-    (Decides-and (not h && not t) (not s)
-    (Decides-and (not h) (not t) (Decides-not h (decides-bytes q.head q.index_width x)) (Decides-not t (decides-bytes q.tail q.index_width x)))
-    (Decides-not s (decides-bytes q.slots (q.size * q.width) x)))
-decides-outside (Tagged q) x = Decides-not (is_in_bytes q.slots (q.size * q.width) x) (decides-bytes q.slots (q.size * q.width) x)
+    (Decides-and _ _ (Decides-and _ _ (Decides-not _ (decides-bytes q.head q.index_width x)) (Decides-not _ (decides-bytes q.tail q.index_width x)))
+    (Decides-not _ (decides-bytes q.slots (q.size * q.width) x)))
+decides-outside (Tagged q) x = Decides-not _ (decides-bytes q.slots (q.size * q.width) x)
 
 -- ---- those that a party may fill
 
@@ -56,16 +51,15 @@ tag-there q some k x at = ap (λ (i : ℕ). q.slots + q.width * i + q.tag_offset
     (ap (λ (i : ℕ). i % q.size) (slot-there q.slots q.width q.size some k x at) ∙ mod-mod k q.size)
 
 decides-owns : (q : AnyQueue) → HasSlot q → (p : Party) (c : QueueCounts) (x : ℕ) → Decides (is_to_fill q (owned_by q (Some p) c) x) (Owns q p c x)
-decides-owns (Indexed q) some p c x = Decides-like (is_of_owned q.slots q.size q.width owned x)
+decides-owns (Indexed q) some p c x = Decides-like _
     (λ (is : IsByteOfOwned q.slots q.width q.size owned x). record { position = is.position; from = is.from; before = is.before; byte = is.byte })
     (λ (is : OwnsByte q p c x). record { position = is.position; from = is.from; before = is.before; byte = is.byte })
     (decides-owned q.slots q.width q.size some owned x)
   where
     owned : Owned
     owned = record { from = count p c; end = end q p c }
-decides-owns (Tagged q) some p c x = Decides-like (is_of_owned q.slots q.size q.width owned x && not (is_tag_byte S x)) there back
-    (Decides-and (is_of_owned q.slots q.size q.width owned x) (not (is_tag_byte S x)) (decides-owned q.slots q.width q.size some owned x)
-    (Decides-not (is_tag_byte S x) (decides-bytes (tag_of S (slot_at S x)) q.tag_width x)))
+decides-owns (Tagged q) some p c x = Decides-like _ there back
+    (Decides-and _ _ (decides-owned q.slots q.width q.size some owned x) (Decides-not _ (decides-bytes (tag_of S (slot_at S x)) q.tag_width x)))
   where
     S : Slots
     S = slots_of q
@@ -98,29 +92,22 @@ Moves (Indexed q) p c w = MovesOn q p c w
 Moves (Tagged q) p c w = HandsOn (slots_of q) p c w
 
 decides-tag : (q : Slots) (p : Party) (n : ℕ) (w : Write) → Decides (is_tag_store q p n w) (IsTagStore q p n w)
-decides-tag q p n w =
-    let tells = q.tells (other p) (n + gap q p) (w.value % 256 ^ q.tag_width) in
-    Decides-like (is_tag_store q p n w) (λ all. record { place = all.0.0; width = all.0.1; word = all.1 })
+decides-tag q p n w = Decides-like _ (λ all. record { place = all.0.0; width = all.0.1; word = all.1 })
     (λ (is : IsTagStore q p n w). ((is.place, is.width), is.word))
-    (Decides-and ((w.addr == tag_of q n) && (w.width == q.tag_width)) tells
-    (Decides-and (w.addr == tag_of q n) (w.width == q.tag_width) (Decides-eqb w.addr (tag_of q n)) (Decides-eqb w.width q.tag_width))
-    (λ ok. ok, λ ok. ok))
+    (Decides-and _ (q.tells (other p) (n + gap q p) (w.value % 256 ^ q.tag_width))
+    (Decides-and _ _ (Decides-eqb w.addr (tag_of q n)) (Decides-eqb w.width q.tag_width)) (λ ok. ok, λ ok. ok))
 
 decides-moves : (q : AnyQueue) (p : Party) (c : QueueCounts) (w : Write) → Decides (moves_on q (Some p) c w) (Moves q p c w)
 decides-moves (Indexed q) p c w =
     let far = least q (count p c) w.value in
-    Decides-like (moves_index q p c w) (λ all. record { place = all.0.0.0; width = all.0.0.1; word = all.0.1; owned = all.1 })
+    Decides-like _ (λ all. record { place = all.0.0.0; width = all.0.0.1; word = all.0.1; owned = all.1 })
     (λ (moves : MovesOn q p c w). (((moves.place, moves.width), moves.word), moves.owned))
-    (Decides-and (is_index_store q p w && (w.value == index_word q far)) (nat_le far (end q p c))
-    (Decides-and (is_index_store q p w) (w.value == index_word q far)
-    (Decides-and (w.addr == index q p) (w.width == q.index_width) (Decides-eqb w.addr (index q p)) (Decides-eqb w.width q.index_width))
-    (Decides-eqb w.value (index_word q far)))
-    (decides-le far (end q p c)))
+    (Decides-and _ _ (Decides-and _ _ (Decides-and _ _ (Decides-eqb w.addr (index q p)) (Decides-eqb w.width q.index_width))
+    (Decides-eqb w.value (index_word q far))) (decides-le far (end q p c)))
 decides-moves (Tagged q) p c w =
     let S = slots_of q in
-    Decides-like (hands_on S p c w) (λ both. record { tag = both.0; owned = both.1 }) (λ (moves : HandsOn S p c w). (moves.tag, moves.owned))
-    (Decides-and (is_tag_store S p (count p c) w) (nat_lt (count p c) (owned_end S p c)) (decides-tag S p (count p c) w)
-    (Decides-ltb (count p c) (owned_end S p c)))
+    Decides-like _ (λ both. record { tag = both.0; owned = both.1 }) (λ (moves : HandsOn S p c w). (moves.tag, moves.owned))
+    (Decides-and _ _ (decides-tag S p (count p c) w) (Decides-ltb (count p c) (owned_end S p c)))
 
 -- ---- stores of a hart, which is a party or none
 
@@ -129,14 +116,10 @@ MayStore q (Some p) c w = Moves q p c w ⊎ ((x : ℕ) → covers w x ≡ true �
 MayStore q None c w = (x : ℕ) → covers w x ≡ true → Outside q x
 
 decides-store : (q : AnyQueue) → HasSlot q → (t : Option Party) (c : QueueCounts) (w : Write) → Decides (keeps_store q t c w) (MayStore q t c w)
-decides-store q some (Some p) c w =
-    let owned = owned_by q (Some p) c in
-    Decides-or (moves_on q (Some p) c w) (fills q owned w.addr w.width) (decides-moves q p c w)
-    (decides-bytes_of q owned (λ x. Outside q x ⊎ Owns q p c x)
-    (λ x. Decides-or (is_outside q x) (is_to_fill q owned x) (decides-outside q x) (decides-owns q some p c x)) w)
-decides-store q some None c w = decides-bytes_of q None (Outside q)
-    (λ x. Decides-like (is_outside q x || false) (λ either. elim either [ inl is ↦ is | inr none ↦ absurd none ]) (λ is. inl is)
-    (Decides-or (is_outside q x) false (decides-outside q x) (λ no. cc, λ none. absurd none))) w
+decides-store q some (Some p) c w = Decides-or _ _ (decides-moves q p c w)
+    (decides-bytes_of q (owned_by q (Some p) c) (λ x. Outside q x ⊎ Owns q p c x)
+    (λ x. Decides-or _ _ (decides-outside q x) (decides-owns q some p c x)) w)
+decides-store q some None c w = decides-bytes_of q None (Outside q) (λ x. Decides-at _ _ (or-false (is_outside q x)) (decides-outside q x)) w
 
 -- ---- accesses and entries
 
@@ -148,8 +131,7 @@ decides-exchange : (q : AnyQueue) → HasSlot q → (t : Option Party) (c : Queu
     → Decides (new == old || keeps_store q t (access_counts q t (load a 4 old) c) (write a 4 new))
     ((new ≡ old) ⊎ MayStore q t (access_counts q t (load a 4 old) c) (write a 4 new))
 decides-exchange q some t c a old new =
-    let loaded = access_counts q t (load a 4 old) c in
-    Decides-or (new == old) (keeps_store q t loaded (write a 4 new)) (Decides-eqb new old) (decides-store q some t loaded (write a 4 new))
+    Decides-or _ _ (Decides-eqb new old) (decides-store q some t (access_counts q t (load a 4 old) c) (write a 4 new))
 
 decides-access : (q : AnyQueue) → HasSlot q → (t : Option Party) (c : QueueCounts) (x : Access) → Decides (keeps_access q t c x) (KeepsBy q t c x)
 decides-access (Indexed q) some (Some p) c (store w) = decides-store (Indexed q) some (Some p) c w

@@ -1,5 +1,5 @@
 -- Where none of a run's events can go without its violation, the last one adds the violation.
-use Rattle.std.proofs.Common.{ℕ, suc, ◌+◌, ◌<◌, ◌≡◌, ◌⊎◌, Bool, true, false, List, [], ◌∷◌, ◌++◌, length, drop, Some, None}
+use Rattle.std.proofs.Common.{ℕ, suc, ◌+◌, ◌<◌, ◌≡◌, ◌⊎◌, Bool, true, false, List, [], ◌∷◌, ◌++◌, length, drop, Some, None, Ok, Err}
 use Rattle.std.proofs.Common.{inl, inr, refl, sym, ap, ◌∙◌, subst, arith}
 use Rattle.std.specs.Prelude.{Option, if◌then◌else◌}
 use Rattle.std.proofs.lemmas.List.{length-append}
@@ -17,12 +17,14 @@ use Rattle.shrink.specs.Shrinking.{without}
 use Rattle.drawn_runs.proofs.LastEvents.{LastHappens, last_happens}
 use Rattle.judged_runs.specs.Telling.{IsFlawTold}
 use Rattle.ownership_runs.specs.declared.violations.Violation.{Violation}
-use Rattle.ownership_runs.specs.Protocols.{run_counts}
+use Rattle.ownership_runs.specs.declared.deciding.RunNotes.{RunNotes}
+use Rattle.ownership_runs.specs.Protocols.{entry_counts, run_counts}
 use Rattle.ownership_runs.specs.Keeping.{keeps_entry}
 use Rattle.ownership_runs.specs.Violations.{violation_at, first_ownership_violation}
 use Rattle.ownership_runs.specs.Runs.{HasKeptRun, HasBrokenRun, IsOfOneHart}
 use Rattle.ownership_runs.specs.Ends.{EndsInViolation}
-use Rattle.ownership_runs.proofs.Noting.{more-kept, more-broken}
+use Rattle.ownership_runs.specs.inner.Noting.{nothing_noted, noted_as, noted_more, noted_all}
+use Rattle.ownership_runs.proofs.Noting.{noted-append, first-noted, all-noted, nothing-more}
 
 -- ---- a list and its last event
 
@@ -67,15 +69,22 @@ module _ (q : AnyQueue) (start : QueueCounts) (es : List Entry) (e : Entry) (b :
   before-or-last : (first_ownership_violation q start es ≡ Some b) ⊎ IsLast
   before-or-last = by (first_ownership_violation q start es) refl
     where
-      here : (ok : Bool) → (if ok then None else Some (violation_at q (0 + length es) (run_counts q start es) e)) ≡ Some b → IsLast
-      here true none = cc
-      here false is = let at : 0 + length es ≡ length es = omega arith in
-          let same : violation_at q (0 + length es) (run_counts q start es) e ≡ b = cc in
-          sym same ∙ ap (λ (n : ℕ). violation_at q n (run_counts q start es) e) at
+      notes : RunNotes
+      notes = noted_all q (nothing_noted start) es
+
+      more : (noted_more q notes e).found ≡ Some b
+      more = ap (λ (n : RunNotes). n.found) (sym (noted-append q (nothing_noted start) es (e ∷ []))) ∙ first-noted q start (es ++ e ∷ []) ∙ found
+
+      at : (ok : Bool) → (noted_as (record { found = None; counts = run_counts q start es; place = length es })
+          (if ok then Ok (entry_counts q (run_counts q start es) e) else Err (violation_at q (length es) (run_counts q start es) e))).found ≡ Some b → IsLast
+      at true none = cc
+      at false is = cc
 
       by : (x : Option Violation) → first_ownership_violation q start es ≡ x → (first_ownership_violation q start es ≡ Some b) ⊎ IsLast
-      by None none = inr (here (keeps_entry q (run_counts q start es) e) (sym (more-kept q e 0 start es none) ∙ found))
-      by (Some a) some = inl (some ∙ sym (more-broken q e 0 start es a some) ∙ found)
+      by None none = inr (at (keeps_entry q (run_counts q start es) e)
+          (ap (λ (n : RunNotes). (noted_more q n e).found) (sym (all-noted q start es none)) ∙ more))
+      by (Some a) some = inl (sym (first-noted q start es)
+          ∙ ap (λ (n : RunNotes). n.found) (sym (nothing-more q notes a e (first-noted q start es ∙ some))) ∙ more)
 
 module _ (B M : ℕ) (o : OpeningValue) (q : AnyQueue) (start : QueueCounts) (part : List Event) (b : Violation) where
   -- none of its events can go

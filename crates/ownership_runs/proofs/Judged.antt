@@ -1,5 +1,5 @@
 -- What the judgement of runs says of them.
-use Rattle.std.proofs.Common.{ℕ, ◌≡◌, ◌+◌, min, List, [], ◌∷◌, ◌++◌, Some, refl, sym, ap, subst, ◌∙◌, arith}
+use Rattle.std.proofs.Common.{ℕ, ◌≡◌, ◌+◌, min, List, [], ◌∷◌, ◌++◌, Some, sym, ap, subst, ◌∙◌, arith}
 use Rattle.step_machine.specs.declared.events.Event.{Event}
 use Rattle.step_machine.specs.declared.events.Entry.{Entry}
 use Rattle.step_machine.specs.History.{OpeningValue, History, history_of, at_opening}
@@ -58,9 +58,6 @@ module _ (B M : ℕ) (o : OpeningValue) (q : AnyQueue) (start : QueueCounts) whe
     kept-run some free = record { history = free.history; run = free.run; keeps = kept-all q some start free.history.entries free.none }
 
   -- ---- by how much the parties moved on
-
-  pub none-moved : AreMovesOf B M o q start [] (record { published = 0; taken = 0 })
-  none-moved = record { histories = []; runs = tt; published = refl; taken = refl }
 
   -- the same runs moved on by as much
   pub moves-one : (all : List (List Event)) (a b : Moved) → AreMovesOf B M o q start all a → AreMovesOf B M o q start all b → a ≡ b

@@ -1,6 +1,7 @@
--- What is noted of a run, one entry more.
-use Rattle.std.proofs.Common.{ℕ, ◌+◌, ◌≡◌, Bool, true, false, List, [], ◌∷◌, ◌++◌, length, Some, None, Ok, Err, refl, sym, ap, ◌∙◌, subst, arith, length-append}
+-- What is noted of a run: its first violation, and while there is none the counts.
+use Rattle.std.proofs.Common.{ℕ, ◌+◌, ◌<◌, ◌≡◌, Bool, true, false, List, [], ◌∷◌, ◌++◌, length, take, get_or, Some, None, Ok, Err, refl, sym, ap, ◌∙◌, arith}
 use Rattle.std.specs.Prelude.{if◌then◌else◌}
+use Rattle.std.proofs.lemmas.List.{take_more}
 use Rattle.step_machine.specs.declared.events.Entry.{Entry}
 use Rattle.step_machine.specs.declared.events.Event.{Event}
 use Rattle.step_machine.specs.declared.events.Outcome.{Outcome}
@@ -8,107 +9,75 @@ use Rattle.step_machine.specs.declared.events.Outcome.TheVariants as outcome
 use Rattle.step_machine.specs.History.{History}
 use Rattle.step_machine.specs.Runs.{Happens}
 use Rattle.queue_parties.specs.Parties.{QueueCounts}
-use Rattle.queue_parties.proofs.Parties.{counts-append}
 use Rattle.queue_layouts.specs.declared.AnyQueue.{AnyQueue}
 use Rattle.ownership_runs.specs.declared.violations.Violation.{Violation}
 use Rattle.ownership_runs.specs.declared.deciding.RunNotes.{RunNotes}
 use Rattle.ownership_runs.specs.Protocols.{entry_counts, run_counts}
 use Rattle.ownership_runs.specs.Keeping.{keeps_entry}
 use Rattle.ownership_runs.specs.Violations.{violation_at, judged_entry, violation_from, first_ownership_violation}
-use Rattle.ownership_runs.specs.inner.Noting.{AreRunNotes, IsEventJudged}
+use Rattle.ownership_runs.specs.inner.Noting.{nothing_noted, noted_as, noted_more, noted_all, noted_after}
 
-module _ (q : AnyQueue) (e : Entry) where
-  -- entries that break nothing, and then one more
-  pub more-kept : (place : ℕ) (c : QueueCounts) (es : List Entry) → violation_from q place c es ≡ None
-      → violation_from q place c (es ++ e ∷ []) ≡ violation_from q (place + length es) (run_counts q c es) (e ∷ [])
-  more-kept place c [] none = let same : place ≡ place + 0 = omega arith in ap (λ (n : ℕ). violation_from q n c (e ∷ [])) same
-  more-kept place c (d ∷ es) none = by (λ rest. more-kept (place + 1) (entry_counts q c d) es rest) (keeps_entry q c d) none
-    where
-      by : (violation_from q (place + 1) (entry_counts q c d) es ≡ None → violation_from q (place + 1) (entry_counts q c d) (es ++ e ∷ [])
-          ≡ violation_from q (place + 1 + length es) (run_counts q (entry_counts q c d) es) (e ∷ [])) → (ok : Bool)
-          → (if ok then violation_from q (place + 1) (entry_counts q c d) es else Some (violation_at q place c d)) ≡ None
-          → (if ok then violation_from q (place + 1) (entry_counts q c d) (es ++ e ∷ []) else Some (violation_at q place c d))
-          ≡ violation_from q (place + length (d ∷ es)) (run_counts q (entry_counts q c d) es) (e ∷ [])
-      by later true rest =
-          let further : place + 1 + length es ≡ place + length (d ∷ es) = omega arith in
-          later rest ∙ ap (λ (n : ℕ). violation_from q n (run_counts q (entry_counts q c d) es) (e ∷ [])) further
-      by later false some = cc
+module _ (q : AnyQueue) where
+  pub noted-append : (notes : RunNotes) (xs ys : List Entry) → noted_all q notes (xs ++ ys) ≡ noted_all q (noted_all q notes xs) ys
+  noted-append notes [] ys = refl
+  noted-append notes (x ∷ xs) ys = noted-append (noted_more q notes x) xs ys
 
   -- the first violation stays the first
-  pub more-broken : (place : ℕ) (c : QueueCounts) (es : List Entry) (b : Violation) → violation_from q place c es ≡ Some b
-      → violation_from q place c (es ++ e ∷ []) ≡ Some b
-  more-broken place c [] b found = cc
-  more-broken place c (d ∷ es) b found = by (λ rest. more-broken (place + 1) (entry_counts q c d) es b rest) (keeps_entry q c d) found
+  still-broken : (place : ℕ) (c : QueueCounts) (b : Violation) (es : List Entry)
+      → noted_all q (record { found = Some b; counts = c; place = place }) es ≡ record { found = Some b; counts = c; place = place }
+  still-broken place c b [] = refl
+  still-broken place c b (e ∷ es) = still-broken place c b es
+
+  abbrev Kept : (place : ℕ) → QueueCounts → RunNotes
+  Kept place c = record { found = None; counts = c; place = place }
+
+  found-from : (place : ℕ) (c : QueueCounts) (es : List Entry) → (noted_all q (Kept place c) es).found ≡ violation_from q place c es
+  found-from place c [] = refl
+  found-from place c (e ∷ es) = by (found-from (place + 1) (entry_counts q c e) es) (keeps_entry q c e)
     where
-      by : (violation_from q (place + 1) (entry_counts q c d) es ≡ Some b
-          → violation_from q (place + 1) (entry_counts q c d) (es ++ e ∷ []) ≡ Some b) → (ok : Bool)
-          → (if ok then violation_from q (place + 1) (entry_counts q c d) es else Some (violation_at q place c d)) ≡ Some b
-          → (if ok then violation_from q (place + 1) (entry_counts q c d) (es ++ e ∷ []) else Some (violation_at q place c d)) ≡ Some b
-      by later true rest = later rest
-      by later false here = here
+      by : (noted_all q (Kept (place + 1) (entry_counts q c e)) es).found ≡ violation_from q (place + 1) (entry_counts q c e) es → (ok : Bool)
+          → (noted_all q (noted_as (Kept place c) (if ok then Ok (entry_counts q c e) else Err (violation_at q place c e))) es).found
+          ≡ (if ok then violation_from q (place + 1) (entry_counts q c e) es else Some (violation_at q place c e))
+      by later true = later
+      by later false = ap (λ (notes : RunNotes). notes.found) (still-broken place c (violation_at q place c e) es)
 
-  -- what is judged of one entry is what is found of it alone
-  one-kept : (place : ℕ) (c next : QueueCounts) → judged_entry q place c e ≡ Ok next
-      → (violation_from q place c (e ∷ []) ≡ None) × (entry_counts q c e ≡ next)
-  one-kept place c next is = by (keeps_entry q c e) is
+  kept-from : (place : ℕ) (c : QueueCounts) (es : List Entry) → violation_from q place c es ≡ None
+      → noted_all q (Kept place c) es ≡ Kept (place + length es) (run_counts q c es)
+  kept-from place c [] none = ap (λ (n : ℕ). Kept n c) (let same : place ≡ place + 0 = omega arith in same)
+  kept-from place c (e ∷ es) none = by (λ rest. kept-from (place + 1) (entry_counts q c e) es rest) (keeps_entry q c e) none
     where
-      by : (ok : Bool) → (if ok then Ok (entry_counts q c e) else Err (violation_at q place c e)) ≡ Ok next
-          → ((if ok then None else Some (violation_at q place c e)) ≡ None) × (entry_counts q c e ≡ next)
-      by true same = (refl, cc)
-      by false other = (cc, cc)
+      by : (violation_from q (place + 1) (entry_counts q c e) es ≡ None
+          → noted_all q (Kept (place + 1) (entry_counts q c e)) es ≡ Kept (place + 1 + length es) (run_counts q (entry_counts q c e) es)) → (ok : Bool)
+          → (if ok then violation_from q (place + 1) (entry_counts q c e) es else Some (violation_at q place c e)) ≡ None
+          → noted_all q (noted_as (Kept place c) (if ok then Ok (entry_counts q c e) else Err (violation_at q place c e))) es
+          ≡ Kept (place + length (e ∷ es)) (run_counts q (entry_counts q c e) es)
+      by later true rest =
+          let further : place + 1 + length es ≡ place + length (e ∷ es) = omega arith in
+          later rest ∙ ap (λ (n : ℕ). Kept n (run_counts q (entry_counts q c e) es)) further
+      by later false some = cc
 
-  one-broken : (place : ℕ) (c : QueueCounts) (b : Violation) → judged_entry q place c e ≡ Err b → violation_from q place c (e ∷ []) ≡ Some b
-  one-broken place c b is = by (keeps_entry q c e) is
-    where
-      by : (ok : Bool) → (if ok then Ok (entry_counts q c e) else Err (violation_at q place c e)) ≡ Err b
-          → (if ok then None else Some (violation_at q place c e)) ≡ Some b
-      by true other = cc
-      by false same = cc
+  pub first-noted : (start : QueueCounts) (es : List Entry) → (noted_all q (nothing_noted start) es).found ≡ first_ownership_violation q start es
+  first-noted start es = found-from 0 start es
 
-  module _ (start : QueueCounts) (es : List Entry) (notes : RunNotes) (are : AreRunNotes q start es notes) where
-    after-none : notes.found ≡ None → first_ownership_violation q start (es ++ e ∷ []) ≡ violation_from q notes.place notes.counts (e ∷ [])
-    after-none none =
-        let at : 0 + length es ≡ notes.place = sym (are.place none ∙ (let zero : length es ≡ 0 + length es = omega arith in zero)) in
-        more-kept 0 start es (sym are.found ∙ none) ∙ ap (λ (n : ℕ). violation_from q n (run_counts q start es) (e ∷ [])) at
-        ∙ ap (λ (c : QueueCounts). violation_from q notes.place c (e ∷ [])) (sym (are.counts none))
+  pub all-noted : (start : QueueCounts) (es : List Entry) → first_ownership_violation q start es ≡ None
+      → noted_all q (nothing_noted start) es ≡ Kept (length es) (run_counts q start es)
+  all-noted start es none = kept-from 0 start es none
+      ∙ ap (λ (n : ℕ). Kept n (run_counts q start es)) (let same : 0 + length es ≡ length es = omega arith in same)
 
-    pub more-noted : notes.found ≡ None → (next : QueueCounts) → judged_entry q notes.place notes.counts e ≡ Ok next → (new : RunNotes)
-        → new ≡ record { found = None; counts = next; place = notes.place + 1 } → AreRunNotes q start (es ++ e ∷ []) new
-    more-noted none next is new same = subst (AreRunNotes q start (es ++ e ∷ [])) (sym same) (record {
-      found = sym (after-none none ∙ (one-kept notes.place notes.counts next is).0);
-      counts = λ _. sym (one-kept notes.place notes.counts next is).1 ∙ ap (λ (c : QueueCounts). entry_counts q c e) (are.counts none)
-          ∙ sym (counts-append (entry_counts q) start es (e ∷ []));
-      place = λ _. ap (λ (n : ℕ). n + 1) (are.place none) ∙ sym (length-append es (e ∷ []));
-    })
+  pub nothing-more : (notes : RunNotes) (b : Violation) (e : Entry) → notes.found ≡ Some b → noted_more q notes e ≡ notes
+  nothing-more notes b e found =
+      ap (λ x. elim x [ None ↦ noted_as notes (judged_entry q notes.place notes.counts e) | Some violation ↦ notes ]) found
 
-    pub broken-noted : notes.found ≡ None → (b : Violation) → judged_entry q notes.place notes.counts e ≡ Err b → (new : RunNotes) → new.found ≡ Some b
-        → AreRunNotes q start (es ++ e ∷ []) new
-    broken-noted none b is new same = record {
-      found = same ∙ sym (after-none none ∙ one-broken notes.place notes.counts b is);
-      counts = λ no_violation. cc;
-      place = λ no_violation. cc;
-    }
+  -- the notes of the first i entries, and the next one more
+  pub next-noted : (start : QueueCounts) (es : List Entry) (i : ℕ) (d : Entry) (notes new : RunNotes) → i < length es
+      → notes ≡ noted_all q (nothing_noted start) (take i es) → new ≡ noted_more q notes (get_or es i d)
+      → new ≡ noted_all q (nothing_noted start) (take (i + 1) es)
+  next-noted start es i d notes new within are is = is ∙ ap (λ (n : RunNotes). noted_more q n (get_or es i d)) are
+      ∙ sym (noted-append (nothing_noted start) (take i es) (get_or es i d ∷ [])) ∙ ap (noted_all q (nothing_noted start)) (sym (take_more es i d within))
 
-    pub still-broken : (b : Violation) → notes.found ≡ Some b → AreRunNotes q start (es ++ e ∷ []) notes
-    still-broken b some = record {
-      found = some ∙ sym (more-broken 0 start es b (sym are.found ∙ some));
-      counts = λ none. cc;
-      place = λ none. cc;
-    }
-
-module _ (B M : ℕ) (q : AnyQueue) (ev : Event) (t u : History) where
-  pub did-noted : (e : Entry) (notes new : RunNotes) → Happens B M t ev (outcome.Did e) u
-      → ((start : QueueCounts) (es : List Entry) → AreRunNotes q start es notes → AreRunNotes q start (es ++ e ∷ []) new)
-      → IsEventJudged B M q ev t notes u new
-  did-noted e notes new happens more = record {
-    outcome = outcome.Did e;
-    happens = happens;
-    noted = λ start are. subst (λ (v : History). AreRunNotes q start v.entries new) (sym happens.after) (more start t.entries are);
-  }
-
-  pub idle-noted : (o : Outcome) (notes : RunNotes) → Happens B M t ev o u → u ≡ t → IsEventJudged B M q ev t notes u notes
-  idle-noted o notes happens same = record {
-    outcome = o;
-    happens = happens;
-    noted = λ start are. subst (λ (v : History). AreRunNotes q start v.entries notes) (sym same) are;
-  }
+  -- what an event adds is noted as in the run with it
+  pub event-noted : (B M : ℕ) (start : QueueCounts) (ev : Event) (t u : History) (o : Outcome) → Happens B M t ev o u
+      → noted_after q (noted_all q (nothing_noted start) t.entries) o ≡ noted_all q (nothing_noted start) u.entries
+  event-noted B M start ev t u (outcome.Did e) adds = sym (noted-append (nothing_noted start) t.entries (e ∷ []))
+      ∙ ap (λ (v : History). noted_all q (nothing_noted start) v.entries) (sym adds.after)
+  event-noted B M start ev t u o idles = ap (λ (v : History). noted_all q (nothing_noted start) v.entries) (sym idles.after)

@@ -69,5 +69,4 @@ module _ (slots width size : ℕ) (some : 1 ≤ size) where
       back owns =
           let low : k ≤ owns.position = position-least o.from owns.position x owns.from owns.byte in
           let less : k < o.end = omega (arith, low, owns.before) in
-          (Decides-and (is_in_bytes slots (size * width) x) (nat_lt k o.end) (decides-bytes slots (size * width) x) (Decides-ltb k o.end)).1
-          (slot-within slots width size some owns.position x owns.byte, less)
+          (Decides-and _ _ (decides-bytes slots (size * width) x) (Decides-ltb k o.end)).1 (slot-within slots width size some owns.position x owns.byte, less)

@@ -1,12 +1,9 @@
 //! Whether the entries of a run keep a queue's protocol.
 
-ghost use Rattle.std.specs.Prelude.{◌≡◌, ◌≤◌, ◌<◌, ◌+◌, ◌-◌, ◌^◌, ◌++◌, ◌∷◌, ℕ, [], List, option_map, Ok, IfOk};
-ghost use Rattle.step_machine.specs.declared.events.Entry.{Entry};
-ghost use Rattle.queue_parties.specs.Parties.{QueueCounts};
-ghost use Rattle.queue_layouts.specs.declared.AnyQueue.{AnyQueue};
+ghost use Rattle.std.specs.Prelude.{◌≡◌, ◌≤◌, ◌<◌, ◌+◌, ◌-◌, ◌^◌, ℕ, option_map, Ok, IfOk};
 ghost use Rattle.ownership_runs.specs.Violations.{judged_store, judged_exchange, judged_entry, first_ownership_violation};
 ghost use Rattle.ownership_runs.specs.inner.Bounds.{STEP, ROOM, AreCountsWithin};
-ghost use Rattle.ownership_runs.specs.inner.Noting.{AreRunNotes, AreNotesWithin};
+ghost use Rattle.ownership_runs.specs.inner.Noting.{nothing_noted, noted_more, AreNotesWithin};
 ghost use Rattle.queue_layouts.specs.Sides.{the_party};
 
 use crate::counts::{Counts, RunCounts, at_start};
@@ -117,7 +114,7 @@ pub(crate) struct RunNotes {
 
 /// What is noted before the first entry of a run that begins where the parties have come as far as `start`.
 pub(crate) fn nothing_noted(start: Counts) -> RunNotes
-    ensures noted { (q : AnyQueue) → AreRunNotes q start [] result }
+    ensures value { result ≡ nothing_noted start }
     ensures within { AreNotesWithin 0 result }
 {
     RunNotes {
@@ -131,7 +128,7 @@ pub(crate) fn nothing_noted(start: Counts) -> RunNotes
 pub(crate) fn note_more(queue: &AnyQueue, notes: RunNotes, entry: Entry) -> RunNotes
     requires counts { AreCountsWithin ROOM ROOM notes.counts }
     requires place { notes.place < 2 ^ 64 - 1 }
-    ensures noted { (start : QueueCounts) (es : List Entry) → AreRunNotes queue.now start es notes → AreRunNotes queue.now start (es ++ entry ∷ []) result }
+    ensures value { result ≡ noted_more queue.now notes entry }
     ensures within { (i : ℕ) → AreNotesWithin i notes → AreNotesWithin (i + 1) result }
 {
     match notes.found {

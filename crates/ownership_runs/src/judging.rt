@@ -1,9 +1,11 @@
 //! One run, judged as its events happen.
 
-ghost use Rattle.std.specs.Prelude.{◌≡◌, ◌≤◌, ◌<◌, ◌+◌, ◌-◌, ◌^◌, ℕ, IfOk, OnOk};
+ghost use Rattle.std.specs.Prelude.{◌≡◌, ◌≤◌, ◌<◌, ◌+◌, ◌-◌, ◌^◌, ℕ, None, IfOk, OnOk};
 ghost use Rattle.step_machine.specs.Runs.{Run};
+ghost use Rattle.ownership_runs.specs.Protocols.{run_counts};
+ghost use Rattle.ownership_runs.specs.Violations.{first_ownership_violation};
 ghost use Rattle.ownership_runs.specs.inner.Bounds.{ROOM, AreCountsWithin};
-ghost use Rattle.ownership_runs.specs.inner.Noting.{AreRunNotes, AreNotesWithin, IsEventJudged};
+ghost use Rattle.ownership_runs.specs.inner.Noting.{nothing_noted, noted_all, AreNotesWithin, IsEventJudged};
 
 use crate::counts::Counts;
 use crate::deciding::{RunNotes, note_more, nothing_noted};
@@ -41,7 +43,9 @@ pub(crate) fn judge<const B: usize, const M: usize>(
     events: &[Event],
 ) -> Result<RunNotes, AllocError>
     ensures run { OnOk result (Run B M machine.old.history.opening events.now machine.new.history) }
-    ensures noted { IfOk result (AreRunNotes queue.now start machine.new.history.entries) }
+    ensures noted { IfOk result (λ notes. notes ≡ noted_all queue.now (nothing_noted start) machine.new.history.entries) }
+    ensures found { IfOk result (λ notes. notes.found ≡ first_ownership_violation queue.now start machine.new.history.entries) }
+    ensures counts { IfOk result (λ notes. notes.found ≡ None → notes.counts ≡ run_counts queue.now start machine.new.history.entries) }
     ensures opening { machine.new.history.opening ≡ machine.old.history.opening }
 {
     machine.restart();

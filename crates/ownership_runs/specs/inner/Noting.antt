@@ -1,22 +1,38 @@
 -- What is noted of a run as its entries come.
-use Rattle.std.specs.Prelude.{ℕ, ◌≡◌, ◌+◌, ◌-◌, ◌*◌, ◌^◌, ◌≤◌, List, length, None}
+use Rattle.std.specs.Prelude.{ℕ, ◌≡◌, ◌+◌, ◌-◌, ◌*◌, ◌^◌, ◌≤◌, List, [], ◌∷◌, None, Some, Result, Ok, Err}
 use Rattle.step_machine.specs.declared.events.Entry.{Entry}
 use Rattle.step_machine.specs.declared.events.Event.{Event}
 use Rattle.step_machine.specs.declared.events.Outcome.{Outcome}
+use Rattle.step_machine.specs.declared.events.Outcome.TheVariants as outcome
 use Rattle.step_machine.specs.History.{History}
 use Rattle.step_machine.specs.Runs.{Happens}
 use Rattle.queue_parties.specs.Parties.{QueueCounts}
 use Rattle.queue_layouts.specs.declared.AnyQueue.{AnyQueue}
-use Rattle.ownership_runs.specs.Protocols.{run_counts}
-use Rattle.ownership_runs.specs.Violations.{first_ownership_violation}
-use Rattle.ownership_runs.specs.inner.Bounds.{STEP, AreCountsWithin}
+use Rattle.ownership_runs.specs.declared.violations.Violation.{Violation}
 use Rattle.ownership_runs.specs.declared.deciding.RunNotes.{RunNotes}
+use Rattle.ownership_runs.specs.Violations.{judged_entry}
+use Rattle.ownership_runs.specs.inner.Bounds.{STEP, AreCountsWithin}
 
--- what is noted after these entries: the first violation, if there is one; while there is none, the counts, and how many entries there were
-pub record AreRunNotes (q : AnyQueue) (start : QueueCounts) (es : List Entry) (notes : RunNotes) : Type 0 where
-  pub found : notes.found ≡ first_ownership_violation q start es
-  pub counts : notes.found ≡ None → notes.counts ≡ run_counts q start es
-  pub place : notes.found ≡ None → notes.place ≡ length es
+-- before the first entry
+abbrev pub nothing_noted : (start : QueueCounts) → RunNotes
+nothing_noted start = record { found = None; counts = start; place = 0 }
+
+-- an entry more, of which this is judged
+abbrev pub noted_as : RunNotes → Result QueueCounts Violation → RunNotes
+noted_as notes (Ok after) = record { found = None; counts = after; place = notes.place + 1 }
+noted_as notes (Err violation) = record notes { found = Some violation }
+
+-- after a violation nothing more is noted
+abbrev pub noted_more : AnyQueue → RunNotes → Entry → RunNotes
+noted_more q notes e = elim (notes.found) [ None ↦ noted_as notes (judged_entry q notes.place notes.counts e) | Some violation ↦ notes ]
+
+abbrev pub noted_all : AnyQueue → RunNotes → List Entry → RunNotes
+noted_all q notes [] = notes
+noted_all q notes (e ∷ es) = noted_all q (noted_more q notes e) es
+
+abbrev pub noted_after : AnyQueue → RunNotes → Outcome → RunNotes
+noted_after q notes (outcome.Did e) = noted_more q notes e
+noted_after q notes nothing_done = notes
 
 -- what is noted after so many events is so small
 pub record AreNotesWithin (i : ℕ) (notes : RunNotes) : Type 0 where
@@ -27,4 +43,4 @@ pub record AreNotesWithin (i : ℕ) (notes : RunNotes) : Type 0 where
 pub record IsEventJudged (B M : ℕ) (q : AnyQueue) (ev : Event) (t : History) (notes : RunNotes) (u : History) (new : RunNotes) : Type 0 where
   pub outcome : Outcome
   pub happens : Happens B M t ev outcome u
-  pub noted : (start : QueueCounts) → AreRunNotes q start t.entries notes → AreRunNotes q start u.entries new
+  pub noted : new ≡ noted_after q notes outcome
