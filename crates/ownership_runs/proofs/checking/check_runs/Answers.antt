@@ -23,5 +23,5 @@ returns g c =
     (λ told. IsTold Keeps Has IsOfOneHart Counts (schedule d.stream) d.number told)
     (λ told is. told_better Good Keeps Has IsOfOneHart Counts (schedule d.stream) d.number
     (λ events free. kept-run g.row.B g.row.M o q start events c.requires.some_slot free) told
-    (subst (λ (s : Stream). IsTold Good Has IsOfOneHart Counts (schedule s) d.number told) c.in_ok-from.ensures is))
+    (subst (λ (s : Stream). IsTold Good Has IsOfOneHart Counts (schedule s) d.number told) {y = d.stream} c.in_ok-from.ensures is))
     c.told_of_runs.ensures
