@@ -21,12 +21,11 @@ use Rattle.queue_layouts.specs.declared.AnyQueue.TheVariants.{Indexed, Tagged}
 use Rattle.queue_layouts.specs.Tagged.{slots_of}
 use Rattle.ownership_runs.specs.declared.violations.Owned.{Owned}
 use Rattle.ownership_runs.specs.Protocols.{party_for, access_counts, entry_counts, KeepsOne, Keeps, HasSlot}
-use Rattle.ownership_runs.specs.Keeping.{is_outside, is_to_fill, owned_by, is_tag_store}
-use Rattle.ownership_runs.specs.Keeping.{moves_on, keeps_store, keeps_access, keeps_entry}
+use Rattle.ownership_runs.specs.Keeping.{is_outside, is_to_fill, owned_by, is_tag_store, moves_on, keeps_store, keeps_access, keeps_entry}
 use Rattle.ownership_runs.proofs.Bytes.{decides-le, decides-bytes, decides-bytes_of}
 use Rattle.ownership_runs.proofs.Slots.{IsByteOfOwned, slot-there, decides-owned}
 
--- ---- the bytes that are no queue's
+-- ---- the bytes outside a queue
 
 abbrev Outside : AnyQueue → (x : ℕ) → Type 0
 Outside (Indexed q) x = IsOutside q x
@@ -39,7 +38,7 @@ decides-outside (Indexed q) x = Decides-like _ (λ none. record { head = none.0.
     (Decides-not _ (decides-bytes q.slots (q.size * q.width) x)))
 decides-outside (Tagged q) x = Decides-not _ (decides-bytes q.slots (q.size * q.width) x)
 
--- ---- those that a party may fill
+-- ---- the bytes that a party may fill
 
 abbrev Owns : AnyQueue → Party → QueueCounts → (x : ℕ) → Type 0
 Owns (Indexed q) p c x = OwnsByte q p c x
@@ -85,7 +84,7 @@ decides-owns (Tagged q) some p c x = Decides-like _ there back
       λ at. owns.no_tag (subst of_tag (tag-there S some owns.position x owns.byte) at),
     )
 
--- ---- stores that move it on
+-- ---- the stores that move a party's count on
 
 abbrev Moves : AnyQueue → Party → QueueCounts → Write → Type 0
 Moves (Indexed q) p c w = MovesOn q p c w
@@ -123,6 +122,7 @@ decides-store q some None c w = decides-bytes_of q None (Outside q) (λ x. Decid
 
 -- ---- accesses and entries
 
+-- what the protocol asks of an access
 abbrev KeepsBy : AnyQueue → Option Party → QueueCounts → Access → Type 0
 KeepsBy (Indexed q) t c x = KeepsAccess q t c x
 KeepsBy (Tagged q) t c x = TellsAccess (slots_of q) t c x

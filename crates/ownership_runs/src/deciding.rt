@@ -1,6 +1,6 @@
 //! Whether the entries of a run keep a queue's protocol.
 
-ghost use Rattle.std.specs.Prelude.{◌≡◌, ◌≤◌, ◌<◌, ◌+◌, ◌-◌, ◌^◌, ℕ, option_map, Ok, IfOk};
+ghost use Rattle.std.specs.Prelude.{◌≡◌, ◌<◌, ◌+◌, ◌-◌, ◌^◌, ℕ, option_map, Ok, IfOk};
 ghost use Rattle.ownership_runs.specs.Violations.{judged_store, judged_exchange, judged_entry, first_ownership_violation};
 ghost use Rattle.ownership_runs.specs.inner.Bounds.{STEP, ROOM, AreCountsWithin};
 ghost use Rattle.ownership_runs.specs.inner.Noting.{nothing_noted, noted_more, AreNotesWithin};

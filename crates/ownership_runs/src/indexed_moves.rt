@@ -1,6 +1,6 @@
 //! Queues with indices: how accesses to the indices move the counts on.
 
-ghost use Rattle.std.specs.Prelude.{◌≡◌, ◌≤◌, ◌<◌, ◌+◌, ◌/◌, ◌%◌, ◌^◌, ◌==◌, ℕ, option_map};
+ghost use Rattle.std.specs.Prelude.{◌≡◌, ◌≤◌, ◌<◌, ◌+◌, ◌/◌, ◌^◌, ◌==◌, ℕ};
 ghost use Rattle.queue_parties.specs.Parties.{other};
 ghost use Rattle.slot_queue.specs.Queues.{index_word, least};
 ghost use Rattle.step_machine.specs.Access.{load, store};

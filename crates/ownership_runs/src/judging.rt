@@ -1,6 +1,6 @@
 //! One run, judged as its events happen.
 
-ghost use Rattle.std.specs.Prelude.{◌≡◌, ◌≤◌, ◌<◌, ◌+◌, ◌-◌, ◌^◌, ℕ, None, IfOk, OnOk};
+ghost use Rattle.std.specs.Prelude.{◌≡◌, ◌<◌, ◌+◌, ◌-◌, ◌^◌, ℕ, None, IfOk, OnOk};
 ghost use Rattle.step_machine.specs.Runs.{Run};
 ghost use Rattle.ownership_runs.specs.Protocols.{run_counts};
 ghost use Rattle.ownership_runs.specs.Violations.{first_ownership_violation};

@@ -17,12 +17,12 @@ use Rattle.ownership_runs.specs.inner.Bounds.{STEP, AreCountsWithin}
 abbrev pub nothing_noted : (start : QueueCounts) → RunNotes
 nothing_noted start = record { found = None; counts = start; place = 0 }
 
--- an entry more, of which this is judged
+-- after an entry more, of which this was judged
 abbrev pub noted_as : RunNotes → Result QueueCounts Violation → RunNotes
 noted_as notes (Ok after) = record { found = None; counts = after; place = notes.place + 1 }
 noted_as notes (Err violation) = record notes { found = Some violation }
 
--- after a violation nothing more is noted
+-- after an entry more, of which nothing is noted once there is a violation; after further entries; and after what an event did
 abbrev pub noted_more : AnyQueue → RunNotes → Entry → RunNotes
 noted_more q notes e = elim (notes.found) [ None ↦ noted_as notes (judged_entry q notes.place notes.counts e) | Some violation ↦ notes ]
 
