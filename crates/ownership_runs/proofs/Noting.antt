@@ -28,41 +28,41 @@ module _ (q : AnyQueue) where
   still-broken place c b [] = refl
   still-broken place c b (e ∷ es) = still-broken place c b es
 
-  abbrev Kept : (place : ℕ) → QueueCounts → RunNotes
-  Kept place c = record { found = None; counts = c; place = place }
+  abbrev kept : (place : ℕ) → QueueCounts → RunNotes
+  kept place c = record { found = None; counts = c; place = place }
 
-  found-from : (place : ℕ) (c : QueueCounts) (es : List Entry) → (noted_all q (Kept place c) es).found ≡ violation_from q place c es
-  found-from place c [] = refl
-  found-from place c (e ∷ es) = by (found-from (place + 1) (entry_counts q c e) es) (keeps_entry q c e)
+  found-after : (place : ℕ) (c : QueueCounts) (es : List Entry) → (noted_all q (kept place c) es).found ≡ violation_from q place c es
+  found-after place c [] = refl
+  found-after place c (e ∷ es) = by (found-after (place + 1) (entry_counts q c e) es) (keeps_entry q c e)
     where
-      by : (noted_all q (Kept (place + 1) (entry_counts q c e)) es).found ≡ violation_from q (place + 1) (entry_counts q c e) es → (ok : Bool)
-          → (noted_all q (noted_as (Kept place c) (if ok then Ok (entry_counts q c e) else Err (violation_at q place c e))) es).found
+      by : (noted_all q (kept (place + 1) (entry_counts q c e)) es).found ≡ violation_from q (place + 1) (entry_counts q c e) es → (ok : Bool)
+          → (noted_all q (noted_as (kept place c) (if ok then Ok (entry_counts q c e) else Err (violation_at q place c e))) es).found
           ≡ (if ok then violation_from q (place + 1) (entry_counts q c e) es else Some (violation_at q place c e))
       by later true = later
       by later false = ap (λ (notes : RunNotes). notes.found) (still-broken place c (violation_at q place c e) es)
 
-  kept-from : (place : ℕ) (c : QueueCounts) (es : List Entry) → violation_from q place c es ≡ None
-      → noted_all q (Kept place c) es ≡ Kept (place + length es) (run_counts q c es)
-  kept-from place c [] none = ap (λ (n : ℕ). Kept n c) (let same : place ≡ place + 0 = omega arith in same)
-  kept-from place c (e ∷ es) none = by (λ rest. kept-from (place + 1) (entry_counts q c e) es rest) (keeps_entry q c e) none
+  kept-after : (place : ℕ) (c : QueueCounts) (es : List Entry) → violation_from q place c es ≡ None
+      → noted_all q (kept place c) es ≡ kept (place + length es) (run_counts q c es)
+  kept-after place c [] none = ap (λ (n : ℕ). kept n c) (let same : place ≡ place + 0 = omega arith in same)
+  kept-after place c (e ∷ es) none = by (λ rest. kept-after (place + 1) (entry_counts q c e) es rest) (keeps_entry q c e) none
     where
       by : (violation_from q (place + 1) (entry_counts q c e) es ≡ None
-          → noted_all q (Kept (place + 1) (entry_counts q c e)) es ≡ Kept (place + 1 + length es) (run_counts q (entry_counts q c e) es)) → (ok : Bool)
+          → noted_all q (kept (place + 1) (entry_counts q c e)) es ≡ kept (place + 1 + length es) (run_counts q (entry_counts q c e) es)) → (ok : Bool)
           → (if ok then violation_from q (place + 1) (entry_counts q c e) es else Some (violation_at q place c e)) ≡ None
-          → noted_all q (noted_as (Kept place c) (if ok then Ok (entry_counts q c e) else Err (violation_at q place c e))) es
-          ≡ Kept (place + length (e ∷ es)) (run_counts q (entry_counts q c e) es)
+          → noted_all q (noted_as (kept place c) (if ok then Ok (entry_counts q c e) else Err (violation_at q place c e))) es
+          ≡ kept (place + length (e ∷ es)) (run_counts q (entry_counts q c e) es)
       by later true rest =
           let further : place + 1 + length es ≡ place + length (e ∷ es) = omega arith in
-          later rest ∙ ap (λ (n : ℕ). Kept n (run_counts q (entry_counts q c e) es)) further
+          later rest ∙ ap (λ (n : ℕ). kept n (run_counts q (entry_counts q c e) es)) further
       by later false some = cc
 
   pub first-noted : (start : QueueCounts) (es : List Entry) → (noted_all q (nothing_noted start) es).found ≡ first_ownership_violation q start es
-  first-noted start es = found-from 0 start es
+  first-noted start es = found-after 0 start es
 
   pub all-noted : (start : QueueCounts) (es : List Entry) → first_ownership_violation q start es ≡ None
-      → noted_all q (nothing_noted start) es ≡ Kept (length es) (run_counts q start es)
-  all-noted start es none = kept-from 0 start es none
-      ∙ ap (λ (n : ℕ). Kept n (run_counts q start es)) (let same : 0 + length es ≡ length es = omega arith in same)
+      → noted_all q (nothing_noted start) es ≡ kept (length es) (run_counts q start es)
+  all-noted start es none = kept-after 0 start es none
+      ∙ ap (λ (n : ℕ). kept n (run_counts q start es)) (let same : 0 + length es ≡ length es = omega arith in same)
 
   pub nothing-more : (notes : RunNotes) (b : Violation) (e : Entry) → notes.found ≡ Some b → noted_more q notes e ≡ notes
   nothing-more notes b e found =
