@@ -8,6 +8,7 @@ ghost use Rattle.queue_certificates.specs.States.{no_share, linear, index_for, i
 ghost use Rattle.queue_certificates.specs.Certificates.{queue_at, own_of};
 ghost use Rattle.queue_certificates.specs.Steps.{all_below, is_cut, moved_share, may_move, may_fill, may_store, is_apart, leaves_words, storable};
 ghost use Rattle.queue_certificates.specs.Steps.{word_then, words_then, shares_moved, after_store, storing, updated_value, after_exchange, exchanging, misses};
+ghost use Rattle.queue_certificates.specs.Steps.{value_loaded, exchange_by};
 
 use crate::certificate::{KnownState, QueueCertificate, Share};
 use crate::loads::{last_own_index, value_loaded};
@@ -516,32 +517,46 @@ fn misses_all(
     Ok(all)
 }
 
-/// The states that may follow an AMO on the word at these addresses.
-fn exchange_at(
+/// The value that an AMO on the word at these addresses stores.
+fn value_exchanged(
+    alloc: Global,
+    certificate: &QueueCertificate,
+    hart: u32,
+    state: &KnownState,
+    op: AmoOp,
+    with: &KnownValue,
+    bounds: Bounds,
+) -> Result<KnownValue, Lack>
+    ensures { IfOk result (λ v. v ≡ updated_value (queue_at certificate.now) state.now.ranges op (value_loaded (queue_at certificate.now) (length
+        certificate.now.queues) (own_of certificate.now) hart state.now bounds 4) with.now) }
+{
+    let old = value_loaded(alloc, certificate, hart, state, bounds, 4)?;
+    updated_value(alloc, certificate, &state.ranges, op, &old, with)
+}
+
+/// The states that may follow an AMO that stores a value to the word at these addresses.
+fn exchange_by(
     alloc: Global,
     certificate: &QueueCertificate,
     hart: u32,
     state: &KnownState,
     handed: &Form,
-    op: AmoOp,
     rd: u8,
-    with: &KnownValue,
+    value: &KnownValue,
     place: &KnownValue,
     bounds: Bounds,
+    moves: Option<u32>,
 ) -> Result<Successors, Lack>
-    ensures { IfOk result (λ next. next ≡ exchanging (queue_at certificate.now) (length certificate.now.queues) (own_of certificate.now) (length
-        certificate.now.harts) hart state.now handed.now op rd with.now place.now (Some bounds)) }
+    ensures { IfOk result (λ next. next ≡ exchange_by (queue_at certificate.now) (length certificate.now.queues) (own_of certificate.now) (length
+        certificate.now.harts) hart state.now handed.now rd value.now place.now bounds moves) }
 {
-    let old = value_loaded(alloc, certificate, hart, state, bounds, 4)?;
-    let value = updated_value(alloc, certificate, &state.ranges, op, &old, with)?;
-    let moves = last_own_index(certificate, hart, bounds, 4)?;
     let may = may_store_all(
         alloc,
         certificate,
         hart,
         state,
         handed,
-        &value,
+        value,
         place,
         bounds,
         4,
@@ -559,7 +574,7 @@ fn exchange_at(
                 state,
                 handed,
                 rd,
-                &value,
+                value,
                 bounds,
                 moves,
             )?,
@@ -567,6 +582,38 @@ fn exchange_at(
     } else {
         Ok(not_shown(alloc))
     }
+}
+
+/// The states that may follow an AMO on the word at these addresses.
+fn exchange_at(
+    alloc: Global,
+    certificate: &QueueCertificate,
+    hart: u32,
+    state: &KnownState,
+    handed: &Form,
+    op: AmoOp,
+    rd: u8,
+    with: &KnownValue,
+    place: &KnownValue,
+    bounds: Bounds,
+) -> Result<Successors, Lack>
+    ensures { IfOk result (λ next. next ≡ exchanging (queue_at certificate.now) (length certificate.now.queues) (own_of certificate.now) (length
+        certificate.now.harts) hart state.now handed.now op rd with.now place.now (Some bounds)) }
+{
+    let moves = last_own_index(certificate, hart, bounds, 4)?;
+    let value = value_exchanged(alloc, certificate, hart, state, op, with, bounds)?;
+    exchange_by(
+        alloc,
+        certificate,
+        hart,
+        state,
+        handed,
+        rd,
+        &value,
+        place,
+        bounds,
+        moves,
+    )
 }
 
 /// The states that may follow an AMO.

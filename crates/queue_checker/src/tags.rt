@@ -23,6 +23,7 @@ use crate::tagged_queues::{bare, party_in, tagged_in};
 use crate::targets::{Target, accessed, exchanged};
 use known_values::values::any;
 use known_values::{KnownValue, Lack};
+use queue_layouts::TaggedQueue;
 use rv_decode::{AmoOp, Instr, Reg, StoreOp};
 use std::alloc::Global;
 
@@ -235,8 +236,29 @@ pub(crate) fn next_told(
     }
 }
 
-/// Whether each byte that a load reads of the slots of queue `t` with tags is of a tag, or of an owned slot.
+/// Whether each byte that a load reads of the slots of a queue with tags is of a tag, or of a slot owned by this share.
 fn reads_rest(
+    alloc: Global,
+    ranges: &[Option<u64>],
+    queue: TaggedQueue,
+    share: &Share,
+    target: &Target,
+) -> Result<bool, Lack>
+    ensures { IfOk result (λ rest. rest ≡ reads_rest ranges.now queue share.now target.now.place target.now.bounds target.now.width) }
+{
+    let Target {
+        place,
+        bounds,
+        width,
+    } = target;
+    let beside = is_beside_slots(queue, *bounds, *width)?;
+    let tag = is_of_tag(alloc, ranges, queue, share, place, *width)?;
+    let owned = is_owned(alloc, ranges, bare(queue), share, place, *width)?;
+    Ok(beside || tag || owned)
+}
+
+/// The same of queue `t` with tags.
+fn reads_rest_of(
     alloc: Global,
     certificate: &QueueCertificate,
     state: &KnownState,
@@ -248,24 +270,7 @@ fn reads_rest(
 {
     let queue = tagged_in(&certificate.tagged, t);
     let share = tag_share(alloc, certificate, state, t)?;
-    let beside = is_beside_slots(queue, target.bounds, target.width)?;
-    let tag = is_of_tag(
-        alloc,
-        &state.ranges,
-        queue,
-        &share,
-        &target.place,
-        target.width,
-    )?;
-    let owned = is_owned(
-        alloc,
-        &state.ranges,
-        bare(queue),
-        &share,
-        &target.place,
-        target.width,
-    )?;
-    Ok(beside || tag || owned)
+    reads_rest(alloc, &state.ranges, queue, &share, target)
 }
 
 /// Whether each byte that an instruction loads of the slots of queue `t` with tags is of a tag, or of an owned slot.
@@ -289,11 +294,11 @@ pub(crate) fn loads_rest(
             },
         ) => {
             let target = accessed(alloc, certificate, state, rs1, offset, load_width(op))?;
-            reads_rest(alloc, certificate, state, t, &target)
+            reads_rest_of(alloc, certificate, state, t, &target)
         }
         Some(Instr::Amo { rs1, .. }) => {
             let target = exchanged(alloc, certificate, state, rs1)?;
-            reads_rest(alloc, certificate, state, t, &target)
+            reads_rest_of(alloc, certificate, state, t, &target)
         }
         _ => Ok(true),
     }
