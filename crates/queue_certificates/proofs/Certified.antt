@@ -2,7 +2,7 @@
 use Rattle.std.proofs.Common.{arith, ℕ, ◌-◌, ◌+◌, ◌*◌, ◌<◌, ◌≤◌, ◌≡◌, ◌≢◌, ◌==◌, ◌||◌, inl, inr, Bool, true, false, Option, Some, None, List, []}
 use Rattle.std.proofs.Common.{length, get_or, refl, sym, ◌∙◌, ap, subst}
 use Rattle.std.specs.Prelude.{slice_index}
-use Rattle.std.proofs.lemmas.Bool.{and_parts, or_cases, eqb-true, eq-eqb, cases_lt}
+use Rattle.std.proofs.lemmas.Bool.{and_parts, or_cases, eqb-true, eq-eqb}
 use Rattle.std.proofs.lemmas.Option.{get_or_from_slice_get}
 use Rattle.std.proofs.lemmas.List.Elements.{All-get_or, All-from_get_or}
 use Rattle.rv_decode.specs.declared.instruction.Instr.{Instr}
@@ -31,18 +31,19 @@ use Rattle.queue_certificates.specs.Steps.{all_below, follow, instruction_at, lo
 use Rattle.queue_certificates.specs.Effects.{effect_of, value_stored}
 use Rattle.queue_certificates.specs.Filled.{Filled, no_field, is_filled_after, are_so, most_published, may_send}
 use Rattle.queue_certificates.specs.declared.effect.Effect.{Effect}
-use Rattle.queue_certificates.specs.Certificates.{Arrow, Cases, leaf, split, QueueCertificate, queue_at, start_at, part_of, own_of, state_at, no_hart}
+use Rattle.queue_certificates.specs.Cases.{Arrow}
+use Rattle.queue_certificates.specs.Certificates.{QueueCertificate, queue_at, start_at, part_of, own_of, state_at, no_hart}
 use Rattle.queue_certificates.specs.Certificates.{fields_at, field_of, HasFields, MeetsFields, IsOwnByte, AreFilled, IsAtState, next_states}
-use Rattle.queue_certificates.specs.Certificates.{arrows_fill, effect_sends, keeps_records, keeps_fields, Certifies, CertifiesLoads, with_low}
-use Rattle.queue_certificates.specs.Certificates.{with_high, all_lead, is_closed, owns_loads, accepts, accepts_loads, tagged_at, SharesTold}
+use Rattle.queue_certificates.specs.Certificates.{arrows_fill, effect_sends, keeps_records, keeps_fields, Certifies, CertifiesLoads}
+use Rattle.queue_certificates.specs.Certificates.{all_lead, owns_loads, accepts, accepts_loads, tagged_at, SharesTold}
 use Rattle.queue_certificates.specs.Certificates.{told_beside, owns_rest, accepts_rest}
 use Rattle.queue_certificates.specs.Tags.{party_in, loads_rest}
 use Rattle.queue_layouts.specs.Tagged.{slots_of}
-use Rattle.queue_certificates.proofs.Forms.{less_at}
-use Rattle.queue_certificates.proofs.States.{at-below, means-frame, means-low, means-high, exceeds}
+use Rattle.queue_certificates.proofs.States.{at-below, means-frame}
 use Rattle.queue_certificates.proofs.Accesses.{hart-party}
-use Rattle.queue_certificates.proofs.TagShares.{told-opens, told-frame, told-low, told-high}
-use Rattle.queue_certificates.proofs.Accepted.{otherwise, fine, fields-fine, fine-tagged, past, OfHart, of-hart, opens-means}
+use Rattle.queue_certificates.proofs.TagShares.{told-opens, told-frame}
+use Rattle.queue_certificates.proofs.Accepted.{fine, fields-fine, fine-tagged, past, OfHart, of-hart, opens-means}
+use Rattle.queue_certificates.proofs.AtLeaf.{at-leaf}
 use Rattle.queue_certificates.proofs.Leaves.{followed, among-leads, leaf-goes}
 use Rattle.queue_certificates.proofs.Steps.{nobody_told, nothing_sent, untold}
 use Rattle.queue_certificates.proofs.Filled.{field-fits, kept-number, so-at, sent-at}
@@ -154,12 +155,16 @@ module _ (M : ℕ) (o : OpeningValue) (c : QueueCertificate) (ok : accepts o c �
           (so-at (queue_at c i).size (get_or t i []) (is_filled_after k.ranges (queue_at c i) (fields_at c i) (stored-as i) (get_or filled i []) w.effect)
           (so i (is_filled_after k.ranges (queue_at c i) (fields_at c i) (stored-as i) (get_or filled i []) w.effect) w.fill) n j yes-filled))
 
-    went : (owns rests : ℕ → Bool) (filled : List Filled) (k : KnownState) (t : Cases) (xs : List ℕ) → is_closed c h x.code k t ≡ true
-        → ((i : ℕ) → owns i ≡ true → owns_loads c x.code i k t ≡ true) → ((j : ℕ) → rests j ≡ true → owns_rest c x.code j k t ≡ true)
-        → ((i : ℕ) → i < length c.queues → HasFields c i → keeps_fields c h x.code i (get_or filled i []) k t ≡ true)
+    -- at a leaf
+    went : (owns rests : ℕ → Bool) (filled : List Filled) (k : KnownState) (d : Form) (arrows : List Arrow) (xs : List ℕ)
+        → all_lead c h (next_states c h x.code k d) arrows ≡ true
+        → ((i : ℕ) → owns i ≡ true → loads_owned (queue_at c) k i (instruction_at x.code k.pc) ≡ true)
+        → ((j : ℕ) → rests j ≡ true → loads_rest (tagged_at c) (queue_at c) (length c.queues) k j (instruction_at x.code k.pc) ≡ true)
+        → ((i : ℕ) → i < length c.queues → HasFields c i
+        → keeps_records c h i (party_of (queue_at c i) h) (get_or filled i []) k d arrows (instruction_at x.code k.pc) ≡ true)
         → AreFilled c h filled m cs → MeansAt (queue_at c) (length c.queues) (own_of c h) h xs k s m cs → SharesTold c h xs k us
         → Went h m cs us (access_of e) (advanced s (number_read e)) owns rests
-    went owns rests filled k (leaf d arrows) xs leads owned rested keeps right means told = by (next_states c h x.code k d) refl leads
+    went owns rests filled k d arrows xs leads owned rested keeps right means told = by (next_states c h x.code k d) refl leads
       where
         here : {A : Type 0} (f : Option Instr → A) → f (instruction_at x.code k.pc) ≡ f (instruction_at s.code k.pc)
         here f = ap (λ ws. f (instruction_at ws k.pc)) (sym code)
@@ -200,20 +205,6 @@ module _ (M : ℕ) (o : OpeningValue) (c : QueueCertificate) (ok : accepts o c �
               rest = λ j less is p mine. g.rest j less
                   (said (loads_rest (tagged_at c) (queue_at c) (length c.queues) k j) (rested j is)) p mine;
             }
-    went owns rests filled k (split j v low high) xs ok owned rested keeps right means told =
-        let past = exceeds (queue_at c) (length c.queues) (own_of c h) h k.ranges xs j v means.ranges in
-        elim (cases_lt v (get_or xs j 0)) [
-          | inr under ↦ went owns rests filled (with_low k j v) low xs (and_parts _ _ ok).0
-              (λ i own. (and_parts _ _ (owned i own)).0) (λ i is. (and_parts _ _ (rested i is)).0)
-              (λ i less told. (and_parts _ _ (keeps i less told)).0) right
-              (means-low (queue_at c) (length c.queues) (own_of c h) h xs k s m cs j v means under)
-              (told-low (tagged_at c) (length c.tagged) (queue_at c) (length c.queues) (own_of c) (length c.harts) h xs k us j v means.ranges under told)
-          | inl over ↦ went owns rests filled (with_high k j v) high (less_at j (v + 1) xs) (otherwise _ _ (past over) (and_parts _ _ ok).1)
-              (λ i own. otherwise _ _ (past over) (and_parts _ _ (owned i own)).1) (λ i is. otherwise _ _ (past over) (and_parts _ _ (rested i is)).1)
-              (λ i less told. otherwise _ _ (past over) (and_parts _ _ (keeps i less told)).1) right
-              (means-high (queue_at c) (length c.queues) (own_of c h) h xs k s m cs j v means over)
-              (told-high (tagged_at c) (length c.tagged) (queue_at c) (length c.queues) (own_of c) (length c.harts) h xs k us j v means.ranges over told)
-        ]
 
   -- what is asked where a queue has fields
   asked : (i : ℕ) (b : Bool) → HasFields c i → ((length (fields_at c i) == 0) || b) ≡ true → b ≡ true
@@ -234,18 +225,25 @@ module _ (M : ℕ) (o : OpeningValue) (c : QueueCertificate) (ok : accepts o c �
       let w = in' a.can.running in
       let of = of-hart M o c ok h a.opens a.is in
       let opens = get_or_from_slice_get o.harts h a.opens no_hart a.is in
-      went h a.opens of s m cs us e a knows a.code a.size owns rests (state_at c h w.0).filled (state_at c h w.0).known (state_at c h w.0).cases w.2.0
-      (of.closed w.0 w.1)
-      (λ i own. at-below (length (part_of c h).states) (λ n. owns_loads c a.opens.code i (state_at c h n).known (state_at c h n).cases)
+      let code : List ℕ = a.opens.code in
+      let filled : List Filled = (state_at c h w.0).filled in
+      let at = at-leaf c h s m cs w.2.0 (state_at c h w.0).known (state_at c h w.0).cases w.2.1 in
+      went h a.opens of s m cs us e a knows a.code a.size owns rests filled at.known at.handed at.arrows at.numbers
+      (at.passes (λ k d arrows. all_lead c h (next_states c h code k d) arrows) (of.closed w.0 w.1))
+      (λ i own. at.passes (λ k d arrows. loads_owned (queue_at c) k i (instruction_at code k.pc))
+      (at-below (length (part_of c h).states) (λ n. owns_loads c code i (state_at c h n).known (state_at c h n).cases)
       (subst (λ y. all_below (length (part_of c h).states)
-      (λ n. owns_loads c y.code i (state_at c h n).known (state_at c h n).cases) ≡ true) opens (owned i own)) w.0 w.1)
-      (λ t is. at-below (length (part_of c h).states) (λ n. owns_rest c a.opens.code t (state_at c h n).known (state_at c h n).cases)
+      (λ n. owns_loads c y.code i (state_at c h n).known (state_at c h n).cases) ≡ true) opens (owned i own)) w.0 w.1))
+      (λ t is. at.passes (λ k d arrows. loads_rest (tagged_at c) (queue_at c) (length c.queues) k t (instruction_at code k.pc))
+      (at-below (length (part_of c h).states) (λ n. owns_rest c code t (state_at c h n).known (state_at c h n).cases)
       (subst (λ y. all_below (length (part_of c h).states)
-      (λ n. owns_rest c y.code t (state_at c h n).known (state_at c h n).cases) ≡ true) opens (rested t is)) w.0 w.1)
-      (λ i less told. asked i (keeps_fields c h a.opens.code i (get_or (state_at c h w.0).filled i []) (state_at c h w.0).known (state_at c h w.0).cases) told
+      (λ n. owns_rest c y.code t (state_at c h n).known (state_at c h n).cases) ≡ true) opens (rested t is)) w.0 w.1))
+      (λ i less told. at.passes
+      (λ k d arrows. keeps_records c h i (party_of (queue_at c i) h) (get_or filled i []) k d arrows (instruction_at code k.pc))
+      (asked i (keeps_fields c h code i (get_or filled i []) (state_at c h w.0).known (state_at c h w.0).cases) told
       (at-below (length c.queues) (λ i. (length (fields_at c i) == 0)
-      || keeps_fields c h a.opens.code i (get_or (state_at c h w.0).filled i []) (state_at c h w.0).known (state_at c h w.0).cases) (of.keeps w.0 w.1) i less))
-      w.3 w.2.1 w.2.2
+      || keeps_fields c h code i (get_or filled i []) (state_at c h w.0).known (state_at c h w.0).cases) (of.keeps w.0 w.1) i less)))
+      w.3 at.means (at.told us w.2.2)
 
   abbrev none_owned : ℕ → Bool
   none_owned i = false

@@ -16,7 +16,8 @@ use Rattle.queue_certificates.specs.Fields.{next_received}
 use Rattle.queue_certificates.specs.Tags.{next_told, loads_rest}
 use Rattle.queue_certificates.specs.TagEffects.{tag_effect_of}
 use Rattle.queue_certificates.specs.Certificates.{QueueCertificate, queue_at, fields_at, tagged_at, own_of, HasFields, MeetsFields, SharesTold}
-use Rattle.queue_certificates.specs.Certificates.{MeansAll, Arrow, part_of, state_at, told_beside, next_states, each_leads, arrow_leads, accepts}
+use Rattle.queue_certificates.specs.Cases.{Arrow}
+use Rattle.queue_certificates.specs.Certificates.{MeansAll, part_of, state_at, told_beside, next_states, each_leads, arrow_leads, accepts}
 use Rattle.queue_certificates.proofs.Forms.{values_of}
 use Rattle.queue_certificates.proofs.States.{means-arrow}
 use Rattle.queue_certificates.proofs.Steps.{untold}

@@ -26,6 +26,7 @@ mod TagStores
 mod TagLoads
 pub mod Told
 pub mod Accepted
+pub mod AtLeaf
 pub mod Leaves
 pub mod Certified
 pub mod EveryRun

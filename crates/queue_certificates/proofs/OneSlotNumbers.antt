@@ -7,7 +7,8 @@ use Rattle.owned_run.proofs.OneSlot.{q}
 use Rattle.queue_certificates.specs.Forms.{Form, number}
 use Rattle.queue_certificates.specs.States.{KnownValue, any, linear}
 use Rattle.queue_certificates.specs.Filled.{Filled}
-use Rattle.queue_certificates.specs.Certificates.{Cases, leaf, split, ListedState, HartPart, QueueCertificate, accepts, accepts_loads}
+use Rattle.queue_certificates.specs.Cases.{Cases, leaf, split}
+use Rattle.queue_certificates.specs.Certificates.{ListedState, HartPart, QueueCertificate, accepts, accepts_loads}
 use Rattle.queue_certificates.proofs.OneSlotQueue.{form, arrow}
 use Rattle.queue_certificates.specs.Tags.{told_by_store}
 

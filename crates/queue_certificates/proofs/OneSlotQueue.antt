@@ -5,7 +5,8 @@ use Rattle.owned_run.proofs.OneSlot.{q}
 use Rattle.owned_run.proofs.OneSlotText.{text}
 use Rattle.queue_certificates.specs.Forms.{Form, number}
 use Rattle.queue_certificates.specs.States.{KnownValue, any, linear}
-use Rattle.queue_certificates.specs.Certificates.{Arrow, Cases, leaf, split, ListedState, HartPart, QueueCertificate, accepts, accepts_loads}
+use Rattle.queue_certificates.specs.Cases.{Arrow, Cases, leaf, split}
+use Rattle.queue_certificates.specs.Certificates.{ListedState, HartPart, QueueCertificate, accepts, accepts_loads}
 use Rattle.queue_certificates.specs.Tags.{told_by_store}
 
 abbrev pub form : ℕ → List ℕ → Form

@@ -5,7 +5,8 @@ use Rattle.rv_decode.specs.Meaning.{meaning}
 use Rattle.telling_run.proofs.OneSlotText.{text}
 use Rattle.queue_certificates.specs.Forms.{number}
 use Rattle.queue_certificates.specs.States.{KnownValue, any, linear}
-use Rattle.queue_certificates.specs.Certificates.{Cases, leaf, ListedState, HartPart, QueueCertificate, accepts, accepts_rest}
+use Rattle.queue_certificates.specs.Cases.{Cases, leaf}
+use Rattle.queue_certificates.specs.Certificates.{ListedState, HartPart, QueueCertificate, accepts, accepts_rest}
 use Rattle.queue_layouts.specs.declared.tagged.Codec.TheVariants as codec
 use Rattle.queue_layouts.specs.declared.tagged.TaggedQueue.{TaggedQueue}
 use Rattle.queue_certificates.proofs.OneSlotQueue.{form, arrow}

@@ -17,7 +17,8 @@ use Rattle.queue_certificates.specs.States.{KnownValue, any, Share, no_share, Kn
 use Rattle.queue_certificates.specs.Results.{Result}
 use Rattle.queue_certificates.specs.Steps.{all_below, with_register, with_result, going_to}
 use Rattle.queue_certificates.specs.Tags.{tags_lead}
-use Rattle.queue_certificates.specs.Certificates.{all_within, is_share, leads_to, arrow_leads, at_most, beyond, may_exceed, range_changed, with_low, with_high}
+use Rattle.queue_certificates.specs.Cases.{at_most, beyond, may_exceed, range_changed, with_low, with_high}
+use Rattle.queue_certificates.specs.Certificates.{all_within, is_share, leads_to, arrow_leads}
 use Rattle.queue_certificates.proofs.Forms.{values_of, value-lifted, value-substituted, value-raised, same-exactly, less_at}
 use Rattle.queue_certificates.proofs.Bounds.{forms-in, value-settled}
 use Rattle.queue_certificates.proofs.Values.{has-by, has-back, within}

@@ -17,7 +17,8 @@ use Rattle.telling_run.specs.Certified.{telling}
 use Rattle.queue_certificates.specs.Forms.{Form, form_value, substituted, raised, settled, is_same, InRanges, most, fits_in}
 use Rattle.queue_certificates.specs.States.{Share, no_share, KnownState, share_by, state_by}
 use Rattle.queue_certificates.specs.Certificates.{QueueCertificate, tagged_at, tagged_start, SharesTold, opens_all_told, leads_to, arrow_leads}
-use Rattle.queue_certificates.specs.Certificates.{opens_told, opens_free, at_most, beyond, range_changed, with_low, with_high}
+use Rattle.queue_certificates.specs.Cases.{at_most, beyond, range_changed, with_low, with_high}
+use Rattle.queue_certificates.specs.Certificates.{opens_told, opens_free}
 use Rattle.queue_certificates.specs.Tags.{party_in, is_codec, is_tagged, HasAtLeast, AreTold, covers_share, tags_lead}
 use Rattle.queue_layouts.specs.Tagged.{slots_of, tells_by}
 use Rattle.queue_layouts.specs.declared.tagged.Codec.{Codec}

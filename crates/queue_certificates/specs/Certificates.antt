@@ -1,6 +1,6 @@
 -- A certificate of the queues of a text: of each hart states that are closed under its instructions. And when it is accepted.
-use Rattle.std.specs.Prelude.{map, ℕ, zero, suc, ◌≡◌, ◌⊎◌, ◌+◌, ◌-◌, ◌*◌, ◌%◌, ◌^◌, ◌<◌, ◌≤◌, ◌==◌, ◌&&◌, ◌||◌, not, nat_le}
-use Rattle.std.specs.Prelude.{nat_lt, if◌then◌else◌, Bool, true, false, Option, None, Some, List, [], ◌∷◌, length}
+use Rattle.std.specs.Prelude.{map, ℕ, ◌≡◌, ◌⊎◌, ◌+◌, ◌-◌, ◌*◌, ◌%◌, ◌^◌, ◌<◌, ◌≤◌, ◌==◌, ◌&&◌, ◌||◌, not, nat_le}
+use Rattle.std.specs.Prelude.{nat_lt, Bool, true, false, Option, None, Some, List, [], ◌∷◌, length}
 use Rattle.std.specs.Prelude.{get_or, slice_index, slice_set, All}
 use Rattle.std.specs.List.{list_all}
 use Rattle.rv_decode.specs.declared.instruction.Instr.{Instr}
@@ -20,10 +20,11 @@ use Rattle.owned_run.specs.Certificates.{Field, MeetsField}
 use Rattle.slots_that_tell.specs.Slots.{tag_of}
 use Rattle.slots_that_tell.specs.Telling.{owned_end}
 use Rattle.telling_run.specs.Certified.{telling, OpenTellers}
-use Rattle.queue_certificates.specs.Forms.{Form, form_value, number, substituted, is_same, raised, settled, are_in}
+use Rattle.queue_certificates.specs.Forms.{Form, form_value, number, substituted, is_same, settled, are_in}
 use Rattle.queue_certificates.specs.States.{KnownValue, any, linear, index_for, signed_for, Share, no_share, KnownState}
 use Rattle.queue_certificates.specs.States.{value_by, state_by, signed_word, is_within, MeansAt, Means}
 use Rattle.queue_certificates.specs.Steps.{all_below, is_apart, addresses, exchanged, follow, instruction_at, loads_owned}
+use Rattle.queue_certificates.specs.Cases.{Arrow, Cases, leaf, each_leaf}
 use Rattle.queue_certificates.specs.Fields.{is_field, next_received}
 use Rattle.queue_certificates.specs.Tags.{party_in, is_tagged, AreTold, tags_lead, next_told, loads_rest}
 use Rattle.queue_certificates.specs.Effects.{effect_of, value_stored}
@@ -33,18 +34,6 @@ use Rattle.queue_layouts.specs.declared.tagged.Codec.TheVariants as codec
 use Rattle.queue_layouts.specs.declared.tagged.TaggedQueue.{TaggedQueue}
 use Rattle.queue_layouts.specs.declared.tagged.OpenedTagged.{OpenedTagged}
 use Rattle.queue_layouts.specs.Tagged.{tells_by, slots_of}
-
--- where a state goes on: to the state of this number, whose variables are these forms over those of the leaf, after one that comes
--- with the step
-pub record Arrow : Type 0 where
-  pub to : ℕ
-  pub forms : List Form
-
--- a state by cases: variable j is at most v, or it is v + 1 more than a variable. A variable whose range is then 0 is dropped. A leaf takes
--- the instruction: how many positions it hands over, if it stores to an own index, and where each state that may follow is found
-pub data Cases : Type 0 where
-  leaf : (handed : Form) (arrows : List Arrow) → Cases
-  split : (j v : ℕ) (low high : Cases) → Cases
 
 -- what is known of a hart at a pc; of each queue to which it sends records with fields, which of them are right ahead of its count; and
 -- where it goes on
@@ -220,31 +209,6 @@ abbrev pub arrow_leads : (ℕ → Queue) → (N T : ℕ) → KnownState → Know
 arrow_leads queues N T k t gs = leads_to queues N (state_by (settled k.ranges) k.ranges k) t (map (settled k.ranges) gs)
     && tags_lead N T (state_by (settled k.ranges) k.ranges k) t (map (settled k.ranges) gs)
 
--- ---- cases
-
-abbrev pub at_most : ℕ → Option ℕ → Option ℕ
-at_most v None = Some v
-at_most v (Some n) = if nat_le n v then Some n else Some v
-
-abbrev pub beyond : ℕ → Option ℕ → Option ℕ
-beyond v None = None
-beyond v (Some n) = Some (n - (v + 1))
-
-abbrev pub may_exceed : ℕ → Option ℕ → Bool
-may_exceed v None = true
-may_exceed v (Some n) = nat_lt v n
-
-abbrev pub range_changed : List (Option ℕ) → (j : ℕ) → (Option ℕ → Option ℕ) → List (Option ℕ)
-range_changed [] j t = []
-range_changed (r ∷ rs) zero t = t r ∷ rs
-range_changed (r ∷ rs) (suc j) t = r ∷ range_changed rs j t
-
-abbrev pub with_low : KnownState → (j v : ℕ) → KnownState
-with_low k j v = state_by (settled (range_changed k.ranges j (at_most v))) (range_changed k.ranges j (at_most v)) k
-
-abbrev pub with_high : KnownState → (j v : ℕ) → KnownState
-with_high k j v = state_by (λ f. settled (range_changed k.ranges j (beyond v)) (raised j (v + 1) f)) (range_changed k.ranges j (beyond v)) k
-
 -- ---- the records of queue i, which has fields
 
 -- an instruction of its receiver stores nothing to its slots
@@ -293,15 +257,11 @@ module _ (c : QueueCertificate) (h : ℕ) (code : List ℕ) where
       (follow (queue_at c) (length c.queues) (own_of c) (length c.harts) h k d (instruction_at code k.pc)))
 
   abbrev pub is_closed : KnownState → Cases → Bool
-  is_closed k (leaf d arrows) = all_lead c h (next_states k d) arrows
-  is_closed k (split j v low high) = is_closed (with_low k j v) low
-      && (not (may_exceed v (get_or k.ranges j (Some 0))) || is_closed (with_high k j v) high)
+  is_closed k t = each_leaf (λ k d arrows. all_lead c h (next_states k d) arrows) k t
 
   -- and of each instruction that it keeps what is said of queue i's records
   abbrev pub keeps_fields : (i : ℕ) → Filled → KnownState → Cases → Bool
-  keeps_fields i ms k (leaf d arrows) = keeps_records c h i (party_of (queue_at c i) h) ms k d arrows (instruction_at code k.pc)
-  keeps_fields i ms k (split j v low high) = keeps_fields i ms (with_low k j v) low
-      && (not (may_exceed v (get_or k.ranges j (Some 0))) || keeps_fields i ms (with_high k j v) high)
+  keeps_fields i ms k t = each_leaf (λ k d arrows. keeps_records c h i (party_of (queue_at c i) h) ms k d arrows (instruction_at code k.pc)) k t
 
   abbrev pub keeps_all_fields : ListedState → Bool
   keeps_all_fields t = all_below (length c.queues) (λ i. (length (fields_at c i) == 0) || keeps_fields i (get_or t.filled i []) t.known t.cases)
@@ -309,15 +269,11 @@ module _ (c : QueueCertificate) (h : ℕ) (code : List ℕ) where
 -- each load of queue i's slots is of owned ones
 module _ (c : QueueCertificate) (code : List ℕ) where
   abbrev pub owns_loads : (i : ℕ) → KnownState → Cases → Bool
-  owns_loads i k (leaf d arrows) = loads_owned (queue_at c) k i (instruction_at code k.pc)
-  owns_loads i k (split j v low high) = owns_loads i (with_low k j v) low
-      && (not (may_exceed v (get_or k.ranges j (Some 0))) || owns_loads i (with_high k j v) high)
+  owns_loads i k t = each_leaf (λ k d arrows. loads_owned (queue_at c) k i (instruction_at code k.pc)) k t
 
   -- and of the slots of queue t with tags, of tags and of owned ones
   abbrev pub owns_rest : (t : ℕ) → KnownState → Cases → Bool
-  owns_rest t k (leaf d arrows) = loads_rest (tagged_at c) (queue_at c) (length c.queues) k t (instruction_at code k.pc)
-  owns_rest t k (split j v low high) = owns_rest t (with_low k j v) low
-      && (not (may_exceed v (get_or k.ranges j (Some 0))) || owns_rest t (with_high k j v) high)
+  owns_rest t k cases = each_leaf (λ k d arrows. loads_rest (tagged_at c) (queue_at c) (length c.queues) k t (instruction_at code k.pc)) k cases
 
 -- ---- the opening
 

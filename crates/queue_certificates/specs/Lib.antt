@@ -1,5 +1,6 @@
 pub mod Forms
 pub mod States
+pub mod Cases
 pub mod Results
 pub mod Steps
 pub mod Fields
