@@ -29,7 +29,7 @@ pub record IsSame {A : Type 0} (b : Bool) (x : Option A) : Type 0 where
   pub empty : x ≡ None → b ≡ true
   pub holds : b ≡ true → x ≡ None
 
-same-unless : {A : Type 0} (b : Bool) (a : A) → IsSame b (unless b a)
+pub same-unless : {A : Type 0} (b : Bool) (a : A) → IsSame b (unless b a)
 same-unless true a = record { empty = λ e. refl; holds = λ e. refl }
 same-unless false a = record { empty = λ e. cc; holds = λ e. cc }
 
@@ -49,7 +49,7 @@ same-first_of_last true q (Some x) b s t = let e : Some x ≡ None = s.holds ref
 same-first_of_last false true (Some x) b s t = record { empty = λ e. cc; holds = λ e. cc }
 same-first_of_last false false (Some x) b s t = record { empty = λ e. cc; holds = λ e. cc }
 
-same-below : {A : Type 0} (n : ℕ) (p : ℕ → Bool) (f : ℕ → Option A) → ((i : ℕ) → IsSame (p i) (f i)) → IsSame (all_below n p) (first_below n f)
+pub same-below : {A : Type 0} (n : ℕ) (p : ℕ → Bool) (f : ℕ → Option A) → ((i : ℕ) → IsSame (p i) (f i)) → IsSame (all_below n p) (first_below n f)
 same-below zero p f each = record { empty = λ e. refl; holds = λ e. refl }
 same-below (suc n) p f each = same-first_of_last (all_below n p) (p n) (first_below n f) (f n) (same-below n p f each) (each n)
 

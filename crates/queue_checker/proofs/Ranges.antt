@@ -1,7 +1,7 @@
 -- One range of a list changed.
 use Rattle.std.specs.Prelude.{ℕ, zero, suc, ◌≡◌, List, [], ◌∷◌, Option, Some, get_or, set, refl}
 use Rattle.std.proofs.Common.{ap}
-use Rattle.queue_certificates.specs.Certificates.{at_most, beyond, range_changed}
+use Rattle.queue_certificates.specs.Cases.{at_most, beyond, range_changed}
 
 pub set_range_changed : (rs : List (Option ℕ)) (j : ℕ) (t : Option ℕ → Option ℕ) → set rs j (t (get_or rs j (Some 0))) ≡ range_changed rs j t
 set_range_changed [] j t = refl

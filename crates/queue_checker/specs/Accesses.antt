@@ -1,6 +1,6 @@
 -- Which instructions may access a byte of a queue's slots, in some state of a certificate: of a queue with indices, or of one with tags.
 use Rattle.std.specs.Prelude.{ℕ, zero, suc, ◌*◌, ◌==◌, ◌&&◌, ◌||◌, ◌++◌, not, if◌then◌else◌, Bool, true, false, Option, Some}
-use Rattle.std.specs.Prelude.{List, [], ◌∷◌, length, get_or}
+use Rattle.std.specs.Prelude.{List, [], ◌∷◌, length}
 use Rattle.rv_decode.specs.declared.instruction.Instr.{Instr}
 use Rattle.rv_decode.specs.declared.instruction.Instr.TheVariants.{Load, Store, Amo}
 use Rattle.hart.specs.Effects.{load_width, store_width}
@@ -9,8 +9,8 @@ use Rattle.slot_queue.specs.Queues.{Queue}
 use Rattle.queue_certificates.specs.Forms.{Bounds}
 use Rattle.queue_certificates.specs.States.{KnownState}
 use Rattle.queue_certificates.specs.Steps.{is_apart, instruction_at, addresses, exchanged}
-use Rattle.queue_certificates.specs.Certificates.{QueueCertificate, queue_at, tagged_at, part_of, state_at, Cases}
-use Rattle.queue_certificates.specs.Certificates.{leaf, split, with_low, with_high, may_exceed}
+use Rattle.queue_certificates.specs.Cases.{Cases, each_leaf}
+use Rattle.queue_certificates.specs.Certificates.{QueueCertificate, queue_at, tagged_at, part_of, state_at}
 use Rattle.queue_certificates.specs.Tags.{bare}
 use Rattle.queue_checker.specs.declared.accesses.SlotAccess.{SlotAccess}
 use Rattle.queue_checker.specs.Flaws.{hart_at}
@@ -36,9 +36,7 @@ touches c q false k instruction = loads_from c q k instruction
 
 -- in no case of a state
 abbrev pub spares_in : QueueCertificate → Queue → (stores : Bool) → (code : List ℕ) → KnownState → Cases → Bool
-spares_in c q stores code k (leaf d arrows) = not (touches c q stores k (instruction_at code k.pc))
-spares_in c q stores code k (split j v low high) = spares_in c q stores code (with_low k j v) low
-    && (not (may_exceed v (get_or k.ranges j (Some 0))) || spares_in c q stores code (with_high k j v) high)
+spares_in c q stores code k t = each_leaf (λ k d arrows. not (touches c q stores k (instruction_at code k.pc))) k t
 
 -- at some number below n
 abbrev pub any_below : ℕ → (ℕ → Bool) → Bool

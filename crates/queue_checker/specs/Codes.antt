@@ -3,7 +3,7 @@ use Rattle.std.specs.Prelude.{ℕ, ◌≡◌, ◌⊎◌, List, [], ◌∷◌, �
 use Rattle.std.specs.Coded.{Coded, code_by, coded_list, coded_ℕ, coded×, coded⊎}
 use Rattle.std.proofs.Common.{inl, inr, ap, ◌∙◌, append_assoc}
 use Rattle.queue_certificates.specs.Forms.{Form}
-use Rattle.queue_certificates.specs.Certificates.{Arrow, Cases, leaf, split}
+use Rattle.queue_certificates.specs.Cases.{Arrow, Cases, leaf, split}
 
 abbrev pub form_code : Coded Form
 form_code = code_by (ℕ × List ℕ) (coded× coded_ℕ (coded_list coded_ℕ)) (λ f. (f.constant, f.factors))

@@ -1,6 +1,6 @@
 -- Cases as they are held, and how high a tree of them is.
 use Rattle.std.specs.Prelude.{ℕ, ◌+◌}
-use Rattle.queue_certificates.specs.Certificates.{Cases, leaf, split}
+use Rattle.queue_certificates.specs.Cases.{Cases, leaf, split}
 use Rattle.queue_checker.specs.declared.certificate.CaseNode.{CaseNode}
 use Rattle.queue_checker.specs.declared.certificate.CaseNode.TheVariants.{Leaf, Split}
 

@@ -1,13 +1,14 @@
 //! Which instructions may access a queue's slots.
 
-ghost use Rattle.std.specs.Prelude.{◌≡◌, ◌<◌, ◌*◌, ◌++◌, ◌&&◌, ◌==◌, IfOk, length};
+ghost use Rattle.std.specs.Prelude.{◌≡◌, ◌<◌, ◌*◌, ◌++◌, ◌&&◌, ◌==◌, not, IfOk, length};
+ghost use Rattle.queue_certificates.specs.Steps.{instruction_at};
 ghost use Rattle.queue_certificates.specs.Certificates.{part_of};
 ghost use Rattle.queue_checker.specs.Flaws.{hart_at};
 ghost use Rattle.queue_checker.specs.Accesses.{reaches, stores_to, loads_from, touches, spares_in, any_below, touches_at, access_at};
 ghost use Rattle.queue_checker.specs.Accesses.{kept_access, accesses_of, accesses_below, accesses_to, slot_accesses, tagged_accesses};
 
-use crate::certificate::{CaseNode, Cases, KnownState, QueueCertificate};
-use crate::closing::{goes_beyond, with_high, with_low};
+use crate::certificate::{Arrow, Cases, KnownState, QueueCertificate};
+use crate::leaves::{LeafCheck, each_leaf};
 use crate::loads::load_width;
 use crate::owning::code_of;
 use crate::places::misses_slots;
@@ -17,7 +18,7 @@ use crate::stores::store_width;
 use crate::tagged_queues::{bare, tagged_in};
 use crate::targets::{accessed, exchanged};
 use known_values::queues::queue_in;
-use known_values::{Bounds, Lack, Queue};
+use known_values::{Bounds, Form, Lack, Queue};
 use rv_decode::Instr;
 use std::alloc::Global;
 use step_machine::Opening;
@@ -114,6 +115,32 @@ fn touches(
     }
 }
 
+/// Asks of a leaf whether its instruction may not.
+#[derive(Clone, Copy)]
+struct Sparing<'a> {
+    certificate: &'a QueueCertificate,
+    queue: Queue,
+    stores: bool,
+    code: &'a [u32],
+}
+
+impl LeafCheck for Sparing<'_> {
+    ghost holds = { λ s k d arrows. not (touches s.certificate.now s.queue s.stores k (instruction_at s.code.now k.pc)) };
+
+    fn holds(
+        &self,
+        alloc: Global,
+        state: &KnownState,
+        _handed: &Form,
+        _arrows: &[Arrow],
+    ) -> Result<bool, Lack> {
+        let instruction = instruction_at(self.code, state.pc);
+        let (certificate, queue, stores) = (self.certificate, self.queue, self.stores);
+        let may = touches(alloc, certificate, queue, stores, state, instruction)?;
+        Ok(!may)
+    }
+}
+
 /// Whether it may in no case of a state.
 fn spares_in(
     alloc: Global,
@@ -126,27 +153,13 @@ fn spares_in(
 ) -> Result<bool, Lack>
     ensures { IfOk result (λ spares. spares ≡ spares_in certificate.now queue stores code.now state.now cases.now) }
 {
-    match &cases.node {
-        CaseNode::Leaf(_, _) => {
-            let instruction = instruction_at(code, state.pc);
-            let may = touches(alloc, certificate, queue, stores, state, instruction)?;
-            Ok(!may)
-        }
-        CaseNode::Split(variable, most, low, high) => {
-            let below = with_low(alloc, state, *variable, *most)?;
-            let holds = spares_in(alloc, certificate, queue, stores, code, &below, low)?;
-            if holds {
-                if goes_beyond(state, *variable, *most) {
-                    let above = with_high(alloc, state, *variable, *most)?;
-                    spares_in(alloc, certificate, queue, stores, code, &above, high)
-                } else {
-                    Ok(true)
-                }
-            } else {
-                Ok(false)
-            }
-        }
-    }
+    let sparing = Sparing {
+        certificate,
+        queue,
+        stores,
+        code,
+    };
+    each_leaf(alloc, &sparing, state, cases)
 }
 
 fn touches_at(

@@ -52,7 +52,7 @@ pub struct Arrow {
 }
 
 impl Model for Arrow {
-    ghost use Rattle.queue_certificates.specs.Certificates.{Arrow};
+    ghost use Rattle.queue_certificates.specs.Cases.{Arrow};
 
     ghost Value = { Arrow };
 
@@ -76,7 +76,7 @@ pub enum CaseNode {
 }
 
 impl Model for Cases {
-    ghost use Rattle.queue_certificates.specs.Certificates.{Cases};
+    ghost use Rattle.queue_certificates.specs.Cases.{Cases};
     ghost use Rattle.queue_checker.specs.Codes.{cases_code};
 
     ghost Value = { Cases };

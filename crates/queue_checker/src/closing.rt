@@ -1,125 +1,16 @@
 //! Whether a state is closed under its hart's instruction, by cases.
 
-ghost use Rattle.std.specs.Prelude.{◌≡◌, ℕ, List, Some, IfOk, get_or, set};
-ghost use Rattle.queue_certificates.specs.Certificates.{leaf, at_most, beyond, may_exceed, range_changed, with_low, with_high, is_closed};
+ghost use Rattle.std.specs.Prelude.{◌≡◌, IfOk};
+ghost use Rattle.queue_certificates.specs.Certificates.{next_states, all_lead, is_closed};
 
 use crate::arrows::all_lead;
-use crate::certificate::{Arrow, CaseNode, Cases, KnownState, QueueCertificate};
+use crate::certificate::{Arrow, Cases, KnownState, QueueCertificate};
 use crate::fields::next_received;
-use crate::states::{high_state, settled_state};
+use crate::leaves::{LeafCheck, each_leaf};
 use crate::steps::{follow, instruction_at};
 use crate::tags::next_told;
-use known_values::lack::sum;
 use known_values::{Form, Lack};
 use std::alloc::Global;
-
-fn at_most(most: u64, range: Option<u64>) -> Option<u64>
-    ensures { result ≡ at_most most range }
-{
-    match range {
-        None => Some(most),
-        Some(n) => if n <= most { Some(n) } else { Some(most) },
-    }
-}
-
-fn beyond(most: u64, range: Option<u64>) -> Result<Option<u64>, Lack>
-    ensures { IfOk result (λ r. r ≡ beyond most range) }
-{
-    match range {
-        None => Ok(None),
-        Some(n) => Ok(Some(n.saturating_sub(sum(most, 1)?))),
-    }
-}
-
-fn may_exceed(most: u64, range: Option<u64>) -> bool
-    ensures { result ≡ may_exceed most range }
-{
-    match range {
-        None => true,
-        Some(n) => most < n,
-    }
-}
-
-fn range_of(ranges: &[Option<u64>], variable: u32) -> Option<u64>
-    ensures { result ≡ get_or ranges.now variable (Some 0) }
-{
-    match ranges.get(variable as usize) {
-        Some(range) => *range,
-        None => Some(0),
-    }
-}
-
-/// The ranges where the variable is at most `most`.
-#[tactic(auto, using(crate::proofs::Ranges::set_low))]
-fn low_ranges(
-    alloc: Global,
-    ranges: &[Option<u64>],
-    variable: u32,
-    most: u64,
-) -> Result<Vec<Option<u64>>, Lack>
-    ensures { IfOk result (λ rs. rs.items ≡ range_changed ranges.now variable (at_most most)) }
-{
-    let mut out = Vec::from_slice(alloc, ranges)?;
-    put_range(
-        &mut out,
-        variable as usize,
-        at_most(most, range_of(ranges, variable)),
-    );
-    Ok(out)
-}
-
-/// The ranges where the variable is more, and counts from the next number on.
-#[tactic(auto, using(crate::proofs::Ranges::set_high))]
-fn high_ranges(
-    alloc: Global,
-    ranges: &[Option<u64>],
-    variable: u32,
-    most: u64,
-) -> Result<Vec<Option<u64>>, Lack>
-    ensures { IfOk result (λ rs. rs.items ≡ range_changed ranges.now variable (beyond most)) }
-{
-    let mut out = Vec::from_slice(alloc, ranges)?;
-    put_range(
-        &mut out,
-        variable as usize,
-        beyond(most, range_of(ranges, variable))?,
-    );
-    Ok(out)
-}
-
-fn put_range(ranges: &mut Vec<Option<u64>>, i: usize, range: Option<u64>)
-    ensures { ranges.new.items ≡ set ranges.old.items i range }
-{
-    if i < ranges.len() {
-        ranges[i] = range;
-    }
-}
-
-/// The state where a variable is at most `most`.
-pub fn with_low(
-    alloc: Global,
-    state: &KnownState,
-    variable: u32,
-    most: u64,
-) -> Result<KnownState, Lack>
-    ensures { IfOk result (λ s. s ≡ with_low state.now variable most) }
-{
-    let ranges = low_ranges(alloc, &state.ranges, variable, most)?;
-    settled_state(alloc, state, ranges)
-}
-
-/// The state where a variable is more.
-pub fn with_high(
-    alloc: Global,
-    state: &KnownState,
-    variable: u32,
-    most: u64,
-) -> Result<KnownState, Lack>
-    ensures { IfOk result (λ s. s ≡ with_high state.now variable most) }
-{
-    let ranges = high_ranges(alloc, &state.ranges, variable, most)?;
-    high_state(alloc, state, variable, sum(most, 1)?, ranges)
-}
 
 /// Whether the instruction leads from a state along these arrows.
 fn is_leaf_closed(
@@ -131,7 +22,7 @@ fn is_leaf_closed(
     handed: &Form,
     arrows: &[Arrow],
 ) -> Result<bool, Lack>
-    ensures { IfOk result (λ closed. closed ≡ is_closed certificate.now hart code.now state.now (leaf handed.now arrows.now)) }
+    ensures { IfOk result (λ closed. closed ≡ all_lead certificate.now hart (next_states certificate.now hart code.now state.now handed.now) arrows.now) }
 {
     let instruction = instruction_at(code, state.pc);
     let known = follow(alloc, certificate, hart, state, handed, instruction)?;
@@ -140,11 +31,27 @@ fn is_leaf_closed(
     all_lead(alloc, certificate, hart, &next, arrows)
 }
 
-/// Whether a variable of the state may be more than `most`.
-pub fn goes_beyond(state: &KnownState, variable: u32, most: u64) -> bool
-    ensures { result ≡ may_exceed most (get_or state.now.ranges variable (Some 0)) }
-{
-    may_exceed(most, range_of(&state.ranges, variable))
+/// Asks of a leaf whether its instruction leads along its arrows.
+#[derive(Clone, Copy)]
+struct Closing<'a> {
+    certificate: &'a QueueCertificate,
+    hart: u32,
+    code: &'a [u32],
+}
+
+impl LeafCheck for Closing<'_> {
+    ghost holds = { λ c k d arrows. all_lead c.certificate.now c.hart (next_states c.certificate.now c.hart c.code.now k d) arrows };
+
+    fn holds(
+        &self,
+        alloc: Global,
+        state: &KnownState,
+        handed: &Form,
+        arrows: &[Arrow],
+    ) -> Result<bool, Lack> {
+        let (certificate, hart, code) = (self.certificate, self.hart, self.code);
+        is_leaf_closed(alloc, certificate, hart, code, state, handed, arrows)
+    }
 }
 
 /// Whether a state is closed under its hart's instruction, by these cases.
@@ -158,23 +65,10 @@ pub(crate) fn is_closed(
 ) -> Result<bool, Lack>
     ensures { IfOk result (λ closed. closed ≡ is_closed certificate.now hart code.now state.now cases.now) }
 {
-    match &cases.node {
-        CaseNode::Leaf(handed, arrows) => {
-            is_leaf_closed(alloc, certificate, hart, code, state, handed, arrows)
-        }
-        CaseNode::Split(variable, most, low, high) => {
-            let below = with_low(alloc, state, *variable, *most)?;
-            let holds = is_closed(alloc, certificate, hart, code, &below, low)?;
-            if holds {
-                if goes_beyond(state, *variable, *most) {
-                    let above = with_high(alloc, state, *variable, *most)?;
-                    is_closed(alloc, certificate, hart, code, &above, high)
-                } else {
-                    Ok(true)
-                }
-            } else {
-                Ok(false)
-            }
-        }
-    }
+    let closing = Closing {
+        certificate,
+        hart,
+        code,
+    };
+    each_leaf(alloc, &closing, state, cases)
 }

@@ -14,11 +14,12 @@ pub mod certificate;
 mod checking;
 #[cfg(test)]
 mod checking_tags;
-pub mod closing;
+mod closing;
 pub mod effects;
 mod fields;
 mod filled;
 pub mod flaws;
+pub mod leaves;
 pub mod loads;
 mod opening;
 mod opening_tags;
@@ -49,6 +50,7 @@ pub use certificate::{
 };
 pub use checking::first_flaw;
 pub use flaws::{Flaw, QueueFlaw, TaggedFlaw, laws_of_flaws};
+pub use leaves::{LeafCheck, each_leaf};
 pub use owning::first_unowned;
 pub use owning_rest::first_unowned_rest;
 pub use queue_layouts::{Codec, OpenedTagged, TaggedQueue};

@@ -1,13 +1,13 @@
 //! Whether a hart's loads of a queue's slots are of owned ones.
 
 ghost use Rattle.std.specs.Prelude.{◌≡◌, ◌<◌, ◌*◌, ◌||◌, ℕ, IfOk, length, get_or};
-ghost use Rattle.queue_certificates.specs.Steps.{is_apart, is_owned, loads_owned};
+ghost use Rattle.queue_certificates.specs.Steps.{is_apart, is_owned, instruction_at, loads_owned};
 ghost use Rattle.queue_certificates.specs.States.{no_share};
 ghost use Rattle.queue_certificates.specs.Certificates.{queue_at, part_of, owns_loads};
 ghost use Rattle.queue_checker.specs.Flaws.{hart_at, loads_hold, first_of, first_below, unless, first_unowned};
 
-use crate::certificate::{CaseNode, Cases, KnownState, QueueCertificate};
-use crate::closing::{goes_beyond, with_high, with_low};
+use crate::certificate::{Arrow, Cases, KnownState, QueueCertificate};
+use crate::leaves::{LeafCheck, each_leaf};
 use crate::loads::load_width;
 use crate::places::misses_slots;
 use crate::sites::{listed_states, small};
@@ -15,8 +15,8 @@ use crate::slots::is_owned;
 use crate::states::share_in;
 use crate::steps::instruction_at;
 use crate::targets::{Target, accessed, exchanged};
-use known_values::Lack;
 use known_values::queues::queue_in;
+use known_values::{Form, Lack};
 use rv_decode::Instr;
 use std::alloc::Global;
 use step_machine::Opening;
@@ -79,6 +79,29 @@ fn loads_owned(
     }
 }
 
+/// Asks of a leaf whether its instruction loads of the queue's slots only owned ones.
+#[derive(Clone, Copy)]
+struct Owning<'a> {
+    certificate: &'a QueueCertificate,
+    code: &'a [u32],
+    queue: u32,
+}
+
+impl LeafCheck for Owning<'_> {
+    ghost holds = { λ o k d arrows. loads_owned (queue_at o.certificate.now) k o.queue (instruction_at o.code.now k.pc) };
+
+    fn holds(
+        &self,
+        alloc: Global,
+        state: &KnownState,
+        _handed: &Form,
+        _arrows: &[Arrow],
+    ) -> Result<bool, Lack> {
+        let instruction = instruction_at(self.code, state.pc);
+        loads_owned(alloc, self.certificate, state, self.queue, instruction)
+    }
+}
+
 /// Whether that holds of a state, by these cases.
 fn owns_loads(
     alloc: Global,
@@ -90,26 +113,12 @@ fn owns_loads(
 ) -> Result<bool, Lack>
     ensures { IfOk result (λ owns. owns ≡ owns_loads certificate.now code.now i state.now cases.now) }
 {
-    match &cases.node {
-        CaseNode::Leaf(_, _) => {
-            let instruction = instruction_at(code, state.pc);
-            loads_owned(alloc, certificate, state, i, instruction)
-        }
-        CaseNode::Split(variable, most, low, high) => {
-            let below = with_low(alloc, state, *variable, *most)?;
-            let holds = owns_loads(alloc, certificate, code, i, &below, low)?;
-            if holds {
-                if goes_beyond(state, *variable, *most) {
-                    let above = with_high(alloc, state, *variable, *most)?;
-                    owns_loads(alloc, certificate, code, i, &above, high)
-                } else {
-                    Ok(true)
-                }
-            } else {
-                Ok(false)
-            }
-        }
-    }
+    let owning = Owning {
+        certificate,
+        code,
+        queue: i,
+    };
+    each_leaf(alloc, &owning, state, cases)
 }
 
 fn unowned_state(

@@ -1,18 +1,44 @@
 //! Whether a hart's loads of the slots of a queue with tags are of tags or of owned slots.
 
 ghost use Rattle.std.specs.Prelude.{◌≡◌, ◌<◌, IfOk, length};
-ghost use Rattle.queue_certificates.specs.Certificates.{part_of, owns_rest};
+ghost use Rattle.queue_certificates.specs.Certificates.{queue_at, tagged_at, part_of, owns_rest};
+ghost use Rattle.queue_certificates.specs.Steps.{instruction_at};
+ghost use Rattle.queue_certificates.specs.Tags.{loads_rest};
 ghost use Rattle.queue_checker.specs.Flaws.{rest_holds, first_of, first_below, unless, first_unowned_rest};
 
-use crate::certificate::{CaseNode, Cases, KnownState, QueueCertificate};
-use crate::closing::{goes_beyond, with_high, with_low};
+use crate::certificate::{Arrow, Cases, KnownState, QueueCertificate};
+use crate::leaves::{LeafCheck, each_leaf};
 use crate::owning::code_of;
 use crate::sites::{listed_states, small};
 use crate::steps::instruction_at;
 use crate::tags::loads_rest;
-use known_values::Lack;
+use known_values::{Form, Lack};
 use std::alloc::Global;
 use step_machine::Opening;
+
+/// Asks of a leaf whether its instruction loads of the queue's slots only tags and owned slots.
+#[derive(Clone, Copy)]
+struct OwningRest<'a> {
+    certificate: &'a QueueCertificate,
+    code: &'a [u32],
+    tagged: u32,
+}
+
+impl LeafCheck for OwningRest<'_> {
+    ghost holds = { λ o k d arrows. loads_rest (tagged_at o.certificate.now) (queue_at o.certificate.now) (length o.certificate.now.queues) k o.tagged
+        (instruction_at o.code.now k.pc) };
+
+    fn holds(
+        &self,
+        alloc: Global,
+        state: &KnownState,
+        _handed: &Form,
+        _arrows: &[Arrow],
+    ) -> Result<bool, Lack> {
+        let instruction = instruction_at(self.code, state.pc);
+        loads_rest(alloc, self.certificate, state, self.tagged, instruction)
+    }
+}
 
 /// Whether each load of the slots of queue `t` with tags is of a tag or of an owned slot, by these cases of a state.
 fn owns_rest(
@@ -25,26 +51,12 @@ fn owns_rest(
 ) -> Result<bool, Lack>
     ensures { IfOk result (λ owns. owns ≡ owns_rest certificate.now code.now t state.now cases.now) }
 {
-    match &cases.node {
-        CaseNode::Leaf(_, _) => {
-            let instruction = instruction_at(code, state.pc);
-            loads_rest(alloc, certificate, state, t, instruction)
-        }
-        CaseNode::Split(variable, most, low, high) => {
-            let below = with_low(alloc, state, *variable, *most)?;
-            let holds = owns_rest(alloc, certificate, code, t, &below, low)?;
-            if holds {
-                if goes_beyond(state, *variable, *most) {
-                    let above = with_high(alloc, state, *variable, *most)?;
-                    owns_rest(alloc, certificate, code, t, &above, high)
-                } else {
-                    Ok(true)
-                }
-            } else {
-                Ok(false)
-            }
-        }
-    }
+    let owning = OwningRest {
+        certificate,
+        code,
+        tagged: t,
+    };
+    each_leaf(alloc, &owning, state, cases)
 }
 
 fn unowned_rest(

@@ -2,16 +2,17 @@
 
 ghost use Rattle.std.specs.Prelude.{◌≡◌, ◌==◌, ◌||◌, IfOk, [], false, length, get_or};
 ghost use Rattle.slot_queue.specs.Ownership.{party_of};
+ghost use Rattle.queue_certificates.specs.Steps.{instruction_at};
 ghost use Rattle.queue_certificates.specs.Filled.{is_filled_after, are_so};
 ghost use Rattle.queue_certificates.specs.Certificates.{queue_at, fields_at, state_at, leaves_slots, arrows_fill, effect_sends, keeps_records};
 ghost use Rattle.queue_certificates.specs.Certificates.{keeps_fields, keeps_all_fields, opens_unfilled};
 
 use crate::certificate::{
-    Arrow, CaseNode, Cases, Filled, FilledSlot, KnownState, ListedState, QueueCertificate,
+    Arrow, Cases, Filled, FilledSlot, KnownState, ListedState, QueueCertificate,
 };
-use crate::closing::{goes_beyond, with_high, with_low};
 use crate::effects::{effect_of, value_stored};
 use crate::filled::{are_so, filled_in, may_send, says_nothing};
+use crate::leaves::{LeafCheck, each_leaf};
 use crate::places::misses_slots;
 use crate::sites::{listed_states, queue_count};
 use crate::steps::instruction_at;
@@ -197,6 +198,42 @@ fn keeps_records(
     }
 }
 
+/// Asks of a leaf whether its instruction keeps what is said of the queue's records.
+#[derive(Clone, Copy)]
+struct Keeping<'a> {
+    certificate: &'a QueueCertificate,
+    hart: u32,
+    code: &'a [u32],
+    queue: u32,
+    slots: &'a [FilledSlot],
+}
+
+impl LeafCheck for Keeping<'_> {
+    ghost holds = { λ s k d arrows. keeps_records s.certificate.now s.hart s.queue (party_of (queue_at s.certificate.now s.queue) s.hart) s.slots.now k d
+        arrows (instruction_at s.code.now k.pc) };
+
+    fn holds(
+        &self,
+        alloc: Global,
+        state: &KnownState,
+        handed: &Form,
+        arrows: &[Arrow],
+    ) -> Result<bool, Lack> {
+        let instruction = instruction_at(self.code, state.pc);
+        keeps_records(
+            alloc,
+            self.certificate,
+            self.hart,
+            self.queue,
+            self.slots,
+            state,
+            handed,
+            arrows,
+            instruction,
+        )
+    }
+}
+
 /// Whether that holds of a state, by these cases.
 fn keeps_fields(
     alloc: Global,
@@ -210,36 +247,14 @@ fn keeps_fields(
 ) -> Result<bool, Lack>
     ensures { IfOk result (λ keeps. keeps ≡ keeps_fields certificate.now hart code.now i slots.now state.now cases.now) }
 {
-    match &cases.node {
-        CaseNode::Leaf(handed, arrows) => {
-            let instruction = instruction_at(code, state.pc);
-            keeps_records(
-                alloc,
-                certificate,
-                hart,
-                i,
-                slots,
-                state,
-                handed,
-                arrows,
-                instruction,
-            )
-        }
-        CaseNode::Split(variable, most, low, high) => {
-            let below = with_low(alloc, state, *variable, *most)?;
-            let holds = keeps_fields(alloc, certificate, hart, code, i, slots, &below, low)?;
-            if holds {
-                if goes_beyond(state, *variable, *most) {
-                    let above = with_high(alloc, state, *variable, *most)?;
-                    keeps_fields(alloc, certificate, hart, code, i, slots, &above, high)
-                } else {
-                    Ok(true)
-                }
-            } else {
-                Ok(false)
-            }
-        }
-    }
+    let keeping = Keeping {
+        certificate,
+        hart,
+        code,
+        queue: i,
+        slots,
+    };
+    each_leaf(alloc, &keeping, state, cases)
 }
 
 /// Whether queue `i` has no fields.
