@@ -5,8 +5,8 @@ use Rattle.std.proofs.lemmas.Bool.{cases_lt, cases_eq}
 use Rattle.hart.specs.State.{HartState}
 use Rattle.owned_run.specs.Certified.{View, AllCounts}
 use Rattle.queue_certificates.specs.States.{KnownState, MeansAt, Means}
-use Rattle.queue_certificates.specs.Certificates.{QueueCertificate, queue_at, own_of, part_of, state_at, Cases, leaf, split, with_low, with_high}
-use Rattle.queue_certificates.specs.Certificates.{may_exceed}
+use Rattle.queue_certificates.specs.Cases.{Cases, leaf, split, with_low, with_high, may_exceed}
+use Rattle.queue_certificates.specs.Certificates.{QueueCertificate, queue_at, own_of, part_of, state_at}
 use Rattle.queue_certificates.proofs.Forms.{less_at}
 use Rattle.queue_certificates.proofs.States.{means-low, means-high, exceeds}
 use Rattle.hart_safety.specs.Leaves.{over_leaves, over_states, over_hart}
@@ -47,7 +47,7 @@ module _ {A : Type 0} (f : ℕ → KnownState → A → A) (Q : A → Type 0) wh
 
     module _ (c : QueueCertificate) (h : ℕ) (s : HartState) (m : View) (cs : AllCounts) where
       -- a leaf that means it, and what is made of it is so
-      pub record AtLeaf : Type 0 where
+      pub record Reached : Type 0 where
         pub state : ℕ
         pub known : KnownState
         pub numbers : List ℕ
@@ -56,7 +56,7 @@ module _ {A : Type 0} (f : ℕ → KnownState → A → A) (Q : A → Type 0) wh
         pub so : Q (f state known before)
 
       at-cases : (n : ℕ) (k : KnownState) (t : Cases) (xs : List ℕ) → MeansAt (queue_at c) (length c.queues) (own_of c h) h xs k s m cs
-          → (a : A) → Q (over_leaves f n k t a) → AtLeaf
+          → (a : A) → Q (over_leaves f n k t a) → Reached
       at-cases n k (leaf d arrows) xs means a q = record { state = n; known = k; numbers = xs; means = means; before = a; so = q }
       at-cases n k (split j v low high) xs means a q = elim (cases_lt v (get_or xs j 0)) [
         | inr under ↦ at-cases n (with_low k j v) low xs (means-low (queue_at c) (length c.queues) (own_of c h) h xs k s m cs j v means under) a
@@ -72,7 +72,7 @@ module _ {A : Type 0} (f : ℕ → KnownState → A → A) (Q : A → Type 0) wh
           lower false b q = q
 
       at-states : (n : ℕ) → Means (queue_at c) (length c.queues) (own_of c h) h (state_at c h n).known s m cs → (count : ℕ) → n < count
-          → (a : A) → Q (over_states f c h count a) → AtLeaf
+          → (a : A) → Q (over_states f c h count a) → Reached
       at-states n means zero less a q = absurd (omega (arith, less))
       at-states n means (suc count) less a q = elim (cases_eq n count) [
         | inl same ↦ (let here = subst (λ i. Means (queue_at c) (length c.queues) (own_of c h) h (state_at c h i).known s m cs) same means in
@@ -82,6 +82,6 @@ module _ {A : Type 0} (f : ℕ → KnownState → A → A) (Q : A → Type 0) wh
       ]
 
       -- of a state that is listed
-      pub at-leaf : (n : ℕ) → Means (queue_at c) (length c.queues) (own_of c h) h (state_at c h n).known s m cs → n < length (part_of c h).states
-          → (a : A) → Q (over_hart f c h a) → AtLeaf
-      at-leaf n means less a q = at-states n means (length (part_of c h).states) less a q
+      pub reaches-leaf : (n : ℕ) → Means (queue_at c) (length c.queues) (own_of c h) h (state_at c h n).known s m cs → n < length (part_of c h).states
+          → (a : A) → Q (over_hart f c h a) → Reached
+      reaches-leaf n means less a q = at-states n means (length (part_of c h).states) less a q

@@ -1,5 +1,5 @@
 -- In every run a hart that goes on from each of its leaves isn't stopped, and it writes within its regions.
-use Rattle.std.proofs.Common.{ℕ, ◌≤◌, ◌≡◌, Bool, true, false, Option, None, Some, List, [], ◌∷◌}
+use Rattle.std.proofs.Common.{ℕ, ◌<◌, ◌≤◌, ◌≡◌, true, false, None, Some, List, [], ◌∷◌}
 use Rattle.std.proofs.Common.{◌++◌, length, refl, sym, subst}
 use Rattle.std.proofs.lemmas.Option.{get_or_from_slice_get}
 use Rattle.hart.specs.State.{HartState}
@@ -17,33 +17,32 @@ use Rattle.store_buffers.specs.StoreBuffers.{LeavesByteBy}
 use Rattle.owned_run.specs.Certified.{View, AllCounts, Acts, IsCertified}
 use Rattle.owned_run.proofs.Sets.{CertifiedSets}
 use Rattle.owned_run.proofs.Every.{holds, next_is, every_state}
-use Rattle.queue_certificates.specs.States.{KnownState}
 use Rattle.queue_certificates.specs.Steps.{instruction_at}
 use Rattle.queue_certificates.specs.Certificates.{QueueCertificate, queue_at, start_at, no_hart, HasFields, MeetsFields, IsOwnByte, IsAtState, IsInState}
-use Rattle.queue_certificates.specs.Certificates.{told_beside, accepts}
+use Rattle.queue_certificates.specs.Certificates.{told_beside, accepts, part_of, state_at}
+use Rattle.queue_certificates.proofs.States.{at-below}
 use Rattle.queue_certificates.proofs.Steps.{nobody_told, nothing_sent, untold}
 use Rattle.queue_certificates.proofs.Accepted.{fine, of-hart}
 use Rattle.queue_certificates.proofs.Certified.{accepted-certifies}
 use Rattle.queue_certificates.proofs.EveryRun.{sets}
+use Rattle.queue_certificates.proofs.AtLeaf.{at-leaf}
 use Rattle.queue_checker.specs.Flaws.{hart_at, unless}
-use Rattle.hart_safety.specs.Stops.{goes_on_at, stop_at, first_stop}
+use Rattle.queue_checker.proofs.FlawLaws.{same-unless, same-below}
+use Rattle.hart_safety.specs.Stops.{goes_on_at, state_goes_on, first_stop}
 use Rattle.hart_safety.specs.Regions.{IsInNone}
 use Rattle.hart_safety.specs.Writes.{stored_in, writes_at, first_unbounded, regions_written}
-use Rattle.hart_safety.proofs.AtLeaves.{at-leaf}
+use Rattle.hart_safety.proofs.AtLeaves.{reaches-leaf}
 use Rattle.hart_safety.proofs.Going.{IsGoing, settled-going, next-going}
 use Rattle.hart_safety.proofs.Stopping.{leaf-goes}
 use Rattle.hart_safety.proofs.Outside.{IsSpared, Spares, spared}
 use Rattle.hart_safety.proofs.Writing.{leaf-spares}
 
--- none is found before a leaf, and none at it
-no-stop : (M : ℕ) (c : QueueCertificate) (code : List ℕ) (n : ℕ) (k : KnownState) (first : Option ℕ) → stop_at M c code n k first ≡ None
-    → (first ≡ None) × (goes_on_at M c code k ≡ true)
-no-stop M c code n k (Some a) is = absurd (cc)
-no-stop M c code n k None is = (refl, by (goes_on_at M c code k) is)
-  where
-    by : (t : Bool) → unless t n ≡ None → t ≡ true
-    by true none = refl
-    by false none = absurd (cc)
+-- where no state stops, each goes on
+each-goes : (M : ℕ) (o : OpeningValue) (c : QueueCertificate) (h : ℕ) → first_stop M o c h ≡ None → (n : ℕ) → n < length (part_of c h).states
+    → state_goes_on M o c h n ≡ true
+each-goes M o c h none = at-below (length (part_of c h).states) (state_goes_on M o c h)
+    ((same-below (length (part_of c h).states) (state_goes_on M o c h) (λ n. unless (state_goes_on M o c h n) n)
+    (λ n. same-unless (state_goes_on M o c h n) n)).empty none)
 
 module _ (B M : ℕ) (o : OpeningValue) (c : QueueCertificate) (ok : accepts o c ≡ true) where
   -- what is said of records that are sent, and of queues with tags, plays no part here
@@ -73,12 +72,11 @@ module _ (B M : ℕ) (o : OpeningValue) (c : QueueCertificate) (ok : accepts o c
         → Acts M o (length c.queues) (queue_at c) nobody_told nothing_sent h s m cs e → IsGoing (advanced s (number_read e))
     going-next s m cs e in' going acts =
         let w = in' acts.can.running in
-        let at = at-leaf (stop_at M c (hart_at o h).code) (λ first. first ≡ None) (λ n k first is. (no-stop M c (hart_at o h).code n k first is).0)
-        c h s m cs w.0 w.2 w.1 None none in
+        let at = at-leaf c h s m cs w.2.0 (state_at c h w.0).known (state_at c h w.0).cases w.2.1 in
         next-going s acts.can.running going (number_read e)
         (leaf-goes M o c h at.numbers at.known s m cs e acts (acts-wide h s m cs e acts) (fine M o c ok) at.means
         (subst (λ code. goes_on_at M c code at.known ≡ true) (acts-code h s m cs e acts)
-        (no-stop M c (hart_at o h).code at.state at.known at.before at.so).1) going)
+        (at.passes (λ k d arrows. goes_on_at M c (hart_at o h).code k) (each-goes M o c h none w.0 w.1))) going)
 
     certified : IsCertified M o (length c.queues) (queue_at c) (HasFields c) (MeetsFields c) (told_beside c) (start_at c) (IsOwnByte c) IsSafe
     certified = let all = accepted-certifies M o c ok in record {
@@ -110,7 +108,7 @@ module _ (B M : ℕ) (o : OpeningValue) (c : QueueCertificate) (ok : accepts o c
       (d : Entry) → IsInState c h s m cs → Acts M o (length c.queues) (queue_at c) nobody_told nothing_sent h s m cs d → LeavesByteBy x (access_of d)
   leaves-outside h x none out s m cs d in' acts =
       let w = in' acts.can.running in
-      let at = at-leaf (writes_at c (hart_at o h).code) (Spares x) (λ n k before spares. (spared c (hart_at o h).code x n k before spares).1)
+      let at = reaches-leaf (writes_at c (hart_at o h).code) (Spares x) (λ n k before spares. (spared c (hart_at o h).code x n k before spares).1)
       c h s m cs w.0 w.2 w.1 (record { regions = []; unbounded = None }) (none, out) in
       leaf-spares M o c h at.numbers at.known s m cs d acts (acts-wide h s m cs d acts) (fine M o c ok) at.means x
       (subst (λ ws. IsSpared x (stored_in c at.known (instruction_at ws at.known.pc))) (acts-code h s m cs d acts)

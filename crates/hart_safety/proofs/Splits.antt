@@ -1,7 +1,7 @@
 -- The leaves of a state by two cases, of which the higher one may be.
 use Rattle.std.proofs.Common.{ℕ, ◌≡◌, Bool, true, Some, get_or, refl, sym, ◌∙◌}
 use Rattle.queue_certificates.specs.States.{KnownState}
-use Rattle.queue_certificates.specs.Certificates.{Cases, split, with_low, with_high, may_exceed}
+use Rattle.queue_certificates.specs.Cases.{Cases, split, with_low, with_high, may_exceed}
 use Rattle.hart_safety.specs.Leaves.{over_leaves}
 
 pub leaves_high : {A : Type 0} (f : ℕ → KnownState → A → A) (n : ℕ) (k : KnownState) (cases : Cases) (j v : ℕ) (low high : Cases) (a w : KnownState)

@@ -1,7 +1,8 @@
 -- The leaves of a hart's states, one after the other: what is known where an instruction is executed.
 use Rattle.std.specs.Prelude.{ℕ, zero, suc, if◌then◌else◌, Some, length, get_or}
 use Rattle.queue_certificates.specs.States.{KnownState}
-use Rattle.queue_certificates.specs.Certificates.{QueueCertificate, part_of, state_at, Cases, leaf, split, with_low, with_high, may_exceed}
+use Rattle.queue_certificates.specs.Cases.{Cases, leaf, split, with_low, with_high, may_exceed}
+use Rattle.queue_certificates.specs.Certificates.{QueueCertificate, part_of, state_at}
 
 -- f makes of a what it does at each leaf, by the number of its state, which is n here
 abbrev pub over_leaves : {A : Type 0} → (ℕ → KnownState → A → A) → (n : ℕ) → KnownState → Cases → A → A

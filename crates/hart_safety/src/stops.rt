@@ -2,17 +2,16 @@
 
 ghost use Rattle.std.specs.Prelude.{◌≡◌, ◌<◌, IfOk, length, None};
 ghost use Rattle.queue_certificates.specs.Certificates.{queue_at, part_of, state_at};
-ghost use Rattle.queue_checker.specs.Flaws.{hart_at};
-ghost use Rattle.hart_safety.specs.Leaves.{over_leaves, over_states};
+ghost use Rattle.queue_checker.specs.Flaws.{hart_at, first_of, first_below, unless};
 ghost use Rattle.hart_safety.specs.Stops.{is_aligned, is_within_memory, may_be_target, jumps_to_target, is_known_call, call_in};
-ghost use Rattle.hart_safety.specs.Stops.{goes_on, goes_on_at, stop_at, first_stop};
+ghost use Rattle.hart_safety.specs.Stops.{goes_on, goes_on_at, state_goes_on, first_stop};
 
 use known_values::forms::{is_same, number};
 use known_values::lack::product;
 use known_values::results::as_number;
 use known_values::values::plain;
-use known_values::{Known, KnownValue, Lack};
-use queue_checker::closing::{goes_beyond, with_high, with_low};
+use known_values::{Form, Known, KnownValue, Lack};
+use queue_checker::leaves::{LeafCheck, each_leaf};
 use queue_checker::loads::load_width;
 use queue_checker::owning::code_of;
 use queue_checker::sites::{listed_states, small};
@@ -20,7 +19,7 @@ use queue_checker::states::value_in;
 use queue_checker::steps::{address, instruction_at, operand};
 use queue_checker::stores::store_width;
 use queue_checker::targets::{Target, accessed, exchanged};
-use queue_checker::{CaseNode, Cases, KnownState, QueueCertificate};
+use queue_checker::{Arrow, KnownState, QueueCertificate};
 use rv_decode::Instr;
 use std::alloc::Global;
 use step_machine::Opening;
@@ -145,53 +144,54 @@ fn goes_on_at(
     }
 }
 
-/// The first state that isn't shown to go on, where `first` is the first one before this leaf of state `n`.
+/// Asks of a leaf whether its instruction goes on.
+#[derive(Clone, Copy)]
+struct Going<'a> {
+    words: u64,
+    certificate: &'a QueueCertificate,
+    code: &'a [u32],
+}
+
+impl LeafCheck for Going<'_> {
+    ghost holds = { λ g k d arrows. goes_on_at g.words g.certificate.now g.code.now k };
+
+    fn holds(
+        &self,
+        alloc: Global,
+        state: &KnownState,
+        _handed: &Form,
+        _arrows: &[Arrow],
+    ) -> Result<bool, Lack> {
+        goes_on_at(alloc, self.words, self.certificate, self.code, state)
+    }
+}
+
+/// The first state that isn't shown to go on, where `first` is the first one before state `n`.
 fn stop_at(
     alloc: Global,
     words: u64,
+    opening: &Opening,
     certificate: &QueueCertificate,
-    code: &[u32],
-    n: u32,
-    state: &KnownState,
+    hart: u32,
     first: Option<u32>,
+    n: u32,
 ) -> Result<Option<u32>, Lack>
-    ensures { IfOk result (λ stop. stop ≡ stop_at words certificate.now code.now n state.now first) }
+    requires { n < length (part_of certificate.now hart).states }
+    ensures { IfOk result (λ stop. stop ≡ first_of first (unless (state_goes_on words opening.now certificate.now hart n) n)) }
 {
     match first {
         Some(stop) => Ok(Some(stop)),
         None => {
-            if goes_on_at(alloc, words, certificate, code, state)? {
+            let listed = &listed_states(certificate, hart)[n as usize];
+            let going = Going {
+                words,
+                certificate,
+                code: code_of(opening, hart),
+            };
+            if each_leaf(alloc, &going, &listed.known, &listed.cases)? {
                 Ok(None)
             } else {
                 Ok(Some(n))
-            }
-        }
-    }
-}
-
-/// The same with all leaves of state `n`, by its cases.
-fn stop_in(
-    alloc: Global,
-    words: u64,
-    certificate: &QueueCertificate,
-    code: &[u32],
-    n: u32,
-    state: &KnownState,
-    cases: &Cases,
-    first: Option<u32>,
-) -> Result<Option<u32>, Lack>
-    ensures { IfOk result (λ stop. stop ≡ over_leaves (stop_at words certificate.now code.now) n state.now cases.now first) }
-{
-    match &cases.node {
-        CaseNode::Leaf(_, _) => stop_at(alloc, words, certificate, code, n, state, first),
-        CaseNode::Split(variable, most, low, high) => {
-            let below = with_low(alloc, state, *variable, *most)?;
-            let lower = stop_in(alloc, words, certificate, code, n, &below, low, first)?;
-            if goes_beyond(state, *variable, *most) {
-                let above = with_high(alloc, state, *variable, *most)?;
-                stop_in(alloc, words, certificate, code, n, &above, high, lower)
-            } else {
-                Ok(lower)
             }
         }
     }
@@ -207,20 +207,9 @@ pub fn first_stop(
 ) -> Result<Option<u32>, Lack>
     ensures { IfOk result (λ state. state ≡ first_stop words opening.now certificate.now hart) }
 {
-    let code = code_of(opening, hart);
     let mut first = None;
     for n in 0..small(listed_states(certificate, hart).len())? {
-        let listed = &listed_states(certificate, hart)[n as usize];
-        first = stop_in(
-            alloc,
-            words,
-            certificate,
-            code,
-            n,
-            &listed.known,
-            &listed.cases,
-            first,
-        )?;
+        first = stop_at(alloc, words, opening, certificate, hart, first, n)?;
     }
     Ok(first)
 }

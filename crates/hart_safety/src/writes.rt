@@ -7,7 +7,7 @@ ghost use Rattle.hart_safety.specs.Writes.{stored_in, is_bounded, with_target, w
 
 use crate::regions::{Region, region_of, with_region};
 use known_values::{Bounds, Lack};
-use queue_checker::closing::{goes_beyond, with_high, with_low};
+use queue_checker::leaves::{goes_beyond, with_high, with_low};
 use queue_checker::owning::code_of;
 use queue_checker::sites::{listed_states, small};
 use queue_checker::steps::instruction_at;

@@ -1,7 +1,7 @@
-use Rattle.std.proofs.Common.{◌≡◌, None}
-use Rattle.hart_safety.specs.Leaves.{over_states}
-use Rattle.hart_safety.specs.Stops.{stop_at}
+use Rattle.std.proofs.Common.{◌≡◌}
+use Rattle.queue_checker.specs.Flaws.{first_below, unless}
+use Rattle.hart_safety.specs.Stops.{state_goes_on}
 use Rattle.hart_safety.proofs.stops.first_stop.Given as goal
 
 abbrev pub invariant-loop-n : goal.invariant-loop-n
-invariant-loop-n l = l.first ≡ over_states (stop_at l.words l.certificate l.code) l.certificate l.hart l.n None
+invariant-loop-n l = l.first ≡ first_below l.n (λ n. unless (state_goes_on l.words l.opening l.certificate l.hart n) n)
