@@ -1,9 +1,9 @@
 -- What an entry of a queue's sender leads to from a state of the certificate: an effect that the state's marks allow, and a next state
 -- whose marks are so after it.
-use Rattle.std.proofs.Common.{ℕ, ◌+◌, ◌<◌, ◌≤◌, ◌≡◌, inl, inr, Bool, true, Option, Some, None, List, []}
+use Rattle.std.proofs.Common.{ℕ, ◌<◌, ◌≤◌, ◌≡◌, Bool, true, Option, Some, None, List, []}
 use Rattle.std.proofs.Common.{length, get_or, sym, ◌∙◌, ap, refl, subst}
 use Rattle.std.specs.List.{slice_get}
-use Rattle.std.proofs.lemmas.Bool.{and_parts, cases_lt}
+use Rattle.std.proofs.lemmas.Bool.{and_parts}
 use Rattle.std.proofs.lemmas.Option.{get_or_from_slice_get}
 use Rattle.rv_decode.specs.declared.instruction.Instr.{Instr}
 use Rattle.hart.specs.State.{HartState}
@@ -20,19 +20,18 @@ use Rattle.owned_run.specs.Certified.{View, AllCounts, view_then, Acts, kept_bes
 use Rattle.queue_certificates.specs.Forms.{Form}
 use Rattle.queue_certificates.specs.States.{KnownState, MeansAt}
 use Rattle.queue_certificates.specs.Steps.{follow, instruction_at}
-use Rattle.queue_certificates.specs.Certificates.{Arrow, Cases, leaf, split, QueueCertificate, queue_at, part_of, own_of, state_at, tagged_at}
-use Rattle.queue_certificates.specs.Certificates.{HasFields, MeetsFields, SharesTold, MeansAll, told_beside, no_hart, with_low, with_high, next_states}
-use Rattle.queue_certificates.specs.Certificates.{all_lead, is_closed, accepts}
+use Rattle.queue_certificates.specs.Cases.{Arrow}
+use Rattle.queue_certificates.specs.Certificates.{QueueCertificate, queue_at, part_of, own_of, state_at, tagged_at}
+use Rattle.queue_certificates.specs.Certificates.{HasFields, MeetsFields, SharesTold, MeansAll, told_beside, no_hart, next_states}
+use Rattle.queue_certificates.specs.Certificates.{all_lead, accepts}
 use Rattle.queue_certificates.specs.Effects.{effect_of, value_stored}
 use Rattle.queue_certificates.specs.TagEffects.{tag_effect_of}
 use Rattle.queue_certificates.specs.Filled.{are_so}
 use Rattle.queue_certificates.specs.declared.effect.Effect.{Effect}
-use Rattle.queue_certificates.proofs.Forms.{less_at}
-use Rattle.queue_certificates.proofs.States.{at-below, means-low, means-high, exceeds}
+use Rattle.queue_certificates.proofs.States.{at-below}
 use Rattle.queue_certificates.proofs.Steps.{untold}
-use Rattle.queue_certificates.proofs.TagShares.{told-low, told-high}
 use Rattle.queue_certificates.proofs.Accesses.{hart-party}
-use Rattle.queue_certificates.proofs.Accepted.{otherwise, fine, past, OfHart, accepted-opens}
+use Rattle.queue_certificates.proofs.Accepted.{fine, past, OfHart, accepted-opens}
 use Rattle.queue_certificates.proofs.Leaves.{followed, Led, among-leads, leaf-goes}
 use Rattle.queue_certificates.proofs.Effects.{Sends, does-sends}
 use Rattle.queue_certificates.proofs.Sends.{state-does}
@@ -114,7 +113,7 @@ module _ (M : ℕ) (o : OpeningValue) (c : QueueCertificate) (ok : accepts o c �
     so = found.passes (λ bs. arrows_keep marks bs f) (λ n. are_so (get_or marks n []) f) (λ b bs both. and_parts _ _ both) keep;
   }
 
-  -- what an entry comes to from a state with these marks
+  -- what an entry comes to from a leaf of a state with these marks
   pub record Leads (ms : Marks) (m : View) (cs us : AllCounts) (y : Access) (z : HartState) : Type 0 where
     pub effect : Effect
     pub sends : SendsBy c w cs us effect y z
@@ -125,11 +124,12 @@ module _ (M : ℕ) (o : OpeningValue) (c : QueueCertificate) (ok : accepts o c �
   pub leads : (x : HartOpeningValue) → OfHart M o c ok (sender_in c w) x → (s : HartState) (m : View) (cs us : AllCounts) (e : Entry)
       → Acts M o (length c.queues) (queue_at c) (HasFields c) (MeetsFields c) (sender_in c w) s m cs e
       → (kept_beside (told_beside c)).Knows (sender_in c w) us m → s.code ≡ x.code → length s.registers ≡ length x.registers
-      → (ms : Marks) (k : KnownState) (t : Cases) (xs : List ℕ) → is_closed c (sender_in c w) x.code k t ≡ true
-      → keeps_marks c w x.code mask marks ms k t ≡ true
+      → (ms : Marks) (k : KnownState) (d : Form) (arrows : List Arrow) (xs : List ℕ)
+      → all_lead c (sender_in c w) (next_states c (sender_in c w) x.code k d) arrows ≡ true
+      → effect_keeps mask marks ms arrows (effect_in c w k d (instruction_at x.code k.pc)) ≡ true
       → MeansAt (queue_at c) (length c.queues) (own_of c (sender_in c w)) (sender_in c w) xs k s m cs
       → SharesTold c (sender_in c w) xs k us → Leads ms m cs us (access_of e) (advanced s (number_read e))
-  leads x of s m cs us e acts knows code size ms k (leaf d arrows) xs closed keeps means told =
+  leads x of s m cs us e acts knows code size ms k d arrows xs closed keeps means told =
       by (next_states c h x.code k d) refl (effect_in c w k d (instruction_at x.code k.pc)) refl closed keeps
     where
       by : (ts : Option (List KnownState)) → next_states c h x.code k d ≡ ts
@@ -149,14 +149,3 @@ module _ (M : ℕ) (o : OpeningValue) (c : QueueCertificate) (ok : accepts o c �
                 (among-leads c h xs ts arrows (advanced s (number_read e)) (view_then (access_of e) m)
                 (indexed_then c h (access_of e) cs) (tagged_then c h (access_of e) us) closed (goes.next runs));
           }
-  leads x of s m cs us e acts knows code size ms k (split j v low high) xs closed keeps means told =
-      let beyond = exceeds (queue_at c) (length c.queues) (own_of c h) h k.ranges xs j v means.ranges in
-      elim (cases_lt v (get_or xs j 0)) [
-        | inr under ↦ leads x of s m cs us e acts knows code size ms (with_low k j v) low xs (and_parts _ _ closed).0 (and_parts _ _ keeps).0
-            (means-low (queue_at c) (length c.queues) (own_of c h) h xs k s m cs j v means under)
-            (told-low (tagged_at c) (length c.tagged) (queue_at c) (length c.queues) (own_of c) (length c.harts) h xs k us j v means.ranges under told)
-        | inl over ↦ leads x of s m cs us e acts knows code size ms (with_high k j v) high (less_at j (v + 1) xs)
-            (otherwise _ _ (beyond over) (and_parts _ _ closed).1) (otherwise _ _ (beyond over) (and_parts _ _ keeps).1)
-            (means-high (queue_at c) (length c.queues) (own_of c h) h xs k s m cs j v means over)
-            (told-high (tagged_at c) (length c.tagged) (queue_at c) (length c.queues) (own_of c) (length c.harts) h xs k us j v means.ranges over told)
-      ]

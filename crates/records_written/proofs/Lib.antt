@@ -2,4 +2,3 @@ mod Marked
 mod Leading
 mod Runs
 mod LittleTexts
-pub mod Splits

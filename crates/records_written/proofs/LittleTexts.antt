@@ -7,7 +7,8 @@ use Rattle.slot_queue.specs.Queues.{Queue}
 use Rattle.owned_run.proofs.OneSlotText.{text}
 use Rattle.queue_certificates.specs.Forms.{number}
 use Rattle.queue_certificates.specs.States.{KnownValue, any, linear}
-use Rattle.queue_certificates.specs.Certificates.{leaf, ListedState, QueueCertificate, accepts}
+use Rattle.queue_certificates.specs.Cases.{leaf}
+use Rattle.queue_certificates.specs.Certificates.{ListedState, QueueCertificate, accepts}
 use Rattle.queue_certificates.proofs.OneSlotQueue.{certificate}
 use Rattle.records_written.specs.declared.senders.QueueNumber.TheVariants.{Indexed}
 use Rattle.records_written.specs.Marks.{Marks, shows_written}

@@ -21,8 +21,9 @@ use Rattle.queue_parties.specs.Parties.{the_sender, all_at}
 use Rattle.owned_run.specs.Certified.{View, AllCounts, view_then, IsSameFor, kept_beside}
 use Rattle.owned_run.proofs.Every as every
 use Rattle.queue_certificates.specs.States.{KnownState}
+use Rattle.queue_certificates.specs.Steps.{instruction_at}
 use Rattle.queue_certificates.specs.Certificates.{QueueCertificate, queue_at, start_at, part_of, own_of, state_at, tagged_at, told_beside}
-use Rattle.queue_certificates.specs.Certificates.{IsKeptByte, MeansAll, accepts}
+use Rattle.queue_certificates.specs.Certificates.{IsKeptByte, MeansAll, next_states, all_lead, accepts}
 use Rattle.queue_certificates.specs.Filled.{most_published}
 use Rattle.queue_certificates.specs.declared.effect.Effect.{Effect}
 use Rattle.queue_certificates.specs.declared.effect.Effect.TheVariants.{Leaves, Fills, Publishes, PublishesSome}
@@ -31,12 +32,13 @@ use Rattle.queue_certificates.proofs.Filled.{so-listed}
 use Rattle.queue_certificates.proofs.Effects.{IsSent, Sends}
 use Rattle.queue_certificates.proofs.TagShares.{told-frame, told-opens}
 use Rattle.queue_certificates.proofs.Accepted.{fine-tagged, of-hart, opens-means}
+use Rattle.queue_certificates.proofs.AtLeaf.{at-leaf}
 use Rattle.queue_certificates.proofs.EveryRun.{sets}
 use Rattle.records_written.specs.declared.senders.QueueNumber.{QueueNumber}
 use Rattle.records_written.specs.declared.senders.QueueNumber.TheVariants.{Indexed, Tagged}
-use Rattle.records_written.specs.Senders.{IsListed, sender_in, size_in, slot_in, published_of, published_after}
+use Rattle.records_written.specs.Senders.{IsListed, sender_in, size_in, slot_in, published_of, published_after, effect_in}
 use Rattle.records_written.specs.Written.{IsWritten}
-use Rattle.records_written.specs.Marks.{Marks, has_mark, has_mark_after, shows_written}
+use Rattle.records_written.specs.Marks.{Marks, has_mark, has_mark_after, effect_keeps, shows_written}
 use Rattle.records_written.proofs.Marked.{whole-at}
 use Rattle.records_written.proofs.Leading.{indexed_then, tagged_then, marks-keep, Leads, leads}
 
@@ -167,15 +169,18 @@ module _ (B M : ℕ) (o : OpeningValue) (c : QueueCertificate) (ok : accepts o c
           let a = every.acts (sets B M o c ok) done e run holds h k.0 mine act k.1 in
           let m = marked k.0 k.1 a.can.running in
           let of = of-hart M o c ok h a.opens a.is in
+          let leaf = at-leaf c h k.0 (Sees h done) (Counted done) m.means.0 (state_at c h m.state).known (state_at c h m.state).cases m.means.1 in
           record {
             state = k.0;
             at = k.1;
             ms = get_or marks m.state [];
             written = m.written;
             leading = leads M o c ok w less mask marks shown a.opens of k.0 (Sees h done) (Counted done) (Told done) e a
-                (every.knows_beside (sets B M o c ok) done holds h) a.code a.size (get_or marks m.state [])
-                (state_at c h m.state).known (state_at c h m.state).cases m.means.0 (of.closed m.state m.listed)
-                (marks-keep M o c ok w less mask marks shown a.opens a.is m.state m.listed) m.means.1 m.means.2;
+                (every.knows_beside (sets B M o c ok) done holds h) a.code a.size (get_or marks m.state []) leaf.known leaf.handed leaf.arrows leaf.numbers
+                (leaf.passes (λ k d arrows. all_lead c h (next_states c h a.opens.code k d) arrows) (of.closed m.state m.listed))
+                (leaf.passes (λ k d arrows. effect_keeps mask marks (get_or marks m.state []) arrows (effect_in c w k d (instruction_at a.opens.code k.pc)))
+                (marks-keep M o c ok w less mask marks shown a.opens a.is m.state m.listed))
+                leaf.means (leaf.told (Told done) m.means.2);
           }
 
       -- what it sends, by the counts of the run

@@ -1,14 +1,15 @@
 -- Which bytes of slots a queue's sender has surely written at each state of a certificate, and when that shows that it writes each record
 -- before it publishes it.
-use Rattle.std.specs.Prelude.{ℕ, ◌≡◌, ◌+◌, ◌==◌, ◌&&◌, ◌||◌, not, nat_le, nat_lt, Bool, true, false, Option, None, Some}
+use Rattle.std.specs.Prelude.{ℕ, ◌≡◌, ◌+◌, ◌==◌, ◌&&◌, ◌||◌, nat_le, nat_lt, Bool, true, false, Option, None, Some}
 use Rattle.std.specs.Prelude.{List, [], ◌∷◌, length, get_or}
 use Rattle.std.specs.List.{list_all, list_any}
 use Rattle.step_machine.specs.History.{OpeningValue}
 use Rattle.queue_certificates.specs.States.{KnownState}
 use Rattle.queue_certificates.specs.Steps.{all_below, instruction_at}
 use Rattle.queue_certificates.specs.Filled.{are_so, most_published}
-use Rattle.queue_certificates.specs.Certificates.{Arrow, Cases, leaf, split, QueueCertificate, part_of, state_at}
-use Rattle.queue_certificates.specs.Certificates.{no_hart, with_low, with_high, may_exceed}
+use Rattle.queue_certificates.specs.Cases.{Arrow, Cases, each_leaf}
+use Rattle.queue_certificates.specs.Certificates.{QueueCertificate, part_of, state_at}
+use Rattle.queue_certificates.specs.Certificates.{no_hart}
 use Rattle.records_written.specs.Senders.{sender_in, effect_in}
 use Rattle.records_written.specs.declared.senders.QueueNumber.{QueueNumber}
 use Rattle.queue_certificates.specs.declared.effect.Effect.{Effect}
@@ -46,9 +47,7 @@ effect_keeps mask marks ms arrows (Some e) = may_publish mask ms e && arrows_kee
 
 module _ (c : QueueCertificate) (w : QueueNumber) (code : List ℕ) (mask : List ℕ) (marks : List Marks) where
   abbrev pub keeps_marks : Marks → KnownState → Cases → Bool
-  keeps_marks ms k (leaf d arrows) = effect_keeps mask marks ms arrows (effect_in c w k d (instruction_at code k.pc))
-  keeps_marks ms k (split j v low high) = keeps_marks ms (with_low k j v) low
-      && (not (may_exceed v (get_or k.ranges j (Some 0))) || keeps_marks ms (with_high k j v) high)
+  keeps_marks ms k t = each_leaf (λ k d arrows. effect_keeps mask marks ms arrows (effect_in c w k d (instruction_at code k.pc))) k t
 
 -- With these marks of the states of queue w's sender: the certificate shows that it writes the bytes of the mask of each record
 abbrev pub shows_written : OpeningValue → QueueCertificate → (w : QueueNumber) → (mask : List ℕ) → List Marks → Bool

@@ -5,7 +5,7 @@ ghost use Rattle.std.specs.Prelude.{◌≡◌, IfOk, map};
 use crate::senders::{QueueNumber, effect_in, sender_in};
 use known_values::Lack;
 use queue_certificates::Effect;
-use queue_checker::closing::{goes_beyond, with_high, with_low};
+use queue_checker::leaves::{goes_beyond, with_high, with_low};
 use queue_checker::owning::code_of;
 use queue_checker::sites::listed_states;
 use queue_checker::steps::instruction_at;

@@ -1,23 +1,23 @@
 //! Whether a certificate shows with its marks that records are written.
 
 ghost use Rattle.std.specs.Prelude.{◌≡◌, ◌<◌, IfOk, length, get_or, [], false};
-ghost use Rattle.queue_certificates.specs.Steps.{all_below};
+ghost use Rattle.queue_certificates.specs.Steps.{all_below, instruction_at};
 ghost use Rattle.queue_certificates.specs.Certificates.{part_of, state_at};
 ghost use Rattle.queue_certificates.specs.Filled.{are_so};
 ghost use Rattle.queue_checker.specs.Flaws.{hart_at};
-ghost use Rattle.records_written.specs.Senders.{sender_in};
+ghost use Rattle.records_written.specs.Senders.{sender_in, effect_in};
 ghost use Rattle.records_written.specs.Marks.{has_mark_after, arrows_keep, effect_keeps, keeps_marks, shows_written};
 
 use crate::keeping::{are_so, may_publish};
 use crate::marking::StateMarks;
 use crate::senders::{QueueNumber, effect_in, sender_in};
-use known_values::Lack;
+use known_values::{Form, Lack};
 use queue_certificates::Effect;
-use queue_checker::closing::{goes_beyond, with_high, with_low};
+use queue_checker::leaves::{LeafCheck, each_leaf};
 use queue_checker::owning::code_of;
 use queue_checker::sites::{listed_states, small};
 use queue_checker::steps::instruction_at;
-use queue_checker::{Arrow, CaseNode, Cases, KnownState, QueueCertificate};
+use queue_checker::{Arrow, Cases, KnownState, QueueCertificate};
 use std::alloc::Global;
 use step_machine::Opening;
 
@@ -77,6 +77,41 @@ fn effect_keeps(
     }
 }
 
+/// Asks it of a leaf of a state with these marks of its own.
+#[derive(Clone, Copy)]
+struct Keeping<'a> {
+    certificate: &'a QueueCertificate,
+    queue: QueueNumber,
+    code: &'a [u32],
+    mask: &'a [u64],
+    marks: &'a [StateMarks],
+    own: &'a StateMarks,
+}
+
+impl LeafCheck for Keeping<'_> {
+    ghost holds = { λ s k d arrows. effect_keeps s.mask.now s.marks.now s.own.now arrows (effect_in s.certificate.now s.queue k d (instruction_at
+        s.code.now k.pc)) };
+
+    fn holds(
+        &self,
+        alloc: Global,
+        state: &KnownState,
+        handed: &Form,
+        arrows: &[Arrow],
+    ) -> Result<bool, Lack> {
+        let instruction = instruction_at(self.code, state.pc);
+        let effect = effect_in(
+            alloc,
+            self.certificate,
+            self.queue,
+            state,
+            handed,
+            instruction,
+        )?;
+        effect_keeps(self.mask, self.marks, self.own, arrows, effect)
+    }
+}
+
 /// Whether that holds of a state with these marks of its own, by these cases.
 fn keeps_marks(
     alloc: Global,
@@ -91,47 +126,15 @@ fn keeps_marks(
 ) -> Result<bool, Lack>
     ensures { IfOk result (λ keeps. keeps ≡ keeps_marks certificate.now queue code.now mask.now marks.now own.now state.now cases.now) }
 {
-    match &cases.node {
-        CaseNode::Leaf(handed, arrows) => {
-            let instruction = instruction_at(code, state.pc);
-            let effect = effect_in(alloc, certificate, queue, state, handed, instruction)?;
-            effect_keeps(mask, marks, own, arrows, effect)
-        }
-        CaseNode::Split(variable, most, low, high) => {
-            let below = with_low(alloc, state, *variable, *most)?;
-            let holds = keeps_marks(
-                alloc,
-                certificate,
-                queue,
-                code,
-                mask,
-                marks,
-                own,
-                &below,
-                low,
-            )?;
-            if holds {
-                if goes_beyond(state, *variable, *most) {
-                    let above = with_high(alloc, state, *variable, *most)?;
-                    keeps_marks(
-                        alloc,
-                        certificate,
-                        queue,
-                        code,
-                        mask,
-                        marks,
-                        own,
-                        &above,
-                        high,
-                    )
-                } else {
-                    Ok(true)
-                }
-            } else {
-                Ok(false)
-            }
-        }
-    }
+    let keeping = Keeping {
+        certificate,
+        queue,
+        code,
+        mask,
+        marks,
+        own,
+    };
+    each_leaf(alloc, &keeping, state, cases)
 }
 
 /// Whether that holds of the sender's state `n`.
