@@ -1,7 +1,7 @@
 -- Lists that the code holds with the newest element last, and trees made of lines from the last one up.
 use Rattle.std.proofs.Common.{◌≡◌, ℕ, List, [], ◌∷◌, ◌++◌, reverse, length, refl, ap, ◌∙◌, arith}
 use Rattle.std.proofs.lemmas.List.{reverse-append}
-use Rattle.queue_certificates.specs.Certificates.{Arrow, Cases, leaf, split}
+use Rattle.queue_certificates.specs.Cases.{Arrow, Cases, leaf, split}
 use Rattle.certificate_reader.specs.declared.cases.Node.{Node}
 use Rattle.certificate_reader.specs.declared.cases.Node.TheVariants.{Split, Leaf, To}
 use Rattle.queue_checker.specs.Codes.{joined_by, first_tree}

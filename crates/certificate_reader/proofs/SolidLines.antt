@@ -8,7 +8,8 @@ use Rattle.texts.proofs.CuttingLaws.{none-append}
 use Rattle.texts.proofs.RowLaws.{is_low, Solid, solid_by_test, decimal_solid}
 use Rattle.queue_certificates.specs.States.{KnownValue, any, linear, index_for, signed_for, Share}
 use Rattle.owned_run.specs.Certificates.{Field}
-use Rattle.queue_certificates.specs.Certificates.{OpenedQueue, no_queue, Arrow, Cases, leaf, split, ListedState, HartPart, QueueCertificate}
+use Rattle.queue_certificates.specs.Cases.{Arrow, Cases, leaf, split}
+use Rattle.queue_certificates.specs.Certificates.{OpenedQueue, no_queue, ListedState, HartPart, QueueCertificate}
 use Rattle.queue_certificates.specs.Filled.{Filled}
 use Rattle.queue_layouts.specs.declared.tagged.Codec.{Codec}
 use Rattle.queue_layouts.specs.declared.tagged.Codec.TheVariants as codec

@@ -10,7 +10,7 @@ use Rattle.std.proofs.Math.Dec.{eqb-suc-zero}
 use Rattle.std.proofs.Math.Seq.{set-append_seam}
 use Rattle.queue_certificates.specs.Forms.{Form}
 use Rattle.queue_certificates.specs.States.{KnownValue, any, linear, index_for, signed_for, Share, no_share}
-use Rattle.queue_certificates.specs.Certificates.{Arrow, Cases, leaf, split}
+use Rattle.queue_certificates.specs.Cases.{Arrow, Cases, leaf, split}
 use Rattle.queue_checker.specs.Trees.{height}
 use Rattle.certificate_reader.specs.declared.cases.Node.{Node}
 use Rattle.certificate_reader.specs.declared.cases.Node.TheVariants as node

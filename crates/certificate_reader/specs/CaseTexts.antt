@@ -1,6 +1,6 @@
 -- Cases of a state, as a text has them: each split before what its two sides have, the low one first, and after a leaf where it leads.
 use Rattle.std.specs.Prelude.{List, [], ◌∷◌, ◌++◌}
-use Rattle.queue_certificates.specs.Certificates.{Arrow, Cases, leaf, split}
+use Rattle.queue_certificates.specs.Cases.{Arrow, Cases, leaf, split}
 use Rattle.queue_checker.specs.Codes.{joined_by, first_tree}
 use Rattle.certificate_reader.specs.declared.cases.Node.{Node}
 use Rattle.certificate_reader.specs.declared.cases.Node.TheVariants.{Split, Leaf, To}

@@ -4,7 +4,8 @@ use Rattle.std.specs.List.{AllByRecursion}
 use Rattle.owned_run.specs.Certificates.{Field}
 use Rattle.queue_certificates.specs.Forms.{Form}
 use Rattle.queue_certificates.specs.States.{KnownValue, any, linear, index_for, signed_for, Share}
-use Rattle.queue_certificates.specs.Certificates.{OpenedQueue, no_queue, Arrow, Cases, leaf, split, ListedState, HartPart, QueueCertificate}
+use Rattle.queue_certificates.specs.Cases.{Arrow, Cases, leaf, split}
+use Rattle.queue_certificates.specs.Certificates.{OpenedQueue, no_queue, ListedState, HartPart, QueueCertificate}
 use Rattle.queue_certificates.specs.Filled.{Filled}
 use Rattle.queue_layouts.specs.declared.tagged.OpenedTagged.{OpenedTagged}
 use Rattle.queue_checker.specs.Trees.{height}
