@@ -1,3 +1,4 @@
 pub mod FlawLaws
 pub mod Ranges
 pub mod Splits
+pub mod Accessed

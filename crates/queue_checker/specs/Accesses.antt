@@ -1,38 +1,28 @@
 -- Which instructions may access a byte of a queue's slots, in some state of a certificate: of a queue with indices, or of one with tags.
-use Rattle.std.specs.Prelude.{ℕ, zero, suc, ◌*◌, ◌==◌, ◌&&◌, ◌||◌, ◌++◌, not, if◌then◌else◌, Bool, true, false, Option, Some}
+use Rattle.std.specs.Prelude.{ℕ, zero, suc, ◌*◌, ◌==◌, ◌&&◌, ◌||◌, ◌++◌, not, if◌then◌else◌, Bool, true, false, Option, None, Some}
 use Rattle.std.specs.Prelude.{List, [], ◌∷◌, length}
 use Rattle.rv_decode.specs.declared.instruction.Instr.{Instr}
-use Rattle.rv_decode.specs.declared.instruction.Instr.TheVariants.{Load, Store, Amo}
-use Rattle.hart.specs.Effects.{load_width, store_width}
 use Rattle.step_machine.specs.History.{OpeningValue}
 use Rattle.slot_queue.specs.Queues.{Queue}
-use Rattle.queue_certificates.specs.Forms.{Bounds}
 use Rattle.queue_certificates.specs.States.{KnownState}
-use Rattle.queue_certificates.specs.Steps.{is_apart, instruction_at, addresses, exchanged}
+use Rattle.queue_certificates.specs.Steps.{is_apart, instruction_at}
 use Rattle.queue_certificates.specs.Cases.{Cases, each_leaf}
 use Rattle.queue_certificates.specs.Certificates.{QueueCertificate, queue_at, tagged_at, part_of, state_at}
 use Rattle.queue_certificates.specs.Tags.{bare}
+use Rattle.queue_checker.specs.declared.targets.Target.{Target}
 use Rattle.queue_checker.specs.declared.accesses.SlotAccess.{SlotAccess}
 use Rattle.queue_checker.specs.Flaws.{hart_at}
+use Rattle.queue_checker.specs.Operands.{load_target, store_target}
 
--- `width` bytes from somewhere among these addresses on may be of the slots
-abbrev pub reaches : Queue → Bounds → (width : ℕ) → Bool
-reaches q b width = not (is_apart b width q.slots (q.size * q.width))
+-- some of these bytes, if there are any, may be of the slots
+abbrev pub reaches : Queue → Option Target → Bool
+reaches q None = false
+reaches q (Some t) = not (is_apart t.bounds t.width q.slots (q.size * q.width))
 
 -- an instruction may store to them, or load from them
-abbrev pub stores_to : QueueCertificate → Queue → KnownState → Option Instr → Bool
-stores_to c q k (Some (Store op rs1 rs2 offset)) = reaches q (addresses (queue_at c) k rs1 offset) (store_width op)
-stores_to c q k (Some (Amo op rd rs1 rs2 aq rl)) = reaches q (exchanged (queue_at c) k rs1) 4
-stores_to c q k other = false
-
-abbrev pub loads_from : QueueCertificate → Queue → KnownState → Option Instr → Bool
-loads_from c q k (Some (Load op rd rs1 offset)) = reaches q (addresses (queue_at c) k rs1 offset) (load_width op)
-loads_from c q k (Some (Amo op rd rs1 rs2 aq rl)) = reaches q (exchanged (queue_at c) k rs1) 4
-loads_from c q k other = false
-
 abbrev pub touches : QueueCertificate → Queue → (stores : Bool) → KnownState → Option Instr → Bool
-touches c q true k instruction = stores_to c q k instruction
-touches c q false k instruction = loads_from c q k instruction
+touches c q true k instruction = reaches q (store_target c k instruction)
+touches c q false k instruction = reaches q (load_target c k instruction)
 
 -- in no case of a state
 abbrev pub spares_in : QueueCertificate → Queue → (stores : Bool) → (code : List ℕ) → KnownState → Cases → Bool

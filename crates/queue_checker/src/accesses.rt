@@ -4,21 +4,20 @@ ghost use Rattle.std.specs.Prelude.{◌≡◌, ◌<◌, ◌*◌, ◌++◌, ◌&&
 ghost use Rattle.queue_certificates.specs.Steps.{instruction_at};
 ghost use Rattle.queue_certificates.specs.Certificates.{part_of};
 ghost use Rattle.queue_checker.specs.Flaws.{hart_at};
-ghost use Rattle.queue_checker.specs.Accesses.{reaches, stores_to, loads_from, touches, spares_in, any_below, touches_at, access_at};
+ghost use Rattle.queue_checker.specs.Operands.{load_target, store_target};
+ghost use Rattle.queue_checker.specs.Accesses.{reaches, touches, any_below, touches_at, access_at};
 ghost use Rattle.queue_checker.specs.Accesses.{kept_access, accesses_of, accesses_below, accesses_to, slot_accesses, tagged_accesses};
 
-use crate::certificate::{Arrow, Cases, KnownState, QueueCertificate};
+use crate::certificate::{Arrow, KnownState, QueueCertificate};
 use crate::leaves::{LeafCheck, each_leaf};
-use crate::loads::load_width;
 use crate::owning::code_of;
 use crate::places::misses_slots;
 use crate::sites::{listed_states, small};
 use crate::steps::instruction_at;
-use crate::stores::store_width;
 use crate::tagged_queues::{bare, tagged_in};
-use crate::targets::{accessed, exchanged};
+use crate::targets::{Target, load_target, store_target};
 use known_values::queues::queue_in;
-use known_values::{Bounds, Form, Lack, Queue};
+use known_values::{Form, Lack, Queue};
 use rv_decode::Instr;
 use std::alloc::Global;
 use step_machine::Opening;
@@ -32,68 +31,15 @@ pub struct SlotAccess {
     pub loads: bool,
 }
 
-fn reaches(queue: Queue, bounds: Bounds, width: u64) -> Result<bool, Lack>
-    ensures { IfOk result (λ may. may ≡ reaches queue bounds width) }
+fn reaches(queue: Queue, target: Option<Target>) -> Result<bool, Lack>
+    ensures { IfOk result (λ may. may ≡ reaches queue target) }
 {
-    let misses = misses_slots(queue, bounds, width)?;
-    Ok(!misses)
-}
-
-fn stores_to(
-    alloc: Global,
-    certificate: &QueueCertificate,
-    queue: Queue,
-    state: &KnownState,
-    instruction: Option<Instr>,
-) -> Result<bool, Lack>
-    ensures { IfOk result (λ stores. stores ≡ stores_to certificate.now queue state.now instruction) }
-{
-    match instruction {
-        Some(
-            Instr::Store {
-                op,
-                rs1,
-                offset,
-                ..
-            },
-        ) => {
-            let target = accessed(alloc, certificate, state, rs1, offset, store_width(op))?;
-            reaches(queue, target.bounds, target.width)
+    match target {
+        Some(target) => {
+            let misses = misses_slots(queue, target.bounds, target.width)?;
+            Ok(!misses)
         }
-        Some(Instr::Amo { rs1, .. }) => {
-            let target = exchanged(alloc, certificate, state, rs1)?;
-            reaches(queue, target.bounds, target.width)
-        }
-        _ => Ok(false),
-    }
-}
-
-fn loads_from(
-    alloc: Global,
-    certificate: &QueueCertificate,
-    queue: Queue,
-    state: &KnownState,
-    instruction: Option<Instr>,
-) -> Result<bool, Lack>
-    ensures { IfOk result (λ loads. loads ≡ loads_from certificate.now queue state.now instruction) }
-{
-    match instruction {
-        Some(
-            Instr::Load {
-                op,
-                rs1,
-                offset,
-                ..
-            },
-        ) => {
-            let target = accessed(alloc, certificate, state, rs1, offset, load_width(op))?;
-            reaches(queue, target.bounds, target.width)
-        }
-        Some(Instr::Amo { rs1, .. }) => {
-            let target = exchanged(alloc, certificate, state, rs1)?;
-            reaches(queue, target.bounds, target.width)
-        }
-        _ => Ok(false),
+        None => Ok(false),
     }
 }
 
@@ -109,13 +55,13 @@ fn touches(
     ensures { IfOk result (λ may. may ≡ touches certificate.now queue stores state.now instruction) }
 {
     if stores {
-        stores_to(alloc, certificate, queue, state, instruction)
+        reaches(queue, store_target(alloc, certificate, state, instruction)?)
     } else {
-        loads_from(alloc, certificate, queue, state, instruction)
+        reaches(queue, load_target(alloc, certificate, state, instruction)?)
     }
 }
 
-/// Asks of a leaf whether its instruction may not.
+/// Asks of a leaf whether its instruction may not store to the slots, or else whether it may not load from them.
 #[derive(Clone, Copy)]
 struct Sparing<'a> {
     certificate: &'a QueueCertificate,
@@ -141,27 +87,6 @@ impl LeafCheck for Sparing<'_> {
     }
 }
 
-/// Whether it may in no case of a state.
-fn spares_in(
-    alloc: Global,
-    certificate: &QueueCertificate,
-    queue: Queue,
-    stores: bool,
-    code: &[u32],
-    state: &KnownState,
-    cases: &Cases,
-) -> Result<bool, Lack>
-    ensures { IfOk result (λ spares. spares ≡ spares_in certificate.now queue stores code.now state.now cases.now) }
-{
-    let sparing = Sparing {
-        certificate,
-        queue,
-        stores,
-        code,
-    };
-    each_leaf(alloc, &sparing, state, cases)
-}
-
 fn touches_at(
     alloc: Global,
     opening: &Opening,
@@ -177,9 +102,13 @@ fn touches_at(
 {
     let listed = &listed_states(certificate, hart)[n as usize];
     if listed.known.pc == pc {
-        let code = code_of(opening, hart);
-        let its = &listed.known;
-        let spares = spares_in(alloc, certificate, queue, stores, code, its, &listed.cases)?;
+        let sparing = Sparing {
+            certificate,
+            queue,
+            stores,
+            code: code_of(opening, hart),
+        };
+        let spares = each_leaf(alloc, &sparing, &listed.known, &listed.cases)?;
         Ok(!spares)
     } else {
         Ok(false)

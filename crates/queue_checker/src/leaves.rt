@@ -124,7 +124,7 @@ pub fn goes_beyond(state: &KnownState, variable: u32, most: u64) -> bool
     may_exceed(most, range_of(&state.ranges, variable))
 }
 
-/// A question to each leaf of a state.
+/// A question to a leaf of a state; `holds` is its definition, and computes it.
 pub trait LeafCheck {
     ghost use Rattle.std.specs.Prelude.{◌≡◌, Bool, List, IfOk};
     ghost use Rattle.queue_certificates.specs.Forms.{Form as FormOf};
@@ -133,7 +133,7 @@ pub trait LeafCheck {
 
     ghost holds: { Self → StateOf → FormOf → List ArrowOf → Bool };
 
-    /// Of a leaf in this state, which hands over so many positions and goes on along these arrows.
+    /// Whether it holds at a leaf: where `state` is known, the instruction hands over `handed` positions, and goes on along `arrows`.
     fn holds(
         &self,
         alloc: Global,

@@ -3,18 +3,18 @@
 ghost use Rattle.std.specs.Prelude.{◌≡◌, ◌<◌, ◌*◌, ◌||◌, ℕ, IfOk, length, get_or};
 ghost use Rattle.queue_certificates.specs.Steps.{is_apart, is_owned, instruction_at, loads_owned};
 ghost use Rattle.queue_certificates.specs.States.{no_share};
-ghost use Rattle.queue_certificates.specs.Certificates.{queue_at, part_of, owns_loads};
+ghost use Rattle.queue_certificates.specs.Certificates.{queue_at, part_of};
+ghost use Rattle.queue_checker.specs.Operands.{load_target};
 ghost use Rattle.queue_checker.specs.Flaws.{hart_at, loads_hold, first_of, first_below, unless, first_unowned};
 
-use crate::certificate::{Arrow, Cases, KnownState, QueueCertificate};
+use crate::certificate::{Arrow, KnownState, QueueCertificate};
 use crate::leaves::{LeafCheck, each_leaf};
-use crate::loads::load_width;
 use crate::places::misses_slots;
 use crate::sites::{listed_states, small};
 use crate::slots::is_owned;
 use crate::states::share_in;
 use crate::steps::instruction_at;
-use crate::targets::{Target, accessed, exchanged};
+use crate::targets::{Target, load_target};
 use known_values::queues::queue_in;
 use known_values::{Form, Lack};
 use rv_decode::Instr;
@@ -50,6 +50,7 @@ fn reads_owned(
 }
 
 /// Whether each byte that an instruction loads of queue `i`'s slots is of an owned one.
+#[tactic(auto, using(crate::proofs::Accessed::owned_loads))]
 fn loads_owned(
     alloc: Global,
     certificate: &QueueCertificate,
@@ -59,23 +60,9 @@ fn loads_owned(
 ) -> Result<bool, Lack>
     ensures { IfOk result (λ owned. owned ≡ loads_owned (queue_at certificate.now) state.now i instruction) }
 {
-    match instruction {
-        Some(
-            Instr::Load {
-                op,
-                rs1,
-                offset,
-                ..
-            },
-        ) => {
-            let target = accessed(alloc, certificate, state, rs1, offset, load_width(op))?;
-            reads_owned(alloc, certificate, state, i, &target)
-        }
-        Some(Instr::Amo { rs1, .. }) => {
-            let target = exchanged(alloc, certificate, state, rs1)?;
-            reads_owned(alloc, certificate, state, i, &target)
-        }
-        _ => Ok(true),
+    match load_target(alloc, certificate, state, instruction)? {
+        Some(target) => reads_owned(alloc, certificate, state, i, &target),
+        None => Ok(true),
     }
 }
 
@@ -102,25 +89,6 @@ impl LeafCheck for Owning<'_> {
     }
 }
 
-/// Whether that holds of a state, by these cases.
-fn owns_loads(
-    alloc: Global,
-    certificate: &QueueCertificate,
-    code: &[u32],
-    i: u32,
-    state: &KnownState,
-    cases: &Cases,
-) -> Result<bool, Lack>
-    ensures { IfOk result (λ owns. owns ≡ owns_loads certificate.now code.now i state.now cases.now) }
-{
-    let owning = Owning {
-        certificate,
-        code,
-        queue: i,
-    };
-    each_leaf(alloc, &owning, state, cases)
-}
-
 fn unowned_state(
     alloc: Global,
     opening: &Opening,
@@ -137,15 +105,12 @@ fn unowned_state(
         Some(state) => Ok(Some(state)),
         None => {
             let listed = &listed_states(certificate, hart)[n as usize];
-            let code = code_of(opening, hart);
-            if owns_loads(
-                alloc,
+            let owning = Owning {
                 certificate,
-                code,
+                code: code_of(opening, hart),
                 queue,
-                &listed.known,
-                &listed.cases,
-            )? {
+            };
+            if each_leaf(alloc, &owning, &listed.known, &listed.cases)? {
                 Ok(None)
             } else {
                 Ok(Some(n))

@@ -1,12 +1,12 @@
 //! Whether a hart's loads of the slots of a queue with tags are of tags or of owned slots.
 
 ghost use Rattle.std.specs.Prelude.{◌≡◌, ◌<◌, IfOk, length};
-ghost use Rattle.queue_certificates.specs.Certificates.{queue_at, tagged_at, part_of, owns_rest};
+ghost use Rattle.queue_certificates.specs.Certificates.{queue_at, tagged_at, part_of};
 ghost use Rattle.queue_certificates.specs.Steps.{instruction_at};
 ghost use Rattle.queue_certificates.specs.Tags.{loads_rest};
 ghost use Rattle.queue_checker.specs.Flaws.{rest_holds, first_of, first_below, unless, first_unowned_rest};
 
-use crate::certificate::{Arrow, Cases, KnownState, QueueCertificate};
+use crate::certificate::{Arrow, KnownState, QueueCertificate};
 use crate::leaves::{LeafCheck, each_leaf};
 use crate::owning::code_of;
 use crate::sites::{listed_states, small};
@@ -40,25 +40,6 @@ impl LeafCheck for OwningRest<'_> {
     }
 }
 
-/// Whether each load of the slots of queue `t` with tags is of a tag or of an owned slot, by these cases of a state.
-fn owns_rest(
-    alloc: Global,
-    certificate: &QueueCertificate,
-    code: &[u32],
-    t: u32,
-    state: &KnownState,
-    cases: &Cases,
-) -> Result<bool, Lack>
-    ensures { IfOk result (λ owns. owns ≡ owns_rest certificate.now code.now t state.now cases.now) }
-{
-    let owning = OwningRest {
-        certificate,
-        code,
-        tagged: t,
-    };
-    each_leaf(alloc, &owning, state, cases)
-}
-
 fn unowned_rest(
     alloc: Global,
     opening: &Opening,
@@ -75,15 +56,12 @@ fn unowned_rest(
         Some(state) => Ok(Some(state)),
         None => {
             let listed = &listed_states(certificate, hart)[n as usize];
-            let code = code_of(opening, hart);
-            if owns_rest(
-                alloc,
+            let owning = OwningRest {
                 certificate,
-                code,
+                code: code_of(opening, hart),
                 tagged,
-                &listed.known,
-                &listed.cases,
-            )? {
+            };
+            if each_leaf(alloc, &owning, &listed.known, &listed.cases)? {
                 Ok(None)
             } else {
                 Ok(Some(n))

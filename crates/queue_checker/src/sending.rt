@@ -5,19 +5,17 @@ ghost use Rattle.slot_queue.specs.Ownership.{party_of};
 ghost use Rattle.queue_certificates.specs.Steps.{instruction_at};
 ghost use Rattle.queue_certificates.specs.Filled.{is_filled_after, are_so};
 ghost use Rattle.queue_certificates.specs.Certificates.{queue_at, fields_at, state_at, leaves_slots, arrows_fill, effect_sends, keeps_records};
+ghost use Rattle.queue_checker.specs.Operands.{store_target};
 ghost use Rattle.queue_certificates.specs.Certificates.{keeps_fields, keeps_all_fields, opens_unfilled};
 
-use crate::certificate::{
-    Arrow, Cases, Filled, FilledSlot, KnownState, ListedState, QueueCertificate,
-};
+use crate::certificate::{Arrow, Filled, FilledSlot, KnownState, ListedState, QueueCertificate};
 use crate::effects::{effect_of, value_stored};
 use crate::filled::{are_so, filled_in, may_send, says_nothing};
 use crate::leaves::{LeafCheck, each_leaf};
 use crate::places::misses_slots;
 use crate::sites::{listed_states, queue_count};
 use crate::steps::instruction_at;
-use crate::stores::store_width;
-use crate::targets::{accessed, exchanged};
+use crate::targets::store_target;
 use known_values::queues::{fields_in, queue_in};
 use known_values::{Form, KnownValue, Lack};
 use queue_certificates::Effect;
@@ -25,6 +23,7 @@ use rv_decode::Instr;
 use std::alloc::Global;
 
 /// Whether an instruction stores nothing to queue `i`'s slots.
+#[tactic(auto, using(crate::proofs::Accessed::left_slots))]
 fn leaves_slots(
     alloc: Global,
     certificate: &QueueCertificate,
@@ -34,24 +33,12 @@ fn leaves_slots(
 ) -> Result<bool, Lack>
     ensures { IfOk result (λ leaves. leaves ≡ leaves_slots certificate.now i state.now instruction) }
 {
-    let queue = queue_in(&certificate.queues, i);
-    match instruction {
-        Some(
-            Instr::Store {
-                op,
-                rs1,
-                offset,
-                ..
-            },
-        ) => {
-            let target = accessed(alloc, certificate, state, rs1, offset, store_width(op))?;
+    match store_target(alloc, certificate, state, instruction)? {
+        Some(target) => {
+            let queue = queue_in(&certificate.queues, i);
             misses_slots(queue, target.bounds, target.width)
         }
-        Some(Instr::Amo { rs1, .. }) => {
-            let target = exchanged(alloc, certificate, state, rs1)?;
-            misses_slots(queue, target.bounds, target.width)
-        }
-        _ => Ok(true),
+        None => Ok(true),
     }
 }
 
@@ -234,29 +221,6 @@ impl LeafCheck for Keeping<'_> {
     }
 }
 
-/// Whether that holds of a state, by these cases.
-fn keeps_fields(
-    alloc: Global,
-    certificate: &QueueCertificate,
-    hart: u32,
-    code: &[u32],
-    i: u32,
-    slots: &[FilledSlot],
-    state: &KnownState,
-    cases: &Cases,
-) -> Result<bool, Lack>
-    ensures { IfOk result (λ keeps. keeps ≡ keeps_fields certificate.now hart code.now i slots.now state.now cases.now) }
-{
-    let keeping = Keeping {
-        certificate,
-        hart,
-        code,
-        queue: i,
-        slots,
-    };
-    each_leaf(alloc, &keeping, state, cases)
-}
-
 /// Whether queue `i` has no fields.
 fn is_untold(certificate: &QueueCertificate, i: u32) -> bool
     ensures { result ≡ (length (fields_at certificate.now i) == 0) }
@@ -279,17 +243,14 @@ fn keeps_fields_of(
     if is_untold(certificate, i) {
         Ok(true)
     } else {
-        let slots = filled_in(&listed.filled, i);
-        keeps_fields(
-            alloc,
+        let keeping = Keeping {
             certificate,
             hart,
             code,
-            i,
-            slots,
-            &listed.known,
-            &listed.cases,
-        )
+            queue: i,
+            slots: filled_in(&listed.filled, i),
+        };
+        each_leaf(alloc, &keeping, &listed.known, &listed.cases)
     }
 }
 

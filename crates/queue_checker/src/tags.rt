@@ -6,10 +6,9 @@ ghost use Rattle.queue_certificates.specs.States.{no_share, any};
 ghost use Rattle.queue_certificates.specs.Steps.{share_at, operand, exchanged, updated_value};
 ghost use Rattle.queue_certificates.specs.Tags.{tag_at, storing_tells, told_by_store, next_told, reads_rest, loads_rest};
 ghost use Rattle.queue_certificates.specs.Certificates.{queue_at, own_of, tagged_at};
-ghost use Rattle.queue_checker.specs.Operands.{accessed_in};
+ghost use Rattle.queue_checker.specs.Operands.{accessed_in, load_target};
 
 use crate::certificate::{KnownState, QueueCertificate, Share};
-use crate::loads::load_width;
 use crate::sites::queue_count;
 use crate::slots::is_owned;
 use crate::states::share_after;
@@ -20,7 +19,7 @@ use crate::tag_loads::load_tells;
 use crate::tag_places::{is_beside_slots, is_of_tag, tag_position};
 use crate::tag_stores::{moved_tag, store_tells};
 use crate::tagged_queues::{bare, party_in, tagged_in};
-use crate::targets::{Target, accessed, exchanged};
+use crate::targets::{Target, accessed, exchanged, load_target};
 use known_values::values::any;
 use known_values::{KnownValue, Lack};
 use queue_layouts::TaggedQueue;
@@ -274,6 +273,7 @@ fn reads_rest_of(
 }
 
 /// Whether each byte that an instruction loads of the slots of queue `t` with tags is of a tag, or of an owned slot.
+#[tactic(auto, using(crate::proofs::Accessed::rest_loads))]
 pub(crate) fn loads_rest(
     alloc: Global,
     certificate: &QueueCertificate,
@@ -284,22 +284,8 @@ pub(crate) fn loads_rest(
     ensures { IfOk result (λ rest. rest ≡ loads_rest (tagged_at certificate.now) (queue_at certificate.now) (length certificate.now.queues) state.now
         t instruction) }
 {
-    match instruction {
-        Some(
-            Instr::Load {
-                op,
-                rs1,
-                offset,
-                ..
-            },
-        ) => {
-            let target = accessed(alloc, certificate, state, rs1, offset, load_width(op))?;
-            reads_rest_of(alloc, certificate, state, t, &target)
-        }
-        Some(Instr::Amo { rs1, .. }) => {
-            let target = exchanged(alloc, certificate, state, rs1)?;
-            reads_rest_of(alloc, certificate, state, t, &target)
-        }
-        _ => Ok(true),
+    match load_target(alloc, certificate, state, instruction)? {
+        Some(target) => reads_rest_of(alloc, certificate, state, t, &target),
+        None => Ok(true),
     }
 }

@@ -1,14 +1,16 @@
 //! Which bytes an instruction accesses.
 
 ghost use Rattle.std.specs.Prelude.{◌≡◌, IfOk};
-ghost use Rattle.queue_checker.specs.Operands.{accessed_in, exchanged_in};
+ghost use Rattle.queue_checker.specs.Operands.{accessed_in, exchanged_in, load_target, store_target};
 
 use crate::certificate::{KnownState, QueueCertificate};
+use crate::loads::load_width;
 use crate::places::anywhere;
 use crate::steps::{address_value, operand};
+use crate::stores::store_width;
 use known_values::results::bounds;
 use known_values::{Bounds, KnownValue, Lack};
-use rv_decode::Reg;
+use rv_decode::{Instr, Reg};
 use std::alloc::Global;
 
 /// `width` bytes, from an address on of which `place` is known, and which lies in the bounds.
@@ -55,4 +57,50 @@ pub fn exchanged(
         bounds,
         width: 4,
     })
+}
+
+/// The bytes that an instruction loads, if it loads any.
+pub fn load_target(
+    alloc: Global,
+    certificate: &QueueCertificate,
+    state: &KnownState,
+    instruction: Option<Instr>,
+) -> Result<Option<Target>, Lack>
+    ensures { IfOk result (λ target. target ≡ load_target certificate.now state.now instruction) }
+{
+    match instruction {
+        Some(
+            Instr::Load {
+                op,
+                rs1,
+                offset,
+                ..
+            },
+        ) => Ok(Some(accessed(alloc, certificate, state, rs1, offset, load_width(op))?)),
+        Some(Instr::Amo { rs1, .. }) => Ok(Some(exchanged(alloc, certificate, state, rs1)?)),
+        _ => Ok(None),
+    }
+}
+
+/// The bytes to which an instruction may store, if it stores any.
+pub fn store_target(
+    alloc: Global,
+    certificate: &QueueCertificate,
+    state: &KnownState,
+    instruction: Option<Instr>,
+) -> Result<Option<Target>, Lack>
+    ensures { IfOk result (λ target. target ≡ store_target certificate.now state.now instruction) }
+{
+    match instruction {
+        Some(
+            Instr::Store {
+                op,
+                rs1,
+                offset,
+                ..
+            },
+        ) => Ok(Some(accessed(alloc, certificate, state, rs1, offset, store_width(op))?)),
+        Some(Instr::Amo { rs1, .. }) => Ok(Some(exchanged(alloc, certificate, state, rs1)?)),
+        _ => Ok(None),
+    }
 }
