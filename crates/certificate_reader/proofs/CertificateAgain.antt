@@ -1,13 +1,14 @@
 -- States, harts and a whole certificate, as they are written, are read again.
-use Rattle.std.proofs.Common.{◌≡◌, ℕ, suc, ◌+◌, ◌^◌, ◌<◌, ◌≤◌, Bool, true, false, ◌||◌, List, [], ◌∷◌, ◌++◌, length, map, replicate, reverse, get_or}
-use Rattle.std.proofs.Common.{Option, Some, Ok, refl, sym, ap, subst, ◌∙◌, append_assoc, length-append, arith}
+use Rattle.std.proofs.Common.{◌≡◌, ℕ, suc, ◌+◌, ◌^◌, ◌<◌, ◌≤◌, true, ◌||◌, List, [], ◌∷◌, ◌++◌, length, map, reverse}
+use Rattle.std.proofs.Common.{Some, Ok, refl, sym, ap, subst, ◌∙◌, length-append, arith}
 use Rattle.std.specs.Prelude.{codes, sum_by}
 use Rattle.std.specs.List.{AllByRecursion, flat_map}
 use Rattle.std.specs.Fmt.{decimal}
 use Rattle.std.proofs.lemmas.Bool.{le-ltb, lt-leb}
 use Rattle.std.proofs.lemmas.List.{append-nil, reverse-reverse}
-use Rattle.std.proofs.lemmas.List.Sums.{sum_by-cons}
-use Rattle.queue_certificates.specs.States.{KnownValue, any, Share, no_share, KnownState}
+use Rattle.std.proofs.Math.Bool.{or-true}
+use Rattle.std.proofs.lemmas.List.Sums.{sum_by-cons, sum_by-append, sum_by_push}
+use Rattle.queue_certificates.specs.States.{KnownValue, KnownState}
 use Rattle.queue_certificates.specs.Certificates.{OpenedQueue, ListedState, HartPart, QueueCertificate}
 use Rattle.queue_layouts.specs.declared.tagged.OpenedTagged.{OpenedTagged}
 use Rattle.queue_checker.specs.Trees.{height}
@@ -16,21 +17,21 @@ use Rattle.certificate_reader.specs.declared.stages.Stage.{Stage}
 use Rattle.certificate_reader.specs.declared.stages.Stage.TheVariants as stage
 use Rattle.certificate_reader.specs.CaseTexts.{case_lines}
 use Rattle.certificate_reader.specs.Stages.{keyword_named, stage_after, lists_queues, may_end, is_described, wanted}
-use Rattle.certificate_reader.specs.Drafts.{DraftValue, no_draft, by_words, by_keyword, with_queue, with_pc, with_state, state_closed}
+use Rattle.certificate_reader.specs.Drafts.{DraftValue, no_draft, by_words, with_queue, with_pc, with_state, state_closed}
 use Rattle.certificate_reader.specs.Drafts.{state_closed_at, hart_closed, hart_closed_at, hart_listed, with_hart, own_of, hart_opening, with_value, finished}
 use Rattle.certificate_reader.specs.Reading.{certificate_from, certificate_at}
 use Rattle.certificate_reader.specs.Writing.{LineOfWords, line_if, range_text, value_lines, share_lines, known_lines, filled_lines, described_lines}
 use Rattle.certificate_reader.specs.Writing.{tree_lines, state_lines, part_lines}
-use Rattle.certificate_reader.specs.Writing.{numbers_of, queue_lines, tagged_line, certificate_lines, certificate_text}
-use Rattle.certificate_reader.specs.Written.{FitsWord, FitsCount, FitsValue, FitsState, FitsPart, FitsQueue, CanBeWritten}
-use Rattle.certificate_reader.proofs.Growing.{cases_again}
+use Rattle.certificate_reader.specs.Writing.{numbers_of, queue_line, field_line, queue_lines, tagged_line, certificate_lines, certificate_text}
+use Rattle.certificate_reader.specs.Written.{FitsWord, FitsCount, FitsState, FitsPart, FitsQueue, CanBeWritten}
+use Rattle.certificate_reader.proofs.Growing.{reverse_pushed, cases_again}
 use Rattle.certificate_reader.proofs.NumbersAgain.{only_word_again, first_word_again, queue_again, words_again, counts_again}
-use Rattle.certificate_reader.proofs.LinesAgain.{told, told-append, told_lines, lines_again, by_name}
-use Rattle.certificate_reader.proofs.FieldsAgain.{with_queues, fields_told, AreFew, are_few, with_all_filled, after_filled, filled_told, filled_described}
-use Rattle.certificate_reader.proofs.FieldsAgain.{from_none}
-use Rattle.certificate_reader.proofs.TagsAgain.{with_all_tagged, after_tagged, lists_after, tagged_told}
-use Rattle.certificate_reader.proofs.StatesAgain.{after_ranges, ranges_told, after_values, described_after, values_told, after_shares, shares_told}
-use Rattle.certificate_reader.proofs.StatesAgain.{reverse_first, cases_told}
+use Rattle.certificate_reader.proofs.LinesAgain.{told_lines, lines_again, by_name, LeadsTo, line_then, line_told, leads_on, then_told}
+use Rattle.certificate_reader.proofs.LinesAgain.{IsHeld, at_stage, then_held}
+use Rattle.certificate_reader.proofs.Turns.{each_told, each_added, if_told}
+use Rattle.certificate_reader.proofs.FieldsAgain.{IsQueues, with_queues, fields_told, AreFew, are_few, IsDescribed, filled_told}
+use Rattle.certificate_reader.proofs.TagsAgain.{ListsQueues, with_all_tagged, tagged_told}
+use Rattle.certificate_reader.proofs.StatesAgain.{with_ranges, ranges_told, values_told, shares_told, cases_told}
 use Rattle.certificate_reader.proofs.SolidLines.{certificate_solid}
 
 -- ---- what of a draft stays: all but the state at hand
@@ -63,83 +64,59 @@ core_of d = record {
 abbrev begun_state : DraftValue → (pc : ℕ) → DraftValue
 begun_state d pc = record (with_pc d pc) { stage = stage.State }
 
-abbrev known_draft : DraftValue → KnownState → Stage → DraftValue
-known_draft d k s = record (begun_state d k.pc) { ranges = k.ranges; registers = k.registers; words = k.words; shares = k.shares; stage = s }
-
-ranges_described : (ranges : List (Option ℕ)) → is_described (after_ranges ranges) ≡ true
-ranges_described [] = refl
-ranges_described (range ∷ ranges) = refl
-
-register_staged : (s : Stage) → is_described s ≡ true → stage_after s keyword.Register ≡ Some stage.Known
-unfolding stage_after
-register_staged s is = rw is refl
-
-word_staged : (s : Stage) → is_described s ≡ true → stage_after s keyword.Word ≡ Some stage.Known
-unfolding stage_after
-word_staged s is = rw is refl
-
-register_named : keyword_named (codes "reg") ≡ Some keyword.Register
-unfolding keyword_named
-register_named = refl
-
-word_named : keyword_named (codes "word") ≡ Some keyword.Word
-unfolding keyword_named
-word_named = refl
-
-abbrev after_known : KnownState → Stage
-after_known k = after_shares (after_values (after_values (after_ranges k.ranges) k.registers) k.words) k.shares
-
-shares_described : (s : Stage) (shares : List Share) → is_described s ≡ true → is_described (after_shares s shares) ≡ true
-shares_described s [] is = is
-shares_described s (share ∷ shares) is = refl
-
-known_described : (k : KnownState) → is_described (after_known k) ≡ true
-known_described k = shares_described (after_values (after_values (after_ranges k.ranges) k.registers) k.words) k.shares
-    (described_after (after_values (after_ranges k.ranges) k.registers) k.words
-    (described_after (after_ranges k.ranges) k.registers (ranges_described k.ranges)))
-
 abbrev with_registers : DraftValue → List KnownValue → Stage → DraftValue
 with_registers d values s = record d { registers = values; stage = s }
 
-register_line : (d : DraftValue) (values new : List KnownValue) (s : Stage) (ws : List (List ℕ)) → is_described s ≡ true
-    → with_value 1 (length d.queues) (length d.ranges) values ws ≡ Ok new
-    → by_words (with_registers d values s) (codes "reg") ws ≡ Ok (with_registers d new stage.Known)
-register_line d values new s ws is set = by_name (with_registers d values s) (with_registers d new s) (codes "reg") ws keyword.Register stage.Known
-    register_named (register_staged s is) (rw set refl)
-
-registers_told : (d : DraftValue) (values : List KnownValue) (s : Stage) → length d.queues ≤ 16 → length d.ranges ≤ 2 ^ 32 → length values ≤ 2 ^ 32
-    → is_described s ≡ true → get_or values 0 any ≡ any → AllByRecursion (FitsValue (length d.queues) (length d.ranges)) values
-    → told (with_registers d (replicate (length values) any) s) (value_lines (codes "reg") 0 values) ≡ Ok (with_registers d values (after_values s values))
-registers_told d values s few small fewer is first all = values_told (length d.queues) (length d.ranges) 1 (codes "reg") (with_registers d) (omega arith)
-    small (omega arith) (register_line d) [] values 0 s refl (omega arith) is (λ low. first) all
+register_line : (d : DraftValue) (values new : List KnownValue) (s : Stage) (ws : List (List ℕ))
+    → with_value 1 (length d.queues) (length d.ranges) values ws ≡ Ok new → IsDescribed s
+    → LeadsTo (IsHeld IsDescribed (with_registers d new)) (with_registers d values s) ((codes "reg", ws) ∷ [])
+unfolding keyword_named stage_after
+register_line d values new s ws set is =
+    line_told (IsHeld IsDescribed (with_registers d new)) (with_registers d values s) (with_registers d new s) (codes "reg") ws keyword.Register stage.Known
+    refl (rw is refl) (rw set refl) (at_stage IsDescribed (with_registers d new) stage.Known refl)
 
 abbrev with_words : DraftValue → List KnownValue → Stage → DraftValue
 with_words d values s = record d { words = values; stage = s }
 
-word_line : (d : DraftValue) (values new : List KnownValue) (s : Stage) (ws : List (List ℕ)) → is_described s ≡ true
-    → with_value 0 (length d.queues) (length d.ranges) values ws ≡ Ok new
-    → by_words (with_words d values s) (codes "word") ws ≡ Ok (with_words d new stage.Known)
-word_line d values new s ws is set = by_name (with_words d values s) (with_words d new s) (codes "word") ws keyword.Word stage.Known
-    word_named (word_staged s is) (rw set refl)
+word_line : (d : DraftValue) (values new : List KnownValue) (s : Stage) (ws : List (List ℕ))
+    → with_value 0 (length d.queues) (length d.ranges) values ws ≡ Ok new → IsDescribed s
+    → LeadsTo (IsHeld IsDescribed (with_words d new)) (with_words d values s) ((codes "word", ws) ∷ [])
+unfolding keyword_named stage_after
+word_line d values new s ws set is =
+    line_told (IsHeld IsDescribed (with_words d new)) (with_words d values s) (with_words d new s) (codes "word") ws keyword.Word stage.Known
+    refl (rw is refl) (rw set refl) (at_stage IsDescribed (with_words d new) stage.Known refl)
 
-words_told : (d : DraftValue) (values : List KnownValue) (s : Stage) → length d.queues ≤ 16 → length d.ranges ≤ 2 ^ 32 → length values ≤ 2 ^ 32
-    → is_described s ≡ true → AllByRecursion (FitsValue (length d.queues) (length d.ranges)) values
-    → told (with_words d (replicate (length values) any) s) (value_lines (codes "word") 0 values) ≡ Ok (with_words d values (after_values s values))
-words_told d values s few small fewer is all = values_told (length d.queues) (length d.ranges) 0 (codes "word") (with_words d) (omega arith)
-    small (omega arith) (word_line d) [] values 0 s refl (omega arith) is (λ low. absurd (omega arith)) all
+abbrev known_draft : DraftValue → KnownState → Stage → DraftValue
+known_draft d k s = record (with_pc d k.pc) { ranges = k.ranges; registers = k.registers; words = k.words; shares = k.shares; stage = s }
 
 known_told : (d : DraftValue) (s : ListedState) → length d.queues ≤ 16 → length d.tagged ≤ 16 → length d.own ≤ 64
     → FitsState d.queues (length d.tagged) (length d.own) s
-    → told (begun_state d s.known.pc) (known_lines s.known) ≡ Ok (known_draft d s.known (after_known s.known))
+    → LeadsTo (IsHeld IsDescribed (known_draft d s.known)) (begun_state d s.known.pc) (known_lines s.known)
 known_told d s few few_tagged few_own fits =
-    told-append start three (most ++ registers ++ words) shares
-    (told-append start two (most ++ registers) words (told-append start one most registers ranges_read ∙ registers_read) ∙ words_read) ∙ shares_read
+    then_held IsDescribed (with_words two k.words) (IsHeld IsDescribed (known_draft d k)) start (most ++ registers ++ words) (share_lines 0 k.shares)
+    (then_held IsDescribed (with_registers one k.registers) (IsHeld IsDescribed (with_words two k.words)) start (most ++ registers) words
+    (then_held IsDescribed (with_ranges start k.ranges) (IsHeld IsDescribed (with_registers one k.registers)) start most registers
+    (ranges_told start k.ranges fits.variables fits.ranges)
+    (λ t is. values_told (length d.queues) (length k.ranges) 1 (codes "reg") (with_registers one) (omega arith) (omega (arith, fits.variables))
+    (register_line one) 32 k.registers t (omega arith) fits.all_registers (omega arith) (λ some. fits.zero_register) fits.registers is))
+    (λ t is. values_told (length d.queues) (length k.ranges) 0 (codes "word") (with_words two) (omega arith) (omega (arith, fits.variables))
+    (word_line two) (length d.own) k.words t (omega arith) fits.all_words (omega arith) (λ some. absurd (omega arith)) fits.words is))
+    (λ t is. shares_told three (length d.queues + length d.tagged) k.shares t (omega (arith, fits.variables)) (omega arith) fits.all_shares fits.shares is)
   where
     k : KnownState
     k = s.known
 
     start : DraftValue
     start = begun_state d k.pc
+
+    one : DraftValue
+    one = record start { ranges = k.ranges }
+
+    two : DraftValue
+    two = record one { registers = k.registers }
+
+    three : DraftValue
+    three = record two { words = k.words }
 
     most : List LineOfWords
     most = line_if (codes "most") (map range_text k.ranges)
@@ -150,145 +127,89 @@ known_told d s few few_tagged few_own fits =
     words : List LineOfWords
     words = value_lines (codes "word") 0 k.words
 
-    shares : List LineOfWords
-    shares = share_lines 0 k.shares
-
-    one : DraftValue
-    one = record start { ranges = k.ranges; stage = after_ranges k.ranges }
-
-    two : DraftValue
-    two = record one { registers = k.registers; stage = after_values (after_ranges k.ranges) k.registers }
-
-    three : DraftValue
-    three = record two { words = k.words; stage = after_values (after_values (after_ranges k.ranges) k.registers) k.words }
-
-    described : is_described two.stage ≡ true
-    described = described_after (after_ranges k.ranges) k.registers (ranges_described k.ranges)
-
-    ranges_read : told start most ≡ Ok one
-    ranges_read = ranges_told start k.ranges fits.variables fits.ranges
-
-    registers_read : told one registers ≡ Ok two
-    registers_read = subst (λ (n : ℕ). told (record one { registers = replicate n any }) registers ≡ Ok two) fits.all_registers
-        (registers_told one k.registers (after_ranges k.ranges) few (omega (arith, fits.variables)) (omega (arith, fits.all_registers))
-        (ranges_described k.ranges) fits.zero_register fits.registers)
-
-    words_read : told two words ≡ Ok three
-    words_read = subst (λ (n : ℕ). told (record two { words = replicate n any }) words ≡ Ok three) fits.all_words
-        (words_told two k.words two.stage few (omega (arith, fits.variables)) (omega (arith, fits.all_words, few_own)) described fits.words)
-
-    shares_read : told three shares ≡ Ok (known_draft d k (after_known k))
-    shares_read = subst (λ (n : ℕ). told (record three { shares = replicate n no_share }) shares ≡ Ok (known_draft d k (after_known k))) fits.all_shares
-        (shares_told three [] k.shares 0 three.stage (omega (arith, fits.variables)) refl (omega (arith, fits.all_shares))
-        (described_after two.stage k.words described) fits.shares)
-
-abbrev described_draft : DraftValue → ListedState → DraftValue
-described_draft d s = with_all_filled (known_draft d s.known (after_known s.known)) s.filled (after_filled (after_known s.known) s.filled)
+abbrev described_draft : DraftValue → ListedState → Stage → DraftValue
+described_draft d s t = record (known_draft d s.known t) { filled = s.filled }
 
 described_told : (d : DraftValue) (s : ListedState) → AreFew d.queues → length d.tagged ≤ 16 → length d.own ≤ 64
-    → FitsState d.queues (length d.tagged) (length d.own) s → told (begun_state d s.known.pc) (described_lines s) ≡ Ok (described_draft d s)
-described_told d s few few_tagged few_own fits =
-    told-append (begun_state d s.known.pc) known (known_lines s.known) (filled_lines 0 s.filled) (known_told d s few.queues few_tagged few_own fits)
-    ∙ filled_told known [] s.filled 0 (after_known s.known) few (known_described s.known) (omega arith) (omega (arith, fits.few_filled, few.queues))
-    fits.full_filled fits.filled
-    ∙ ap (λ filled. Ok (with_all_filled known filled (after_filled (after_known s.known) s.filled))) (from_none s.filled)
-  where
-    known : DraftValue
-    known = known_draft d s.known (after_known s.known)
+    → FitsState d.queues (length d.tagged) (length d.own) s
+    → LeadsTo (IsHeld IsDescribed (described_draft d s)) (begun_state d s.known.pc) (described_lines s)
+described_told d s few few_tagged few_own fits = then_held IsDescribed (known_draft d s.known) (IsHeld IsDescribed (described_draft d s))
+    (begun_state d s.known.pc) (known_lines s.known) (filled_lines 0 s.filled) (known_told d s few.queues few_tagged few_own fits)
+    (λ t is. filled_told (known_draft d s.known t) s.filled t few (omega (arith, fits.few_filled, few.queues)) fits.full_filled fits.filled is)
 
 -- ---- a state
 
-pub record Reads (d : DraftValue) (ls : List LineOfWords) (c : Core) : Type 0 where
-  pub end : DraftValue
-  pub read : told d ls ≡ Ok end
-  pub core : core_of (state_closed end) ≡ c
-  pub ends : may_end end.stage ≡ true
+-- the states so far are those of c, and the last one may end here
+pub record IsListed (c : Core) (d : DraftValue) : Type 0 where
+  pub core : core_of (state_closed d) ≡ c
+  pub ends : may_end d.stage ≡ true
 
-state_named : keyword_named (codes "state") ≡ Some keyword.State
-unfolding keyword_named
-state_named = refl
-
-state_staged : (s : Stage) → may_end s ≡ true → stage_after s keyword.State ≡ Some stage.State
-unfolding stage_after
-state_staged s ends = rw ends refl
-
-state_begun : (d : DraftValue) (c : Core) (pc : ℕ) → core_of (state_closed d) ≡ c → c.listed < 16384 → pc < 2 ^ 32 → may_end d.stage ≡ true
+state_begun : (d : DraftValue) (c : Core) (pc : ℕ) → IsListed c d → c.listed < 16384 → pc < 2 ^ 32
     → by_words d (codes "state") (decimal pc ∷ []) ≡ Ok (begun_state (state_closed d) pc)
-unfolding with_state
-state_begun d c pc core few small ends = by_name d (with_pc (state_closed d) pc) (codes "state") (decimal pc ∷ []) keyword.State stage.State state_named
-    (state_staged d.stage ends) made
+unfolding keyword_named stage_after with_state
+state_begun d c pc at few small = by_name d (with_pc (state_closed d) pc) (codes "state") (decimal pc ∷ []) keyword.State stage.State refl
+    (rw at.ends refl) (rw (only_word_again pc small, listed, lt-leb 16384 c.listed few) refl)
   where
     listed : (state_closed d).listed ≡ c.listed
-    listed = ap (λ (x : Core). x.listed) core
-
-    made : with_state d (decimal pc ∷ []) ≡ Ok (with_pc (state_closed d) pc)
-    made = rw (only_word_again pc small, listed, lt-leb 16384 c.listed few) refl
+    listed = ap (λ (x : Core). x.listed) at.core
 
 described_wants : (t : Stage) → is_described t ≡ true → wanted t ≡ suc 0
 described_wants stage.State is = refl
 described_wants stage.Known is = refl
 described_wants other is = absurd cc
 
-state_told : (d : DraftValue) (c : Core) (s : ListedState) → core_of (state_closed d) ≡ c → may_end d.stage ≡ true → AreFew c.queues
-    → length c.tagged ≤ 16 → length c.own ≤ 64 → c.listed < 16384 → FitsState c.queues (length c.tagged) (length c.own) s
-    → Reads d (state_lines s) (record c { states = s ∷ c.states; listed = c.listed + 1 })
+state_told : (d : DraftValue) (c : Core) (s : ListedState) → IsListed c d → AreFew c.queues → length c.tagged ≤ 16 → length c.own ≤ 64
+    → c.listed < 16384 → FitsState c.queues (length c.tagged) (length c.own) s
+    → LeadsTo (IsListed (record c { states = s ∷ c.states; listed = c.listed + 1 })) d (state_lines s)
 unfolding state_closed
-state_told d c s core ends few_queues few_tagged few_own few fits = record {
-  end = after;
-  read = rw (state_begun d c s.known.pc core few fits.pc ends)
-      (told-append (begun_state x s.known.pc) known (described_lines s) (tree_lines (case_lines s.cases)) known_read ∙ cases_read);
-  core =
-      rw (append-nil (reverse (case_lines s.cases)), cases_again s.cases)
-      (ap (λ (y : Core). record y { states = s ∷ y.states; listed = y.listed + 1 }) core);
-  ends = refl;
-}
+state_told d c s at few_queues few_tagged few_own few fits =
+    line_then (IsListed new) d (begun_state x s.known.pc) (codes "state", decimal s.known.pc ∷ []) (described_lines s ++ tree_lines (case_lines s.cases))
+    (state_begun d c s.known.pc at few fits.pc)
+    (then_held IsDescribed (described_draft x s) (IsListed new) (begun_state x s.known.pc) (described_lines s) (tree_lines (case_lines s.cases))
+    (described_told x s (subst (λ (y : Core). AreFew y.queues) (sym at.core) few_queues) (subst (λ (y : Core). length y.tagged ≤ 16) (sym at.core) few_tagged)
+    (subst (λ (y : Core). length y.own ≤ 64) (sym at.core) few_own) fits_x) cases_read)
   where
     x : DraftValue
     x = state_closed d
 
-    known : DraftValue
-    known = described_draft x s
-
-    after : DraftValue
-    after = record known { nodes = reverse (case_lines s.cases) ++ []; splits = 0 + height s.cases; stage = stage.Leaf 0 }
+    new : Core
+    new = record c { states = s ∷ c.states; listed = c.listed + 1 }
 
     fits_x : FitsState x.queues (length x.tagged) (length x.own) s
-    fits_x = subst (λ (y : Core). FitsState y.queues (length y.tagged) (length y.own) s) (sym core) fits
+    fits_x = subst (λ (y : Core). FitsState y.queues (length y.tagged) (length y.own) s) (sym at.core) fits
 
-    known_read : told (begun_state x s.known.pc) (described_lines s) ≡ Ok known
-    known_read = described_told x s (subst (λ (y : Core). AreFew y.queues) (sym core) few_queues)
-        (subst (λ (y : Core). length y.tagged ≤ 16) (sym core) few_tagged) (subst (λ (y : Core). length y.own ≤ 64) (sym core) few_own) fits_x
-
-    is : is_described known.stage ≡ true
-    is = filled_described (after_known s.known) s.filled (known_described s.known)
-
-    cases_read : told known (tree_lines (case_lines s.cases)) ≡ Ok after
-    cases_read = cases_told known s.cases known.stage 0 (described_wants known.stage is) (omega arith)
-        (omega (arith, fits.splits)) (omega (arith, fits.variables)) fits.cases
-
-states_told : (d : DraftValue) (c : Core) (ss : List ListedState) → core_of (state_closed d) ≡ c → may_end d.stage ≡ true → AreFew c.queues
-    → length c.tagged ≤ 16 → length c.own ≤ 64 → c.listed + length ss ≤ 16384
-    → AllByRecursion (FitsState c.queues (length c.tagged) (length c.own)) ss
-    → Reads d (flat_map state_lines ss) (record c { states = reverse ss ++ c.states; listed = c.listed + length ss })
-states_told d c [] core ends few_queues few_tagged few_own few all =
-    let same : c.listed ≡ c.listed + 0 = omega arith in
-    record { end = d; read = refl; core = core ∙ ap (λ (n : ℕ). record c { listed = n }) same; ends = ends }
-states_told d c (s ∷ ss) core ends few_queues few_tagged few_own few all =
-    let first = state_told d c s core ends few_queues few_tagged few_own (omega arith) all.0 in
-    let rest = states_told first.end (record c { states = s ∷ c.states; listed = c.listed + 1 }) ss first.core first.ends few_queues
-    few_tagged few_own (omega arith) all.1 in
-    record {
-      end = rest.end;
-      read = told-append d first.end (state_lines s) (flat_map state_lines ss) first.read ∙ rest.read;
-      core = rest.core ∙ same;
-      ends = rest.ends;
+    cases_read : (t : Stage) → IsDescribed t → LeadsTo (IsListed new) (described_draft x s t) (tree_lines (case_lines s.cases))
+    cases_read t is = record {
+      end = record (described_draft x s t) { nodes = reverse (case_lines s.cases) ++ []; splits = 0 + height s.cases; stage = stage.Leaf 0 };
+      read = cases_told (described_draft x s t) s.cases t 0 (described_wants t is) (omega arith) (omega (arith, fits.splits))
+          (omega (arith, fits.variables)) fits.cases;
+      holds = record {
+        core =
+            rw (append-nil (reverse (case_lines s.cases)), cases_again s.cases)
+            (ap (λ (y : Core). record y { states = s ∷ y.states; listed = y.listed + 1 }) at.core);
+        ends = refl;
+      };
     }
+
+-- c with states, of which it has none
+abbrev with_states : Core → List ListedState → Core
+with_states c ss = record c { states = reverse ss; listed = c.listed + length ss }
+
+states_told : (d : DraftValue) (c : Core) (ss : List ListedState) → IsListed (with_states c []) d → AreFew c.queues → length c.tagged ≤ 16
+    → length c.own ≤ 64 → c.listed + length ss ≤ 16384 → AllByRecursion (FitsState c.queues (length c.tagged) (length c.own)) ss
+    → LeadsTo (IsListed (with_states c ss)) d (flat_map state_lines ss)
+states_told d c ss at few_queues few_tagged few_own few all =
+    each_told (FitsState c.queues (length c.tagged) (length c.own)) (λ xs. IsListed (with_states c xs)) state_lines ss next d all at
   where
-    same : record c { states = reverse ss ++ s ∷ c.states; listed = c.listed + 1 + length ss }
-        ≡ record c { states = reverse (s ∷ ss) ++ c.states; listed = c.listed + length (s ∷ ss) }
-    same =
-        let count : c.listed + 1 + length ss ≡ c.listed + length (s ∷ ss) = omega arith in
-        rw (reverse_first s ss c.states, count) refl
+    next : (before : List ListedState) (s : ListedState) (after : List ListedState) (e : DraftValue) → before ++ s ∷ after ≡ ss
+        → FitsState c.queues (length c.tagged) (length c.own) s → IsListed (with_states c before) e
+        → LeadsTo (IsListed (with_states c (before ++ s ∷ []))) e (state_lines s)
+    next before s after e same fits at_e =
+        let count : c.listed + length before + 1 ≡ c.listed + length (before ++ s ∷ []) = omega (arith, length-append before (s ∷ [])) in
+        let longer : c.listed + length before < 16384 = omega (arith, ap length same, length-append before (s ∷ after)) in
+        let more : record c { states = s ∷ reverse before; listed = c.listed + length before + 1 } ≡ with_states c (before ++ s ∷ []) =
+        rw (reverse_pushed before s, count) refl in
+        subst (λ y. LeadsTo (IsListed y) e (state_lines s)) more (state_told e (with_states c before) s at_e few_queues few_tagged few_own longer fits)
 
 -- ---- a hart
 
@@ -301,6 +222,7 @@ pub record IsAt (qs : List OpenedQueue) (ts : List OpenedTagged) (hs : List Hart
   pub states : (hart_closed (state_closed d)).states ≡ []
   pub listed : (hart_closed (state_closed d)).listed ≡ n
   pub begins : (lists_queues d.stage || may_end d.stage) ≡ true
+  pub ends : 0 < length hs → may_end d.stage ≡ true
 
 closed_at : (s : Stage) (d : DraftValue) → d.stage ≡ s → may_end s ≡ true → (state_closed_at s d).stage ≡ stage.Opened
 closed_at stage.Opened d is may = is
@@ -311,47 +233,19 @@ closed_stage : (d : DraftValue) → may_end d.stage ≡ true → (state_closed d
 unfolding state_closed
 closed_stage d ends = closed_at d.stage d refl ends
 
-hart_named : keyword_named (codes "hart") ≡ Some keyword.Hart
-unfolding keyword_named
-hart_named = refl
+-- the words of a hart's own have come, or none
+abbrev MayOpen : Stage → Type 0
+MayOpen s = stage_after s keyword.Open ≡ Some stage.Opened
 
-hart_staged : (s : Stage) → (lists_queues s || may_end s) ≡ true → stage_after s keyword.Hart ≡ Some stage.Hart
-unfolding stage_after
-hart_staged s begins = rw begins refl
-
-own_named : keyword_named (codes "own") ≡ Some keyword.Own
-unfolding keyword_named
-own_named = refl
-
-own_staged : stage_after stage.Hart keyword.Own ≡ Some stage.Owned
-unfolding stage_after
-own_staged = refl
-
-open_named : keyword_named (codes "open") ≡ Some keyword.Open
-unfolding keyword_named
-open_named = refl
-
-abbrev after_own : List ℕ → Stage
-after_own [] = stage.Hart
-after_own (n ∷ own) = stage.Owned
-
-open_staged : (own : List ℕ) → stage_after (after_own own) keyword.Open ≡ Some stage.Opened
-unfolding stage_after
-open_staged [] = refl
-open_staged (n ∷ own) = refl
-
-own_made : (d : DraftValue) (own : List ℕ) → length own ≤ 64 → AllByRecursion FitsWord own
-    → by_keyword d keyword.Own (map decimal own) ≡ Ok (record d { own = own })
-unfolding own_of
-own_made d own few all = rw (words_again own all, le-ltb 64 (length own) few) refl
+abbrev with_own : DraftValue → List ℕ → Stage → DraftValue
+with_own d own s = record d { own = own; stage = s }
 
 own_told : (d : DraftValue) (own : List ℕ) → length own ≤ 64 → AllByRecursion FitsWord own
-    → told (record d { own = []; stage = stage.Hart }) (line_if (codes "own") (map decimal own)) ≡ Ok (record d { own = own; stage = after_own own })
-own_told d [] few all = refl
-own_told d (n ∷ own) few all =
-    let start = record d { own = []; stage = stage.Hart } in
-    rw (by_name start (record start { own = n ∷ own }) (codes "own") (map decimal (n ∷ own)) keyword.Own stage.Owned own_named own_staged
-    (own_made start (n ∷ own) few all)) refl
+    → LeadsTo (IsHeld MayOpen (with_own d own)) (with_own d [] stage.Hart) (line_if (codes "own") (map decimal own))
+unfolding keyword_named stage_after own_of
+own_told d own few all = if_told MayOpen (with_own d) (codes "own") decimal stage.Hart refl own
+    (line_told (IsHeld MayOpen (with_own d own)) (with_own d [] stage.Hart) (with_own d own stage.Hart) (codes "own") (map decimal own) keyword.Own stage.Owned
+    refl refl (rw (words_again own all, le-ltb 64 (length own) few) refl) (at_stage MayOpen (with_own d own) stage.Owned refl))
 
 opening_again : (first : ℕ) (numbers : List ℕ) → first < 2 ^ 32 → length numbers ≤ 64 → AllByRecursion FitsCount numbers
     → hart_opening (map decimal (first ∷ numbers)) ≡ Ok (first, numbers)
@@ -359,65 +253,50 @@ unfolding hart_opening
 opening_again first numbers small few all =
     rw (first_word_again first (map decimal numbers) small, counts_again numbers all, le-ltb 64 (length numbers) few) refl
 
-pub record ReadsHarts (d : DraftValue) (ls : List LineOfWords) (qs : List OpenedQueue) (ts : List OpenedTagged) (hs : List HartPart) (n : ℕ) : Type 0 where
-  pub end : DraftValue
-  pub read : told d ls ≡ Ok end
-  pub at : IsAt qs ts hs n end
-  pub ends : may_end end.stage ≡ true
-
 -- a draft whose last state is over, and its hart's part too
 closed_listed : (d : DraftValue) → d.stage ≡ stage.Opened → hart_closed d ≡ hart_listed d
 unfolding hart_closed
 closed_listed d opened = ap (λ (s : Stage). hart_closed_at s d) opened
 
-either_may : (a b : Bool) → b ≡ true → (a || b) ≡ true
-either_may true b may = refl
-either_may false b may = may
-
-is_at_end : (qs : List OpenedQueue) (ts : List OpenedTagged) (hs : List HartPart) (n : ℕ) (p : HartPart) (d : DraftValue) → may_end d.stage ≡ true
-    → core_of (state_closed d) ≡ record {
-      queues = qs;
-      tagged = ts;
-      harts = hs;
-      own = p.own;
-      first = p.first;
-      numbers = p.numbers;
-      states = reverse p.states ++ [];
-      listed = n;
-    }
-    → IsAt qs ts (hs ++ p ∷ []) n d
-is_at_end qs ts hs n p d ends core = record {
-  queues = ap (λ (e : DraftValue). e.queues) closed ∙ ap (λ (c : Core). c.queues) core;
-  tagged = ap (λ (e : DraftValue). e.tagged) closed ∙ ap (λ (c : Core). c.tagged) core;
+is_at_end : (c : Core) (p : HartPart) (d : DraftValue)
+    → IsListed (with_states (record c { own = p.own; first = p.first; numbers = p.numbers }) p.states) d
+    → IsAt c.queues c.tagged (c.harts ++ p ∷ []) (c.listed + length p.states) d
+is_at_end c p d at = record {
+  queues = ap (λ (e : DraftValue). e.queues) closed ∙ ap (λ (x : Core). x.queues) at.core;
+  tagged = ap (λ (e : DraftValue). e.tagged) closed ∙ ap (λ (x : Core). x.tagged) at.core;
   harts = ap (λ (e : DraftValue). e.harts) closed
-      ∙ ap (λ (c : Core). c.harts ++ record { own = c.own; first = c.first; numbers = c.numbers; states = reverse c.states } ∷ []) core
-      ∙ ap (λ (states : List ListedState). hs ++ record { own = p.own; first = p.first; numbers = p.numbers; states = states } ∷ []) turned;
+      ∙ ap (λ (x : Core). x.harts ++ record { own = x.own; first = x.first; numbers = x.numbers; states = reverse x.states } ∷ []) at.core
+      ∙ ap (λ (states : List ListedState). c.harts ++ record p { states = states } ∷ []) (reverse-reverse p.states);
   own = ap (λ (e : DraftValue). e.own) closed;
   states = ap (λ (e : DraftValue). e.states) closed;
-  listed = ap (λ (e : DraftValue). e.listed) closed ∙ ap (λ (c : Core). c.listed) core;
-  begins = either_may (lists_queues d.stage) (may_end d.stage) ends;
+  listed = ap (λ (e : DraftValue). e.listed) closed ∙ ap (λ (x : Core). x.listed) at.core;
+  begins = rw at.ends (or-true (lists_queues d.stage));
+  ends = λ some. at.ends;
 }
   where
     closed : hart_closed (state_closed d) ≡ hart_listed (state_closed d)
-    closed = closed_listed (state_closed d) (closed_stage d ends)
-
-    turned : reverse (reverse p.states ++ []) ≡ p.states
-    turned = ap (λ (xs : List ListedState). reverse xs) (append-nil (reverse p.states)) ∙ reverse-reverse p.states
+    closed = closed_listed (state_closed d) (closed_stage d at.ends)
 
 part_told : (d : DraftValue) (qs : List OpenedQueue) (ts : List OpenedTagged) (hs : List HartPart) (n : ℕ) (p : HartPart) → IsAt qs ts hs n d
     → length hs < 64 → AreFew qs → length ts ≤ 16 → n + length p.states ≤ 16384 → FitsPart qs (length ts) p
-    → ReadsHarts d (part_lines p) qs ts (hs ++ p ∷ []) (n + length p.states)
-unfolding with_hart state_closed
-part_told d qs ts hs n p at few_harts few_queues few_tagged few fits = record {
-  end = states.end;
-  read = told-append d opened (((codes "hart", []) ∷ own_lines) ++ opening ∷ []) (flat_map state_lines p.states)
-      (told-append d owned ((codes "hart", []) ∷ own_lines) (opening ∷ []) (rw hart_read own_read) ∙ rw open_read refl) ∙ states.read;
-  at = is_at_end qs ts hs (n + length p.states) p states.end states.ends states.core;
-  ends = states.ends;
-}
+    → LeadsTo (IsAt qs ts (hs ++ p ∷ []) (n + length p.states)) d (part_lines p)
+unfolding keyword_named stage_after with_hart state_closed
+part_told d qs ts hs n p at few_harts few_queues few_tagged few fits =
+    line_then over d (record x { stage = stage.Hart }) (codes "hart", []) (own_lines ++ opening ∷ [] ++ flat_map state_lines p.states)
+    (by_name d x (codes "hart") [] keyword.Hart stage.Hart refl (rw at.begins refl) (rw (at.harts, lt-leb 64 (length hs) few_harts) refl))
+    (then_told (IsListed (with_states core [])) over (record x { stage = stage.Hart }) (own_lines ++ opening ∷ []) (flat_map state_lines p.states)
+    (then_held MayOpen (with_own x p.own) (IsListed (with_states core [])) (record x { stage = stage.Hart }) own_lines (opening ∷ []) own_read open_read)
+    (λ e at_e. leads_on (IsListed (with_states core p.states)) over e (flat_map state_lines p.states) (is_at_end core p)
+    (states_told e core p.states at_e few_queues few_tagged fits.few_words few fits.states)))
   where
+    over : DraftValue → Type 0
+    over = IsAt qs ts (hs ++ p ∷ []) (n + length p.states)
+
     x : DraftValue
     x = hart_closed (state_closed d)
+
+    core : Core
+    core = record { queues = qs; tagged = ts; harts = hs; own = p.own; first = p.first; numbers = p.numbers; states = []; listed = n }
 
     own_lines : List LineOfWords
     own_lines = line_if (codes "own") (map decimal p.own)
@@ -425,164 +304,115 @@ part_told d qs ts hs n p at few_harts few_queues few_tagged few fits = record {
     opening : LineOfWords
     opening = (codes "open", map decimal (p.first ∷ p.numbers))
 
-    owned : DraftValue
-    owned = record x { own = p.own; stage = after_own p.own }
-
-    opened : DraftValue
-    opened = record x { own = p.own; first = p.first; numbers = p.numbers; stage = stage.Opened }
-
-    hart_read : by_words d (codes "hart") [] ≡ Ok (record x { stage = stage.Hart })
-    hart_read = by_name d x (codes "hart") [] keyword.Hart stage.Hart hart_named (hart_staged d.stage at.begins) made
-      where
-        made : with_hart d [] ≡ Ok x
-        made = rw (at.harts, lt-leb 64 (length hs) few_harts) refl
-
-    own_read : told (record x { stage = stage.Hart }) own_lines ≡ Ok owned
-    own_read = subst (λ (own : List ℕ). told (record x { own = own; stage = stage.Hart }) own_lines ≡ Ok owned) (sym at.own)
+    own_read : LeadsTo (IsHeld MayOpen (with_own x p.own)) (record x { stage = stage.Hart }) own_lines
+    own_read = subst (λ (own : List ℕ). LeadsTo (IsHeld MayOpen (with_own x p.own)) (with_own x own stage.Hart) own_lines) (sym at.own)
         (own_told x p.own fits.few_words fits.own)
 
-    open_read : by_words owned (codes "open") (map decimal (p.first ∷ p.numbers)) ≡ Ok opened
-    open_read = by_name owned (record owned { first = p.first; numbers = p.numbers }) (codes "open") (map decimal (p.first ∷ p.numbers)) keyword.Open
-        stage.Opened open_named (open_staged p.own) (rw (opening_again p.first p.numbers fits.first fits.few_numbers fits.numbers) refl)
-
-    core : core_of (state_closed opened)
-        ≡ record { queues = qs; tagged = ts; harts = hs; own = p.own; first = p.first; numbers = p.numbers; states = []; listed = n }
-    core = rw (at.queues, at.tagged, at.harts, at.states, at.listed) refl
-
-    states : Reads opened (flat_map state_lines p.states)
-        (record {
-          queues = qs;
-          tagged = ts;
-          harts = hs;
-          own = p.own;
-          first = p.first;
-          numbers = p.numbers;
-          states = reverse p.states ++ [];
-          listed = n + length p.states;
-        })
-    states = states_told opened
-        (record { queues = qs; tagged = ts; harts = hs; own = p.own; first = p.first; numbers = p.numbers; states = []; listed = n })
-        p.states core refl few_queues few_tagged fits.few_words few fits.states
+    open_read : (t : Stage) → MayOpen t → LeadsTo (IsListed (with_states core [])) (with_own x p.own t) (opening ∷ [])
+    open_read t may = line_told (IsListed (with_states core [])) (with_own x p.own t) (record (with_own x p.own t) { first = p.first; numbers = p.numbers })
+        (codes "open") (map decimal (p.first ∷ p.numbers)) keyword.Open stage.Opened refl may
+        (rw (opening_again p.first p.numbers fits.first fits.few_numbers fits.numbers) refl)
+        (let none : n ≡ n + 0 = omega arith in record { core = rw (at.queues, at.tagged, at.harts, at.states, at.listed, ← none) refl; ends = refl })
 
 abbrev listed_states : HartPart → ℕ
 listed_states part = length part.states
 
-harts_told : (d : DraftValue) (qs : List OpenedQueue) (ts : List OpenedTagged) (hs : List HartPart) (n : ℕ) (p : HartPart) (ps : List HartPart)
-    → IsAt qs ts hs n d → length hs + length (p ∷ ps) ≤ 64 → AreFew qs → length ts ≤ 16 → n + sum_by listed_states (p ∷ ps) ≤ 16384
-    → AllByRecursion (FitsPart qs (length ts)) (p ∷ ps)
-    → ReadsHarts d (flat_map part_lines (p ∷ ps)) qs ts (hs ++ p ∷ ps) (n + sum_by listed_states (p ∷ ps))
-harts_told d qs ts hs n p [] at few_harts few_queues few_tagged few all =
-    let total = sum_by-cons listed_states p [] in
-    let first = part_told d qs ts hs n p at (omega arith) few_queues few_tagged (omega (arith, total)) all.0 in
-    let same : n + length p.states ≡ n + sum_by listed_states (p ∷ []) = omega (arith, total) in
-    record {
-      end = first.end;
-      read = told-append d first.end (part_lines p) [] first.read;
-      at = subst (λ (k : ℕ). IsAt qs ts (hs ++ p ∷ []) k first.end) same first.at;
-      ends = first.ends;
-    }
-harts_told d qs ts hs n p (q ∷ ps) at few_harts few_queues few_tagged few all =
-    let total = sum_by-cons listed_states p (q ∷ ps) in
-    let first = part_told d qs ts hs n p at (omega arith) few_queues few_tagged (omega (arith, total)) all.0 in
-    let rest = harts_told first.end qs ts (hs ++ p ∷ []) (n + length p.states) q ps first.at (omega (arith, length-append hs (p ∷ []))) few_queues
-    few_tagged (omega (arith, total)) all.1 in
-    let same : n + length p.states + sum_by listed_states (q ∷ ps) ≡ n + sum_by listed_states (p ∷ q ∷ ps) = omega (arith, total) in
-    record {
-      end = rest.end;
-      read = told-append d first.end (part_lines p) (flat_map part_lines (q ∷ ps)) first.read ∙ rest.read;
-      at = subst (λ (k : ℕ). IsAt qs ts (hs ++ p ∷ q ∷ ps) k rest.end) same
-          (subst (λ (parts : List HartPart). IsAt qs ts parts (n + length p.states + sum_by listed_states (q ∷ ps)) rest.end)
-          (append_assoc hs (p ∷ []) (q ∷ ps)) rest.at);
-      ends = rest.ends;
-    }
+harts_told : (d : DraftValue) (qs : List OpenedQueue) (ts : List OpenedTagged) (parts : List HartPart) → IsAt qs ts [] 0 d → length parts ≤ 64 → AreFew qs
+    → length ts ≤ 16 → sum_by listed_states parts ≤ 16384 → AllByRecursion (FitsPart qs (length ts)) parts
+    → LeadsTo (IsAt qs ts parts (sum_by listed_states parts)) d (flat_map part_lines parts)
+harts_told d qs ts parts at few_harts few_queues few_tagged few all =
+    each_told (FitsPart qs (length ts)) (λ hs. IsAt qs ts hs (sum_by listed_states hs)) part_lines parts next d all at
+  where
+    next : (before : List HartPart) (p : HartPart) (after : List HartPart) (e : DraftValue) → before ++ p ∷ after ≡ parts → FitsPart qs (length ts) p
+        → IsAt qs ts before (sum_by listed_states before) e
+        → LeadsTo (IsAt qs ts (before ++ p ∷ []) (sum_by listed_states (before ++ p ∷ []))) e (part_lines p)
+    next before p after e same fits at_e =
+        let longer : length before < 64 = omega (arith, ap length same, length-append before (p ∷ after)) in
+        let room : sum_by listed_states before + length p.states ≤ 16384 = omega (
+          arith,
+          ap (sum_by listed_states) same,
+          sum_by-append listed_states before (p ∷ after),
+          sum_by-cons listed_states p after,
+        ) in
+        subst (λ k. LeadsTo (IsAt qs ts (before ++ p ∷ []) k) e (part_lines p)) (sym (sum_by_push listed_states before p))
+        (part_told e qs ts before (sum_by listed_states before) p at_e longer few_queues few_tagged room fits)
 
 -- ---- queues
-
-queue_named : keyword_named (codes "queue") ≡ Some keyword.Queue
-unfolding keyword_named
-queue_named = refl
-
-queue_staged : stage_after stage.Queues keyword.Queue ≡ Some stage.Queues
-unfolding stage_after
-queue_staged = refl
 
 queue_made : (queues : List OpenedQueue) (q : OpenedQueue) → length queues < 16 → FitsQueue q
     → with_queue queues (map decimal (numbers_of q)) ≡ Ok (queues ++ record q { fields = [] } ∷ [])
 unfolding with_queue
 queue_made queues q few fits = rw (queue_again q fits, lt-leb 16 (length queues) few) refl
 
-queue_told : (d : DraftValue) (queues : List OpenedQueue) (q : OpenedQueue) → length queues < 16 → FitsQueue q
-    → told (with_queues d queues) (queue_lines q) ≡ Ok (with_queues d (queues ++ q ∷ []))
-queue_told d queues q few fits = rw line (fields_told d queues q [] q.fields (omega (arith, fits.few_fields)) fits.fields)
-  where
-    line : by_words (with_queues d queues) (codes "queue") (map decimal (numbers_of q)) ≡ Ok (with_queues d (queues ++ record q { fields = [] } ∷ []))
-    line = by_name (with_queues d queues) (with_queues d (queues ++ record q { fields = [] } ∷ [])) (codes "queue") (map decimal (numbers_of q))
-        keyword.Queue stage.Queues queue_named queue_staged (rw (queue_made queues q few fits) refl)
+queue_told : (d : DraftValue) (queues : List OpenedQueue) (q : OpenedQueue) (s : Stage) → length queues < 16 → FitsQueue q → IsQueues s
+    → LeadsTo (IsHeld IsQueues (with_queues d (queues ++ q ∷ []))) (with_queues d queues s) (queue_lines q)
+unfolding keyword_named stage_after
+queue_told d queues q s few fits is =
+    let bare = with_queues d (queues ++ record q { fields = [] } ∷ []) in
+    line_then (IsHeld IsQueues (with_queues d (queues ++ q ∷ []))) (with_queues d queues s) (bare stage.Queues) (queue_line q) (map field_line q.fields)
+    (by_name (with_queues d queues s) (bare s) (codes "queue") (map decimal (numbers_of q)) keyword.Queue stage.Queues refl (rw is refl)
+    (rw (queue_made queues q few fits) refl))
+    (fields_told d queues q stage.Queues fits.few_fields fits.fields refl)
 
-queues_told : (d : DraftValue) (queues qs : List OpenedQueue) → length queues + length qs ≤ 16 → AllByRecursion FitsQueue qs
-    → told (with_queues d queues) (flat_map queue_lines qs) ≡ Ok (with_queues d (queues ++ qs))
-queues_told d queues [] few all = rw (append-nil queues) refl
-queues_told d queues (q ∷ qs) few all =
-    told-append (with_queues d queues) (with_queues d (queues ++ q ∷ [])) (queue_lines q) (flat_map queue_lines qs)
-    (queue_told d queues q (omega arith) all.0)
-    ∙ queues_told d (queues ++ q ∷ []) qs (omega (arith, length-append queues (q ∷ []))) all.1
-    ∙ ap (λ all_queues. Ok (with_queues d all_queues)) (append_assoc queues (q ∷ []) qs)
+queues_told : (d : DraftValue) (qs : List OpenedQueue) → length qs ≤ 16 → AllByRecursion FitsQueue qs
+    → LeadsTo (IsHeld IsQueues (with_queues d qs)) (with_queues d [] stage.Queues) (flat_map queue_lines qs)
+queues_told d qs few all = each_added FitsQueue IsQueues (with_queues d) queue_lines qs
+    (λ before q t fewer fits is. queue_told d before q t (omega arith) fits is) stage.Queues refl all
 
 -- ---- all of it
 
 head_read : by_words no_draft (codes "ztso-queues") (codes "1" ∷ []) ≡ Ok (record no_draft { stage = stage.Queues })
 head_read = refl
 
-begins_at : (qs : List OpenedQueue) (ts : List OpenedTagged) (s : Stage) → lists_queues s ≡ true
+still_lists : (s : Stage) → IsQueues s → ListsQueues s
+still_lists stage.Queues is = refl
+still_lists other is = absurd cc
+
+begins_at : (qs : List OpenedQueue) (ts : List OpenedTagged) (s : Stage) → ListsQueues s
     → IsAt qs ts [] 0 (record no_draft { queues = qs; tagged = ts; stage = s })
 unfolding state_closed hart_closed
-begins_at qs ts stage.Queues lists = record { queues = refl; tagged = refl; harts = refl; own = refl; states = refl; listed = refl; begins = refl }
-begins_at qs ts stage.Tagged lists = record { queues = refl; tagged = refl; harts = refl; own = refl; states = refl; listed = refl; begins = refl }
+begins_at qs ts stage.Queues lists =
+    record { queues = refl; tagged = refl; harts = refl; own = refl; states = refl; listed = refl; begins = refl; ends = λ some. absurd (omega arith) }
+begins_at qs ts stage.Tagged lists =
+    record { queues = refl; tagged = refl; harts = refl; own = refl; states = refl; listed = refl; begins = refl; ends = λ some. absurd (omega arith) }
 begins_at qs ts other lists = absurd cc
 
-lines_told : (c : QueueCertificate) → CanBeWritten c → ReadsHarts no_draft (certificate_lines c) c.queues c.tagged c.harts (sum_by listed_states c.harts)
-lines_told c fits = by_harts c.harts refl
+lines_told : (c : QueueCertificate) → CanBeWritten c
+    → LeadsTo (IsAt c.queues c.tagged c.harts (sum_by listed_states c.harts)) no_draft (certificate_lines c)
+lines_told c fits =
+    line_then over no_draft begun (codes "ztso-queues", codes "1" ∷ []) (queues ++ tagged ++ harts) head_read
+    (then_held ListsQueues (with_all_tagged listed c.tagged) over begun (queues ++ tagged) harts
+    (then_held IsQueues (with_queues no_draft c.queues) (IsHeld ListsQueues (with_all_tagged listed c.tagged)) begun queues tagged
+    (queues_told no_draft c.queues fits.few_queues fits.queues)
+    (λ t is. tagged_told listed c.tagged t fits.few_tagged fits.tagged (still_lists t is)))
+    (λ t lists. harts_told (with_all_tagged listed c.tagged t) c.queues c.tagged c.harts (begins_at c.queues c.tagged t lists) fits.few_harts
+    (are_few c.queues fits.few_queues fits.queues) fits.few_tagged fits.few_states fits.harts))
   where
+    over : DraftValue → Type 0
+    over = IsAt c.queues c.tagged c.harts (sum_by listed_states c.harts)
+
+    begun : DraftValue
+    begun = record no_draft { stage = stage.Queues }
+
     listed : DraftValue
-    listed = record no_draft { queues = c.queues; stage = stage.Queues }
+    listed = record no_draft { queues = c.queues }
 
-    start : DraftValue
-    start = with_all_tagged listed c.tagged (after_tagged stage.Queues c.tagged)
+    queues : List LineOfWords
+    queues = flat_map queue_lines c.queues
 
-    first_lines : List LineOfWords
-    first_lines = (codes "ztso-queues", codes "1" ∷ []) ∷ flat_map queue_lines c.queues
+    tagged : List LineOfWords
+    tagged = map tagged_line c.tagged
 
-    queues_read : told no_draft first_lines ≡ Ok listed
-    queues_read = rw head_read (queues_told no_draft [] c.queues (omega (arith, fits.few_queues)) fits.queues)
-
-    listed_read : told no_draft (first_lines ++ map tagged_line c.tagged) ≡ Ok start
-    listed_read = told-append no_draft listed first_lines (map tagged_line c.tagged) queues_read
-        ∙ tagged_told listed [] c.tagged stage.Queues refl (omega (arith, fits.few_tagged)) fits.tagged
-
-    by_harts : (hs : List HartPart) → c.harts ≡ hs
-        → ReadsHarts no_draft (first_lines ++ map tagged_line c.tagged ++ flat_map part_lines hs) c.queues c.tagged hs (sum_by listed_states hs)
-    by_harts [] same = absurd (omega (arith, fits.some_hart, ap (λ (hs : List HartPart). length hs) same))
-    by_harts (p ∷ ps) same =
-        let harts = harts_told start c.queues c.tagged [] 0 p ps (begins_at c.queues c.tagged (after_tagged stage.Queues c.tagged)
-        (lists_after stage.Queues c.tagged refl)) (omega (arith, fits.few_harts, ap (λ (hs : List HartPart). length hs) same))
-        (are_few c.queues fits.few_queues fits.queues) fits.few_tagged
-        (omega (arith, fits.few_states, ap (λ (hs : List HartPart). sum_by listed_states hs) same))
-        (subst (λ (hs : List HartPart). AllByRecursion (FitsPart c.queues (length c.tagged)) hs) same fits.harts) in
-        let none : 0 + sum_by listed_states (p ∷ ps) ≡ sum_by listed_states (p ∷ ps) = omega arith in
-        record {
-          end = harts.end;
-          read = told-append no_draft start (first_lines ++ map tagged_line c.tagged) (flat_map part_lines (p ∷ ps)) listed_read ∙ harts.read;
-          at = subst (λ (k : ℕ). IsAt c.queues c.tagged (p ∷ ps) k harts.end) none harts.at;
-          ends = harts.ends;
-        }
+    harts : List LineOfWords
+    harts = flat_map part_lines c.harts
 
 pub certificate_again : (c : QueueCertificate) → CanBeWritten c → certificate_at (certificate_text c) ≡ Ok c
 unfolding certificate_at certificate_from certificate_text finished
 certificate_again c fits =
-    let harts = lines_told c fits in
+    let all = lines_told c fits in
     let solid = certificate_solid c fits in
-    let said = told_lines no_draft harts.end 1 (certificate_lines c) solid harts.read in
-    rw (lines_again (certificate_lines c) solid, said.1, harts.ends, harts.at.queues, harts.at.tagged, harts.at.harts) refl
+    let said = told_lines no_draft all.end 1 (certificate_lines c) solid all.read in
+    rw (lines_again (certificate_lines c) solid, said.1, all.holds.ends fits.some_hart, all.holds.queues, all.holds.tagged, all.holds.harts) refl
 
 -- what the writer has written
 pub written_again : (text : List ℕ) (c : QueueCertificate) → CanBeWritten c → text ≡ certificate_text c → certificate_at text ≡ Ok c

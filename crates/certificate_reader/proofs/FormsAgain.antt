@@ -1,5 +1,5 @@
 -- Forms and values, as they are written, are read again.
-use Rattle.std.proofs.Common.{◌≡◌, ℕ, ◌+◌, ◌-◌, ◌^◌, ◌<◌, ◌≤◌, ◌&&◌, Bool, true, false, List, [], ◌∷◌, ◌++◌, length, map, replicate}
+use Rattle.std.proofs.Common.{◌≡◌, ℕ, ◌+◌, ◌-◌, ◌^◌, ◌<◌, ◌≤◌, Bool, true, false, List, [], ◌∷◌, ◌++◌, length, map, replicate}
 use Rattle.std.proofs.Common.{Some, None, Result, Ok, refl, sym, ap, subst, ◌∙◌, append_assoc, length-append, arith}
 use Rattle.std.specs.Prelude.{codes}
 use Rattle.std.specs.List.{AllByRecursion, list_all, slice_split}
@@ -8,6 +8,7 @@ use Rattle.std.specs.Str.{bytes_eq}
 use Rattle.std.specs.Fmt.{decimal}
 use Rattle.std.proofs.lemmas.Bool.{lt-ltb, le-ltb, le-leb, ne_eqb, eqb-true, or_parts}
 use Rattle.std.proofs.lemmas.List.{append-nil, length-replicate, replicate_more}
+use Rattle.std.proofs.Math.Bool.{and-false}
 use Rattle.std.proofs.lemmas.Slice.Eq.{bytes_eq-Decides}
 use Rattle.texts.specs.Numbers.{word_of, is_numeral}
 use Rattle.texts.specs.Results.{◌>>=◌}
@@ -36,6 +37,10 @@ NoDigit p = (d : ℕ) → d < 10 → p (48 + d) ≡ false
 pub decimal_bytes : (p : ℕ → Bool) → NoDigit p → (n : ℕ) → n ≤ 2 ^ 32 → NonePass p (decimal n)
 decimal_bytes p digits n small = decimal_none p digits n (omega arith)
 
+all_if : (P : List ℕ → Type 0) (b : Bool) (part : List ℕ) (parts : List (List ℕ)) → P part → AllByRecursion P parts → AllByRecursion P (first_if b part parts)
+all_if P true part parts one all = (one, all)
+all_if P false part parts one all = all
+
 multiple_bytes : (p : ℕ → Bool) → NoDigit p → p 42 ≡ false → (m j : ℕ) → m ≤ 2 ^ 32 → j ≤ 2 ^ 32 → NonePass p (multiple_text m j)
 multiple_bytes p digits star m j m_small j_small =
     none-append p (decimal m) (42 ∷ decimal j) (decimal_bytes p digits m m_small) (star, decimal_bytes p digits j j_small)
@@ -43,21 +48,12 @@ multiple_bytes p digits star m j m_small j_small =
 multiples_bytes : (p : ℕ → Bool) → NoDigit p → p 42 ≡ false → (j : ℕ) (ms : List ℕ) → AllByRecursion FitsCount ms → j + length ms ≤ 2 ^ 32
     → AllByRecursion (NonePass p) (multiples j ms)
 multiples_bytes p digits star j [] all few = tt
-multiples_bytes p digits star j (m ∷ ms) all few = by_test (is_written m (length ms)) (multiples_bytes p digits star (j + 1) ms all.1 (omega arith))
-  where
-    by_test : (b : Bool) → AllByRecursion (NonePass p) (multiples (j + 1) ms)
-        → AllByRecursion (NonePass p) (first_if b (multiple_text m j) (multiples (j + 1) ms))
-    by_test true rest = (multiple_bytes p digits star m j all.0 (omega arith), rest)
-    by_test false rest = rest
+multiples_bytes p digits star j (m ∷ ms) all few = all_if (NonePass p) (is_written m (length ms)) (multiple_text m j) (multiples (j + 1) ms)
+    (multiple_bytes p digits star m j all.0 (omega arith)) (multiples_bytes p digits star (j + 1) ms all.1 (omega arith))
 
 pub parts_bytes : (p : ℕ → Bool) → NoDigit p → p 42 ≡ false → (n : ℕ) (f : Form) → n ≤ 2 ^ 32 → FitsForm n f → AllByRecursion (NonePass p) (parts_of f)
-parts_bytes p digits star n f small fits = by_test (is_written f.constant (length f.factors))
-    (multiples_bytes p digits star 0 f.factors fits.factors (omega (arith, fits.few)))
-  where
-    by_test : (b : Bool) → AllByRecursion (NonePass p) (multiples 0 f.factors)
-        → AllByRecursion (NonePass p) (first_if b (decimal f.constant) (multiples 0 f.factors))
-    by_test true rest = (decimal_bytes p digits f.constant fits.constant, rest)
-    by_test false rest = rest
+parts_bytes p digits star n f small fits = all_if (NonePass p) (is_written f.constant (length f.factors)) (decimal f.constant) (multiples 0 f.factors)
+    (decimal_bytes p digits f.constant fits.constant) (multiples_bytes p digits star 0 f.factors fits.factors (omega (arith, fits.few)))
 
 joined_bytes : (p : ℕ → Bool) → p 43 ≡ false → (follows : Bool) (parts : List (List ℕ))
     → AllByRecursion (NonePass p) parts → NonePass p (parts_text follows parts)
@@ -82,13 +78,9 @@ multiple_again m j m_small j_small =
       word_again j j_small,
     ) refl
 
-and_false : (b : Bool) → (b && false) ≡ false
-and_false true = refl
-and_false false = refl
-
 star_no_digit : (xs ys : List ℕ) → list_all (λ c. is_digit c 10) (xs ++ 42 ∷ ys) ≡ false
 star_no_digit [] ys = refl
-star_no_digit (x ∷ xs) ys = rw (star_no_digit xs ys) (and_false (is_digit x 10))
+star_no_digit (x ∷ xs) ys = rw (star_no_digit xs ys) (and-false (is_digit x 10))
 
 star_no_numeral : (xs ys : List ℕ) → is_numeral 10 (xs ++ 42 ∷ ys) ≡ false
 star_no_numeral [] ys = refl
@@ -110,12 +102,8 @@ star_no_count xs ys = rw (star_no_numeral xs ys, star_no_round xs ys) refl
 
 multiples_no_count : (j : ℕ) (ms : List ℕ) → AllByRecursion (λ part. count_of part ≡ None) (multiples j ms)
 multiples_no_count j [] = tt
-multiples_no_count j (m ∷ ms) = by_test (is_written m (length ms)) (multiples_no_count (j + 1) ms)
-  where
-    by_test : (b : Bool) → AllByRecursion (λ part. count_of part ≡ None) (multiples (j + 1) ms)
-        → AllByRecursion (λ part. count_of part ≡ None) (first_if b (multiple_text m j) (multiples (j + 1) ms))
-    by_test true rest = (star_no_count (decimal m) (decimal j), rest)
-    by_test false rest = rest
+multiples_no_count j (m ∷ ms) = all_if (λ part. count_of part ≡ None) (is_written m (length ms)) (multiple_text m j) (multiples (j + 1) ms)
+    (star_no_count (decimal m) (decimal j)) (multiples_no_count (j + 1) ms)
 
 -- the last one is always written
 multiples_some : (j : ℕ) (ms : List ℕ) → 0 < length ms → 0 < length (multiples j ms)

@@ -10,20 +10,6 @@ use Rattle.certificate_reader.specs.CaseTexts.{Grown, with_node, grown_onto, cas
 pub reverse_pushed : {A : Type 0} (xs : List A) (x : A) → reverse (xs ++ x ∷ []) ≡ x ∷ reverse xs
 reverse_pushed xs x = reverse-append xs (x ∷ [])
 
--- ---- the last two of the trees
-
-pub joined_last : (xs : List Cases) (low high : Cases) (j v : ℕ) → joined_by j v (reverse ((xs ++ high ∷ []) ++ low ∷ [])) ≡ split j v low high ∷ reverse xs
-joined_last xs low high j v =
-    ap (joined_by j v) (reverse_pushed (xs ++ high ∷ []) low) ∙ ap (λ trees. joined_by j v (low ∷ trees)) (reverse_pushed xs high)
-
-pub joined_one : (xs : List Cases) (low : Cases) (j v : ℕ) → length xs ≡ 0 → joined_by j v (reverse (xs ++ low ∷ [])) ≡ reverse xs
-joined_one [] low j v e = refl
-joined_one (x ∷ xs) low j v e = absurd (omega arith)
-
-pub joined_none : (xs : List Cases) (j v : ℕ) → length xs ≡ 0 → joined_by j v (reverse xs) ≡ reverse xs
-joined_none [] j v e = refl
-joined_none (x ∷ xs) j v e = absurd (omega arith)
-
 -- ---- the lines of a tree
 
 abbrev grown_trees : List Cases → Grown

@@ -1,10 +1,10 @@
 pub mod Joined
 pub mod Growing
 pub mod Placing
-pub mod WrittenParts
 pub mod NumbersAgain
 pub mod FormsAgain
 pub mod LinesAgain
+pub mod Turns
 pub mod FieldsAgain
 pub mod TagsAgain
 pub mod SolidLines

@@ -15,10 +15,10 @@ use Rattle.queue_layouts.specs.declared.tagged.Codec.{Codec}
 use Rattle.queue_layouts.specs.declared.tagged.Codec.TheVariants as codec
 use Rattle.queue_layouts.specs.declared.tagged.OpenedTagged.{OpenedTagged}
 use Rattle.certificate_reader.specs.CaseTexts.{arrow_lines, case_lines}
-use Rattle.certificate_reader.specs.Writing.{LineOfWords, form_text, value_line, value_lines, share_lines, range_text, line_if}
-use Rattle.certificate_reader.specs.Writing.{slot_lines, filled_lines, known_lines, described_lines, node_line, tree_lines, state_lines}
+use Rattle.certificate_reader.specs.Writing.{LineOfWords, lines_at, form_text, value_line, value_lines, share_line, share_lines, range_text, line_if}
+use Rattle.certificate_reader.specs.Writing.{slot_line, slot_lines, filled_lines, known_lines, described_lines, node_line, tree_lines, state_lines}
 use Rattle.certificate_reader.specs.Writing.{part_lines, numbers_of, field_numbers, field_line, queue_line, queue_lines, certificate_lines, value_text}
-use Rattle.certificate_reader.specs.Writing.{codec_text, tagged_numbers, tagged_line}
+use Rattle.certificate_reader.specs.Writing.{codec_text, tagged_line}
 use Rattle.certificate_reader.specs.Written.{FitsWord, FitsCount, FitsForm, FitsValue, FitsShare, FitsRange, FitsArrow}
 use Rattle.certificate_reader.specs.Written.{FitsCases, FitsFilled, FitsState, FitsPart, FitsField, FitsQueue, FitsTagged}
 use Rattle.certificate_reader.specs.Written.{CanBeWritten}
@@ -42,6 +42,12 @@ all_flat : {A B : Type 0} (P : A → Type 0) (Q : B → Type 0) (f : A → List 
     → AllByRecursion P xs → AllByRecursion Q (flat_map f xs)
 all_flat P Q f each [] all = tt
 all_flat P Q f each (x ∷ xs) all = all_append Q (f x) (flat_map f xs) (each x all.0) (all_flat P Q f each xs all.1)
+
+at_solid : {A : Type 0} (P : A → Type 0) (lines : ℕ → A → List LineOfWords) → ((j : ℕ) (x : A) → j < 2 ^ 32 → P x → AreSolid (lines j x))
+    → (j : ℕ) (xs : List A) → j + length xs ≤ 2 ^ 32 → AllByRecursion P xs → AreSolid (lines_at lines j xs)
+at_solid P lines each j [] few all = tt
+at_solid P lines each j (x ∷ xs) few all =
+    all_append IsSolidLine (lines j x) (lines_at lines (j + 1) xs) (each j x (omega arith) all.0) (at_solid P lines each (j + 1) xs (omega arith) all.1)
 
 word_solid : (n : ℕ) → n < 2 ^ 32 → Solid (decimal n)
 word_solid n small = decimal_solid n (omega arith)
@@ -79,19 +85,16 @@ value_solid N n j name (signed_for i f) small few place one fits = (
   tt,
 )
 
-values_solid : (N n j : ℕ) (name : List ℕ) (vs : List KnownValue) → n ≤ 2 ^ 32 → N ≤ 2 ^ 32 → j + length vs ≤ 2 ^ 32 → Solid name
-    → AllByRecursion (FitsValue N n) vs → AreSolid (value_lines name j vs)
-values_solid N n j name [] small few place one all = tt
-values_solid N n j name (v ∷ vs) small few place one all =
-    all_append IsSolidLine (value_line name j (value_text v)) (value_lines name (j + 1) vs) (value_solid N n j name v small few (omega arith) one all.0)
-    (values_solid N n (j + 1) name vs small few (omega arith) one all.1)
+values_solid : (N n : ℕ) (name : List ℕ) (vs : List KnownValue) → n ≤ 2 ^ 32 → N ≤ 2 ^ 32 → length vs ≤ 2 ^ 32 → Solid name
+    → AllByRecursion (FitsValue N n) vs → AreSolid (value_lines name 0 vs)
+values_solid N n name vs small few place one all = at_solid (FitsValue N n) (λ j v. value_line name j (value_text v))
+    (λ j v below fits. value_solid N n j name v small few below one fits) 0 vs (omega arith) all
 
-shares_solid : (n j : ℕ) (ss : List Share) → n ≤ 2 ^ 32 → j + length ss ≤ 2 ^ 32 → AllByRecursion (FitsShare n) ss → AreSolid (share_lines j ss)
-shares_solid n j [] small place all = tt
-shares_solid n j (s ∷ ss) small place all = (
+share_solid : (n j : ℕ) (s : Share) → n ≤ 2 ^ 32 → j < 2 ^ 32 → FitsShare n s → AreSolid (share_line j s ∷ [])
+share_solid n j s small place fits = (
   line_solid (codes "share") (decimal j ∷ form_text s.own ∷ form_text s.owned ∷ []) (solid_by_test (codes "share") refl)
-      (word_solid j (omega arith), (form_solid n s.own small all.0.own, (form_solid n s.owned small all.0.owned, tt))),
-  shares_solid n (j + 1) ss small (omega arith) all.1,
+      (word_solid j place, (form_solid n s.own small fits.own, (form_solid n s.owned small fits.owned, tt))),
+  tt,
 )
 
 arrows_solid : (n : ℕ) (arrows : List Arrow) → n + 1 ≤ 2 ^ 32 → AllByRecursion (FitsArrow n) arrows → AreSolid (tree_lines (arrow_lines arrows))
@@ -118,26 +121,25 @@ cases_solid n (split j v low high) small fits = (
   tree_append low high (cases_solid n low small fits.2) (cases_solid n high small fits.3),
 )
 
-slots_solid : (k i p : ℕ) (slots : Filled) → k ≤ 16 → i < 2 ^ 32 → p + length slots ≤ 2 ^ 32 → AllByRecursion (AllByRecursion (λ field. field < k)) slots
-    → AreSolid (slot_lines i p slots)
-slots_solid k i p [] few place small all = tt
-slots_solid k i p ([] ∷ slots) few place small all = slots_solid k i (p + 1) slots few place (omega arith) all.1
-slots_solid k i p ((f ∷ fields) ∷ slots) few place small all = (
+slot_solid : (k i p : ℕ) (fields : List ℕ) → k ≤ 16 → i < 2 ^ 32 → p < 2 ^ 32 → AllByRecursion (λ field. field < k) fields → AreSolid (slot_line i p fields)
+slot_solid k i p [] few place small all = tt
+slot_solid k i p (f ∷ fields) few place small all = (
   line_solid (codes "filled") (decimal i ∷ decimal p ∷ map decimal (f ∷ fields)) (solid_by_test (codes "filled") refl) (
     word_solid i place,
-    (
-      word_solid p (omega arith),
-      all_map (λ field. field < k) Solid decimal (λ field below. word_solid field (omega (arith, below))) (f ∷ fields) all.0,
-    ),
+    (word_solid p small, all_map (λ field. field < k) Solid decimal (λ field below. word_solid field (omega (arith, below))) (f ∷ fields) all),
   ),
-  slots_solid k i (p + 1) slots few place (omega arith) all.1,
+  tt,
 )
 
 filled_solid : (queues : List OpenedQueue) (i : ℕ) (filled : List Filled) → AreFew queues → i + length filled ≤ 2 ^ 32 → FitsFilled queues i filled
     → AreSolid (filled_lines i filled)
 filled_solid queues i [] few place fits = tt
-filled_solid queues i (slots ∷ filled) few place fits = all_append IsSolidLine (slot_lines i 0 slots) (filled_lines (i + 1) filled)
-    (slots_solid (length (get_or queues i no_queue).fields) i 0 slots (few.fields i) (omega arith) (omega (arith, fits.0.few)) fits.0.fields)
+filled_solid queues i (slots ∷ filled) few place fits =
+    let k = length (get_or queues i no_queue).fields in
+    let small : i < 2 ^ 32 = omega arith in
+    all_append IsSolidLine (slot_lines i 0 slots) (filled_lines (i + 1) filled)
+    (at_solid (AllByRecursion (λ field. field < k)) (slot_line i) (λ p x below all. slot_solid k i p x (few.fields i) small below all) 0 slots
+    (omega (arith, fits.0.few)) fits.0.fields)
     (filled_solid queues (i + 1) filled few (omega arith) fits.1)
 
 state_solid : (queues : List OpenedQueue) (T words : ℕ) (s : ListedState) → AreFew queues → T ≤ 16 → words ≤ 64 → FitsState queues T words s
@@ -149,11 +151,12 @@ state_solid queues T words s few few_tagged few_words fits =
     let small : n + 1 ≤ 2 ^ 32 = omega (arith, fits.variables) in
     let most = if_solid (codes "most") (map range_text s.known.ranges) (solid_by_test (codes "most") refl)
     (all_map FitsRange Solid range_text range_solid s.known.ranges fits.ranges) in
-    let registers = values_solid N n 0 (codes "reg") s.known.registers (omega arith) few_queues (omega (arith, fits.all_registers))
+    let registers = values_solid N n (codes "reg") s.known.registers (omega arith) few_queues (omega (arith, fits.all_registers))
     (solid_by_test (codes "reg") refl) fits.registers in
-    let own = values_solid N n 0 (codes "word") s.known.words (omega arith) few_queues (omega (arith, fits.all_words))
+    let own = values_solid N n (codes "word") s.known.words (omega arith) few_queues (omega (arith, fits.all_words))
     (solid_by_test (codes "word") refl) fits.words in
-    let shares = shares_solid n 0 s.known.shares (omega arith) (omega (arith, fits.all_shares, few.queues)) fits.shares in
+    let shares = at_solid (FitsShare n) (λ j share. share_line j share ∷ []) (λ j share below fits_share. share_solid n j share (omega arith) below fits_share)
+    0 s.known.shares (omega (arith, fits.all_shares, few.queues)) fits.shares in
     let filled = filled_solid queues 0 s.filled few (omega (arith, fits.few_filled, few.queues)) fits.filled in (
       line_solid (codes "state") (decimal s.known.pc ∷ []) (solid_by_test (codes "state") refl) (word_solid s.known.pc fits.pc, tt),
       all_append IsSolidLine (described_lines s) (tree_lines (case_lines s.cases))
@@ -179,29 +182,16 @@ part_solid queues T p few few_tagged fits =
     (all_flat (FitsState queues T (length p.own)) IsSolidLine state_lines
     (λ s fits_s. state_solid queues T (length p.own) s few few_tagged fits.few_words fits_s) p.states fits.states)
 
-counts_of_queue : (o : OpenedQueue) → FitsQueue o → AllByRecursion FitsCount (numbers_of o)
-counts_of_queue o fits =
-    let w = fits.places in
-    let s = fits.slots in (
-      omega (arith, w.0),
-      (
-        omega (arith, w.1.0),
-        (
-          omega (arith, w.1.1.0),
-          (
-            omega (arith, w.1.1.1.0),
-            (
-              omega (arith, w.1.1.1.1.0),
-              (omega (arith, s.0), (omega (arith, s.1.0), (omega (arith, s.1.1.0), (omega (arith, s.1.1.1.0), (omega (arith, s.1.1.1.1.0), fits.counts))))),
-            ),
-          ),
-        ),
-      ),
-    )
-
 queue_solid : (o : OpenedQueue) → FitsQueue o → IsSolidLine (queue_line o)
-queue_solid o fits = line_solid (codes "queue") (map decimal (numbers_of o)) (solid_by_test (codes "queue") refl)
-    (all_map FitsCount Solid decimal count_solid (numbers_of o) (counts_of_queue o fits))
+queue_solid o fits =
+    let q = o.queue in
+    let places = q.sender ∷ q.receiver ∷ q.head ∷ q.tail ∷ q.index_width ∷ [] in
+    let slots = q.slots ∷ q.size ∷ q.width ∷ q.capacity ∷ q.base ∷ [] in
+    let counts = q.scale ∷ q.offset ∷ q.modulus ∷ o.start ∷ [] in
+    line_solid (codes "queue") (map decimal (numbers_of o)) (solid_by_test (codes "queue") refl)
+    (all_append Solid (map decimal places) (map decimal slots ++ map decimal counts) (all_map FitsWord Solid decimal word_solid places fits.places)
+    (all_append Solid (map decimal slots) (map decimal counts) (all_map FitsWord Solid decimal word_solid slots fits.slots)
+    (all_map FitsCount Solid decimal count_solid counts fits.counts)))
 
 field_solid : (f : Field) → FitsField f → IsSolidLine (field_line f)
 field_solid f fits = line_solid (codes "field") (map decimal (field_numbers f)) (solid_by_test (codes "field") refl) (
@@ -219,18 +209,13 @@ codec_solid codec.Number = solid_by_test (codes "number") refl
 tagged_solid : (o : OpenedTagged) → FitsTagged o → IsSolidLine (tagged_line o)
 tagged_solid o fits =
     let q = o.queue in
-    let slots = all_map FitsWord Solid decimal word_solid (q.sender ∷ q.receiver ∷ q.slots ∷ q.size ∷ q.width ∷ []) fits.slots in
-    let tag = all_map FitsWord Solid decimal word_solid (q.tag_offset ∷ q.tag_width ∷ []) fits.tag in
-    line_solid (codes "tagged") (map decimal (tagged_numbers q) ++ codec_text q.codec ∷ decimal o.start ∷ []) (solid_by_test (codes "tagged") refl) (
-      slots.0,
-      (
-        slots.1.0,
-        (
-          slots.1.1.0,
-          (slots.1.1.1.0, (slots.1.1.1.1.0, (tag.0, (tag.1.0, (codec_solid q.codec, (count_solid o.start fits.start, tt)))))),
-        ),
-      ),
-    )
+    let slots = q.sender ∷ q.receiver ∷ q.slots ∷ q.size ∷ q.width ∷ [] in
+    let tag = q.tag_offset ∷ q.tag_width ∷ [] in
+    let telling = codec_text q.codec ∷ decimal o.start ∷ [] in
+    line_solid (codes "tagged") (tagged_line o).1 (solid_by_test (codes "tagged") refl)
+    (all_append Solid (map decimal slots) (map decimal tag ++ telling) (all_map FitsWord Solid decimal word_solid slots fits.slots)
+    (all_append Solid (map decimal tag) telling (all_map FitsWord Solid decimal word_solid tag fits.tag)
+    (codec_solid q.codec, (count_solid o.start fits.start, tt))))
 
 pub certificate_solid : (c : QueueCertificate) → CanBeWritten c → AreSolid (certificate_lines c)
 certificate_solid c fits =

@@ -1,5 +1,5 @@
 -- Cases of a state, as a text has them: each split before what its two sides have, the low one first, and after a leaf where it leads.
-use Rattle.std.specs.Prelude.{List, [], ◌∷◌, ◌++◌}
+use Rattle.std.specs.Prelude.{List, [], ◌∷◌, ◌++◌, map}
 use Rattle.queue_certificates.specs.Cases.{Arrow, Cases, leaf, split}
 use Rattle.queue_checker.specs.Codes.{joined_by, first_tree}
 use Rattle.certificate_reader.specs.declared.cases.Node.{Node}
@@ -30,8 +30,7 @@ cases_of nodes = first_tree (grown_onto nothing_grown nodes).trees
 -- ---- the lines of a tree
 
 abbrev pub arrow_lines : List Arrow → List Node
-arrow_lines [] = []
-arrow_lines (arrow ∷ arrows) = To arrow ∷ arrow_lines arrows
+arrow_lines arrows = map To arrows
 
 abbrev pub case_lines : Cases → List Node
 case_lines (leaf d arrows) = Leaf d ∷ arrow_lines arrows

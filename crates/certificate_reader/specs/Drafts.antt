@@ -21,7 +21,7 @@ use Rattle.certificate_reader.specs.declared.stages.Stage.TheVariants as stage
 use Rattle.certificate_reader.specs.declared.stages.TheConstants.{MAX_SPLITS}
 use Rattle.certificate_reader.specs.declared.limits.TheConstants.{MAX_QUEUES, MAX_HARTS, MAX_WORDS, MAX_VARIABLES, MAX_STATES}
 use Rattle.certificate_reader.specs.Faults.{or_bad_line}
-use Rattle.certificate_reader.specs.Numbers.{first_word_in, first_count_in, ended, five_at, four_counts, only_word}
+use Rattle.certificate_reader.specs.Numbers.{first_in, first_word_in, first_count_in, ended, five_at, four_counts, only_word}
 use Rattle.certificate_reader.specs.FormTexts.{form_of, known_value_in}
 use Rattle.certificate_reader.specs.Lists.{few, one_more, words_in, counts_in, ranges_in, forms_in}
 use Rattle.certificate_reader.specs.Fields.{with_field, with_filled}
@@ -213,10 +213,7 @@ with_value least N n values words = do
 
 -- the form that the first word says, and the words after it
 abbrev pub form_at : (n : ℕ) → List (List ℕ) → Result (Form × List (List ℕ)) CertificateFault
-form_at n [] = Err BadLine
-form_at n (word ∷ others) = do
-  form ← form_of n word
-  Ok (form, others)
+form_at n words = first_in (form_of n) words
 
 unfoldable pub share_of : (n : ℕ) → List (List ℕ) → Result Share CertificateFault
 share_of n words = do

@@ -18,19 +18,20 @@ count_of digits = option_or (word_of digits) (round_of digits)
 
 -- ---- the words of a line, in turn
 
--- the number below 2 ^ 32 that the first word says, and the words after it
-unfoldable pub first_word_in : List (List ℕ) → Result (ℕ × List (List ℕ)) CertificateFault
-first_word_in [] = Err BadLine
-first_word_in (digits ∷ others) = do
-  number ← or_bad_line (word_of digits)
-  Ok (number, others)
+-- what the first word says, and the words after it
+abbrev pub first_in : {A : Type 0} → (List ℕ → Result A CertificateFault) → List (List ℕ) → Result (A × List (List ℕ)) CertificateFault
+first_in read [] = Err BadLine
+first_in read (word ∷ others) = do
+  said ← read word
+  Ok (said, others)
 
--- the same of a count
+-- the same of a number below 2 ^ 32
+unfoldable pub first_word_in : List (List ℕ) → Result (ℕ × List (List ℕ)) CertificateFault
+first_word_in words = first_in (λ digits. or_bad_line (word_of digits)) words
+
+-- and of a count
 unfoldable pub first_count_in : List (List ℕ) → Result (ℕ × List (List ℕ)) CertificateFault
-first_count_in [] = Err BadLine
-first_count_in (digits ∷ others) = do
-  number ← or_bad_line (count_of digits)
-  Ok (number, others)
+first_count_in words = first_in (λ digits. or_bad_line (count_of digits)) words
 
 -- no word is left
 abbrev pub ended : List (List ℕ) → Result Unit CertificateFault

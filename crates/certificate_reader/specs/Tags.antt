@@ -1,15 +1,15 @@
 -- The queues with tags of a certificate, as lines say them.
-use Rattle.std.specs.Prelude.{ℕ, nat_lt, List, [], ◌∷◌, Option, Some, None, Result, Ok, Err, if◌then◌else◌, codes}
+use Rattle.std.specs.Prelude.{ℕ, nat_lt, List, Option, Some, None, Result, Ok, Err, if◌then◌else◌, codes}
 use Rattle.std.specs.Str.{bytes_eq}
 use Rattle.texts.specs.Results.{◌>>=◌}
 use Rattle.queue_layouts.specs.declared.tagged.Codec.{Codec}
 use Rattle.queue_layouts.specs.declared.tagged.Codec.TheVariants as codec
 use Rattle.queue_layouts.specs.declared.tagged.OpenedTagged.{OpenedTagged}
 use Rattle.certificate_reader.specs.declared.faults.CertificateFault.{CertificateFault}
-use Rattle.certificate_reader.specs.declared.faults.CertificateFault.TheVariants.{BadLine, TooMany}
+use Rattle.certificate_reader.specs.declared.faults.CertificateFault.TheVariants.{TooMany}
 use Rattle.certificate_reader.specs.declared.limits.TheConstants.{MAX_TAGGED, MAX_SLOTS}
 use Rattle.certificate_reader.specs.Faults.{or_bad_line}
-use Rattle.certificate_reader.specs.Numbers.{first_word_in, first_count_in, ended, five_at}
+use Rattle.certificate_reader.specs.Numbers.{first_in, first_word_in, first_count_in, ended, five_at}
 use Rattle.certificate_reader.specs.Lists.{one_more}
 
 -- how a tag tells
@@ -20,10 +20,7 @@ codec_of word =
 
 -- the same as the first word says it, and the words after it
 unfoldable pub first_codec_in : List (List ℕ) → Result (Codec × List (List ℕ)) CertificateFault
-first_codec_in [] = Err BadLine
-first_codec_in (word ∷ others) = do
-  tells ← or_bad_line (codec_of word)
-  Ok (tells, others)
+first_codec_in words = first_in (λ word. or_bad_line (codec_of word)) words
 
 -- sender, receiver, slots, size, width; where in a slot its tag begins, the bytes of that, and how it tells; and the position with
 -- which the queue opens

@@ -10,7 +10,6 @@ use Rattle.queue_certificates.specs.Certificates.{OpenedQueue, ListedState, Hart
 use Rattle.queue_certificates.specs.Filled.{Filled}
 use Rattle.queue_layouts.specs.declared.tagged.Codec.{Codec}
 use Rattle.queue_layouts.specs.declared.tagged.Codec.TheVariants as codec
-use Rattle.queue_layouts.specs.declared.tagged.TaggedQueue.{TaggedQueue}
 use Rattle.queue_layouts.specs.declared.tagged.OpenedTagged.{OpenedTagged}
 use Rattle.certificate_reader.specs.declared.cases.Node.{Node}
 use Rattle.certificate_reader.specs.declared.cases.Node.TheVariants as node
@@ -22,19 +21,21 @@ use Rattle.certificate_reader.specs.CaseTexts.{case_lines}
 abbrev pub LineOfWords : Type 0
 LineOfWords = List ℕ × List (List ℕ)
 
--- what is made of each element, after a space (32)
-abbrev pub spaced : {A : Type 0} → (A → List ℕ) → List A → List ℕ
-spaced word xs = flat_map (λ x. 32 ∷ word x) xs
-
-abbrev pub itself : List ℕ → List ℕ
-itself word = word
+-- words, each after a space (32)
+abbrev pub spaced : List (List ℕ) → List ℕ
+spaced words = flat_map (λ word. 32 ∷ word) words
 
 -- what stands in front of each line, the line and LF (10)
 abbrev pub line_text : (front : List ℕ) → LineOfWords → List ℕ
-line_text front line = front ++ line.0 ++ spaced itself line.1 ++ 10 ∷ []
+line_text front line = front ++ line.0 ++ spaced line.1 ++ 10 ∷ []
 
 abbrev pub lines_text : (front : List ℕ) → List LineOfWords → List ℕ
 lines_text front lines = flat_map (line_text front) lines
+
+-- the lines of elements by their places, from this one on
+abbrev pub lines_at : {A : Type 0} → ((place : ℕ) → A → List LineOfWords) → (place : ℕ) → List A → List LineOfWords
+lines_at lines place [] = []
+lines_at lines place (x ∷ xs) = lines place x ++ lines_at lines (place + 1) xs
 
 -- ---- forms: parts with a `+` (43) between them
 
@@ -83,17 +84,14 @@ abbrev pub value_line : (name : List ℕ) (place : ℕ) → Option (List ℕ) �
 value_line name place None = []
 value_line name place (Some text) = (name, decimal place ∷ text ∷ []) ∷ []
 
--- values of the places from this one on
 abbrev pub value_lines : (name : List ℕ) (place : ℕ) → List KnownValue → List LineOfWords
-value_lines name place [] = []
-value_lines name place (value ∷ values) = value_line name place (value_text value) ++ value_lines name (place + 1) values
+value_lines name place values = lines_at (λ j value. value_line name j (value_text value)) place values
 
 abbrev pub share_line : (place : ℕ) → Share → LineOfWords
 share_line place share = (codes "share", decimal place ∷ form_text share.own ∷ form_text share.owned ∷ [])
 
 abbrev pub share_lines : (place : ℕ) → List Share → List LineOfWords
-share_lines place [] = []
-share_lines place (share ∷ shares) = share_line place share ∷ share_lines (place + 1) shares
+share_lines place shares = lines_at (λ j share. share_line j share ∷ []) place shares
 
 abbrev pub range_text : Option ℕ → List ℕ
 range_text None = codes "-"
@@ -115,12 +113,10 @@ slot_line i d [] = []
 slot_line i d (field ∷ fields) = (codes "filled", decimal i ∷ decimal d ∷ map decimal (field ∷ fields)) ∷ []
 
 abbrev pub slot_lines : (i d : ℕ) → Filled → List LineOfWords
-slot_lines i d [] = []
-slot_lines i d (slot ∷ slots) = slot_line i d slot ++ slot_lines i (d + 1) slots
+slot_lines i d slots = lines_at (slot_line i) d slots
 
 abbrev pub filled_lines : (i : ℕ) → List Filled → List LineOfWords
-filled_lines i [] = []
-filled_lines i (slots ∷ filled) = slot_lines i 0 slots ++ filled_lines (i + 1) filled
+filled_lines i filled = lines_at (λ j slots. slot_lines j 0 slots) i filled
 
 -- the lines of a state except its pc and its cases
 abbrev pub described_lines : ListedState → List LineOfWords
@@ -166,12 +162,14 @@ abbrev pub codec_text : Codec → List ℕ
 codec_text codec.Zero = codes "zero"
 codec_text codec.Number = codes "number"
 
--- the numbers of a queue with tags before that
-abbrev pub tagged_numbers : TaggedQueue → List ℕ
-tagged_numbers q = q.sender ∷ q.receiver ∷ q.slots ∷ q.size ∷ q.width ∷ q.tag_offset ∷ q.tag_width ∷ []
+-- numbers, how tags tell, and the position with which the queue opens
+abbrev pub telling_line : List ℕ → Codec → (start : ℕ) → LineOfWords
+telling_line numbers tells start = (codes "tagged", map decimal numbers ++ codec_text tells ∷ decimal start ∷ [])
 
 abbrev pub tagged_line : OpenedTagged → LineOfWords
-tagged_line o = (codes "tagged", map decimal (tagged_numbers o.queue) ++ codec_text o.queue.codec ∷ decimal o.start ∷ [])
+tagged_line o =
+    let q = o.queue in
+    telling_line (q.sender ∷ q.receiver ∷ q.slots ∷ q.size ∷ q.width ∷ q.tag_offset ∷ q.tag_width ∷ []) q.codec o.start
 
 -- ---- all of it
 

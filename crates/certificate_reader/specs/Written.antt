@@ -50,6 +50,11 @@ abbrev pub FitsCases : (n : ℕ) → Cases → Type 0
 FitsCases n (leaf handed arrows) = FitsForm n handed × AllByRecursion (FitsArrow n) arrows
 FitsCases n (split j v low high) = (j < n) × FitsCount v × FitsCases n low × FitsCases n high
 
+-- P holds of each element by its place, from this one on
+abbrev pub AllAt : {A : Type 0} → ((place : ℕ) → A → Type 0) → (place : ℕ) → List A → Type 0
+AllAt P place [] = Unit {0}
+AllAt P place (x ∷ xs) = P place x × AllAt P (place + 1) xs
+
 -- the last of the lists, if there is one, isn't empty: a text says nothing of one that is empty
 abbrev pub EndsFull : {A : Type 0} → List (List A) → Type 0
 EndsFull [] = Unit {0}
@@ -64,8 +69,7 @@ pub record FitsSlots (k : ℕ) (slots : Filled) : Type 0 where
 
 -- of the queues from i on
 abbrev pub FitsFilled : List OpenedQueue → (i : ℕ) → List Filled → Type 0
-FitsFilled queues i [] = Unit {0}
-FitsFilled queues i (slots ∷ filled) = FitsSlots (length (get_or queues i no_queue).fields) slots × FitsFilled queues (i + 1) filled
+FitsFilled queues i filled = AllAt (λ j slots. FitsSlots (length (get_or queues j no_queue).fields) slots) i filled
 
 -- of a hart with `own` own words: a value or none of each register and own word, a share or none of each queue, of those with indices and
 -- of the T with tags, and the fields that are right without an empty list at an end

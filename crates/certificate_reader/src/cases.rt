@@ -5,6 +5,7 @@ ghost use Rattle.queue_checker.specs.Codes.{joined_by, first_tree};
 ghost use Rattle.certificate_reader.specs.CaseTexts.{with_node, grown_onto, cases_of};
 
 use known_values::Form;
+use known_values::forms::number;
 use queue_checker::{Arrow, CaseNode, Cases};
 use std::alloc::{AllocError, Global};
 use std::mem;
@@ -28,7 +29,6 @@ pub struct Growth {
 }
 
 /// Makes one tree of the last two.
-#[tactic(auto, using(crate::proofs::Growing::joined_last, crate::proofs::Growing::joined_one, crate::proofs::Growing::joined_none, crate::proofs::Growing::reverse_pushed))]
 fn join(alloc: Global, trees: &mut Vec<Cases>, variable: u32, most: u64) -> Result<(), AllocError>
     ensures { IfOk result (λ x. reverse trees.new.items ≡ joined_by variable most (reverse trees.old.items)) }
 {
@@ -50,7 +50,6 @@ impl Growth {
     ghost use Rattle.certificate_reader.specs.Growths.{grown_value};
 
     /// Takes the line before those that it has.
-    #[tactic(auto, using(crate::proofs::Growing::reverse_pushed))]
     fn add(&mut self, alloc: Global, node: Node) -> Result<(), AllocError>
         ensures { IfOk result (λ x. grown_value self.new ≡ with_node node (grown_value self.old)) }
     {
@@ -75,9 +74,9 @@ impl Growth {
     }
 
     /// Takes all lines, the last one first.
-    #[tactic(auto, using(crate::proofs::Growing::reverse_pushed), unfolding(crate::specs::CaseTexts::grown_onto))]
-    fn add_all(&mut self, alloc: Global, nodes: &mut Vec<Node>) -> Result<(), AllocError>
-        ensures { IfOk result (λ x. grown_value self.new ≡ grown_onto (grown_value self.old) (reverse nodes.old.items)) }
+    #[tactic(auto, unfolding(crate::specs::CaseTexts::grown_onto))]
+    fn add_all(&mut self, alloc: Global, mut nodes: Vec<Node>) -> Result<(), AllocError>
+        ensures { IfOk result (λ x. grown_value self.new ≡ grown_onto (grown_value self.old) (reverse nodes.items)) }
     {
         while let Some(node) = nodes.pop() {
             self.add(alloc, node)?;
@@ -86,28 +85,21 @@ impl Growth {
     }
 
     /// The first tree.
-    #[tactic(auto, using(crate::proofs::Growing::reverse_pushed))]
-    fn first(&mut self, alloc: Global) -> Cases
-        ensures { result ≡ first_tree (grown_value self.old).trees }
+    fn first(mut self, alloc: Global) -> Cases
+        ensures { result ≡ first_tree (grown_value self).trees }
     {
         match self.trees.pop() {
             Some(tree) => tree,
             None => Cases {
-                node: CaseNode::Leaf(
-                    Form {
-                        constant: 0,
-                        factors: Vec::new(alloc),
-                    },
-                    Vec::new(alloc),
-                ),
+                node: CaseNode::Leaf(number(alloc, 0), Vec::new(alloc)),
             },
         }
     }
 }
 
 /// The tree of a state's lines.
-pub fn tree(alloc: Global, nodes: &mut Vec<Node>) -> Result<Cases, AllocError>
-    ensures { IfOk result (λ cases. cases ≡ cases_of (reverse nodes.old.items)) }
+pub fn tree(alloc: Global, nodes: Vec<Node>) -> Result<Cases, AllocError>
+    ensures { IfOk result (λ cases. cases ≡ cases_of (reverse nodes.items)) }
 {
     let mut growth = Growth {
         arrows: Vec::new(alloc),

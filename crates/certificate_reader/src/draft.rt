@@ -7,22 +7,20 @@ ghost use Rattle.certificate_reader.specs.declared.stages.Keyword.TheVariants as
 ghost use Rattle.certificate_reader.specs.declared.stages.Stage.TheVariants as stage;
 ghost use Rattle.certificate_reader.specs.Drafts.{no_draft, known_of, known_taken, state_listed, state_closed, hart_listed, hart_closed};
 ghost use Rattle.certificate_reader.specs.Drafts.{with_hart, with_pc, with_state};
-ghost use Rattle.certificate_reader.specs.Drafts.{with_split, by_keyword, by_named, is_head, by_stage, by_words, after_line, unfinished};
+ghost use Rattle.certificate_reader.specs.Drafts.{with_split, by_keyword, by_named, is_head, by_stage, by_words, after_line};
 ghost use Rattle.certificate_reader.specs.Drafts.{certificate_of, finished};
 
 use crate::cases::{Node, tree};
 use crate::faults::{BAD, CertificateFault, LineError, MISPLACED, TOO_MANY};
 use crate::fields::{add_field, set_filled};
-use crate::limits::{MAX_HARTS, MAX_STATES};
-use crate::numbers::{end, only_word};
-use crate::parts::{
-    add_queue, arrow, leaf, no_shares, opening, own_words, set_share, set_value, split, unknown,
-    variables,
-};
+use crate::limits::{MAX_HARTS, MAX_STATES, MAX_VARIABLES, MAX_WORDS};
+use crate::lists::{counts, forms, ranges, words};
+use crate::numbers::{end, first_count, first_word, only_word};
+use crate::parts::{add_queue, first_form, no_shares, set_share, set_value, unknown};
 use crate::stages::{Keyword, MAX_SPLITS, Stage, keyword_of};
 use crate::tagged::add_tagged;
 use known_values::{KnownValue, OpenedQueue};
-use queue_checker::{Filled, HartPart, KnownState, ListedState, QueueCertificate, Share};
+use queue_checker::{Arrow, Filled, HartPart, KnownState, ListedState, QueueCertificate, Share};
 use queue_layouts::OpenedTagged;
 use std::alloc::{AllocError, Global};
 use std::mem;
@@ -68,15 +66,6 @@ fn is_head(first: &[u8], rest: &[u8]) -> bool
     }
 }
 
-fn unfinished(stage: Stage) -> CertificateFault
-    ensures { result ≡ unfinished stage }
-{
-    match stage {
-        Stage::Head => CertificateFault::BadHead,
-        _ => CertificateFault::Unfinished,
-    }
-}
-
 impl Draft {
     ghost use Rattle.certificate_reader.specs.DraftValues.{draft_value};
 
@@ -119,12 +108,11 @@ impl Draft {
     }
 
     /// Lists the state at hand.
-    #[tactic(auto, using(crate::proofs::Growing::reverse_pushed))]
     fn list_state(&mut self, alloc: Global) -> Result<(), AllocError>
         ensures { IfOk result (λ x. draft_value self.new ≡ state_listed (draft_value self.old)) }
     {
-        let mut nodes = mem::replace(&mut self.nodes, Vec::new(alloc));
-        let cases = tree(alloc, &mut nodes)?;
+        let nodes = mem::replace(&mut self.nodes, Vec::new(alloc));
+        let cases = tree(alloc, nodes)?;
         let known = self.take_known(alloc);
         let filled = mem::replace(&mut self.filled, Vec::new(alloc));
         self.states.push(ListedState {
@@ -148,7 +136,6 @@ impl Draft {
     }
 
     /// Lists the part of the hart at hand.
-    #[tactic(auto, using(crate::proofs::Growing::reverse_pushed))]
     fn list_hart(&mut self, alloc: Global) -> Result<(), AllocError>
         ensures { IfOk result (λ x. draft_value self.new ≡ hart_listed (draft_value self.old)) }
     {
@@ -217,23 +204,34 @@ impl Draft {
         Ok(())
     }
 
-    #[tactic(auto, using(crate::proofs::Growing::reverse_pushed), unfolding(crate::specs::Drafts::with_split))]
+    #[tactic(auto, unfolding(crate::specs::Drafts::with_split, crate::specs::Drafts::split_of))]
     fn add_split(&mut self, rest: &[u8]) -> Result<(), LineError>
         ensures { GivesUpToMemory refusal_of (λ x. draft_value self.new) result (with_split (draft_value self.old) (tokens rest.now)) }
     {
-        let node = split(self.ranges.len(), rest)?;
+        let (variable, rest) = first_word(rest)?;
+        let (most, rest) = first_count(rest)?;
+        end(rest)?;
+        if variable as usize >= self.ranges.len() {
+            return Err(BAD);
+        }
         if self.splits >= MAX_SPLITS {
             return Err(TOO_MANY);
         }
-        self.nodes.push(node)?;
+        self.nodes.push(Node::Split(variable, most))?;
         self.splits += 1;
         Ok(())
     }
 
+    /// The state in which the hart opens, and the numbers of its variables.
+    #[tactic(auto, unfolding(crate::specs::Drafts::hart_opening))]
     fn set_opening(&mut self, alloc: Global, rest: &[u8]) -> Result<(), LineError>
         ensures { GivesUpToMemory refusal_of (λ x. draft_value self.new) result (by_keyword (draft_value self.old) keyword.Open (tokens rest.now)) }
     {
-        let (first, numbers) = opening(alloc, rest)?;
+        let (first, rest) = first_word(rest)?;
+        let numbers = counts(alloc, rest)?;
+        if numbers.len() > MAX_VARIABLES {
+            return Err(TOO_MANY);
+        }
         self.first = first;
         self.numbers = numbers;
         Ok(())
@@ -255,35 +253,50 @@ impl Draft {
         set_value(alloc, 0, queues, count, &mut self.words, rest)
     }
 
-    #[tactic(auto, using(crate::proofs::Growing::reverse_pushed))]
+    #[tactic(auto, unfolding(crate::specs::Drafts::leaf_of))]
     fn add_leaf(&mut self, alloc: Global, rest: &[u8]) -> Result<(), LineError>
         ensures { GivesUpToMemory refusal_of (λ x. draft_value self.new) result (by_keyword (draft_value self.old) keyword.Leaf (tokens rest.now)) }
     {
-        let node = leaf(alloc, self.ranges.len(), rest)?;
-        self.nodes.push(node)?;
+        let (handed, rest) = first_form(alloc, self.ranges.len(), rest)?;
+        end(rest)?;
+        self.nodes.push(Node::Leaf(handed))?;
         Ok(())
     }
 
-    #[tactic(auto, using(crate::proofs::Growing::reverse_pushed))]
+    #[tactic(auto, unfolding(crate::specs::Drafts::arrow_of))]
     fn add_arrow(&mut self, alloc: Global, rest: &[u8]) -> Result<(), LineError>
         ensures { GivesUpToMemory refusal_of (λ x. draft_value self.new) result (by_keyword (draft_value self.old) keyword.To (tokens rest.now)) }
     {
-        let node = arrow(alloc, self.ranges.len(), rest)?;
-        self.nodes.push(node)?;
+        let (to, rest) = first_word(rest)?;
+        let forms = forms(alloc, self.ranges.len() + 1, rest)?;
+        if forms.len() > MAX_VARIABLES {
+            return Err(TOO_MANY);
+        }
+        self.nodes.push(Node::To(Arrow { to, forms }))?;
         Ok(())
     }
 
+    #[tactic(auto, unfolding(crate::specs::Drafts::own_of))]
     fn set_own(&mut self, alloc: Global, rest: &[u8]) -> Result<(), LineError>
         ensures { GivesUpToMemory refusal_of (λ x. draft_value self.new) result (by_keyword (draft_value self.old) keyword.Own (tokens rest.now)) }
     {
-        self.own = own_words(alloc, rest)?;
+        let own = words(alloc, rest)?;
+        if own.len() > MAX_WORDS {
+            return Err(TOO_MANY);
+        }
+        self.own = own;
         Ok(())
     }
 
+    #[tactic(auto, unfolding(crate::specs::Drafts::ranges_of))]
     fn set_ranges(&mut self, alloc: Global, rest: &[u8]) -> Result<(), LineError>
         ensures { GivesUpToMemory refusal_of (λ x. draft_value self.new) result (by_keyword (draft_value self.old) keyword.Most (tokens rest.now)) }
     {
-        self.ranges = variables(alloc, rest)?;
+        let ranges = ranges(alloc, rest)?;
+        if ranges.len() > MAX_VARIABLES {
+            return Err(TOO_MANY);
+        }
+        self.ranges = ranges;
         Ok(())
     }
 
@@ -360,26 +373,26 @@ impl Draft {
         }
     }
 
-    fn take_certificate(&mut self, alloc: Global) -> QueueCertificate
-        ensures { result ≡ certificate_of (draft_value self.old) }
+    fn into_certificate(self) -> QueueCertificate
+        ensures { result ≡ certificate_of (draft_value self) }
     {
         QueueCertificate {
-            queues: mem::replace(&mut self.queues, Vec::new(alloc)),
-            tagged: mem::replace(&mut self.tagged, Vec::new(alloc)),
-            harts: mem::replace(&mut self.harts, Vec::new(alloc)),
+            queues: self.queues,
+            tagged: self.tagged,
+            harts: self.harts,
         }
     }
 
     /// The certificate, where the text may end here.
     #[tactic(auto, unfolding(crate::specs::Drafts::finished))]
-    pub fn finish(&mut self, alloc: Global) -> Result<QueueCertificate, LineError>
-        ensures { GivesUpToMemory refusal_of (λ c. c) result (finished (draft_value self.old)) }
+    pub fn finish(mut self, alloc: Global) -> Result<QueueCertificate, LineError>
+        ensures { GivesUpToMemory refusal_of (λ c. c) result (finished (draft_value self)) }
     {
         if !self.stage.may_end() {
-            return Err(LineError::Refused(unfinished(self.stage)));
+            return Err(LineError::Refused(self.stage.unfinished()));
         }
         self.close_state(alloc)?;
         self.close_hart(alloc)?;
-        Ok(self.take_certificate(alloc))
+        Ok(self.into_certificate())
     }
 }

@@ -36,7 +36,7 @@ fn field(text: &[u8]) -> Result<Field, LineError>
 }
 
 /// Adds the field that the words say to the last queue.
-#[tactic(auto, using(crate::proofs::Growing::reverse_pushed), unfolding(crate::specs::Fields::with_field))]
+#[tactic(auto, unfolding(crate::specs::Fields::with_field))]
 pub fn add_field(queues: &mut Vec<OpenedQueue>, text: &[u8]) -> Result<(), LineError>
     ensures { GivesUpToMemory refusal_of (λ x. queues.new.items) result (with_field queues.old.items (tokens text.now)) }
 {
@@ -82,7 +82,7 @@ fn fields_listed(alloc: Global, count: usize, text: &[u8]) -> Result<Vec<u64>, L
 }
 
 /// Adds slots in which no field is right until there is one at this place.
-#[tactic(auto, using(crate::proofs::Placing::reaching_there, crate::proofs::Placing::reaching_pushed))]
+#[tactic(auto, using(crate::proofs::Placing::reaching_pushed))]
 fn reach_slot(alloc: Global, slots: &mut Vec<FilledSlot>, place: usize) -> Result<(), AllocError>
     ensures longer { IfOk result (λ x. slots.new.items ≡ reaching place slots.old.items) }
     ensures reached { IfOk result (λ x. place < length slots.new.items) }
@@ -96,7 +96,7 @@ fn reach_slot(alloc: Global, slots: &mut Vec<FilledSlot>, place: usize) -> Resul
 }
 
 /// The same of queues.
-#[tactic(auto, using(crate::proofs::Placing::reaching_there, crate::proofs::Placing::reaching_pushed))]
+#[tactic(auto, using(crate::proofs::Placing::reaching_pushed))]
 fn reach_queue(alloc: Global, filled: &mut Vec<Filled>, place: usize) -> Result<(), AllocError>
     ensures longer { IfOk result (λ x. filled.new.items ≡ reaching place filled.old.items) }
     ensures reached { IfOk result (λ x. place < length filled.new.items) }
@@ -131,6 +131,7 @@ fn take_slots(alloc: Global, filled: &mut Vec<Filled>, i: usize) -> Vec<FilledSl
     mem::replace(&mut filled[i].slots, Vec::new(alloc))
 }
 
+#[tactic(auto, using(crate::proofs::Placing::puts))]
 fn put_filled(
     alloc: Global,
     filled: &mut Vec<Filled>,

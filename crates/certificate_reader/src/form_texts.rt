@@ -1,6 +1,6 @@
 //! Writing forms and values.
 
-ghost use Rattle.std.specs.Prelude.{◌≡◌, ◌++◌, ◌∷◌, [], OnOk};
+ghost use Rattle.std.specs.Prelude.{◌≡◌, ◌++◌, ◌∷◌, [], map, OnOk};
 ghost use Rattle.std.specs.String.{string_bytes};
 ghost use Rattle.std.specs.Fmt.{decimal};
 ghost use Rattle.certificate_reader.specs.Writing.{is_written, multiple_text, multiples, parts_text, spaced, form_text, range_text};
@@ -34,7 +34,6 @@ fn push_multiple(
 }
 
 /// Appends how often each variable is taken, from the first one on, after a `+` if something stands before it.
-#[tactic(auto, using(crate::proofs::WrittenParts::joined_more))]
 fn push_multiples(out: &mut String, follows: bool, factors: &[u64]) -> Result<(), AllocError>
     ensures { OnOk result (string_bytes out.new ≡ string_bytes out.old ++ parts_text follows (multiples 0 factors.now)) }
 {
@@ -66,7 +65,7 @@ pub fn push_form(out: &mut String, form: &Form) -> Result<(), AllocError>
 
 /// Appends the forms, each after a space.
 pub fn push_forms(out: &mut String, forms: &[Form]) -> Result<(), AllocError>
-    ensures { OnOk result (string_bytes out.new ≡ string_bytes out.old ++ spaced form_text forms.now) }
+    ensures { OnOk result (string_bytes out.new ≡ string_bytes out.old ++ spaced (map form_text forms.now)) }
 {
     for form in forms {
         out.push_str(" ")?;
@@ -86,7 +85,7 @@ fn push_range(out: &mut String, range: Option<u64>) -> Result<(), AllocError>
 
 /// Appends the most that each variable may be, each after a space.
 pub fn push_ranges(out: &mut String, ranges: &[Option<u64>]) -> Result<(), AllocError>
-    ensures { OnOk result (string_bytes out.new ≡ string_bytes out.old ++ spaced range_text ranges.now) }
+    ensures { OnOk result (string_bytes out.new ≡ string_bytes out.old ++ spaced (map range_text ranges.now)) }
 {
     for range in ranges {
         out.push_str(" ")?;
@@ -97,7 +96,7 @@ pub fn push_ranges(out: &mut String, ranges: &[Option<u64>]) -> Result<(), Alloc
 
 /// Appends the numbers, each after a space.
 pub fn push_numbers(out: &mut String, numbers: &[u64]) -> Result<(), AllocError>
-    ensures { OnOk result (string_bytes out.new ≡ string_bytes out.old ++ spaced decimal numbers.now) }
+    ensures { OnOk result (string_bytes out.new ≡ string_bytes out.old ++ spaced (map decimal numbers.now)) }
 {
     for number in numbers {
         out.push_str(" ")?;
@@ -108,7 +107,7 @@ pub fn push_numbers(out: &mut String, numbers: &[u64]) -> Result<(), AllocError>
 
 /// Appends the addresses, each after a space.
 pub fn push_addresses(out: &mut String, addresses: &[u32]) -> Result<(), AllocError>
-    ensures { OnOk result (string_bytes out.new ≡ string_bytes out.old ++ spaced decimal addresses.now) }
+    ensures { OnOk result (string_bytes out.new ≡ string_bytes out.old ++ spaced (map decimal addresses.now)) }
 {
     for address in addresses {
         out.push_str(" ")?;

@@ -111,13 +111,15 @@ fn push_shares(out: &mut String, front: &str, shares: &[Share]) -> Result<(), Al
 fn push_most(out: &mut String, front: &str, ranges: &[Option<u64>]) -> Result<(), AllocError>
     ensures { OnOk result (string_bytes out.new ≡ string_bytes out.old ++ lines_text front.now (line_if (codes "most") (map range_text ranges.now))) }
 {
-    if ranges.is_empty() {
-        return Ok(());
+    match ranges {
+        [] => Ok(()),
+        [_, ..] => {
+            out.push_str(front)?;
+            out.push_str("most")?;
+            push_ranges(out, ranges)?;
+            out.push_str("\n")
+        }
     }
-    out.push_str(front)?;
-    out.push_str("most")?;
-    push_ranges(out, ranges)?;
-    out.push_str("\n")
 }
 
 /// Appends the lines of what is known in a state, each after `front`.
@@ -140,13 +142,15 @@ fn push_slot(
 ) -> Result<(), AllocError>
     ensures { OnOk result (string_bytes out.new ≡ string_bytes out.old ++ lines_text front.now (slot_line queue position fields.now)) }
 {
-    if fields.is_empty() {
-        return Ok(());
+    match fields {
+        [] => Ok(()),
+        [_, ..] => {
+            push_place(out, front, "filled", queue)?;
+            push_decimal(out, position as u64)?;
+            push_numbers(out, fields)?;
+            out.push_str("\n")
+        }
     }
-    push_place(out, front, "filled", queue)?;
-    push_decimal(out, position as u64)?;
-    push_numbers(out, fields)?;
-    out.push_str("\n")
 }
 
 /// Appends the lines of a queue's slots, whose positions count from the hart's own count on.

@@ -47,10 +47,7 @@ fn range(word: &[u8]) -> Option<Option<u64>>
     if word == b"-".as_slice() {
         return Some(None);
     }
-    match count(word) {
-        Some(most) => Some(Some(most)),
-        None => None,
-    }
+    Some(Some(count(word)?))
 }
 
 /// The ranges that the words say.

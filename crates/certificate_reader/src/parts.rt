@@ -1,21 +1,18 @@
-//! What a line says of a queue, a hart, a state or a case, after its first word.
+//! What a line says of a queue or of what is known in a state, after its first word.
 
-ghost use Rattle.std.specs.Prelude.{◌≡◌, ◌<◌, ◌^◌, IfOk, replicate};
+ghost use Rattle.std.specs.Prelude.{◌≡◌, IfOk, replicate};
 ghost use Rattle.texts.specs.Results.{GivesUpToMemory, refusal_of};
 ghost use Rattle.texts.specs.Cutting.{tokens};
-ghost use Rattle.queue_certificates.specs.Forms.{number};
 ghost use Rattle.queue_certificates.specs.States.{any, no_share};
-ghost use Rattle.certificate_reader.specs.Drafts.{queue_of, with_queue, hart_opening, only_value, with_value, form_at, share_of, with_share};
-ghost use Rattle.certificate_reader.specs.Drafts.{split_of, leaf_of, arrow_of, own_of, ranges_of};
+ghost use Rattle.certificate_reader.specs.Drafts.{queue_of, with_queue, only_value, with_value, form_at, share_of, with_share};
 
-use crate::cases::Node;
 use crate::faults::{BAD, LineError, TOO_MANY};
 use crate::forms::{form, value};
-use crate::limits::{MAX_QUEUES, MAX_VARIABLES, MAX_WORDS};
-use crate::lists::{counts, forms, ranges, words};
-use crate::numbers::{end, first_count, first_five, first_word, four_counts};
+use crate::limits::MAX_QUEUES;
+use crate::numbers::{end, first_five, first_word, four_counts};
+use known_values::forms::number;
 use known_values::{Form, KnownValue, OpenedQueue, Queue};
-use queue_checker::{Arrow, Share};
+use queue_checker::Share;
 use std::alloc::{AllocError, Global};
 use texts::first_token;
 
@@ -61,43 +58,6 @@ pub fn add_queue(alloc: Global, queues: &mut Vec<OpenedQueue>, text: &[u8]) -> R
     Ok(())
 }
 
-/// The addresses of a hart's own words.
-#[tactic(auto, unfolding(crate::specs::Drafts::own_of))]
-pub fn own_words(alloc: Global, text: &[u8]) -> Result<Vec<u32>, LineError>
-    ensures { GivesUpToMemory refusal_of (λ own. own.items) result (own_of (tokens text.now)) }
-{
-    let own = words(alloc, text)?;
-    if own.len() > MAX_WORDS {
-        return Err(TOO_MANY);
-    }
-    Ok(own)
-}
-
-/// The state in which a hart opens, and the numbers of its variables.
-#[tactic(auto, unfolding(crate::specs::Drafts::hart_opening))]
-pub fn opening(alloc: Global, text: &[u8]) -> Result<(u32, Vec<u64>), LineError>
-    ensures { GivesUpToMemory refusal_of (λ opening. (opening.0, opening.1.items)) result (hart_opening (tokens text.now)) }
-{
-    let (first, rest) = first_word(text)?;
-    let numbers = counts(alloc, rest)?;
-    if numbers.len() > MAX_VARIABLES {
-        return Err(TOO_MANY);
-    }
-    Ok((first, numbers))
-}
-
-/// The ranges of a state's variables.
-#[tactic(auto, unfolding(crate::specs::Drafts::ranges_of))]
-pub fn variables(alloc: Global, text: &[u8]) -> Result<Vec<Option<u64>>, LineError>
-    ensures { GivesUpToMemory refusal_of (λ ranges. ranges.items) result (ranges_of (tokens text.now)) }
-{
-    let ranges = ranges(alloc, text)?;
-    if ranges.len() > MAX_VARIABLES {
-        return Err(TOO_MANY);
-    }
-    Ok(ranges)
-}
-
 fn only_value(
     alloc: Global,
     queues: usize,
@@ -133,7 +93,8 @@ pub fn set_value(
     Ok(())
 }
 
-fn first_form(alloc: Global, variables: usize, text: &[u8]) -> Result<(Form, &[u8]), LineError>
+/// The form that the first word says, and what follows.
+pub fn first_form(alloc: Global, variables: usize, text: &[u8]) -> Result<(Form, &[u8]), LineError>
     ensures { GivesUpToMemory refusal_of (λ cut. (cut.0, tokens cut.1.now)) result (form_at variables (tokens text.now)) }
 {
     let (word, rest) = first_token(text).ok_or(BAD)?;
@@ -171,41 +132,6 @@ pub fn set_share(
     Ok(())
 }
 
-#[tactic(auto, unfolding(crate::specs::Drafts::split_of))]
-pub fn split(variables: usize, text: &[u8]) -> Result<Node, LineError>
-    ensures { GivesUpToMemory refusal_of (λ node. node) result (split_of variables (tokens text.now)) }
-{
-    let (variable, rest) = first_word(text)?;
-    let (most, rest) = first_count(rest)?;
-    end(rest)?;
-    if variable as usize >= variables {
-        return Err(BAD);
-    }
-    Ok(Node::Split(variable, most))
-}
-
-#[tactic(auto, unfolding(crate::specs::Drafts::leaf_of))]
-pub fn leaf(alloc: Global, variables: usize, text: &[u8]) -> Result<Node, LineError>
-    ensures { GivesUpToMemory refusal_of (λ node. node) result (leaf_of variables (tokens text.now)) }
-{
-    let (handed, rest) = first_form(alloc, variables, text)?;
-    end(rest)?;
-    Ok(Node::Leaf(handed))
-}
-
-#[tactic(auto, unfolding(crate::specs::Drafts::arrow_of))]
-pub fn arrow(alloc: Global, variables: usize, text: &[u8]) -> Result<Node, LineError>
-    requires { variables < 2 ^ 63 }
-    ensures { GivesUpToMemory refusal_of (λ node. node) result (arrow_of variables (tokens text.now)) }
-{
-    let (to, rest) = first_word(text)?;
-    let forms = forms(alloc, variables + 1, rest)?;
-    if forms.len() > MAX_VARIABLES {
-        return Err(TOO_MANY);
-    }
-    Ok(Node::To(Arrow { to, forms }))
-}
-
 /// Of so many registers or words nothing is known.
 pub fn unknown(alloc: Global, count: usize) -> Result<Vec<KnownValue>, AllocError>
     ensures { IfOk result (λ values. values.items ≡ replicate count any) }
@@ -217,15 +143,6 @@ pub fn unknown(alloc: Global, count: usize) -> Result<Vec<KnownValue>, AllocErro
     Ok(values)
 }
 
-fn nothing(alloc: Global) -> Form
-    ensures { result ≡ number 0 }
-{
-    Form {
-        constant: 0,
-        factors: Vec::new(alloc),
-    }
-}
-
 /// Of so many queues the hart has no share.
 pub fn no_shares(alloc: Global, count: usize) -> Result<Vec<Share>, AllocError>
     ensures { IfOk result (λ shares. shares.items ≡ replicate count no_share) }
@@ -233,8 +150,8 @@ pub fn no_shares(alloc: Global, count: usize) -> Result<Vec<Share>, AllocError>
     let mut shares = Vec::new(alloc);
     for _ in 0..count {
         shares.push(Share {
-            own: nothing(alloc),
-            owned: nothing(alloc),
+            own: number(alloc, 0),
+            owned: number(alloc, 0),
         })?;
     }
     Ok(shares)

@@ -33,10 +33,9 @@ fn add_line(
 ) -> Result<(), CertificateError>
     ensures { GivesUpToMemory refusal_of (λ x. draft_value draft.new) result (map_err (on_line number) (after_line (draft_value draft.old) line.now)) }
 {
-    match draft.add_line(alloc, line) {
-        Ok(()) => Ok(()),
-        Err(error) => Err(at(error, number)),
-    }
+    draft
+        .add_line(alloc, line)
+        .map_err(|error| at(error, number))
 }
 
 /// Takes all lines, and returns the number of the line after them.
@@ -54,24 +53,17 @@ fn add_lines(draft: &mut Draft, alloc: Global, text: &[u8]) -> Result<usize, Cer
     Ok(number)
 }
 
-fn finish(
-    draft: &mut Draft,
-    alloc: Global,
-    number: usize,
-) -> Result<QueueCertificate, CertificateError>
-    ensures { GivesUpToMemory refusal_of (λ c. c) result (map_err (on_line number) (finished (draft_value draft.old))) }
+fn finish(draft: Draft, alloc: Global, number: usize) -> Result<QueueCertificate, CertificateError>
+    ensures { GivesUpToMemory refusal_of (λ c. c) result (map_err (on_line number) (finished (draft_value draft))) }
 {
-    match draft.finish(alloc) {
-        Ok(certificate) => Ok(certificate),
-        Err(error) => Err(at(error, number)),
-    }
+    draft.finish(alloc).map_err(|error| at(error, number))
 }
 
 #[tactic(auto, unfolding(crate::specs::Reading::certificate_from))]
-fn read(draft: &mut Draft, alloc: Global, text: &[u8]) -> Result<QueueCertificate, CertificateError>
-    ensures { GivesUpToMemory refusal_of (λ c. c) result (certificate_from (draft_value draft.old) text.now) }
+fn read(mut draft: Draft, alloc: Global, text: &[u8]) -> Result<QueueCertificate, CertificateError>
+    ensures { GivesUpToMemory refusal_of (λ c. c) result (certificate_from (draft_value draft) text.now) }
 {
-    let number = add_lines(draft, alloc, text)?;
+    let number = add_lines(&mut draft, alloc, text)?;
     finish(draft, alloc, number)
 }
 
@@ -83,6 +75,5 @@ fn read(draft: &mut Draft, alloc: Global, text: &[u8]) -> Result<QueueCertificat
 pub fn read_certificate(alloc: Global, text: &[u8]) -> Result<QueueCertificate, CertificateError>
     ensures exact { GivesUpToMemory refusal_of (λ c. c) result (certificate_at text.now) }
 {
-    let mut draft = Draft::new(alloc);
-    read(&mut draft, alloc, text)
+    read(Draft::new(alloc), alloc, text)
 }

@@ -4,6 +4,9 @@ ghost use Rattle.std.specs.Prelude.{◌≡◌};
 ghost use Rattle.certificate_reader.specs.Stages.{part_keyword, state_keyword, case_keyword, queue_keyword, keyword_named};
 ghost use Rattle.certificate_reader.specs.Stages.{is_queues, lists_queues, is_hart, is_owned, may_end};
 ghost use Rattle.certificate_reader.specs.Stages.{is_state, is_described, wanted, after_split, after_leaf, after_arrow, stage_after};
+ghost use Rattle.certificate_reader.specs.Drafts.{unfinished};
+
+use crate::faults::CertificateFault;
 
 /// The most splits that a state may have.
 pub const MAX_SPLITS: usize = 1024;
@@ -118,38 +121,26 @@ impl Stage {
     fn is_queues(self) -> bool
         ensures { result ≡ is_queues self }
     {
-        match self {
-            Stage::Queues => true,
-            _ => false,
-        }
+        matches!(self, Stage::Queues)
     }
 
     /// Whether no hart has come, and a queue with tags may come.
     fn lists_queues(self) -> bool
         ensures { result ≡ lists_queues self }
     {
-        match self {
-            Stage::Queues | Stage::Tagged => true,
-            _ => false,
-        }
+        matches!(self, Stage::Queues | Stage::Tagged)
     }
 
     fn is_hart(self) -> bool
         ensures { result ≡ is_hart self }
     {
-        match self {
-            Stage::Hart => true,
-            _ => false,
-        }
+        matches!(self, Stage::Hart)
     }
 
     fn is_owned(self) -> bool
         ensures { result ≡ is_owned self }
     {
-        match self {
-            Stage::Owned => true,
-            _ => false,
-        }
+        matches!(self, Stage::Owned)
     }
 
     /// Whether a hart's part may end here, and a state begin.
@@ -163,22 +154,26 @@ impl Stage {
         }
     }
 
+    /// The fault of a text that ends here, where it may not.
+    pub fn unfinished(self) -> CertificateFault
+        ensures { result ≡ unfinished self }
+    {
+        match self {
+            Stage::Head => CertificateFault::BadHead,
+            _ => CertificateFault::Unfinished,
+        }
+    }
+
     fn is_state(self) -> bool
         ensures { result ≡ is_state self }
     {
-        match self {
-            Stage::State => true,
-            _ => false,
-        }
+        matches!(self, Stage::State)
     }
 
     fn is_described(self) -> bool
         ensures { result ≡ is_described self }
     {
-        match self {
-            Stage::State | Stage::Known => true,
-            _ => false,
-        }
+        matches!(self, Stage::State | Stage::Known)
     }
 
     /// How many cases the state wants.

@@ -8,17 +8,25 @@ ghost use Rattle.certificate_reader.specs.CaseTexts.{arrow_lines, case_lines};
 ghost use Rattle.certificate_reader.specs.declared.cases.Node.TheVariants as node;
 ghost use Rattle.certificate_reader.specs.Reading.{certificate_at};
 ghost use Rattle.certificate_reader.specs.Written.{CanBeWritten};
-ghost use Rattle.certificate_reader.specs.Writing.{lines_text, line_if, form_text, node_line, tree_lines, state_lines, part_lines, numbers_of};
-ghost use Rattle.certificate_reader.specs.Writing.{queue_line, field_numbers, field_line, queue_lines};
-ghost use Rattle.certificate_reader.specs.Writing.{codec_text, tagged_numbers, tagged_line, certificate_text};
+ghost use Rattle.certificate_reader.specs.Writing.{lines_text, line_if, form_text, node_line, tree_lines, state_lines, part_lines};
+ghost use Rattle.certificate_reader.specs.Writing.{queue_line, field_line, queue_lines, codec_text, telling_line, tagged_line, certificate_text};
 
 use crate::form_texts::{push_addresses, push_form, push_forms, push_numbers};
 use crate::known_texts::push_described;
 use known_values::{Field, Form, OpenedQueue};
 use queue_checker::{Arrow, CaseNode, Cases, HartPart, ListedState, QueueCertificate};
-use queue_layouts::{Codec, OpenedTagged, TaggedQueue};
+use queue_layouts::{Codec, OpenedTagged};
 use std::alloc::{AllocError, Global};
 use texts::push_decimal;
+
+/// Appends the line of this name and these numbers.
+fn push_line(out: &mut String, name: &str, numbers: &[u64]) -> Result<(), AllocError>
+    ensures { OnOk result (string_bytes out.new ≡ string_bytes out.old ++ lines_text [] ((name.now, map decimal numbers.now) ∷ [])) }
+{
+    out.push_str(name)?;
+    push_numbers(out, numbers)?;
+    out.push_str("\n")
+}
 
 /// Appends the line of where a leaf leads: to this state, with these forms for its variables.
 fn push_to(out: &mut String, to: u32, forms: &[Form]) -> Result<(), AllocError>
@@ -37,10 +45,8 @@ fn push_leaf(out: &mut String, handed: &Form, arrows: &[Arrow]) -> Result<(), Al
     out.push_str("leaf ")?;
     push_form(out, handed)?;
     out.push_str("\n")?;
-    let mut rest = arrows;
-    'arrows: while let [arrow, others @ ..] = rest {
+    for arrow in arrows {
         push_to(out, arrow.to, &arrow.forms)?;
-        rest = others;
     }
     Ok(())
 }
@@ -48,11 +54,7 @@ fn push_leaf(out: &mut String, handed: &Form, arrows: &[Arrow]) -> Result<(), Al
 fn push_split(out: &mut String, variable: u32, most: u64) -> Result<(), AllocError>
     ensures { OnOk result (string_bytes out.new ≡ string_bytes out.old ++ lines_text [] (node_line (node.Split variable most) ∷ [])) }
 {
-    out.push_str("split ")?;
-    push_decimal(out, u64::from(variable))?;
-    out.push_str(" ")?;
-    push_decimal(out, most)?;
-    out.push_str("\n")
+    push_line(out, "split", &[u64::from(variable), most])
 }
 
 /// Appends the lines of a state's cases, a split before what its two sides have.
@@ -73,9 +75,7 @@ fn push_cases(out: &mut String, cases: &Cases) -> Result<(), AllocError>
 pub fn push_state(out: &mut String, state: &ListedState) -> Result<(), AllocError>
     ensures { OnOk result (string_bytes out.new ≡ string_bytes out.old ++ lines_text [] (state_lines state.now)) }
 {
-    out.push_str("state ")?;
-    push_decimal(out, u64::from(state.known.pc))?;
-    out.push_str("\n")?;
+    push_line(out, "state", &[u64::from(state.known.pc)])?;
     push_described(out, "", state)?;
     push_cases(out, &state.cases)
 }
@@ -84,12 +84,14 @@ pub fn push_state(out: &mut String, state: &ListedState) -> Result<(), AllocErro
 fn push_own(out: &mut String, own: &[u32]) -> Result<(), AllocError>
     ensures { OnOk result (string_bytes out.new ≡ string_bytes out.old ++ lines_text [] (line_if (codes "own") (map decimal own.now))) }
 {
-    if own.is_empty() {
-        return Ok(());
+    match own {
+        [] => Ok(()),
+        [_, ..] => {
+            out.push_str("own")?;
+            push_addresses(out, own)?;
+            out.push_str("\n")
+        }
     }
-    out.push_str("own")?;
-    push_addresses(out, own)?;
-    out.push_str("\n")
 }
 
 /// Appends the line of how a hart opens.
@@ -102,15 +104,6 @@ fn push_opening(out: &mut String, first: u32, numbers: &[u64]) -> Result<(), All
     out.push_str("\n")
 }
 
-fn push_states(out: &mut String, states: &[ListedState]) -> Result<(), AllocError>
-    ensures { OnOk result (string_bytes out.new ≡ string_bytes out.old ++ lines_text [] (flat_map state_lines states.now)) }
-{
-    for state in states {
-        push_state(out, state)?;
-    }
-    Ok(())
-}
-
 /// Appends a hart's part.
 fn push_part(out: &mut String, part: &HartPart) -> Result<(), AllocError>
     ensures { OnOk result (string_bytes out.new ≡ string_bytes out.old ++ lines_text [] (part_lines part.now)) }
@@ -118,7 +111,10 @@ fn push_part(out: &mut String, part: &HartPart) -> Result<(), AllocError>
     out.push_str("hart\n")?;
     push_own(out, &part.own)?;
     push_opening(out, part.first, &part.numbers)?;
-    push_states(out, &part.states)
+    for state in &part.states {
+        push_state(out, state)?;
+    }
+    Ok(())
 }
 
 fn push_parts(out: &mut String, parts: &[HartPart]) -> Result<(), AllocError>
@@ -130,12 +126,12 @@ fn push_parts(out: &mut String, parts: &[HartPart]) -> Result<(), AllocError>
     Ok(())
 }
 
-/// The numbers of a queue's line, in order.
-fn queue_numbers(opened: &OpenedQueue) -> [u64; 14]
-    ensures { result ≡ numbers_of opened.now }
+/// Appends the line of a queue without its fields.
+fn push_opened(out: &mut String, opened: &OpenedQueue) -> Result<(), AllocError>
+    ensures { OnOk result (string_bytes out.new ≡ string_bytes out.old ++ lines_text [] (queue_line opened.now ∷ [])) }
 {
     let queue = opened.queue;
-    [
+    let numbers = [
         u64::from(queue.sender),
         u64::from(queue.receiver),
         u64::from(queue.head),
@@ -150,48 +146,21 @@ fn queue_numbers(opened: &OpenedQueue) -> [u64; 14]
         queue.offset,
         queue.modulus,
         opened.start,
-    ]
-}
-
-/// Appends the line of a queue without its fields.
-fn push_opened(out: &mut String, opened: &OpenedQueue) -> Result<(), AllocError>
-    ensures { OnOk result (string_bytes out.new ≡ string_bytes out.old ++ lines_text [] (queue_line opened.now ∷ [])) }
-{
-    let numbers = queue_numbers(opened);
-    out.push_str("queue")?;
-    push_numbers(out, &numbers)?;
-    out.push_str("\n")
-}
-
-/// The numbers of a field's line, in order.
-fn field_numbers(field: Field) -> [u64; 5]
-    ensures { result ≡ field_numbers field }
-{
-    [
-        u64::from(field.at),
-        u64::from(field.width),
-        field.low,
-        field.step,
-        field.count,
-    ]
+    ];
+    push_line(out, "queue", &numbers)
 }
 
 fn push_field(out: &mut String, field: Field) -> Result<(), AllocError>
     ensures { OnOk result (string_bytes out.new ≡ string_bytes out.old ++ lines_text [] (field_line field ∷ [])) }
 {
-    let numbers = field_numbers(field);
-    out.push_str("field")?;
-    push_numbers(out, &numbers)?;
-    out.push_str("\n")
-}
-
-fn push_fields(out: &mut String, fields: &[Field]) -> Result<(), AllocError>
-    ensures { OnOk result (string_bytes out.new ≡ string_bytes out.old ++ lines_text [] (map field_line fields.now)) }
-{
-    for field in fields {
-        push_field(out, *field)?;
-    }
-    Ok(())
+    let numbers = [
+        u64::from(field.at),
+        u64::from(field.width),
+        field.low,
+        field.step,
+        field.count,
+    ];
+    push_line(out, "field", &numbers)
 }
 
 /// Appends the lines of a queue.
@@ -199,7 +168,10 @@ fn push_queue(out: &mut String, opened: &OpenedQueue) -> Result<(), AllocError>
     ensures { OnOk result (string_bytes out.new ≡ string_bytes out.old ++ lines_text [] (queue_lines opened.now)) }
 {
     push_opened(out, opened)?;
-    push_fields(out, &opened.fields)
+    for field in &opened.fields {
+        push_field(out, *field)?;
+    }
+    Ok(())
 }
 
 fn push_queues(out: &mut String, queues: &[OpenedQueue]) -> Result<(), AllocError>
@@ -220,11 +192,29 @@ fn codec_text(codec: Codec) -> &'static str
     }
 }
 
-/// The numbers of a queue with tags up to how these tell, in order.
-fn tagged_numbers(queue: TaggedQueue) -> [u64; 7]
-    ensures { result ≡ tagged_numbers queue }
+/// Appends the line of a queue with tags: these numbers, how its tags tell, and the position with which it opens.
+fn push_telling(
+    out: &mut String,
+    numbers: &[u64],
+    codec: Codec,
+    start: u64,
+) -> Result<(), AllocError>
+    ensures { OnOk result (string_bytes out.new ≡ string_bytes out.old ++ lines_text [] (telling_line numbers.now codec start ∷ [])) }
 {
-    [
+    out.push_str("tagged")?;
+    push_numbers(out, numbers)?;
+    out.push_str(" ")?;
+    out.push_str(codec_text(codec))?;
+    out.push_str(" ")?;
+    push_decimal(out, start)?;
+    out.push_str("\n")
+}
+
+fn push_tagged(out: &mut String, opened: OpenedTagged) -> Result<(), AllocError>
+    ensures { OnOk result (string_bytes out.new ≡ string_bytes out.old ++ lines_text [] (tagged_line opened ∷ [])) }
+{
+    let queue = opened.queue;
+    let numbers = [
         u64::from(queue.sender),
         u64::from(queue.receiver),
         u64::from(queue.slots),
@@ -232,28 +222,8 @@ fn tagged_numbers(queue: TaggedQueue) -> [u64; 7]
         u64::from(queue.width),
         u64::from(queue.tag_offset),
         u64::from(queue.tag_width),
-    ]
-}
-
-/// Appends how its tags tell and the position with which it opens, each after a space.
-fn push_telling(out: &mut String, codec: Codec, start: u64) -> Result<(), AllocError>
-    ensures { OnOk result (string_bytes out.new ≡ string_bytes out.old ++ (32 ∷ codec_text codec ++ 32 ∷ decimal start)) }
-{
-    out.push_str(" ")?;
-    out.push_str(codec_text(codec))?;
-    out.push_str(" ")?;
-    push_decimal(out, start)
-}
-
-/// Appends the line of a queue with tags.
-fn push_tagged(out: &mut String, opened: OpenedTagged) -> Result<(), AllocError>
-    ensures { OnOk result (string_bytes out.new ≡ string_bytes out.old ++ lines_text [] (tagged_line opened ∷ [])) }
-{
-    let numbers = tagged_numbers(opened.queue);
-    out.push_str("tagged")?;
-    push_numbers(out, &numbers)?;
-    push_telling(out, opened.queue.codec, opened.start)?;
-    out.push_str("\n")
+    ];
+    push_telling(out, &numbers, queue.codec, opened.start)
 }
 
 fn push_all_tagged(out: &mut String, tagged: &[OpenedTagged]) -> Result<(), AllocError>
