@@ -7,7 +7,12 @@ from bring_parts.queue_types import counted
 from certify_parts.queues import Queue
 from certify_parts.tags import Tagged
 
-NO_USE = re.compile(r"no instruction (loads from|stores to) a slot")
+import assembly
+from words import text as text_of_instruction
+
+NO_USE = re.compile(r"no instruction (loads from|stores to) a slot of queue ([0-9]+)")
+# the instructions of each use, and the word for one
+USES = {"loads from": ("load", assembly.LOADS), "stores to": ("store", assembly.STORES)}
 REMEDIES = {"loads from": "the compiler leaves out a load whose value nobody uses: store what was received to a volatile object, or return it",
             "stores to": "the compiler leaves out a store that nobody can read: let both functions use one global object"}
 DIVIDES = ("`%` and `/` by what is no power of two are loops here if the quotient is above 1, and of the result nothing is known: count as in "
@@ -52,10 +57,46 @@ def of_uncovered(answer, notes):
             yield COPIES
 
 
-def of_use(answer):
-    """What helps where the compiler left out what the queue is for."""
-    if shape := NO_USE.search(answer):
-        yield REMEDIES[shape[1]]
+def states_of(certificate, hart):
+    """Of a hart's part of a certificate the places in its code that have states, and whether it ever moves a count of its own."""
+    part = re.split(r"^hart$", certificate, flags=re.MULTILINE)[1 + hart]
+    return {int(pc) // 4 for pc in re.findall(r"^state ([0-9]+)", part, re.MULTILINE)}, bool(re.search(r"^leaf (?!0$)", part, re.MULTILINE))
+
+
+def nexts(code, at):
+    """The places to which an instruction of a hart's code may lead, returns and computed jumps aside."""
+    name = code[at][0]
+    to = [at + code[at][-1] // 4] if name in assembly.BRANCHES or name == "jal" else []
+    return {each for each in to + [at + 1] * (name not in ("jal", "jalr")) if 0 <= each < len(code)}
+
+
+def reaches(code, at, names):
+    """Whether an instruction of one of these names can be reached from a place, by its code."""
+    seen, new = set(), {at}
+    while new:
+        seen |= new
+        new = {each for one in new for each in nexts(code, one)} - seen
+    return any(code[each][0] in names for each in seen)
+
+
+def of_use(answer, certificate, test, notes):
+    """What helps where no state of the queue's harts uses a slot: a test that never lets a hart go on to where it may, or what the compiler left out."""
+    shape = NO_USE.search(answer)
+    if not shape:
+        return
+    queue, (use, names) = queues_of(certificate)[int(shape[2])], USES[shape[1]]
+    hart = queue.sender if use == "store" else queue.receiver
+    code, names = test.codes[hart], {*names, *assembly.AMOS.values()}
+    places, moves = states_of(certificate, hart)
+    ways = [(at, to) for at in sorted(places) if at < len(code) and code[at][0] in assembly.BRANCHES for to in nexts(code, at) - places]
+    held = next((at for at, to in ways if reaches(code, to, names)), None)
+    if held is not None:
+        yield (f"hart {hart} reaches no {use} after pc {4 * held}, {text_of_instruction(code[held], None)}, in any state: it waits there for ever, or "
+               "the test always goes one way")
+        if held < len(notes[hart]) and notes[hart][held]:
+            yield f"    P{hart} {notes[hart][held]}"
+    if held is None or moves:
+        yield "or " * (held is not None) + REMEDIES[shape[1]]
 
 
 def counting(queue):
@@ -95,9 +136,9 @@ def longer(number, queue, drawn):
             f"{'slots' if turn == queue.size else 'index'} is {turn}: try --length {proposed} --runs {FEW_RUNS}")
 
 
-def added(lines, found, notes, certificate):
+def added(lines, found, notes, certificate, test=None):
     """The lines of an answer, with what helps: of a broken queue after what was stored, of one that isn't shown at the end. `found` is what
-    tools/certify says of the harts."""
+    tools/certify says of the harts, and `test` the text's."""
     queues, is_broken, said, more = queues_of(certificate), False, "", []
     for line in lines:
         yield line
@@ -109,4 +150,4 @@ def added(lines, found, notes, certificate):
         if shape := DRAWN.match(line):
             more.append(longer(int(shape[1]), queues[int(shape[1])], shape.groups()[1:]))
     if not is_broken:
-        yield from filter(None, [*of_use(said), *dict.fromkeys(of_uncovered(found, notes)), *more])
+        yield from filter(None, [*of_use(said, certificate, test, notes), *dict.fromkeys(of_uncovered(found, notes)), *more])
