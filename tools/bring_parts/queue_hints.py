@@ -99,6 +99,18 @@ def of_use(answer, certificate, test, notes):
         yield "or " * (held is not None) + REMEDIES[shape[1]]
 
 
+def of_wraps(texts):
+    """A line for each --queue whose counts wrap where no turn of the slots ends. What is malformed is left to tools/certify."""
+    for number, text in enumerate(texts):
+        given = {"bytes": "4", "scale": "1", **dict(part.partition("=")[::2] for part in text.split(","))}
+        width, size, scale = (int(given.get(name, "")) if given.get(name, "").isdigit() else 0 for name in ("bytes", "size", "scale"))
+        modulus = given.get("modulus", "" if given.get("index") == "wrapping" or not scale else str(256 ** min(width, 4) // scale))
+        if size and modulus.isdigit() and int(modulus) % size:
+            wraps = {256 ** power: f"2^{8 * power}" for power in (1, 2, 4)}.get(int(modulus), modulus)
+            yield (f"queue {number}: its counts wrap at {wraps}, which is no multiple of its {size} slots, so position and slot part there, unless the "
+                   "slots have numbers of their own: take a power of two, or index=wrapping. The search may take minutes")
+
+
 def counting(queue):
     """How a queue's indices count, in words."""
     if (queue.base, queue.scale, queue.offset) != (0, 1, 0) or queue.modulus not in (queue.size, 256 ** queue.index_width):
