@@ -9,7 +9,7 @@ from pathlib import Path
 
 from bring_parts import (ROOT, Refused, c_lines, c_source, c_tests, columns, compilers, complain, dwarf, languages, litmus_texts, objects, put,
                          questions, queues, rust, text_of)
-from bring_parts.languages import C, OBJECT, RUST
+from bring_parts.languages import C, CXX, OBJECT, RUST
 
 # the mappings, each of which includes this one at its end
 MAPPINGS, BASE = ROOT / "examples/mappings", "mapping.h"
@@ -18,6 +18,8 @@ GUARD = "MAPPING_H"
 # how the text before a row's own instruction ends, and how that after it begins: at the end of a line of assembly, or with a label or comment
 ENDED, BEGUN = re.compile(r"(?:^|\\n|;|:)(?:\\t|\s)*$"), re.compile(r"(?:\\t|\s)*(?:\\n|;|#|$)")
 LONGEST = 44
+# the definition of the first hart's function
+FIRST = re.compile(r"\bP0\s*\([^;{}]*\)[^;{}()]*\{")
 # what a source asks in which nothing is asked: each text has a word of this name
 UNASKED = "\n// exists (null=0)\n"
 
@@ -140,8 +142,12 @@ def modules_of(files, way, folder, language=None):
     """The objects of files, and what they ask; then the lines that say how they were made, and the sources' texts by their
     names, that of the question first."""
     kinds = {file: language or languages.known(file) for file in files}
-    asking = way.ask or next((file for file in files if kinds[file] != OBJECT), None)
-    text, question, c = asked_in(asking or files[0], kinds.get(asking), way)
+    sources = [file for file in files if kinds[file] != OBJECT]
+    begins = [file for file in sources if way.unasked and FIRST.search(text_of(file))]
+    asking = way.ask or next(iter(begins + sources), None)
+    # where nothing is asked the harts may be in any file, and have any names
+    is_elsewhere = way.unasked and (way.harts or len(files) > 1 and not begins)
+    text, question, c = asked_in(asking or files[0], CXX if is_elsewhere and kinds.get(asking) == C else kinds.get(asking), way)
     modules, told = [], []
     for at, file in enumerate(files):
         own = way if kinds[file] != RUST or set(kinds.values()) <= {RUST, OBJECT} else replace(way, flags=())

@@ -12,6 +12,12 @@ LOCATIONS = 1024
 WIDTH = 112
 # how many names a refusal has
 SHOWN = 12
+NUMBER = re.compile(r"[0-9]+|0[xX][0-9a-fA-F]+")
+
+
+def number(text):
+    """The number of an address."""
+    return int(text, 16 if text[:2] in ("0x", "0X") else 10)
 
 
 @dataclass(frozen=True)
@@ -112,8 +118,8 @@ class Memory:
         begins = self.starts.get(name, next((at for part, at in self.starts.items() if part.startswith((f"{name}.", f"{name}["))), None))
         if begins is None and name in self.names:
             begins = 4 * self.names.index(name)
-        if begins is None and name.isdigit():
-            begins = int(name)
+        if begins is None and NUMBER.fullmatch(name):
+            begins = number(name)
         if begins is None or bytes_on and not bytes_on.isdigit():
             raise Refused(f"{whole} is no place of the program: {self.there(name)}{self.undescribed(text, True)}")
         return begins + int(bytes_on or 0)

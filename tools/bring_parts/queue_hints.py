@@ -3,7 +3,7 @@
 import re
 
 from bring_parts import compilers
-from bring_parts.queue_types import counted
+from bring_parts.queue_types import counted, ranges_in
 from certify_parts.queues import Queue
 from certify_parts.tags import Tagged
 
@@ -111,6 +111,13 @@ def of_wraps(texts):
                    "slots have numbers of their own: take a power of two, or index=wrapping. The search may take minutes")
 
 
+def of_written(asked, queues):
+    """A line for each queue whose records don't have all the bytes that are asked for."""
+    for number, queue in enumerate(queues):
+        if any(last >= queue.width for _, last in ranges_in(asked or "")):
+            yield f"--written {asked}: a record of queue {number} has {counted(queue.width, 'byte')}, so at most 0-{queue.width - 1} are asked for"
+
+
 def counting(queue):
     """How a queue's indices count, in words."""
     if (queue.base, queue.scale, queue.offset) != (0, 1, 0) or queue.modulus not in (queue.size, 256 ** queue.index_width):
@@ -127,7 +134,8 @@ def or_described_wrong(number, queue):
         keys = "size=, width=, tag=, tells=, sender= and receiver="
     else:
         form = f"{slots} with indices of {counted(queue.index_width, 'byte')} {counting(queue)}"
-        keys = f"size=, width=, bytes=, index={'counting' if queue.modulus == queue.size else 'wrapping'}, and whether head= and tail= are exchanged"
+        keys = (f"size=, width=, bytes=, index={'counting' if queue.modulus == queue.size else 'wrapping'}, whether head= and tail= are exchanged, and "
+                f"sender={queue.receiver},receiver={queue.sender} if P{queue.receiver} sends")
     return f"if queue {number} isn't {form}, the fault is in its description: see {keys}"
 
 

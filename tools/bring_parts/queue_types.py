@@ -148,6 +148,11 @@ def counted(number, of):
     return f"{number} {of}" + "s" * (number != 1)
 
 
+def without_blanks(text):
+    """A description without the blanks around its commas."""
+    return re.sub(r"\s*,\s*", ",", text.strip())
+
+
 def completed(kind, text, types):
     """A description, of --queue or --tagged, with what the types say and it leaves out. What is malformed is left to tools/certify."""
     parts = [part.partition("=")[::2] for part in text.split(",")]
