@@ -147,7 +147,10 @@ def modules_of(files, way, folder, language=None):
     asking = way.ask or next(iter(begins + sources), None)
     # where nothing is asked the harts may be in any file, and have any names
     is_elsewhere = way.unasked and (way.harts or len(files) > 1 and not begins)
-    text, question, c = asked_in(asking or files[0], CXX if is_elsewhere and kinds.get(asking) == C else kinds.get(asking), way)
+    try:
+        text, question, c = asked_in(asking or files[0], CXX if is_elsewhere and kinds.get(asking) == C else kinds.get(asking), way)
+    except Refused as refused:
+        raise Refused(with_name(asking, refused) if asking in files[1:] else str(refused), refused.before) from None
     modules, told = [], []
     for at, file in enumerate(files):
         own = way if kinds[file] != RUST or set(kinds.values()) <= {RUST, OBJECT} else replace(way, flags=())
