@@ -206,7 +206,9 @@ class Values:
             if kind > 1 or not all(isinstance(value, Word) and value.is_signed for value in (x, y)):
                 return None
         if kind < 2:
-            counts = [self.count_of(value, queue, which, state) for value in (x, y)]
+            if not all(self.stands(value, queue, which, state) for value in (x, y)):
+                return self.forms_compared(kind, x, y, state)
+            counts = [self.count_of(value, queue, which) for value in (x, y)]
             if None not in counts:
                 difference = counts[0].minus(counts[1])
                 limits = bounds(difference, self.ranges(state), True)
@@ -223,13 +225,40 @@ class Values:
                     self.split_to_know(value, state)
         return None
 
-    def count_of(self, value, queue, which, state):
+    def stands(self, value, queue, which, state):
+        """Whether a value is a word of this queue, or a form of which a check sees that each number is one; asks for the split after which it is."""
+        if isinstance(value, Word):
+            return value.queue == which
+        ranges, words = self.ranges(state), queue.scale * queue.modulus
+        limits = bounds(value, ranges)
+        if limits is None:
+            return False
+
+        def turn(found):
+            """Even where it is a word: below the end of the words, by how often the form wraps."""
+            times, rest = divmod(found - queue.base, SIZE)
+            return 2 * times + (rest >= words)
+
+        if turn(limits[0]) == turn(limits[1]):
+            if turn(limits[0]) % 2:
+                return False
+            # a check counts each factor up from 0, so none may fall
+            if all(signed(m) > 0 or ranges[variable][0] == ranges[variable][1] for variable, m in value.terms):
+                return True
+            self.split_to_know(value, state, 64)
+        elif queue.has_known_words():
+            self.split_where(turn, value, state)
+        return False
+
+    def forms_compared(self, kind, x, y, state):
+        """Whether two values are equal, or differ, where one of them isn't known to be a word: by forms, if a check takes both as forms."""
+        x, y = (self.as_form(value, state, False) for value in (x, y))
+        return None if isinstance(x, Word) or isinstance(y, Word) else self.answer(kind, x.minus(y), ZERO, self.ranges(state))
+
+    def count_of(self, value, queue, which):
         """A form of a count that a value is the word of, with the position for the own count, or None."""
         if isinstance(value, Word):
             return self.by_position(value.count, which)
-        limits = bounds(value, self.ranges(state))
-        if not queue.has_known_words() and (limits is None or limits[0] < 0 or limits[1] >= queue.base + queue.scale * queue.modulus):
-            return None
         index = value.minus(number(queue.base))
         if any(signed(m) % queue.scale for m in (index.constant, *(m for _, m in index.terms))):
             return None
@@ -311,8 +340,9 @@ class Values:
 
     # ---- words by their remainders
 
-    def as_form(self, value, state):
-        """A word as a form, as the check takes it where it is one; where the search says so, after splits; else what it was."""
+    def as_form(self, value, state, splits=True):
+        """A word as a form, as the check takes it where it is one; where the search says so, after splits, unless none are asked for; else what
+        it was."""
         if not isinstance(value, Word) or value.is_signed:
             return value
         queue = self.queues[value.queue]
@@ -322,7 +352,7 @@ class Values:
             return value
         limits = bounds(count, ranges, True)
         if limits[0] // queue.modulus != limits[1] // queue.modulus:
-            if self.loosens or not queue.has_known_words():
+            if not splits or self.loosens or not queue.has_known_words():
                 return value
             count = form(signed(count.constant), dict(count.terms))
             self.split_where(lambda found: signed(found) // queue.modulus, count, state)
