@@ -126,6 +126,8 @@ class Values:
             return None
         if kind > 1:
             x, y = self.as_form(x, state), self.as_form(y, state)
+        elif isinstance(x, Word) and isinstance(y, Word) and x.queue != y.queue:
+            x, y = (self.as_form(value, state, False) for value in (x, y))
         if isinstance(x, Word) or isinstance(y, Word):
             return self.words_compared(kind, x, y, state)
         if kind < 2:
@@ -206,63 +208,55 @@ class Values:
             if kind > 1 or not all(isinstance(value, Word) and value.is_signed for value in (x, y)):
                 return None
         if kind < 2:
-            if not all(self.stands(value, queue, which, state) for value in (x, y)):
+            counts = [self.count_of(value, queue, which, state) for value in (x, y)]
+            if None in counts:
                 return self.forms_compared(kind, x, y, state)
-            counts = [self.count_of(value, queue, which) for value in (x, y)]
-            if None not in counts:
-                difference = counts[0].minus(counts[1])
-                limits = bounds(difference, self.ranges(state), True)
-                if limits:
-                    zeros = [m for m in range(limits[0] // queue.modulus * queue.modulus, limits[1] + 1, queue.modulus) if m >= limits[0]]
-                    if not zeros:
-                        return kind == 1
-                    if limits[0] == limits[1]:
-                        return kind == 0
-                    self.split_compare_words(difference, queue, state)
+            difference = counts[0].minus(counts[1])
+            limits = bounds(difference, self.ranges(state), True)
+            if limits:
+                zeros = [m for m in range(limits[0] // queue.modulus * queue.modulus, limits[1] + 1, queue.modulus) if m >= limits[0]]
+                if not zeros:
+                    return kind == 1
+                if limits[0] == limits[1]:
+                    return kind == 0
+                self.split_compare_words(difference, queue, state)
         else:
             for value, known in zip((x, y), found):
                 if known is None:
                     self.split_to_know(value, state)
         return None
 
-    def stands(self, value, queue, which, state):
-        """Whether a value is a word of this queue, or a form of which a check sees that each number is one; asks for the split after which it is."""
+    def count_of(self, value, queue, which, state):
+        """A form of a count that a value is the word of, with the position for the own count; or None, as of a form of which a check doesn't see
+        that each of its numbers is a word. Asks for the split after which it is one."""
         if isinstance(value, Word):
-            return value.queue == which
-        ranges, words = self.ranges(state), queue.scale * queue.modulus
+            return self.by_position(value.count, which) if value.queue == which else None
+        index, ranges = value.minus(number(queue.base)), self.ranges(state)
         limits = bounds(value, ranges)
-        if limits is None:
-            return False
+        if limits is None or any(signed(m) % queue.scale for m in (index.constant, *(m for _, m in index.terms))):
+            return None
 
         def turn(found):
-            """Even where it is a word: below the end of the words, by how often the form wraps."""
+            """How often the form has wrapped, twice, and one more past the words."""
             times, rest = divmod(found - queue.base, SIZE)
-            return 2 * times + (rest >= words)
+            return 2 * times + (rest >= queue.scale * queue.modulus)
 
-        if turn(limits[0]) == turn(limits[1]):
-            if turn(limits[0]) % 2:
-                return False
-            # a check counts each factor up from 0, so none may fall
-            if all(signed(m) > 0 or ranges[variable][0] == ranges[variable][1] for variable, m in value.terms):
-                return True
+        if turn(limits[0]) != turn(limits[1]):
+            if queue.has_known_words():
+                self.split_where(turn, value, state)
+            return None
+        if turn(limits[0]) % 2:
+            return None
+        if any(signed(m) < 0 and ranges[variable][0] < ranges[variable][1] for variable, m in value.terms):
+            # a check takes each factor for a number from 0 on
             self.split_to_know(value, state, 64)
-        elif queue.has_known_words():
-            self.split_where(turn, value, state)
-        return False
+            return None
+        return form(signed(index.constant) // queue.scale - queue.offset, {variable: signed(m) // queue.scale for variable, m in index.terms})
 
     def forms_compared(self, kind, x, y, state):
         """Whether two values are equal, or differ, where one of them isn't known to be a word: by forms, if a check takes both as forms."""
         x, y = (self.as_form(value, state, False) for value in (x, y))
         return None if isinstance(x, Word) or isinstance(y, Word) else self.answer(kind, x.minus(y), ZERO, self.ranges(state))
-
-    def count_of(self, value, queue, which):
-        """A form of a count that a value is the word of, with the position for the own count, or None."""
-        if isinstance(value, Word):
-            return self.by_position(value.count, which)
-        index = value.minus(number(queue.base))
-        if any(signed(m) % queue.scale for m in (index.constant, *(m for _, m in index.terms))):
-            return None
-        return form(signed(index.constant) // queue.scale - queue.offset, {variable: signed(m) // queue.scale for variable, m in index.terms})
 
     def split_compare_words(self, difference, queue, state):
         ranges = self.ranges(state)
