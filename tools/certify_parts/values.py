@@ -127,6 +127,7 @@ class Values:
         if kind > 1:
             x, y = self.as_form(x, state), self.as_form(y, state)
         elif isinstance(x, Word) and isinstance(y, Word) and x.queue != y.queue:
+            # counts of two queues aren't compared, but what is a form without a split
             x, y = (self.as_form(value, state, False) for value in (x, y))
         if isinstance(x, Word) or isinstance(y, Word):
             return self.words_compared(kind, x, y, state)
@@ -237,7 +238,7 @@ class Values:
             return None
 
         def turn(found):
-            """How often the form has wrapped, twice, and one more past the words."""
+            """Twice how often the form has wrapped, and one more where it is past the words: even where it is a word."""
             times, rest = divmod(found - queue.base, SIZE)
             return 2 * times + (rest >= queue.scale * queue.modulus)
 
