@@ -79,24 +79,33 @@ def reaches(code, at, names):
     return any(code[each][0] in names for each in seen)
 
 
-def of_use(answer, certificate, test, notes):
-    """What helps where no state of the queue's harts uses a slot: a test that never lets a hart go on to where it may, or what the compiler left out."""
-    shape = NO_USE.search(answer)
-    if not shape:
-        return
-    queue, (use, names) = queues_of(certificate)[int(shape[2])], USES[shape[1]]
-    hart = queue.sender if use == "store" else queue.receiver
-    code, names = test.codes[hart], {*names, *assembly.AMOS.values()}
+def of_use(number, use, certificate, test, notes):
+    """What helps where no state of a queue's party uses its slots: a test that never lets the hart go on to where it may, or what the compiler left
+    out. Without the text only this."""
+    queue, (what, names) = queues_of(certificate)[number], USES[use]
+    hart = queue.sender if what == "store" else queue.receiver
+    code, names = test.codes[hart] if test else [], {*names, *assembly.AMOS.values()}
     places, moves = states_of(certificate, hart)
     ways = [(at, to) for at in sorted(places) if at < len(code) and code[at][0] in assembly.BRANCHES for to in nexts(code, at) - places]
     held = next((at for at, to in ways if reaches(code, to, names)), None)
     if held is not None:
-        yield (f"hart {hart} reaches no {use} after pc {4 * held}, {text_of_instruction(code[held], None)}, in any state: it waits there for ever, or "
+        yield (f"hart {hart} reaches no {what} after pc {4 * held}, {text_of_instruction(code[held], None)}, in any state: it waits there for ever, or "
                "the test always goes one way")
         if held < len(notes[hart]) and notes[hart][held]:
             yield f"    P{hart} {notes[hart][held]}"
     if held is None or moves:
-        yield "or " * (held is not None) + REMEDIES[shape[1]]
+        yield "or " * (held is not None) + REMEDIES[use]
+
+
+def of_unused(answer, certificate, test, notes):
+    """The same of an answer: that nobody uses a queue, or that no record of a queue that is kept is ever written, or read."""
+    if shape := NO_USE.search(answer):
+        yield from of_use(int(shape[2]), shape[1], certificate, test, notes)
+    for number, queue in enumerate(queues_of(certificate)) if answer.startswith("kept in every run") else ():
+        for use, used, hart, done in (("stores to", "stored to", queue.sender, "written"), ("loads from", "loaded from", queue.receiver, "read")):
+            if f"queue {number}: {used} by hart {hart} " not in answer:
+                yield f"hart {hart} {use} no slot of queue {number} in any state, so no record is ever {done}"
+                yield from of_use(number, use, certificate, test, notes)
 
 
 def of_wraps(texts):
@@ -170,4 +179,4 @@ def added(lines, found, notes, certificate, test=None):
         if shape := DRAWN.match(line):
             more.append(longer(int(shape[1]), queues[int(shape[1])], shape.groups()[1:]))
     if not is_broken:
-        yield from filter(None, [*of_use(said, certificate, test, notes), *dict.fromkeys(of_uncovered(found, notes)), *more])
+        yield from filter(None, [*of_unused(said, certificate, test, notes), *dict.fromkeys(of_uncovered(found, notes)), *more])
