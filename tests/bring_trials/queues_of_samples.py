@@ -26,6 +26,7 @@ COUNTS, TAGS = "queue 0 1 4 8 1 12 16 8 16 0 1 0 256 0\n", "tagged 0 1 12 8 12 4
 NOT_COVERED = "hart 0 is not covered: at pc 4, sw x1,0(x2): why\n"
 DRAWN = "queue 0: kept in 1000 drawn runs of 1000 events, in which {} positions were published"
 BROKEN = "broken: hart 0 at pc 4\nqueue 0: it stored 1 to the 4 bytes at 12, and owned no position\n"
+KEPT = "kept in every run\nqueue 0: stored to by hart 0 at pc 4, sw x5,0(x6)\nqueue 0: loaded from by hart 1 at pc 4, lw x5,0(x6)\n"
 HINTS = [
     ("", "not shown: no instruction loads from a slot of queue 0\n", [], COUNTS, ["volatile object"]),
     ("", "not shown: no instruction stores to a slot of queue 0\n", [], COUNTS, ["one global object"]),
@@ -41,7 +42,8 @@ HINTS = [
     ("", "not shown\n" + DRAWN.format(10999), [], COUNTS, ["about 11 positions each, and one turn of its index is 256: try --length 47000 --runs 20"]),
     ("", "not shown\n" + DRAWN.format(0), [], TAGS, ["about 0 positions each, and one turn of its slots is 8: try --length 100000 --runs 20"]),
     ("", "not shown\n" + DRAWN.format(512000), [], COUNTS, []),
-    ("", "kept in every run\n", ["support.c:30"], COUNTS, []),
+    ("", KEPT, ["support.c:30"], COUNTS, []),
+    ("", KEPT.replace("hart 1", "hart 0"), [""], COUNTS, ["hart 1 loads from no slot of queue 0 in any state, so no record is ever read"]),
 ]
 # the parts of objects, as `q` with two indices of a byte and structs of 8 bytes; descriptions, and what is made of them or refused
 PARTS = [Part(0, 1, "q.in"), Part(1, 1, "q.out"), Part(2, 2, "q.wide"), *(Part(4 + 8 * at + 4 * of, 4 - 3 * of, f"q.slot[{at}].{name}")

@@ -82,9 +82,12 @@ def reaches(code, at, names):
 def of_use(number, use, certificate, test, notes):
     """What helps where no state of a queue's party uses its slots: a test that never lets the hart go on to where it may, or what the compiler left
     out. Without the text only this."""
+    if not test:
+        yield REMEDIES[use]
+        return
     queue, (what, names) = queues_of(certificate)[number], USES[use]
     hart = queue.sender if what == "store" else queue.receiver
-    code, names = test.codes[hart] if test else [], {*names, *assembly.AMOS.values()}
+    code, names = test.codes[hart], {*names, *assembly.AMOS.values()}
     places, moves = states_of(certificate, hart)
     ways = [(at, to) for at in sorted(places) if at < len(code) and code[at][0] in assembly.BRANCHES for to in nexts(code, at) - places]
     held = next((at for at, to in ways if reaches(code, to, names)), None)
