@@ -17,7 +17,8 @@ use Rattle.queue_checker.specs.declared.targets.Target.{Target}
 use Rattle.queue_checker.specs.Flaws.{hart_at, first_of}
 use Rattle.hart_safety.specs.declared.regions.Region.{Region}
 use Rattle.hart_safety.specs.Regions.{region_of, ends_before, joined_region, with_region, AreInOrderFrom}
-use Rattle.hart_safety.specs.Writes.{stored_in, is_bounded, Writes, with_target, writes_at, regions_written}
+use Rattle.queue_checker.specs.Operands.{store_target}
+use Rattle.hart_safety.specs.Writes.{is_bounded, Writes, with_target, writes_at, regions_written}
 use Rattle.hart_safety.proofs.AtLeaves.{keeps-over}
 
 -- ---- a region has a byte
@@ -48,7 +49,7 @@ abbrev HasByte : Option Target → Type 0
 HasByte None = Unit {0}
 HasByte (Some t) = t.bounds.low ≤ t.bounds.high
 
-stored-has : (c : QueueCertificate) (k : KnownState) (i : Option Instr) → HasByte (stored_in c k i)
+stored-has : (c : QueueCertificate) (k : KnownState) (i : Option Instr) → HasByte (store_target c k i)
 stored-has c k (Some (Store op rs1 rs2 offset)) = anywhere-order k.ranges (address_value (queue_at c) k rs1 offset)
 stored-has c k (Some (Amo op rd rs1 rs2 aq rl)) = anywhere-order k.ranges (operand (queue_at c) k rs1)
 stored-has c k None = tt
@@ -114,5 +115,6 @@ target-order n (Some t) w has order = by (is_bounded t.bounds)
 
 pub regions_in_order : (o : OpeningValue) (c : QueueCertificate) (h : ℕ) → AreInOrderFrom 0 (regions_written o c h)
 regions_in_order o c h = keeps-over (writes_at c (hart_at o h).code) IsInOrder
-    (λ n k w order. target-order n (stored_in c k (instruction_at (hart_at o h).code k.pc)) w (stored-has c k (instruction_at (hart_at o h).code k.pc)) order)
+    (λ n k w order. target-order n (store_target c k (instruction_at (hart_at o h).code k.pc)) w
+    (stored-has c k (instruction_at (hart_at o h).code k.pc)) order)
     c h (record { regions = []; unbounded = None }) tt

@@ -9,7 +9,8 @@ use Rattle.queue_checker.specs.declared.targets.Target.{Target}
 use Rattle.queue_checker.specs.Flaws.{first_of}
 use Rattle.hart_safety.specs.declared.regions.Region.{Region}
 use Rattle.hart_safety.specs.Regions.{region_of, ends_before, joined_region, with_region, IsInNone}
-use Rattle.hart_safety.specs.Writes.{stored_in, is_bounded, Writes, with_target, writes_at}
+use Rattle.queue_checker.specs.Operands.{store_target}
+use Rattle.hart_safety.specs.Writes.{is_bounded, Writes, with_target, writes_at}
 
 abbrev pub IsOutside : (x : ℕ) → Region → Type 0
 IsOutside x r = (x < r.from) ⊎ (r.to < x)
@@ -61,5 +62,5 @@ outside-target x n (Some t) w out = by (is_bounded t.bounds) refl out
     by false is out = absurd (none w.unbounded out.0)
 
 pub spared : (c : QueueCertificate) (code : List ℕ) (x n : ℕ) (k : KnownState) (w : Writes) → Spares x (writes_at c code n k w)
-    → IsSpared x (stored_in c k (instruction_at code k.pc)) × Spares x w
-spared c code x n k w out = outside-target x n (stored_in c k (instruction_at code k.pc)) w out
+    → IsSpared x (store_target c k (instruction_at code k.pc)) × Spares x w
+spared c code x n k w out = outside-target x n (store_target c k (instruction_at code k.pc)) w out

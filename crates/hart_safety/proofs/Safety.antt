@@ -30,7 +30,8 @@ use Rattle.queue_checker.specs.Flaws.{hart_at, unless}
 use Rattle.queue_checker.proofs.FlawLaws.{same-unless, same-below}
 use Rattle.hart_safety.specs.Stops.{goes_on_at, state_goes_on, first_stop}
 use Rattle.hart_safety.specs.Regions.{IsInNone}
-use Rattle.hart_safety.specs.Writes.{stored_in, writes_at, first_unbounded, regions_written}
+use Rattle.queue_checker.specs.Operands.{store_target}
+use Rattle.hart_safety.specs.Writes.{writes_at, first_unbounded, regions_written}
 use Rattle.hart_safety.proofs.AtLeaves.{reaches-leaf}
 use Rattle.hart_safety.proofs.Going.{IsGoing, settled-going, next-going}
 use Rattle.hart_safety.proofs.Stopping.{leaf-goes}
@@ -111,7 +112,7 @@ module _ (B M : ℕ) (o : OpeningValue) (c : QueueCertificate) (ok : accepts o c
       let at = reaches-leaf (writes_at c (hart_at o h).code) (Spares x) (λ n k before spares. (spared c (hart_at o h).code x n k before spares).1)
       c h s m cs w.0 w.2 w.1 (record { regions = []; unbounded = None }) (none, out) in
       leaf-spares M o c h at.numbers at.known s m cs d acts (acts-wide h s m cs d acts) (fine M o c ok) at.means x
-      (subst (λ ws. IsSpared x (stored_in c at.known (instruction_at ws at.known.pc))) (acts-code h s m cs d acts)
+      (subst (λ ws. IsSpared x (store_target c at.known (instruction_at ws at.known.pc))) (acts-code h s m cs d acts)
       (spared c (hart_at o h).code x at.state at.known at.before at.so).0)
 
   pub spares_outside : (es : List Entry) (e : Entry) → WellFormed B M (history_of o (es ++ e ∷ [])) → is_land e ≡ false

@@ -37,7 +37,7 @@ use Rattle.queue_certificates.specs.Certificates.{QueueCertificate, queue_at, ow
 use Rattle.queue_certificates.proofs.Values.{has-bounds}
 use Rattle.queue_certificates.proofs.Steps.{nobody_told, nothing_sent, no-code}
 use Rattle.queue_certificates.proofs.Steps as steps
-use Rattle.hart_safety.specs.Writes.{stored_in}
+use Rattle.queue_checker.specs.Operands.{store_target}
 use Rattle.hart_safety.proofs.Going.{either}
 use Rattle.hart_safety.proofs.Outside.{IsSpared}
 
@@ -86,7 +86,7 @@ module _ (M : ℕ) (o : OpeningValue) (c : QueueCertificate) (h : ℕ) (xs : Lis
       by false is = refl
       by true is = absurd (no is)
 
-  instruction-spares : (i : Instr) → IsSpared x (stored_in c k (Some i)) → Spares (need_for s i)
+  instruction-spares : (i : Instr) → IsSpared x (store_target c k (Some i)) → Spares (need_for s i)
   instruction-spares (Store op rs1 rs2 offset) out =
       access-spares (store_width op) (address (register_value s.registers rs1) offset)
       (need.Store (address (register_value s.registers rs1) offset) (store_width op) (stored op (register_value s.registers rs2)))
@@ -116,16 +116,16 @@ module _ (M : ℕ) (o : OpeningValue) (c : QueueCertificate) (h : ℕ) (xs : Lis
   instruction-spares Ebreak out = tt
 
   -- whatever the pc says
-  pub leaf-spares : IsSpared x (stored_in c k (instruction_at s.code k.pc)) → LeavesByteBy x (access_of e)
+  pub leaf-spares : IsSpared x (store_target c k (instruction_at s.code k.pc)) → LeavesByteBy x (access_of e)
   leaf-spares out = subst (λ d. LeavesByteBy x (access_of d)) (sym acts.can.made) (by (nat_lt s.pc (4 * length s.code)) refl
-      (subst (λ pc. IsSpared x (stored_in c k (instruction_at s.code pc))) (sym means.pc) out))
+      (subst (λ pc. IsSpared x (store_target c k (instruction_at s.code pc))) (sym means.pc) out))
     where
-      says : (i : Option Instr) → s.pc < 4 * length s.code → meaning (slice_index s.code (s.pc / 4)) ≡ i → IsSpared x (stored_in c k i)
+      says : (i : Option Instr) → s.pc < 4 * length s.code → meaning (slice_index s.code (s.pc / 4)) ≡ i → IsSpared x (store_target c k i)
           → Spares (need_of s)
       says None within is out = subst Spares (sym (illegal s within is)) tt
       says (Some i) within is out = subst Spares (sym (need_at (record { inside = within; says = is }))) (instruction-spares i out)
 
       by : (t : Bool) → nat_lt s.pc (4 * length s.code) ≡ t
-          → IsSpared x (stored_in c k (if t then meaning (slice_index s.code (s.pc / 4)) else None)) → Spares (need_of s)
+          → IsSpared x (store_target c k (if t then meaning (slice_index s.code (s.pc / 4)) else None)) → Spares (need_of s)
       by false outside out = subst Spares (sym (no-code s outside)) tt
       by true within out = says (meaning (slice_index s.code (s.pc / 4))) (ltb-true s.pc (4 * length s.code) within) refl out

@@ -1,8 +1,5 @@
 -- The bytes that a hart may write, as a certificate lists its states.
 use Rattle.std.specs.Prelude.{ℕ, ◌-◌, ◌^◌, ◌||◌, nat_lt, if◌then◌else◌, Bool, Option, None, Some, List, []}
-use Rattle.rv_decode.specs.declared.instruction.Instr.{Instr}
-use Rattle.rv_decode.specs.declared.instruction.Instr.TheVariants.{Store, Amo}
-use Rattle.hart.specs.Effects.{store_width}
 use Rattle.step_machine.specs.History.{OpeningValue}
 use Rattle.queue_certificates.specs.Forms.{Bounds}
 use Rattle.queue_certificates.specs.States.{KnownState}
@@ -10,16 +7,10 @@ use Rattle.queue_certificates.specs.Steps.{instruction_at}
 use Rattle.queue_certificates.specs.Certificates.{QueueCertificate}
 use Rattle.queue_checker.specs.declared.targets.Target.{Target}
 use Rattle.queue_checker.specs.Flaws.{hart_at, first_of}
-use Rattle.queue_checker.specs.Operands.{accessed_in, exchanged_in}
+use Rattle.queue_checker.specs.Operands.{store_target}
 use Rattle.hart_safety.specs.declared.regions.Region.{Region}
 use Rattle.hart_safety.specs.Leaves.{over_hart}
 use Rattle.hart_safety.specs.Regions.{region_of, with_region}
-
--- the bytes to which an instruction may store; an AMO always stores
-abbrev pub stored_in : QueueCertificate → KnownState → Option Instr → Option Target
-stored_in c k (Some (Store op rs1 rs2 offset)) = Some (accessed_in c k rs1 offset (store_width op))
-stored_in c k (Some (Amo op rd rs1 rs2 aq rl)) = Some (exchanged_in c k rs1)
-stored_in c k other = None
 
 -- some address of a word is none of these
 abbrev pub is_bounded : Bounds → Bool
@@ -37,7 +28,7 @@ with_target n (Some t) w = if is_bounded t.bounds then record { regions = with_r
     else record { regions = w.regions; unbounded = first_of w.unbounded (Some n) }
 
 abbrev pub writes_at : QueueCertificate → (code : List ℕ) → (n : ℕ) → KnownState → Writes → Writes
-writes_at c code n k w = with_target n (stored_in c k (instruction_at code k.pc)) w
+writes_at c code n k w = with_target n (store_target c k (instruction_at code k.pc)) w
 
 abbrev pub writes_of : OpeningValue → QueueCertificate → (h : ℕ) → Writes
 writes_of o c h = over_hart (writes_at c (hart_at o h).code) c h (record { regions = []; unbounded = None })

@@ -3,7 +3,7 @@
 ghost use Rattle.std.specs.Prelude.{◌≡◌, IfOk, None};
 ghost use Rattle.queue_checker.specs.Flaws.{hart_at, first_of};
 ghost use Rattle.hart_safety.specs.Leaves.{over_leaves, over_states};
-ghost use Rattle.hart_safety.specs.Writes.{stored_in, is_bounded, with_target, writes_at, writes_of};
+ghost use Rattle.hart_safety.specs.Writes.{is_bounded, with_target, writes_at, writes_of};
 
 use crate::regions::{Region, region_of, with_region};
 use known_values::{Bounds, Lack};
@@ -11,10 +11,8 @@ use queue_checker::leaves::{goes_beyond, with_high, with_low};
 use queue_checker::owning::code_of;
 use queue_checker::sites::{listed_states, small};
 use queue_checker::steps::instruction_at;
-use queue_checker::stores::store_width;
-use queue_checker::targets::{Target, accessed, exchanged};
+use queue_checker::targets::{Target, store_target};
 use queue_checker::{CaseNode, Cases, KnownState, QueueCertificate};
-use rv_decode::Instr;
 use std::alloc::Global;
 use std::marker::Model;
 use step_machine::Opening;
@@ -33,29 +31,6 @@ impl Model for Writes {
     ghost Value = { WritesOf };
 
     ghost view = { λ w. record { regions = w.regions.items; unbounded = w.unbounded } };
-}
-
-/// The bytes to which an instruction may store.
-fn stored_in(
-    alloc: Global,
-    certificate: &QueueCertificate,
-    state: &KnownState,
-    instruction: Option<Instr>,
-) -> Result<Option<Target>, Lack>
-    ensures { IfOk result (λ target. target ≡ stored_in certificate.now state.now instruction) }
-{
-    match instruction {
-        Some(
-            Instr::Store {
-                op,
-                rs1,
-                offset,
-                ..
-            },
-        ) => Ok(Some(accessed(alloc, certificate, state, rs1, offset, store_width(op))?)),
-        Some(Instr::Amo { rs1, .. }) => Ok(Some(exchanged(alloc, certificate, state, rs1)?)),
-        _ => Ok(None),
-    }
 }
 
 /// Whether some address of a word is none of these.
@@ -100,7 +75,7 @@ fn writes_at(
 ) -> Result<Writes, Lack>
     ensures { IfOk result (λ all. all ≡ writes_at certificate.now code.now n state.now writes) }
 {
-    let target = stored_in(alloc, certificate, state, instruction_at(code, state.pc))?;
+    let target = store_target(alloc, certificate, state, instruction_at(code, state.pc))?;
     with_target(alloc, n, target, writes)
 }
 
