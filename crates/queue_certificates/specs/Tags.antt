@@ -162,7 +162,7 @@ module _ (tagged : ℕ → TaggedQueue) (N : ℕ) where
   tag_by k None place width t = None
   tag_by k (Some p) place width t = tag_position k.ranges (tagged t) (share_at k (N + t)) place width
 
-  -- the party is told that it has the position, and owns up to it,
+  -- the tag tells the party that it has the position, so it owns up to there,
   abbrev pub when_told : KnownState → Party → LoadOp → (rd t position : ℕ) → Share → KnownState
   when_told k p op rd t j s = with_share (N + t) (record { own = lifted s.own; owned = number (j + 1) })
       (with_result k rd (next_pc k.pc) (told_value (tagged t).codec p op s.own j))

@@ -47,7 +47,7 @@ fn looked_tag(
     Ok(last)
 }
 
-/// The share of a party that is told that it has the position so much further than its own count.
+/// A party's share after a tag that tells it that it has the position so much further than its own count.
 fn told_share(alloc: Global, share: &Share, position: u64) -> Result<Share, Lack>
     ensures { IfOk result (λ s. s ≡ record { own = lifted share.now.own; owned = number (position + 1) }) }
 {
@@ -57,24 +57,31 @@ fn told_share(alloc: Global, share: &Share, position: u64) -> Result<Share, Lack
     })
 }
 
+/// A party's load of the tag of the position that is `position` further than its own count.
+#[derive(Drop)]
+struct Look {
+    party: Party,
+    op: LoadOp,
+    rd: u8,
+    queue: u32,
+    position: u64,
+    share: Share,
+}
+
 /// The state after a load of a tag that tells the party what it knows already.
 fn when_known(
     alloc: Global,
     certificate: &QueueCertificate,
     state: &KnownState,
-    party: Party,
-    op: LoadOp,
-    rd: u8,
-    t: u32,
-    position: u64,
-    share: &Share,
+    look: &Look,
 ) -> Result<KnownState, Lack>
-    ensures { IfOk result (λ s. s ≡ with_result state.now rd (next_pc state.now.pc) (told_value (tagged_at certificate.now t).codec (the_party party)
-        op share.now.own position)) }
+    ensures { IfOk result (λ s. s ≡ with_result state.now look.now.rd (next_pc state.now.pc) (told_value (tagged_at certificate.now look.now.queue).codec
+        (the_party look.now.party) look.now.op look.now.share.own look.now.position)) }
 {
-    let codec = tagged_in(&certificate.tagged, t).codec;
-    let outcome = told_value(alloc, codec, party, op, &share.own, position)?;
-    with_result(alloc, state, rd, next_pc(state.pc), outcome)
+    let codec = tagged_in(&certificate.tagged, look.queue).codec;
+    let own = &look.share.own;
+    let outcome = told_value(alloc, codec, look.party, look.op, own, look.position)?;
+    with_result(alloc, state, look.rd, next_pc(state.pc), outcome)
 }
 
 /// The state after a load of a tag that tells the party that it has the position.
@@ -82,19 +89,14 @@ fn when_told(
     alloc: Global,
     certificate: &QueueCertificate,
     state: &KnownState,
-    party: Party,
-    op: LoadOp,
-    rd: u8,
-    t: u32,
-    position: u64,
-    share: &Share,
+    look: &Look,
 ) -> Result<KnownState, Lack>
-    ensures { IfOk result (λ s. s ≡ when_told (tagged_at certificate.now) (length certificate.now.queues) state.now (the_party party) op rd t position
-        share.now) }
+    ensures { IfOk result (λ s. s ≡ when_told (tagged_at certificate.now) (length certificate.now.queues) state.now (the_party look.now.party) look.now.op
+        look.now.rd look.now.queue look.now.position look.now.share) }
 {
-    let place = place_after(queue_count(certificate)?, t)?;
-    let told = told_share(alloc, share, position)?;
-    let next = when_known(alloc, certificate, state, party, op, rd, t, position, share)?;
+    let place = place_after(queue_count(certificate)?, look.queue)?;
+    let told = told_share(alloc, &look.share, look.position)?;
+    let next = when_known(alloc, certificate, state, look)?;
     Ok(with_share(next, place, told))
 }
 
@@ -103,43 +105,33 @@ fn when_not_told(
     alloc: Global,
     certificate: &QueueCertificate,
     state: &KnownState,
-    party: Party,
-    op: LoadOp,
-    rd: u8,
-    t: u32,
-    position: u64,
-    share: &Share,
+    look: &Look,
 ) -> Result<KnownState, Lack>
-    ensures { IfOk result (λ s. s ≡ with_result state.now rd (next_pc state.now.pc) (other_value (tagged_at certificate.now t) (tagged_at
-        certificate.now t).codec (the_party party) op share.now.own position)) }
+    ensures { IfOk result (λ s. s ≡ with_result state.now look.now.rd (next_pc state.now.pc) (other_value (tagged_at certificate.now look.now.queue)
+        (tagged_at certificate.now look.now.queue).codec (the_party look.now.party) look.now.op look.now.share.own look.now.position)) }
 {
-    let queue = tagged_in(&certificate.tagged, t);
-    let outcome = other_value(alloc, queue, party, op, &share.own, position)?;
-    with_result(alloc, state, rd, next_pc(state.pc), outcome)
+    let queue = tagged_in(&certificate.tagged, look.queue);
+    let own = &look.share.own;
+    let outcome = other_value(alloc, queue, look.party, look.op, own, look.position)?;
+    with_result(alloc, state, look.rd, next_pc(state.pc), outcome)
 }
 
-/// The states that may follow a load of the tag of a position that is so much further than the own count.
+/// The states that may follow a party's load of a tag.
 fn after_tag(
     alloc: Global,
     certificate: &QueueCertificate,
     state: &KnownState,
-    party: Party,
-    op: LoadOp,
-    rd: u8,
-    t: u32,
-    position: u64,
-    share: &Share,
+    look: &Look,
 ) -> Result<Successors, Lack>
-    ensures { IfOk result (λ next. next ≡ Some (after_tag (tagged_at certificate.now) (length certificate.now.queues) state.now (the_party party) op
-        rd t position share.now)) }
+    ensures { IfOk result (λ next. next ≡ Some (after_tag (tagged_at certificate.now) (length certificate.now.queues) state.now
+        (the_party look.now.party) look.now.op look.now.rd look.now.queue look.now.position look.now.share)) }
 {
-    let owned = &share.owned;
-    if position < owned.constant {
-        let known = when_known(alloc, certificate, state, party, op, rd, t, position, share)?;
-        one(alloc, known)
+    let owned = &look.share.owned;
+    if look.position < owned.constant {
+        one(alloc, when_known(alloc, certificate, state, look)?)
     } else {
-        let told = when_told(alloc, certificate, state, party, op, rd, t, position, share)?;
-        let other = when_not_told(alloc, certificate, state, party, op, rd, t, position, share)?;
+        let told = when_told(alloc, certificate, state, look)?;
+        let other = when_not_told(alloc, certificate, state, look)?;
         two(alloc, told, other)
     }
 }
@@ -162,18 +154,15 @@ fn at_tag(
         Some(party) => match position {
             None => Ok(not_shown(alloc)),
             Some(position) => {
-                let share = tag_share(alloc, certificate, state, t)?;
-                after_tag(
-                    alloc,
-                    certificate,
-                    state,
+                let look = Look {
                     party,
                     op,
                     rd,
-                    t,
+                    queue: t,
                     position,
-                    &share,
-                )
+                    share: tag_share(alloc, certificate, state, t)?,
+                };
+                after_tag(alloc, certificate, state, &look)
             }
         },
     }
