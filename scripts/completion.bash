@@ -4,7 +4,7 @@ _ztso() {
     local at position=0 options='' words='' inputs=()
     for ((at = 2; at < COMP_CWORD; at++)); do
         case ${COMP_WORDS[at]} in
-        --svg | --memory | --steps | --unfinished | --finish | --harts) ;;
+        --svg | --memory | --steps | --unfinished | --finish | --harts | --safety) ;;
         --*) ((++at)) ;;
         *) ((++position)) ;;
         esac
@@ -24,7 +24,7 @@ _ztso() {
     channel) inputs=('lamport fastforward cached own' '' files) options='--buffer --base --stride --finish --sender --receiver' ;;
     ring) inputs=(files files '') options='--buffer --seed --runs --length --skip --draw --jobs --base --stride' ;;
     callers) inputs=(files) options='--buffer --seed --runs --length --skip --draw --jobs --slots --base --sender --receiver --kind' ;;
-    queue) inputs=(files) options='--buffer --seed --runs --length --skip --draw --jobs --certificate --written --harts' ;;
+    queue) inputs=(files) options='--buffer --seed --runs --length --skip --draw --jobs --certificate --written --harts --safety' ;;
     steps) inputs=() options='--buffer' ;;
     asm) inputs=() options='' ;;
     dis) inputs=() options='' ;;
@@ -52,3 +52,23 @@ _ztso() {
     COMPREPLY=($(compgen -W "$words" -- "$word"))
 }
 complete -F _ztso ztso ./ztso scripts/try
+
+# Completes the words of a tool by its own help.
+_ztso_tool() {
+    local help words=''
+    help=$("$1" --help 2> /dev/null)
+    if [[ $3 == --* ]]; then
+        words=$(sed -nE "s/.*[[ ]$3 ([a-z0-9]+([|][a-z0-9]+)+).*/\1/p" <<< "$help")
+        words=${words%%$'\n'*}
+    fi
+    if [[ -n $words ]]; then
+        words=${words//|/ }
+    elif [[ $2 == -* ]]; then
+        words=$(grep -oE -- '--[a-z][a-z-]*' <<< "$help")
+    else
+        compopt -o default
+    fi
+    # shellcheck disable=SC2207 # the words have no blanks
+    COMPREPLY=($(compgen -W "$words" -- "$2" | sort -u))
+}
+complete -F _ztso_tool tools/allowed ztso-allowed tools/certify ztso-certify tools/chart-lines ztso-chart-lines tools/compare-mappings ztso-compare-mappings tools/core-log-to-record ztso-core-log-to-record tools/from-c ztso-from-c tools/from-herd ztso-from-herd tools/from-object ztso-from-object tools/make-rust-core ztso-make-rust-core tools/merge-tries ztso-merge-tries tools/page ztso-page tools/queue ztso-queue tools/to-litmus-log ztso-to-litmus-log tools/tries-over-machines ztso-tries-over-machines

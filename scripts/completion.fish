@@ -52,3 +52,24 @@ complete -c ztso -n '__fish_seen_subcommand_from callers' -l kind -x -a 'lamport
 complete -c ztso -n '__fish_seen_subcommand_from queue' -l certificate -r -F -d 'the certificate of the text\'s queues'
 complete -c ztso -n '__fish_seen_subcommand_from queue' -l written -x -d 'where the protocol is kept: whether a queue\'s sender writes each of BYTES of each record, after the record before in that slot was published. BYTES is all, or offsets and ranges as 0-3,8'
 complete -c ztso -n '__fish_seen_subcommand_from queue' -l harts -d 'where the protocol is kept: whether each hart is never stopped, and which bytes of memory it writes'
+complete -c ztso -n '__fish_seen_subcommand_from queue' -l safety -d 'where the protocol is kept: whether the queues go on isn\'t asked'
+
+# Completes the words of a tool by its own help: the values of the option before, or options.
+function __ztso_tool_values
+    set -l words (commandline -opc)
+    string match -q -- '--*' $words[-1]; or return 1
+    set -l listed (string replace -rf -- ".*[\\[ ]$words[-1] ([a-z0-9]+(?:[|][a-z0-9]+)+).*" '$1' ($words[1] --help 2> /dev/null))
+    set -q listed[1]; and string split -- '|' $listed[1]
+end
+function __ztso_tool_options
+    string match -q -- '-*' (commandline -ct); or return
+    set -l words (commandline -opc)
+    string match -rag -- '(--[a-z][a-z-]*)' ($words[1] --help 2> /dev/null)
+end
+for tool in allowed certify chart-lines compare-mappings core-log-to-record from-c from-herd from-object make-rust-core merge-tries page queue to-litmus-log tries-over-machines
+    for command in '-c ztso-' '-p */tools/'
+        set -l command (string split ' ' -- $command$tool)
+        complete $command -n __ztso_tool_values -f -a '(__ztso_tool_values)'
+        complete $command -n 'not __ztso_tool_values' -a '(__ztso_tool_options)'
+    end
+end

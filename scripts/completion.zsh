@@ -1,6 +1,26 @@
-#compdef ztso
-# Completes the words of ztso in zsh, as the file _ztso of a folder of fpath. Made by scripts/make-commands.
+#compdef ztso ztso-allowed ztso-certify ztso-chart-lines ztso-compare-mappings ztso-core-log-to-record ztso-from-c ztso-from-herd ztso-from-object ztso-make-rust-core ztso-merge-tries ztso-page ztso-queue ztso-to-litmus-log ztso-tries-over-machines -p (*/|)tools/(allowed|certify|chart-lines|compare-mappings|core-log-to-record|from-c|from-herd|from-object|make-rust-core|merge-tries|page|queue|to-litmus-log|tries-over-machines)
+# Completes the words of ztso and its tools in zsh, as the file _ztso of a folder of fpath. Made by scripts/make-commands.
+_ztso_tool() {
+    local help="$(${(Q)words[1]} --help 2> /dev/null)" last=$words[CURRENT-1]
+    local shape="[[ ]$last ([a-z0-9]+([|][a-z0-9]+)+)"
+    local -a options
+    # else a command that is known by its path is completed by files as well
+    _compskip=all
+    if [[ $last == --* && $help =~ $shape ]]; then
+        options=(${(s:|:)match[1]})
+    elif [[ $words[CURRENT] == -* ]]; then
+        options=(${(fu)"$(grep -oE -- '--[a-z][a-z-]*' <<< $help)"})
+    else
+        _files
+        return
+    fi
+    compadd -a options
+}
 _ztso() {
+    if [[ ${words[1]:t} != ztso ]]; then
+        _ztso_tool
+        return
+    fi
     if ((CURRENT == 2)); then
         local -a commands=(
             'run:the last state and the verdict'
@@ -156,6 +176,7 @@ _ztso() {
             '--certificate[the certificate of the text'\''s queues]:C:_files' \
             '--written[where the protocol is kept: whether a queue'\''s sender writes each of BYTES of each record, after the record before in that slot was published. BYTES is all, or offsets and ranges as 0-3,8]:BYTES:()' \
             '--harts[where the protocol is kept: whether each hart is never stopped, and which bytes of memory it writes]' \
+            '--safety[where the protocol is kept: whether the queues go on isn'\''t asked]' \
             '1:FILE:_files'
         ;;
     steps)

@@ -3,6 +3,7 @@ docs/commands.tsv, and yields lines."""
 
 import re
 
+import tree
 from command_table import FILE
 
 FILES = "files"
@@ -59,6 +60,30 @@ def bash(commands, options):
     yield '    COMPREPLY=($(compgen -W "$words" -- "$word"))'
     yield "}"
     yield "complete -F _ztso ztso ./ztso scripts/try"
+    yield from TOOL_IN_BASH.splitlines()
+    yield f"complete -F _ztso_tool {' '.join(f'tools/{tool} ztso-{tool}' for tool in sorted(tree.TOOLS))}"
+
+
+# a tool says its options and their words itself: bash gives it the tool, the word and the one before
+TOOL_IN_BASH = r"""
+# Completes the words of a tool by its own help.
+_ztso_tool() {
+    local help words=''
+    help=$("$1" --help 2> /dev/null)
+    if [[ $3 == --* ]]; then
+        words=$(sed -nE "s/.*[[ ]$3 ([a-z0-9]+([|][a-z0-9]+)+).*/\1/p" <<< "$help")
+        words=${words%%$'\n'*}
+    fi
+    if [[ -n $words ]]; then
+        words=${words//|/ }
+    elif [[ $2 == -* ]]; then
+        words=$(grep -oE -- '--[a-z][a-z-]*' <<< "$help")
+    else
+        compopt -o default
+    fi
+    # shellcheck disable=SC2207 # the words have no blanks
+    COMPREPLY=($(compgen -W "$words" -- "$2" | sort -u))
+}"""
 
 
 def bash_command(command):
@@ -70,9 +95,15 @@ def bash_command(command):
 # ---- zsh
 
 def zsh(commands, _):
-    yield "#compdef ztso"
-    yield "# Completes the words of ztso in zsh, as the file _ztso of a folder of fpath. Made by scripts/make-commands."
+    tools = sorted(tree.TOOLS)
+    yield f"#compdef ztso {' '.join(f'ztso-{tool}' for tool in tools)} -p (*/|)tools/({'|'.join(tools)})"
+    yield "# Completes the words of ztso and its tools in zsh, as the file _ztso of a folder of fpath. Made by scripts/make-commands."
+    yield from TOOL_IN_ZSH.splitlines()
     yield "_ztso() {"
+    yield "    if [[ ${words[1]:t} != ztso ]]; then"
+    yield "        _ztso_tool"
+    yield "        return"
+    yield "    fi"
     yield "    if ((CURRENT == 2)); then"
     yield "        local -a commands=("
     yield from (f"            {zsh_quoted(f'{command.name}:{in_short(command)}')}" for command in commands)
@@ -92,6 +123,25 @@ def zsh(commands, _):
     yield "    esac"
     yield "}"
     yield '_ztso "$@"'
+
+
+# the same as bash does
+TOOL_IN_ZSH = r"""_ztso_tool() {
+    local help="$(${(Q)words[1]} --help 2> /dev/null)" last=$words[CURRENT-1]
+    local shape="[[ ]$last ([a-z0-9]+([|][a-z0-9]+)+)"
+    local -a options
+    # else a command that is known by its path is completed by files as well
+    _compskip=all
+    if [[ $last == --* && $help =~ $shape ]]; then
+        options=(${(s:|:)match[1]})
+    elif [[ $words[CURRENT] == -* ]]; then
+        options=(${(fu)"$(grep -oE -- '--[a-z][a-z-]*' <<< $help)"})
+    else
+        _files
+        return
+    fi
+    compadd -a options
+}"""
 
 
 def zsh_option(option):
@@ -130,6 +180,29 @@ def fish(commands, options):
         line += (" -r -F" if option.values == FILE else " -x") * bool(option.value)
         line += f" -a '{' '.join(option.listed)}'" * bool(option.listed)
         yield f"{line} -d {fish_quoted(option.text)}"
+    yield from TOOL_IN_FISH.splitlines()
+    yield f"for tool in {' '.join(sorted(tree.TOOLS))}"
+    yield "    for command in '-c ztso-' '-p */tools/'"
+    yield "        set -l command (string split ' ' -- $command$tool)"
+    yield "        complete $command -n __ztso_tool_values -f -a '(__ztso_tool_values)'"
+    yield "        complete $command -n 'not __ztso_tool_values' -a '(__ztso_tool_options)'"
+    yield "    end"
+    yield "end"
+
+
+TOOL_IN_FISH = r"""
+# Completes the words of a tool by its own help: the values of the option before, or options.
+function __ztso_tool_values
+    set -l words (commandline -opc)
+    string match -q -- '--*' $words[-1]; or return 1
+    set -l listed (string replace -rf -- ".*[\\[ ]$words[-1] ([a-z0-9]+(?:[|][a-z0-9]+)+).*" '$1' ($words[1] --help 2> /dev/null))
+    set -q listed[1]; and string split -- '|' $listed[1]
+end
+function __ztso_tool_options
+    string match -q -- '-*' (commandline -ct); or return
+    set -l words (commandline -opc)
+    string match -rag -- '(--[a-z][a-z-]*)' ($words[1] --help 2> /dev/null)
+end"""
 
 
 def fish_seen(words):

@@ -59,6 +59,7 @@ class Definitions:
                 yield self.names.get(known, (None, known))
 
 
+@lru_cache(None)
 def path_of(module):
     """The file of specs/ that a module is, or None: one of std, or what Rust declares."""
     parts = module.split(".")
@@ -71,6 +72,7 @@ def definitions(path):
     return Definitions(path)
 
 
+@lru_cache(None)
 def declared_at(module):
     """The Rust file and the type, or the constants, that a declared module stands for."""
     found = DECLARED.match(module)
@@ -83,6 +85,7 @@ def declared_at(module):
     return (path, name) if path.exists() else None
 
 
+@lru_cache(None)
 def rust_lines(path, name):
     """The lines of a struct, an enum or a constant, its comments aside."""
     lines, taken = path.read_text().split("\n"), []

@@ -9,7 +9,6 @@ import os
 import sys
 from pathlib import Path
 
-sys.dont_write_bytecode = True
 sys.path.append(str(Path(__file__).resolve().parent.parent / "tools/reference"))
 
 from faults import ended  # noqa: E402

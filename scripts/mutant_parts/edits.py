@@ -1,7 +1,13 @@
-"""Mutants as files: pairs of texts, each of which stands once in a file of the crate and is replaced."""
+"""Mutants: pairs of texts, each of which stands once in a file of the crate and is replaced.
+
+A crate's mutants stand in its file mutants.edits, one after the other. A line `== NAME` begins each, and its lines `file:`,
+`old:` and `new:` follow as in the files must-fail/NAME.edit, each of which has one mutant.
+"""
+
+from sections import sections
 
 # what `rt ci` tries one by one, and what scripts/mutants tries several at a time
-ONE_BY_ONE, TOGETHER = "must-fail", "mutants"
+ONE_BY_ONE, TOGETHER = "must-fail", "mutants.edits"
 PARTS = ("src/", "specs/", "proofs/")
 
 
@@ -10,11 +16,11 @@ class Unfit(Exception):
 
 
 class Edit:
-    """A mutant of the crate in whose folder its own folder stands."""
+    """A mutant of a crate, in whose folder its files stand."""
 
-    def __init__(self, file):
-        self.file, self.name, self.crate = file, file.stem, file.parent.parent
-        self.pairs = list(pairs_of(file.read_text()))
+    def __init__(self, crate, name, text):
+        self.crate, self.name, self.text = crate, name, text
+        self.pairs = list(pairs_of(text))
         if not self.pairs:
             raise Unfit("it has no lines 'old:' and 'new:'")
 
@@ -57,14 +63,32 @@ def pairs_of(text):
                 raise Unfit("a line 'new:' has no 'file:' or 'old:' before it")
             yield path, old, line.removeprefix("new:").removeprefix(" ")
             old = None
+        elif line:
+            raise Unfit(f"a line begins with none of 'file:', 'old:' and 'new:': {line}")
 
 
-def edits_of(crate, folder=TOGETHER):
-    """The edits of a crate's folder, by name."""
-    found = []
-    for file in sorted((crate / folder).glob("*.edit")):
-        try:
-            found.append(Edit(file))
-        except Unfit as why:
-            raise Unfit(f"{crate.name}/{folder}/{file.name}: {why}") from None
-    return found
+def place_of(kind, name):
+    """Where a mutant of a kind stands in its crate's folder, as messages say it."""
+    return f"{kind}/{name}.edit" if kind == ONE_BY_ONE else f"{kind}: {name}"
+
+
+def texts_of(crate, kind):
+    """The names and the texts of a crate's mutants of a kind, sorted."""
+    if kind == ONE_BY_ONE:
+        return sorted((file.stem, file.read_text()) for file in (crate / kind).glob("*.edit"))
+    file = crate / kind
+    return sorted(sections(file.read_text())) if file.is_file() else []
+
+
+def edits_of(crate, kind=TOGETHER):
+    """A crate's mutants of a kind, by name."""
+    found, place = {}, kind
+    try:
+        for name, text in texts_of(crate, kind):
+            place = place_of(kind, name)
+            if name in found:
+                raise Unfit("two mutants have this name")
+            found[name] = Edit(crate, name, text)
+    except (Unfit, ValueError) as why:
+        raise Unfit(f"{crate.name}/{place}: {why}") from None
+    return list(found.values())

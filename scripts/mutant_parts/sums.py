@@ -58,4 +58,4 @@ def read_by(name, crates, logic, top=TOP):
 
 def of_edits(edits):
     """The sum of mutants' own texts."""
-    return digest(text for edit in edits for text in (edit.name, edit.file.read_bytes()))
+    return digest(text for edit in edits for text in (edit.name, edit.text))

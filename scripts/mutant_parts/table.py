@@ -41,7 +41,7 @@ def wrong(there, file=FILE):
             if tuple(words) != HEAD or number != 1:
                 yield f"{file.name}:{number}: a row has the columns {', '.join(HEAD)}, parted by tabs"
         elif words[0] not in there:
-            yield f"{file.name}:{number}: there is no crate {words[0]} with a folder mutants: remove the row"
+            yield f"{file.name}:{number}: there is no crate {words[0]} with mutants: remove the row"
         else:
             lost = [name for name in words[3].split() if name not in there[words[0]]]
             yield from (f"{file.name}:{number}: {words[0]} has no mutant {name}: remove the row, or run scripts/mutants {words[0]}" for name in lost)

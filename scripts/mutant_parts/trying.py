@@ -84,7 +84,7 @@ class Trial:
     def settle(self, edit, kind, line):
         self.found[edit.name] = Verdict(kind, line)
         words = "refused" if kind == REFUSED else WHY[kind]
-        self.tell(f"{self.checks.name}/mutants/{edit.name}.edit: {words}: {shown(line)}")
+        self.tell(f"{self.checks.name}: {edit.name}: {words}: {shown(line)}")
 
     def fail_all(self, line):
         """Says of each mutant that nothing is known of it."""

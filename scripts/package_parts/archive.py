@@ -34,9 +34,9 @@ def content(top, files, epoch):
     return archive.getvalue()
 
 
-def write(folder, what, files, epoch, preset=9 | lzma.PRESET_EXTREME):
-    """Makes the archive `ztso-VERSION-WHAT.tar.xz` of these files."""
-    name = f"ztso-{tree.version()}-{what}"
+def write(folder, what, files, epoch, preset=9 | lzma.PRESET_EXTREME, package="ztso"):
+    """Makes the archive `PACKAGE-VERSION-WHAT.tar.xz` of these files."""
+    name = f"{package}-{tree.version()}-{what}"
     path = folder / f"{name}.tar.xz"
     path.write_bytes(lzma.compress(content(name, files, epoch), preset=preset))
     return path

@@ -4,6 +4,7 @@ import re
 import subprocess
 
 import tree
+from bring_parts import provenance
 from package_parts import Refused
 
 # an ELF file's number of a machine: its name, and Debian's
@@ -25,6 +26,11 @@ class Program:
             raise Refused(f"{path}: is no program for Linux on {', '.join(name for name, _ in MACHINES.values())}")
         self.machine, self.debian = MACHINES[number]
         self.content = content
+        self.built = provenance.kind_of(path)
+
+    def package(self):
+        """The name of a package that holds it."""
+        return "ztso" if self.built == provenance.PROVED else "ztso-unproved"
 
     def depends(self):
         """What a Debian package of it depends on: the C library from the newest version on that it asks for."""

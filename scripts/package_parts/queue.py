@@ -3,16 +3,18 @@
 import tree
 from package_parts import archive
 
-# each file's place in the archive, and in the repository: `queue.h` names docs/functions.md
+# each file's place in the archive, and in the repository: `queue.h` names docs/functions.md, which leads to the promises
 FILES = {"queue.h": "examples/bare-metal/queue.h", "queue.rs": "examples/bare-metal/queue.rs",
-         "functions.S": "examples/bare-metal/functions.S", "docs/functions.md": "docs/functions.md"}
+         "functions.S": "examples/bare-metal/functions.S",
+         **{f"docs/{name}.md": f"docs/{name}.md" for name in ("functions", "functions-promises")}}
 README = """\
 A queue of words from one hart to another, for C11, C++ and Rust: ztso {version}
 
-queue.h            its block, and its functions' declarations (RV32, ilp32)
-queue.rs           the same for Rust
-functions.S        the functions: of Lamport's queue, with a cached tail too, and of FastForward's
-docs/functions.md  what your code owes and what it gets; its links lead to pages of ztso's repository
+queue.h                     its block, and its functions' declarations (RV32, ilp32)
+queue.rs                    the same for Rust
+functions.S                 the functions: of Lamport's queue, with a cached tail too, and of FastForward's
+docs/functions.md           what your code owes; its links lead to pages of ztso's repository
+docs/functions-promises.md  what your code gets
 
     #include "queue.h"
 

@@ -6,7 +6,7 @@ use Rattle.std.specs.List.{AllByRecursion, list_all}
 use Rattle.std.specs.Fmt.{decimal}
 use Rattle.std.proofs.lemmas.Bool.{lt-leb, lt-ltb}
 use Rattle.std.proofs.lemmas.List.{reverse-reverse, get_or_past}
-use Rattle.owned_run.specs.Certificates.{Field}
+use Rattle.queue_certificates.specs.RecordFields.{Field}
 use Rattle.queue_certificates.specs.Certificates.{OpenedQueue, no_queue}
 use Rattle.queue_certificates.specs.Filled.{Filled}
 use Rattle.certificate_reader.specs.declared.stages.Keyword.TheVariants as keyword

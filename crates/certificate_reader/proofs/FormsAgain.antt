@@ -18,11 +18,13 @@ use Rattle.texts.specs.declared.pieces.Separators.TheVariants.{Byte}
 use Rattle.texts.proofs.CuttingLaws.{none-append, before-stop, after-stop, split_none, split_stop, decimal_none, not_byte, not_low_byte}
 use Rattle.texts.proofs.RowLaws.{is_low, Solid}
 use Rattle.queue_certificates.specs.Forms.{Form}
-use Rattle.queue_certificates.specs.States.{linear, index_for, signed_for}
+use Rattle.queue_certificates.specs.States.{linear, index_for, signed_for, ends_as, has_bits}
+use Rattle.certificate_reader.specs.declared.forms.Mark.{Mark}
+use Rattle.certificate_reader.specs.declared.forms.Mark.TheVariants as mark
 use Rattle.certificate_reader.specs.declared.faults.CertificateFault.{CertificateFault}
 use Rattle.certificate_reader.specs.Numbers.{count_of, round_of}
-use Rattle.certificate_reader.specs.FormTexts.{multiple_of, with_factor, factors_after, form_from, form_of, index_of}
-use Rattle.certificate_reader.specs.FormTexts.{linear_of, index_value, known_value_in}
+use Rattle.certificate_reader.specs.FormTexts.{multiple_of, with_factor, factors_after, form_from, form_of, marked_of}
+use Rattle.certificate_reader.specs.FormTexts.{linear_of, marked_value, marked_numbers, mask_and_bits, bits_value, known_value_in}
 use Rattle.certificate_reader.specs.Lists.{forms_in}
 use Rattle.certificate_reader.specs.Writing.{is_written, first_if, multiple_text, multiples, parts_of, parts_text, form_text}
 use Rattle.certificate_reader.specs.Written.{FitsCount, FitsForm}
@@ -231,39 +233,57 @@ form_solid n f small fits = (
 
 -- ---- values
 
-not_index : (N n : ℕ) (text : List ℕ) → 0 < length text → NonePass (is_byte 64) text → NonePass (is_byte 126) text
-    → known_value_in N n text ≡ linear_of n text
+not_marked : (N n : ℕ) (text : List ℕ) → 0 < length text → NonePass (is_byte 64) text → NonePass (is_byte 126) text → NonePass (is_byte 94) text
+    → NonePass (is_byte 38) text → known_value_in N n text ≡ linear_of n text
 unfolding known_value_in
-not_index N n [] some none other = absurd (omega arith)
-not_index N n (byte ∷ text) some none other = rw (none.0, other.0) refl
+not_marked N n [] some none other ends last = absurd (omega arith)
+not_marked N n (byte ∷ text) some none other ends last = rw (none.0, other.0, ends.0, last.0) refl
 
 pub linear_again : (N n : ℕ) (f : Form) → n ≤ 2 ^ 32 → FitsForm n f → known_value_in N n (form_text f) ≡ Ok (linear f)
 unfolding linear_of
 linear_again N n f small fits =
-    not_index N n (form_text f) (form_solid n f small fits).0 (form_bytes (is_byte 64) (λ d lt. not_byte 64 d (omega arith) lt) refl refl n f small fits)
+    not_marked N n (form_text f) (form_solid n f small fits).0 (form_bytes (is_byte 64) (λ d lt. not_byte 64 d (omega arith) lt) refl refl n f small fits)
     (form_bytes (is_byte 126) (λ d lt. not_byte 126 d (omega arith) lt) refl refl n f small fits)
+    (form_bytes (is_byte 94) (λ d lt. not_byte 94 d (omega arith) lt) refl refl n f small fits)
+    (form_bytes (is_byte 38) (λ d lt. not_low_byte 38 d (omega arith)) refl refl n f small fits)
     ∙ rw (form_again n f small fits) refl
 
 -- what follows the mark
-word_of_index : (is_signed : Bool) (N n i : ℕ) (f : Form) → n ≤ 2 ^ 32 → N ≤ 2 ^ 32 → i < N → FitsForm n f
-    → index_of is_signed N n (decimal i ++ 58 ∷ form_text f) ≡ Ok (index_value is_signed i f)
-unfolding index_of
-word_of_index is_signed N n i f small few below fits =
+marked_again : (m : Mark) (N n i : ℕ) (f : Form) → n ≤ 2 ^ 32 → marked_numbers m N ≤ 2 ^ 32 → i < marked_numbers m N → FitsForm n f
+    → marked_of m N n (decimal i ++ 58 ∷ form_text f) ≡ Ok (marked_value m i f)
+unfolding marked_of
+marked_again m N n i f small few below fits =
     let none = decimal_bytes (is_byte 58) (λ d lt. not_byte 58 d (omega arith) lt) i (omega arith) in
     rw (
       before-stop (is_byte 58) (decimal i) 58 (form_text f) none refl,
       after-stop (is_byte 58) (decimal i) 58 (form_text f) none refl,
       word_again i (omega arith),
-      lt-ltb i N below,
+      lt-ltb i (marked_numbers m N) below,
       form_again n f small fits,
     ) refl
 
 pub index_again : (N n i : ℕ) (f : Form) → n ≤ 2 ^ 32 → N ≤ 2 ^ 32 → i < N → FitsForm n f
     → known_value_in N n (64 ∷ decimal i ++ 58 ∷ form_text f) ≡ Ok (index_for i f)
 unfolding known_value_in
-index_again N n i f small few below fits = word_of_index false N n i f small few below fits
+index_again N n i f small few below fits = marked_again mark.Index N n i f small few below fits
 
 pub signed_again : (N n i : ℕ) (f : Form) → n ≤ 2 ^ 32 → N ≤ 2 ^ 32 → i < N → FitsForm n f
     → known_value_in N n (126 ∷ decimal i ++ 58 ∷ form_text f) ≡ Ok (signed_for i f)
 unfolding known_value_in
-signed_again N n i f small few below fits = word_of_index true N n i f small few below fits
+signed_again N n i f small few below fits = marked_again mark.Signed N n i f small few below fits
+
+pub ends_again : (N n b : ℕ) (f : Form) → n ≤ 2 ^ 32 → N ≤ 2 ^ 32 → b ≤ 32 → FitsForm n f
+    → known_value_in N n (94 ∷ decimal b ++ 58 ∷ form_text f) ≡ Ok (ends_as b f)
+unfolding known_value_in
+ends_again N n b f small few below fits = marked_again mark.Ends N n b f small (omega arith) (omega (arith, below)) fits
+
+pub bits_again : (N n m b : ℕ) → m < 2 ^ 32 → b < 2 ^ 32 → known_value_in N n (38 ∷ decimal m ++ 58 ∷ decimal b) ≡ Ok (has_bits m b)
+unfolding known_value_in bits_value mask_and_bits
+bits_again N n m b small fits =
+    let none = decimal_bytes (is_byte 58) (λ d lt. not_byte 58 d (omega arith) lt) m (omega arith) in
+    rw (
+      before-stop (is_byte 58) (decimal m) 58 (decimal b) none refl,
+      after-stop (is_byte 58) (decimal m) 58 (decimal b) none refl,
+      word_again m small,
+      word_again b fits,
+    ) refl

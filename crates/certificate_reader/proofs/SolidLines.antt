@@ -6,8 +6,8 @@ use Rattle.std.specs.Fmt.{decimal}
 use Rattle.std.proofs.lemmas.List.{map-append}
 use Rattle.texts.proofs.CuttingLaws.{none-append}
 use Rattle.texts.proofs.RowLaws.{is_low, Solid, solid_by_test, decimal_solid}
-use Rattle.queue_certificates.specs.States.{KnownValue, any, linear, index_for, signed_for, Share}
-use Rattle.owned_run.specs.Certificates.{Field}
+use Rattle.queue_certificates.specs.States.{KnownValue, any, linear, index_for, signed_for, ends_as, has_bits, Share}
+use Rattle.queue_certificates.specs.RecordFields.{Field}
 use Rattle.queue_certificates.specs.Cases.{Arrow, Cases, leaf, split}
 use Rattle.queue_certificates.specs.Certificates.{OpenedQueue, no_queue, ListedState, HartPart, QueueCertificate}
 use Rattle.queue_certificates.specs.Filled.{Filled}
@@ -18,9 +18,9 @@ use Rattle.certificate_reader.specs.CaseTexts.{arrow_lines, case_lines}
 use Rattle.certificate_reader.specs.Writing.{LineOfWords, lines_at, form_text, value_line, value_lines, share_line, share_lines, range_text, line_if}
 use Rattle.certificate_reader.specs.Writing.{slot_line, slot_lines, filled_lines, known_lines, described_lines, node_line, tree_lines, state_lines}
 use Rattle.certificate_reader.specs.Writing.{part_lines, numbers_of, field_numbers, field_line, queue_line, queue_lines, certificate_lines, value_text}
-use Rattle.certificate_reader.specs.Writing.{codec_text, tagged_line}
+use Rattle.certificate_reader.specs.Writing.{codec_words, tagged_line}
 use Rattle.certificate_reader.specs.Written.{FitsWord, FitsCount, FitsForm, FitsValue, FitsShare, FitsRange, FitsArrow}
-use Rattle.certificate_reader.specs.Written.{FitsCases, FitsFilled, FitsState, FitsPart, FitsField, FitsQueue, FitsTagged}
+use Rattle.certificate_reader.specs.Written.{FitsCases, FitsFilled, FitsState, FitsPart, FitsField, FitsQueue, FitsCodec, FitsTagged}
 use Rattle.certificate_reader.specs.Written.{CanBeWritten}
 use Rattle.certificate_reader.proofs.FormsAgain.{form_solid}
 use Rattle.certificate_reader.proofs.FieldsAgain.{AreFew, are_few}
@@ -66,8 +66,8 @@ range_solid : (r : Option ℕ) → FitsRange r → Solid (range_text r)
 range_solid None fits = solid_by_test (codes "-") refl
 range_solid (Some n) fits = count_solid n fits
 
-index_solid : (mark i : ℕ) (text : List ℕ) → is_low mark ≡ false → i < 2 ^ 32 → Solid text → Solid (mark ∷ decimal i ++ 58 ∷ text)
-index_solid mark i text high small solid = (omega arith, (high, none-append is_low (decimal i) (58 ∷ text) (word_solid i small).1 (refl, solid.1)))
+marked_solid : (mark i : ℕ) (text : List ℕ) → is_low mark ≡ false → i < 2 ^ 32 → Solid text → Solid (mark ∷ decimal i ++ 58 ∷ text)
+marked_solid mark i text high small solid = (omega arith, (high, none-append is_low (decimal i) (58 ∷ text) (word_solid i small).1 (refl, solid.1)))
 
 value_solid : (N n j : ℕ) (name : List ℕ) (v : KnownValue) → n ≤ 2 ^ 32 → N ≤ 2 ^ 32 → j < 2 ^ 32 → Solid name → FitsValue N n v
     → AreSolid (value_line name j (value_text v))
@@ -76,12 +76,22 @@ value_solid N n j name (linear f) small few place one fits =
     (line_solid name (decimal j ∷ form_text f ∷ []) one (word_solid j place, (form_solid n f small fits, tt)), tt)
 value_solid N n j name (index_for i f) small few place one fits = (
   line_solid name (decimal j ∷ (64 ∷ decimal i ++ 58 ∷ form_text f) ∷ []) one
-      (word_solid j place, (index_solid 64 i (form_text f) refl (omega (arith, fits.0)) (form_solid n f small fits.1), tt)),
+      (word_solid j place, (marked_solid 64 i (form_text f) refl (omega (arith, fits.0)) (form_solid n f small fits.1), tt)),
   tt,
 )
 value_solid N n j name (signed_for i f) small few place one fits = (
   line_solid name (decimal j ∷ (126 ∷ decimal i ++ 58 ∷ form_text f) ∷ []) one
-      (word_solid j place, (index_solid 126 i (form_text f) refl (omega (arith, fits.0)) (form_solid n f small fits.1), tt)),
+      (word_solid j place, (marked_solid 126 i (form_text f) refl (omega (arith, fits.0)) (form_solid n f small fits.1), tt)),
+  tt,
+)
+value_solid N n j name (ends_as b f) small few place one fits = (
+  line_solid name (decimal j ∷ (94 ∷ decimal b ++ 58 ∷ form_text f) ∷ []) one
+      (word_solid j place, (marked_solid 94 b (form_text f) refl (omega (arith, fits.0)) (form_solid n f small fits.1), tt)),
+  tt,
+)
+value_solid N n j name (has_bits m b) small few place one fits = (
+  line_solid name (decimal j ∷ (38 ∷ decimal m ++ 58 ∷ decimal b) ∷ []) one
+      (word_solid j place, (marked_solid 38 m (decimal b) refl fits.0 (word_solid b fits.1), tt)),
   tt,
 )
 
@@ -202,20 +212,22 @@ field_solid f fits = line_solid (codes "field") (map decimal (field_numbers f)) 
 queue_lines_solid : (o : OpenedQueue) → FitsQueue o → AreSolid (queue_lines o)
 queue_lines_solid o fits = (queue_solid o fits, all_map FitsField IsSolidLine field_line field_solid o.fields fits.fields)
 
-codec_solid : (c : Codec) → Solid (codec_text c)
-codec_solid codec.Zero = solid_by_test (codes "zero") refl
-codec_solid codec.Number = solid_by_test (codes "number") refl
+codec_solid : (c : Codec) → FitsCodec c → AllByRecursion Solid (codec_words c)
+codec_solid codec.Zero fits = (solid_by_test (codes "zero") refl, tt)
+codec_solid codec.Number fits = (solid_by_test (codes "number") refl, tt)
+codec_solid (codec.Bit mask free full) fits =
+    (solid_by_test (codes "bits") refl, all_map FitsWord Solid decimal word_solid (mask ∷ free ∷ full ∷ []) fits)
 
 tagged_solid : (o : OpenedTagged) → FitsTagged o → IsSolidLine (tagged_line o)
 tagged_solid o fits =
     let q = o.queue in
     let slots = q.sender ∷ q.receiver ∷ q.slots ∷ q.size ∷ q.width ∷ [] in
     let tag = q.tag_offset ∷ q.tag_width ∷ [] in
-    let telling = codec_text q.codec ∷ decimal o.start ∷ [] in
+    let telling = codec_words q.codec ++ decimal o.start ∷ [] in
     line_solid (codes "tagged") (tagged_line o).1 (solid_by_test (codes "tagged") refl)
     (all_append Solid (map decimal slots) (map decimal tag ++ telling) (all_map FitsWord Solid decimal word_solid slots fits.slots)
     (all_append Solid (map decimal tag) telling (all_map FitsWord Solid decimal word_solid tag fits.tag)
-    (codec_solid q.codec, (count_solid o.start fits.start, tt))))
+    (all_append Solid (codec_words q.codec) (decimal o.start ∷ []) (codec_solid q.codec fits.codec) (count_solid o.start fits.start, tt))))
 
 pub certificate_solid : (c : QueueCertificate) → CanBeWritten c → AreSolid (certificate_lines c)
 certificate_solid c fits =

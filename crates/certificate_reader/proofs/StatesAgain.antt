@@ -9,7 +9,7 @@ use Rattle.std.proofs.lemmas.List.{reverse-append, map-append}
 use Rattle.std.proofs.Math.Dec.{eqb-suc-zero}
 use Rattle.std.proofs.Math.Seq.{set-append_seam, get_or-append_seam}
 use Rattle.queue_certificates.specs.Forms.{Form}
-use Rattle.queue_certificates.specs.States.{KnownValue, any, linear, index_for, signed_for, Share, no_share}
+use Rattle.queue_certificates.specs.States.{KnownValue, any, linear, index_for, signed_for, ends_as, has_bits, Share, no_share}
 use Rattle.queue_certificates.specs.Cases.{Arrow, Cases, leaf, split}
 use Rattle.queue_checker.specs.Trees.{height}
 use Rattle.certificate_reader.specs.declared.cases.Node.{Node}
@@ -22,11 +22,12 @@ use Rattle.certificate_reader.specs.Stages.{keyword_named, stage_after, wanted}
 use Rattle.certificate_reader.specs.FormTexts.{known_value_in}
 use Rattle.certificate_reader.specs.Drafts.{DraftValue, by_words, with_value, share_of, with_share}
 use Rattle.certificate_reader.specs.Drafts.{ranges_of, split_of, with_split, leaf_of, arrow_of}
-use Rattle.certificate_reader.specs.Writing.{form_text, index_text, value_text, value_line, value_lines, share_line, share_lines, range_text, line_if}
+use Rattle.certificate_reader.specs.Writing.{form_text, marked_text, bits_text, value_text, value_line, value_lines}
+use Rattle.certificate_reader.specs.Writing.{share_line, share_lines, range_text, line_if}
 use Rattle.certificate_reader.specs.Writing.{node_line, tree_lines}
 use Rattle.certificate_reader.specs.Written.{FitsForm, FitsValue, FitsShare, FitsRange, FitsArrow, FitsCases}
 use Rattle.certificate_reader.proofs.NumbersAgain.{first_word_again, first_count_again, ranges_again}
-use Rattle.certificate_reader.proofs.FormsAgain.{form_again, forms_again, linear_again, index_again, signed_again}
+use Rattle.certificate_reader.proofs.FormsAgain.{form_again, forms_again, linear_again, index_again, signed_again, ends_again, bits_again}
 use Rattle.certificate_reader.proofs.LinesAgain.{told, told-append, by_name, line_told, LeadsTo, no_line, IsHeld, at_stage}
 use Rattle.certificate_reader.proofs.Turns.{if_told, each_placed}
 use Rattle.certificate_reader.proofs.FieldsAgain.{IsDescribed}
@@ -83,9 +84,14 @@ module _ (N n least : ℕ) (name : List ℕ) (held : List KnownValue → Stage �
       by_value (linear f) none fits_v =
           said (linear f) (form_text f) (λ low. let e : linear f ≡ any = none low in cc) (linear_again N n f n_small fits_v)
       by_value (index_for i f) none fits_v =
-          said (index_for i f) (index_text 64 i f) (λ low. let e : index_for i f ≡ any = none low in cc) (index_again N n i f n_small N_small fits_v.0 fits_v.1)
-      by_value (signed_for i f) none fits_v = said (signed_for i f) (index_text 126 i f) (λ low. let e : signed_for i f ≡ any = none low in cc)
+          said (index_for i f) (marked_text 64 i f) (λ low. let e : index_for i f ≡ any = none low in cc)
+          (index_again N n i f n_small N_small fits_v.0 fits_v.1)
+      by_value (signed_for i f) none fits_v = said (signed_for i f) (marked_text 126 i f) (λ low. let e : signed_for i f ≡ any = none low in cc)
           (signed_again N n i f n_small N_small fits_v.0 fits_v.1)
+      by_value (ends_as b f) none fits_v = said (ends_as b f) (marked_text 94 b f) (λ low. let e : ends_as b f ≡ any = none low in cc)
+          (ends_again N n b f n_small N_small fits_v.0 fits_v.1)
+      by_value (has_bits m b) none fits_v = said (has_bits m b) (bits_text m b) (λ low. let e : has_bits m b ≡ any = none low in cc)
+          (bits_again N n m b fits_v.0 fits_v.1)
 
   pub values_told : (m : ℕ) (values : List KnownValue) (s : Stage) → m ≤ 2 ^ 32 → length values ≡ m → least ≤ 1 → (1 ≤ least → get_or values 0 any ≡ any)
       → AllByRecursion (FitsValue N n) values → IsDescribed s

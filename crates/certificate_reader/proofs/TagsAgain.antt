@@ -11,23 +11,25 @@ use Rattle.certificate_reader.specs.declared.stages.Keyword.TheVariants as keywo
 use Rattle.certificate_reader.specs.declared.stages.Stage.{Stage}
 use Rattle.certificate_reader.specs.declared.stages.Stage.TheVariants as stage
 use Rattle.certificate_reader.specs.Stages.{keyword_named, stage_after, lists_queues}
-use Rattle.certificate_reader.specs.Tags.{codec_of, first_codec_in, tagged_of, with_tagged}
+use Rattle.certificate_reader.specs.Tags.{bits_in, codec_by, first_codec_in, tagged_of, with_tagged}
 use Rattle.certificate_reader.specs.Drafts.{DraftValue}
-use Rattle.certificate_reader.specs.Writing.{codec_text, tagged_line}
-use Rattle.certificate_reader.specs.Written.{FitsTagged}
+use Rattle.certificate_reader.specs.Writing.{codec_words, tagged_line}
+use Rattle.certificate_reader.specs.Written.{FitsCodec, FitsTagged}
 use Rattle.certificate_reader.proofs.NumbersAgain.{five_again, first_word_again, first_count_again}
 use Rattle.certificate_reader.proofs.LinesAgain.{LeadsTo, line_told, IsHeld, at_stage}
 use Rattle.certificate_reader.proofs.Turns.{each_line}
 
 -- ---- a line
 
-codec_again : (c : Codec) → codec_of (codec_text c) ≡ Some c
-codec_again codec.Zero = refl
-codec_again codec.Number = refl
-
-first_codec_again : (c : Codec) (words : List (List ℕ)) → first_codec_in (codec_text c ∷ words) ≡ Ok (c, words)
-unfolding first_codec_in
-first_codec_again c words = rw (codec_again c) refl
+first_codec_again : (c : Codec) (words : List (List ℕ)) → FitsCodec c → first_codec_in (codec_words c ++ words) ≡ Ok (c, words)
+unfolding first_codec_in codec_by bits_in
+first_codec_again codec.Zero words fits = refl
+first_codec_again codec.Number words fits = refl
+first_codec_again (codec.Bit mask free full) words fits = rw (
+  first_word_again mask (decimal free ∷ decimal full ∷ words) fits.0,
+  first_word_again free (decimal full ∷ words) fits.1.0,
+  first_word_again full words fits.1.1.0,
+) refl
 
 abbrev words_of : OpenedTagged → List (List ℕ)
 words_of o = (tagged_line o).1
@@ -36,12 +38,12 @@ tagged_again : (o : OpenedTagged) → FitsTagged o → tagged_of (words_of o) �
 unfolding tagged_of
 tagged_again o fits =
     let q = o.queue in
-    let ends = codec_text q.codec ∷ decimal o.start ∷ [] in
+    let ends = codec_words q.codec ++ decimal o.start ∷ [] in
     rw (
       five_again q.sender q.receiver q.slots q.size q.width (decimal q.tag_offset ∷ decimal q.tag_width ∷ ends) fits.slots,
       first_word_again q.tag_offset (decimal q.tag_width ∷ ends) fits.tag.0,
       first_word_again q.tag_width ends fits.tag.1.0,
-      first_codec_again q.codec (decimal o.start ∷ []),
+      first_codec_again q.codec (decimal o.start ∷ []) fits.codec,
       first_count_again o.start [] fits.start,
     ) refl
 

@@ -3,7 +3,7 @@ use Rattle.std.specs.Prelude.{ℕ, suc, ◌-◌, Bool, false, nat_lt, nat_le, if
 use Rattle.std.specs.Prelude.{Result, Ok, Err}
 use Rattle.std.specs.List.{list_all}
 use Rattle.texts.specs.Results.{◌>>=◌}
-use Rattle.owned_run.specs.Certificates.{Field}
+use Rattle.queue_certificates.specs.RecordFields.{Field}
 use Rattle.queue_certificates.specs.Certificates.{OpenedQueue, no_queue}
 use Rattle.queue_certificates.specs.Filled.{Filled}
 use Rattle.certificate_reader.specs.declared.faults.CertificateFault.{CertificateFault}

@@ -8,7 +8,9 @@ use Rattle.texts.specs.Cutting.{before, after, is_byte}
 use Rattle.texts.specs.Pieces.{pieces}
 use Rattle.texts.specs.declared.pieces.Separators.TheVariants.{Byte}
 use Rattle.queue_certificates.specs.Forms.{Form}
-use Rattle.queue_certificates.specs.States.{KnownValue, linear, index_for, signed_for}
+use Rattle.queue_certificates.specs.States.{KnownValue, linear, index_for, signed_for, ends_as, has_bits}
+use Rattle.certificate_reader.specs.declared.forms.Mark.{Mark}
+use Rattle.certificate_reader.specs.declared.forms.Mark.TheVariants as mark
 use Rattle.certificate_reader.specs.declared.faults.CertificateFault.{CertificateFault}
 use Rattle.certificate_reader.specs.declared.faults.CertificateFault.TheVariants.{BadLine}
 use Rattle.certificate_reader.specs.Faults.{or_bad_line}
@@ -52,25 +54,41 @@ form_from n (first ∷ others) = form_by n (count_of first) first others
 unfoldable pub form_of : (n : ℕ) → List ℕ → Result Form CertificateFault
 form_of n text = form_from n (pieces (Byte 43) text)
 
--- ---- values: a form, or `@` (64), a queue of the N and `:` (58) before one; or `~` (126) in place of the `@`
+-- ---- values: a form, or `@` (64), a queue of the N and `:` (58) before one; `~` (126) in place of the `@`; `^` (94), with 0 to 32 bits
+-- in place of the queue; or `&` (38), a mask, `:` and the bits under it
 
-abbrev pub index_value : (is_signed : Bool) (i : ℕ) → Form → KnownValue
-index_value false i f = index_for i f
-index_value true i f = signed_for i f
+abbrev pub marked_value : Mark → (i : ℕ) → Form → KnownValue
+marked_value mark.Index i f = index_for i f
+marked_value mark.Signed i f = signed_for i f
+marked_value mark.Ends i f = ends_as i f
 
-abbrev pub index_by : (is_signed : Bool) (N n : ℕ) → Option ℕ → Option (List ℕ) → Result KnownValue CertificateFault
-index_by is_signed N n None text = Err BadLine
-index_by is_signed N n (Some i) None = Err BadLine
-index_by is_signed N n (Some i) (Some text) = if nat_lt i N then form_of n text >>= (λ form. Ok (index_value is_signed i form)) else Err BadLine
+-- how many numbers there are that may follow it
+abbrev pub marked_numbers : Mark → (N : ℕ) → ℕ
+marked_numbers mark.Ends N = 33
+marked_numbers other N = N
 
-unfoldable pub index_of : (is_signed : Bool) (N n : ℕ) → List ℕ → Result KnownValue CertificateFault
-index_of is_signed N n text = index_by is_signed N n (word_of (before (is_byte 58) text)) (after (is_byte 58) text)
+abbrev pub marked_by : Mark → (N n : ℕ) → Option ℕ → Option (List ℕ) → Result KnownValue CertificateFault
+marked_by m N n None text = Err BadLine
+marked_by m N n (Some i) None = Err BadLine
+marked_by m N n (Some i) (Some text) = if nat_lt i (marked_numbers m N) then form_of n text >>= (λ form. Ok (marked_value m i form)) else Err BadLine
+
+unfoldable pub marked_of : Mark → (N n : ℕ) → List ℕ → Result KnownValue CertificateFault
+marked_of m N n text = marked_by m N n (word_of (before (is_byte 58) text)) (after (is_byte 58) text)
 
 unfoldable pub linear_of : (n : ℕ) → List ℕ → Result KnownValue CertificateFault
 linear_of n text = do
   form ← form_of n text
   Ok (linear form)
 
+unfoldable pub mask_and_bits : List ℕ → Option (ℕ × ℕ)
+mask_and_bits text = option_and_then (λ bits. option_zip (word_of (before (is_byte 58) text)) (word_of bits)) (after (is_byte 58) text)
+
+unfoldable pub bits_value : List ℕ → Result KnownValue CertificateFault
+bits_value text = do
+  z ← or_bad_line (mask_and_bits text)
+  Ok (has_bits z.0 z.1)
+
 unfoldable pub known_value_in : (N n : ℕ) → List ℕ → Result KnownValue CertificateFault
 known_value_in N n [] = Err BadLine
-known_value_in N n (byte ∷ text) = if byte == 64 then index_of false N n text else (if byte == 126 then index_of true N n text else linear_of n (byte ∷ text))
+known_value_in N n (byte ∷ text) = if byte == 64 then marked_of mark.Index N n text else (if byte == 126 then marked_of mark.Signed N n text else
+    (if byte == 94 then marked_of mark.Ends N n text else (if byte == 38 then bits_value text else linear_of n (byte ∷ text))))

@@ -1,26 +1,40 @@
 -- The queues with tags of a certificate, as lines say them.
-use Rattle.std.specs.Prelude.{ℕ, nat_lt, List, Option, Some, None, Result, Ok, Err, if◌then◌else◌, codes}
+use Rattle.std.specs.Prelude.{ℕ, nat_lt, List, [], ◌∷◌, Option, Some, None, Result, Ok, Err, if◌then◌else◌, codes}
 use Rattle.std.specs.Str.{bytes_eq}
 use Rattle.texts.specs.Results.{◌>>=◌}
 use Rattle.queue_layouts.specs.declared.tagged.Codec.{Codec}
 use Rattle.queue_layouts.specs.declared.tagged.Codec.TheVariants as codec
 use Rattle.queue_layouts.specs.declared.tagged.OpenedTagged.{OpenedTagged}
 use Rattle.certificate_reader.specs.declared.faults.CertificateFault.{CertificateFault}
-use Rattle.certificate_reader.specs.declared.faults.CertificateFault.TheVariants.{TooMany}
+use Rattle.certificate_reader.specs.declared.faults.CertificateFault.TheVariants.{BadLine, TooMany}
 use Rattle.certificate_reader.specs.declared.limits.TheConstants.{MAX_TAGGED, MAX_SLOTS}
 use Rattle.certificate_reader.specs.Faults.{or_bad_line}
-use Rattle.certificate_reader.specs.Numbers.{first_in, first_word_in, first_count_in, ended, five_at}
+use Rattle.certificate_reader.specs.Numbers.{first_word_in, first_count_in, ended, five_at}
 use Rattle.certificate_reader.specs.Lists.{one_more}
 
--- how a tag tells
+-- how a tag tells, where one word says it
 abbrev pub codec_of : List ℕ → Option Codec
 codec_of word =
     if bytes_eq word (codes "zero") then Some codec.Zero else
     (if bytes_eq word (codes "number") then Some codec.Number else None)
 
--- the same as the first word says it, and the words after it
+-- bits of it: a mask, and what is under it in a free slot and in a full one; and the words after these
+unfoldable pub bits_in : List (List ℕ) → Result (Codec × List (List ℕ)) CertificateFault
+bits_in words = do
+  mask ← first_word_in words
+  free ← first_word_in mask.1
+  full ← first_word_in free.1
+  Ok (codec.Bit mask.0 free.0 full.0, full.1)
+
+unfoldable pub codec_by : (word : List ℕ) (others : List (List ℕ)) → Result (Codec × List (List ℕ)) CertificateFault
+codec_by word others = if bytes_eq word (codes "bits") then bits_in others else (do
+  codec ← or_bad_line (codec_of word)
+  Ok (codec, others))
+
+-- how a tag tells as the first words say it, and the words after these
 unfoldable pub first_codec_in : List (List ℕ) → Result (Codec × List (List ℕ)) CertificateFault
-first_codec_in words = first_in (λ word. or_bad_line (codec_of word)) words
+first_codec_in [] = Err BadLine
+first_codec_in (word ∷ others) = codec_by word others
 
 -- sender, receiver, slots, size, width; where in a slot its tag begins, the bytes of that, and how it tells; and the position with
 -- which the queue opens

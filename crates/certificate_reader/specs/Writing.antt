@@ -3,9 +3,9 @@
 use Rattle.std.specs.Prelude.{ℕ, ◌+◌, ◌==◌, ◌||◌, not, Bool, true, false, List, [], ◌∷◌, ◌++◌, length, map, Option, Some, None, codes}
 use Rattle.std.specs.List.{flat_map}
 use Rattle.std.specs.Fmt.{decimal}
-use Rattle.owned_run.specs.Certificates.{Field}
+use Rattle.queue_certificates.specs.RecordFields.{Field}
 use Rattle.queue_certificates.specs.Forms.{Form}
-use Rattle.queue_certificates.specs.States.{KnownValue, any, linear, index_for, signed_for, Share, KnownState}
+use Rattle.queue_certificates.specs.States.{KnownValue, any, linear, index_for, signed_for, ends_as, has_bits, Share, KnownState}
 use Rattle.queue_certificates.specs.Certificates.{OpenedQueue, ListedState, HartPart, QueueCertificate}
 use Rattle.queue_certificates.specs.Filled.{Filled}
 use Rattle.queue_layouts.specs.declared.tagged.Codec.{Codec}
@@ -70,15 +70,21 @@ form_text f = parts_text false (parts_of f)
 
 -- ---- what is known in a state
 
--- `@i:FORM` for an index's word, `~i:FORM` for what a signed load leaves of it (the `@` is 64, the `~` 126, the `:` 58)
-abbrev pub index_text : (mark i : ℕ) → Form → List ℕ
-index_text mark i f = mark ∷ decimal i ++ 58 ∷ form_text f
+-- `@i:FORM` for an index's word, `~i:FORM` for what a signed load leaves of it, `^n:FORM` for n bits that end as a form does, `&MASK:BITS`
+-- for a word of which these are the bits under the mask (the `@` is 64, the `~` 126, the `^` 94, the `&` 38, the `:` 58)
+abbrev pub marked_text : (mark i : ℕ) → Form → List ℕ
+marked_text mark i f = mark ∷ decimal i ++ 58 ∷ form_text f
+
+abbrev pub bits_text : (mask bits : ℕ) → List ℕ
+bits_text mask bits = 38 ∷ decimal mask ++ 58 ∷ decimal bits
 
 abbrev pub value_text : KnownValue → Option (List ℕ)
 value_text any = None
 value_text (linear f) = Some (form_text f)
-value_text (index_for i f) = Some (index_text 64 i f)
-value_text (signed_for i f) = Some (index_text 126 i f)
+value_text (index_for i f) = Some (marked_text 64 i f)
+value_text (signed_for i f) = Some (marked_text 126 i f)
+value_text (ends_as n f) = Some (marked_text 94 n f)
+value_text (has_bits m b) = Some (bits_text m b)
 
 abbrev pub value_line : (name : List ℕ) (place : ℕ) → Option (List ℕ) → List LineOfWords
 value_line name place None = []
@@ -157,14 +163,15 @@ field_line f = (codes "field", map decimal (field_numbers f))
 abbrev pub queue_lines : OpenedQueue → List LineOfWords
 queue_lines o = queue_line o ∷ map field_line o.fields
 
--- how its tags tell
-abbrev pub codec_text : Codec → List ℕ
-codec_text codec.Zero = codes "zero"
-codec_text codec.Number = codes "number"
+-- how its tags tell: of bits the mask, and what they are of a free slot and of a full one
+abbrev pub codec_words : Codec → List (List ℕ)
+codec_words codec.Zero = codes "zero" ∷ []
+codec_words codec.Number = codes "number" ∷ []
+codec_words (codec.Bit mask free full) = codes "bits" ∷ map decimal (mask ∷ free ∷ full ∷ [])
 
 -- numbers, how tags tell, and the position with which the queue opens
 abbrev pub telling_line : List ℕ → Codec → (start : ℕ) → LineOfWords
-telling_line numbers tells start = (codes "tagged", map decimal numbers ++ codec_text tells ∷ decimal start ∷ [])
+telling_line numbers tells start = (codes "tagged", map decimal numbers ++ codec_words tells ++ decimal start ∷ [])
 
 abbrev pub tagged_line : OpenedTagged → LineOfWords
 tagged_line o =

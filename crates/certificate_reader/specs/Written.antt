@@ -1,12 +1,14 @@
 -- Which certificates can be written within the reader's limits: a text of such a one is read as the certificate again.
 use Rattle.std.specs.Prelude.{ℕ, ◌≡◌, ◌+◌, ◌^◌, ◌<◌, ◌≤◌, Option, None, Some, List, [], ◌∷◌, length, get_or, sum_by}
 use Rattle.std.specs.List.{AllByRecursion}
-use Rattle.owned_run.specs.Certificates.{Field}
+use Rattle.queue_certificates.specs.RecordFields.{Field}
 use Rattle.queue_certificates.specs.Forms.{Form}
-use Rattle.queue_certificates.specs.States.{KnownValue, any, linear, index_for, signed_for, Share}
+use Rattle.queue_certificates.specs.States.{KnownValue, any, linear, index_for, signed_for, ends_as, has_bits, Share}
 use Rattle.queue_certificates.specs.Cases.{Arrow, Cases, leaf, split}
 use Rattle.queue_certificates.specs.Certificates.{OpenedQueue, no_queue, ListedState, HartPart, QueueCertificate}
 use Rattle.queue_certificates.specs.Filled.{Filled}
+use Rattle.queue_layouts.specs.declared.tagged.Codec.{Codec}
+use Rattle.queue_layouts.specs.declared.tagged.Codec.TheVariants as codec
 use Rattle.queue_layouts.specs.declared.tagged.OpenedTagged.{OpenedTagged}
 use Rattle.queue_checker.specs.Trees.{height}
 use Rattle.certificate_reader.specs.declared.stages.TheConstants.{MAX_SPLITS}
@@ -32,6 +34,8 @@ FitsValue N n any = Unit {0}
 FitsValue N n (linear f) = FitsForm n f
 FitsValue N n (index_for i f) = (i < N) × FitsForm n f
 FitsValue N n (signed_for i f) = (i < N) × FitsForm n f
+FitsValue N n (ends_as b f) = (b ≤ 32) × FitsForm n f
+FitsValue N n (has_bits m b) = FitsWord m × FitsWord b
 
 pub record FitsShare (n : ℕ) (s : Share) : Type 0 where
   pub own : FitsForm n s.own
@@ -112,10 +116,16 @@ pub record FitsQueue (o : OpenedQueue) : Type 0 where
   pub fields : AllByRecursion FitsField o.fields
   pub few_fields : length o.fields ≤ MAX_FIELDS
 
+abbrev pub FitsCodec : Codec → Type 0
+FitsCodec codec.Zero = Unit {0}
+FitsCodec codec.Number = Unit {0}
+FitsCodec (codec.Bit mask free full) = AllByRecursion FitsWord (mask ∷ free ∷ full ∷ [])
+
 pub record FitsTagged (o : OpenedTagged) : Type 0 where
   pub slots : AllByRecursion FitsWord (o.queue.sender ∷ o.queue.receiver ∷ o.queue.slots ∷ o.queue.size ∷ o.queue.width ∷ [])
   pub few_slots : o.queue.size ≤ MAX_SLOTS
   pub tag : AllByRecursion FitsWord (o.queue.tag_offset ∷ o.queue.tag_width ∷ [])
+  pub codec : FitsCodec o.queue.codec
   pub start : FitsCount o.start
 
 pub record CanBeWritten (c : QueueCertificate) : Type 0 where

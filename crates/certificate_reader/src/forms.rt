@@ -5,11 +5,12 @@ ghost use Rattle.std.specs.Option.{option_copied};
 ghost use Rattle.texts.specs.Results.{GivesUpToMemory, refusal_of};
 ghost use Rattle.texts.specs.Pieces.{pieces_after};
 ghost use Rattle.texts.specs.declared.pieces.Separators.TheVariants.{Byte};
-ghost use Rattle.certificate_reader.specs.FormTexts.{multiple_of, with_factor, factors_after, form_of, index_of, linear_of, known_value_in};
+ghost use Rattle.certificate_reader.specs.FormTexts.{multiple_of, with_factor, factors_after, form_of, marked_numbers, marked_of, marked_value};
+ghost use Rattle.certificate_reader.specs.FormTexts.{linear_of, mask_and_bits, bits_value, known_value_in};
 
 use crate::faults::{BAD, LineError};
 use crate::numbers::count;
-use known_values::values::{index_for, linear, signed_for};
+use known_values::values::{ends_as, has_bits, index_for, linear, signed_for};
 use known_values::{Form, KnownValue};
 use std::alloc::Global;
 use texts::cutting::cut_at;
@@ -72,29 +73,56 @@ pub fn form(alloc: Global, variables: usize, text: &[u8]) -> Result<Form, LineEr
     Ok(Form { constant, factors })
 }
 
-/// The word of one of the queues that stands for a count, or what a signed load leaves of it: what follows the `@` or the `~`.
-#[tactic(auto, unfolding(crate::specs::FormTexts::index_of))]
-fn index(
+/// What a value says before whose form a number stands: the byte that it begins with.
+#[derive(Clone, Copy)]
+enum Mark {
+    /// `@`: the word of one of the queues that stands for a count.
+    Index,
+    /// `~`: what a signed load leaves of it.
+    Signed,
+    /// `^`: a number of bits that end in as many zeros as the form.
+    Ends,
+}
+
+/// What follows a mark.
+#[tactic(auto, unfolding(crate::specs::FormTexts::marked_of))]
+fn marked(
     alloc: Global,
-    is_signed: bool,
+    mark: Mark,
     queues: usize,
     variables: usize,
     text: &[u8],
 ) -> Result<KnownValue, LineError>
-    ensures { GivesUpToMemory refusal_of (λ value. value) result (index_of is_signed queues variables text.now) }
+    ensures { GivesUpToMemory refusal_of (λ value. value) result (marked_of mark queues variables text.now) }
 {
     let (digits, after) = cut_at(text, b':');
-    let queue = word(digits).ok_or(BAD)?;
+    let number = word(digits).ok_or(BAD)?;
     let text = after.ok_or(BAD)?;
-    if queue as usize >= queues {
+    if number as usize >= marked_numbers(mark, queues) {
         return Err(BAD);
     }
     let form = form(alloc, variables, text)?;
-    Ok(if is_signed {
-        signed_for(queue, form)
-    } else {
-        index_for(queue, form)
-    })
+    Ok(marked_value(mark, number, form))
+}
+
+/// How many numbers may follow a mark, from 0 on.
+fn marked_numbers(mark: Mark, queues: usize) -> usize
+    ensures { result ≡ marked_numbers mark queues }
+{
+    match mark {
+        Mark::Index | Mark::Signed => queues,
+        Mark::Ends => 33,
+    }
+}
+
+fn marked_value(mark: Mark, number: u32, form: Form) -> KnownValue
+    ensures { result ≡ marked_value mark number form }
+{
+    match mark {
+        Mark::Index => index_for(number, form),
+        Mark::Signed => signed_for(number, form),
+        Mark::Ends => ends_as(number, form),
+    }
 }
 
 #[tactic(auto, unfolding(crate::specs::FormTexts::linear_of))]
@@ -102,6 +130,26 @@ fn number(alloc: Global, variables: usize, text: &[u8]) -> Result<KnownValue, Li
     ensures { GivesUpToMemory refusal_of (λ value. value) result (linear_of variables text.now) }
 {
     Ok(linear(form(alloc, variables, text)?))
+}
+
+/// A mask, and the bits under it.
+#[tactic(auto, unfolding(crate::specs::FormTexts::mask_and_bits))]
+fn mask_and_bits(text: &[u8]) -> Option<(u32, u32)>
+    ensures { result ≡ mask_and_bits text.now }
+{
+    match cut_at(text, b':') {
+        (mask, Some(bits)) => Some((word(mask)?, word(bits)?)),
+        _ => None,
+    }
+}
+
+/// A word of which some bits are known.
+#[tactic(auto, unfolding(crate::specs::FormTexts::bits_value))]
+fn bits(text: &[u8]) -> Result<KnownValue, LineError>
+    ensures { GivesUpToMemory refusal_of (λ value. value) result (bits_value text.now) }
+{
+    let (mask, bits) = mask_and_bits(text).ok_or(BAD)?;
+    Ok(has_bits(mask, bits))
 }
 
 /// The value that a text says of so many queues and variables.
@@ -116,8 +164,10 @@ pub fn value(
 {
     match text {
         [] => Err(BAD),
-        [b'@', text @ ..] => index(alloc, false, queues, variables, text),
-        [b'~', text @ ..] => index(alloc, true, queues, variables, text),
+        [b'@', text @ ..] => marked(alloc, Mark::Index, queues, variables, text),
+        [b'~', text @ ..] => marked(alloc, Mark::Signed, queues, variables, text),
+        [b'^', text @ ..] => marked(alloc, Mark::Ends, queues, variables, text),
+        [b'&', text @ ..] => bits(text),
         _ => number(alloc, variables, text),
     }
 }

@@ -3,7 +3,7 @@
 ghost use Rattle.std.specs.Prelude.{◌≡◌, ◌++◌, ◌∷◌, [], codes, map, if◌then◌else◌, OnOk};
 ghost use Rattle.std.specs.String.{string_bytes};
 ghost use Rattle.std.specs.Fmt.{decimal};
-ghost use Rattle.certificate_reader.specs.Writing.{lines_text, line_if, range_text, index_text, value_text, value_line, value_lines, share_line};
+ghost use Rattle.certificate_reader.specs.Writing.{lines_text, line_if, range_text, form_text, bits_text, value_text, value_line, value_lines, share_line};
 ghost use Rattle.certificate_reader.specs.Writing.{share_lines, known_lines, slot_line, slot_lines, filled_lines, described_lines};
 
 use crate::form_texts::{push_form, push_numbers, push_ranges};
@@ -23,14 +23,24 @@ fn push_place(out: &mut String, front: &str, name: &str, place: usize) -> Result
     out.push_str(" ")
 }
 
-/// Appends a queue and a count after a mark of what of its index's word is meant: the word, or what a signed load leaves of it.
-fn push_index(out: &mut String, is_signed: bool, queue: u32, form: &Form) -> Result<(), AllocError>
-    ensures { OnOk result (string_bytes out.new ≡ string_bytes out.old ++ index_text (if is_signed then 126 else 64) queue form.now) }
+/// Appends a number and a form after a mark, one character.
+fn push_marked(out: &mut String, mark: &str, number: u32, form: &Form) -> Result<(), AllocError>
+    ensures { OnOk result (string_bytes out.new ≡ string_bytes out.old ++ mark.now ++ decimal number ++ 58 ∷ form_text form.now) }
 {
-    out.push_str(if is_signed { "~" } else { "@" })?;
-    push_decimal(out, u64::from(queue))?;
+    out.push_str(mark)?;
+    push_decimal(out, u64::from(number))?;
     out.push_str(":")?;
     push_form(out, form)
+}
+
+/// Appends a mask and the bits under it.
+fn push_bits(out: &mut String, mask: u32, bits: u32) -> Result<(), AllocError>
+    ensures { OnOk result (string_bytes out.new ≡ string_bytes out.old ++ bits_text mask bits) }
+{
+    out.push_str("&")?;
+    push_decimal(out, u64::from(mask))?;
+    out.push_str(":")?;
+    push_decimal(out, u64::from(bits))
 }
 
 /// Appends the line of a value at a place, if anything is known of it.
@@ -52,12 +62,22 @@ fn push_value(
         }
         Known::IndexFor(queue, form) => {
             push_place(out, front, name, place)?;
-            push_index(out, false, *queue, form)?;
+            push_marked(out, "@", *queue, form)?;
             out.push_str("\n")
         }
         Known::SignedFor(queue, form) => {
             push_place(out, front, name, place)?;
-            push_index(out, true, *queue, form)?;
+            push_marked(out, "~", *queue, form)?;
+            out.push_str("\n")
+        }
+        Known::EndsAs(bits, form) => {
+            push_place(out, front, name, place)?;
+            push_marked(out, "^", *bits, form)?;
+            out.push_str("\n")
+        }
+        Known::HasBits(mask, bits) => {
+            push_place(out, front, name, place)?;
+            push_bits(out, *mask, *bits)?;
             out.push_str("\n")
         }
     }

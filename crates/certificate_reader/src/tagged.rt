@@ -3,7 +3,7 @@
 ghost use Rattle.std.specs.Prelude.{◌≡◌};
 ghost use Rattle.texts.specs.Results.{GivesUpToMemory, refusal_of};
 ghost use Rattle.texts.specs.Cutting.{tokens};
-ghost use Rattle.certificate_reader.specs.Tags.{codec_of, first_codec_in, tagged_of, with_tagged};
+ghost use Rattle.certificate_reader.specs.Tags.{codec_of, bits_in, first_codec_in, tagged_of, with_tagged};
 
 use crate::faults::{BAD, LineError, TOO_MANY};
 use crate::limits::{MAX_SLOTS, MAX_TAGGED};
@@ -11,7 +11,7 @@ use crate::numbers::{end, first_count, first_five, first_word};
 use queue_layouts::{Codec, OpenedTagged, TaggedQueue};
 use texts::first_token;
 
-/// How a tag tells.
+/// How a tag tells, where one word says it.
 fn codec(word: &[u8]) -> Option<Codec>
     ensures { result ≡ codec_of word.now }
 {
@@ -24,12 +24,26 @@ fn codec(word: &[u8]) -> Option<Codec>
     }
 }
 
-/// The same as the first word says it, and what follows.
-#[tactic(auto, unfolding(crate::specs::Tags::first_codec_in))]
+/// The bits of a tag that tell, and what follows: a mask, and what is under it in a free slot and in a full one.
+#[tactic(auto, unfolding(crate::specs::Tags::bits_in))]
+fn bits(text: &[u8]) -> Result<(Codec, &[u8]), LineError>
+    ensures { GivesUpToMemory refusal_of (λ cut. (cut.0, tokens cut.1.now)) result (bits_in (tokens text.now)) }
+{
+    let (mask, rest) = first_word(text)?;
+    let (free, rest) = first_word(rest)?;
+    let (full, rest) = first_word(rest)?;
+    Ok((Codec::Bit { mask, free, full }, rest))
+}
+
+/// How a tag tells as the first words say it, and what follows.
+#[tactic(auto, unfolding(crate::specs::Tags::first_codec_in, crate::specs::Tags::codec_by))]
 fn first_codec(text: &[u8]) -> Result<(Codec, &[u8]), LineError>
     ensures { GivesUpToMemory refusal_of (λ cut. (cut.0, tokens cut.1.now)) result (first_codec_in (tokens text.now)) }
 {
     let (word, rest) = first_token(text).ok_or(BAD)?;
+    if word == b"bits".as_slice() {
+        return bits(rest);
+    }
     let codec = codec(word).ok_or(BAD)?;
     Ok((codec, rest))
 }

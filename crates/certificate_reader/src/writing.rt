@@ -9,7 +9,7 @@ ghost use Rattle.certificate_reader.specs.declared.cases.Node.TheVariants as nod
 ghost use Rattle.certificate_reader.specs.Reading.{certificate_at};
 ghost use Rattle.certificate_reader.specs.Written.{CanBeWritten};
 ghost use Rattle.certificate_reader.specs.Writing.{lines_text, line_if, form_text, node_line, tree_lines, state_lines, part_lines};
-ghost use Rattle.certificate_reader.specs.Writing.{queue_line, field_line, queue_lines, codec_text, telling_line, tagged_line, certificate_text};
+ghost use Rattle.certificate_reader.specs.Writing.{queue_line, field_line, queue_lines, spaced, codec_words, telling_line, tagged_line, certificate_text};
 
 use crate::form_texts::{push_addresses, push_form, push_forms, push_numbers};
 use crate::known_texts::push_described;
@@ -183,12 +183,17 @@ fn push_queues(out: &mut String, queues: &[OpenedQueue]) -> Result<(), AllocErro
     Ok(())
 }
 
-fn codec_text(codec: Codec) -> &'static str
-    ensures { result.now ≡ codec_text codec }
+/// Appends how tags tell, each word after a space.
+fn push_codec(out: &mut String, codec: Codec) -> Result<(), AllocError>
+    ensures { OnOk result (string_bytes out.new ≡ string_bytes out.old ++ spaced (codec_words codec)) }
 {
     match codec {
-        Codec::Zero => "zero",
-        Codec::Number => "number",
+        Codec::Zero => out.push_str(" zero"),
+        Codec::Number => out.push_str(" number"),
+        Codec::Bit { mask, free, full } => {
+            out.push_str(" bits")?;
+            push_numbers(out, &[u64::from(mask), u64::from(free), u64::from(full)])
+        }
     }
 }
 
@@ -203,8 +208,7 @@ fn push_telling(
 {
     out.push_str("tagged")?;
     push_numbers(out, numbers)?;
-    out.push_str(" ")?;
-    out.push_str(codec_text(codec))?;
+    push_codec(out, codec)?;
     out.push_str(" ")?;
     push_decimal(out, start)?;
     out.push_str("\n")

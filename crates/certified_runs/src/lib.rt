@@ -6,7 +6,7 @@
 //! protocols: `proofs/Every.antt` does, and `proofs/TwoParties.antt` of queues between two harts. There are no calls. This crate runs
 //! nothing.
 //!
-//! Called by none, and cited by more than 6 crates, from `owned_run` to `certifying`.
+//! Called by none, and cited by more than 6 crates, from `queue_certificates` to `certifying`.
 
 #![tactic(auto)]
 

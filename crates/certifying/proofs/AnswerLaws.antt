@@ -12,9 +12,9 @@ use Rattle.step_machine.specs.Legal.{WellFormed}
 use Rattle.queue_parties.specs.Parties.{Party, all_at, the_sender, the_receiver}
 use Rattle.certified_runs.specs.TwoParties.{EachIs}
 use Rattle.slots_that_tell.specs.Telling.{teller_hart}
-use Rattle.telling_run.specs.Certified.{LoadsRestOwned, telling}
+use Rattle.queue_certificates.specs.ToldRuns.{LoadsRestOwned, telling}
 use Rattle.slot_queue.specs.Ownership.{hart}
-use Rattle.owned_run.specs.Certified.{ReadsOwned}
+use Rattle.queue_certificates.specs.OwnedRuns.{ReadsOwned}
 use Rattle.queue_certificates.specs.Certificates.{QueueCertificate, queue_at, start_at, tagged_at, tagged_start, accepts, accepts_loads, accepts_rest}
 use Rattle.queue_layouts.specs.Tagged.{slots_of}
 use Rattle.queue_checker.specs.declared.flaws.Flaw.{Flaw}
@@ -27,10 +27,11 @@ use Rattle.engine_support.proofs.InputLaws.{IsOne, alike_after, is_one, one_litm
 use Rattle.certifying.specs.Answers.{IsAnswerTo, IsCertificateAnswer, IsFlawAnswer, IsKeptAnswer, IsQueueAnswer, IsTrialAnswer, IsUseAnswer, is_of_queue}
 use Rattle.certifying.specs.Answers.{judged_reads, kept_answer, kept_judgement}
 use Rattle.certifying.specs.Questions.{Questions}
+use Rattle.certifying.specs.Going.{all_going, all_going_lines}
 use Rattle.certifying.specs.Harts.{harts_lines, harts_safe}
 use Rattle.certifying.specs.Inputs.{SaysCertificate, certificate_of, certificates}
 use Rattle.certifying.specs.Kept.{AreSameAnswers, AreJudged, AreQueueAnswers, DifferInRecords, IsPromised, KeepsProtocol, KeepsTags, LoadsOwnedSlots}
-use Rattle.certifying.specs.Kept.{LoadsTagsOrOwned, ReceivesFields}
+use Rattle.certifying.specs.Kept.{LinesHold, LoadsTagsOrOwned, ReceivesFields}
 use Rattle.certifying.specs.Queues.{queue_count, slots_by, tagged_number}
 use Rattle.certifying.specs.Records.{AreFoundFor, is_shown}
 use Rattle.certifying.specs.declared.records.Records.{Records}
@@ -40,8 +41,9 @@ use Rattle.certifying.specs.declared.judgement.Judgement.{Judgement}
 use Rattle.certifying.specs.declared.judgement.Judgement.TheVariants as judgement
 use Rattle.certifying.specs.declared.unread.Unread.{Unread}
 use Rattle.certifying.specs.declared.unused.Unused.{Unused}
-use Rattle.certifying.proofs.AskedLaws.{AskedLaws, keeps-harts, writes}
+use Rattle.certifying.proofs.AskedLaws.{AskedLaws, harts-hold, keeps-harts, records-hold, writes}
 use Rattle.certifying.proofs.DrawnLaws.{DrawnLaws, SomeSlots, breaks, no_first, none-below, one-trial, sized, unmapped}
+use Rattle.certifying.proofs.GoingLaws.{GoingLaws, keeps-going, progress-holds}
 use Rattle.certifying.proofs.Numbers.{is_indexed, is_tagged}
 
 -- ---- one answer
@@ -127,6 +129,7 @@ pub record Laws : Type 0 where
       → accepts_rest o c t (teller_hart (slots_of (tagged_at c t)) p) ≡ true → (es : List Entry) → WellFormed B M (history_of o es)
       → EachIs (telling (slots_of (tagged_at c t))) (teller_hart (slots_of (tagged_at c t)) p) (LoadsRestOwned (slots_of (tagged_at c t)) p)
       (all_at (tagged_start c t)) es
+  pub going : GoingLaws
   pub asked : AskedLaws
   pub drawn : DrawnLaws
 
@@ -176,9 +179,22 @@ module _ (laws : Laws) (o : OpeningValue) (c : QueueCertificate) where
   receives none = laws.sent o c ((laws.no_flaw o c).0 none)
 
   module _ (M : ℕ) (asked : Questions) where
-    promised_all : first_flaw o c ≡ None → first_unread o c ≡ None → (found : List Records) → AreFoundFor o c asked.written found → (all : Bool)
-        → (list_all is_shown found && harts_safe M o c asked.harts) ≡ all → IsPromised M asked (kept_judgement all) o c
-    promised_all none owned found are true shown =
+    lines_hold : first_flaw o c ≡ None → (found : List Records) → AreFoundFor o c asked.written found → (answer : List ℕ × Judgement)
+        → answer ≡ kept_answer M asked o c found → LinesHold M asked o c answer
+    lines_hold none found are answer is =
+        let accepted = (laws.no_flaw o c).0 none in record {
+          found = found;
+          answer_is = is;
+          progress = progress-holds o c laws.going accepted asked.progress;
+          records = records-hold o c laws.asked accepted asked.written found are;
+          harts = harts-hold o c laws.asked accepted M asked.harts;
+        }
+
+    promised_all : first_flaw o c ≡ None → first_unread o c ≡ None → (found : List Records) → AreFoundFor o c asked.written found → (text : List ℕ)
+        → (goes : Bool) → all_going o c asked.progress ≡ goes
+        → (all : Bool) → (list_all is_shown found && harts_safe M o c asked.harts) ≡ all → LinesHold M asked o c (text, kept_judgement goes all)
+        → IsPromised M asked (text, kept_judgement goes all) o c
+    promised_all none owned found are text true goes true shown hold =
         let accepted = (laws.no_flaw o c).0 none in
         let both = and_parts _ _ shown in (
           keeps none,
@@ -186,45 +202,65 @@ module _ (laws : Laws) (o : OpeningValue) (c : QueueCertificate) where
           receives none,
           loads none owned,
           loads_tags none owned,
+          keeps-going o c laws.going accepted asked.progress goes,
           writes o c laws.asked accepted asked.written found are both.0,
           keeps-harts o c laws.asked accepted M asked.harts both.1,
         )
-    promised_all none owned found are false shown = (keeps none, keeps_tags none, receives none, loads none owned, loads_tags none owned)
+    promised_all none owned found are text true goes false shown hold = (
+      keeps none,
+      keeps_tags none,
+      receives none,
+      loads none owned,
+      loads_tags none owned,
+      keeps-going o c laws.going ((laws.no_flaw o c).0 none) asked.progress goes,
+      hold,
+    )
+    promised_all none owned found are text false goes all shown hold =
+        (keeps none, keeps_tags none, receives none, loads none owned, loads_tags none owned, hold)
+
+    -- what is answered, where the first load that isn't shown is this
+    abbrev answered : List Records → Option Unread → List ℕ × Judgement
+    answered found u = judged_reads o c asked (all_going_lines o c asked.progress) found (harts_lines M o c asked.harts)
+        (all_going o c asked.progress) (harts_safe M o c asked.harts) u
 
     promised_reads : first_flaw o c ≡ None → (found : List Records) → AreFoundFor o c asked.written found → (u : Option Unread) → first_unread o c ≡ u
-        → IsPromised M asked (judged_reads o c asked found (harts_lines M o c asked.harts) (harts_safe M o c asked.harts) u).1 o c
-    promised_reads none found are None e =
-        promised_all none e found are (list_all is_shown found && harts_safe M o c asked.harts) refl
-    promised_reads none found are (Some unread) e = (keeps none, keeps_tags none, receives none)
+        → LinesHold M asked o c (answered found u) → IsPromised M asked (answered found u) o c
+    promised_reads none found are None e hold = promised_all none e found are _ (all_going o c asked.progress) refl
+        (list_all is_shown found && harts_safe M o c asked.harts) refl hold
+    promised_reads none found are (Some unread) e hold = (keeps none, keeps_tags none, receives none, hold)
 
     promised_use : first_flaw o c ≡ None → (u : Option Unused) → (answer : List ℕ × Judgement) → IsUseAnswer M asked o c u answer
-        → IsPromised M asked answer.1 o c
-    promised_use none None answer is = rw is.answer_is (promised_reads none is.found is.are_found (first_unread o c) refl)
+        → IsPromised M asked answer o c
+    promised_use none None answer is =
+        let hold = lines_hold none is.found is.are_found (kept_answer M asked o c is.found) refl in
+        rw is.answer_is (promised_reads none is.found is.are_found (first_unread o c) refl hold)
     promised_use none (Some unused) answer is = rw is tt
 
   module _ (d : DrawnRuns) (asked : Questions) where
-    promised_trial : (f : Flaw) → SomeSlots o c → (answer : List ℕ × Judgement) → IsTrialAnswer d o c f answer → IsPromised d.M asked answer.1 o c
+    promised_trial : (f : Flaw) → SomeSlots o c → (answer : List ℕ × Judgement) → IsTrialAnswer d o c f answer → IsPromised d.M asked answer o c
     promised_trial f some (text, judgement.NotShown) is = tt
-    promised_trial f some (text, judgement.Broken) is = breaks d o c laws.drawn some text is
+    promised_trial f some (text, judgement.Broken) is = breaks d o c laws.drawn some true text is
+    promised_trial f some (text, judgement.OtherProtocol) is = breaks d o c laws.drawn some false text is
     promised_trial f some (text, judgement.Kept) is = absurd is
     promised_trial f some (text, judgement.ReadsNotShown) is = absurd is
+    promised_trial f some (text, judgement.ProgressNotShown) is = absurd is
     promised_trial f some (text, judgement.AskedNotShown) is = absurd is
 
     promised_flaw : (f : Flaw) → first_flaw o c ≡ Some f → (of_queue : Bool) → is_of_queue f ≡ of_queue → (answer : List ℕ × Judgement)
-        → IsFlawAnswer d o c f of_queue answer → IsPromised d.M asked answer.1 o c
+        → IsFlawAnswer d o c f of_queue answer → IsPromised d.M asked answer o c
     promised_flaw f first true queue answer is = rw is tt
     promised_flaw f first false none answer is = promised_trial f (sized o c f first none) answer is
 
     promised_by : (f : Option Flaw) → first_flaw o c ≡ f → (answer : List ℕ × Judgement) → IsAnswerTo d asked o c f answer
-        → IsPromised d.M asked answer.1 o c
+        → IsPromised d.M asked answer o c
     promised_by None first answer is = promised_use d.M asked first (first_unused o c) answer is
     promised_by (Some f) first answer is = promised_flaw f first (is_of_queue f) refl answer is
 
-    promised_of : (answer : List ℕ × Judgement) → IsAnswerTo d asked o c (first_flaw o c) answer → IsPromised d.M asked answer.1 o c
+    promised_of : (answer : List ℕ × Judgement) → IsAnswerTo d asked o c (first_flaw o c) answer → IsPromised d.M asked answer o c
     promised_of answer is = promised_by (first_flaw o c) refl answer is
 
 pub promised : (laws : Laws) (d : DrawnRuns) (asked : Questions) (file certificate : Option (List ℕ)) (text : List ℕ) (judgement : Judgement)
-    → IsQueueAnswer d asked file certificate (Ok (text, judgement)) → AreJudged file certificate (IsPromised d.M asked judgement)
+    → IsQueueAnswer d asked file certificate (Ok (text, judgement)) → AreJudged file certificate (IsPromised d.M asked (text, judgement))
 promised laws d asked file certificate text judgement (read q _ is_test (read c _ is_certificate is)) = record {
   test = q;
   listed = c;

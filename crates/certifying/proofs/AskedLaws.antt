@@ -1,11 +1,9 @@
 -- What is shown of records and of harts, where the certificate is accepted.
 use Rattle.std.proofs.Common.{arith, ◌≡◌, ◌≢◌, ◌⊎◌, inl, inr, ℕ, zero, suc, ◌+◌, ◌<◌, ◌≤◌, Bool, true, false, not, List, [], ◌∷◌, ◌++◌, length}
 use Rattle.std.proofs.Common.{Some, None, refl, ap, subst}
-use Rattle.std.specs.Prelude.{Option, is_some}
-use Rattle.std.specs.List.{Contains, filter, list_all}
-use Rattle.std.proofs.lemmas.Bool.{and_parts, cases_eq}
-use Rattle.std.proofs.lemmas.List.Elements.{Contains-append_right}
-use Rattle.std.proofs.lemmas.Map.Made.{Contains-tail}
+use Rattle.std.specs.Prelude.{Option, get_or, is_some, nat_lt}
+use Rattle.std.specs.List.{list_all}
+use Rattle.std.proofs.lemmas.Bool.{and_parts, lt-ltb}
 use Rattle.hart.specs.State.{HartState}
 use Rattle.hart.specs.declared.status.Stop.{Stop}
 use Rattle.hart.specs.declared.status.Status.TheVariants.{Stopped}
@@ -19,7 +17,9 @@ use Rattle.store_buffers.specs.StoreBuffers.{LeavesByteBy}
 use Rattle.queue_certificates.specs.Certificates.{QueueCertificate, accepts}
 use Rattle.queue_certificates.proofs.States.{at-below}
 use Rattle.record_bytes.specs.Naming.{names_byte}
-use Rattle.record_bytes.proofs.OffsetLaws.{offset-within, some-offset}
+use Rattle.record_bytes.proofs.OffsetLaws.{some-offset}
+use Rattle.record_bytes.proofs.RangeLaws.{has-below}
+use Rattle.record_bytes.specs.Ranges.{byte_ranges}
 use Rattle.records_written.specs.Marks.{IsShownWritten}
 use Rattle.records_written.specs.declared.senders.QueueNumber.{QueueNumber}
 use Rattle.records_written.specs.Senders.{IsListed, published_after, slot_in}
@@ -28,18 +28,18 @@ use Rattle.hart_safety.specs.Regions.{IsInNone}
 use Rattle.hart_safety.specs.Writes.{first_unbounded, regions_written}
 use Rattle.hart_safety.specs.Stops.{first_stop}
 use Rattle.certifying.specs.Harts.{harts_safe, is_safe}
-use Rattle.certifying.specs.Kept.{KeepsHarts, WritesRecords}
+use Rattle.certifying.specs.Kept.{HartsHold, KeepsHarts, RecordsHold, WritesRecords, WritesRecordsOf, WritesWithinRegions}
 use Rattle.certifying.specs.Queues.{is_tag_byte, number_by, number_in, queue_count, slots_at}
-use Rattle.certifying.specs.Records.{AreFoundFor, AreFoundFrom, IsFound, asked_bytes, is_shown, rest_bytes}
+use Rattle.certifying.specs.Records.{AreFoundFor, AreFoundFrom, IsFound, asked_ranges, is_rest, is_shown}
 use Rattle.certifying.specs.declared.records.Records.{Records}
 use Rattle.certifying.specs.declared.records.Records.TheVariants.{NoBytes, Shown, NotShown}
 use Rattle.certifying.proofs.Numbers.{of_either}
 
 -- what the crates below promise of records and of harts, where a certificate is accepted
 pub record AskedLaws : Type 0 where
-  pub written : (B M : ℕ) (o : OpeningValue) (c : QueueCertificate) → accepts o c ≡ true → (w : QueueNumber) → IsListed c w → (mask : List ℕ)
+  pub written : (B M : ℕ) (o : OpeningValue) (c : QueueCertificate) → accepts o c ≡ true → (w : QueueNumber) → IsListed c w → (mask : ℕ → Bool)
       → IsShownWritten o c w mask → (es : List Entry) (e : Entry) → WellFormed B M (history_of o (es ++ e ∷ [])) → (k : ℕ)
-      → published_after c w es ≤ k → k < published_after c w (es ++ e ∷ []) → (b : ℕ) → Contains mask b → IsWritten c w es k (slot_in c w k + b)
+      → published_after c w es ≤ k → k < published_after c w (es ++ e ∷ []) → (b : ℕ) → mask b ≡ true → IsWritten c w es k (slot_in c w k + b)
   pub never_stopped : (B M : ℕ) (o : OpeningValue) (c : QueueCertificate) → accepts o c ≡ true → (h : ℕ) → first_stop M o c h ≡ None
       → (es : List Entry) → WellFormed B M (history_of o es) → (s : HartState) → state_of M (history_of o es) h ≡ Some s → (why : Stop)
       → s.status ≡ Stopped why → ⊥
@@ -49,67 +49,74 @@ pub record AskedLaws : Type 0 where
 
 -- ---- records
 
--- an element that passes a test is among those that do
-kept-in : (f : ℕ → Bool) (bs : List ℕ) (b : ℕ) → Contains bs b → f b ≡ true → Contains (filter f bs) b
-kept-in f [] b among ok = absurd (omega (arith, among.1))
-kept-in f (a ∷ bs) b among ok = by (λ far. kept-in f bs b (Contains-tail a bs b far among) ok) (f a) refl (cases_eq a b)
-  where
-    by : ((a ≡ b → ⊥) → Contains (filter f bs) b) → (t : Bool) → f a ≡ t → (a ≡ b) ⊎ (a ≢ b) → Contains (filter f (a ∷ bs)) b
-    by rest true is (inl same) = rw is (subst (λ (q : ℕ). Contains (a ∷ filter f bs) q) same (0, omega arith, refl))
-    by rest true is (inr far) = rw is (Contains-append_right (a ∷ []) (filter f bs) b (rest far))
-    by rest false is (inl same) = absurd (cc)
-    by rest false is (inr far) = rw is (rest far)
+listed-below : (found : List Records) (i : ℕ) → get_or found i NoBytes ≡ Shown → i < length found
+listed-below [] i shown = absurd (cc)
+listed-below (r ∷ found) zero shown = omega arith
+listed-below (r ∷ found) (suc i) shown = let rest : i < length found = listed-below found i shown in omega (arith, rest)
+
+is-shown : (r : Records) → is_shown r ≡ true → r ≡ Shown
+is-shown NoBytes shown = absurd (cc)
+is-shown Shown shown = refl
+is-shown (NotShown unwritten) shown = absurd (cc)
+
+shown-at : (found : List Records) → list_all is_shown found ≡ true → (i : ℕ) → i < length found → get_or found i NoBytes ≡ Shown
+shown-at [] shown i less = absurd (omega (arith, less))
+shown-at (r ∷ found) shown zero less = is-shown r (and_parts _ _ shown).0
+shown-at (r ∷ found) shown (suc i) less = shown-at found (and_parts _ _ shown).1 i (omega (arith, less))
 
 module _ (o : OpeningValue) (c : QueueCertificate) where
   abbrev IsWhole : (bytes : List ℕ) → (i : ℕ) → Type 0
-  IsWhole bytes i = (asked_bytes c bytes i ≡ [] → ⊥) × IsShownWritten o c (number_in c i) (rest_bytes c i (asked_bytes c bytes i))
+  IsWhole bytes i = (asked_ranges c bytes i ≡ [] → ⊥) × IsShownWritten o c (number_in c i) (is_rest c i (asked_ranges c bytes i))
 
-  one-shown : (bytes : List ℕ) (i : ℕ) (r : Records) → IsFound o c i (asked_bytes c bytes i) r → is_shown r ≡ true → IsWhole bytes i
-  one-shown bytes i NoBytes is shown = absurd (cc)
-  one-shown bytes i Shown is shown = is
-  one-shown bytes i (NotShown unwritten) is shown = absurd (cc)
+  one-shown : (bytes : List ℕ) (i : ℕ) (r : Records) → IsFound o c i (asked_ranges c bytes i) r → r ≡ Shown → IsWhole bytes i
+  one-shown bytes i r is shown = subst (IsFound o c i (asked_ranges c bytes i)) shown is
 
-  -- of each queue of what is found
-  all-shown : (bytes : List ℕ) (first : ℕ) (found : List Records) → AreFoundFrom o c bytes first found → list_all is_shown found ≡ true → (i : ℕ)
-      → i < length found → IsWhole bytes (first + i)
-  all-shown bytes first [] are shown i less = absurd (omega (arith, less))
-  all-shown bytes first (r ∷ found) are shown zero less =
-      let here : first ≡ first + 0 = omega arith in subst (IsWhole bytes) here (one-shown bytes first r are.0 (and_parts _ _ shown).0)
-  all-shown bytes first (r ∷ found) are shown (suc i) less =
-      let there : first + 1 + i ≡ first + suc i = omega arith in
-      subst (IsWhole bytes) there (all-shown bytes (first + 1) found are.1 (and_parts _ _ shown).1 i (omega (arith, less)))
+  -- of a queue of which it is found
+  found-shown : (bytes : List ℕ) (first : ℕ) (found : List Records) → AreFoundFrom o c bytes first found → (i : ℕ) → get_or found i NoBytes ≡ Shown
+      → IsWhole bytes (first + i)
+  found-shown bytes first [] are i shown = absurd (cc)
+  found-shown bytes first (r ∷ found) are zero shown =
+      let here : first ≡ first + 0 = omega arith in subst (IsWhole bytes) here (one-shown bytes first r are.0 shown)
+  found-shown bytes first (r ∷ found) are (suc i) shown =
+      let there : first + 1 + i ≡ first + suc i = omega arith in subst (IsWhole bytes) there (found-shown bytes (first + 1) found are.1 i shown)
 
   -- what is found, with one more
   pub found-more : (bytes : List ℕ) (first : ℕ) (found : List Records) (r : Records) → AreFoundFrom o c bytes first found
-      → IsFound o c (first + length found) (asked_bytes c bytes (first + length found)) r → AreFoundFrom o c bytes first (found ++ r ∷ [])
+      → IsFound o c (first + length found) (asked_ranges c bytes (first + length found)) r → AreFoundFrom o c bytes first (found ++ r ∷ [])
   found-more bytes first [] r are next =
-      let same : first + 0 ≡ first = omega arith in (subst (λ (i : ℕ). IsFound o c i (asked_bytes c bytes i) r) same next, tt)
+      let same : first + 0 ≡ first = omega arith in (subst (λ (i : ℕ). IsFound o c i (asked_ranges c bytes i) r) same next, tt)
   found-more bytes first (s ∷ found) r are next =
       let same : first + length (s ∷ found) ≡ first + 1 + length found = omega arith in
-      (are.0, found-more bytes (first + 1) found r are.1 (subst (λ (i : ℕ). IsFound o c i (asked_bytes c bytes i) r) same next))
+      (are.0, found-more bytes (first + 1) found r are.1 (subst (λ (i : ℕ). IsFound o c i (asked_ranges c bytes i) r) same next))
 
   module _ (laws : AskedLaws) (accepted : accepts o c ≡ true) where
-    whole : (bytes : List ℕ) (found : List Records) → AreFoundFor o c (Some bytes) found → list_all is_shown found ≡ true → (i : ℕ) → i < queue_count c
-        → IsWhole bytes i
-    whole bytes found are shown i less = subst (IsWhole bytes) (omega arith) (all-shown bytes 0 found are.1 shown i (omega (arith, less, are.0)))
-
     listed : (i : ℕ) → i < queue_count c → IsListed c (number_in c i)
     listed = of_either c (λ (i : ℕ) (t : Option ℕ). IsListed c (number_by i t)) (λ i less. less) (λ t less. less)
 
     asked-of : (bytes : List ℕ) (i b : ℕ) → b < (slots_at c i).width → names_byte bytes b ≡ true → is_tag_byte c i b ≡ false
-        → Contains (rest_bytes c i (asked_bytes c bytes i)) b
-    asked-of bytes i b within named free = kept-in (λ b. not (is_tag_byte c i b)) (asked_bytes c bytes i) b
-        (offset-within (names_byte bytes) (slots_at c i).width b within named) (ap not free)
+        → is_rest c i (asked_ranges c bytes i) b ≡ true
+    asked-of bytes i b within named free =
+        let has = has-below (names_byte bytes) (slots_at c i).width b in
+        let under : nat_lt b (slots_at c i).width ≡ true = lt-ltb _ _ within in
+        rw (has, under, named, free) refl
+
+    writes-of : (bytes : List ℕ) (i : ℕ) → i < queue_count c → IsWhole bytes i → WritesRecordsOf bytes o c i
+    writes-of bytes i less whole = (
+      some-offset (names_byte bytes) (slots_at c i).width (λ none. whole.0 (ap byte_ranges none)),
+      λ B M es e formed k low high b within named free. laws.written B M o c accepted (number_in c i) (listed i less)
+          (is_rest c i (asked_ranges c bytes i)) whole.1 es e formed k low high b (asked-of bytes i b within named free),
+    )
+
+    pub records-hold : (written : Option (List ℕ)) (found : List Records) → AreFoundFor o c written found → RecordsHold written o c found
+    records-hold None found are = tt
+    records-hold (Some bytes) found are = λ i shown.
+        let within : i < length found = listed-below found i shown in
+        writes-of bytes i (omega (arith, within, are.0)) (subst (IsWhole bytes) (omega arith) (found-shown bytes 0 found are.1 i shown))
 
     pub writes : (written : Option (List ℕ)) (found : List Records) → AreFoundFor o c written found → list_all is_shown found ≡ true
         → WritesRecords written o c
     writes None found are shown = tt
-    writes (Some bytes) found are shown = (
-      λ i less. some-offset (names_byte bytes) (slots_at c i).width (whole bytes found are shown i less).0,
-      λ B M es e formed i less k low high b within named free. laws.written B M o c accepted (number_in c i) (listed i less)
-          (rest_bytes c i (asked_bytes c bytes i)) (whole bytes found are shown i less).1 es e formed k low high b
-          (asked-of bytes i b within named free),
-    )
+    writes (Some bytes) found are shown = λ i less. records-hold (Some bytes) found are i (shown-at found shown i (omega (arith, less, are.0)))
 
     -- ---- harts
 
@@ -121,10 +128,17 @@ module _ (o : OpeningValue) (c : QueueCertificate) where
     unfolding is_safe
     no-other M h safe = let both = and_parts _ _ safe in (nothing-there _ both.0, nothing-there _ both.1)
 
+    written-in : (h : ℕ) → first_unbounded o c h ≡ None → WritesWithinRegions o c h
+    written-in h none B N es e formed unlanded of_hart =
+        subst (λ (g : ℕ). first_unbounded o c g ≡ None → (x : ℕ) → IsInNone x (regions_written o c g) → LeavesByteBy x (access_of e)) of_hart
+        (laws.written_within B N o c accepted es e formed unlanded) none
+
+    pub harts-hold : (M : ℕ) (harts : Bool) → HartsHold M harts o c
+    harts-hold M false = tt
+    harts-hold M true = λ h less. (λ none B es formed. laws.never_stopped B M o c accepted h none es formed, written-in h)
+
     pub keeps-harts : (M : ℕ) (harts : Bool) → harts_safe M o c harts ≡ true → KeepsHarts M harts o c
     keeps-harts M false safe = tt
-    keeps-harts M true safe = (
-      λ B es formed h less. laws.never_stopped B M o c accepted h (no-other M h (at-below (length o.harts) (is_safe M o c) safe h less)).0 es formed,
-      λ B N es e formed unlanded less. (laws.written_within B N o c accepted es e formed unlanded
-          (no-other M (hart_of e) (at-below (length o.harts) (is_safe M o c) safe (hart_of e) less)).1),
-    )
+    keeps-harts M true safe = λ h less.
+        let none = no-other M h (at-below (length o.harts) (is_safe M o c) safe h less) in
+        let hold = harts-hold M true h less in (hold.0 none.0, hold.1 none.1)

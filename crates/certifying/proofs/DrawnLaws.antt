@@ -1,9 +1,9 @@
 -- What is answered where drawn runs are judged: it is one answer, and a run that is shown to break the protocol does.
 use Rattle.std.proofs.Common.{arith, ◌≡◌, ℕ, zero, suc, ◌+◌, ◌&&◌, ◌<◌, ◌≤◌, Bool, true, false, List, [], ◌∷◌, ◌++◌, length, Some, None}
-use Rattle.std.proofs.Common.{refl, sym, ap, ap₂, ◌∙◌, subst}
+use Rattle.std.proofs.Common.{refl, sym, ap, ap₂, ◌∙◌, subst, ◌⊎◌, inl, inr}
 use Rattle.std.specs.Prelude.{Option}
 use Rattle.std.specs.Option.{option_map}
-use Rattle.std.proofs.lemmas.Bool.{and_parts, leb-true}
+use Rattle.std.proofs.lemmas.Bool.{and_parts, cases_lt, leb-true}
 use Rattle.std.proofs.lemmas.List.{length-append}
 use Rattle.step_machine.specs.declared.events.Event.{Event}
 use Rattle.step_machine.specs.History.{OpeningValue, history_of, at_opening}
@@ -24,11 +24,12 @@ use Rattle.ownership_runs.specs.declared.runs.Moved.{Moved}
 use Rattle.ownership_runs.specs.Protocols.{HasSlot, Keeps}
 use Rattle.ownership_runs.specs.Violations.{first_ownership_violation}
 use Rattle.ownership_runs.specs.Runs.{HasKeptRun, HasBrokenRun}
-use Rattle.ownership_runs.proofs.Judged.{moves-one}
+use Rattle.judged_runs.specs.Finding.{IsFirstFlawed}
+use Rattle.ownership_runs.proofs.Judged.{moves-one, one-violation}
 use Rattle.certifying.specs.Answers.{IsBrokenText, IsTriedText, IsTrialAnswer, is_of_queue, tried_text}
-use Rattle.certifying.specs.Kept.{AreSameAnswers, BreaksProtocol}
+use Rattle.certifying.specs.Kept.{AreSameAnswers, BreaksProtocol, HasSchedule}
 use Rattle.certifying.specs.Queues.{any_queue, any_start, queue_by, queue_count}
-use Rattle.certifying.specs.Trials.{AllKeep, EndsBroken, IsBrokenBy, IsOfTrial, IsTrialBroken, QueuesKeep, trial_schedule}
+use Rattle.certifying.specs.Trials.{AllKeep, EndsBroken, IsBrokenBy, IsFirstBroken, IsOfTrial, IsTrialBroken, QueuesKeep, trial_schedule}
 use Rattle.certifying.specs.declared.trials.Trial.{Trial}
 use Rattle.certifying.specs.declared.trials.Trial.TheVariants as trial
 use Rattle.certifying.specs.declared.judgement.Judgement.{Judgement}
@@ -175,36 +176,114 @@ module _ (d : DrawnRuns) (o : OpeningValue) (c : QueueCertificate) where
       let rest = kept-at (first + 1) moved i (omega (arith, less)) kept.1 in
       let same : first + 1 + i ≡ first + suc i = omega arith in (rest.0, subst (λ (j : ℕ). AllKeep d o c j rest.0) same rest.1)
 
+  -- the run of this number is the first that breaks the protocol of a queue
+  abbrev IsFirstOf : (i number : ℕ) → Violation → Type 0
+  IsFirstOf i number flaw = IsFirstFlawed (HasKeptRun d.B d.M o (any_queue c i) (all_at (any_start c i)))
+      (HasBrokenRun d.B d.M o (any_queue c i) (all_at (any_start c i))) (trial_schedule d o) 0 d.number number flaw
+
   module _ (laws : DrawnLaws) (some : SomeSlots o c) where
-    never-both : (f : Flaw) (text other : List ℕ) → IsTriedText d o c f text → IsBrokenText d o c other → ⊥
-    never-both f text other is broken =
-        let first = broken.is_first in
+    -- no run breaks the protocol of a queue of which all keep it
+    not-kept : (i : ℕ) (part : List Event) (b : Violation) (pc : ℕ) → IsFirstBroken d o c i part b pc → (moved : List Moved) → i < length moved
+        → QueuesKeep d o c 0 moved → ⊥
+    not-kept i part b pc first moved less keep =
         let flawed = first.told.is_first in
-        let all = kept-at 0 is.moved broken.queue (subst (λ (n : ℕ). broken.queue < n) (sym is.count) first.inside) is.kept in
-        let at : 0 + broken.queue ≡ broken.queue = omega arith in
-        let kept : AllKeep d o c broken.queue all.0 = subst (λ (j : ℕ). AllKeep d o c j all.0) at all.1 in
-        laws.apart d.B d.M o (any_queue c broken.queue) (all_at (any_start c broken.queue)) (trial_schedule d o first.told.number) first.told.flaw
-        (some broken.queue first.inside) (kept.good first.told.number (omega arith) flawed.within) flawed.has
+        let all = kept-at 0 moved i less keep in
+        let at : 0 + i ≡ i = omega arith in
+        let kept : AllKeep d o c i all.0 = subst (λ (j : ℕ). AllKeep d o c j all.0) at all.1 in
+        laws.apart d.B d.M o (any_queue c i) (all_at (any_start c i)) (trial_schedule d o first.told.number) first.told.flaw (some i first.inside)
+        (kept.good first.told.number (omega arith) flawed.within) flawed.has
+
+    never-both : (f : Flaw) (described : Bool) (text other : List ℕ) → IsTriedText d o c f text → IsBrokenText d o c described other → ⊥
+    never-both f described text other is broken = not-kept broken.queue broken.part broken.violation broken.pc broken.is_first is.moved
+        (subst (λ (n : ℕ). broken.queue < n) (sym is.count) broken.is_first.inside) is.kept
+
+    -- of two runs that are the first ones neither comes before the other, nor does one's queue
+    not-before : (i j : ℕ) (part rest : List Event) (a b : Violation) (pc at : ℕ) → IsFirstBroken d o c i part a pc → IsFirstBroken d o c j rest b at
+        → i < j → ⊥
+    not-before i j part rest a b pc at is also less =
+        not-kept i part a pc is also.moved (subst (λ (n : ℕ). i < n) (sym also.earlier) less) also.kept
+
+    one-queue : (i j : ℕ) (part rest : List Event) (a b : Violation) (pc at : ℕ) → IsFirstBroken d o c i part a pc → IsFirstBroken d o c j rest b at
+        → i ≡ j
+    one-queue i j part rest a b pc at is also = elim (cases_lt i j) [
+      | inl less ↦ absurd (not-before i j part rest a b pc at is also less)
+      | inr most ↦ elim (cases_lt j i) [
+        | inl less ↦ absurd (not-before j i rest part b a at pc also is less)
+        | inr least ↦ omega (arith, most, least)
+      ]
+    ]
+
+    module _ (i : ℕ) (inside : i < queue_count c) (part rest : List Event) (a b : Violation) where
+      not-earlier : (m n : ℕ) (f g : Violation) → IsFirstOf i m f → IsFirstOf i n g → m < n → ⊥
+      not-earlier m n f g is also less = laws.apart d.B d.M o (any_queue c i) (all_at (any_start c i)) (trial_schedule d o m) f (some i inside)
+          (also.before m (omega arith) less) is.has
+
+      one-flaw : (m n : ℕ) (f g : Violation) → IsFirstOf i m f → IsFirstOf i n g → f ≡ g
+      one-flaw m n f g is also = elim (cases_lt m n) [
+        | inl less ↦ absurd (not-earlier m n f g is also less)
+        | inr most ↦ elim (cases_lt n m) [
+          | inl less ↦ absurd (not-earlier n m g f also is less)
+          | inr least ↦ (let same : n ≡ m = omega (arith, most, least) in
+              one-violation d.B d.M o (any_queue c i) (all_at (any_start c i)) (trial_schedule d o m) f g is.has
+              (subst (λ (k : ℕ). HasBrokenRun d.B d.M o (any_queue c i) (all_at (any_start c i)) (trial_schedule d o k) g) same also.has))
+        ]
+      ]
+
+      -- what is shown of them is of one kind
+      one-kind : IsBrokenBy d o c i part a → IsBrokenBy d o c i rest b → a.described ≡ b.described
+      one-kind is also =
+          let same = one-flaw is.number also.number is.flaw also.flaw is.is_first also.is_first in
+          sym is.shown.alike.1 ∙ ap (λ (v : Violation). v.described) same ∙ also.shown.alike.1
+
+    one-described : (x y : Bool) (text other : List ℕ) → IsBrokenText d o c x text → IsBrokenText d o c y other → x ≡ y
+    one-described x y text other is also =
+        let same = one-queue is.queue also.queue is.part also.part is.violation also.violation is.pc also.pc is.is_first also.is_first in
+        let told = subst (λ (i : ℕ). IsBrokenBy d o c i also.part also.violation) (sym same) also.is_first.told in
+        sym is.by ∙ one-kind is.queue is.is_first.inside is.part also.part is.violation also.violation is.is_first.told told ∙ also.by
+
+    -- ---- an answer after drawn runs, by whether one of them breaks the protocol
+
+    abbrev broken-of : (described : Bool) → Judgement
+    broken-of true = judgement.Broken
+    broken-of false = judgement.OtherProtocol
+
+    shows-schedule : (described : Bool) (a : Judgement) → a ≡ broken-of described → HasSchedule a
+    shows-schedule true a is = inl is
+    shows-schedule false a is = inr is
+
+    record IsBroken (answer : List ℕ × Judgement) : Type 0 where
+      described : Bool
+      is : IsBrokenText d o c described answer.0
+      kind : answer.1 ≡ broken-of described
+
+    abbrev IsEither : Flaw → List ℕ × Judgement → Type 0
+    IsEither f answer = (IsTriedText d o c f answer.0 × (answer.1 ≡ judgement.NotShown)) ⊎ IsBroken answer
+
+    either : (f : Flaw) (answer : List ℕ × Judgement) → IsTrialAnswer d o c f answer → IsEither f answer
+    either f (text, judgement.NotShown) is = inl (is, refl)
+    either f (text, judgement.Broken) is = inr (record { described = true; is = is; kind = refl })
+    either f (text, judgement.OtherProtocol) is = inr (record { described = false; is = is; kind = refl })
+    either f (text, judgement.Kept) is = absurd is
+    either f (text, judgement.ReadsNotShown) is = absurd is
+    either f (text, judgement.ProgressNotShown) is = absurd is
+    either f (text, judgement.AskedNotShown) is = absurd is
 
     pub one-trial : (f : Flaw) (a b : List ℕ × Judgement) → IsTrialAnswer d o c f a → IsTrialAnswer d o c f b → AreSameAnswers a b
-    one-trial f (text, judgement.NotShown) (other, judgement.NotShown) is also = (refl, λ shows. one-tried f text other is also)
-    one-trial f (text, judgement.NotShown) (other, judgement.Broken) is also = absurd (never-both f text other is also)
-    one-trial f (text, judgement.NotShown) (other, judgement.Kept) is also = absurd also
-    one-trial f (text, judgement.NotShown) (other, judgement.ReadsNotShown) is also = absurd also
-    one-trial f (text, judgement.NotShown) (other, judgement.AskedNotShown) is also = absurd also
-    one-trial f (text, judgement.Broken) (other, judgement.NotShown) is also = absurd (never-both f other text also is)
-    one-trial f (text, judgement.Broken) (other, judgement.Broken) is also = (refl, λ no. absurd (no refl))
-    one-trial f (text, judgement.Broken) (other, judgement.Kept) is also = absurd also
-    one-trial f (text, judgement.Broken) (other, judgement.ReadsNotShown) is also = absurd also
-    one-trial f (text, judgement.Broken) (other, judgement.AskedNotShown) is also = absurd also
-    one-trial f (text, judgement.Kept) b is also = absurd is
-    one-trial f (text, judgement.ReadsNotShown) b is also = absurd is
-    one-trial f (text, judgement.AskedNotShown) b is also = absurd is
+    one-trial f a b is also = by (either f a is) (either f b also)
+      where
+        by : IsEither f a → IsEither f b → AreSameAnswers a b
+        by (inl tried) (inl other) = (tried.1 ∙ sym other.1, λ shows. one-tried f a.0 b.0 tried.0 other.0)
+        by (inl tried) (inr broken) = absurd (never-both f broken.described a.0 b.0 tried.0 broken.is)
+        by (inr broken) (inl tried) = absurd (never-both f broken.described b.0 a.0 tried.0 broken.is)
+        by (inr broken) (inr other) = (
+          broken.kind ∙ ap broken-of (one-described broken.described other.described a.0 b.0 broken.is other.is) ∙ sym other.kind,
+          λ none. absurd (none (shows-schedule broken.described a.1 broken.kind)),
+        )
 
     -- ---- a run that breaks the protocol
 
-    pub breaks : (text : List ℕ) → IsBrokenText d o c text → BreaksProtocol o c
-    breaks text is =
+    pub breaks : (described : Bool) (text : List ℕ) → IsBrokenText d o c described text → BreaksProtocol described o c
+    breaks described text is =
         let first = is.is_first in
         let has = first.told.shown.has in
         let q = any_queue c is.queue in
@@ -221,4 +300,7 @@ module _ (d : DrawnRuns) (o : OpeningValue) (c : QueueCertificate) where
           breaks = λ keeps. (let none : first_ownership_violation q start has.history.entries ≡ None =
               laws.none q start has.history.entries (some is.queue first.inside) keeps in
               let found = has.first in absurd (cc));
+          violation = is.violation;
+          first = has.first;
+          by = is.by;
         }

@@ -2,4 +2,5 @@ mod AnswerLaws
 mod AskedLaws
 mod Certificates
 mod DrawnLaws
+mod GoingLaws
 mod Numbers

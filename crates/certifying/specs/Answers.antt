@@ -23,6 +23,7 @@ use Rattle.engine_support.specs.OpeningTexts.{numbered}
 use Rattle.certifying.specs.Questions.{Questions}
 use Rattle.certifying.specs.Broken.{broken_text, runs_line}
 use Rattle.certifying.specs.Descriptions.{all_queue_lines}
+use Rattle.certifying.specs.Going.{all_going, all_going_lines}
 use Rattle.certifying.specs.Harts.{harts_lines, harts_safe}
 use Rattle.certifying.specs.Inputs.{certificates}
 use Rattle.certifying.specs.NotShown.{flaw_line, likely_line}
@@ -32,17 +33,19 @@ use Rattle.certifying.specs.Trials.{IsFirstBroken, QueuesKeep}
 use Rattle.certifying.specs.Unread.{first_unread, unread_line}
 use Rattle.certifying.specs.Unused.{first_unused, unused_line}
 use Rattle.certifying.specs.declared.judgement.Judgement.{Judgement}
-use Rattle.certifying.specs.declared.judgement.Judgement.TheVariants.{Kept, ReadsNotShown, AskedNotShown, NotShown, Broken}
+use Rattle.certifying.specs.declared.judgement.Judgement.TheVariants.{Kept, ReadsNotShown, ProgressNotShown, AskedNotShown, NotShown, Broken, OtherProtocol}
 use Rattle.certifying.specs.declared.records.Records.{Records}
 use Rattle.certifying.specs.declared.unread.Unread.{Unread}
 use Rattle.certifying.specs.declared.unused.Unused.{Unused}
 
 -- ---- what is promised and what isn't
 
--- where all that was asked is shown, or not
-abbrev pub kept_line : (all : Bool) → List ℕ
-kept_line true = codes "kept in every run" ++ 10 ∷ []
-kept_line false = codes "kept in every run, but not all that was asked is shown" ++ 10 ∷ []
+-- where it is shown that the queues go on, if that is asked, and all else that is
+abbrev pub kept_line : (progress goes all : Bool) → List ℕ
+kept_line progress false all = codes "kept in every run, but not shown to go on" ++ 10 ∷ []
+kept_line progress true false = codes "kept, but not all that was asked is shown" ++ 10 ∷ []
+kept_line true true true = codes "kept in every run, and goes on while its harts run" ++ 10 ∷ []
+kept_line false true true = codes "kept in every run" ++ 10 ∷ []
 
 unfoldable pub every_run_text : List ℕ
 every_run_text = codes "promised: in every legal run, of any length and schedule, with store buffers of any size, the protocol"
@@ -75,6 +78,9 @@ records_line = codes "not promised: that a record was freshly or wholly written,
 unfoldable pub progress_line : List ℕ
 progress_line = codes "not promised: that anything is ever sent or received" ++ 10 ∷ []
 
+unfoldable pub running_line : List ℕ
+running_line = codes "not promised: that a hart is ever run, or doesn't end or stop, or that a store ever lands" ++ 10 ∷ []
+
 unfoldable pub other_bytes_line : List ℕ
 other_bytes_line =
     codes "not promised: that other bytes of a record are freshly written, what the code does with it, what memory outside of the queue holds"
@@ -85,8 +91,13 @@ abbrev pub limit_of_records : (written : Bool) → List ℕ
 limit_of_records true = other_bytes_line
 limit_of_records false = records_line
 
-abbrev pub limit_lines : (written : Bool) → List ℕ
-limit_lines written = limit_of_records written ++ progress_line
+-- where queues are shown to go on, or not
+abbrev pub limit_of_progress : (goes : Bool) → List ℕ
+limit_of_progress true = running_line
+limit_of_progress false = progress_line
+
+abbrev pub limit_lines : (written goes : Bool) → List ℕ
+limit_lines written goes = limit_of_records written ++ limit_of_progress goes
 
 abbrev pub nothing_line : List ℕ
 nothing_line = codes "nothing is claimed" ++ 10 ∷ []
@@ -97,17 +108,23 @@ nothing_line = codes "nothing is claimed" ++ 10 ∷ []
 abbrev pub records_shown : Questions → List Records → Bool
 records_shown asked found = is_some asked.written && list_all is_shown found
 
--- the lines about what is asked: what is found of records, and the lines of the harts
-abbrev pub asked_lines : OpeningValue → QueueCertificate → Questions → List Records → (harts : List ℕ) → List ℕ
-asked_lines o c asked found harts = record_lines o c asked.written found ++ harts
+-- the lines about what is asked: whether the queues go on, what is found of records, and the lines of the harts
+abbrev pub asked_lines : OpeningValue → QueueCertificate → Questions → (going : List ℕ) → List Records → (harts : List ℕ) → List ℕ
+asked_lines o c asked going found harts = going ++ record_lines o c asked.written found ++ harts
 
-abbrev pub kept_text : OpeningValue → QueueCertificate → Questions → List Records → (harts : List ℕ) → (all : Bool) → List ℕ
-kept_text o c asked found harts all = kept_line all ++ all_queue_lines o c ++ asked_lines o c asked found harts ++ promise_line c
-    ++ limit_lines (records_shown asked found)
+-- what isn't promised, where the queues are shown to go on, if that is asked, or not
+abbrev pub limits_of : Questions → List Records → (goes : Bool) → List ℕ
+limits_of asked found goes = limit_lines (records_shown asked found) (asked.progress && goes)
 
-abbrev pub unread_text : OpeningValue → QueueCertificate → Questions → List Records → (harts : List ℕ) → Unread → List ℕ
-unread_text o c asked found harts unread = unread_line o c unread ++ all_queue_lines o c ++ asked_lines o c asked found harts ++ protocol_line c
-    ++ reads_line ++ limit_lines (records_shown asked found)
+-- where all else that is asked is shown, or not
+abbrev pub kept_text : OpeningValue → QueueCertificate → Questions → (going : List ℕ) → List Records → (harts : List ℕ) → (goes all : Bool) → List ℕ
+kept_text o c asked going found harts goes all = kept_line asked.progress goes all ++ all_queue_lines o c ++ asked_lines o c asked going found harts
+    ++ promise_line c ++ limits_of asked found goes
+
+abbrev pub unread_text : OpeningValue → QueueCertificate → Questions → (going : List ℕ) → List Records → (harts : List ℕ) → (goes : Bool) → Unread
+    → List ℕ
+unread_text o c asked going found harts goes unread = unread_line o c unread ++ all_queue_lines o c ++ asked_lines o c asked going found harts
+    ++ protocol_line c ++ reads_line ++ limits_of asked found goes
 
 abbrev pub unused_text : Unused → List ℕ
 unused_text unused = unused_line unused ++ nothing_line
@@ -115,20 +132,23 @@ unused_text unused = unused_line unused ++ nothing_line
 abbrev pub flaw_text : OpeningValue → QueueCertificate → Flaw → List ℕ
 flaw_text o c flaw = flaw_line o c flaw ++ likely_line o c flaw ++ nothing_line
 
-abbrev pub kept_judgement : (all : Bool) → Judgement
-kept_judgement true = Kept
-kept_judgement false = AskedNotShown
+abbrev pub kept_judgement : (goes all : Bool) → Judgement
+kept_judgement false all = ProgressNotShown
+kept_judgement true false = AskedNotShown
+kept_judgement true true = Kept
 
--- where the protocol is shown of queues that are used, with what is found of records, the lines of the harts, and whether all of these is shown
-abbrev pub judged_reads : OpeningValue → QueueCertificate → Questions → List Records → (harts : List ℕ) → (safe : Bool) → Option Unread → List ℕ × Judgement
-judged_reads o c asked found harts safe None =
-    (kept_text o c asked found harts (list_all is_shown found && safe), kept_judgement (list_all is_shown found && safe))
-judged_reads o c asked found harts safe (Some unread) = (unread_text o c asked found harts unread, ReadsNotShown)
+-- where the protocol is shown of queues that are used, with the lines of whether they go on and of the harts, what is found of records, and
+-- whether these are shown
+abbrev pub judged_reads : OpeningValue → QueueCertificate → Questions → (going : List ℕ) → List Records → (harts : List ℕ) → (goes safe : Bool)
+    → Option Unread → List ℕ × Judgement
+judged_reads o c asked going found harts goes safe None =
+    (kept_text o c asked going found harts goes (list_all is_shown found && safe), kept_judgement goes (list_all is_shown found && safe))
+judged_reads o c asked going found harts goes safe (Some unread) = (unread_text o c asked going found harts goes unread, ReadsNotShown)
 
 -- the same with M words of memory, by what is found of records
 abbrev pub kept_answer : (M : ℕ) → Questions → OpeningValue → QueueCertificate → List Records → List ℕ × Judgement
-kept_answer M asked o c found =
-    judged_reads o c asked found (harts_lines M o c asked.harts) (harts_safe M o c asked.harts) (first_unread o c)
+kept_answer M asked o c found = judged_reads o c asked (all_going_lines o c asked.progress) found (harts_lines M o c asked.harts)
+    (all_going o c asked.progress) (harts_safe M o c asked.harts) (first_unread o c)
 
 pub record IsKeptAnswer (M : ℕ) (asked : Questions) (o : OpeningValue) (c : QueueCertificate) (answer : List ℕ × Judgement) : Type 0 where
   pub found : List Records
@@ -152,18 +172,20 @@ pub record IsTriedText (d : DrawnRuns) (o : OpeningValue) (c : QueueCertificate)
   pub kept : QueuesKeep d o c 0 moved
   pub text_is : text ≡ tried_text d o c flaw moved
 
--- one breaks it
-pub record IsBrokenText (d : DrawnRuns) (o : OpeningValue) (c : QueueCertificate) (text : List ℕ) : Type 0 where
+-- one breaks it, by a store of the protocol described, or by another
+pub record IsBrokenText (d : DrawnRuns) (o : OpeningValue) (c : QueueCertificate) (described : Bool) (text : List ℕ) : Type 0 where
   pub queue : ℕ
   pub part : List Event
   pub violation : Violation
   pub pc : ℕ
   pub is_first : IsFirstBroken d o c queue part violation pc
+  pub by : violation.described ≡ described
   pub text_is : text ≡ broken_text d.B o c queue part violation pc
 
 abbrev pub IsTrialAnswer : DrawnRuns → OpeningValue → QueueCertificate → Flaw → List ℕ × Judgement → Type 0
 IsTrialAnswer d o c flaw (text, NotShown) = IsTriedText d o c flaw text
-IsTrialAnswer d o c flaw (text, Broken) = IsBrokenText d o c text
+IsTrialAnswer d o c flaw (text, Broken) = IsBrokenText d o c true text
+IsTrialAnswer d o c flaw (text, OtherProtocol) = IsBrokenText d o c false text
 IsTrialAnswer d o c flaw (text, other) = ⊥
 
 -- a queue isn't one, or doesn't open as it says: then no run is drawn

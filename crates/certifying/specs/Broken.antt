@@ -1,5 +1,5 @@
 -- The lines of an answer where drawn runs were judged: of one that breaks a queue's protocol, or of all that keep it.
-use Rattle.std.specs.Prelude.{ℕ, ◌-◌, nat_lt, if◌then◌else◌, List, [], ◌∷◌, ◌++◌, codes, Option, Some, None}
+use Rattle.std.specs.Prelude.{ℕ, ◌-◌, nat_lt, if◌then◌else◌, Bool, true, false, List, [], ◌∷◌, ◌++◌, codes, Option, Some, None}
 use Rattle.std.specs.Fmt.{decimal}
 use Rattle.step_machine.specs.declared.events.Event.{Event}
 use Rattle.step_machine.specs.History.{OpeningValue}
@@ -14,8 +14,13 @@ use Rattle.certifying.specs.Queues.{tagged_number}
 
 -- ---- a violation
 
-abbrev pub broken_line : OpeningValue → (h pc : ℕ) → List ℕ
-broken_line o h pc = codes "broken: " ++ instruction_place o h pc ++ 10 ∷ []
+-- by whether the protocol described has such a store of the hart then
+abbrev pub broken_verdict : (described : Bool) → List ℕ
+broken_verdict true = codes "broken: "
+broken_verdict false = codes "does not keep the protocol described: "
+
+abbrev pub broken_line : OpeningValue → Violation → (pc : ℕ) → List ℕ
+broken_line o b pc = broken_verdict b.described ++ instruction_place o b.hart pc ++ 10 ∷ []
 
 unfoldable pub stored_text : (i : ℕ) → Violation → List ℕ
 stored_text i b = codes "queue " ++ (decimal i ++ (codes ": it stored " ++ (decimal b.value ++ (codes " to the " ++ (decimal b.width
@@ -49,7 +54,7 @@ unfoldable pub shown_line : (B : ℕ) → List ℕ
 shown_line B = codes "shown by this schedule, whose last event it is, with --buffer " ++ (decimal B ++ (codes ":" ++ 10 ∷ []))
 
 abbrev pub broken_text : (B : ℕ) → OpeningValue → QueueCertificate → (i : ℕ) → (part : List Event) → Violation → (pc : ℕ) → List ℕ
-broken_text B o c i part b pc = broken_line o b.hart pc ++ stored_line i b ++ form_by c i (tagged_number c i) ++ other_line (tagged_number c i)
+broken_text B o c i part b pc = broken_line o b pc ++ stored_line i b ++ form_by c i (tagged_number c i) ++ other_line (tagged_number c i)
     ++ shown_line B ++ canon part
 
 -- ---- runs that keep the protocol

@@ -4,10 +4,10 @@ use Rattle.std.specs.List.{flat_map}
 use Rattle.std.specs.Fmt.{decimal}
 use Rattle.step_machine.specs.History.{OpeningValue}
 use Rattle.slot_queue.specs.Queues.{Queue}
-use Rattle.owned_run.specs.Certificates.{Field}
+use Rattle.queue_certificates.specs.RecordFields.{Field}
 use Rattle.queue_certificates.specs.Certificates.{OpenedQueue, QueueCertificate, no_queue, no_tagged}
 use Rattle.queue_layouts.specs.declared.tagged.Codec.{Codec}
-use Rattle.queue_layouts.specs.declared.tagged.Codec.TheVariants.{Zero, Number}
+use Rattle.queue_layouts.specs.declared.tagged.Codec.TheVariants.{Zero, Number, Bit}
 use Rattle.queue_layouts.specs.declared.tagged.TaggedQueue.{TaggedQueue}
 use Rattle.queue_layouts.specs.declared.tagged.OpenedTagged.{OpenedTagged}
 use Rattle.queue_checker.specs.Accesses.{slot_accesses}
@@ -76,9 +76,14 @@ tag_bytes width = if width == 1 then codes "byte" else decimal width ++ codes " 
 unfoldable pub tag_place : (offset : ℕ) → List ℕ
 tag_place offset = codes " at " ++ (decimal offset ++ codes " of each slot, ")
 
+unfoldable pub bits_text : (mask free full : ℕ) → List ℕ
+bits_text mask free full = codes "free where its bits under " ++ (decimal mask ++ (codes " are " ++ (decimal free
+    ++ (codes " and full where they are " ++ decimal full))))
+
 abbrev pub codec_text : Codec → List ℕ
 codec_text Zero = codes "0 where it is free and any other number where it is full"
 codec_text Number = codes "k where it is free for position k and k + 1 where it is full of it, modulo 4294967296"
+codec_text (Bit mask free full) = bits_text mask free full
 
 unfoldable pub opens_end : (start : ℕ) → List ℕ
 opens_end start = codes ", and it opens at " ++ (decimal start ++ 10 ∷ [])

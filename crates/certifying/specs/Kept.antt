@@ -1,5 +1,6 @@
 -- What a `kept` means, of every legal run from where a litmus text opens, and what a `broken` means, of one.
-use Rattle.std.specs.Prelude.{ℕ, ◌≡◌, ◌⊎◌, ◌+◌, ◌<◌, ◌≤◌, Bool, true, false, List, [], ◌∷◌, ◌++◌, length, Option, None, Some, Result, Ok, Err}
+use Rattle.std.specs.Prelude.{ℕ, ◌≡◌, ◌⊎◌, ◌+◌, ◌<◌, ◌≤◌, Bool, true, false, List, [], ◌∷◌, ◌++◌, length, get_or, Option, None, Some}
+use Rattle.std.specs.Prelude.{Result, Ok, Err}
 use Rattle.hart.specs.State.{HartState}
 use Rattle.hart.specs.declared.status.Stop.{Stop}
 use Rattle.hart.specs.declared.status.Status.TheVariants.{Stopped}
@@ -11,33 +12,44 @@ use Rattle.step_machine.specs.History.{OpeningValue, history_of}
 use Rattle.step_machine.specs.Legal.{WellFormed}
 use Rattle.step_machine.specs.Paths.{state_of}
 use Rattle.store_buffers.specs.StoreBuffers.{LeavesByteBy}
-use Rattle.queue_parties.specs.Parties.{Party, all_at}
+use Rattle.queue_parties.specs.Parties.{Party, the_sender, the_receiver, all_at}
 use Rattle.certified_runs.specs.TwoParties.{EachIs}
 use Rattle.slots_that_tell.specs.Laws.{FollowsTelling}
 use Rattle.slots_that_tell.specs.Telling.{teller_hart}
-use Rattle.telling_run.specs.Certified.{LoadsRestOwned, telling}
-use Rattle.slot_queue.specs.Ownership.{counts_after}
+use Rattle.queue_certificates.specs.ToldRuns.{LoadsRestOwned, telling}
+use Rattle.slot_queue.specs.Ownership.{counts_after, hart}
 use Rattle.slot_queue.specs.Laws.{FollowsOwnership}
-use Rattle.owned_run.specs.Certified.{ReadsOwned}
+use Rattle.queue_certificates.specs.OwnedRuns.{ReadsOwned}
 use Rattle.queue_certificates.specs.Certificates.{QueueCertificate, queue_at, start_at, tagged_at, tagged_start, MeetsFields}
 use Rattle.queue_layouts.specs.Tagged.{slots_of}
+use Rattle.ownership_runs.specs.declared.violations.Violation.{Violation}
 use Rattle.ownership_runs.specs.Protocols.{Keeps}
+use Rattle.ownership_runs.specs.Violations.{first_ownership_violation}
 use Rattle.record_bytes.specs.Naming.{names_byte}
 use Rattle.records_written.specs.Senders.{published_after, slot_in}
 use Rattle.records_written.specs.Written.{IsWritten}
 use Rattle.hart_safety.specs.Regions.{IsInNone}
-use Rattle.hart_safety.specs.Writes.{regions_written}
+use Rattle.hart_safety.specs.Stops.{first_stop}
+use Rattle.hart_safety.specs.Writes.{first_unbounded, regions_written}
+use Rattle.queue_progress.specs.declared.pace.Pace.{Pace}
+use Rattle.queue_progress.specs.declared.pace.Progress.TheVariants.{GoesOn}
+use Rattle.queue_progress.specs.Rows.{EachAfter, EachOwn, HaveLanded, IsStuckStep, all_moved, counts_at, executed}
+use Rattle.queue_progress.specs.declared.pace.ToldProgress.TheVariants.{Within}
+use Rattle.queue_progress.specs.Progress.{progress_of}
+use Rattle.queue_progress.specs.Told.{IsToldStuck, TagsHaveLanded, teller_at, told_counts_at, told_progress_of}
 use Rattle.engine_support.specs.declared.fault.Refusal.{Refusal}
 use Rattle.engine_support.specs.Inputs.{Reads}
 use Rattle.engine_support.specs.Tests.{tests}
 use Rattle.certifying.specs.Answers.{kept_answer, undecided}
+use Rattle.certifying.specs.Going.{bound_of}
 use Rattle.certifying.specs.Questions.{Questions}
 use Rattle.certifying.specs.Inputs.{certificates}
 use Rattle.certifying.specs.Queues.{any_queue, any_start, is_tag_byte, number_in, queue_count, slots_at}
 use Rattle.certifying.specs.Records.{AreFoundFor}
 use Rattle.certifying.specs.declared.records.Records.{Records}
+use Rattle.certifying.specs.declared.records.Records.TheVariants.{NoBytes, Shown}
 use Rattle.certifying.specs.declared.judgement.Judgement.{Judgement}
-use Rattle.certifying.specs.declared.judgement.Judgement.TheVariants.{Kept, ReadsNotShown, AskedNotShown, NotShown, Broken}
+use Rattle.certifying.specs.declared.judgement.Judgement.TheVariants.{Kept, ReadsNotShown, ProgressNotShown, AskedNotShown, NotShown, Broken, OtherProtocol}
 
 -- each run keeps the protocol of ownership of each queue with indices, with store buffers of any size
 abbrev pub KeepsProtocol : OpeningValue → QueueCertificate → Type 0
@@ -67,32 +79,133 @@ LoadsTagsOrOwned o c = (B M : ℕ) (es : List Entry) → WellFormed B M (history
     → EachIs (telling (slots_of (tagged_at c t))) (teller_hart (slots_of (tagged_at c t)) p) (LoadsRestOwned (slots_of (tagged_at c t)) p)
     (all_at (tagged_start c t)) es
 
--- Of the bytes that a text asks about: the records of each queue have some of them; and in each run, where a sender publishes a position, it
--- has written each of them, except those of a tag, in that position's slot since the record before in that slot was published
-abbrev pub WritesRecords : (written : Option (List ℕ)) → OpeningValue → QueueCertificate → Type 0
-WritesRecords None o c = Unit {0}
-WritesRecords (Some bytes) o c = ((i : ℕ) → i < queue_count c → (b : ℕ) × (b < (slots_at c i).width) × (names_byte bytes b ≡ true))
-    × ((B M : ℕ) (es : List Entry) (e : Entry) → WellFormed B M (history_of o (es ++ e ∷ [])) → (i : ℕ) → i < queue_count c → (k : ℕ)
+-- ---- what is asked, of one queue and of one hart
+
+-- Of the bytes that a text names: the records of queue i have some of them; and in each run, where its sender publishes a position, it has
+-- written each of them, except those of a tag, in that position's slot since the record before in that slot was published
+abbrev pub WritesRecordsOf : (bytes : List ℕ) → OpeningValue → QueueCertificate → (i : ℕ) → Type 0
+WritesRecordsOf bytes o c i = ((b : ℕ) × (b < (slots_at c i).width) × (names_byte bytes b ≡ true))
+    × ((B M : ℕ) (es : List Entry) (e : Entry) → WellFormed B M (history_of o (es ++ e ∷ [])) → (k : ℕ)
     → published_after c (number_in c i) es ≤ k → k < published_after c (number_in c i) (es ++ e ∷ []) → (b : ℕ) → b < (slots_at c i).width
     → names_byte bytes b ≡ true → is_tag_byte c i b ≡ false → IsWritten c (number_in c i) es k (slot_in c (number_in c i) k + b))
 
--- in each run with M words of memory no hart is ever stopped
-abbrev pub NeverStops : (M : ℕ) → OpeningValue → Type 0
-NeverStops M o = (B : ℕ) (es : List Entry) → WellFormed B M (history_of o es) → (h : ℕ) → h < length o.harts → (s : HartState)
-    → state_of M (history_of o es) h ≡ Some s → (why : Stop) → s.status ≡ Stopped why → ⊥
+-- in each run with M words of memory hart h is never stopped
+abbrev pub NeverStops : (M : ℕ) → OpeningValue → (h : ℕ) → Type 0
+NeverStops M o h = (B : ℕ) (es : List Entry) → WellFormed B M (history_of o es) → (s : HartState) → state_of M (history_of o es) h ≡ Some s
+    → (why : Stop) → s.status ≡ Stopped why → ⊥
 
--- in each run each hart writes bytes of its regions only
-abbrev pub WritesWithinRegions : OpeningValue → QueueCertificate → Type 0
-WritesWithinRegions o c = (B M : ℕ) (es : List Entry) (e : Entry) → WellFormed B M (history_of o (es ++ e ∷ [])) → is_land e ≡ false
-    → hart_of e < length o.harts → (x : ℕ) → IsInNone x (regions_written o c (hart_of e)) → LeavesByteBy x (access_of e)
+-- in each run it writes bytes of its regions only
+abbrev pub WritesWithinRegions : OpeningValue → QueueCertificate → (h : ℕ) → Type 0
+WritesWithinRegions o c h = (B M : ℕ) (es : List Entry) (e : Entry) → WellFormed B M (history_of o (es ++ e ∷ [])) → is_land e ≡ false
+    → hart_of e ≡ h → (x : ℕ) → IsInNone x (regions_written o c h) → LeavesByteBy x (access_of e)
 
--- both, if the harts are asked about
+-- ---- whether a queue with indices goes on
+
+-- in each run, of `bound_of pace` instructions in a row of party p of queue i one moves its index, or is a load of the other's by which it
+-- finds that it owns at most `pace.owned` positions
+abbrev pub PartyGoesOn : OpeningValue → QueueCertificate → (i : ℕ) → Party → Pace → Type 0
+PartyGoesOn o c i p pace = (B M : ℕ) (es row : List Entry) → WellFormed B M (history_of o (es ++ row))
+    → EachOwn (queue_at c i) p (IsStuckStep (queue_at c i) p pace.owned) (counts_at c i es) row
+    → executed (hart (queue_at c i) p) row < bound_of pace
+
+-- In each run in which no store to an index of queue i is pending, and then each party executes as many instructions as its bound, in any
+-- order and beside other harts, more is published or taken
+abbrev pub QueueMoves : OpeningValue → QueueCertificate → (i : ℕ) → (sender receiver : Pace) → Type 0
+QueueMoves o c i s r = (B M : ℕ) (es row : List Entry) → WellFormed B M (history_of o (es ++ row))
+    → HaveLanded (queue_at c i) o es (counts_at c i es) → bound_of s ≤ executed (queue_at c i).sender row
+    → bound_of r ≤ executed (queue_at c i).receiver row → all_moved (counts_at c i es) < all_moved (counts_at c i (es ++ row))
+
+-- all of that, with the numbers that the lines have
+pub record QueueGoesOn (o : OpeningValue) (c : QueueCertificate) (i : ℕ) : Type 0 where
+  pub sends : Pace
+  pub receives : Pace
+  pub sender_found : progress_of o c (queue_at c i).sender i ≡ GoesOn sends
+  pub receiver_found : progress_of o c (queue_at c i).receiver i ≡ GoesOn receives
+  pub sender_goes : PartyGoesOn o c i the_sender sends
+  pub receiver_goes : PartyGoesOn o c i the_receiver receives
+  pub moves : QueueMoves o c i sends receives
+
+-- ---- whether a queue with tags goes on
+
+-- in each run, of N + 1 instructions in a row of party p of queue t one stores its tag, or is a load of its position's tag by which it isn't
+-- told that the slot is its own
+abbrev pub TellerGoesOn : OpeningValue → QueueCertificate → (t : ℕ) → Party → (N : ℕ) → Type 0
+TellerGoesOn o c t p N = (B M : ℕ) (es row : List Entry) → WellFormed B M (history_of o (es ++ row))
+    → EachAfter (teller_at c t p) (IsToldStuck c t p) es row → executed (teller_at c t p) row < N + 1
+
+-- In each run in which no store to a tag of queue t is pending, and then each party executes as many instructions, in any order and beside
+-- other harts, more is published or taken
+abbrev pub TellersMove : OpeningValue → QueueCertificate → (t sender receiver : ℕ) → Type 0
+TellersMove o c t s r = (B M : ℕ) (es row : List Entry) → WellFormed B M (history_of o (es ++ row)) → TagsHaveLanded (slots_of (tagged_at c t)) es
+    → s + 1 ≤ executed (tagged_at c t).sender row → r + 1 ≤ executed (tagged_at c t).receiver row
+    → all_moved (told_counts_at c t es) < all_moved (told_counts_at c t (es ++ row))
+
+-- all of that, with the numbers that the lines have
+pub record TellersGoOn (o : OpeningValue) (c : QueueCertificate) (t : ℕ) : Type 0 where
+  pub sends : ℕ
+  pub receives : ℕ
+  pub sender_found : told_progress_of o c (tagged_at c t).sender t ≡ Within sends
+  pub receiver_found : told_progress_of o c (tagged_at c t).receiver t ≡ Within receives
+  pub sender_goes : TellerGoesOn o c t the_sender sends
+  pub receiver_goes : TellerGoesOn o c t the_receiver receives
+  pub moves : TellersMove o c t sends receives
+
+-- ---- of all, where all is shown
+
+-- each queue goes on, if that is asked
+abbrev pub KeepsGoing : (progress : Bool) → OpeningValue → QueueCertificate → Type 0
+KeepsGoing true o c = ((i : ℕ) → i < length c.queues → QueueGoesOn o c i) × ((t : ℕ) → t < length c.tagged → TellersGoOn o c t)
+KeepsGoing false o c = Unit {0}
+
+-- each queue's records, if they are asked about
+abbrev pub WritesRecords : (written : Option (List ℕ)) → OpeningValue → QueueCertificate → Type 0
+WritesRecords None o c = Unit {0}
+WritesRecords (Some bytes) o c = (i : ℕ) → i < queue_count c → WritesRecordsOf bytes o c i
+
+-- each hart, if they are asked about
 abbrev pub KeepsHarts : (M : ℕ) → (harts : Bool) → OpeningValue → QueueCertificate → Type 0
-KeepsHarts M true o c = NeverStops M o × WritesWithinRegions o c
+KeepsHarts M true o c = (h : ℕ) → h < length o.harts → NeverStops M o h × WritesWithinRegions o c h
 KeepsHarts M false o c = Unit {0}
 
--- a legal run breaks that of a queue of either kind
-pub record BreaksProtocol (o : OpeningValue) (c : QueueCertificate) : Type 0 where
+-- ---- of those whose line says that it is shown, whatever the judgement
+
+-- each queue of which the records are found to be written
+abbrev pub RecordsHold : (written : Option (List ℕ)) → OpeningValue → QueueCertificate → List Records → Type 0
+RecordsHold None o c found = Unit {0}
+RecordsHold (Some bytes) o c found = (i : ℕ) → get_or found i NoBytes ≡ Shown → WritesRecordsOf bytes o c i
+
+-- each hart without a state that may stop it, and each without a store that may go anywhere
+abbrev pub HartsHold : (M : ℕ) → (harts : Bool) → OpeningValue → QueueCertificate → Type 0
+HartsHold M true o c = (h : ℕ) → h < length o.harts → (first_stop M o c h ≡ None → NeverStops M o h)
+    × (first_unbounded o c h ≡ None → WritesWithinRegions o c h)
+HartsHold M false o c = Unit {0}
+
+-- each party of a queue with tags that is within some number of instructions, and both together
+abbrev pub TellersHold : OpeningValue → QueueCertificate → Type 0
+TellersHold o c = ((t : ℕ) → t < length c.tagged → (p : Party) (N : ℕ) → told_progress_of o c (teller_at c t p) t ≡ Within N → TellerGoesOn o c t p N)
+    × ((t : ℕ) → t < length c.tagged → (s r : ℕ) → told_progress_of o c (tagged_at c t).sender t ≡ Within s
+    → told_progress_of o c (tagged_at c t).receiver t ≡ Within r → TellersMove o c t s r)
+
+-- each party with a pace, and both together where, while they wait, they own fewer positions than the queue has
+abbrev pub ProgressHolds : (progress : Bool) → OpeningValue → QueueCertificate → Type 0
+ProgressHolds true o c = ((i : ℕ) → i < length c.queues → (p : Party) (pace : Pace) → progress_of o c (hart (queue_at c i) p) i ≡ GoesOn pace
+    → PartyGoesOn o c i p pace)
+    × ((i : ℕ) → i < length c.queues → (s r : Pace) → progress_of o c (queue_at c i).sender i ≡ GoesOn s
+    → progress_of o c (queue_at c i).receiver i ≡ GoesOn r → s.owned + r.owned < (queue_at c i).capacity → QueueMoves o c i s r)
+    × TellersHold o c
+ProgressHolds false o c = Unit {0}
+
+-- The answer has the lines of the queues' progress, of these records and of the harts, and what they say is shown is so.
+pub record LinesHold (M : ℕ) (asked : Questions) (o : OpeningValue) (c : QueueCertificate) (answer : List ℕ × Judgement) : Type 0 where
+  pub found : List Records
+  pub answer_is : answer ≡ kept_answer M asked o c found
+  pub progress : ProgressHolds asked.progress o c
+  pub records : RecordsHold asked.written o c found
+  pub harts : HartsHold M asked.harts o c
+
+-- a legal run breaks that of a queue of either kind, first by this violation: a store that is described, or one that isn't
+-- (`laws_of_violations`, clause `foreign`)
+pub record BreaksProtocol (described : Bool) (o : OpeningValue) (c : QueueCertificate) : Type 0 where
   pub B : ℕ
   pub M : ℕ
   pub entries : List Entry
@@ -100,6 +213,9 @@ pub record BreaksProtocol (o : OpeningValue) (c : QueueCertificate) : Type 0 whe
   pub queue : ℕ
   pub inside : queue < queue_count c
   pub breaks : Keeps (any_queue c queue) (all_at (any_start c queue)) entries → ⊥
+  pub violation : Violation
+  pub first : first_ownership_violation (any_queue c queue) (all_at (any_start c queue)) entries ≡ Some violation
+  pub by : violation.described ≡ described
 
 -- what the readers give stands for a test and a certificate, of which this holds
 pub record AreJudged (file certificate : Option (List ℕ)) (Holds : OpeningValue → QueueCertificate → Type 0) : Type 0 where
@@ -109,14 +225,19 @@ pub record AreJudged (file certificate : Option (List ℕ)) (Holds : OpeningValu
   pub certificate_is : Reads certificates certificate (Ok listed)
   pub holds : Holds test.opening listed
 
--- what is promised where this is returned, with M words of memory
-abbrev pub IsPromised : (M : ℕ) → Questions → Judgement → OpeningValue → QueueCertificate → Type 0
-IsPromised M asked Kept o c = KeepsProtocol o c × KeepsTags o c × ReceivesFields o c × LoadsOwnedSlots o c × LoadsTagsOrOwned o c
-    × WritesRecords asked.written o c × KeepsHarts M asked.harts o c
-IsPromised M asked AskedNotShown o c = KeepsProtocol o c × KeepsTags o c × ReceivesFields o c × LoadsOwnedSlots o c × LoadsTagsOrOwned o c
-IsPromised M asked ReadsNotShown o c = KeepsProtocol o c × KeepsTags o c × ReceivesFields o c
-IsPromised M asked NotShown o c = Unit {0}
-IsPromised M asked Broken o c = BreaksProtocol o c
+-- what is promised by this text and judgement, with M words of memory
+abbrev pub IsPromised : (M : ℕ) → Questions → List ℕ × Judgement → OpeningValue → QueueCertificate → Type 0
+IsPromised M asked (text, Kept) o c = KeepsProtocol o c × KeepsTags o c × ReceivesFields o c × LoadsOwnedSlots o c × LoadsTagsOrOwned o c
+    × KeepsGoing asked.progress o c × WritesRecords asked.written o c × KeepsHarts M asked.harts o c
+IsPromised M asked (text, AskedNotShown) o c = KeepsProtocol o c × KeepsTags o c × ReceivesFields o c × LoadsOwnedSlots o c
+    × LoadsTagsOrOwned o c × KeepsGoing asked.progress o c × LinesHold M asked o c (text, AskedNotShown)
+IsPromised M asked (text, ProgressNotShown) o c = KeepsProtocol o c × KeepsTags o c × ReceivesFields o c × LoadsOwnedSlots o c
+    × LoadsTagsOrOwned o c × LinesHold M asked o c (text, ProgressNotShown)
+IsPromised M asked (text, ReadsNotShown) o c = KeepsProtocol o c × KeepsTags o c × ReceivesFields o c
+    × LinesHold M asked o c (text, ReadsNotShown)
+IsPromised M asked (text, NotShown) o c = Unit {0}
+IsPromised M asked (text, Broken) o c = BreaksProtocol true o c
+IsPromised M asked (text, OtherProtocol) o c = BreaksProtocol false o c
 
 -- Bytes of records are asked about, and the two are answers to one opening and one certificate that differ at most by what is found of the
 -- records.
@@ -132,9 +253,13 @@ pub record DifferInRecords (M : ℕ) (asked : Questions) (a b : List ℕ × Judg
   pub one_is : a ≡ kept_answer M asked opening listed found
   pub other_is : b ≡ kept_answer M asked opening listed others
 
+-- an answer of this judgement shows a schedule
+abbrev pub HasSchedule : Judgement → Type 0
+HasSchedule judgement = (judgement ≡ Broken) ⊎ (judgement ≡ OtherProtocol)
+
 -- one judgement, and one text unless they show a schedule
 abbrev pub AreSameAnswers : (a b : List ℕ × Judgement) → Type 0
-AreSameAnswers a b = (a.1 ≡ b.1) × ((a.1 ≡ Broken → ⊥) → a.0 ≡ b.0)
+AreSameAnswers a b = (a.1 ≡ b.1) × ((HasSchedule a.1 → ⊥) → a.0 ≡ b.0)
 
 -- Two answers are alike, or differ in what is found of records, or are refusals of one number, except that a check may be given up undecided.
 abbrev pub AreQueueAnswers : (M : ℕ) → Questions → Result (List ℕ × Judgement) Refusal → Result (List ℕ × Judgement) Refusal → Type 0

@@ -1,14 +1,13 @@
 -- Whether the senders of queues write bytes of their records, as lines state it.
-use Rattle.std.specs.Prelude.{ℕ, ◌≡◌, ◌+◌, not, Bool, true, false, List, [], ◌∷◌, ◌++◌, length, codes, Option, Some, None}
-use Rattle.std.specs.List.{filter}
+use Rattle.std.specs.Prelude.{ℕ, ◌≡◌, ◌+◌, ◌&&◌, not, Bool, true, false, List, [], ◌∷◌, ◌++◌, length, codes, Option, Some, None}
 use Rattle.std.specs.Fmt.{decimal}
 use Rattle.step_machine.specs.History.{OpeningValue}
 use Rattle.queue_certificates.specs.Certificates.{QueueCertificate}
 use Rattle.record_bytes.specs.declared.ranges.ByteRange.{ByteRange}
 use Rattle.record_bytes.specs.Naming.{names_byte, offsets_below}
-use Rattle.record_bytes.specs.Ranges.{byte_ranges}
+use Rattle.record_bytes.specs.Ranges.{byte_ranges, has_byte}
 use Rattle.records_written.specs.declared.finding.Unwritten.{Unwritten}
-use Rattle.records_written.specs.Marks.{IsShownWritten}
+use Rattle.records_written.specs.Marks.{IsShownWritten, IsFirstUnwritten}
 use Rattle.engine_support.specs.OpeningTexts.{numbered}
 use Rattle.certifying.specs.ByteTexts.{bytes_text, is_one_byte}
 use Rattle.certifying.specs.Descriptions.{queue_front}
@@ -21,22 +20,25 @@ use Rattle.certifying.specs.declared.records.Records.TheVariants.{NoBytes, Shown
 abbrev pub asked_bytes : QueueCertificate → (bytes : List ℕ) → (i : ℕ) → List ℕ
 asked_bytes c bytes i = offsets_below (names_byte bytes) (slots_at c i).width
 
--- those that its sender writes before it publishes the record: what publishes it writes its tag
-abbrev pub rest_bytes : QueueCertificate → (i : ℕ) → List ℕ → List ℕ
-rest_bytes c i mask = filter (λ b. not (is_tag_byte c i b)) mask
+abbrev pub asked_ranges : QueueCertificate → (bytes : List ℕ) → (i : ℕ) → List ByteRange
+asked_ranges c bytes i = byte_ranges (asked_bytes c bytes i)
 
--- ---- what is found. Which byte isn't shown, and at which state, depends on the search
+-- of these ranges, those that its sender writes before it publishes the record: what publishes it writes its tag
+abbrev pub is_rest : QueueCertificate → (i : ℕ) → List ByteRange → (b : ℕ) → Bool
+is_rest c i ranges b = has_byte ranges b && not (is_tag_byte c i b)
+
+-- ---- what is found
 
 module _ (o : OpeningValue) (c : QueueCertificate) where
-  abbrev pub IsFound : (i : ℕ) → (mask : List ℕ) → Records → Type 0
-  IsFound i mask NoBytes = mask ≡ []
-  IsFound i mask Shown = (mask ≡ [] → ⊥) × IsShownWritten o c (number_in c i) (rest_bytes c i mask)
-  IsFound i mask (NotShown unwritten) = mask ≡ [] → ⊥
+  abbrev pub IsFound : (i : ℕ) → (ranges : List ByteRange) → Records → Type 0
+  IsFound i ranges NoBytes = ranges ≡ []
+  IsFound i ranges Shown = (ranges ≡ [] → ⊥) × IsShownWritten o c (number_in c i) (is_rest c i ranges)
+  IsFound i ranges (NotShown unwritten) = (ranges ≡ [] → ⊥) × IsFirstUnwritten o c (number_in c i) (is_rest c i ranges) unwritten
 
   -- from queue i on, one queue for each of these
   abbrev pub AreFoundFrom : (bytes : List ℕ) → (i : ℕ) → List Records → Type 0
   AreFoundFrom bytes i [] = Unit {0}
-  AreFoundFrom bytes i (records ∷ more) = IsFound i (asked_bytes c bytes i) records × AreFoundFrom bytes (i + 1) more
+  AreFoundFrom bytes i (records ∷ more) = IsFound i (asked_ranges c bytes i) records × AreFoundFrom bytes (i + 1) more
 
   -- of each queue, if that is asked
   abbrev pub AreFoundFor : (written : Option (List ℕ)) → List Records → Type 0
@@ -79,4 +81,4 @@ record_line o c i ranges (NotShown unwritten) = unshown_front i ++ written_text 
 -- a line for each queue, if that is asked
 abbrev pub record_lines : OpeningValue → QueueCertificate → (written : Option (List ℕ)) → List Records → List ℕ
 record_lines o c None found = []
-record_lines o c (Some bytes) found = numbered (λ i. record_line o c i (byte_ranges (asked_bytes c bytes i))) 0 found
+record_lines o c (Some bytes) found = numbered (λ i. record_line o c i (asked_ranges c bytes i)) 0 found

@@ -13,7 +13,7 @@ use Rattle.judged_runs.specs.declared.telling.Told.{Told}
 use Rattle.ownership_runs.specs.declared.violations.Violation.{Violation}
 use Rattle.ownership_runs.specs.declared.runs.Moved.{Moved}
 use Rattle.ownership_runs.specs.Ends.{EndsInViolation}
-use Rattle.ownership_runs.specs.Runs.{HasKeptRun, HasBrokenRun, IsOfOneHart, AreMovesOf}
+use Rattle.ownership_runs.specs.Runs.{HasKeptRun, HasBrokenRun, IsOfOneKind, AreMovesOf}
 use Rattle.certifying.specs.Queues.{any_queue, any_start, queue_count}
 use Rattle.certifying.specs.declared.trials.Trial.{Trial}
 use Rattle.certifying.specs.declared.trials.Trial.TheVariants.{Kept, Broken}
@@ -27,7 +27,7 @@ module _ (d : DrawnRuns) (o : OpeningValue) (c : QueueCertificate) (i : ℕ) whe
   -- what is stated of all runs
   abbrev pub IsToldOf : Told Moved Violation → Type 0
   IsToldOf told = IsTold (HasKeptRun d.B d.M o (any_queue c i) (all_at (any_start c i))) (HasBrokenRun d.B d.M o (any_queue c i) (all_at (any_start c i)))
-      IsOfOneHart (AreMovesOf d.B d.M o (any_queue c i) (all_at (any_start c i))) (trial_schedule d o) d.number told
+      IsOfOneKind (AreMovesOf d.B d.M o (any_queue c i) (all_at (any_start c i))) (trial_schedule d o) d.number told
 
   -- all keep the protocol, and the parties moved on by this much in them
   abbrev pub AllKeep : Moved → Type 0
@@ -37,7 +37,7 @@ module _ (d : DrawnRuns) (o : OpeningValue) (c : QueueCertificate) (i : ℕ) whe
   -- this is a part of the events of the first run that breaks it, with no event to spare, whose own run has this first violation
   abbrev pub IsBrokenBy : (part : List Event) → Violation → Type 0
   IsBrokenBy part violation = IsFlawTold (HasKeptRun d.B d.M o (any_queue c i) (all_at (any_start c i)))
-      (HasBrokenRun d.B d.M o (any_queue c i) (all_at (any_start c i))) IsOfOneHart (trial_schedule d o) d.number part violation
+      (HasBrokenRun d.B d.M o (any_queue c i) (all_at (any_start c i))) IsOfOneKind (trial_schedule d o) d.number part violation
 
   -- the last of these events makes the violation
   abbrev pub EndsBroken : (part : List Event) → Violation → Type 0

@@ -37,7 +37,7 @@ unfoldable pub pc_place : OpeningValue → QueueCertificate → (h n : ℕ) → 
 pc_place o c h n = instruction_at_pc o h (state_at c h n).known.pc ++ codes ", state " ++ decimal n
 
 unfoldable pub unread_front : List ℕ
-unread_front = codes "kept in every run, but reads not shown: "
+unread_front = codes "kept, but reads not shown: "
 
 unfoldable pub unread_end : (queue : ℕ) → List ℕ
 unread_end queue = codes ", of queue " ++ decimal queue ++ 10 ∷ []

@@ -1,11 +1,11 @@
 //! The texts of answers, except those with a schedule.
 
-ghost use Rattle.std.specs.Prelude.{◌≡◌, ◌++◌, IfOk, OnOk};
+ghost use Rattle.std.specs.Prelude.{◌≡◌, ◌++◌, IfOk, OnOk, true};
 ghost use Rattle.std.specs.String.{string_bytes};
 ghost use Rattle.engine_support.specs.OpeningTexts.{numbered};
 ghost use Rattle.certificate_reader.specs.Known.{known_at};
 ghost use Rattle.certifying.specs.Answers.{asked_lines, every_run_text, flaw_text, kept_line, kept_protocols, kept_text, limit_lines};
-ghost use Rattle.certifying.specs.Answers.{limit_of_records, nothing_line};
+ghost use Rattle.certifying.specs.Answers.{limit_of_progress, limit_of_records, limits_of, nothing_line, running_line};
 ghost use Rattle.certifying.specs.Answers.{other_bytes_line, progress_line, promise_end, protocol_line, protocol_text, reads_line, records_line, records_shown};
 ghost use Rattle.certifying.specs.Answers.{unread_text, unused_text};
 ghost use Rattle.certifying.specs.Questions.{questions_by};
@@ -45,6 +45,27 @@ fn push_progress(out: &mut String) -> Result<(), AllocError>
     writeln!(out, "not promised: that anything is ever sent or received")
 }
 
+#[tactic(auto, unfolding(crate::specs::Answers::running_line))]
+fn push_running(out: &mut String) -> Result<(), AllocError>
+    ensures { OnOk result (string_bytes out.new ≡ string_bytes out.old ++ running_line) }
+{
+    writeln!(
+        out,
+        "not promised: that a hart is ever run, or doesn't end or stop, or that a store ever lands"
+    )
+}
+
+/// What isn't promised of progress, where queues are shown to go on or not.
+fn push_limit_of_progress(out: &mut String, goes: bool) -> Result<(), AllocError>
+    ensures { OnOk result (string_bytes out.new ≡ string_bytes out.old ++ limit_of_progress goes) }
+{
+    if goes {
+        push_running(out)
+    } else {
+        push_progress(out)
+    }
+}
+
 /// What isn't promised of records where bytes of them are shown to be written.
 #[tactic(auto, unfolding(crate::specs::Answers::other_bytes_line))]
 fn push_other_bytes(out: &mut String) -> Result<(), AllocError>
@@ -68,11 +89,11 @@ fn push_limit_of_records(out: &mut String, written: bool) -> Result<(), AllocErr
 }
 
 /// The same, and of progress.
-fn push_limits(out: &mut String, written: bool) -> Result<(), AllocError>
-    ensures { OnOk result (string_bytes out.new ≡ string_bytes out.old ++ limit_lines written) }
+fn push_limits(out: &mut String, written: bool, goes: bool) -> Result<(), AllocError>
+    ensures { OnOk result (string_bytes out.new ≡ string_bytes out.old ++ limit_lines written goes) }
 {
     push_limit_of_records(out, written)?;
-    push_progress(out)
+    push_limit_of_progress(out, goes)
 }
 
 /// Whether bytes of records were asked about, and are shown to be written.
@@ -82,6 +103,18 @@ fn are_records_shown(asked: Questions<'_>, found: &[Records]) -> bool
     asked.written.is_some() && are_shown(found)
 }
 
+/// What isn't promised, where the queues are shown to go on, if that is asked, or not.
+fn push_limits_of(
+    out: &mut String,
+    asked: Questions<'_>,
+    found: &[Records],
+    goes: bool,
+) -> Result<(), AllocError>
+    ensures { OnOk result (string_bytes out.new ≡ string_bytes out.old ++ limits_of (questions_by asked.entry) found.now goes) }
+{
+    push_limits(out, are_records_shown(asked, found), asked.progress && goes)
+}
+
 /// The lines about what is asked.
 fn push_asked(
     alloc: Global,
@@ -89,27 +122,38 @@ fn push_asked(
     opening: &Opening,
     certificate: &QueueCertificate,
     asked: Questions<'_>,
+    going: &str,
     found: &[Records],
     harts: &str,
 ) -> Result<(), Lack>
-    ensures { OnOk result (string_bytes out.new ≡ string_bytes out.old ++ asked_lines opening.now certificate.now (questions_by asked.entry) found.now
-        harts.now) }
+    ensures { OnOk result (string_bytes out.new ≡ string_bytes out.old ++ asked_lines opening.now certificate.now (questions_by asked.entry) going.now
+        found.now harts.now) }
 {
+    out.push_str(going)?;
     push_records(alloc, out, opening, certificate, asked.written, found)?;
     out.push_str(harts)?;
     Ok(())
 }
 
-fn push_kept(out: &mut String, all: bool) -> Result<(), AllocError>
-    ensures { OnOk result (string_bytes out.new ≡ string_bytes out.old ++ kept_line all) }
+fn push_all_kept(out: &mut String, progress: bool) -> Result<(), AllocError>
+    ensures { OnOk result (string_bytes out.new ≡ string_bytes out.old ++ kept_line progress true true) }
 {
-    if all {
-        writeln!(out, "kept in every run")
+    if progress {
+        writeln!(out, "kept in every run, and goes on while its harts run")
     } else {
-        writeln!(
-            out,
-            "kept in every run, but not all that was asked is shown"
-        )
+        writeln!(out, "kept in every run")
+    }
+}
+
+fn push_kept(out: &mut String, progress: bool, goes: bool, all: bool) -> Result<(), AllocError>
+    ensures { OnOk result (string_bytes out.new ≡ string_bytes out.old ++ kept_line progress goes all) }
+{
+    if !goes {
+        writeln!(out, "kept in every run, but not shown to go on")
+    } else if !all {
+        writeln!(out, "kept, but not all that was asked is shown")
+    } else {
+        push_all_kept(out, progress)
     }
 }
 
@@ -157,26 +201,38 @@ fn push_promise_end(out: &mut String) -> Result<(), AllocError>
     )
 }
 
-/// The text where the protocol is kept and the parties load only slots that they own, with what is found of records, the lines of the
-/// harts, and whether all of it is shown.
+/// The text where the protocol is kept and the parties load only slots that they own, with the lines of whether the queues go on and of
+/// the harts, what is found of records, whether the queues are shown to go on, and whether all else is.
 pub fn kept_text(
     alloc: Global,
     opening: &Opening,
     certificate: &QueueCertificate,
     asked: Questions<'_>,
+    going: &str,
     found: &[Records],
     harts: &str,
+    goes: bool,
     all: bool,
 ) -> Result<String, Lack>
-    ensures { IfOk result (λ text. string_bytes text ≡ kept_text opening.now certificate.now (questions_by asked.entry) found.now harts.now all) }
+    ensures { IfOk result (λ text. string_bytes text ≡ kept_text opening.now certificate.now (questions_by asked.entry) going.now found.now harts.now
+        goes all) }
 {
     let mut out = String::new(alloc);
-    push_kept(&mut out, all)?;
+    push_kept(&mut out, asked.progress, goes, all)?;
     push_queues(alloc, &mut out, opening, certificate)?;
-    push_asked(alloc, &mut out, opening, certificate, asked, found, harts)?;
+    push_asked(
+        alloc,
+        &mut out,
+        opening,
+        certificate,
+        asked,
+        going,
+        found,
+        harts,
+    )?;
     push_protocol(&mut out, certificate)?;
     push_promise_end(&mut out)?;
-    push_limits(&mut out, are_records_shown(asked, found))?;
+    push_limits_of(&mut out, asked, found, goes)?;
     Ok(out)
 }
 
@@ -203,19 +259,31 @@ pub fn unread_text(
     opening: &Opening,
     certificate: &QueueCertificate,
     asked: Questions<'_>,
+    going: &str,
     found: &[Records],
     harts: &str,
+    goes: bool,
     unread: Unread,
 ) -> Result<String, Lack>
-    ensures { IfOk result (λ text. string_bytes text ≡ unread_text opening.now certificate.now (questions_by asked.entry) found.now harts.now unread) }
+    ensures { IfOk result (λ text. string_bytes text ≡ unread_text opening.now certificate.now (questions_by asked.entry) going.now found.now harts.now
+        goes unread) }
 {
     let mut out = String::new(alloc);
     push_unread(&mut out, opening, certificate, unread)?;
     push_queues(alloc, &mut out, opening, certificate)?;
-    push_asked(alloc, &mut out, opening, certificate, asked, found, harts)?;
+    push_asked(
+        alloc,
+        &mut out,
+        opening,
+        certificate,
+        asked,
+        going,
+        found,
+        harts,
+    )?;
     push_protocol_line(&mut out, certificate)?;
     push_reads(&mut out)?;
-    push_limits(&mut out, are_records_shown(asked, found))?;
+    push_limits_of(&mut out, asked, found, goes)?;
     Ok(out)
 }
 

@@ -26,6 +26,7 @@ ghost use Rattle.certifying.specs.Unused.{first_unused};
 
 use crate::answer_texts::{flaw_text, kept_text, tried_text, unread_text, unused_text};
 use crate::breaking::broken_text;
+use crate::going::push_going;
 use crate::harts::{HartsTold, harts_told};
 use crate::input::read_certificate;
 use crate::judgement::Judgement;
@@ -60,38 +61,63 @@ fn fault_of(lack: Lack) -> Fault
     }
 }
 
-/// What comes of an accepted certificate that owns its loads, where all that was asked is shown or not.
-fn kept_judgement(all: bool) -> Judgement
-    ensures { result ≡ kept_judgement all }
+/// What comes of an accepted certificate that owns its loads, where its queues are shown to go on, if that was asked, and all else that was.
+fn kept_judgement(goes: bool, all: bool) -> Judgement
+    ensures { result ≡ kept_judgement goes all }
 {
-    if all {
-        Judgement::Kept
-    } else {
+    if !goes {
+        Judgement::ProgressNotShown
+    } else if !all {
         Judgement::AskedNotShown
+    } else {
+        Judgement::Kept
     }
 }
 
-/// What is answered where the certificate is accepted, and its queues are used, with what is found of records and of harts.
+/// What is answered where the certificate is accepted, and its queues are used, with the lines of whether they go on, what is found of
+/// records and of harts, and whether they are shown to go on.
 fn judged_reads(
     alloc: Global,
     opening: &Opening,
     certificate: &QueueCertificate,
     asked: Questions<'_>,
+    going: &str,
     found: &[Records],
     told: &HartsTold,
+    goes: bool,
 ) -> Result<(String, Judgement), Lack>
-    ensures { IfOk result (λ answer. text_and_value answer ≡ judged_reads opening.now certificate.now (questions_by asked.entry) found.now
-        (string_bytes told.now.lines) told.now.safe (first_unread opening.now certificate.now)) }
+    ensures { IfOk result (λ answer. text_and_value answer ≡ judged_reads opening.now certificate.now (questions_by asked.entry) going.now found.now
+        (string_bytes told.now.lines) goes told.now.safe (first_unread opening.now certificate.now)) }
 {
     let harts = told.lines.as_str();
     match first_unread(alloc, opening, certificate)? {
         None => {
             let all = are_shown(found) && told.safe;
-            let text = kept_text(alloc, opening, certificate, asked, found, harts, all)?;
-            Ok((text, kept_judgement(all)))
+            let text = kept_text(
+                alloc,
+                opening,
+                certificate,
+                asked,
+                going,
+                found,
+                harts,
+                goes,
+                all,
+            )?;
+            Ok((text, kept_judgement(goes, all)))
         }
         Some(unread) => {
-            let text = unread_text(alloc, opening, certificate, asked, found, harts, unread)?;
+            let text = unread_text(
+                alloc,
+                opening,
+                certificate,
+                asked,
+                going,
+                found,
+                harts,
+                goes,
+                unread,
+            )?;
             Ok((text, Judgement::ReadsNotShown))
         }
     }
@@ -107,9 +133,20 @@ fn judged_asked(
 ) -> Result<(String, Judgement), Lack>
     ensures { IfOk result (λ answer. IsKeptAnswer words (questions_by asked.entry) opening.now certificate.now (text_and_value answer)) }
 {
+    let mut going = String::new(alloc);
+    let goes = push_going(alloc, &mut going, opening, certificate, asked.progress)?;
     let found = found_for(alloc, opening, certificate, asked.written)?;
     let told = harts_told(alloc, opening, certificate, words, asked.harts)?;
-    judged_reads(alloc, opening, certificate, asked, &found, &told)
+    judged_reads(
+        alloc,
+        opening,
+        certificate,
+        asked,
+        going.as_str(),
+        &found,
+        &told,
+        goes,
+    )
 }
 
 /// What is answered where the certificate is accepted.
@@ -166,7 +203,11 @@ fn judged_by_runs<
             pc,
         } => {
             let text = broken_text(alloc, B, opening, certificate, queue, &part, violation, pc)?;
-            Ok((text, Judgement::Broken))
+            if violation.described {
+                Ok((text, Judgement::Broken))
+            } else {
+                Ok((text, Judgement::OtherProtocol))
+            }
         }
     }
 }

@@ -4,7 +4,7 @@ ghost use Rattle.std.specs.Prelude.{◌≡◌, ◌<◌, ◌++◌, IfOk, OnOk};
 ghost use Rattle.std.specs.String.{string_bytes};
 ghost use Rattle.engine_support.specs.OpeningTexts.{numbered};
 ghost use Rattle.certifying.specs.Broken.{broken_line, broken_text, other_line, other_than_indices, other_than_tags, owned_text, positions_text};
-ghost use Rattle.certifying.specs.Broken.{runs_end, runs_front, runs_line, shown_line, stored_line, stored_text};
+ghost use Rattle.certifying.specs.Broken.{broken_verdict, runs_end, runs_front, runs_line, shown_line, stored_line, stored_text};
 ghost use Rattle.certifying.specs.Queues.{queue_count, tagged_number};
 
 use crate::descriptions::push_form;
@@ -17,11 +17,27 @@ use recorder::schedule_text;
 use std::alloc::{AllocError, Global};
 use step_machine::{Event, Opening};
 
-fn push_broken(out: &mut String, opening: &Opening, hart: u32, pc: u32) -> Result<(), AllocError>
-    ensures { OnOk result (string_bytes out.new ≡ string_bytes out.old ++ broken_line opening.now hart pc) }
+/// What begins the first line, by whether the store is one of the protocol described.
+fn push_verdict(out: &mut String, described: bool) -> Result<(), AllocError>
+    ensures { OnOk result (string_bytes out.new ≡ string_bytes out.old ++ broken_verdict described) }
 {
-    write!(out, "broken: ")?;
-    push_place(out, opening, hart, pc)?;
+    if described {
+        write!(out, "broken: ")
+    } else {
+        write!(out, "does not keep the protocol described: ")
+    }
+}
+
+fn push_broken(
+    out: &mut String,
+    opening: &Opening,
+    violation: Violation,
+    pc: u32,
+) -> Result<(), AllocError>
+    ensures { OnOk result (string_bytes out.new ≡ string_bytes out.old ++ broken_line opening.now violation pc) }
+{
+    push_verdict(out, violation.described)?;
+    push_place(out, opening, violation.hart, pc)?;
     writeln!(out, "")
 }
 
@@ -129,7 +145,7 @@ pub fn broken_text(
     ensures { IfOk result (λ text. string_bytes text ≡ broken_text stores opening.now certificate.now index part.now violation pc) }
 {
     let mut out = String::new(alloc);
-    push_broken(&mut out, opening, violation.hart, pc)?;
+    push_broken(&mut out, opening, violation, pc)?;
     push_stored(&mut out, index, violation)?;
     push_form(&mut out, certificate, index)?;
     push_other(&mut out, tagged_number(certificate, index))?;

@@ -4,8 +4,9 @@ ghost use Rattle.std.specs.Prelude.{◌≡◌, ◌<◌, ◌++◌, IfOk, OnOk, le
 ghost use Rattle.std.specs.List.{flat_map};
 ghost use Rattle.std.specs.String.{string_bytes};
 ghost use Rattle.engine_support.specs.OpeningTexts.{numbered};
-ghost use Rattle.certifying.specs.Descriptions.{access_lines, all_queue_lines, codec_text, count_end, count_front, count_line, field_end, field_front};
-ghost use Rattle.certifying.specs.Descriptions.{field_line, form_by, form_lines, from_end, indices_line, load_line, opens_end, parties_line, queue_lines};
+ghost use Rattle.certifying.specs.Descriptions.{access_lines, all_queue_lines, bits_text, codec_text, count_end, count_front, count_line};
+ghost use Rattle.certifying.specs.Descriptions.{field_end, field_front, field_line, form_by, form_lines, from_end, indices_line, load_line};
+ghost use Rattle.certifying.specs.Descriptions.{opens_end, parties_line, queue_lines};
 ghost use Rattle.certifying.specs.Descriptions.{slots_end, slots_front, slots_line, store_line, tag_bytes, tag_front, tag_line, tag_place};
 ghost use Rattle.certifying.specs.Descriptions.{tagged_form_lines, tagged_lines, tagged_slots_line};
 ghost use Rattle.certifying.specs.Queues.{queue_count, tagged_number};
@@ -179,6 +180,17 @@ fn push_tag_place(out: &mut String, offset: u32) -> Result<(), AllocError>
     write!(out, " at {offset} of each slot, ")
 }
 
+/// How bits of a tag tell.
+#[tactic(auto, unfolding(crate::specs::Descriptions::bits_text))]
+fn push_bits(out: &mut String, mask: u32, free: u32, full: u32) -> Result<(), AllocError>
+    ensures { OnOk result (string_bytes out.new ≡ string_bytes out.old ++ bits_text mask free full) }
+{
+    write!(
+        out,
+        "free where its bits under {mask} are {free} and full where they are {full}"
+    )
+}
+
 /// How a tag tells.
 fn push_codec(out: &mut String, codec: Codec) -> Result<(), AllocError>
     ensures { OnOk result (string_bytes out.new ≡ string_bytes out.old ++ codec_text codec) }
@@ -188,6 +200,7 @@ fn push_codec(out: &mut String, codec: Codec) -> Result<(), AllocError>
         Codec::Number => out.push_str(
             "k where it is free for position k and k + 1 where it is full of it, modulo 4294967296",
         ),
+        Codec::Bit { mask, free, full } => push_bits(out, mask, free, full),
     }
 }
 

@@ -12,6 +12,7 @@ use hart_safety::laws_of_hart_safety;
 use ownership_runs::laws::{laws_of_judged_runs, laws_of_violations};
 use queue_certificates::laws_of_queue_certificates;
 use queue_checker::flaws::laws_of_flaws;
+use queue_progress::laws_of_queue_progress;
 use records_written::laws_of_written_records;
 
 /// What the command promises. It does nothing.
@@ -20,17 +21,22 @@ use records_written::laws_of_written_records;
 ///   buffers of any size, keeps the protocol of ownership of each queue with indices, so that all that `slot_queue::laws_of_ownership`
 ///   promises holds of it, and that of slots that tell of each queue with tags, so that all that `slots_that_tell::laws_of_telling`
 ///   promises does; and what a receiver owns has the numbers of the fields that the answer lists. Where its reads are shown too, no party
-///   loads a byte of a slot that it doesn't own, except of tags. Where all that was asked is shown too, and bytes of records were asked
-///   about, in each such run the sender of each queue has written each of these bytes, except those of a tag, of each record that it
-///   publishes, since the record before in that slot was published; and if the harts were asked about, none is ever stopped on a machine
-///   of this memory, and each writes only bytes of its regions. Where its answer is that the protocol is broken, some legal run of the
-///   text doesn't keep that of some queue.
+///   loads a byte of a slot that it doesn't own, except of tags. Where it was asked if the queues go on, and that is shown too, in each
+///   such run, of as many instructions in a row of a party as its line says, one moves its index, or is a load of the other's by which it
+///   finds as few positions as the line says; and if no store to an index of a queue is pending, more is published or taken once each of
+///   its parties has executed that many. Where all else that was asked is shown too, and bytes of records were asked about, in each such
+///   run the sender of each queue has written each of these bytes, except those of a tag, of each record that it publishes, since the
+///   record before in that slot was published; and if the harts were asked about, none is ever stopped on a machine of this memory, and
+///   each writes only bytes of its regions. Where not all of that is shown, or not the reads, the same holds of each queue and of each hart
+///   whose line says that it is shown. Where its answer is that the protocol is broken, some legal run of the text doesn't keep that of
+///   some queue, first by a store that is described; and where it is that the protocol described isn't kept, by one that isn't, which the
+///   protocol doesn't have then (`ownership_runs::laws_of_violations`, clause `foreign`).
 /// - `one`: two answers to one input by the same drawn runs have one judgement, and are one text unless it has a schedule; or they are
 ///   refusals of one number, except that a check may be given up where a number in it passes 2^64 - 1. Where bytes of records are asked
 ///   about, two may differ in what is found of the records. Of a refused litmus text it isn't said on which line its first fault stands.
 pub fn laws_of_answers()
     ensures promised { (d : DrawnRuns) (asked : Questions) (file certificate : Option (List ℕ)) (text : List ℕ) (judgement : Judgement)
-        → IsQueueAnswer d asked file certificate (Ok (text, judgement)) → AreJudged file certificate (IsPromised d.M asked judgement) }
+        → IsQueueAnswer d asked file certificate (Ok (text, judgement)) → AreJudged file certificate (IsPromised d.M asked (text, judgement)) }
     ensures one { (d : DrawnRuns) (asked : Questions) (file certificate : List ℕ) (a b : Result (List ℕ × Judgement) Refusal)
         → IsQueueAnswer d asked (Some file) (Some certificate) a → IsQueueAnswer d asked (Some file) (Some certificate) b
         → AreQueueAnswers d.M asked a b }
@@ -38,6 +44,7 @@ pub fn laws_of_answers()
     laws_of_flaws();
     laws_of_written_records();
     laws_of_hart_safety();
+    laws_of_queue_progress();
     laws_of_queue_certificates();
     laws_of_violations();
     laws_of_judged_runs();

@@ -1,5 +1,5 @@
-//! The command `queue`: whether a certificate shows that every run of a litmus text keeps the protocol of its queues, then what is asked
-//! of their records and of the harts, and otherwise whether a drawn run breaks it. Queues have indices or tags: those with tags are
+//! The command `queue`: whether a certificate shows that every run of a litmus text keeps the protocol of its queues, then whether they go
+//! on, and what is asked of their records and of the harts, and otherwise whether a drawn run breaks it. Queues have indices or tags: those with tags are
 //! numbered on after the others.
 //!
 //! The contract: the engine's clause says what it writes for what its readers give, byte for byte (`IsQueueAnswer`), and
@@ -15,6 +15,7 @@ pub mod answering;
 pub mod breaking;
 pub mod byte_texts;
 pub mod descriptions;
+pub mod going;
 pub mod harts;
 pub mod input;
 pub mod instructions;

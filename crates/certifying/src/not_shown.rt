@@ -98,6 +98,10 @@ fn push_tagged_fault(out: &mut String, why: TaggedFlaw) -> Result<(), AllocError
         TaggedFlaw::SameNumbers => out.push_str(
             " has numbers that are the same for free and for full slots",
         ),
+        TaggedFlaw::WideMask => { out.push_str(" has a mask with bits that its tag doesn't have") }
+        TaggedFlaw::SameBits => {
+            out.push_str(" has bits that are the same for free and for full slots")
+        }
         TaggedFlaw::NotFree => out.push_str(" has a slot that isn't free where it opens"),
     }
 }

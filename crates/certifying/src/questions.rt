@@ -3,6 +3,8 @@
 /// What is asked of a certificate besides the protocol.
 #[derive(Clone, Copy)]
 pub struct Questions<'a> {
+    /// Whether it is asked if each queue goes on.
+    pub progress: bool,
     /// Which bytes of each record its sender is to write, as [`record_bytes::is_bytes`] takes them; `None` where that isn't asked.
     pub written: Option<&'a str>,
     /// Whether it is asked if each hart is never stopped, and which bytes it writes.

@@ -1,7 +1,8 @@
 //! The queues of a certificate by their numbers: first those with indices, and then those with tags.
 
-ghost use Rattle.std.specs.Prelude.{◌≡◌, ◌+◌, IfOk, length, get_or};
+ghost use Rattle.std.specs.Prelude.{ℕ, ◌≡◌, ◌+◌, IfOk, length, get_or};
 ghost use Rattle.queue_certificates.specs.Certificates.{no_queue};
+ghost use Rattle.record_bytes.specs.Ranges.{range_has};
 ghost use Rattle.certifying.specs.Queues.{accesses_at, any_queue, any_start, is_tag_byte, number_in, queue_count, slots_at, tagged_number};
 
 use known_values::queues::queue_in;
@@ -9,6 +10,7 @@ use known_values::{Lack, OpenedQueue, Queue};
 use queue_checker::tagged_queues::{bare, tagged_in, tagged_start_in};
 use queue_checker::{QueueCertificate, SlotAccess, slot_accesses, tagged_accesses};
 use queue_layouts::AnyQueue;
+use record_bytes::ByteRange;
 use records_written::QueueNumber;
 use std::alloc::Global;
 use step_machine::Opening;
@@ -61,16 +63,23 @@ pub fn number_in(certificate: &QueueCertificate, index: u32) -> QueueNumber
     }
 }
 
-/// Whether a byte of a queue's slots is one of their tags, by its offset.
-pub fn is_tag_byte(certificate: &QueueCertificate, index: u32, byte: u64) -> bool
-    ensures { result ≡ is_tag_byte certificate.now index byte }
+/// The bytes of the tags of a queue's slots; a range without a byte, if it has none.
+pub fn tag_range(certificate: &QueueCertificate, index: u32) -> ByteRange
+    ensures { (b : ℕ) → range_has result b ≡ is_tag_byte certificate.now index b }
 {
     match tagged_number(certificate, index) {
-        None => false,
+        None => ByteRange { first: 1, last: 0 },
         Some(t) => {
             let queue = tagged_in(&certificate.tagged, t);
             let first = u64::from(queue.tag_offset);
-            first <= byte && byte < first + u64::from(queue.tag_width)
+            let end = first + u64::from(queue.tag_width);
+            if end == 0 {
+                return ByteRange { first: 1, last: 0 };
+            }
+            ByteRange {
+                first,
+                last: end - 1,
+            }
         }
     }
 }

@@ -1,23 +1,24 @@
 //! Whether the senders of queues write bytes of their records.
 
-ghost use Rattle.std.specs.Prelude.{◌≡◌, ◌++◌, IfOk, OnOk, length, option_map};
+ghost use Rattle.std.specs.Prelude.{ℕ, ◌≡◌, ◌++◌, IfOk, OnOk, MatchOption, length, option_map};
 ghost use Rattle.std.specs.List.{list_all};
 ghost use Rattle.std.specs.String.{string_bytes};
 ghost use Rattle.engine_support.specs.OpeningTexts.{numbered};
 ghost use Rattle.record_bytes.specs.declared.ranges.ByteRange.{ByteRange};
-ghost use Rattle.record_bytes.specs.Ranges.{byte_ranges};
+ghost use Rattle.record_bytes.specs.Ranges.{has_byte};
+ghost use Rattle.records_written.specs.Marks.{IsShownWritten, IsFirstUnwritten};
 ghost use Rattle.records_written.specs.declared.finding.Unwritten.{Unwritten};
 ghost use Rattle.certifying.specs.Descriptions.{queue_front};
-ghost use Rattle.certifying.specs.Queues.{queue_count};
-ghost use Rattle.certifying.specs.Records.{AreFoundFor, AreFoundFrom, IsFound, asked_bytes, is_shown, none_line, of_each, record_line};
-ghost use Rattle.certifying.specs.Records.{record_lines, rest_bytes, shown_end, unshown_front, unwritten_end, written_text};
+ghost use Rattle.certifying.specs.Queues.{number_in, queue_count};
+ghost use Rattle.certifying.specs.Records.{AreFoundFor, AreFoundFrom, IsFound, asked_ranges, is_rest, is_shown, none_line, of_each, record_line};
+ghost use Rattle.certifying.specs.Records.{record_lines, shown_end, unshown_front, unwritten_end, written_text};
 
 use crate::byte_texts::{is_one_byte, push_bytes};
-use crate::queues::{is_tag_byte, number_in, number_of, queue_count, slots_at};
+use crate::queues::{number_in, number_of, queue_count, slots_at, tag_range};
 use crate::unread::push_pc_place;
 use known_values::Lack;
 use queue_checker::QueueCertificate;
-use record_bytes::{ByteRange, byte_ranges, offsets_in};
+use record_bytes::{ByteRange, ranges_in, ranges_without};
 use records_written::{Unwritten, first_unwritten};
 use std::alloc::{AllocError, Global};
 use step_machine::Opening;
@@ -33,35 +34,46 @@ pub enum Records {
     NotShown(Unwritten),
 }
 
-/// The bytes that are asked of a queue's records, by their offsets.
-fn asked_bytes(
+/// The bytes that are asked of a queue's records.
+fn asked_ranges(
     alloc: Global,
     certificate: &QueueCertificate,
     bytes: &str,
     index: u32,
-) -> Result<Vec<u64>, AllocError>
-    ensures { IfOk result (λ mask. mask.items ≡ asked_bytes certificate.now bytes.now index) }
+) -> Result<Vec<ByteRange>, AllocError>
+    ensures { IfOk result (λ ranges. ranges.items ≡ asked_ranges certificate.now bytes.now index) }
 {
     let width = slots_at(certificate, index).width;
-    offsets_in(alloc, bytes, u64::from(width))
+    ranges_in(alloc, bytes, u64::from(width))
 }
 
 /// Those of these bytes that the sender writes before it publishes the record: all but a tag's.
-fn rest_bytes(
+fn rest_of(
     alloc: Global,
     certificate: &QueueCertificate,
     index: u32,
-    mask: &[u64],
-) -> Result<Vec<u64>, AllocError>
-    ensures { IfOk result (λ rest. rest.items ≡ rest_bytes certificate.now index mask.now) }
+    ranges: &[ByteRange],
+) -> Result<Vec<ByteRange>, AllocError>
+    ensures { IfOk result (λ rest. (b : ℕ) → has_byte rest.items b ≡ is_rest certificate.now index ranges.now b) }
 {
-    let mut rest = Vec::new(alloc);
-    for byte in mask {
-        if !is_tag_byte(certificate, index, *byte) {
-            rest.push(*byte)?;
-        }
-    }
-    Ok(rest)
+    ranges_without(alloc, ranges, tag_range(certificate, index))
+}
+
+/// Whether the sender is shown to write the rest of these bytes, and else the first that it isn't.
+fn first_of_rest(
+    alloc: Global,
+    opening: &Opening,
+    certificate: &QueueCertificate,
+    index: u32,
+    ranges: &[ByteRange],
+) -> Result<Option<Unwritten>, Lack>
+    ensures { IfOk result (λ r. MatchOption r
+        (IsShownWritten opening.now certificate.now (number_in certificate.now index) (is_rest certificate.now index ranges.now))
+        (IsFirstUnwritten opening.now certificate.now (number_in certificate.now index) (is_rest certificate.now index ranges.now))) }
+{
+    let rest = rest_of(alloc, certificate, index, ranges)?;
+    let queue = number_in(certificate, index);
+    first_unwritten(alloc, opening, certificate, queue, &rest)
 }
 
 /// What is found of these bytes.
@@ -70,16 +82,14 @@ fn found_of(
     opening: &Opening,
     certificate: &QueueCertificate,
     index: u32,
-    mask: &[u64],
+    ranges: &[ByteRange],
 ) -> Result<Records, Lack>
-    ensures { IfOk result (IsFound opening.now certificate.now index mask.now) }
+    ensures { IfOk result (IsFound opening.now certificate.now index ranges.now) }
 {
-    if mask.is_empty() {
+    if ranges.is_empty() {
         return Ok(Records::NoBytes);
     }
-    let rest = rest_bytes(alloc, certificate, index, mask)?;
-    let queue = number_in(certificate, index);
-    match first_unwritten(alloc, opening, certificate, queue, &rest)? {
+    match first_of_rest(alloc, opening, certificate, index, ranges)? {
         None => Ok(Records::Shown),
         Some(unwritten) => Ok(Records::NotShown(unwritten)),
     }
@@ -93,10 +103,10 @@ fn found_at(
     bytes: &str,
     index: u32,
 ) -> Result<Records, Lack>
-    ensures { IfOk result (IsFound opening.now certificate.now index (asked_bytes certificate.now bytes.now index)) }
+    ensures { IfOk result (IsFound opening.now certificate.now index (asked_ranges certificate.now bytes.now index)) }
 {
-    let mask = asked_bytes(alloc, certificate, bytes, index)?;
-    found_of(alloc, opening, certificate, index, &mask)
+    let ranges = asked_ranges(alloc, certificate, bytes, index)?;
+    found_of(alloc, opening, certificate, index, &ranges)
 }
 
 fn found_in(
@@ -236,18 +246,6 @@ fn push_record(
     }
 }
 
-fn asked_ranges(
-    alloc: Global,
-    certificate: &QueueCertificate,
-    bytes: &str,
-    index: u32,
-) -> Result<Vec<ByteRange>, AllocError>
-    ensures { IfOk result (λ ranges. ranges.items ≡ byte_ranges (asked_bytes certificate.now bytes.now index)) }
-{
-    let mask = asked_bytes(alloc, certificate, bytes, index)?;
-    byte_ranges(alloc, &mask)
-}
-
 fn push_found(
     alloc: Global,
     out: &mut String,
@@ -257,7 +255,7 @@ fn push_found(
     found: &[Records],
 ) -> Result<(), Lack>
     ensures { OnOk result (string_bytes out.new ≡ string_bytes out.old
-        ++ numbered (λ i. record_line opening.now certificate.now i (byte_ranges (asked_bytes certificate.now bytes.now i))) 0 found.now) }
+        ++ numbered (λ i. record_line opening.now certificate.now i (asked_ranges certificate.now bytes.now i)) 0 found.now) }
 {
     for (place, records) in found.iter().enumerate() {
         let index = number_of(place)?;

@@ -157,7 +157,7 @@ pub fn push_pc_place(
 fn push_unread_front(out: &mut String) -> Result<(), AllocError>
     ensures { OnOk result (string_bytes out.new ≡ string_bytes out.old ++ unread_front) }
 {
-    write!(out, "kept in every run, but reads not shown: ")
+    write!(out, "kept, but reads not shown: ")
 }
 
 #[tactic(auto, unfolding(crate::specs::Unread::unread_end))]

@@ -1,11 +1,10 @@
 //! Certificates of no queue, and queues that a text doesn't use.
 
-ghost use Rattle.std.specs.Prelude.{◌≡◌, ◌++◌, IfOk, OnOk};
-ghost use Rattle.std.specs.List.{list_any};
+ghost use Rattle.std.specs.Prelude.{◌≡◌, ◌++◌, IfOk, OnOk, length};
 ghost use Rattle.std.specs.String.{string_bytes};
 ghost use Rattle.queue_checker.specs.Flaws.{first_below, first_of};
 ghost use Rattle.certifying.specs.Queues.{accesses_at, queue_count, slots_at};
-ghost use Rattle.certifying.specs.Unused.{first_unused, unused_by, unused_line};
+ghost use Rattle.certifying.specs.Unused.{first_unused, has_load, has_store, no_load_line, no_store_line, unused_by, unused_line};
 
 use crate::queues::{accesses_at, queue_count, slots_at};
 use known_values::{Lack, Queue};
@@ -13,32 +12,37 @@ use queue_checker::{QueueCertificate, SlotAccess};
 use std::alloc::{AllocError, Global};
 use step_machine::Opening;
 
-/// Why a certificate says nothing of a text: it has no queue, or this queue's slots have no byte, none of them may be in use, or no
-/// instruction stores to them or loads from them.
+/// Why a certificate says nothing of a text: it has no queue, or this queue's slots have no byte, none of them may be in use, one of its
+/// parties is no hart of the text, or no instruction of its sender, this hart, stores to them, or of its receiver loads from them.
 #[derive(Clone, Copy)]
 pub enum Unused {
     NoQueue,
     NoBytes(u32),
     NoRoom(u32),
-    NoStore(u32),
-    NoLoad(u32),
+    NoHart(u32),
+    NoStore(u32, u32),
+    NoLoad(u32, u32),
 }
 
-fn any_stores(accesses: &[SlotAccess]) -> bool
-    ensures { result ≡ list_any (λ access. access.stores) accesses.now }
+fn has_store(hart: u32, accesses: &[SlotAccess]) -> bool
+    ensures { result ≡ has_store hart accesses.now }
 {
-    accesses.iter().any(|access| access.stores)
+    accesses
+        .iter()
+        .any(|access| access.hart == hart && access.stores)
 }
 
-fn any_loads(accesses: &[SlotAccess]) -> bool
-    ensures { result ≡ list_any (λ access. access.loads) accesses.now }
+fn has_load(hart: u32, accesses: &[SlotAccess]) -> bool
+    ensures { result ≡ has_load hart accesses.now }
 {
-    accesses.iter().any(|access| access.loads)
+    accesses
+        .iter()
+        .any(|access| access.hart == hart && access.loads)
 }
 
-/// Why a queue with these accesses to its slots isn't used.
-fn unused_by(index: u32, queue: Queue, accesses: &[SlotAccess]) -> Option<Unused>
-    ensures { result ≡ unused_by index queue accesses.now }
+/// Why a queue with these accesses to its slots isn't used, in a text of this number of harts.
+fn unused_by(harts: usize, index: u32, queue: Queue, accesses: &[SlotAccess]) -> Option<Unused>
+    ensures { result ≡ unused_by harts index queue accesses.now }
 {
     if queue.width == 0 {
         return Some(Unused::NoBytes(index));
@@ -46,11 +50,14 @@ fn unused_by(index: u32, queue: Queue, accesses: &[SlotAccess]) -> Option<Unused
     if queue.capacity == 0 {
         return Some(Unused::NoRoom(index));
     }
-    if !any_stores(accesses) {
-        return Some(Unused::NoStore(index));
+    if queue.sender as usize >= harts || queue.receiver as usize >= harts {
+        return Some(Unused::NoHart(index));
     }
-    if !any_loads(accesses) {
-        return Some(Unused::NoLoad(index));
+    if !has_store(queue.sender, accesses) {
+        return Some(Unused::NoStore(index, queue.sender));
+    }
+    if !has_load(queue.receiver, accesses) {
+        return Some(Unused::NoLoad(index, queue.receiver));
     }
     None
 }
@@ -64,13 +71,14 @@ fn unused_after(
     index: u32,
 ) -> Result<Option<Unused>, Lack>
     ensures { IfOk result (λ unused. unused ≡ first_of first
-        (unused_by index (slots_at certificate.now index) (accesses_at opening.now certificate.now index))) }
+        (unused_by (length opening.now.harts) index (slots_at certificate.now index) (accesses_at opening.now certificate.now index))) }
 {
     match first {
         Some(unused) => Ok(Some(unused)),
         None => {
             let accesses = accesses_at(alloc, opening, certificate, index)?;
-            Ok(unused_by(index, slots_at(certificate, index), &accesses))
+            let queue = slots_at(certificate, index);
+            Ok(unused_by(opening.harts.len(), index, queue, &accesses))
         }
     }
 }
@@ -81,7 +89,7 @@ fn unused_of_queues(
     certificate: &QueueCertificate,
 ) -> Result<Option<Unused>, Lack>
     ensures { IfOk result (λ unused. unused ≡ first_below (queue_count certificate.now)
-        (λ i. unused_by i (slots_at certificate.now i) (accesses_at opening.now certificate.now i))) }
+        (λ i. unused_by (length opening.now.harts) i (slots_at certificate.now i) (accesses_at opening.now certificate.now i))) }
 {
     let mut first = None;
     for index in 0..queue_count(certificate)? {
@@ -104,6 +112,26 @@ pub fn first_unused(
     unused_of_queues(alloc, opening, certificate)
 }
 
+#[tactic(auto, unfolding(crate::specs::Unused::no_store_line))]
+fn push_no_store(out: &mut String, index: u32, hart: u32) -> Result<(), AllocError>
+    ensures { OnOk result (string_bytes out.new ≡ string_bytes out.old ++ no_store_line index hart) }
+{
+    writeln!(
+        out,
+        "not shown: no instruction of hart {hart} stores to a slot of queue {index}"
+    )
+}
+
+#[tactic(auto, unfolding(crate::specs::Unused::no_load_line))]
+fn push_no_load(out: &mut String, index: u32, hart: u32) -> Result<(), AllocError>
+    ensures { OnOk result (string_bytes out.new ≡ string_bytes out.old ++ no_load_line index hart) }
+{
+    writeln!(
+        out,
+        "not shown: no instruction of hart {hart} loads from a slot of queue {index}"
+    )
+}
+
 pub fn push_unused(out: &mut String, unused: Unused) -> Result<(), AllocError>
     ensures { OnOk result (string_bytes out.new ≡ string_bytes out.old ++ unused_line unused) }
 {
@@ -118,13 +146,11 @@ pub fn push_unused(out: &mut String, unused: Unused) -> Result<(), AllocError>
                 "not shown: queue {index} has no slot that may be in use"
             )
         }
-        Unused::NoStore(index) => writeln!(
+        Unused::NoHart(index) => writeln!(
             out,
-            "not shown: no instruction stores to a slot of queue {index}"
+            "not shown: queue {index} has a party that is no hart of the text"
         ),
-        Unused::NoLoad(index) => writeln!(
-            out,
-            "not shown: no instruction loads from a slot of queue {index}"
-        ),
+        Unused::NoStore(index, hart) => push_no_store(out, index, hart),
+        Unused::NoLoad(index, hart) => push_no_load(out, index, hart),
     }
 }

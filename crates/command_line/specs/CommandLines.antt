@@ -112,14 +112,15 @@ callers_in options = do
   queue ← queue_in options
   Some (Machine (Callers seed draw runs queue))
 
--- the runs of `queue`, from its options, and whether the harts are asked about
+-- the runs of `queue`, from its options, whether the harts are asked about, and whether progress isn't
 abbrev pub certified_in : Found → Option Command
 certified_in options = do
   seed ← seed_in options
   draw ← draw_in options
   runs ← runs_in options
   harts ← options (codes "harts")
-  Some (Queue seed draw runs (flag_given harts))
+  safety ← options (codes "safety")
+  Some (Queue seed draw runs (flag_given harts) (flag_given safety))
 
 -- the bytes of records that are asked about, if any are; none where the text names no bytes
 abbrev pub bytes_if_given : Option Text → Option (Option Text)

@@ -119,6 +119,7 @@ pub const COMMANDS: [Row; 18] = [
             Required("certificate"),
             Optional("written"),
             Flag("harts"),
+            Flag("safety"),
         ],
     ),
     ("steps", &[BUFFER]),

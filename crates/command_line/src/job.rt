@@ -136,14 +136,15 @@ pub enum Command {
         runs: Runs,
         place: BlockPlace,
     },
-    /// To tell whether a certificate shows that every run of a litmus text keeps the protocol of the certificate's queues, then what is
-    /// asked of their records and of the `harts`, and otherwise whether one of these runs breaks it, by schedules that are drawn from a
-    /// generator of this seed.
+    /// To tell whether a certificate shows that every run of a litmus text keeps the protocol of the certificate's queues, then whether they
+    /// go on, unless `safety` alone is asked about, and what is asked of their records and of the `harts`, and otherwise whether one of
+    /// these runs breaks it, by schedules that are drawn from a generator of this seed.
     Queue {
         seed: u64,
         draw: Draw,
         runs: Runs,
         harts: bool,
+        safety: bool,
     },
 }
 

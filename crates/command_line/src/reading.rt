@@ -379,7 +379,7 @@ fn callers_in(options: &ArgMatches<'_>) -> Option<Command>
     }))
 }
 
-/// The runs that `queue` is to make where a certificate isn't accepted, and whether the harts are asked about.
+/// The runs that `queue` is to make where a certificate isn't accepted, whether the harts are asked about, and whether progress isn't.
 fn certified_in(options: &ArgMatches<'_>) -> Option<Command>
     ensures { result ≡ certified_in (found_by options.now) }
 {
@@ -387,11 +387,13 @@ fn certified_in(options: &ArgMatches<'_>) -> Option<Command>
     let draw = draw_of(word_in(options, "draw")?)?;
     let runs = runs_in(options)?;
     let harts = flag_of(word_in(options, "harts")?);
+    let safety = flag_of(word_in(options, "safety")?);
     Some(Command::Queue {
         seed,
         draw,
         runs,
         harts,
+        safety,
     })
 }
 

@@ -3,7 +3,7 @@ use Rattle.std.proofs.Common.{ℕ, zero, suc, ◌+◌, ◌<◌, inl, inr, if◌t
 use Rattle.std.proofs.Common.{List, length, get_or, subst, arith}
 use Rattle.std.proofs.lemmas.Bool.{cases_lt, cases_eq}
 use Rattle.hart.specs.State.{HartState}
-use Rattle.owned_run.specs.Certified.{View, AllCounts}
+use Rattle.queue_certificates.specs.OwnedRuns.{View, AllCounts}
 use Rattle.queue_certificates.specs.States.{KnownState, MeansAt, Means}
 use Rattle.queue_certificates.specs.Cases.{Cases, leaf, split, with_low, with_high, may_exceed}
 use Rattle.queue_certificates.specs.Certificates.{QueueCertificate, queue_at, own_of, part_of, state_at}

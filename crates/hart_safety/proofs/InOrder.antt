@@ -2,15 +2,16 @@
 use Rattle.std.proofs.Common.{ℕ, ◌+◌, ◌-◌, ◌%◌, ◌^◌, ◌<◌, ◌≤◌, ◌≡◌, ◌&&◌, if◌then◌else◌, Bool, true, false, Option}
 use Rattle.std.proofs.Common.{Some, None, List, [], ◌∷◌, refl, subst, arith}
 use Rattle.std.specs.Prelude.{nat_le}
-use Rattle.std.proofs.lemmas.Bool.{leb-true, leb-false, ltb-true}
+use Rattle.std.proofs.lemmas.Bool.{and_parts, leb-true, leb-false, ltb-true}
+use Rattle.std.proofs.Math.Nat.{pow-le-pow_right}
 use Rattle.rv_decode.specs.declared.instruction.Instr.{Instr}
 use Rattle.rv_decode.specs.declared.instruction.Instr.TheVariants.{Lui, Auipc, Jal, Jalr, Branch, Load, Store}
 use Rattle.rv_decode.specs.declared.instruction.Instr.TheVariants.{Immediate, Shift, Register, Fence, FenceTso, Ecall}
 use Rattle.rv_decode.specs.declared.instruction.Instr.TheVariants.{Ebreak, Amo}
 use Rattle.step_machine.specs.History.{OpeningValue}
-use Rattle.queue_certificates.specs.Forms.{Bounds, most_of_sum, risings, fallings, bounds_between}
-use Rattle.queue_certificates.specs.States.{KnownValue, any, linear, index_for, signed_for, KnownState}
-use Rattle.queue_certificates.specs.Results.{bounds}
+use Rattle.queue_certificates.specs.Forms.{Bounds, bounds_of, most_of_sum, risings, fallings, bounds_between}
+use Rattle.queue_certificates.specs.States.{KnownValue, any, linear, index_for, signed_for, ends_as, has_bits, KnownState}
+use Rattle.queue_certificates.specs.Results.{bounds, bounds_by, is_nothing}
 use Rattle.queue_certificates.specs.Steps.{anywhere, instruction_at, address_value, operand}
 use Rattle.queue_certificates.specs.Certificates.{QueueCertificate, queue_at}
 use Rattle.queue_checker.specs.declared.targets.Target.{Target}
@@ -27,6 +28,18 @@ bounds-order : (rs : List (Option ℕ)) (v : KnownValue) (b : Bounds) → bounds
 bounds-order rs any b is = absurd (cc)
 bounds-order rs (index_for i f) b is = absurd (cc)
 bounds-order rs (signed_for i f) b is = absurd (cc)
+bounds-order rs (has_bits m c) b is = absurd (cc)
+bounds-order rs (ends_as n f) b is = by (nat_le 1 n && nat_le n 32) refl is
+  where
+    made : 1 ≤ n → (o : Option Bool) → bounds_by n o ≡ Some b → b.low ≤ b.high
+    made some None is = absurd (cc)
+    made some (Some true) is = subst (λ (d : Bounds). d.low ≤ d.high) (let e : record { low = 0; high = 0 } ≡ b = cc in e) (omega arith)
+    made some (Some false) is = subst (λ (d : Bounds). d.low ≤ d.high) (let e : record { low = 1; high = 2 ^ n - 1 } ≡ b = cc in e)
+        (let two : 2 ^ 1 ≤ 2 ^ n = pow-le-pow_right {n = 2} (omega arith) {i = 1} {j = n} some in omega (arith, two))
+
+    by : (t : Bool) → (nat_le 1 n && nat_le n 32) ≡ t → (if t then bounds_by n (is_nothing (bounds_of (2 ^ n) rs f)) else None) ≡ Some b → b.low ≤ b.high
+    by false part is = absurd (cc)
+    by true ok is = made (leb-true 1 n (and_parts (nat_le 1 n) (nat_le n 32) ok).0) (is_nothing (bounds_of (2 ^ n) rs f)) is
 bounds-order rs (linear f) b is = by (f.constant % 2 ^ 32) (most_of_sum rs (risings (2 ^ 32) f.factors)) (most_of_sum rs (fallings (2 ^ 32) f.factors)) is
   where
     made : (c up down : ℕ) (t : Bool) → (if t then Some (record { low = c - down; high = c + up }) else None) ≡ Some b → b.low ≤ b.high

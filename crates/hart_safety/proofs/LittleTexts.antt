@@ -1,8 +1,7 @@
 -- The text of one slot, for ever: its words are the head, the tail and the slot.
 use Rattle.std.proofs.Common.{ℕ, ◌≡◌, [], ◌∷◌, Some, None, refl}
 use Rattle.rv_decode.specs.Meaning.{meaning}
-use Rattle.owned_run.proofs.OneSlotText.{text}
-use Rattle.queue_certificates.proofs.OneSlotQueue.{certificate}
+use Rattle.queue_certificates.proofs.OneSlotQueue.{text, certificate}
 use Rattle.hart_safety.specs.declared.regions.Region.{Region}
 use Rattle.hart_safety.specs.Stops.{first_stop}
 use Rattle.hart_safety.specs.Writes.{regions_written, first_unbounded}

@@ -14,9 +14,9 @@ use Rattle.step_machine.specs.Legal.{WellFormed}
 use Rattle.step_machine.specs.Paths.{number_read, state_of}
 use Rattle.step_machine.proofs.OwnRuns.{kept-front}
 use Rattle.store_buffers.specs.StoreBuffers.{LeavesByteBy}
-use Rattle.owned_run.specs.Certified.{View, AllCounts, Acts, IsCertified}
-use Rattle.owned_run.proofs.Sets.{CertifiedSets}
-use Rattle.owned_run.proofs.Every.{holds, next_is, every_state}
+use Rattle.queue_certificates.specs.OwnedRuns.{View, AllCounts, Acts, IsCertified}
+use Rattle.queue_certificates.proofs.Sets.{CertifiedSets}
+use Rattle.queue_certificates.proofs.Every.{holds, next_is, every_state}
 use Rattle.queue_certificates.specs.Steps.{instruction_at}
 use Rattle.queue_certificates.specs.Certificates.{QueueCertificate, queue_at, start_at, no_hart, HasFields, MeetsFields, IsOwnByte, IsAtState, IsInState}
 use Rattle.queue_certificates.specs.Certificates.{told_beside, accepts, part_of, state_at}

@@ -23,9 +23,9 @@ use Rattle.hart.proofs.Instructions.{need_at}
 use Rattle.step_machine.specs.declared.events.Entry.{Entry}
 use Rattle.step_machine.specs.History.{OpeningValue}
 use Rattle.slot_queue.specs.Queues.{Queue, IsQueue, TellsFull}
-use Rattle.owned_run.specs.Certified.{View, AllCounts, Acts}
+use Rattle.queue_certificates.specs.OwnedRuns.{View, AllCounts, Acts}
 use Rattle.queue_certificates.specs.Forms.{form_value, number, is_same, InRanges, Bounds}
-use Rattle.queue_certificates.specs.States.{KnownValue, any, linear, index_for, signed_for, KnownState, Has, MeansAt}
+use Rattle.queue_certificates.specs.States.{KnownValue, any, linear, index_for, signed_for, ends_as, has_bits, KnownState, Has, MeansAt}
 use Rattle.queue_certificates.specs.Results.{as_number, bounds}
 use Rattle.queue_certificates.specs.Steps.{anywhere, instruction_at, address_value, operand}
 use Rattle.queue_certificates.specs.Certificates.{QueueCertificate, queue_at, own_of}
@@ -64,6 +64,8 @@ module _ (queues : ℕ → Queue) (rs : List (Option ℕ)) (xs : List ℕ) (rang
   inside-memory M any a width divides has ok = absurd (cc)
   inside-memory M (index_for i f) a width divides has ok = absurd (cc)
   inside-memory M (signed_for i f) a width divides has ok = absurd (cc)
+  inside-memory M (ends_as n f) a width divides has ok = absurd (cc)
+  inside-memory M (has_bits n b) a width divides has ok = absurd (cc)
   inside-memory M (linear f) a width divides has ok =
       let parts = and_parts (is_same width f (number 0)) (nat_lt (anywhere (bounds rs (linear f))).high (4 * M)) ok in
       let below : (anywhere (bounds rs (linear f))).high < 4 * M = ltb-true _ (4 * M) parts.1 in

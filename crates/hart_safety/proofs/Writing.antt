@@ -28,7 +28,7 @@ use Rattle.step_machine.specs.Entries.{hart_of}
 use Rattle.step_machine.specs.Paths.{number_read, entry_of}
 use Rattle.store_buffers.specs.StoreBuffers.{LeavesByteBy}
 use Rattle.slot_queue.specs.Queues.{IsQueue, TellsFull}
-use Rattle.owned_run.specs.Certified.{View, AllCounts, Acts}
+use Rattle.queue_certificates.specs.OwnedRuns.{View, AllCounts, Acts}
 use Rattle.queue_certificates.specs.Forms.{Bounds}
 use Rattle.queue_certificates.specs.States.{KnownValue, KnownState, Has, MeansAt}
 use Rattle.queue_certificates.specs.Results.{bounds}

@@ -5,7 +5,7 @@ use Rattle.rv_decode.specs.declared.instruction.Instr.TheVariants.{Jal, Jalr, Br
 use Rattle.hart.specs.Effects.{address, load_width, store_width}
 use Rattle.step_machine.specs.History.{OpeningValue}
 use Rattle.queue_certificates.specs.Forms.{number, is_same}
-use Rattle.queue_certificates.specs.States.{KnownValue, any, linear, index_for, signed_for, KnownState, plain}
+use Rattle.queue_certificates.specs.States.{KnownValue, any, linear, index_for, signed_for, ends_as, has_bits, KnownState, plain}
 use Rattle.queue_certificates.specs.Results.{as_number}
 use Rattle.queue_certificates.specs.Steps.{instruction_at, operand}
 use Rattle.queue_certificates.specs.Cases.{each_leaf}
@@ -20,6 +20,8 @@ is_aligned any width = false
 is_aligned (linear f) width = is_same width f (number 0)
 is_aligned (index_for i f) width = false
 is_aligned (signed_for i f) width = false
+is_aligned (ends_as n f) width = false
+is_aligned (has_bits m b) width = false
 
 -- an access there is aligned and within M words of memory
 abbrev pub is_within_memory : (M : ℕ) → Target → Bool

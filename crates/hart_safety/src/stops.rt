@@ -8,7 +8,7 @@ ghost use Rattle.hart_safety.specs.Stops.{goes_on, goes_on_at, state_goes_on, fi
 
 use known_values::forms::{is_same, number};
 use known_values::lack::product;
-use known_values::results::as_number;
+use known_values::numbers::as_number;
 use known_values::values::plain;
 use known_values::{Form, Known, KnownValue, Lack};
 use queue_checker::leaves::{LeafCheck, each_leaf};
@@ -32,6 +32,8 @@ fn is_aligned(alloc: Global, value: &KnownValue, width: u64) -> bool
         Known::Any => false,
         Known::IndexFor(_, _) => false,
         Known::SignedFor(_, _) => false,
+        Known::EndsAs(_, _) => false,
+        Known::HasBits(_, _) => false,
     }
 }
 

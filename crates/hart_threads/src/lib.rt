@@ -13,7 +13,7 @@
 //! Nothing is claimed of fairness, of the order in which threads get the lock, or of time. This crate
 //! reads and prints no text, and no crate below it asks for `Wait` or `Threads`.
 //!
-//! Called by `threading`.
+//! Called by `run_engines`.
 
 #![tactic(auto)]
 

@@ -2,7 +2,7 @@
 
 ghost use Rattle.std.specs.Prelude.{◌≡◌, ◌-◌, ◌≤◌, [], IfOk};
 ghost use Rattle.queue_certificates.specs.Forms.{plus, times, reduced};
-ghost use Rattle.queue_certificates.specs.Results.{is_below, is_below_signed, is_nothing, negated, agrees, unscaled, is_scaled};
+ghost use Rattle.queue_certificates.specs.Results.{is_below, is_below_signed, negated, agrees, unscaled, is_scaled};
 ghost use Rattle.queue_certificates.specs.States.{signed_for};
 ghost use Rattle.queue_certificates.specs.Results.{standing, is_equal_word, is_equal};
 ghost use Rattle.known_values.specs.Queues.{queue_in};
@@ -10,6 +10,7 @@ ghost use Rattle.known_values.specs.Queues.{queue_in};
 use crate::bounds::{Bounds, bounds_of};
 use crate::forms::{Form, is_same, number, plus, times};
 use crate::lack::Lack;
+use crate::numbers::{as_number, is_nothing, is_zero};
 use crate::queues::{OpenedQueue, queue_in};
 use crate::ranges::{fits_in, most, reduced};
 use crate::values::{Known, KnownValue, index_for, scaled};
@@ -35,17 +36,6 @@ pub fn is_below_signed(left: Option<Bounds>, right: Option<Bounds>) -> Option<bo
 {
     match (left, right) {
         (Some(a), Some(b)) if a.high < NEGATIVE && b.high < NEGATIVE => is_below(left, right),
-        _ => None,
-    }
-}
-
-/// Whether a number is 0, where its bounds show it.
-pub fn is_nothing(bounds: Option<Bounds>) -> Option<bool>
-    ensures { result ≡ is_nothing bounds }
-{
-    match bounds {
-        Some(b) if 0 < b.low => Some(false),
-        Some(b) if b.high == 0 => Some(true),
         _ => None,
     }
 }
@@ -154,6 +144,8 @@ fn standing(
             }
         }
         Known::SignedFor(_, _) => Ok(None),
+        Known::EndsAs(_, _) => Ok(None),
+        Known::HasBits(_, _) => Ok(None),
     }
 }
 
@@ -211,6 +203,10 @@ pub fn is_equal(
     ensures { IfOk result (λ b. b ≡ is_equal (queue_in queues.now) ranges.now left.now right.now) }
 {
     match (&left.known, &right.known) {
+        (Known::EndsAs(_, _), _) => is_zero(alloc, ranges, left, as_number(right)),
+        (Known::Linear(_), Known::EndsAs(_, _)) => {
+            is_zero(alloc, ranges, right, as_number(left))
+        }
         (Known::Linear(f), Known::Linear(g)) => agrees(alloc, ranges, WORDS, f, g),
         (Known::IndexFor(i, _), _) | (Known::Linear(_), Known::IndexFor(i, _)) => {
             is_equal_word(alloc, queues, ranges, *i, left, right)

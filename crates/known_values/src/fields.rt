@@ -25,7 +25,7 @@ pub struct Field {
 }
 
 impl Model for Field {
-    ghost use Rattle.owned_run.specs.Certificates.{Field as FieldOf};
+    ghost use Rattle.queue_certificates.specs.RecordFields.{Field as FieldOf};
 
     ghost Value = { FieldOf };
 
@@ -94,6 +94,8 @@ pub fn is_number_of(
         Known::Any => Ok(false),
         Known::IndexFor(_, _) => Ok(false),
         Known::SignedFor(_, _) => Ok(false),
+        Known::EndsAs(_, _) => Ok(false),
+        Known::HasBits(_, _) => Ok(false),
         Known::Linear(form) => {
             let bounds = bounds_of(alloc, WORDS, ranges, form)?;
             lies_in(alloc, bounds, form, field)

@@ -4,15 +4,17 @@
 //! The contract: each function returns what the definition of its name in `queue_certificates` is of its arguments, or a [`Lack`],
 //! which decides nothing. Numbers never wrap. This crate knows no certificate, no state and no memory.
 //!
-//! Called by `queue_checker`, `hart_safety`, `records_written`, `certificate_reader` and `certifying`.
+//! Called by `queue_checker`, `hart_safety`, `queue_progress`, `certificate_reader`, `records_written` and `certifying`.
 
 #![tactic(auto)]
 
+pub mod bits;
 pub mod bounds;
 pub mod comparisons;
 pub mod fields;
 pub mod forms;
 pub mod lack;
+pub mod numbers;
 pub mod queues;
 pub mod ranges;
 pub mod rests;
@@ -20,6 +22,7 @@ pub mod results;
 pub mod values;
 mod words;
 
+pub use bits::Bits;
 pub use bounds::Bounds;
 pub use fields::Field;
 pub use forms::Form;

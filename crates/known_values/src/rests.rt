@@ -133,5 +133,7 @@ pub fn rest_of(
         Known::Linear(form) => Ok(whole(form.copy(alloc)?)),
         Known::IndexFor(i, form) => index_rest(alloc, queue_in(queues, *i), form),
         Known::SignedFor(i, form) => signed_rest(alloc, queue_in(queues, *i), form),
+        Known::EndsAs(_, _) => Ok(None),
+        Known::HasBits(_, _) => Ok(None),
     }
 }

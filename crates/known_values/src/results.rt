@@ -5,22 +5,26 @@ ghost use Rattle.std.specs.Int.{trailing_zeros, w32};
 ghost use Rattle.queue_certificates.specs.Forms as forms;
 ghost use Rattle.queue_certificates.specs.Forms.{remainder_word, times};
 ghost use Rattle.queue_certificates.specs.States.{any};
-ghost use Rattle.queue_certificates.specs.Results.{just, exactly, any_up_to, or_up_to, as_number, flag_of, set_less, shifted_left, shifted_right};
-ghost use Rattle.queue_certificates.specs.Results.{sum_of, of_rest, rest_of, turned, bounds, counting};
-ghost use Rattle.queue_certificates.specs.Results.{rest_counted, remaining, multiple_or, masked_row, masked, masked_by};
+ghost use Rattle.queue_certificates.specs.Results.{just, exactly, any_up_to, or_up_to, flag_of, set_less, shifted_left, shifted_right};
+ghost use Rattle.queue_certificates.specs.Results.{sum_of, xor_of, of_rest, rest_of, turned, counting, as_number};
+ghost use Rattle.queue_certificates.specs.Results.{rest_counted, remaining, multiple_or, masked_row, masked, masked_by, kept_bits, ending_in, ending_by};
 ghost use Rattle.queue_certificates.specs.Results.{without, shifted_back};
 ghost use Rattle.queue_certificates.specs.Results.{immediate_part, of_immediate, shift_part, of_shift, register_part, of_registers};
-ghost use Rattle.queue_certificates.specs.Results.{branch_part, is_branch_taken};
+ghost use Rattle.queue_certificates.specs.Results.{is_less, branch_part, is_branch_taken};
 ghost use Rattle.known_values.specs.Queues.{queue_in};
 
+use crate::bits::{keeps_unknown, known_beside, mask_left, mask_right, of_bits, or_of, sign_or};
 use crate::bounds::{Bounds, bounds_of, remainder_word};
 use crate::comparisons::{is_below, is_below_signed, is_equal, negated};
-use crate::forms::{Form, first_variable, is_same, lifted, number, plus, times, vanishes};
+use crate::forms::{Form, first_variable, is_same, lifted, number, plus, times};
 use crate::lack::{Lack, remainder_by};
+use crate::numbers::{as_number, bounds};
 use crate::queues::{OpenedQueue, queue_in};
 use crate::ranges::most;
 use crate::rests::{Rest, counting, negative, rest_of, rests_added, whole};
-use crate::values::{Known, KnownValue, any, index_for, lifted_value, linear, times_value};
+use crate::values::{
+    Known, KnownValue, any, ends_as, index_for, lifted_value, linear, times_value,
+};
 use crate::words::{WORDS, computed, is_taken, shifted, with_immediate};
 use rv_decode::instruction::{BranchOp, ImmediateOp, RegisterOp, ShiftOp};
 use std::alloc::Global;
@@ -86,18 +90,6 @@ pub fn or_up_to(alloc: Global, n: u64, value: &KnownValue) -> Result<Outcome, La
     }
 }
 
-/// The number, where a value is one.
-pub fn as_number(value: &KnownValue) -> Option<u32>
-    ensures { result ≡ as_number value.now }
-{
-    match &value.known {
-        Known::Linear(form) if vanishes(WORDS, &form.factors) => Some(
-            (form.constant % WORDS) as u32,
-        ),
-        _ => None,
-    }
-}
-
 /// The word of what is known: 1 if it is so, 0 if not, else one of both.
 pub fn flag_of(alloc: Global, known: Option<bool>) -> Result<Outcome, Lack>
     ensures { IfOk result (λ r. r ≡ flag_of known) }
@@ -134,6 +126,12 @@ pub fn shifted_left(
 {
     match &value.known {
         Known::Linear(form) => just(alloc, &linear(times(alloc, 1 << amount, form)?)),
+        Known::HasBits(mask, bits) => {
+            just(
+                alloc,
+                &of_bits(alloc, mask_left(*mask, amount), *bits << amount),
+            )
+        }
         _ => {
             let all = of_rest(alloc, rest_of(alloc, queues, value)?)?;
             Ok(Outcome {
@@ -161,6 +159,19 @@ pub fn sum_of(alloc: Global, left: &KnownValue, right: &KnownValue) -> Result<Kn
 {
     match (&left.known, &right.known) {
         (Known::Linear(f), Known::Linear(g)) => Ok(linear(plus(alloc, f, g)?)),
+        _ => Ok(any()),
+    }
+}
+
+/// The `xor` of two values: it ends in as many zeros as their difference.
+fn xor_of(alloc: Global, left: &KnownValue, right: &KnownValue) -> Result<KnownValue, Lack>
+    ensures { IfOk result (λ v. v ≡ xor_of left.now right.now) }
+{
+    match (&left.known, &right.known) {
+        (Known::Linear(f), Known::Linear(g)) => {
+            let less = times(alloc, WORDS - 1, g)?;
+            Ok(ends_as(32, plus(alloc, f, &less)?))
+        }
         _ => Ok(any()),
     }
 }
@@ -193,20 +204,6 @@ pub fn turned(alloc: Global, value: &KnownValue, mask: u32) -> Result<Outcome, L
             )
         }
         _ => just(alloc, &any()),
-    }
-}
-
-/// The bounds of a value as a word, where it is a form that doesn't wrap.
-pub fn bounds(
-    alloc: Global,
-    ranges: &[Option<u64>],
-    value: &KnownValue,
-) -> Result<Option<Bounds>, Lack>
-    ensures { IfOk result (λ b. b ≡ bounds ranges.now value.now) }
-{
-    match &value.known {
-        Known::Linear(form) => bounds_of(alloc, WORDS, ranges, form),
-        _ => Ok(None),
     }
 }
 
@@ -355,6 +352,56 @@ pub fn masked(
     }
 }
 
+/// The bits that `mask` keeps of known ones; or the other, where it keeps low bits of which none is known.
+fn kept_bits(
+    alloc: Global,
+    known: u32,
+    bits: u32,
+    mask: u32,
+    other: Outcome,
+) -> Result<Outcome, Lack>
+    ensures { IfOk result (λ r. r ≡ kept_bits known bits mask other) }
+{
+    if keeps_unknown(known, mask) {
+        Ok(other)
+    } else {
+        just(
+            alloc,
+            &of_bits(alloc, known_beside(known, mask), bits & mask),
+        )
+    }
+}
+
+/// The bits that `mask` keeps of a value that ends as a form does, or some of whose bits are known; or the other.
+fn ending_in(alloc: Global, value: &KnownValue, mask: u32, other: Outcome) -> Result<Outcome, Lack>
+    ensures { IfOk result (λ r. r ≡ ending_in value.now mask other) }
+{
+    let above = u64::from(mask) + 1;
+    match &value.known {
+        Known::EndsAs(bits, form)
+            if above == 1 << mask.count_ones() && mask.count_ones() <= *bits => {
+            just(alloc, &ends_as(mask.count_ones(), form.copy(alloc)?))
+        }
+        Known::HasBits(known, bits) => kept_bits(alloc, *known, *bits, mask, other),
+        _ => Ok(other),
+    }
+}
+
+/// The bits of a value that `mask` keeps.
+fn kept(
+    alloc: Global,
+    queues: &[OpenedQueue],
+    ranges: &[Option<u64>],
+    value: &KnownValue,
+    mask: u32,
+) -> Result<Outcome, Lack>
+    ensures { IfOk result (λ r. r ≡ ending_in value.now mask (masked (queue_in queues.now) (length queues.now) ranges.now
+        (rest_of (queue_in queues.now) value.now) mask)) }
+{
+    let other = masked(alloc, queues, ranges, rest_of(alloc, queues, value)?, mask)?;
+    ending_in(alloc, value, mask, other)
+}
+
 fn immediate_part(
     alloc: Global,
     queues: &[OpenedQueue],
@@ -372,14 +419,17 @@ fn immediate_part(
             let given = whole(number(alloc, u64::from(word)));
             of_rest(alloc, rests_added(alloc, rest, given)?)
         }
-        ImmediateOp::And => masked(alloc, queues, ranges, rest_of(alloc, queues, value)?, word),
+        ImmediateOp::And => kept(alloc, queues, ranges, value, word),
         ImmediateOp::SetLess => set_less(alloc, bounds(alloc, ranges, value)?, n),
         ImmediateOp::SetLessUnsigned => {
             let right = bounds(alloc, ranges, &linear(number(alloc, u64::from(word))))?;
             flag_of(alloc, is_below(bounds(alloc, ranges, value)?, right))
         }
         ImmediateOp::Xor => turned(alloc, value, word),
-        ImmediateOp::Or => just(alloc, &any()),
+        ImmediateOp::Or => {
+            let right = linear(number(alloc, u64::from(word)));
+            just(alloc, &or_of(alloc, value, &right))
+        }
     }
 }
 
@@ -426,6 +476,12 @@ pub fn shifted_back(
     requires { amount < 32 }
     ensures { IfOk result (λ r. r ≡ shifted_back (queue_in queues.now) (length queues.now) ranges.now value.now amount) }
 {
+    if let Known::HasBits(mask, bits) = &value.known {
+        return just(
+            alloc,
+            &of_bits(alloc, mask_right(*mask, amount), *bits >> amount),
+        );
+    }
     let Known::Linear(form) = &value.known else {
         return just(alloc, &any());
     };
@@ -495,6 +551,25 @@ fn masked_either(
     }
 }
 
+/// Two values of which one may be a mask of the other's low bits; or the other outcome.
+fn ending_either(
+    alloc: Global,
+    left: &KnownValue,
+    right: &KnownValue,
+    other: Outcome,
+) -> Result<Outcome, Lack>
+    ensures { IfOk result (λ r. r ≡ ending_by left.now (as_number right.now) (ending_by right.now (as_number left.now) other)) }
+{
+    let either = match as_number(left) {
+        Some(mask) => ending_in(alloc, right, mask, other)?,
+        None => other,
+    };
+    match as_number(right) {
+        Some(mask) => ending_in(alloc, left, mask, either),
+        None => Ok(either),
+    }
+}
+
 fn register_part(
     alloc: Global,
     queues: &[OpenedQueue],
@@ -526,12 +601,16 @@ fn register_part(
             let low = bounds(alloc, ranges, left)?;
             flag_of(alloc, is_below(low, bounds(alloc, ranges, right)?))
         }
-        RegisterOp::And => masked_either(alloc, queues, ranges, left, right),
-        RegisterOp::ShiftLeft
-        | RegisterOp::Xor
-        | RegisterOp::ShiftRight
-        | RegisterOp::ShiftRightArithmetic
-        | RegisterOp::Or => just(alloc, &any()),
+        RegisterOp::And => {
+            let other = masked_either(alloc, queues, ranges, left, right)?;
+            ending_either(alloc, left, right, other)
+        }
+        RegisterOp::Xor => just(alloc, &xor_of(alloc, left, right)?),
+        RegisterOp::Or => just(alloc, &or_of(alloc, left, right)),
+        RegisterOp::ShiftLeft | RegisterOp::ShiftRight | RegisterOp::ShiftRightArithmetic => just(
+            alloc,
+            &any(),
+        ),
     }
 }
 
@@ -552,6 +631,20 @@ pub fn of_registers(
     }
 }
 
+/// Whether one value is below the other, in two's complement.
+fn is_less(
+    alloc: Global,
+    ranges: &[Option<u64>],
+    left: &KnownValue,
+    right: &KnownValue,
+) -> Result<Option<bool>, Lack>
+    ensures { IfOk result (λ b. b ≡ is_less ranges.now left.now right.now) }
+{
+    let low = bounds(alloc, ranges, left)?;
+    let below = is_below_signed(low, bounds(alloc, ranges, right)?);
+    Ok(sign_or(left, as_number(right), below))
+}
+
 fn branch_part(
     alloc: Global,
     queues: &[OpenedQueue],
@@ -565,14 +658,8 @@ fn branch_part(
     match op {
         BranchOp::Equal => is_equal(alloc, queues, ranges, left, right),
         BranchOp::NotEqual => Ok(negated(is_equal(alloc, queues, ranges, left, right)?)),
-        BranchOp::Less => {
-            let low = bounds(alloc, ranges, left)?;
-            Ok(is_below_signed(low, bounds(alloc, ranges, right)?))
-        }
-        BranchOp::GreaterEqual => {
-            let low = bounds(alloc, ranges, left)?;
-            Ok(negated(is_below_signed(low, bounds(alloc, ranges, right)?)))
-        }
+        BranchOp::Less => is_less(alloc, ranges, left, right),
+        BranchOp::GreaterEqual => Ok(negated(is_less(alloc, ranges, left, right)?)),
         BranchOp::LessUnsigned => {
             let low = bounds(alloc, ranges, left)?;
             Ok(is_below(low, bounds(alloc, ranges, right)?))

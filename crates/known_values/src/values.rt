@@ -3,7 +3,7 @@
 ghost use Rattle.std.specs.Prelude.{ℕ, ◌≡◌, List, Option, IfOk};
 ghost use Rattle.queue_certificates.specs.Forms as forms;
 ghost use Rattle.queue_certificates.specs.Forms.{lifted, raised, substituted, times};
-ghost use Rattle.queue_certificates.specs.States.{any, linear, index_for, signed_for, signed_word, value_by};
+ghost use Rattle.queue_certificates.specs.States.{any, linear, index_for, signed_for, ends_as, has_bits, signed_word, value_by};
 ghost use Rattle.queue_certificates.specs.States.{scaled, of_remainder, plain, is_within_plain, is_within};
 ghost use Rattle.known_values.specs.Queues.{queue_in};
 ghost use Rattle.known_values.specs.Values.{known_of};
@@ -27,6 +27,10 @@ pub enum Known {
     IndexFor(u32, Form),
     /// What a signed load leaves of that word.
     SignedFor(u32, Form),
+    /// A number of this many bits that ends in as many zeros as the form.
+    EndsAs(u32, Form),
+    /// A word whose bits under the first, a mask, are the second.
+    HasBits(u32, u32),
 }
 
 /// What is known of a register or a word. A contract sees it as a `KnownValue` of `queue_certificates`.
@@ -79,6 +83,24 @@ pub fn signed_for(i: u32, form: Form) -> KnownValue
     }
 }
 
+/// A number of so many bits that ends in as many zeros as the form, and is 0 where all these bits of the form are.
+pub fn ends_as(bits: u32, form: Form) -> KnownValue
+    ensures { result ≡ ends_as bits form }
+{
+    KnownValue {
+        known: Known::EndsAs(bits, form),
+    }
+}
+
+/// A word whose bits under the mask are these.
+pub fn has_bits(mask: u32, bits: u32) -> KnownValue
+    ensures { result ≡ has_bits mask bits }
+{
+    KnownValue {
+        known: Known::HasBits(mask, bits),
+    }
+}
+
 impl KnownValue {
     /// A copy, which takes its memory from `alloc`.
     pub fn copy(&self, alloc: Global) -> Result<KnownValue, Lack>
@@ -89,6 +111,8 @@ impl KnownValue {
             Known::Linear(form) => Ok(linear(form.copy(alloc)?)),
             Known::IndexFor(i, form) => Ok(index_for(*i, form.copy(alloc)?)),
             Known::SignedFor(i, form) => Ok(signed_for(*i, form.copy(alloc)?)),
+            Known::EndsAs(bits, form) => Ok(ends_as(*bits, form.copy(alloc)?)),
+            Known::HasBits(mask, bits) => Ok(has_bits(*mask, *bits)),
         }
     }
 }
@@ -102,6 +126,8 @@ pub fn lifted_value(alloc: Global, value: &KnownValue) -> Result<KnownValue, Lac
         Known::Linear(form) => Ok(linear(lifted(alloc, form)?)),
         Known::IndexFor(i, form) => Ok(index_for(*i, lifted(alloc, form)?)),
         Known::SignedFor(i, form) => Ok(signed_for(*i, lifted(alloc, form)?)),
+        Known::EndsAs(bits, form) => Ok(ends_as(*bits, lifted(alloc, form)?)),
+        Known::HasBits(mask, bits) => Ok(has_bits(*mask, *bits)),
     }
 }
 
@@ -118,6 +144,8 @@ pub fn settled_value(
         Known::Linear(form) => Ok(linear(settled(alloc, ranges, form)?)),
         Known::IndexFor(i, form) => Ok(index_for(*i, settled(alloc, ranges, form)?)),
         Known::SignedFor(i, form) => Ok(signed_for(*i, settled(alloc, ranges, form)?)),
+        Known::EndsAs(bits, form) => Ok(ends_as(*bits, settled(alloc, ranges, form)?)),
+        Known::HasBits(mask, bits) => Ok(has_bits(*mask, *bits)),
     }
 }
 
@@ -130,6 +158,8 @@ pub fn times_value(alloc: Global, n: u64, value: &KnownValue) -> Result<KnownVal
         Known::Linear(form) => Ok(linear(times(alloc, n, form)?)),
         Known::IndexFor(i, form) => Ok(index_for(*i, times(alloc, n, form)?)),
         Known::SignedFor(i, form) => Ok(signed_for(*i, times(alloc, n, form)?)),
+        Known::EndsAs(bits, form) => Ok(ends_as(*bits, times(alloc, n, form)?)),
+        Known::HasBits(mask, bits) => Ok(has_bits(*mask, *bits)),
     }
 }
 
@@ -142,6 +172,8 @@ pub fn raised_value(alloc: Global, j: u32, by: u64, value: &KnownValue) -> Resul
         Known::Linear(form) => Ok(linear(raised(alloc, j, by, form)?)),
         Known::IndexFor(i, form) => Ok(index_for(*i, raised(alloc, j, by, form)?)),
         Known::SignedFor(i, form) => Ok(signed_for(*i, raised(alloc, j, by, form)?)),
+        Known::EndsAs(bits, form) => Ok(ends_as(*bits, raised(alloc, j, by, form)?)),
+        Known::HasBits(mask, bits) => Ok(has_bits(*mask, *bits)),
     }
 }
 
@@ -158,6 +190,8 @@ pub fn substituted_value(
         Known::Linear(form) => Ok(linear(substituted(alloc, form, forms)?)),
         Known::IndexFor(i, form) => Ok(index_for(*i, substituted(alloc, form, forms)?)),
         Known::SignedFor(i, form) => Ok(signed_for(*i, substituted(alloc, form, forms)?)),
+        Known::EndsAs(bits, form) => Ok(ends_as(*bits, substituted(alloc, form, forms)?)),
+        Known::HasBits(mask, bits) => Ok(has_bits(*mask, *bits)),
     }
 }
 
@@ -234,6 +268,8 @@ pub fn plain(
             of_remainder(alloc, ranges, queue, *i, form, rest)
         }
         Known::SignedFor(i, form) => Ok(signed_for(*i, form.copy(alloc)?)),
+        Known::EndsAs(bits, form) => Ok(ends_as(*bits, form.copy(alloc)?)),
+        Known::HasBits(mask, bits) => Ok(has_bits(*mask, *bits)),
     }
 }
 
@@ -250,6 +286,10 @@ pub fn is_within_plain(queues: &[OpenedQueue], left: &KnownValue, right: &KnownV
         (Known::SignedFor(i, f), Known::SignedFor(j, g)) => {
             *i == *j && is_same(queue_in(queues, *i).modulus, f, g)
         }
+        (Known::EndsAs(n, f), Known::EndsAs(m, g)) => *n == *m
+            && *n <= 32
+            && is_same(1 << *n, f, g),
+        (Known::HasBits(m, b), Known::HasBits(n, c)) => m & n == *n && b & n == *c,
         _ => false,
     }
 }

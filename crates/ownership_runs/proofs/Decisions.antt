@@ -27,7 +27,7 @@ use Rattle.ownership_runs.proofs.Slots.{IsByteOfOwned, slot-there, decides-owned
 
 -- ---- the bytes outside a queue
 
-abbrev Outside : AnyQueue → (x : ℕ) → Type 0
+abbrev pub Outside : AnyQueue → (x : ℕ) → Type 0
 Outside (Indexed q) x = IsOutside q x
 Outside (Tagged q) x = IsOffSlots (slots_of q) x
 
@@ -40,7 +40,7 @@ decides-outside (Tagged q) x = Decides-not _ (decides-bytes q.slots (q.size * q.
 
 -- ---- the bytes that a party may fill
 
-abbrev Owns : AnyQueue → Party → QueueCounts → (x : ℕ) → Type 0
+abbrev pub Owns : AnyQueue → Party → QueueCounts → (x : ℕ) → Type 0
 Owns (Indexed q) p c x = OwnsByte q p c x
 Owns (Tagged q) p c x = OwnsRest (slots_of q) p c x
 
@@ -86,7 +86,7 @@ decides-owns (Tagged q) some p c x = Decides-like _ there back
 
 -- ---- the stores that move a party's count on
 
-abbrev Moves : AnyQueue → Party → QueueCounts → Write → Type 0
+abbrev pub Moves : AnyQueue → Party → QueueCounts → Write → Type 0
 Moves (Indexed q) p c w = MovesOn q p c w
 Moves (Tagged q) p c w = HandsOn (slots_of q) p c w
 
@@ -110,11 +110,11 @@ decides-moves (Tagged q) p c w =
 
 -- ---- stores of a hart, which is a party or none
 
-abbrev MayStore : AnyQueue → Option Party → QueueCounts → Write → Type 0
+abbrev pub MayStore : AnyQueue → Option Party → QueueCounts → Write → Type 0
 MayStore q (Some p) c w = Moves q p c w ⊎ ((x : ℕ) → covers w x ≡ true → Outside q x ⊎ Owns q p c x)
 MayStore q None c w = (x : ℕ) → covers w x ≡ true → Outside q x
 
-decides-store : (q : AnyQueue) → HasSlot q → (t : Option Party) (c : QueueCounts) (w : Write) → Decides (keeps_store q t c w) (MayStore q t c w)
+pub decides-store : (q : AnyQueue) → HasSlot q → (t : Option Party) (c : QueueCounts) (w : Write) → Decides (keeps_store q t c w) (MayStore q t c w)
 decides-store q some (Some p) c w = Decides-or _ _ (decides-moves q p c w)
     (decides-bytes_of q (owned_by q (Some p) c) (λ x. Outside q x ⊎ Owns q p c x)
     (λ x. Decides-or _ _ (decides-outside q x) (decides-owns q some p c x)) w)

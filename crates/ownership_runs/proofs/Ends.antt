@@ -21,7 +21,7 @@ use Rattle.ownership_runs.specs.declared.deciding.RunNotes.{RunNotes}
 use Rattle.ownership_runs.specs.Protocols.{entry_counts, run_counts}
 use Rattle.ownership_runs.specs.Keeping.{keeps_entry}
 use Rattle.ownership_runs.specs.Violations.{violation_at, first_ownership_violation}
-use Rattle.ownership_runs.specs.Runs.{HasKeptRun, HasBrokenRun, IsOfOneHart}
+use Rattle.ownership_runs.specs.Runs.{HasKeptRun, HasBrokenRun, IsOfOneKind}
 use Rattle.ownership_runs.specs.Ends.{EndsInViolation}
 use Rattle.ownership_runs.specs.inner.Noting.{nothing_noted, noted_as, noted_more, noted_all}
 use Rattle.ownership_runs.proofs.Noting.{noted-append, first-noted, all-noted, nothing-more}
@@ -151,7 +151,7 @@ module _ (B M : ℕ) (o : OpeningValue) (q : AnyQueue) (start : QueueCounts) (pa
     of-part (inr l) = of-last l
 
 pub ends-told : (B M : ℕ) (o : OpeningValue) (q : AnyQueue) (start : QueueCounts) (schedule : ℕ → List Event) (runs : ℕ) (part : List Event) (b : Violation)
-    → IsFlawTold (HasKeptRun B M o q start) (HasBrokenRun B M o q start) IsOfOneHart schedule runs part b → EndsInViolation B M o q start part b
+    → IsFlawTold (HasKeptRun B M o q start) (HasBrokenRun B M o q start) IsOfOneKind schedule runs part b → EndsInViolation B M o q start part b
 ends-told B M o q start schedule runs part b told = of-part B M o q start part b told.shown.has short (none-or-last part)
   where
     short : (i : ℕ) → i < length part → HasBrokenRun B M o q start (without i 1 part) b → ⊥

@@ -5,7 +5,7 @@ use Rattle.memory.specs.Writes.{write}
 use Rattle.step_machine.specs.declared.events.Entry.{Entry}
 use Rattle.step_machine.specs.Access.{Access, load, store, exchange, access_of}
 use Rattle.step_machine.specs.Entries.{hart_of}
-use Rattle.queue_parties.specs.Parties.{Party, other, QueueCounts, count}
+use Rattle.queue_parties.specs.Parties.{Party, other, QueueCounts, count, with_known}
 use Rattle.slot_queue.specs.Queues.{Queue, index_word, least}
 use Rattle.slot_queue.specs.Ownership.{end, is_index_store}
 use Rattle.slots_that_tell.specs.Slots.{Slots, gap, tag_of, slot_at}
@@ -80,6 +80,21 @@ moves_on (Tagged q) (Some p) c w = hands_on (slots_of q) p c w
 
 abbrev pub keeps_store : AnyQueue → Option Party → QueueCounts → Write → Bool
 keeps_store q p c w = moves_on q p c w || fills q (owned_by q p c) w.addr w.width
+
+-- ---- a store of a hart that owned every slot
+
+abbrev pub slots_in : AnyQueue → ℕ
+slots_in (Indexed q) = q.size
+slots_in (Tagged q) = q.size
+
+-- the counts, if a party knew the other to have come so far that it owns as many positions as there are slots, or more
+abbrev pub owning_all : AnyQueue → Option Party → QueueCounts → QueueCounts
+owning_all q None c = c
+owning_all q (Some p) c = with_known p (count p c + slots_in q) c
+
+-- the protocol has such a store of the hart then: the hart might make it if it owned every slot
+abbrev pub is_described : AnyQueue → Option Party → QueueCounts → Write → Bool
+is_described q p c w = keeps_store q p (owning_all q p c) w
 
 -- ---- entries
 

@@ -29,8 +29,9 @@ pub record HasBrokenRun (B M : ℕ) (o : OpeningValue) (q : AnyQueue) (start : Q
   pub run : Run B M o events history
   pub first : first_ownership_violation q start history.entries ≡ Some violation
 
-abbrev pub IsOfOneHart : (violation other : Violation) → Type 0
-IsOfOneHart violation other = violation.hart ≡ other.hart
+-- one hart's, which both are described or neither is
+abbrev pub IsOfOneKind : (violation other : Violation) → Type 0
+IsOfOneKind violation other = (violation.hart ≡ other.hart) × (violation.described ≡ other.described)
 
 -- ---- by how much the parties moved on
 

@@ -5,7 +5,7 @@ ghost use Rattle.step_machine.specs.History.{FitsIn};
 ghost use Rattle.drawn_runs.specs.Samples.{runs_of, schedule_in};
 ghost use Rattle.judged_runs.specs.Telling.{IsTold};
 ghost use Rattle.ownership_runs.specs.Protocols.{HasSlot};
-ghost use Rattle.ownership_runs.specs.Runs.{HasKeptRun, HasBrokenRun, AreMovesOf, IsOfOneHart};
+ghost use Rattle.ownership_runs.specs.Runs.{HasKeptRun, HasBrokenRun, AreMovesOf, IsOfOneKind};
 
 use crate::counts::Counts;
 use crate::runs::{Moved, OwnershipJudge};
@@ -47,7 +47,7 @@ pub fn check_runs<
     requires size { M ≤ 65536 }
     requires fits { FitsIn M opening.now }
     requires some_slot { HasSlot queue.now }
-    ensures { IfOk result (λ told. IsTold (HasKeptRun B M opening.now queue.now start) (HasBrokenRun B M opening.now queue.now start) IsOfOneHart
+    ensures { IfOk result (λ told. IsTold (HasKeptRun B M opening.now queue.now start) (HasBrokenRun B M opening.now queue.now start) IsOfOneKind
         (AreMovesOf B M opening.now queue.now start)
         (schedule_in (runs_of B M G.Rng.stream sample.now) (length opening.now.harts)) sample.now.runs.number told) }
 {

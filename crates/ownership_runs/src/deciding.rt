@@ -8,7 +8,7 @@ ghost use Rattle.queue_layouts.specs.Sides.{the_party};
 
 use crate::counts::{Counts, RunCounts, at_start};
 use crate::protocols::{after_load, after_store, is_load_alone, party_for};
-use crate::stores::{keeps_store, owned_by};
+use crate::stores::{is_described, keeps_store, owned_by};
 use crate::violations::Violation;
 use memory::writes::Write;
 use queue_layouts::{AnyQueue, Party};
@@ -37,6 +37,7 @@ fn note_store(
             width: write.width,
             value: write.value,
             owned: owned_by(queue, party, counts),
+            described: is_described(queue, party, counts, write),
         })
     }
 }

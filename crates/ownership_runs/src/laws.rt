@@ -1,6 +1,6 @@
 //! Laws of what is decided.
 
-ghost use Rattle.std.specs.Prelude.{◌≡◌, ◌≤◌, ℕ, List, [], ◌∷◌, None, Some, true};
+ghost use Rattle.std.specs.Prelude.{◌≡◌, ◌≤◌, ℕ, List, [], ◌∷◌, None, Some, true, false};
 ghost use Rattle.step_machine.specs.declared.events.Entry.{Entry};
 ghost use Rattle.step_machine.specs.declared.events.Event.{Event};
 ghost use Rattle.step_machine.specs.History.{OpeningValue, History};
@@ -10,9 +10,9 @@ ghost use Rattle.queue_layouts.specs.declared.AnyQueue.{AnyQueue};
 ghost use Rattle.ownership_runs.specs.declared.violations.Violation.{Violation};
 ghost use Rattle.ownership_runs.specs.Protocols.{Keeps, HasSlot, IsAnyQueue, Rests, Follows};
 ghost use Rattle.ownership_runs.specs.Keeping.{keeps_entry};
-ghost use Rattle.ownership_runs.specs.Violations.{IsFirstViolation, first_ownership_violation};
+ghost use Rattle.ownership_runs.specs.Violations.{IsFirstViolation, IsForeign, first_ownership_violation};
 ghost use Rattle.judged_runs.specs.Telling.{IsFlawTold};
-ghost use Rattle.ownership_runs.specs.Runs.{HasKeptRun, HasBrokenRun, IsOfOneHart};
+ghost use Rattle.ownership_runs.specs.Runs.{HasKeptRun, HasBrokenRun, IsOfOneKind};
 ghost use Rattle.ownership_runs.specs.Ends.{EndsInViolation};
 
 /// Of a queue of either kind with a slot. It does nothing.
@@ -21,6 +21,7 @@ ghost use Rattle.ownership_runs.specs.Ends.{EndsInViolation};
 /// - `kept` and `none`: the entries of a run keep it exactly where there is no first violation.
 /// - `first`: the entries before the first violation keep it, and with the one at its place they don't: the violation has what that one stores
 ///   and what its hart owned.
+/// - `foreign`: if it isn't described, the protocol has no such store of the hart then, whatever the other party did.
 pub fn laws_of_violations()
     ensures sound { (q : AnyQueue) (c : QueueCounts) (e : Entry) → HasSlot q → keeps_entry q c e ≡ true → Keeps q c (e ∷ []) }
     ensures complete { (q : AnyQueue) (c : QueueCounts) (e : Entry) → HasSlot q → Keeps q c (e ∷ []) → keeps_entry q c e ≡ true }
@@ -28,6 +29,8 @@ pub fn laws_of_violations()
     ensures none { (q : AnyQueue) (c : QueueCounts) (es : List Entry) → HasSlot q → Keeps q c es → first_ownership_violation q c es ≡ None }
     ensures first { (q : AnyQueue) (c : QueueCounts) (es : List Entry) (b : Violation) → HasSlot q → first_ownership_violation q c es ≡ Some b
         → IsFirstViolation q c es b }
+    ensures foreign { (q : AnyQueue) (c : QueueCounts) (es : List Entry) (b : Violation) → HasSlot q → first_ownership_violation q c es ≡ Some b
+        → b.described ≡ false → IsForeign q b }
 {}
 
 /// Of runs of lists of events. It does nothing.
@@ -42,5 +45,5 @@ pub fn laws_of_judged_runs()
     ensures apart { (B M : ℕ) (o : OpeningValue) (q : AnyQueue) (start : QueueCounts) (events : List Event) (b : Violation) → HasSlot q
         → HasKeptRun B M o q start events → HasBrokenRun B M o q start events b → ⊥ }
     ensures ends { (B M : ℕ) (o : OpeningValue) (q : AnyQueue) (start : QueueCounts) (schedule : ℕ → List Event) (runs : ℕ) (part : List Event) (b : Violation)
-        → IsFlawTold (HasKeptRun B M o q start) (HasBrokenRun B M o q start) IsOfOneHart schedule runs part b → EndsInViolation B M o q start part b }
+        → IsFlawTold (HasKeptRun B M o q start) (HasBrokenRun B M o q start) IsOfOneKind schedule runs part b → EndsInViolation B M o q start part b }
 {}

@@ -3,7 +3,7 @@
 ghost use Rattle.std.specs.Prelude.{◌≡◌, ◌≤◌, ◌+◌, ◌-◌, min};
 ghost use Rattle.step_machine.specs.History.{FitsIn};
 ghost use Rattle.judged_runs.specs.Histories.{MOST};
-ghost use Rattle.ownership_runs.specs.Runs.{IsOfOneHart, BreaksNothing, HasBrokenRun, HasMoved, AreMovesOf};
+ghost use Rattle.ownership_runs.specs.Runs.{IsOfOneKind, BreaksNothing, HasBrokenRun, HasMoved, AreMovesOf};
 
 use crate::counts::{Counts, RunCounts};
 use crate::judging::judge;
@@ -95,7 +95,7 @@ impl<'a, const B: usize, const M: usize> Judge for OwnershipJudge<'a, B, M> {
 
     ghost has = { λ it events violation. HasBrokenRun B M it.opening.now it.queue.now it.start events violation };
 
-    ghost alike = { λ it violation other. IsOfOneHart violation other };
+    ghost alike = { λ it violation other. IsOfOneKind violation other };
 
     ghost counts = { λ it all moved. AreMovesOf B M it.opening.now it.queue.now it.start all moved };
 
@@ -122,9 +122,9 @@ impl<'a, const B: usize, const M: usize> Judge for OwnershipJudge<'a, B, M> {
         Ok(notes.found)
     }
 
-    /// A part of a run's events shows its violation if the same hart breaks the protocol first.
+    /// A part of a run's events shows its violation if the same hart breaks the protocol first, by a store that is described or by another.
     fn is_alike(&self, violation: Violation, other: Violation) -> bool {
-        violation.hart == other.hart
+        violation.hart == other.hart && violation.described == other.described
     }
 
     fn none(&self, _alloc: Global) -> Result<Moved, AllocError> {
@@ -139,5 +139,5 @@ impl<'a, const B: usize, const M: usize> Judge for OwnershipJudge<'a, B, M> {
         *moved = both(*moved, later);
     }
 
-    ghost same = { λ it violation. refl };
+    ghost same = { λ it violation. (refl, refl) };
 }

@@ -2,12 +2,13 @@
 
 ghost use Rattle.std.specs.Prelude.{◌≡◌, ◌≤◌, ◌+◌, ◌*◌, option_map, Some};
 ghost use Rattle.ownership_runs.specs.Keeping.{is_in_bytes, is_outside, is_of_owned, is_to_fill, may_fill, fills, owned_by, keeps_store};
+ghost use Rattle.ownership_runs.specs.Keeping.{slots_in, owning_all, is_described};
 ghost use Rattle.ownership_runs.specs.inner.Bounds.{STEP, ROOM, AreCountsWithin};
 ghost use Rattle.queue_layouts.specs.Sides.{the_party};
 
 use crate::counts::RunCounts;
 use crate::numbers::{is_in_bytes, position_from, quotient};
-use crate::parties::count;
+use crate::parties::{count, with_known};
 use crate::protocols::{end_in, moves_on};
 use crate::tagged_moves::is_tag_byte;
 use crate::violations::Owned;
@@ -117,4 +118,38 @@ pub(crate) fn keeps_store(
             write.addr,
             write.width,
         )
+}
+
+/// How many slots there are.
+fn slots_in(queue: &AnyQueue) -> u32
+    ensures { result ≡ slots_in queue.now }
+{
+    match queue {
+        AnyQueue::Indexed(queue) => queue.size,
+        AnyQueue::Tagged(queue) => queue.size,
+    }
+}
+
+/// The counts of a party that knows the other to have come so far that it owns every slot.
+fn owning_all(queue: &AnyQueue, party: Option<Party>, counts: RunCounts) -> RunCounts
+    requires { AreCountsWithin ROOM (ROOM + STEP) counts }
+    ensures value { result ≡ owning_all queue.now (option_map the_party party) counts }
+    ensures within { AreCountsWithin ROOM (ROOM + STEP) result }
+{
+    let Some(party) = party else { return counts };
+    let end = count(party, counts) + u128::from(slots_in(queue));
+    with_known(party, end, counts)
+}
+
+/// Whether a hart might make a store if it owned every slot.
+pub(crate) fn is_described(
+    queue: &AnyQueue,
+    party: Option<Party>,
+    counts: RunCounts,
+    write: Write,
+) -> bool
+    requires { AreCountsWithin ROOM (ROOM + STEP) counts }
+    ensures { result ≡ is_described queue.now (option_map the_party party) counts write }
+{
+    keeps_store(queue, party, owning_all(queue, party, counts), write)
 }

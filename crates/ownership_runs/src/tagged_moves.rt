@@ -52,6 +52,10 @@ fn tells(codec: Codec, party: Party, position: u128, value: u32) -> bool
             };
             u128::from(value) == number % 4_294_967_296
         }
+        Codec::Bit { mask, free, full } => match party {
+            Party::Sender => value & mask == free,
+            Party::Receiver => value & mask == full,
+        },
     }
 }
 

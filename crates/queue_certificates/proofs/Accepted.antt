@@ -16,10 +16,11 @@ use Rattle.store_buffers.specs.StoreBuffers.{memory_number}
 use Rattle.queue_parties.specs.Parties.{Party, the_sender, the_receiver, all_at, count}
 use Rattle.slot_queue.specs.Queues.{Queue, IsQueue, TellsFull, KeepsOff, index_word}
 use Rattle.slot_queue.specs.Ownership.{hart, party_of, end}
-use Rattle.owned_run.specs.Certified.{View, AllCounts, number_seen, Acts}
-use Rattle.owned_run.specs.Certificates.{MeetsField}
+use Rattle.queue_certificates.specs.OwnedRuns.{View, AllCounts, number_seen, Acts}
+use Rattle.queue_certificates.specs.RecordFields.{MeetsField}
 use Rattle.queue_certificates.specs.Forms.{form_value, InRanges}
-use Rattle.queue_certificates.specs.States.{KnownValue, any, linear, index_for, signed_for, no_share, KnownState, Has, signed_word, HasShare, MeansAt}
+use Rattle.queue_certificates.specs.States.{KnownValue, any, linear, index_for, signed_for, ends_as, has_bits, no_share}
+use Rattle.queue_certificates.specs.States.{KnownState, Has, signed_word, HasShare, MeansAt}
 use Rattle.queue_certificates.specs.Steps.{all_below}
 use Rattle.queue_certificates.specs.Fields.{is_field}
 use Rattle.queue_certificates.specs.Filled.{no_field}
@@ -94,6 +95,8 @@ has-value : (queues : ℕ → Queue) (xs : List ℕ) (v : KnownValue) (x : ℕ) 
 has-value queues xs any x ok = tt
 has-value queues xs (linear f) x ok = eqb-true x (form_value f xs % 2 ^ 32) ok
 has-value queues xs (index_for i f) x ok = eqb-true x (index_word (queues i) (form_value f xs)) ok
+has-value queues xs (ends_as n f) x ok = absurd (cc)
+has-value queues xs (has_bits m b) x ok = absurd (cc)
 has-value queues xs (signed_for i f) x ok = eqb-true x (signed_word (queues i).index_width (index_word (queues i) (form_value f xs))) ok
 
 in-ranges : (rs : List (Option ℕ)) (xs : List ℕ) → are_in_ranges rs xs ≡ true → InRanges rs xs

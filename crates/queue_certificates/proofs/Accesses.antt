@@ -9,8 +9,8 @@ use Rattle.slot_queue.specs.Queues.{Queue, IsQueue, TellsFull, index_word, least
 use Rattle.queue_parties.specs.Parties.{Party, the_sender, the_receiver, other, QueueCounts, count, known, with_known}
 use Rattle.slot_queue.specs.Ownership.{hart, party_of, index, end, after_load, after_access}
 use Rattle.queue_parties.proofs.Parties.{harts-apart, Whose, mine, theirs, whose, two, count-set-known}
-use Rattle.owned_run.specs.Certified.{View, limit, SeesIndices, ReadsFrom}
-use Rattle.owned_run.proofs.Accesses.{looked}
+use Rattle.queue_certificates.specs.OwnedRuns.{View, limit, SeesIndices, ReadsFrom}
+use Rattle.queue_certificates.proofs.OwnedAccesses.{looked}
 use Rattle.queue_certificates.specs.Forms.{form_value, number, plus, lifted, first_variable, Bounds}
 use Rattle.queue_certificates.specs.States.{Share, HasShare}
 use Rattle.queue_certificates.specs.Steps.{last_below, is_just, is_whole, misses, behind, owned_then, looked_share}

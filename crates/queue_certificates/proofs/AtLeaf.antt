@@ -2,7 +2,7 @@
 use Rattle.std.proofs.Common.{ℕ, ◌+◌, ◌≡◌, inl, inr, Bool, true, List, length, get_or}
 use Rattle.std.proofs.lemmas.Bool.{and_parts, cases_lt}
 use Rattle.hart.specs.State.{HartState}
-use Rattle.owned_run.specs.Certified.{View, AllCounts}
+use Rattle.queue_certificates.specs.OwnedRuns.{View, AllCounts}
 use Rattle.queue_certificates.specs.Forms.{Form}
 use Rattle.queue_certificates.specs.States.{KnownState, MeansAt}
 use Rattle.queue_certificates.specs.Cases.{Arrow, Cases, leaf, split, with_low, with_high, each_leaf}

@@ -22,9 +22,9 @@ use Rattle.queue_parties.proofs.Parties.{Whose, mine as is_party, theirs as is_t
 use Rattle.slot_queue.specs.Queues.{IsByteOf, slot_of}
 use Rattle.slot_queue.specs.Ownership.{hart, party_of, after_access, KeepsAccess}
 use Rattle.slots_that_tell.specs.Telling.{teller_hart, told_access, TellsAccess}
-use Rattle.telling_run.specs.Certified.{LoadsRestOwned}
-use Rattle.owned_run.specs.Certified.{View, AllCounts, view_then, Acts, IsSameFor, LoadsOwned, kept_beside}
-use Rattle.owned_run.specs.Certificates.{MeetsField}
+use Rattle.queue_certificates.specs.ToldRuns.{LoadsRestOwned}
+use Rattle.queue_certificates.specs.OwnedRuns.{View, AllCounts, view_then, Acts, IsSameFor, LoadsOwned, kept_beside}
+use Rattle.queue_certificates.specs.RecordFields.{MeetsField}
 use Rattle.queue_certificates.specs.Forms.{Form}
 use Rattle.queue_certificates.specs.States.{KnownValue, KnownState, MeansAt}
 use Rattle.queue_certificates.specs.Steps.{all_below, follow, instruction_at, loads_owned}

@@ -13,8 +13,8 @@ use Rattle.slot_queue.specs.Queues.{Queue, IsQueue, slot_of}
 use Rattle.queue_parties.specs.Positions.{IsInBytes}
 use Rattle.queue_parties.specs.Parties.{the_sender, QueueCounts}
 use Rattle.slot_queue.specs.Ownership.{after_access}
-use Rattle.owned_run.specs.Certified.{View, view_then}
-use Rattle.owned_run.specs.Certificates.{Field, MeetsField}
+use Rattle.queue_certificates.specs.OwnedRuns.{View, view_then}
+use Rattle.queue_certificates.specs.RecordFields.{Field, MeetsField}
 use Rattle.queue_certificates.specs.Forms.{Form, form_value, most, InRanges, Bounds}
 use Rattle.queue_certificates.specs.States.{KnownValue}
 use Rattle.queue_certificates.specs.Steps.{misses}

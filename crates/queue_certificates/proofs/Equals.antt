@@ -3,71 +3,30 @@ use Rattle.std.proofs.Common.{ℕ, ◌+◌, ◌-◌, ◌*◌, ◌/◌, ◌%◌, 
 use Rattle.std.proofs.Common.{Option, Some, None, List, inl, inr, refl, sym, ◌∙◌, ap, subst, arith}
 use Rattle.std.specs.Prelude.{nat_lt, nat_le}
 use Rattle.std.proofs.lemmas.Bool.{and_parts, eqb-true, ltb-true, leb-true, lt-ltb, eq-eqb, ne_eqb, cases_lt}
-use Rattle.std.proofs.Math.Nat.{mod-eq_of_lt, add-mul-mod_self_left, add-mul, mul-mod_left, mul_comm, mul-div_cancel_left}
+use Rattle.std.proofs.Math.Nat.{mod-eq_of_lt, mul-div_cancel_left}
 use Rattle.slot_queue.specs.Queues.{Queue, index_word}
-use Rattle.queue_certificates.specs.Forms.{Form, form_value, number, plus, times, is_same, most, fits_in, InRanges, Bounds, bounds_of}
-use Rattle.queue_certificates.specs.States.{KnownValue, any, linear, index_for, signed_for, Has, signed_word, scaled}
-use Rattle.queue_certificates.specs.Results.{is_nothing, agrees, unscaled, is_scaled, standing, both_agree, is_equal_word, is_equal}
-use Rattle.queue_certificates.proofs.Forms.{value-plus, value-times, mod-sum, same-value}
-use Rattle.queue_certificates.proofs.Bounds.{IsBetween, value-between, value-below, fits-below}
-use Rattle.queue_certificates.proofs.Values.{value-scaled, value-offset}
-
--- a + (n - 1) * b is a multiple of n where a and b have the same remainder, and only there
-pub taken-away : (n a b : ℕ) → 1 ≤ n → ((a + (n - 1) * b) % n ≡ 0 → a % n ≡ b % n) × (a % n ≡ b % n → (a + (n - 1) * b) % n ≡ 0)
-taken-away n a b some = (
-  λ none. sym (add-mul-mod_self_left a n b) ∙ ap (λ y. y % n) (sym once)
-      ∙ mod-sum (a + (n - 1) * b) b 0 b n (none ∙ sym (mod-eq_of_lt some)) refl
-      ∙ (let e : 0 + b ≡ b = omega arith in ap (λ y. y % n) e),
-  λ same. mod-sum a ((n - 1) * b) b ((n - 1) * b) n same refl
-      ∙ (let e : b + (n - 1) * b ≡ b * n = whole in ap (λ y. y % n) e) ∙ mul-mod_left b n,
-)
-  where
-    whole : b + (n - 1) * b ≡ b * n
-    whole =
-        let e : (1 + (n - 1)) * b ≡ 1 * b + (n - 1) * b = add-mul 1 (n - 1) b in
-        let one : 1 + (n - 1) ≡ n = omega (arith, some) in
-        let all : n * b ≡ (1 + (n - 1)) * b = ap (λ y. y * b) (sym one) in
-        let turned : n * b ≡ b * n = mul_comm n b in
-        omega (arith, e, all, turned)
-
-    once : a + (n - 1) * b + b ≡ a + n * b
-    once = let turned : n * b ≡ b * n = mul_comm n b in omega (arith, whole, turned)
+use Rattle.queue_certificates.specs.Forms.{Form, form_value, number, plus, times, is_same, most, fits_in, InRanges, Bounds}
+use Rattle.queue_certificates.specs.States.{KnownValue, any, linear, index_for, signed_for, ends_as, has_bits, Has, signed_word, scaled}
+use Rattle.queue_certificates.specs.Results.{as_number, bounds, is_nothing, is_zero, agrees, unscaled, is_scaled, standing, both_agree, is_equal_word, is_equal}
+use Rattle.queue_certificates.proofs.Forms.{value-plus, value-times, same-value, taken-away}
+use Rattle.queue_certificates.proofs.Bounds.{value-below, fits-below}
+use Rattle.queue_certificates.proofs.Values.{value-scaled, value-offset, nothing-is, within-nothing, known-is, has-bounds}
+use Rattle.queue_certificates.proofs.Endings.{tells-same}
 
 module _ (queues : ℕ → Queue) (xs : List ℕ) (rs : List (Option ℕ)) (ranges : InRanges rs xs) where
   agrees-is : (n : ℕ) (f g : Form) (t : Bool) → agrees rs n f g ≡ Some t → (1 ≤ n) × ((form_value f xs % n == form_value g xs % n) ≡ t)
-  agrees-is n f g t is = by (bounds_of n rs (plus f (times (n - 1) g))) refl is
+  agrees-is n f g t is = (
+    none.0,
+    sym (tells-same (form_value (plus f (times (n - 1) g)) xs % n) (form_value f xs % n) (form_value g xs % n)
+        (λ zero. (taken-away n (form_value f xs) (form_value g xs) none.0).0 (sym differs ∙ zero))
+        (λ same. differs ∙ (taken-away n (form_value f xs) (form_value g xs) none.0).1 same)) ∙ none.1,
+  )
     where
-      value : form_value (plus f (times (n - 1) g)) xs ≡ form_value f xs + (n - 1) * form_value g xs
-      value = value-plus f (times (n - 1) g) xs ∙ ap (λ y. form_value f xs + y) (value-times (n - 1) g xs)
+      none : (1 ≤ n) × ((form_value (plus f (times (n - 1) g)) xs % n == 0) ≡ t)
+      none = nothing-is n rs (plus f (times (n - 1) g)) xs t ranges is
 
-      by : (o : Option Bounds) → bounds_of n rs (plus f (times (n - 1) g)) ≡ o → is_nothing o ≡ Some t
-          → (1 ≤ n) × ((form_value f xs % n == form_value g xs % n) ≡ t)
-      by None of is = absurd (cc)
-      by (Some b) of is = at (nat_lt 0 b.low) (b.high == 0) refl refl is
-        where
-          between : IsBetween n (plus f (times (n - 1) g)) xs b
-          between = value-between n rs (plus f (times (n - 1) g)) xs b ranges of
-
-          differs : form_value (plus f (times (n - 1) g)) xs % n ≡ (form_value f xs + (n - 1) * form_value g xs) % n
-          differs = ap (λ y. y % n) value
-
-          at : (r s : Bool) → nat_lt 0 b.low ≡ r → (b.high == 0) ≡ s → (if r then Some false else (if s then Some true else None)) ≡ Some t
-              → (1 ≤ n) × ((form_value f xs % n == form_value g xs % n) ≡ t)
-          at true s low high is = (
-            between.some,
-            ne_eqb (form_value f xs % n) (form_value g xs % n) (λ same.
-                (let none : (form_value f xs + (n - 1) * form_value g xs) % n ≡ 0 =
-                (taken-away n (form_value f xs) (form_value g xs) between.some).1 same in
-                let some : 0 < b.low = ltb-true 0 b.low low in let u = between.low in omega (arith, none, differs, some, u)))
-                ∙ (let e : false ≡ t = cc in e),
-          )
-          at false true low high is = (
-            between.some,
-            eq-eqb (form_value f xs % n) (form_value g xs % n) ((taken-away n (form_value f xs) (form_value g xs) between.some).0
-                (let zero-high : b.high ≡ 0 = eqb-true b.high 0 high in let u = between.high in omega (arith, differs, zero-high, u)))
-                ∙ (let e : true ≡ t = cc in e),
-          )
-          at false false low high is = absurd (cc)
+      differs : form_value (plus f (times (n - 1) g)) xs % n ≡ (form_value f xs + (n - 1) * form_value g xs) % n
+      differs = ap (λ y. y % n) (value-plus f (times (n - 1) g) xs ∙ ap (λ y. form_value f xs + y) (value-times (n - 1) g xs))
 
   -- a signed load leaves different numbers of different ones
   signed-below : (w x y : ℕ) → x < y → signed_word w x < signed_word w y
@@ -102,6 +61,8 @@ module _ (queues : ℕ → Queue) (xs : List ℕ) (rs : List (Option ℕ)) (rang
       → x ≡ (queues i).base + (queues i).scale * (form_value k xs % (queues i).modulus)
   standing-is i any x k some is has = absurd (cc)
   standing-is i (signed_for j f) x k some is has = absurd (cc)
+  standing-is i (ends_as n f) x k some is has = absurd (cc)
+  standing-is i (has_bits m b) x k some is has = absurd (cc)
   standing-is i (index_for j f) x k some is has = by (i == j) refl is
     where
       by : (t : Bool) → (i == j) ≡ t → (if t then Some (plus f (number (queues i).offset)) else None) ≡ Some k
@@ -166,6 +127,26 @@ module _ (queues : ℕ → Queue) (xs : List ℕ) (rs : List (Option ℕ)) (rang
       by false none is = absurd (cc)
       by true some is = both (leb-true 1 (queues i).scale some) (standing queues rs i v) (standing queues rs i w) refl refl is
 
+  -- a number that is 0, or not, beside another
+  zero-is : (v : KnownValue) (x y : ℕ) → Has queues xs v x → (o : Option ℕ) → ((a : ℕ) → o ≡ Some a → y ≡ a) → (t : Bool)
+      → is_zero rs v o ≡ Some t → (x == y) ≡ t
+  zero-is v x y has None is-a t is = absurd (cc)
+  zero-is v x y has (Some a) is-a t is = by (a == 0) refl is
+    where
+      at : a ≡ 0 → (o : Option Bounds) → bounds rs v ≡ o → is_nothing o ≡ Some t → (x == y) ≡ t
+      at none None of is = absurd (cc)
+      at none (Some b) of is =
+          let between = has-bounds queues rs xs v x b ranges of has in
+          ap (λ n. x == n) (is-a a refl ∙ none) ∙ within-nothing b x t between.0 between.1 is
+
+      by : (s : Bool) → (a == 0) ≡ s → (if s then is_nothing (bounds rs v) else None) ≡ Some t → (x == y) ≡ t
+      by false other is = absurd (cc)
+      by true none is = at (eqb-true a 0 none) (bounds rs v) refl is
+
+  turned : (x y : ℕ) (t : Bool) → (y == x) ≡ t → (x == y) ≡ t
+  turned x y true is = eq-eqb x y (sym (eqb-true y x is))
+  turned x y false is = ne_eqb x y (λ same. (let no : true ≡ false = sym (eq-eqb y x (sym same)) ∙ is in cc))
+
   pub equal-is : (v w : KnownValue) (x y : ℕ) → Has queues xs v x → Has queues xs w y → (t : Bool) → is_equal queues rs v w ≡ Some t → (x == y) ≡ t
   equal-is any w x y one two t is = absurd (cc)
   equal-is (index_for i f) w x y one two t is = equal-word i (index_for i f) w x y one two t is
@@ -187,7 +168,14 @@ module _ (queues : ℕ → Queue) (xs : List ℕ) (rs : List (Option ℕ)) (rang
           ∙ ap (λ n. signed_word (queues i).index_width a == n)
           (two ∙ ap (λ w. signed_word w b) (sym (eqb-true (queues i).index_width (queues j).index_width same)))
           ∙ signed-equal (queues i).index_width a b t (equal-word i (index_for i f) (index_for j g) a b refl refl t is)
+  equal-is (ends_as n f) w x y one two t is = zero-is (ends_as n f) x y one (as_number w) (λ a of. known-is queues xs w y a of two) t is
+  equal-is (signed_for i f) (ends_as n g) x y one two t is = absurd (cc)
+  equal-is (linear f) (ends_as n g) x y one two t is = turned x y t
+      (zero-is (ends_as n g) y x two (as_number (linear f)) (λ a of. known-is queues xs (linear f) x a of one) t is)
   equal-is (linear f) any x y one two t is = absurd (cc)
+  equal-is (has_bits m b) w x y one two t is = absurd (cc)
+  equal-is (linear f) (has_bits m b) x y one two t is = absurd (cc)
+  equal-is (signed_for i f) (has_bits m b) x y one two t is = absurd (cc)
   equal-is (linear f) (signed_for i g) x y one two t is = absurd (cc)
   equal-is (linear f) (index_for i g) x y one two t is = equal-word i (linear f) (index_for i g) x y one two t is
   equal-is (linear f) (linear g) x y one two t is = ap (λ n. n == y) one ∙ ap (λ n. form_value f xs % 2 ^ 32 == n) two ∙ (agrees-is (2 ^ 32) f g t is).1

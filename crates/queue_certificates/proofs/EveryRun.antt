@@ -18,15 +18,15 @@ use Rattle.slot_queue.specs.Laws.{FollowsOwnership}
 use Rattle.slots_that_tell.specs.Slots.{Slots, tag_of, IsSlotByte}
 use Rattle.slots_that_tell.specs.Telling.{teller_hart, OwnsRest, KeepsTelling}
 use Rattle.slots_that_tell.specs.Laws.{FollowsTelling, counts}
-use Rattle.telling_run.specs.Certified.{telling, IsOfTag, LoadsRestOwned}
-use Rattle.telling_run.specs.Arrived.{HasArrived}
-use Rattle.telling_run.proofs.Protocol.{is_of_parties, sees_tags}
-use Rattle.telling_run.proofs.Arrived.{has_arrived, told_arrives, still_read}
-use Rattle.owned_run.specs.Certified.{LoadsByte, ReadsOwned}
-use Rattle.owned_run.specs.Delivered.{IsDelivered}
-use Rattle.owned_run.specs.Certificates.{MeetsField}
-use Rattle.owned_run.proofs.Sets.{CertifiedSets}
-use Rattle.owned_run.proofs.Every.{every_run, reads_owned, loads_delivered, every_state, every_record, every_beside, beside_is, next_beside_is}
+use Rattle.queue_certificates.specs.ToldRuns.{telling, IsOfTag, LoadsRestOwned}
+use Rattle.queue_certificates.specs.Arrived.{HasArrived}
+use Rattle.queue_certificates.proofs.ToldProtocol.{is_of_parties, sees_tags}
+use Rattle.queue_certificates.proofs.Arrived.{has_arrived, told_arrives, still_read}
+use Rattle.queue_certificates.specs.OwnedRuns.{LoadsByte, ReadsOwned}
+use Rattle.queue_certificates.specs.Delivered.{IsDelivered}
+use Rattle.queue_certificates.specs.RecordFields.{MeetsField}
+use Rattle.queue_certificates.proofs.Sets.{CertifiedSets}
+use Rattle.queue_certificates.proofs.Every.{every_run, reads_owned, loads_delivered, every_state, every_record, every_beside, beside_is, next_beside_is}
 use Rattle.queue_layouts.specs.Tagged.{slots_of, tells_by}
 use Rattle.queue_certificates.specs.Certificates.{QueueCertificate, queue_at, start_at, fields_at, tagged_at, tagged_start, IsInState, HasFields}
 use Rattle.queue_certificates.specs.Certificates.{MeetsFields, IsOwnByte, IsAtState, told_beside, accepts, accepts_loads, accepts_rest}
@@ -66,7 +66,7 @@ module _ (B M : ℕ) (o : OpeningValue) (c : QueueCertificate) (ok : accepts o c
     keeps = keeps;
   }
 
-  -- what the certificate gives of a run, by owned_run/proofs/Every.antt
+  -- what the certificate gives of a run, by proofs/Every.antt
   abbrev pub sets : CertifiedSets B M o
   sets = record {
     number = length c.queues;

@@ -16,10 +16,10 @@ use Rattle.memory.proofs.Joined.{joined-bytes}
 use Rattle.slot_queue.specs.Queues.{Queue, IsQueue, slot_of}
 use Rattle.queue_parties.proofs.Positions.{ahead, ahead-is, one-slot, slot-within}
 use Rattle.queue_parties.specs.Positions.{IsInBytes}
-use Rattle.owned_run.specs.Certified.{View, number_seen}
-use Rattle.owned_run.specs.Certificates.{Field, MeetsField}
+use Rattle.queue_certificates.specs.OwnedRuns.{View, number_seen}
+use Rattle.queue_certificates.specs.RecordFields.{Field, MeetsField}
 use Rattle.queue_certificates.specs.Forms.{dot, form_value, InRanges, vanishes, Bounds, risings, fallings, bounds_of}
-use Rattle.queue_certificates.specs.States.{KnownValue, any, linear, index_for, signed_for, Has}
+use Rattle.queue_certificates.specs.States.{KnownValue, any, linear, index_for, signed_for, ends_as, has_bits, Has}
 use Rattle.queue_certificates.specs.Steps.{all_below}
 use Rattle.queue_certificates.specs.Fields.{last_number, is_field}
 use Rattle.queue_certificates.specs.Filled.{Filled, is_filled, no_field, lies_in, is_number_of, is_beside, is_right_after, is_filled_after, are_so}
@@ -66,6 +66,8 @@ pub known-number : (queues : ℕ → Queue) (rs : List (Option ℕ)) (xs : List 
 known-number queues rs xs ranges any f x has ok = absurd (cc)
 known-number queues rs xs ranges (index_for i g) f x has ok = absurd (cc)
 known-number queues rs xs ranges (signed_for i g) f x has ok = absurd (cc)
+known-number queues rs xs ranges (ends_as n g) f x has ok = absurd (cc)
+known-number queues rs xs ranges (has_bits m b) f x has ok = absurd (cc)
 known-number queues rs xs ranges (linear g) f x has ok = by (bounds_of (2 ^ 32) rs g) refl ok
   where
     by : (o : Option Bounds) → bounds_of (2 ^ 32) rs g ≡ o → lies_in o g f ≡ true → IsNumberOf f x

@@ -1,10 +1,11 @@
 -- What sums, multiples and substituted forms come to.
-use Rattle.std.proofs.Common.{ℕ, zero, suc, ◌+◌, ◌-◌, ◌*◌, ◌/◌, ◌%◌, ◌<◌, ◌≤◌, ◌≡◌, ◌==◌, true, List, [], ◌∷◌, get_or, refl, sym, ◌∙◌, ap, arith}
+use Rattle.std.proofs.Common.{ℕ, zero, suc, ◌+◌, ◌-◌, ◌*◌, ◌/◌, ◌%◌, ◌<◌, ◌≤◌, ◌≡◌, ◌==◌, true, List, [], ◌∷◌, get_or, inl, inr, refl, sym, ◌∙◌}
+use Rattle.std.proofs.Common.{ap, arith}
 use Rattle.std.specs.Prelude.{map}
-use Rattle.std.proofs.lemmas.Bool.{and_parts, eqb-true}
+use Rattle.std.proofs.lemmas.Bool.{and_parts, eqb-true, cases_lt}
 use Rattle.std.proofs.lemmas.Nat.{mul-mod_first}
 use Rattle.std.proofs.Math.Nat.{mul-add, add-mul, zero-mul, mul-zero, mul_assoc, mul_comm, add-mod, mod-zero, zero-mod}
-use Rattle.std.proofs.Math.Nat.{add-mul-mod_self_left, mod-add-div, mod-lt}
+use Rattle.std.proofs.Math.Nat.{add-mul-mod_self_left, mod-add-div, mod-lt, mod-eq_of_lt, mul-mod_left}
 use Rattle.queue_certificates.specs.Forms.{Form, dot, form_value, number, first_variable, sums, plus, times, lifted}
 use Rattle.queue_certificates.specs.Forms.{combined, substituted, factor_at, raised, vanishes, agree, is_same}
 
@@ -86,6 +87,48 @@ round-up m k c some =
     let parts : c % m + m * (c / m) ≡ c = mod-add-div c m in
     (let turned : k + c + (m - c % m) ≡ (k + m * (c / m)) + m * 1 = omega (arith, parts, low) in ap (λ y. y % m) turned)
     ∙ add-mul-mod_self_left (k + m * (c / m)) m 1 ∙ add-mul-mod_self_left k m (c / m)
+
+-- a + (n - 1) * b is a multiple of n where a and b have the same remainder, and only there
+pub taken-away : (n a b : ℕ) → 1 ≤ n → ((a + (n - 1) * b) % n ≡ 0 → a % n ≡ b % n) × (a % n ≡ b % n → (a + (n - 1) * b) % n ≡ 0)
+taken-away n a b some = (
+  λ none. sym (add-mul-mod_self_left a n b) ∙ ap (λ y. y % n) (sym once)
+      ∙ mod-sum (a + (n - 1) * b) b 0 b n (none ∙ sym (mod-eq_of_lt some)) refl
+      ∙ (let e : 0 + b ≡ b = omega arith in ap (λ y. y % n) e),
+  λ same. mod-sum a ((n - 1) * b) b ((n - 1) * b) n same refl
+      ∙ (let e : b + (n - 1) * b ≡ b * n = whole in ap (λ y. y % n) e) ∙ mul-mod_left b n,
+)
+  where
+    whole : b + (n - 1) * b ≡ b * n
+    whole =
+        let e : (1 + (n - 1)) * b ≡ 1 * b + (n - 1) * b = add-mul 1 (n - 1) b in
+        let one : 1 + (n - 1) ≡ n = omega (arith, some) in
+        let all : n * b ≡ (1 + (n - 1)) * b = ap (λ y. y * b) (sym one) in
+        let turned : n * b ≡ b * n = mul_comm n b in
+        omega (arith, e, all, turned)
+
+    once : a + (n - 1) * b + b ≡ a + n * b
+    once = let turned : n * b ≡ b * n = mul_comm n b in omega (arith, whole, turned)
+
+-- and so is it by another multiple of n
+pub away-by : (n w a b : ℕ) → 1 ≤ n → 1 ≤ w → w % n ≡ 0 → (a + (w - 1) * b) % n ≡ (a + (n - 1) * b) % n
+away-by n w a b some more none = mod-sum a ((w - 1) * b) a ((n - 1) * b) n refl (mod-product (w - 1) (n - 1) b n
+    (ap (λ y. y % n) parts ∙ add-mul-mod_self_left (n - 1) n (w / n - 1)))
+  where
+    whole : w % n + n * (w / n) ≡ w
+    whole = mod-add-div w n
+
+    rounds : 1 ≤ w / n
+    rounds = elim (cases_lt 0 (w / n)) [
+      | inl some ↦ omega (arith, some)
+      | inr few ↦ absurd (let e : n * (w / n) ≡ n * 0 = ap (λ q. n * q) (let z : w / n ≡ 0 = omega (arith, few) in z) in
+          let z : n * 0 ≡ 0 = mul-zero n in omega (arith, e, z, whole, none, more))
+    ]
+
+    parts : w - 1 ≡ n - 1 + n * (w / n - 1)
+    parts =
+        let e : n * (w / n) ≡ n * (w / n - 1 + 1) = ap (λ q. n * q) (let z : w / n ≡ w / n - 1 + 1 = omega (arith, rounds) in z) in
+        let d : n * (w / n - 1 + 1) ≡ n * (w / n - 1) + n * 1 = mul-add n (w / n - 1) 1 in
+        omega (arith, e, d, whole, none, some)
 
 pub dot-vanishes : (n : ℕ) (ms xs : List ℕ) → vanishes n ms ≡ true → dot ms xs % n ≡ 0 % n
 dot-vanishes n [] xs ok = refl

@@ -8,7 +8,7 @@ use Rattle.step_machine.specs.declared.events.Entry.{Entry}
 use Rattle.step_machine.specs.History.{HartOpeningValue, OpeningValue}
 use Rattle.step_machine.specs.Access.{access_of}
 use Rattle.step_machine.specs.Paths.{number_read}
-use Rattle.owned_run.specs.Certified.{View, AllCounts, Acts, kept_beside}
+use Rattle.queue_certificates.specs.OwnedRuns.{View, AllCounts, Acts, kept_beside}
 use Rattle.queue_certificates.specs.Forms.{Form, settled}
 use Rattle.queue_certificates.specs.States.{KnownState, MeansAt}
 use Rattle.queue_certificates.specs.Steps.{follow, instruction_at, loads_owned}

@@ -1,9 +1,17 @@
-pub mod OneSlotQueue
-mod OneSlotNumbers
-mod OneSlotTags
+pub mod Counted
+pub mod Delivered
+pub mod Sets
+pub mod Every
+pub mod OwnedAccesses
+pub mod ToldTags
+pub mod ToldProtocol
+pub mod ToldAccesses
+pub mod Arrived
+pub mod KnownBits
 pub mod Forms
 pub mod Bounds
 pub mod Values
+mod Endings
 mod Equals
 pub mod Results
 pub mod States
@@ -19,7 +27,7 @@ mod TagPlaces
 pub mod TagShares
 mod TagCounts
 mod TagValues
-mod NextAccess
+pub mod NextAccess
 mod TagKept
 pub mod TagNext
 mod TagStores
@@ -30,3 +38,6 @@ pub mod AtLeaf
 pub mod Leaves
 pub mod Certified
 pub mod EveryRun
+pub mod OneSlotQueue
+mod OneSlotNumbers
+pub mod OneSlotTags

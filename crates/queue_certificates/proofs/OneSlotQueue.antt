@@ -1,13 +1,57 @@
 -- A certificate that is accepted: of two harts that pass words for ever through one slot, with counters that wrap at 2 ^ 32.
-use Rattle.std.proofs.Common.{ℕ, ◌≡◌, List, [], ◌∷◌, Option, Some, None, refl, true}
+use Rattle.std.proofs.Common.{ℕ, ◌≡◌, ◌^◌, List, [], ◌∷◌, Option, Some, None, refl, true, arith}
 use Rattle.rv_decode.specs.Meaning.{meaning}
-use Rattle.owned_run.proofs.OneSlot.{q}
-use Rattle.owned_run.proofs.OneSlotText.{text}
+use Rattle.step_machine.specs.declared.events.Entry.{Entry}
+use Rattle.step_machine.specs.History.{HartOpeningValue, OpeningValue, history_of}
+use Rattle.step_machine.specs.Legal.{WellFormed}
+use Rattle.queue_parties.specs.Parties.{the_receiver, all_at}
+use Rattle.slot_queue.specs.Queues.{Queue}
+use Rattle.slot_queue.specs.Laws.{FollowsOwnership}
+use Rattle.queue_certificates.specs.OwnedRuns.{ReadsOwned}
+use Rattle.queue_certificates.proofs.EveryRun.{accepted_runs, accepted_loads}
 use Rattle.queue_certificates.specs.Forms.{Form, number}
 use Rattle.queue_certificates.specs.States.{KnownValue, any, linear}
 use Rattle.queue_certificates.specs.Cases.{Arrow, Cases, leaf, split}
 use Rattle.queue_certificates.specs.Certificates.{ListedState, HartPart, QueueCertificate, accepts, accepts_loads}
 use Rattle.queue_certificates.specs.Tags.{told_by_store}
+
+abbrev pub q : Queue
+q = record {
+  sender = 0;
+  receiver = 1;
+  head = 0;
+  tail = 4;
+  index_width = 4;
+  slots = 8;
+  size = 1;
+  width = 4;
+  capacity = 1;
+  base = 0;
+  scale = 1;
+  offset = 0;
+  modulus = 2 ^ 32;
+}
+
+-- lw x1,0(x0); lw x2,4(x0); bne x1,x2,-8; sw x3,8(x0); addi x1,x1,1; sw x1,0(x0); jal x0,-24
+abbrev sender_text : HartOpeningValue
+sender_text = record {
+  code = 8323 ∷ 4202755 ∷ 4263550179 ∷ 3154979 ∷ 1081491 ∷ 1056803 ∷ 4271894639 ∷ [];
+  registers = 0 ∷ 0 ∷ 0 ∷ 7 ∷ 0 ∷ 0 ∷ 0 ∷ 7 ∷ 0 ∷ 0 ∷ 0 ∷ 0 ∷ 0 ∷ 0 ∷ 0 ∷ 0 ∷ 0 ∷ 0 ∷ 0 ∷ 0 ∷ 0 ∷ 0 ∷ 0 ∷ 0 ∷ 0 ∷ 0
+      ∷ 0 ∷ 0 ∷ 0 ∷ 0 ∷ 0 ∷ 0 ∷ [];
+  inbox = [];
+}
+
+-- lw x1,4(x0); lw x2,0(x0); beq x1,x2,-8; lw x3,8(x0); addi x1,x1,1; sw x1,4(x0); jal x0,-24
+abbrev receiver_text : HartOpeningValue
+receiver_text = record {
+  code = 4202627 ∷ 8451 ∷ 4263546083 ∷ 8397187 ∷ 1081491 ∷ 1057315 ∷ 4271894639 ∷ [];
+  registers = 0 ∷ 0 ∷ 0 ∷ 0 ∷ 0 ∷ 0 ∷ 0 ∷ 0 ∷ 0 ∷ 0 ∷ 0 ∷ 0 ∷ 0 ∷ 0 ∷ 0 ∷ 0 ∷ 0 ∷ 0 ∷ 0 ∷ 0 ∷ 0 ∷ 0 ∷ 0 ∷ 0 ∷ 0 ∷ 0
+      ∷ 0 ∷ 0 ∷ 0 ∷ 0 ∷ 0 ∷ 0 ∷ [];
+  inbox = [];
+}
+
+abbrev pub text : OpeningValue
+text = record { harts = sender_text ∷ receiver_text ∷ []; words = [] }
 
 abbrev pub form : ℕ → List ℕ → Form
 form c ms = record { constant = c; factors = ms }
@@ -121,3 +165,11 @@ one_slot_accepted = refl
 one_slot_loads : accepts_loads text certificate 0 1 ≡ true
 unfolding meaning told_by_store
 one_slot_loads = refl
+
+-- so of every run, with store buffers of any size: it keeps the protocol, and the receiver loads the slot only while it owns it
+pub one_slot_runs : (B M : ℕ) (es : List Entry) → WellFormed B M (history_of text es)
+    → FollowsOwnership B q (all_at 0) text [] es × ReadsOwned q the_receiver (all_at 0) es
+one_slot_runs B M es run = (
+  accepted_runs B M text certificate one_slot_accepted es run 0 (omega arith),
+  accepted_loads B M text certificate one_slot_accepted 0 the_receiver (omega arith) one_slot_loads es run,
+)

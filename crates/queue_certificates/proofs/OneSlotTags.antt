@@ -1,8 +1,14 @@
 -- A certificate of a queue with tags that is accepted: of two harts that pass the word 7 for ever through one slot, which is 0 while it
 -- is free. Each loads the slot until that tells it that it owns it, and then stores there what tells the other.
-use Rattle.std.proofs.Common.{ℕ, ◌≡◌, List, [], ◌∷◌, Option, Some, None, refl, true, false}
+use Rattle.std.proofs.Common.{ℕ, ◌≡◌, List, [], ◌∷◌, Option, Some, None, refl, true, false, arith}
 use Rattle.rv_decode.specs.Meaning.{meaning}
-use Rattle.telling_run.proofs.OneSlotText.{text}
+use Rattle.step_machine.specs.declared.events.Entry.{Entry}
+use Rattle.step_machine.specs.History.{HartOpeningValue, OpeningValue, history_of}
+use Rattle.step_machine.specs.Legal.{WellFormed}
+use Rattle.queue_parties.specs.Parties.{all_at}
+use Rattle.slots_that_tell.specs.Laws.{FollowsTelling}
+use Rattle.queue_layouts.specs.Tagged.{slots_of}
+use Rattle.queue_certificates.proofs.EveryRun.{accepted_telling}
 use Rattle.queue_certificates.specs.Forms.{number}
 use Rattle.queue_certificates.specs.States.{KnownValue, any, linear}
 use Rattle.queue_certificates.specs.Cases.{Cases, leaf}
@@ -11,6 +17,27 @@ use Rattle.queue_layouts.specs.declared.tagged.Codec.TheVariants as codec
 use Rattle.queue_layouts.specs.declared.tagged.TaggedQueue.{TaggedQueue}
 use Rattle.queue_certificates.proofs.OneSlotQueue.{form, arrow}
 use Rattle.queue_certificates.specs.Tags.{told_by_store}
+
+-- lw x1,0(x0); bne x1,x0,-4; sw x3,0(x0); jal x0,-12
+abbrev sender_text : HartOpeningValue
+sender_text = record {
+  code = 8323 ∷ 4261453539 ∷ 3153955 ∷ 4284477551 ∷ [];
+  registers = 0 ∷ 0 ∷ 0 ∷ 7 ∷ 0 ∷ 0 ∷ 0 ∷ 0 ∷ 0 ∷ 0 ∷ 0 ∷ 0 ∷ 0 ∷ 0 ∷ 0 ∷ 0 ∷ 0 ∷ 0 ∷ 0 ∷ 0 ∷ 0 ∷ 0 ∷ 0 ∷ 0 ∷ 0 ∷ 0
+      ∷ 0 ∷ 0 ∷ 0 ∷ 0 ∷ 0 ∷ 0 ∷ [];
+  inbox = [];
+}
+
+-- lw x1,0(x0); beq x1,x0,-4; sw x0,0(x0); jal x0,-12
+abbrev receiver_text : HartOpeningValue
+receiver_text = record {
+  code = 8323 ∷ 4261449443 ∷ 8227 ∷ 4284477551 ∷ [];
+  registers = 0 ∷ 0 ∷ 0 ∷ 0 ∷ 0 ∷ 0 ∷ 0 ∷ 0 ∷ 0 ∷ 0 ∷ 0 ∷ 0 ∷ 0 ∷ 0 ∷ 0 ∷ 0 ∷ 0 ∷ 0 ∷ 0 ∷ 0 ∷ 0 ∷ 0 ∷ 0 ∷ 0 ∷ 0 ∷ 0
+      ∷ 0 ∷ 0 ∷ 0 ∷ 0 ∷ 0 ∷ 0 ∷ [];
+  inbox = [];
+}
+
+abbrev text : OpeningValue
+text = record { harts = sender_text ∷ receiver_text ∷ []; words = [] }
 
 abbrev q : TaggedQueue
 q = record { sender = 0; receiver = 1; slots = 0; size = 1; width = 4; tag_offset = 0; tag_width = 4; codec = codec.Zero }
@@ -94,3 +121,7 @@ receivers_loads = refl
 any_word_refused : accepts text (certificate any) ≡ false
 unfolding meaning told_by_store
 any_word_refused = refl
+
+-- so every run, with store buffers of any size, keeps the protocol
+pub one_slot_tells : (B M : ℕ) (es : List Entry) → WellFormed B M (history_of text es) → FollowsTelling B (slots_of q) (all_at 0) text [] es
+one_slot_tells B M es run = accepted_telling B M text (certificate (linear (number 7))) tags_accepted es run 0 (omega arith)

@@ -21,10 +21,10 @@ use Rattle.step_machine.specs.Access.{access_of}
 use Rattle.step_machine.specs.Paths.{number_read}
 use Rattle.slot_queue.specs.Queues.{Queue, IsQueue, TellsFull, slot_of}
 use Rattle.queue_parties.specs.Parties.{the_receiver}
-use Rattle.owned_run.specs.Certified.{View, AllCounts, number_seen, Acts}
-use Rattle.owned_run.specs.Certificates.{Field, MeetsField}
+use Rattle.queue_certificates.specs.OwnedRuns.{View, AllCounts, number_seen, Acts}
+use Rattle.queue_certificates.specs.RecordFields.{Field, MeetsField}
 use Rattle.queue_certificates.specs.Forms.{Form}
-use Rattle.queue_certificates.specs.States.{KnownValue, any, linear, index_for, signed_for, no_share, KnownState, Has, MeansAt}
+use Rattle.queue_certificates.specs.States.{KnownValue, any, linear, index_for, signed_for, ends_as, has_bits, no_share, KnownState, Has, MeansAt}
 use Rattle.queue_certificates.specs.Steps.{last_below, position_at, offset_at, is_owned, with_result, address_value, addresses, is_look, may_load}
 use Rattle.queue_certificates.specs.Steps.{after_load, follow, instruction_at}
 use Rattle.queue_certificates.specs.Fields.{last_number, field_number, keeps_numbers, field_there, field_or, field_in, field_below, after_field, next_received}
@@ -90,6 +90,8 @@ module _ (M : ℕ) (o : OpeningValue) (queues : ℕ → Queue) (N : ℕ) (own_of
   reads-in any a width i less at f is = absurd (cc)
   reads-in (index_for j g) a width i less at f is = absurd (cc)
   reads-in (signed_for j g) a width i less at f is = absurd (cc)
+  reads-in (ends_as n g) a width i less at f is = absurd (cc)
+  reads-in (has_bits n b) a width i less at f is = absurd (cc)
   reads-in (linear g) a width i less at f is =
       by (((queues i).receiver == h) && is_owned k.ranges (queues i) (get_or k.shares i no_share) (linear g) width) refl is
     where

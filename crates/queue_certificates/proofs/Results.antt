@@ -2,12 +2,13 @@
 use Rattle.std.proofs.Common.{ℕ, ℤ, pos, negsuc, zero, suc, ◌+◌, ◌-◌, ◌*◌, ◌/◌, ◌%◌, ◌^◌, ◌<◌, ◌≤◌, ◌≡◌, ◌==◌, ◌&&◌}
 use Rattle.std.proofs.Common.{◌+ℤ◌, inl, inr, if◌then◌else◌, not, Bool, true, false, Option, Some, None, List, ◌∷◌}
 use Rattle.std.proofs.Common.{refl, sym, ◌∙◌, ap, subst, arith}
-use Rattle.std.specs.Prelude.{int_lt, nat_lt, nat_le, ◌-ℤ◌, bit_and, bit_xor, count_ones}
+use Rattle.std.specs.Prelude.{int_lt, nat_lt, nat_le, ◌-ℤ◌, bit_and, bit_or, bit_xor, count_ones}
 use Rattle.std.specs.Int.{trailing_zeros, w32}
 use Rattle.std.specs.Int.Bits.{xor_add_and, and_zero_r}
 use Rattle.std.proofs.lemmas.Int.{ints}
-use Rattle.std.proofs.lemmas.Bool.{and_parts, eqb-true, ltb-true, leb-true, lt-ltb, le-ltb, cases_lt}
-use Rattle.std.proofs.lemmas.Nat.{le-div, pow_pos, pow-add, shr_split, field_of, and_mask, and_block, and_le_r, and_comm, mul-le, mul-mod_first}
+use Rattle.std.proofs.lemmas.Bool.{and_parts, eqb-true, eq-eqb, ne_eqb, ltb-true, leb-true, lt-ltb, le-ltb, cases_lt}
+use Rattle.std.proofs.lemmas.Nat.{le-div, pow_pos, pow-add, shr_split, field_of, and_mask, and_block, and_le_l}
+use Rattle.std.proofs.lemmas.Nat.{and_le_r, and_comm, mul-le, mul-mod_first, xor_lt, or_lt, shr_le}
 use Rattle.std.proofs.Math.Nat.{mod-eq_of_lt, mod-mod_of_dvd, div-mul-le_self, pow-le-pow_right, mul-div_cancel_left, mod-mod, mod-zero, zero-mod}
 use Rattle.std.proofs.Math.Nat.{mod_self, mod-lt, mod-add-div, add-mul, mul-add, add-mul-mod_self_left, mul_comm, dvd-sub}
 use Rattle.std.proofs.lemmas.Nat.Gcd.{dvd_of_mod-eq-zero, mod-eq-zero_of_dvd}
@@ -24,20 +25,23 @@ use Rattle.hart.specs.Effects.{word, computed, with_immediate, shifted, sign_ext
 use Rattle.slot_queue.specs.Queues.{Queue, index_word}
 use Rattle.queue_certificates.specs.Forms.{remainder_word, is_same, bounds_of, Form, form_value, number, first_variable, plus, times, lifted}
 use Rattle.queue_certificates.specs.Forms.{InRanges, Bounds, most}
-use Rattle.queue_certificates.specs.States.{KnownValue, any, linear, index_for, signed_for, Has, signed_word, scaled}
+use Rattle.queue_certificates.specs.States.{KnownValue, any, linear, index_for, signed_for, ends_as, has_bits, Has, signed_word, scaled}
 use Rattle.queue_certificates.specs.Results.{Result, just, exactly, any_up_to, or_up_to, as_number, or_else, both, is_below}
 use Rattle.queue_certificates.specs.Results.{is_below_signed, set_less, negated, flag_of}
 use Rattle.queue_certificates.specs.Results.{shifted_right, sum_of, number_and, taken_known}
 use Rattle.queue_certificates.specs.Results.{Rest, of_rest, negative, rests_added, whole, rest_of, turned, result_by, shifted_left}
+use Rattle.queue_certificates.specs.Results.{xor_of, ending_in, ending_by, Bits, of_bits, bits_of, either_bits, or_of, kept_bits, sign_or, is_less}
 use Rattle.queue_certificates.specs.Results.{index_rest, is_count, counting, rest_counted, multiple_or, masked_row, if_unbounded, remaining}
 use Rattle.queue_certificates.specs.Results.{without, shifted_back, masked, masked_by, bounds, is_equal, immediate_part}
 use Rattle.queue_certificates.specs.Results.{of_immediate, shift_part, of_shift, register_part, of_registers}
 use Rattle.queue_certificates.specs.Results.{branch_part, is_branch_taken}
-use Rattle.queue_certificates.proofs.Forms.{same-exactly, value-plus, value-times, value-number, value-first, value-lifted}
+use Rattle.queue_certificates.proofs.Forms.{taken-away, same-exactly, value-plus, value-times, value-number, value-first, value-lifted}
 use Rattle.queue_certificates.proofs.Forms.{mod-sum, mod-product, plus-value, times-value, round-up}
 use Rattle.queue_certificates.proofs.Bounds.{value-word}
-use Rattle.queue_certificates.proofs.Values.{scaled-mod, value-scaled, value-offset, has-lifted, known-is, has-bounds}
-use Rattle.queue_certificates.proofs.Equals.{taken-away, equal-is}
+use Rattle.queue_certificates.proofs.Values.{scaled-mod, value-scaled, value-offset, has-lifted, known-is, has-bounds, of-bits-has, bits-have}
+use Rattle.queue_certificates.proofs.KnownBits.{or-bits, kept-bits, shl-bits, shr-bits, highest-bit}
+use Rattle.queue_certificates.proofs.Endings.{alike-same, alike-low, xor-alike}
+use Rattle.queue_certificates.proofs.Equals.{equal-is}
 
 pub word-of-sum : (x : ℕ) (n : ℤ) → word (pos x +ℤ n) ≡ (x + word n) % 2 ^ 32
 word-of-sum x (pos k) = omega arith
@@ -174,6 +178,8 @@ module _ (queues : ℕ → Queue) (xs : List ℕ) where
   rest-has any x has r is = absurd (cc)
   rest-has (linear f) x has r is = whole-rest f x has r is
   rest-has (index_for i f) x has r is = index-rest i f x has r is
+  rest-has (ends_as n f) x has r is = absurd (cc)
+  rest-has (has_bits m b) x has r is = absurd (cc)
   rest-has (signed_for i f) x has r is = by (256 ^ (queues i).index_width % ((queues i).scale * (queues i).modulus) == 0) refl is
     where
       w : ℕ
@@ -253,6 +259,8 @@ module _ (queues : ℕ → Queue) (xs : List ℕ) where
   or-up-to-gives n x (linear f) low has = just-gives (linear f) x has
   or-up-to-gives n x (index_for i f) low has = just-gives (index_for i f) x has
   or-up-to-gives n x (signed_for i f) low has = just-gives (signed_for i f) x has
+  or-up-to-gives n x (ends_as b f) low has = just-gives (ends_as b f) x has
+  or-up-to-gives n x (has_bits m b) low has = just-gives (has_bits m b) x has
 
   else-gives : (a : Option ℕ) (r : Result) (x : ℕ) → ((n : ℕ) → a ≡ Some n → x ≡ n) → Gives r x → Gives (or_else a r) x
   else-gives None r x is gives = gives
@@ -271,9 +279,83 @@ module _ (queues : ℕ → Queue) (xs : List ℕ) where
   sum-has (linear f) any x y one two = tt
   sum-has (linear f) (index_for i g) x y one two = tt
   sum-has (linear f) (signed_for i g) x y one two = tt
+  sum-has (linear f) (ends_as n g) x y one two = tt
+  sum-has (linear f) (has_bits m b) x y one two = tt
   sum-has any w x y one two = tt
   sum-has (index_for i f) w x y one two = tt
   sum-has (signed_for i f) w x y one two = tt
+  sum-has (ends_as n f) w x y one two = tt
+  sum-has (has_bits m b) w x y one two = tt
+
+  xor-has : (v w : KnownValue) (x y : ℕ) → Has queues xs v x → Has queues xs w y → Has queues xs (xor_of v w) (bit_xor x y)
+  xor-has (linear f) (linear g) x y one two = (
+    xor_lt 32 x y (omega (arith, one)) (omega (arith, two)),
+    alike-same 32 (bit_xor x y) (x + (2 ^ 32 - 1) * y) (form_value (plus f (times (2 ^ 32 - 1) g)) xs) (
+        mod-sum x ((2 ^ 32 - 1) * y) (form_value f xs) (form_value (times (2 ^ 32 - 1) g) xs) (2 ^ 32)
+        (ap (λ n. n % 2 ^ 32) one ∙ mod-mod (form_value f xs) (2 ^ 32))
+        (ap (λ n. n % 2 ^ 32) (mul_comm (2 ^ 32 - 1) y) ∙ times-value (2 ^ 32 - 1) g xs y (2 ^ 32) two)
+        ∙ ap (λ n. n % 2 ^ 32) (sym (value-plus f (times (2 ^ 32 - 1) g) xs))) (xor-alike x y),
+  )
+  xor-has (linear f) any x y one two = tt
+  xor-has (linear f) (index_for i g) x y one two = tt
+  xor-has (linear f) (signed_for i g) x y one two = tt
+  xor-has (linear f) (ends_as n g) x y one two = tt
+  xor-has (linear f) (has_bits m b) x y one two = tt
+  xor-has any w x y one two = tt
+  xor-has (index_for i f) w x y one two = tt
+  xor-has (signed_for i f) w x y one two = tt
+  xor-has (ends_as n f) w x y one two = tt
+  xor-has (has_bits m b) w x y one two = tt
+
+  or-has : (v w : KnownValue) (x y : ℕ) → Has queues xs v x → Has queues xs w y → Has queues xs (or_of v w) (bit_or x y)
+  or-has v w x y one two = by (bits_of v) (bits_of w) (λ k is. bits-have queues xs v x k is one) (λ k is. bits-have queues xs w y k is two)
+    where
+      by : (a b : Option Bits) → ((k : Bits) → a ≡ Some k → (x < 2 ^ 32) × (bit_and x k.mask ≡ k.bits))
+          → ((k : Bits) → b ≡ Some k → (y < 2 ^ 32) × (bit_and y k.mask ≡ k.bits)) → Has queues xs (either_bits a b) (bit_or x y)
+      by None b of-x of-y = tt
+      by (Some a) None of-x of-y = tt
+      by (Some a) (Some b) of-x of-y = of-bits-has queues xs (bit_or (bit_and a.mask b.mask) (bit_or a.bits b.bits)) (bit_or a.bits b.bits) (bit_or x y)
+          (or_lt 32 x y (of-x a refl).0 (of-y b refl).0) (or-bits x y a.mask b.mask a.bits b.bits (of-x a refl).1 (of-y b refl).1)
+
+  kept-gives : (m b x mask : ℕ) (other : Result) → Has queues xs (has_bits m b) x → Gives other (bit_and x mask)
+      → Gives (kept_bits m b mask other) (bit_and x mask)
+  kept-gives m b x mask other has gives = by ((mask + 1 == 2 ^ count_ones mask) && (bit_and m mask == 0))
+    where
+      by : (t : Bool) → Gives (if t then other else just (of_bits (bit_or m (bit_xor mask (2 ^ 32 - 1))) (bit_and b mask))) (bit_and x mask)
+      by true = gives
+      by false = just-gives (of_bits (bit_or m (bit_xor mask (2 ^ 32 - 1))) (bit_and b mask)) (bit_and x mask)
+          (of-bits-has queues xs (bit_or m (bit_xor mask (2 ^ 32 - 1))) (bit_and b mask) (bit_and x mask)
+          (let less : bit_and x mask ≤ x = and_le_l x mask in omega (arith, less, has.0))
+          (kept-bits x m mask has.0 ∙ ap (λ y. bit_and y mask) has.1))
+
+  ending-in : (v : KnownValue) (x mask : ℕ) (other : Result) → Has queues xs v x → Gives other (bit_and x mask)
+      → Gives (ending_in v mask other) (bit_and x mask)
+  ending-in any x mask other has gives = gives
+  ending-in (linear f) x mask other has gives = gives
+  ending-in (index_for i f) x mask other has gives = gives
+  ending-in (signed_for i f) x mask other has gives = gives
+  ending-in (has_bits m b) x mask other has gives = kept-gives m b x mask other has gives
+  ending-in (ends_as n f) x mask other has gives = by ((mask + 1 == 2 ^ count_ones mask) && nat_le (count_ones mask) n) refl
+    where
+      k : ℕ
+      k = count_ones mask
+
+      by : (t : Bool) → ((mask + 1 == 2 ^ count_ones mask) && nat_le (count_ones mask) n) ≡ t
+          → Gives (if t then just (ends_as (count_ones mask) f) else other) (bit_and x mask)
+      by false part = gives
+      by true ok =
+          let p = and_parts (mask + 1 == 2 ^ count_ones mask) (nat_le (count_ones mask) n) ok in
+          let power : mask + 1 ≡ 2 ^ k = eqb-true (mask + 1) (2 ^ count_ones mask) p.0 in
+          let ones : mask ≡ 2 ^ k - 1 = omega (arith, power) in
+          just-gives (ends_as k f) (bit_and x mask)
+          (subst (Has queues xs (ends_as k f)) (sym (ap (bit_and x) ones ∙ and_mask x k))
+          (mod-lt x (pow_pos k), alike-low n k x (form_value f xs) (leb-true (count_ones mask) n p.1) has.1))
+
+  ending-by : (v : KnownValue) (x : ℕ) (b : Option ℕ) (y : ℕ) (r : Result) → Has queues xs v x → ((m : ℕ) → b ≡ Some m → y ≡ m)
+      → Gives r (bit_and x y) → Gives (ending_by v b r) (bit_and x y)
+  ending-by v x None y r has is gives = gives
+  ending-by v x (Some m) y r has is gives = subst (λ z. Gives (ending_in v m r) (bit_and x z)) (sym (is m refl))
+      (ending-in v x m r has (subst (λ z. Gives r (bit_and x z)) (is m refl) gives))
 
   rest-gives : (o : Option Rest) (x : ℕ) → x < 2 ^ 32 → HasRest o x → Gives (of_rest o) x
   rest-gives None x small has = just-gives any x tt
@@ -327,6 +409,8 @@ module _ (queues : ℕ → Queue) (xs : List ℕ) where
   turned-gives any x mask has = just-gives any (bit_xor x mask) tt
   turned-gives (index_for i f) x mask has = just-gives any (bit_xor x mask) tt
   turned-gives (signed_for i f) x mask has = just-gives any (bit_xor x mask) tt
+  turned-gives (ends_as n f) x mask has = just-gives any (bit_xor x mask) tt
+  turned-gives (has_bits m b) x mask has = just-gives any (bit_xor x mask) tt
   turned-gives (linear f) x mask has = by (mask == 2 ^ 32 - 1) refl
     where
       g : Form
@@ -356,6 +440,10 @@ module _ (queues : ℕ → Queue) (xs : List ℕ) where
 
   shifted-left : (v : KnownValue) (x amount : ℕ) → Has queues xs v x → Gives (shifted_left queues v amount) ((x * 2 ^ amount) % 2 ^ 32)
   shifted-left any x amount has = times-gives (2 ^ amount) None x (λ r is. absurd (cc))
+  shifted-left (ends_as n f) x amount has = times-gives (2 ^ amount) None x (λ r is. absurd (cc))
+  shifted-left (has_bits m b) x amount has = just-gives (of_bits (bit_or ((m * 2 ^ amount) % 2 ^ 32) (2 ^ amount - 1)) ((b * 2 ^ amount) % 2 ^ 32))
+      ((x * 2 ^ amount) % 2 ^ 32) (of-bits-has queues xs (bit_or ((m * 2 ^ amount) % 2 ^ 32) (2 ^ amount - 1)) ((b * 2 ^ amount) % 2 ^ 32)
+      ((x * 2 ^ amount) % 2 ^ 32) (mod-lt (x * 2 ^ amount) (omega arith)) (shl-bits x m b amount has.1))
   shifted-left (index_for i f) x amount has = times-gives (2 ^ amount) (rest_of queues (index_for i f)) x (rest-has (index_for i f) x has)
   shifted-left (signed_for i f) x amount has = times-gives (2 ^ amount) (rest_of queues (signed_for i f)) x (rest-has (signed_for i f) x has)
   shifted-left (linear f) x amount has = just-gives (linear (times (2 ^ amount) f)) ((x * 2 ^ amount) % 2 ^ 32) (times-value (2 ^ amount) f xs x (2 ^ 32) has)
@@ -578,6 +666,10 @@ module _ (queues : ℕ → Queue) (xs : List ℕ) where
     shifted-back N any x amount has = just-gives any (x / 2 ^ amount) tt
     shifted-back N (index_for i f) x amount has = just-gives any (x / 2 ^ amount) tt
     shifted-back N (signed_for i f) x amount has = just-gives any (x / 2 ^ amount) tt
+    shifted-back N (ends_as n f) x amount has = just-gives any (x / 2 ^ amount) tt
+    shifted-back N (has_bits m b) x amount has = just-gives (of_bits (bit_or (m / 2 ^ amount) (2 ^ 32 - 2 ^ (32 - amount))) (b / 2 ^ amount))
+        (x / 2 ^ amount) (of-bits-has queues xs (bit_or (m / 2 ^ amount) (2 ^ 32 - 2 ^ (32 - amount))) (b / 2 ^ amount) (x / 2 ^ amount)
+        (let less : x / 2 ^ amount ≤ x = shr_le x amount in omega (arith, less, has.0)) (shr-bits x m b amount has.0 has.1))
     shifted-back N (linear f) x amount has = by (nat_le amount 32 && is_same 0 f (times (2 ^ amount) (without rs (2 ^ amount) f))) refl
       where
         bounded : Gives (shifted_right (bounds_of (2 ^ 32) rs f) amount) (x / 2 ^ amount)
@@ -610,13 +702,15 @@ module _ (queues : ℕ → Queue) (xs : List ℕ) where
         → Gives (immediate_part queues N rs op v n) (with_immediate op x n)
     immediate-part N immediate.Add v x n has = subst (Gives (of_rest (rests_added (rest_of queues v) (whole (number (word n)))))) (sym (word-of-sum x n))
         (sum-gives (rest_of queues v) (whole (number (word n))) x (word n) (rest-has v x has) (whole-rest (number (word n)) (word n) (word-has n)))
-    immediate-part N immediate.And v x n has = masked-gives N (rest_of queues v) x (word n) (rest-has v x has)
+    immediate-part N immediate.And v x n has = ending-in v x (word n) (masked queues N rs (rest_of queues v) (word n)) has
+        (masked-gives N (rest_of queues v) x (word n) (rest-has v x has))
     immediate-part N immediate.SetLess v x n has = set-less (bounds rs v) x n (in-bounds v x has)
     immediate-part N immediate.SetLessUnsigned v x n has = flag-gives (is_below (bounds rs v) (bounds rs (linear (number (word n))))) (nat_lt x (word n))
         (below-is (bounds rs v) (bounds rs (linear (number (word n)))) x (word n) (in-bounds v x has)
         (in-bounds (linear (number (word n))) (word n) (word-has n)))
     immediate-part N immediate.Xor v x n has = turned-gives v x (word n) has
-    immediate-part N immediate.Or v x n has = just-gives any (with_immediate immediate.Or x n) tt
+    immediate-part N immediate.Or v x n has = just-gives (or_of v (linear (number (word n)))) (with_immediate immediate.Or x n)
+        (or-has v (linear (number (word n))) x (word n) has (word-has n))
 
     pub immediate-gives : (N : ℕ) (op : ImmediateOp) (v : KnownValue) (x : ℕ) (n : ℤ) → Has queues xs v x
         → Gives (of_immediate queues N rs op v n) (with_immediate op x n)
@@ -646,16 +740,25 @@ module _ (queues : ℕ → Queue) (xs : List ℕ) where
         (below-signed (bounds rs v) (bounds rs w) x y (in-bounds v x one) (in-bounds w y two))
     register-part N register.SetLessUnsigned v w x y one two = flag-gives (is_below (bounds rs v) (bounds rs w)) (nat_lt x y)
         (below-is (bounds rs v) (bounds rs w) x y (in-bounds v x one) (in-bounds w y two))
-    register-part N register.Xor v w x y one two = just-gives any (computed register.Xor x y) tt
+    register-part N register.Xor v w x y one two = just-gives (xor_of v w) (computed register.Xor x y) (xor-has v w x y one two)
     register-part N register.ShiftRight v w x y one two = just-gives any (computed register.ShiftRight x y) tt
     register-part N register.ShiftRightArithmetic v w x y one two = just-gives any (computed register.ShiftRightArithmetic x y) tt
-    register-part N register.Or v w x y one two = just-gives any (computed register.Or x y) tt
-    register-part N register.And v w x y one two =
-        masked-by N (rest_of queues v) x (as_number w) y (masked_by queues N rs (rest_of queues w) (as_number v) (just any)) (rest-has v x one)
-        (λ m is. known-is queues xs w y m is two)
+    register-part N register.Or v w x y one two = just-gives (or_of v w) (computed register.Or x y) (or-has v w x y one two)
+    register-part N register.And v w x y one two = ending-by v x (as_number w) y (ending_by w (as_number v) either) one is-w
+        (subst (Gives (ending_by w (as_number v) either)) (and_comm y x)
+        (ending-by w y (as_number v) x either two is-v (subst (Gives either) (and_comm x y)
+        (masked-by N (rest_of queues v) x (as_number w) y (masked_by queues N rs (rest_of queues w) (as_number v) (just any)) (rest-has v x one) is-w
         (subst (Gives (masked_by queues N rs (rest_of queues w) (as_number v) (just any))) (and_comm y x)
-        (masked-by N (rest_of queues w) y (as_number v) x (just any) (rest-has w y two) (λ m is. known-is queues xs v x m is one)
-        (just-gives any (bit_and y x) tt)))
+        (masked-by N (rest_of queues w) y (as_number v) x (just any) (rest-has w y two) is-v (just-gives any (bit_and y x) tt)))))))
+      where
+        is-v : (m : ℕ) → as_number v ≡ Some m → x ≡ m
+        is-v m is = known-is queues xs v x m is one
+
+        is-w : (m : ℕ) → as_number w ≡ Some m → y ≡ m
+        is-w m is = known-is queues xs w y m is two
+
+        either : Result
+        either = masked_by queues N rs (rest_of queues v) (as_number w) (masked_by queues N rs (rest_of queues w) (as_number v) (just any))
 
     pub register-gives : (N : ℕ) (op : RegisterOp) (v w : KnownValue) (x y : ℕ) → Has queues xs v x → Has queues xs w y
         → Gives (of_registers queues N rs op v w) (computed op x y)
@@ -668,13 +771,53 @@ module _ (queues : ℕ → Queue) (xs : List ℕ) where
     negated-is None b is t e = absurd (cc)
     negated-is (Some c) b is t e = ap not (is c refl) ∙ (let same : not c ≡ t = cc in same)
 
+    -- a word is negative where its highest bit is 1
+    sign-is : (m b x : ℕ) → Has queues xs (has_bits m b) x → bit_and m (2 ^ 31) ≡ 2 ^ 31 → int_lt (signed x) (pos 0) ≡ (bit_and b (2 ^ 31) == 2 ^ 31)
+    sign-is m b x has known = elim (cases_lt x (2 ^ 31)) [
+      | inl low ↦ ap (λ i. int_lt i (pos 0)) (signed-small x low) ∙ le-ltb x 0 (omega arith)
+          ∙ sym (ne_eqb (bit_and b (2 ^ 31)) (2 ^ 31) (λ is. (let e : bit_and b (2 ^ 31) ≡ x / 2 ^ 31 * 2 ^ 31 = highest-bit x m b has.0 has.1 known in
+          omega (arith, e, is, low))))
+      | inr high ↦ (let at : signed x ≡ negsuc (2 ^ 32 - 1 - x) =
+          ap (λ t. if t then pos x else pos x -ℤ pos (2 ^ 32)) (le-ltb x (2 ^ 31) high)
+          ∙ (let e : pos x -ℤ pos (2 ^ 32) ≡ negsuc (2 ^ 32 - 1 - x) = omega (arith, ints, has.0) in e) in
+          ap (λ i. int_lt i (pos 0)) at
+          ∙ sym (eq-eqb (bit_and b (2 ^ 31)) (2 ^ 31) (let e : bit_and b (2 ^ 31) ≡ x / 2 ^ 31 * 2 ^ 31 = highest-bit x m b has.0 has.1 known in
+          omega (arith, e, high, has.0))))
+    ]
+
+    less-is : (v w : KnownValue) (x y : ℕ) → Has queues xs v x → Has queues xs w y → (t : Bool) → is_less rs v w ≡ Some t → int_lt (signed x) (signed y) ≡ t
+    less-is v w x y one two = by v one
+      where
+        below : (t : Bool) → is_below_signed (bounds rs v) (bounds rs w) ≡ Some t → int_lt (signed x) (signed y) ≡ t
+        below = below-signed (bounds rs v) (bounds rs w) x y (in-bounds v x one) (in-bounds w y two)
+
+        at : (m b : ℕ) → Has queues xs (has_bits m b) x → (o : Option ℕ) → as_number w ≡ o → (t : Bool)
+            → sign_or (has_bits m b) o (is_below_signed (bounds rs v) (bounds rs w)) ≡ Some t → int_lt (signed x) (signed y) ≡ t
+        at m b has None of t is = below t is
+        at m b has (Some (suc n)) of t is = below t is
+        at m b has (Some zero) of t is = or (bit_and m (2 ^ 31) == 2 ^ 31) refl is
+          where
+            or : (u : Bool) → (bit_and m (2 ^ 31) == 2 ^ 31) ≡ u
+                → (if u then Some (bit_and b (2 ^ 31) == 2 ^ 31) else is_below_signed (bounds rs v) (bounds rs w)) ≡ Some t → int_lt (signed x) (signed y) ≡ t
+            or false other is = below t is
+            or true known is = ap (λ z. int_lt (signed x) (signed z)) (known-is queues xs w y 0 of two)
+                ∙ sign-is m b x has (eqb-true (bit_and m (2 ^ 31)) (2 ^ 31) known) ∙ (let e : (bit_and b (2 ^ 31) == 2 ^ 31) ≡ t = cc in e)
+
+        by : (u : KnownValue) → Has queues xs u x → (t : Bool) → sign_or u (as_number w) (is_below_signed (bounds rs v) (bounds rs w)) ≡ Some t
+            → int_lt (signed x) (signed y) ≡ t
+        by any has t is = below t is
+        by (linear f) has t is = below t is
+        by (index_for i f) has t is = below t is
+        by (signed_for i f) has t is = below t is
+        by (ends_as n f) has t is = below t is
+        by (has_bits m b) has t is = at m b has (as_number w) refl t is
+
     branch-part : (op : BranchOp) (v w : KnownValue) (x y : ℕ) → Has queues xs v x → Has queues xs w y → (t : Bool)
         → branch_part queues rs op v w ≡ Some t → is_taken op x y ≡ t
     branch-part branch.Equal v w x y one two t is = equal-is queues xs rs ranges v w x y one two t is
     branch-part branch.NotEqual v w x y one two t is = negated-is (is_equal queues rs v w) (x == y) (equal-is queues xs rs ranges v w x y one two) t is
-    branch-part branch.Less v w x y one two t is = below-signed (bounds rs v) (bounds rs w) x y (in-bounds v x one) (in-bounds w y two) t is
-    branch-part branch.GreaterEqual v w x y one two t is = negated-is (is_below_signed (bounds rs v) (bounds rs w)) (int_lt (signed x) (signed y))
-        (below-signed (bounds rs v) (bounds rs w) x y (in-bounds v x one) (in-bounds w y two)) t is
+    branch-part branch.Less v w x y one two t is = less-is v w x y one two t is
+    branch-part branch.GreaterEqual v w x y one two t is = negated-is (is_less rs v w) (int_lt (signed x) (signed y)) (less-is v w x y one two) t is
     branch-part branch.LessUnsigned v w x y one two t is = below-is (bounds rs v) (bounds rs w) x y (in-bounds v x one) (in-bounds w y two) t is
     branch-part branch.GreaterEqualUnsigned v w x y one two t is = negated-is (is_below (bounds rs v) (bounds rs w)) (nat_lt x y)
         (below-is (bounds rs v) (bounds rs w) x y (in-bounds v x one) (in-bounds w y two)) t is

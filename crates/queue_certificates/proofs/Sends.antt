@@ -21,10 +21,10 @@ use Rattle.slot_queue.specs.Queues.{Queue, IsQueue, TellsFull, KeepsOff, least, 
 use Rattle.queue_parties.specs.Positions.{IsInBytes}
 use Rattle.queue_parties.specs.Parties.{the_sender, the_receiver, QueueCounts, known, with_known}
 use Rattle.slot_queue.specs.Ownership.{index, party_of, after_access}
-use Rattle.owned_run.specs.Certified.{View, AllCounts, ReadsFrom, Acts, view_then}
-use Rattle.owned_run.specs.Certificates.{Field}
+use Rattle.queue_certificates.specs.OwnedRuns.{View, AllCounts, ReadsFrom, Acts, view_then}
+use Rattle.queue_certificates.specs.RecordFields.{Field}
 use Rattle.queue_certificates.specs.Forms.{Form, form_value, most, Bounds}
-use Rattle.queue_certificates.specs.States.{KnownValue, any, linear, index_for, signed_for, no_share, KnownState, Has, HasShare, MeansAt}
+use Rattle.queue_certificates.specs.States.{KnownValue, any, linear, index_for, signed_for, ends_as, has_bits, no_share, KnownState, Has, HasShare, MeansAt}
 use Rattle.queue_certificates.specs.Results.{bounds}
 use Rattle.queue_certificates.specs.Steps.{all_below, last_below, is_just, anywhere, misses, is_off, is_owned, position_at, offset_at, register_at, operand}
 use Rattle.queue_certificates.specs.Steps.{address_value, addresses, is_own_index, value_loaded, updated_value, may_move, may_fill, may_store, leaves_words}
@@ -214,6 +214,10 @@ module _ (M : ℕ) (o : OpeningValue) (queues : ℕ → Queue) (N : ℕ) (own_of
             by-place (index_for j g) at-pl (inr owned) = absurd (cc)
             by-place (signed_for j g) at-pl (inl off) = beside off
             by-place (signed_for j g) at-pl (inr owned) = absurd (cc)
+            by-place (ends_as n g) at-pl (inl off) = beside off
+            by-place (ends_as n g) at-pl (inr owned) = absurd (cc)
+            by-place (has_bits n c) at-pl (inl off) = beside off
+            by-place (has_bits n c) at-pl (inr owned) = absurd (cc)
             by-place (linear g) at-pl or = owned-or g at-pl (is_owned k.ranges (queues i) (get_or k.shares i no_share) (linear g) (store_width op)) refl or
 
         by : (t : Bool) → moves_head queues N i b (store_width op) ≡ t

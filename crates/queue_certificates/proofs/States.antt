@@ -11,7 +11,7 @@ use Rattle.hart.specs.Effects.{written_at}
 use Rattle.slot_queue.specs.Queues.{Queue}
 use Rattle.queue_parties.specs.Parties.{Party, the_sender, the_receiver, QueueCounts, count, known}
 use Rattle.slot_queue.specs.Ownership.{end}
-use Rattle.owned_run.specs.Certified.{View, AllCounts, number_seen, IsSameFor}
+use Rattle.queue_certificates.specs.OwnedRuns.{View, AllCounts, number_seen, IsSameFor}
 use Rattle.queue_certificates.specs.Forms.{Form, form_value, lifted, substituted, raised, settled, is_same, IsAtMost, InRanges, are_in}
 use Rattle.queue_certificates.specs.States.{KnownValue, any, Share, no_share, KnownState, value_by, share_by, state_by, Has, is_within, HasShare, MeansAt}
 use Rattle.queue_certificates.specs.Results.{Result}

@@ -43,9 +43,10 @@ use Rattle.store_buffers.specs.StoreBuffers.{LeavesByteBy}
 use Rattle.slot_queue.specs.Queues.{Queue, IsQueue, TellsFull, KeepsOff, index_word}
 use Rattle.queue_parties.specs.Parties.{Party, other, QueueCounts, count, known as known_of}
 use Rattle.slot_queue.specs.Ownership.{hart, index, party_of, after_load as after_load_of, after_access, KeepsAccess}
-use Rattle.owned_run.specs.Certified.{View, AllCounts, number_seen, view_then, Acts, ReadsFrom, IsSameFor, LoadsOwned, OwnsSlotsOf}
+use Rattle.queue_certificates.specs.OwnedRuns.{View, AllCounts, number_seen, view_then, Acts, ReadsFrom, IsSameFor, LoadsOwned, OwnsSlotsOf}
 use Rattle.queue_certificates.specs.Forms.{Form, form_value, number, plus, minus, is_same, most, fits_in, lifted, Bounds}
-use Rattle.queue_certificates.specs.States.{KnownValue, any, linear, index_for, signed_for, signed_word, Share, no_share, share_by, KnownState}
+use Rattle.queue_certificates.specs.States.{KnownValue, any, linear, index_for, signed_for, ends_as, has_bits}
+use Rattle.queue_certificates.specs.States.{signed_word, Share, no_share, share_by, KnownState}
 use Rattle.queue_certificates.specs.States.{value_by, state_by, scaled, plain, is_within, Has, HasShare, MeansAt}
 use Rattle.queue_certificates.specs.Results.{Result, just, exactly, as_number, bounds, sum_of, of_immediate, of_shift, of_registers, is_branch_taken}
 use Rattle.queue_certificates.specs.Steps.{with_register, with_result, going_to, goes_by, operand, jumping}
@@ -339,6 +340,24 @@ module _ (M : ℕ) (o : OpeningValue) (queues : ℕ → Queue) (N : ℕ) (own_of
       by (signed_for i f) (linear g) one two = means
       by (signed_for i f) (index_for j g) one two = means
       by (signed_for i f) (signed_for j g) one two = means
+      by (linear f) (ends_as n g) one two = means
+      by (index_for i f) (ends_as n g) one two = means
+      by (signed_for i f) (ends_as n g) one two = means
+      by (ends_as n f) any one two = learns rs2 (ends_as n f) (subst (Has queues xs (ends_as n f)) same one)
+      by (ends_as n f) (linear g) one two = means
+      by (ends_as n f) (index_for j g) one two = means
+      by (ends_as n f) (signed_for j g) one two = means
+      by (ends_as n f) (ends_as m g) one two = means
+      by (has_bits n b) any one two = learns rs2 (has_bits n b) (subst (Has queues xs (has_bits n b)) same one)
+      by (has_bits n b) (linear g) one two = means
+      by (has_bits n b) (index_for j g) one two = means
+      by (has_bits n b) (signed_for j g) one two = means
+      by (has_bits n b) (ends_as i g) one two = means
+      by (has_bits n b) (has_bits i c) one two = means
+      by (linear f) (has_bits n b) one two = means
+      by (index_for i f) (has_bits n b) one two = means
+      by (signed_for i f) (has_bits n b) one two = means
+      by (ends_as i f) (has_bits n b) one two = means
 
   taken-means : (op : BranchOp) (rs1 rs2 : Reg) → is_taken op (register_value s.registers rs1) (register_value s.registers rs2) ≡ true
       → MeansAt queues N (own_of h) h xs (when_taken k op rs1 rs2) s m cs
@@ -485,6 +504,8 @@ module _ (M : ℕ) (o : OpeningValue) (queues : ℕ → Queue) (N : ℕ) (own_of
 
   storable-has : (n x : ℕ) (u : KnownValue) → Has queues xs u x → (Has queues xs u x → x < 2 ^ 32 → n ≡ x) → Has queues xs (storable N u) n
   storable-has n x any has is = tt
+  storable-has n x (ends_as b f) has is = tt
+  storable-has n x (has_bits l b) has is = subst (Has queues xs (has_bits l b)) (sym (is has has.0)) has
   storable-has n x (linear f) has is = is has (subst (λ y. y < 2 ^ 32) (sym has) (mod-lt (form_value f xs) (omega arith))) ∙ has
   storable-has n x (index_for i f) has is = by (nat_lt i N) refl
     where
@@ -561,6 +582,8 @@ module _ (M : ℕ) (o : OpeningValue) (queues : ℕ → Queue) (N : ℕ) (own_of
   index-below ys limit any x ok has = absurd (cc)
   index-below ys limit (linear f) x ok has = absurd (cc)
   index-below ys limit (signed_for i f) x ok has = absurd (cc)
+  index-below ys limit (ends_as n f) x ok has = absurd (cc)
+  index-below ys limit (has_bits n b) x ok has = absurd (cc)
   index-below ys limit (index_for i f) x ok has =
       let p = and_parts (nat_le 1 (queues i).modulus) (nat_lt ((queues i).base + (queues i).scale * ((queues i).modulus - 1)) limit) ok in
       let some : 1 ≤ (queues i).modulus = leb-true 1 (queues i).modulus p.0 in
@@ -577,6 +600,8 @@ module _ (M : ℕ) (o : OpeningValue) (queues : ℕ → Queue) (N : ℕ) (own_of
   signed-has ys width any x has = tt
   signed-has ys width (linear f) x has = tt
   signed-has ys width (signed_for i f) x has = tt
+  signed-has ys width (ends_as n f) x has = tt
+  signed-has ys width (has_bits n b) x has = tt
   signed-has ys width (index_for i f) x has = by ((queues i).index_width == width) refl
     where
       by : (t : Bool) → ((queues i).index_width == width) ≡ t → Has queues ys (if t then signed_for i f else any) (signed_word width x)
@@ -885,6 +910,8 @@ module _ (M : ℕ) (o : OpeningValue) (queues : ℕ → Queue) (N : ℕ) (own_of
         cut any has low = absurd (cc)
         cut (index_for j g) has low = absurd (cc)
         cut (signed_for j g) has low = absurd (cc)
+        cut (ends_as n g) has low = absurd (cc)
+        cut (has_bits n b) has low = absurd (cc)
         cut (linear g) has low =
             let p2 = and_parts (((queues i).scale * (queues i).modulus == 256 ^ (queues i).index_width) && nat_lt (queues i).base (queues i).scale)
             (is_same (256 ^ (queues i).index_width) g (scaled (queues i) (plus f (number (queues i).offset)))) low in

@@ -17,10 +17,10 @@ use Rattle.queue_parties.specs.Parties.{Party, the_sender, the_receiver, QueueCo
 use Rattle.slot_queue.specs.Ownership.{index, end, moved, FillsOwned, KeepsAccess, after_access}
 use Rattle.queue_parties.proofs.Parties.{count-set}
 use Rattle.slot_queue.proofs.Looks.{end-set-count}
-use Rattle.owned_run.specs.Certified.{View, number_seen, view_then, OwnsSlotsOf}
-use Rattle.owned_run.proofs.Accesses.{moves, fills, off, loads_owned}
+use Rattle.queue_certificates.specs.OwnedRuns.{View, number_seen, view_then, OwnsSlotsOf}
+use Rattle.queue_certificates.proofs.OwnedAccesses.{moves, fills, off, loads_owned}
 use Rattle.queue_certificates.specs.Forms.{Form, form_value, number, plus, times, minus, is_same, most, fits_in, remainder, InRanges, Bounds}
-use Rattle.queue_certificates.specs.States.{KnownValue, any, linear, index_for, signed_for, Share, Has, HasShare}
+use Rattle.queue_certificates.specs.States.{KnownValue, any, linear, index_for, signed_for, ends_as, has_bits, Share, Has, HasShare}
 use Rattle.queue_certificates.specs.Steps.{is_apart, is_off, position_at, offset_at, is_slot, is_owned, moved_share}
 use Rattle.queue_certificates.proofs.Bounds.{value-below, fits-below, value-remainder}
 use Rattle.queue_certificates.proofs.Forms.{value-plus, value-times, value-number, same-value, same-exactly}
@@ -162,6 +162,8 @@ module _ (q : Queue) (is : IsQueue q) (p : Party) (c : QueueCounts) (xs : List â
     owned-at any a width at ok = absurd (cc)
     owned-at (index_for i f) a width at ok = absurd (cc)
     owned-at (signed_for i f) a width at ok = absurd (cc)
+    owned-at (ends_as n f) a width at ok = absurd (cc)
+    owned-at (has_bits m b) a width at ok = absurd (cc)
     owned-at (linear f) a width at ok = (let there = placed-at f a width at ok in record {
       position = count p c + position_at q s.own.constant f.constant;
       from = omega arith;

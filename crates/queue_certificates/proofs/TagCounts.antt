@@ -11,7 +11,7 @@ use Rattle.slots_that_tell.specs.Slots.{Slots, IsSlots, tag_of, KeepsOff}
 use Rattle.slots_that_tell.specs.Telling.{owned_end, told, moved, after_load, after_store, told_access, FillsOwned, TellsAccess}
 use Rattle.slots_that_tell.proofs.Places.{moved-leaves, fills-leaves}
 use Rattle.slots_that_tell.proofs.Owned.{loaded-count, grows-load, stored-end}
-use Rattle.telling_run.proofs.Accesses.{tag_loaded, told_owns, knows_of}
+use Rattle.queue_certificates.proofs.ToldAccesses.{tag_loaded, told_owns, knows_of}
 use Rattle.queue_certificates.specs.Forms.{Form, form_value, number, plus, lifted, Bounds}
 use Rattle.queue_certificates.specs.States.{Share}
 use Rattle.queue_certificates.specs.Tags.{HasAtLeast, is_beside_slots}

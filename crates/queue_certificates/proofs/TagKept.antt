@@ -14,9 +14,9 @@ use Rattle.rv_decode.specs.declared.instruction.Instr.TheVariants.{Immediate, Sh
 use Rattle.rv_decode.specs.declared.instruction.Instr.TheVariants.{Ebreak, Amo}
 use Rattle.hart.specs.Effects.{next_pc, load_width}
 use Rattle.slot_queue.specs.Queues.{Queue}
-use Rattle.owned_run.specs.Certificates.{Field}
+use Rattle.queue_certificates.specs.RecordFields.{Field}
 use Rattle.queue_certificates.specs.Forms.{Form, lifted, Bounds}
-use Rattle.queue_certificates.specs.States.{KnownValue, any, linear, index_for, signed_for, Share, no_share, share_by, KnownState}
+use Rattle.queue_certificates.specs.States.{KnownValue, any, linear, index_for, signed_for, ends_as, has_bits, Share, no_share, share_by, KnownState}
 use Rattle.queue_certificates.specs.Results.{Result}
 use Rattle.queue_certificates.specs.Steps.{last_below, with_result, going_to, goes_by, jumping, called, shared, when_taken, when_passed}
 use Rattle.queue_certificates.specs.Steps.{after_load, load_by, loading, shares_moved, after_store, storing, after_exchange}
@@ -67,6 +67,8 @@ shared-shares k rs1 rs2 any w = refl
 shared-shares k rs1 rs2 (linear f) any = refl
 shared-shares k rs1 rs2 (index_for i f) any = refl
 shared-shares k rs1 rs2 (signed_for i f) any = refl
+shared-shares k rs1 rs2 (ends_as n f) any = refl
+shared-shares k rs1 rs2 (has_bits m b) any = refl
 shared-shares k rs1 rs2 v w = refl
 
 taken-shares : (k : KnownState) (op : BranchOp) (rs1 rs2 : Reg) → (when_taken k op rs1 rs2).shares ≡ k.shares

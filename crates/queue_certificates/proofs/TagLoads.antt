@@ -20,8 +20,8 @@ use Rattle.queue_parties.specs.Parties.{Party, count}
 use Rattle.slots_that_tell.specs.Slots.{IsSlots, tag_of}
 use Rattle.slots_that_tell.specs.Telling.{teller_hart, after_load, told_access}
 use Rattle.slots_that_tell.proofs.Owned.{mine-of}
-use Rattle.telling_run.specs.Certified.{TellsEither, SeesTags, OwnsAllButTags}
-use Rattle.owned_run.specs.Certified.{View, AllCounts, number_seen, ReadsFrom, view_then, Acts}
+use Rattle.queue_certificates.specs.ToldRuns.{TellsEither, SeesTags, OwnsAllButTags}
+use Rattle.queue_certificates.specs.OwnedRuns.{View, AllCounts, number_seen, ReadsFrom, view_then, Acts}
 use Rattle.queue_certificates.specs.Forms.{number, lifted, Bounds}
 use Rattle.queue_certificates.specs.States.{KnownValue, Share, no_share, KnownState, Has, MeansAt}
 use Rattle.queue_certificates.specs.Results.{Result}

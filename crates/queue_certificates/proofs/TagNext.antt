@@ -9,7 +9,7 @@ use Rattle.step_machine.specs.Access.{Access, load}
 use Rattle.slot_queue.specs.Queues.{Queue}
 use Rattle.queue_parties.specs.Parties.{Party}
 use Rattle.slots_that_tell.specs.Telling.{teller_hart, told_access}
-use Rattle.owned_run.specs.Certified.{View, AllCounts}
+use Rattle.queue_certificates.specs.OwnedRuns.{View, AllCounts}
 use Rattle.queue_certificates.specs.States.{Share, no_share, KnownState, HasShare, MeansAt}
 use Rattle.queue_certificates.specs.Tags.{party_in, is_tagged, HasAtLeast, with_share, AreTold}
 use Rattle.queue_layouts.specs.Tagged.{slots_of}

@@ -8,9 +8,9 @@ use Rattle.queue_parties.specs.Positions.{IsInBytes}
 use Rattle.slot_queue.specs.Queues.{Queue, slot_of}
 use Rattle.slots_that_tell.specs.Slots.{IsSlots, tag_of, IsTagByte, IsOutside}
 use Rattle.slots_that_tell.specs.Telling.{owned_end, OwnsRest}
-use Rattle.telling_run.specs.Certified.{IsOfTag, OwnsAllButTags}
+use Rattle.queue_certificates.specs.ToldRuns.{IsOfTag, OwnsAllButTags}
 use Rattle.queue_certificates.specs.Forms.{Form, form_value, number, plus, remainder, InRanges, Bounds}
-use Rattle.queue_certificates.specs.States.{KnownValue, any, linear, index_for, signed_for, Share, Has}
+use Rattle.queue_certificates.specs.States.{KnownValue, any, linear, index_for, signed_for, ends_as, has_bits, Share, Has}
 use Rattle.queue_certificates.specs.Steps.{position_at, offset_at, is_slot, is_owned}
 use Rattle.queue_certificates.specs.Tags.{bare, HasAtLeast, is_in_slot, tag_position}
 use Rattle.queue_layouts.specs.Tagged.{slots_of}
@@ -46,6 +46,8 @@ module _ (q : TaggedQueue) (is : IsSlots (slots_of q)) where
     tag-place any a width j at is-j = absurd (cc)
     tag-place (index_for i f) a width j at is-j = absurd (cc)
     tag-place (signed_for i f) a width j at is-j = absurd (cc)
+    tag-place (ends_as n f) a width j at is-j = absurd (cc)
+    tag-place (has_bits m b) a width j at is-j = absurd (cc)
     tag-place (linear f) a width j at is-j =
         by ((width == q.tag_width) && (offset_at (bare q) f.constant == q.tag_offset) && is_in_slot rs q s f) refl is-j
       where
@@ -68,6 +70,8 @@ module _ (q : TaggedQueue) (is : IsSlots (slots_of q)) where
     of-tag any a width x at ok within = absurd (cc)
     of-tag (index_for i f) a width x at ok within = absurd (cc)
     of-tag (signed_for i f) a width x at ok within = absurd (cc)
+    of-tag (ends_as n f) a width x at ok within = absurd (cc)
+    of-tag (has_bits m b) a width x at ok within = absurd (cc)
     of-tag (linear f) a width x at ok within =
         let p2 = and_parts (nat_le q.tag_offset (offset_at (bare q) f.constant)
         && nat_le (offset_at (bare q) f.constant + width) (q.tag_offset + q.tag_width)) (is_in_slot rs q s f) ok in
@@ -114,6 +118,8 @@ module _ (q : TaggedQueue) (is : IsSlots (slots_of q)) where
     of-rest any a width x at ok within = absurd (cc)
     of-rest (index_for i f) a width x at ok within = absurd (cc)
     of-rest (signed_for i f) a width x at ok within = absurd (cc)
+    of-rest (ends_as n f) a width x at ok within = absurd (cc)
+    of-rest (has_bits m b) a width x at ok within = absurd (cc)
     of-rest (linear f) a width x at ok within =
         let p1 = and_parts (nat_le (offset_at (bare q) f.constant + width) q.tag_offset
         || nat_le (q.tag_offset + q.tag_width) (offset_at (bare q) f.constant)) (is_owned rs (bare q) s (linear f) width) ok in
@@ -136,6 +142,8 @@ module _ (q : TaggedQueue) (is : IsSlots (slots_of q)) where
     of-owned any a width x at ok within = absurd (cc)
     of-owned (index_for i f) a width x at ok within = absurd (cc)
     of-owned (signed_for i f) a width x at ok within = absurd (cc)
+    of-owned (ends_as n f) a width x at ok within = absurd (cc)
+    of-owned (has_bits m b) a width x at ok within = absurd (cc)
     of-owned (linear f) a width x at ok within = by (cases_lt x (tag_of (slots_of q) w.position)) (cases_lt x (tag_of (slots_of q) w.position + q.tag_width))
       where
         w : Within f a width

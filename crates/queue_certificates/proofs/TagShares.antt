@@ -1,7 +1,7 @@
 -- A hart's shares of queues with tags: where a run opens, after a state's forms are changed, in its cases, and where an arrow leads.
 use Rattle.std.proofs.Common.{ℕ, zero, suc, ◌+◌, ◌-◌, ◌%◌, ◌^◌, ◌<◌, ◌≤◌, ◌≡◌, ◌≢◌, ◌==◌, ◌&&◌, inl, inr, not, true, false, Option, Some, List, []}
 use Rattle.std.proofs.Common.{◌∷◌, length, get_or, refl, sym, ◌∙◌, ap, subst, arith}
-use Rattle.std.specs.Prelude.{map, nat_le}
+use Rattle.std.specs.Prelude.{map, nat_le, nat_lt}
 use Rattle.std.proofs.lemmas.Bool.{and_parts, eqb-true, eqb-false, leb-true, not-true}
 use Rattle.std.proofs.lemmas.List.Elements.{All-nil}
 use Rattle.step_machine.specs.History.{OpeningValue}
@@ -12,8 +12,8 @@ use Rattle.certified_runs.specs.TwoParties.{AllCounts, IsSameFor}
 use Rattle.slot_queue.specs.Queues.{Queue}
 use Rattle.slots_that_tell.specs.Slots.{Slots, IsSlots, gap, RestsAt, KeepsOff, tag_of}
 use Rattle.slots_that_tell.specs.Telling.{teller_of, teller_hart, owned_end}
-use Rattle.slots_that_tell.proofs.Codecs.{zero_differs, numbered_differs}
-use Rattle.telling_run.specs.Certified.{telling}
+use Rattle.slots_that_tell.proofs.Codecs.{zero_differs, numbered_differs, bits_differ}
+use Rattle.queue_certificates.specs.ToldRuns.{telling}
 use Rattle.queue_certificates.specs.Forms.{Form, form_value, substituted, raised, settled, is_same, InRanges, most, fits_in}
 use Rattle.queue_certificates.specs.States.{Share, no_share, KnownState, share_by, state_by}
 use Rattle.queue_certificates.specs.Certificates.{QueueCertificate, tagged_at, tagged_start, SharesTold, opens_all_told, leads_to, arrow_leads}
@@ -70,6 +70,9 @@ tagged-fine q ok = let is = tagged-is q ok in record {
     by codec.Number ok =
         let parts = and_parts (q.tag_width == 4) (not (q.size % 2 ^ 32 == 1)) ok in
         numbered_differs (2 ^ 32) (omega arith) (slots_of q) (eqb-false (q.size % 2 ^ 32) 1 (not-true (q.size % 2 ^ 32 == 1) parts.1))
+    by (codec.Bit mask free full) ok =
+        let parts = and_parts (nat_lt mask (256 ^ q.tag_width)) (not (free == full)) ok in
+        bits_differ mask free full (eqb-false free full (not-true (free == full) parts.1)) (slots_of q)
 
 -- ---- shares
 

@@ -15,10 +15,10 @@ use Rattle.queue_parties.specs.Parties.{Party, the_sender, other, count}
 use Rattle.slots_that_tell.specs.Slots.{IsSlots, tag_of, tagged_slot}
 use Rattle.slots_that_tell.specs.Telling.{MovesOn, MayStore, moved, teller_hart, told_access, TellsAccess, FillsOwned}
 use Rattle.slots_that_tell.proofs.Owned.{mine-of}
-use Rattle.telling_run.proofs.Accesses.{moves}
-use Rattle.owned_run.specs.Certified.{View, AllCounts}
+use Rattle.queue_certificates.proofs.ToldAccesses.{moves}
+use Rattle.queue_certificates.specs.OwnedRuns.{View, AllCounts}
 use Rattle.queue_certificates.specs.Forms.{InRanges, Bounds}
-use Rattle.queue_certificates.specs.States.{KnownValue, any, linear, index_for, signed_for, Share, no_share, KnownState, Has}
+use Rattle.queue_certificates.specs.States.{KnownValue, any, linear, index_for, signed_for, ends_as, has_bits, Share, no_share, KnownState, Has}
 use Rattle.queue_certificates.specs.Steps.{is_just, is_owned, position_at, offset_at}
 use Rattle.queue_certificates.specs.Tags.{bare, party_in, is_tagged, HasAtLeast, with_share, AreTold}
 use Rattle.queue_layouts.specs.Tagged.{slots_of}
@@ -219,6 +219,8 @@ module _ (tagged : ℕ → TaggedQueue) (T : ℕ) (queues : ℕ → Queue) (N : 
     fills any at-pl m same = same
     fills (index_for i f) at-pl m same = same
     fills (signed_for i f) at-pl m same = same
+    fills (ends_as n f) at-pl m same = same
+    fills (has_bits n b) at-pl m same = same
     fills (linear f) at-pl m same = by (is_owned k.ranges (bare (tagged t)) its (linear f) width) refl
       where
         by : (c : Bool) → is_owned k.ranges (bare (tagged t)) its (linear f) width ≡ c

@@ -1,28 +1,33 @@
--- What a party loads from a tag, and what the number that it stores there tells the other.
+-- What a party loads from a tag, and what the number that it stores there tells the other: of each way to tell what its tag satisfies,
+-- and of that what a load leaves and what a store makes.
 use Rattle.std.proofs.Common.{ℕ, zero, suc, ◌+◌, ◌-◌, ◌^◌, ◌%◌, ◌<◌, ◌≤◌, ◌≡◌, ◌==◌, Bool, true, false, if◌then◌else◌, Option, Some, None, List, ◌∷◌}
-use Rattle.std.proofs.Common.{refl, sym, ◌∙◌, ap, subst, arith}
-use Rattle.std.specs.Prelude.{not, nat_le, nat_lt}
-use Rattle.std.proofs.lemmas.Bool.{and_parts, eqb-true, eqb-false, eq-eqb, ne_eqb, not-true, leb-true, ltb-true}
+use Rattle.std.proofs.Common.{inl, inr, refl, sym, ◌∙◌, ap, subst, arith}
+use Rattle.std.specs.Prelude.{not, nat_le, nat_lt, bit_and, bit_or}
+use Rattle.std.specs.Int.Bits.{and_shifted, or_zero_r}
+use Rattle.std.proofs.lemmas.Nat.{and_comm, and_or_apart, and_le_l}
+use Rattle.std.proofs.lemmas.Bool.{cases_eq, and_parts, eqb-true, eqb-false, eq-eqb, ne_eqb, not-true, leb-true, ltb-true}
 use Rattle.std.proofs.Math.Nat.{mod-eq_of_lt, mod-mod, zero-mod}
 use Rattle.rv_decode.specs.declared.instruction.LoadOp.{LoadOp}
 use Rattle.rv_decode.specs.declared.instruction.LoadOp.TheVariants as load_op
 use Rattle.rv_decode.specs.declared.instruction.StoreOp.{StoreOp}
+use Rattle.rv_decode.specs.declared.instruction.StoreOp.TheVariants as store_op
 use Rattle.hart.specs.Effects.{extended, load_width, stored, store_width, sign_extended}
 use Rattle.queue_parties.specs.Parties.{Party, the_sender, the_receiver, other}
 use Rattle.slot_queue.specs.Queues.{Queue}
 use Rattle.slots_that_tell.specs.Slots.{gap}
-use Rattle.slots_that_tell.specs.Codecs.{zero_is_free}
 use Rattle.queue_certificates.specs.Forms.{Form, form_value, number, plus, first_variable, InRanges, Bounds}
-use Rattle.queue_certificates.specs.States.{KnownValue, any, linear, index_for, signed_for, signed_word, Has}
-use Rattle.queue_certificates.specs.Results.{just, bounds}
+use Rattle.queue_certificates.specs.States.{KnownValue, any, linear, index_for, signed_for, ends_as, has_bits, signed_word, Has}
+use Rattle.queue_certificates.specs.Results.{bounds, Bits, of_bits, bits_of}
 use Rattle.queue_certificates.specs.Steps.{most_loaded}
-use Rattle.queue_certificates.specs.Tags.{is_codec, told_value, other_value, is_positive, is_number, hands_over}
+use Rattle.queue_certificates.specs.Tags.{is_codec, Told, nothing, something, number_of, bits_are, told_by, back_to, bits_above, value_told}
+use Rattle.queue_certificates.specs.Tags.{told_value, other_value, is_positive, is_number, are_these, makes, hands_over}
 use Rattle.queue_layouts.specs.Tagged.{slots_of, tells_by}
 use Rattle.queue_layouts.specs.declared.tagged.Codec.{Codec}
 use Rattle.queue_layouts.specs.declared.tagged.Codec.TheVariants as codec
 use Rattle.queue_layouts.specs.declared.tagged.TaggedQueue.{TaggedQueue}
-use Rattle.queue_certificates.proofs.Forms.{value-plus, value-number, value-first, same-value, round-up}
-use Rattle.queue_certificates.proofs.Values.{has-bounds}
+use Rattle.queue_certificates.proofs.Forms.{value-plus, value-number, value-first, same-value, round-up, mod-sum}
+use Rattle.queue_certificates.proofs.Values.{has-bounds, of-bits-has, bits-have}
+use Rattle.queue_certificates.proofs.KnownBits.{fewer-bits, signed-bits, low-bits-and}
 use Rattle.queue_certificates.proofs.Results.{Gives, just-gives, signed-of-bits, signed-fits}
 use Rattle.queue_certificates.proofs.Stores.{stored-low, stored-whole}
 
@@ -71,68 +76,114 @@ some-number v ok = by v (eqb-false v 0 (not-true (v == 0) ok))
     by zero none = absurd (none refl)
     by (suc v) none = omega arith
 
-wide : (q : TaggedQueue) → is_codec q codec.Number ≡ true → q.tag_width ≡ 4
-wide q ok = eqb-true q.tag_width 4 (and_parts (q.tag_width == 4) (not (q.size % 2 ^ 32 == 1)) ok).0
+word-most : (op : LoadOp) (x : ℕ) → x ≤ most_loaded op → x < 2 ^ 32
+word-most load_op.Byte x low = omega (arith, low)
+word-most load_op.Half x low = omega (arith, low)
+word-most load_op.Word x low = omega (arith, low)
+word-most load_op.ByteUnsigned x low = omega (arith, low)
+word-most load_op.HalfUnsigned x low = omega (arith, low)
 
-module _ (queues : ℕ → Queue) (xs : List ℕ) (own : Form) (n : ℕ) (is : n ≡ form_value own xs) where
-  value-ahead : (j : ℕ) → form_value (plus own (number j)) xs ≡ n + j
-  value-ahead j = value-plus own (number j) xs ∙ ap (λ m. form_value own xs + m) (value-number j xs) ∙ ap (λ m. m + j) (sym is)
+-- ---- bits
 
-  number-has : (j v : ℕ) → v ≡ (n + j) % 2 ^ 32 → Has queues xs (linear (plus own (number j))) v
-  number-has j v at = at ∙ ap (λ m. m % 2 ^ 32) (sym (value-ahead j))
+bits-extended : (op : LoadOp) (v m b : ℕ) → v < 256 ^ load_width op → m < 256 ^ load_width op → bit_and v m ≡ b
+    → bit_and (extended op v) (bit_or (extended op m) (bits_above op)) ≡ extended op b
+bits-extended load_op.Word v m b low fits is = ap (bit_and v) (or_zero_r m) ∙ is
+bits-extended load_op.ByteUnsigned v m b low fits is = and_comm v (bit_or m (2 ^ 32 - 2 ^ 8))
+    ∙ and_or_apart v m (2 ^ 32 - 2 ^ 8) (and_shifted (2 ^ 24 - 1) 8 v low) ∙ and_comm m v ∙ is
+bits-extended load_op.HalfUnsigned v m b low fits is = and_comm v (bit_or m (2 ^ 32 - 2 ^ 16))
+    ∙ and_or_apart v m (2 ^ 32 - 2 ^ 16) (and_shifted (2 ^ 16 - 1) 16 v low) ∙ and_comm m v ∙ is
+bits-extended load_op.Byte v m b low fits is =
+    ap (bit_and (sign_extended 8 v)) (or_zero_r (sign_extended 8 m)) ∙ ap (λ z. bit_and z (sign_extended 8 m)) (word v low)
+    ∙ ap (bit_and (signed_word 1 v)) (word m fits) ∙ signed-bits 7 (2 ^ 24 - 1) v m low fits
+    ∙ sym (word (bit_and v m) (let le : bit_and v m ≤ v = and_le_l v m in omega (arith, le, low))) ∙ ap (sign_extended 8) is
+  where
+    word : (x : ℕ) → x < 256 ^ 1 → sign_extended 8 x ≡ signed_word 1 x
+    word x small = signed-of-bits 8 1 x refl refl (omega arith) small
+bits-extended load_op.Half v m b low fits is =
+    ap (bit_and (sign_extended 16 v)) (or_zero_r (sign_extended 16 m)) ∙ ap (λ z. bit_and z (sign_extended 16 m)) (word v low)
+    ∙ ap (bit_and (signed_word 2 v)) (word m fits) ∙ signed-bits 15 (2 ^ 16 - 1) v m low fits
+    ∙ sym (word (bit_and v m) (let le : bit_and v m ≤ v = and_le_l v m in omega (arith, le, low))) ∙ ap (sign_extended 16) is
+  where
+    word : (x : ℕ) → x < 256 ^ 2 → sign_extended 16 x ≡ signed_word 2 x
+    word x small = signed-of-bits 16 2 x refl refl (omega arith) small
 
-  zero-gives : (p : Party) (op : LoadOp) (k j v : ℕ) → v < 256 ^ load_width op → zero_is_free p k v ≡ true
-      → Gives queues xs (told_value codec.Zero p op own j) (extended op v)
-  zero-gives the_sender op k j v low tells =
-      let none : v ≡ 0 = eqb-true v 0 tells in
-      just-gives queues xs (linear (number 0)) (extended op v) (ap (extended op) none ∙ nothing-extended op
+extended-fits : (op : LoadOp) (v : ℕ) → v < 256 ^ load_width op → extended op v < 2 ^ 32
+extended-fits op v low = elim (cases_eq v 0) [
+  | inl none ↦ (let e : extended op v ≡ 0 = ap (extended op) none ∙ nothing-extended op in omega (arith, e))
+  | inr more ↦ (let e = some-extended op v low (omega (arith, more)) in word-most op (extended op v) e.1)
+]
+
+stored-bits : (op : StoreOp) (x m : ℕ) → x < 2 ^ 32 → m < 256 ^ store_width op → bit_and (stored op x % 256 ^ store_width op) m ≡ bit_and x m
+stored-bits store_op.Byte x m small fits = ap (λ z. bit_and z m) (let e : x % 2 ^ 8 % 256 ^ 1 ≡ x % 2 ^ 8 = omega arith in e) ∙ low-bits-and x m 8 fits
+stored-bits store_op.Half x m small fits = ap (λ z. bit_and z m) (let e : x % 2 ^ 16 % 256 ^ 2 ≡ x % 2 ^ 16 = omega arith in e) ∙ low-bits-and x m 16 fits
+stored-bits store_op.Word x m small fits = ap (λ z. bit_and z m) (let e : x % 256 ^ 4 ≡ x = omega (arith, small) in e)
+
+module _ (queues : ℕ → Queue) (xs : List ℕ) where
+  -- ---- what a tag of `width` bytes satisfies that tells
+
+  abbrev IsTold : Told → (v : ℕ) → Type 0
+  IsTold nothing v = v ≡ 0
+  IsTold something v = 1 ≤ v
+  IsTold (number_of f) v = v ≡ form_value f xs % 2 ^ 32
+  IsTold (bits_are m b) v = bit_and v m ≡ b
+
+  abbrev Fits : (width : ℕ) → Told → Type 0
+  Fits width nothing = Unit {0}
+  Fits width something = Unit {0}
+  Fits width (number_of f) = width ≡ 4
+  Fits width (bits_are m b) = m < 256 ^ width
+
+  one-more : (f : Form) (k : ℕ) → form_value f xs % 2 ^ 32 ≡ k % 2 ^ 32 → form_value (plus f (number 1)) xs % 2 ^ 32 ≡ (k + 1) % 2 ^ 32
+  one-more f k level = ap (λ m. m % 2 ^ 32) (value-plus f (number 1) xs ∙ ap (λ m. form_value f xs + m) (value-number 1 xs))
+      ∙ mod-sum (form_value f xs) 1 k 1 (2 ^ 32) level refl
+
+  told-fits : (q : TaggedQueue) (c : Codec) (p : Party) (f : Form) → is_codec q c ≡ true → Fits q.tag_width (told_by c p f)
+  told-fits q codec.Zero the_sender f ok = tt
+  told-fits q codec.Zero the_receiver f ok = tt
+  told-fits q codec.Number the_sender f ok = eqb-true q.tag_width 4 (and_parts (q.tag_width == 4) (not (q.size % 2 ^ 32 == 1)) ok).0
+  told-fits q codec.Number the_receiver f ok = eqb-true q.tag_width 4 (and_parts (q.tag_width == 4) (not (q.size % 2 ^ 32 == 1)) ok).0
+  told-fits q (codec.Bit mask free full) the_sender f ok =
+      ltb-true mask (256 ^ q.tag_width) (and_parts (nat_lt mask (256 ^ q.tag_width)) (not (free == full)) ok).0
+  told-fits q (codec.Bit mask free full) the_receiver f ok =
+      ltb-true mask (256 ^ q.tag_width) (and_parts (nat_lt mask (256 ^ q.tag_width)) (not (free == full)) ok).0
+
+  told-is : (c : Codec) (p : Party) (f : Form) (k v : ℕ) → form_value f xs % 2 ^ 32 ≡ k % 2 ^ 32 → tells_by c p k v ≡ true → IsTold (told_by c p f) v
+  told-is codec.Zero the_sender f k v level tells = eqb-true v 0 tells
+  told-is codec.Zero the_receiver f k v level tells = some-number v tells
+  told-is codec.Number the_sender f k v level tells = eqb-true v (k % 2 ^ 32) tells ∙ sym level
+  told-is codec.Number the_receiver f k v level tells = eqb-true v ((k + 1) % 2 ^ 32) tells ∙ sym (one-more f k level)
+  told-is (codec.Bit mask free full) the_sender f k v level tells = eqb-true (bit_and v mask) free tells
+  told-is (codec.Bit mask free full) the_receiver f k v level tells = eqb-true (bit_and v mask) full tells
+
+  is-told : (c : Codec) (p : Party) (f : Form) (k v : ℕ) → form_value f xs % 2 ^ 32 ≡ k % 2 ^ 32 → IsTold (told_by c p f) v → tells_by c p k v ≡ true
+  is-told codec.Zero the_sender f k v level is = eq-eqb v 0 is
+  is-told codec.Zero the_receiver f k v level is = ap not (ne_eqb v 0 (λ none. omega (arith, is, none)))
+  is-told codec.Number the_sender f k v level is = eq-eqb v (k % 2 ^ 32) (is ∙ level)
+  is-told codec.Number the_receiver f k v level is = eq-eqb v ((k + 1) % 2 ^ 32) (is ∙ one-more f k level)
+  is-told (codec.Bit mask free full) the_sender f k v level is = eq-eqb (bit_and v mask) free is
+  is-told (codec.Bit mask free full) the_receiver f k v level is = eq-eqb (bit_and v mask) full is
+
+  -- ---- loads
+
+  value-gives : (t : Told) (width : ℕ) (op : LoadOp) (v : ℕ) → load_width op ≡ width → v < 256 ^ load_width op → Fits width t → IsTold t v
+      → Gives queues xs (value_told op t) (extended op v)
+  value-gives nothing width op v whole low fits none = just-gives queues xs (linear (number 0)) (extended op v) (ap (extended op) none ∙ nothing-extended op
       ∙ sym (ap (λ m. m % 2 ^ 32) (value-number 0 xs)))
-  zero-gives the_receiver op k j v low tells =
-      let e = some-extended op v low (some-number v tells) in
-      let fits : extended op v < 2 ^ 32 = small op (extended op v) e.1 in (
+  value-gives something width op v whole low fits some =
+      let e = some-extended op v low some in
+      let fits : extended op v < 2 ^ 32 = word-most op (extended op v) e.1 in (
         extended op v - 1,
         omega (arith, e.1),
         sym (ap (λ m. m % 2 ^ 32) (value-plus (number 1) first_variable ((extended op v - 1) ∷ xs)
             ∙ ap (λ m. m + form_value first_variable ((extended op v - 1) ∷ xs)) (value-number 1 ((extended op v - 1) ∷ xs))
             ∙ ap (λ m. 1 + m) (value-first (extended op v - 1) xs)) ∙ mod-eq_of_lt (omega (arith, fits)) ∙ (omega (arith, e.0))),
       )
-    where
-      small : (op : LoadOp) (x : ℕ) → x ≤ most_loaded op → x < 2 ^ 32
-      small load_op.Byte x low = omega (arith, low)
-      small load_op.Half x low = omega (arith, low)
-      small load_op.Word x low = omega (arith, low)
-      small load_op.ByteUnsigned x low = omega (arith, low)
-      small load_op.HalfUnsigned x low = omega (arith, low)
-
-  module _ (q : TaggedQueue) (fine : is_codec q q.codec ≡ true) (p : Party) (op : LoadOp) (j v : ℕ)
-      (whole : load_width op ≡ q.tag_width) (low : v < 256 ^ load_width op) where
-    word-gives : q.tag_width ≡ 4 → (f : Form) → Has queues xs (linear f) v → Gives queues xs (just (linear f)) (extended op v)
-    word-gives four f has = just-gives queues xs (linear f) (extended op v) (subst (Has queues xs (linear f)) (sym (word-extended op v (whole ∙ four))) has)
-
-    -- where it tells the party of the position
-    pub told-gives : (slots_of q).tells p (n + j) v ≡ true → Gives queues xs (told_value q.codec p op own j) (extended op v)
-    told-gives tells = by q.codec fine p tells
-      where
-        by : (c : Codec) → is_codec q c ≡ true → (p : Party) → tells_by c p (n + j) v ≡ true → Gives queues xs (told_value c p op own j) (extended op v)
-        by codec.Zero ok p tells = zero-gives p op (n + j) j v low tells
-        by codec.Number ok the_sender tells = word-gives (wide q ok) (plus own (number j)) (number-has j v (eqb-true v ((n + j) % 2 ^ 32) tells))
-        by codec.Number ok the_receiver tells = word-gives (wide q ok) (plus own (number (j + 1))) (number-has (j + 1) v
-            (eqb-true v ((n + j + 1) % 2 ^ 32) tells ∙ (let e : n + j + 1 ≡ n + (j + 1) = omega arith in ap (λ m. m % 2 ^ 32) e)))
-
-    -- where it tells the other of its own of that slot
-    pub other-gives : (i : ℕ) → i + gap (slots_of q) (other p) ≡ n + j → (slots_of q).tells (other p) i v ≡ true
-        → Gives queues xs (other_value q q.codec p op own j) (extended op v)
-    other-gives = by q.codec fine p
-      where
-        by : (c : Codec) → is_codec q c ≡ true → (p : Party) → (i : ℕ) → i + gap (slots_of q) (other p) ≡ n + j
-            → tells_by c (other p) i v ≡ true → Gives queues xs (other_value q c p op own j) (extended op v)
-        by codec.Zero ok p i at tells = zero-gives (other p) op i j v low tells
-        by codec.Number ok the_sender i at tells =
-            word-gives (wide q ok) (plus own (number (j + 1 + (2 ^ 32 - q.size % 2 ^ 32)))) (number-has (j + 1 + (2 ^ 32 - q.size % 2 ^ 32)) v
-            (eqb-true v ((i + 1) % 2 ^ 32) tells ∙ sym (round-up (2 ^ 32) (i + 1) q.size (omega arith))
-            ∙ (let e : i + 1 + q.size + (2 ^ 32 - q.size % 2 ^ 32) ≡ n + (j + 1 + (2 ^ 32 - q.size % 2 ^ 32)) = omega (arith, at) in ap (λ m. m % 2 ^ 32) e)))
-        by codec.Number ok the_receiver i at tells = word-gives (wide q ok) (plus own (number j)) (number-has j v
-            (eqb-true v (i % 2 ^ 32) tells ∙ (let e : i ≡ n + j = omega (arith, at) in ap (λ m. m % 2 ^ 32) e)))
+  value-gives (number_of f) width op v whole low four is =
+      just-gives queues xs (linear f) (extended op v) (word-extended op v (whole ∙ four) ∙ is)
+  value-gives (bits_are m b) width op v whole low fits is =
+      just-gives queues xs (of_bits (bit_or (extended op m) (bits_above op)) (extended op b)) (extended op v)
+      (of-bits-has queues xs (bit_or (extended op m) (bits_above op)) (extended op b) (extended op v) (extended-fits op v low)
+      (bits-extended op v m b low (subst (λ n. m < 256 ^ n) (sym whole) fits) is))
 
   -- ---- stores
 
@@ -142,47 +193,81 @@ module _ (queues : ℕ → Queue) (xs : List ℕ) (own : Form) (n : ℕ) (is : n
   known-number m any g x ok has = absurd (cc)
   known-number m (index_for i f) g x ok has = absurd (cc)
   known-number m (signed_for i f) g x ok has = absurd (cc)
+  known-number m (ends_as n f) g x ok has = absurd (cc)
+  known-number m (has_bits n b) g x ok has = absurd (cc)
   known-number m (linear f) g x ok has = (f, has, same-value m f g xs ok)
 
-  module _ (q : TaggedQueue) (rs : List (Option ℕ)) (ranges : InRanges rs xs) (fine : is_codec q q.codec ≡ true) (op : StoreOp) (x : ℕ) (w : KnownValue)
-      (whole : store_width op ≡ q.tag_width) (has : Has queues xs w x) where
-    stored-as : (g : Form) → is_number (256 ^ q.tag_width) w g ≡ true → stored op x % 256 ^ q.tag_width ≡ form_value g xs % 256 ^ q.tag_width
+  module _ (width : ℕ) (rs : List (Option ℕ)) (ranges : InRanges rs xs) (op : StoreOp) (x : ℕ) (w : KnownValue)
+      (whole : store_width op ≡ width) (has : Has queues xs w x) where
+    stored-as : (g : Form) → is_number (256 ^ width) w g ≡ true → stored op x % 256 ^ width ≡ form_value g xs % 256 ^ width
     stored-as g ok =
-        let k = known-number (256 ^ q.tag_width) w g x ok has in
-        ap (λ m. m % 256 ^ q.tag_width) (stored-low op x (form_value k.0 xs) k.1 ∙ ap (λ m. form_value k.0 xs % 256 ^ m) whole ∙ k.2)
-        ∙ mod-mod (form_value g xs) (256 ^ q.tag_width)
+        let k = known-number (256 ^ width) w g x ok has in
+        ap (λ m. m % 256 ^ width) (stored-low op x (form_value k.0 xs) k.1 ∙ ap (λ m. form_value k.0 xs % 256 ^ m) whole ∙ k.2)
+        ∙ mod-mod (form_value g xs) (256 ^ width)
 
-    stored-ahead : (i : ℕ) → q.tag_width ≡ 4 → is_number (2 ^ 32) w (plus own (number i)) ≡ true → stored op x % 256 ^ q.tag_width ≡ (n + i) % 2 ^ 32
-    stored-ahead i four ok =
-        let all : 256 ^ q.tag_width ≡ 2 ^ 32 = ap (λ m. 256 ^ m) four in
-        stored-as (plus own (number i)) (subst (λ m. is_number m w (plus own (number i)) ≡ true) (sym all) ok)
-        ∙ ap (λ m. form_value (plus own (number i)) xs % m) all ∙ ap (λ m. m % 2 ^ 32) (value-ahead i)
-
-    -- of a number that hands the own position over
-    pub store-tells : (p : Party) → hands_over rs q q.codec p own w ≡ true
-        → (slots_of q).tells (other p) (n + gap (slots_of q) p) (stored op x % 256 ^ q.tag_width) ≡ true
-    store-tells = by q.codec fine
+    made : (t : Told) → Fits width t → makes rs width t w ≡ true → IsTold t (stored op x % 256 ^ width)
+    made nothing fits ok = stored-as (number 0) ok ∙ ap (λ m. m % 256 ^ width) (value-number 0 xs) ∙ zero-mod (256 ^ width)
+    made something fits ok = positive (bounds rs w) refl ok
       where
-        positive : (b : Option Bounds) → bounds rs w ≡ b → is_positive q.tag_width b ≡ true → not (stored op x % 256 ^ q.tag_width == 0) ≡ true
+        positive : (b : Option Bounds) → bounds rs w ≡ b → is_positive width b ≡ true → 1 ≤ stored op x % 256 ^ width
         positive None is ok = absurd (cc)
         positive (Some b) is ok =
-            let parts = and_parts (nat_le 1 b.low) (nat_lt b.high (256 ^ q.tag_width)) ok in
+            let parts = and_parts (nat_le 1 b.low) (nat_lt b.high (256 ^ width)) ok in
             let between = has-bounds queues rs xs w x b ranges is has in
             let low : 1 ≤ b.low = leb-true 1 b.low parts.0 in
-            let high : b.high < 256 ^ q.tag_width = ltb-true b.high (256 ^ q.tag_width) parts.1 in
-            let small : x < 256 ^ q.tag_width = omega (arith, between.1, high) in
-            let same : stored op x % 256 ^ q.tag_width ≡ x =
-            ap (λ m. m % 256 ^ q.tag_width) (stored-whole op x (subst (λ m. x < 256 ^ m) (sym whole) small)) ∙ mod-eq_of_lt small in
-            ap not (ne_eqb (stored op x % 256 ^ q.tag_width) 0 (λ none. omega (arith, same, none, between.0, low)))
+            let high : b.high < 256 ^ width = ltb-true b.high (256 ^ width) parts.1 in
+            let small : x < 256 ^ width = omega (arith, between.1, high) in
+            let same : stored op x % 256 ^ width ≡ x =
+            ap (λ m. m % 256 ^ width) (stored-whole op x (subst (λ m. x < 256 ^ m) (sym whole) small)) ∙ mod-eq_of_lt small in
+            omega (arith, same, between.0, low)
+    made (number_of f) four ok =
+        let all : 256 ^ width ≡ 2 ^ 32 = ap (λ m. 256 ^ m) four in
+        stored-as f (subst (λ m. is_number m w f ≡ true) (sym all) ok) ∙ ap (λ m. form_value f xs % m) all
+    made (bits_are m b) fits ok = by (bits_of w) refl ok
+      where
+        by : (o : Option Bits) → bits_of w ≡ o → are_these o m b ≡ true → bit_and (stored op x % 256 ^ width) m ≡ b
+        by None is ok = absurd (cc)
+        by (Some k) is ok =
+            let known = bits-have queues xs w x k is has in
+            let parts = and_parts (bit_and k.mask m == m) (bit_and k.bits m == b) ok in
+            ap (λ n. bit_and (stored op x % 256 ^ n) m) (sym whole)
+            ∙ stored-bits op x m known.0 (subst (λ n. m < 256 ^ n) (sym whole) fits)
+            ∙ fewer-bits x k.mask m (eqb-true (bit_and k.mask m) m parts.0)
+            ∙ ap (λ y. bit_and y m) known.1 ∙ eqb-true (bit_and k.bits m) b parts.1
 
-        by : (c : Codec) → is_codec q c ≡ true → (p : Party) → hands_over rs q c p own w ≡ true
-            → tells_by c (other p) (n + gap (slots_of q) p) (stored op x % 256 ^ q.tag_width) ≡ true
-        by codec.Zero good the_sender ok = positive (bounds rs w) refl ok
-        by codec.Zero good the_receiver ok = eq-eqb (stored op x % 256 ^ q.tag_width) 0 (stored-as (number 0) ok ∙ none)
-          where
-            none : form_value (number 0) xs % 256 ^ q.tag_width ≡ 0
-            none = ap (λ m. m % 256 ^ q.tag_width) (value-number 0 xs) ∙ zero-mod (256 ^ q.tag_width)
-        by codec.Number good the_sender ok = eq-eqb (stored op x % 256 ^ q.tag_width) ((n + 0 + 1) % 2 ^ 32)
-            (stored-ahead 1 (wide q good) ok ∙ (let e : n + 1 ≡ n + 0 + 1 = omega arith in ap (λ m. m % 2 ^ 32) e))
-        by codec.Number good the_receiver ok =
-            eq-eqb (stored op x % 256 ^ q.tag_width) ((n + q.size) % 2 ^ 32) (stored-ahead q.size (wide q good) ok)
+  -- ---- of a party whose own count is n
+
+  module _ (own : Form) (n : ℕ) (is : n ≡ form_value own xs) where
+    value-ahead : (j : ℕ) → form_value (plus own (number j)) xs ≡ n + j
+    value-ahead j = value-plus own (number j) xs ∙ ap (λ m. form_value own xs + m) (value-number j xs) ∙ ap (λ m. m + j) (sym is)
+
+    module _ (q : TaggedQueue) (fine : is_codec q q.codec ≡ true) (p : Party) (op : LoadOp) (j v : ℕ)
+        (whole : load_width op ≡ q.tag_width) (low : v < 256 ^ load_width op) where
+      -- where it tells the party of the position
+      pub told-gives : (slots_of q).tells p (n + j) v ≡ true → Gives queues xs (told_value q.codec p op own j) (extended op v)
+      told-gives tells = value-gives (told_by q.codec p (plus own (number j))) q.tag_width op v whole low
+          (told-fits q q.codec p (plus own (number j)) fine)
+          (told-is q.codec p (plus own (number j)) (n + j) v (ap (λ m. m % 2 ^ 32) (value-ahead j)) tells)
+
+      -- where it tells the other of its own of that slot
+      pub other-gives : (i : ℕ) → i + gap (slots_of q) (other p) ≡ n + j → (slots_of q).tells (other p) i v ≡ true
+          → Gives queues xs (other_value q q.codec p op own j) (extended op v)
+      other-gives i at tells = value-gives (told_by q.codec (other p) (plus own (number (j + back_to q (other p))))) q.tag_width op v whole low
+          (told-fits q q.codec (other p) (plus own (number (j + back_to q (other p)))) fine)
+          (told-is q.codec (other p) (plus own (number (j + back_to q (other p)))) i v
+          (ap (λ m. m % 2 ^ 32) (value-ahead (j + back_to q (other p))) ∙ back p i at) tells)
+        where
+          back : (p : Party) (i : ℕ) → i + gap (slots_of q) (other p) ≡ n + j → (n + (j + back_to q (other p))) % 2 ^ 32 ≡ i % 2 ^ 32
+          back the_sender i at = (let e : n + (j + (2 ^ 32 - q.size % 2 ^ 32)) ≡ i + q.size + (2 ^ 32 - q.size % 2 ^ 32) = omega (arith, at) in
+              ap (λ m. m % 2 ^ 32) e) ∙ round-up (2 ^ 32) i q.size (omega arith)
+          back the_receiver i at = (let e : n + (j + 0) ≡ i = omega (arith, at) in ap (λ m. m % 2 ^ 32) e)
+
+    -- of a number that hands the own position over
+    pub store-tells : (q : TaggedQueue) (rs : List (Option ℕ)) → InRanges rs xs → is_codec q q.codec ≡ true → (op : StoreOp) (x : ℕ) (w : KnownValue)
+        → store_width op ≡ q.tag_width → Has queues xs w x → (p : Party) → hands_over rs q q.codec p own w ≡ true
+        → (slots_of q).tells (other p) (n + gap (slots_of q) p) (stored op x % 256 ^ q.tag_width) ≡ true
+    store-tells q rs ranges fine op x w whole has p ok =
+        is-told q.codec (other p) (plus own (number (gap (slots_of q) p))) (n + gap (slots_of q) p) (stored op x % 256 ^ q.tag_width)
+        (ap (λ m. m % 2 ^ 32) (value-ahead (gap (slots_of q) p)))
+        (made q.tag_width rs ranges op x w whole has (told_by q.codec (other p) (plus own (number (gap (slots_of q) p))))
+        (told-fits q q.codec (other p) (plus own (number (gap (slots_of q) p))) fine) ok)

@@ -19,7 +19,7 @@ use Rattle.slot_queue.specs.Queues.{Queue, IsQueue, TellsFull}
 use Rattle.queue_parties.specs.Positions.{IsInBytes}
 use Rattle.queue_parties.specs.Parties.{QueueCounts}
 use Rattle.slot_queue.specs.Ownership.{KeepsAccess}
-use Rattle.owned_run.specs.Certified.{View, AllCounts, Acts}
+use Rattle.queue_certificates.specs.OwnedRuns.{View, AllCounts, Acts}
 use Rattle.queue_certificates.specs.Forms.{Form, Bounds}
 use Rattle.queue_certificates.specs.States.{KnownValue, KnownState, MeansAt}
 use Rattle.queue_certificates.specs.Results.{bounds}

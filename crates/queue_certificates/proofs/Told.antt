@@ -26,9 +26,9 @@ use Rattle.queue_parties.specs.Parties.{Party, the_sender, QueueCounts}
 use Rattle.slots_that_tell.specs.Slots.{Slots, IsSlots, tagged_slot}
 use Rattle.slots_that_tell.specs.Telling.{teller_hart, told_access, TellsAccess}
 use Rattle.slots_that_tell.proofs.Owned.{loaded-count}
-use Rattle.telling_run.specs.Certified.{SeesTags, LoadsRestOwned}
-use Rattle.owned_run.specs.Certified.{View, AllCounts, view_then, Acts, LoadsOwned}
-use Rattle.owned_run.specs.Certificates.{Field, MeetsField}
+use Rattle.queue_certificates.specs.ToldRuns.{SeesTags, LoadsRestOwned}
+use Rattle.queue_certificates.specs.OwnedRuns.{View, AllCounts, view_then, Acts, LoadsOwned}
+use Rattle.queue_certificates.specs.RecordFields.{Field, MeetsField}
 use Rattle.queue_certificates.specs.Forms.{Form, Bounds}
 use Rattle.queue_certificates.specs.States.{KnownValue, any, no_share, KnownState, Has, MeansAt}
 use Rattle.queue_certificates.specs.Results.{bounds}

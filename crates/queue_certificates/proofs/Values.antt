@@ -1,18 +1,22 @@
 -- What has a value, and what follows from that.
 use Rattle.std.proofs.Common.{ℕ, ◌-◌, ◌+◌, ◌*◌, ◌/◌, ◌%◌, ◌^◌, ◌<◌, ◌≤◌, ◌≡◌, ◌==◌, ◌&&◌, inl, inr, if◌then◌else◌, Bool}
 use Rattle.std.proofs.Common.{true, false, Option, Some, None, List, ◌∷◌, refl, sym, ◌∙◌, ap, subst, arith}
-use Rattle.std.specs.Prelude.{nat_lt}
-use Rattle.std.proofs.lemmas.Bool.{and_parts, eqb-true, ltb-true}
+use Rattle.std.specs.Prelude.{nat_lt, nat_le, bit_and}
+use Rattle.std.specs.Int.Bits.{and_zero_r}
+use Rattle.std.proofs.lemmas.Bool.{and_parts, eqb-true, ltb-true, eq-eqb, ne_eqb}
 use Rattle.std.proofs.Math.Nat.{mod-lt, mod-eq_of_lt, mod-add-div, add-mul-mod_self_left, mul-add, mul_assoc, zero-mul, mul-zero}
-use Rattle.std.proofs.lemmas.Nat.{mul-le}
+use Rattle.std.proofs.lemmas.Nat.{mul-le, and_mask}
 use Rattle.std.proofs.lemmas.Bool.{cases_eq}
 use Rattle.slot_queue.specs.Queues.{Queue, index_word}
-use Rattle.queue_certificates.specs.Forms.{Form, form_value, number, plus, times, lifted, vanishes, remainder, most, fits_in, is_same, InRanges, Bounds}
-use Rattle.queue_certificates.specs.States.{KnownValue, any, linear, index_for, signed_for, value_by, Has, signed_word}
+use Rattle.queue_certificates.specs.Forms.{Form, form_value, number, plus, times, lifted, vanishes, remainder, most}
+use Rattle.queue_certificates.specs.Forms.{fits_in, is_same, InRanges, Bounds, bounds_of}
+use Rattle.queue_certificates.specs.States.{KnownValue, any, linear, index_for, signed_for, ends_as, has_bits, value_by, Has, signed_word, EndAlike}
 use Rattle.queue_certificates.specs.States.{plain, scaled, of_remainder, is_within_plain, is_within}
-use Rattle.queue_certificates.specs.Results.{as_number, bounds}
+use Rattle.queue_certificates.specs.Results.{as_number, bounds, bounds_by, is_nothing, Bits, of_bits, number_bits, bits_of}
 use Rattle.queue_certificates.proofs.Forms.{value-plus, value-times, value-lifted, value-number, same-value, constant-value, mod-sum}
-use Rattle.queue_certificates.proofs.Bounds.{value-between, value-below, fits-below, value-remainder}
+use Rattle.queue_certificates.proofs.Bounds.{IsBetween, value-between, value-below, fits-below, value-remainder}
+use Rattle.queue_certificates.proofs.Endings.{alike-same, alike-zero}
+use Rattle.queue_certificates.proofs.KnownBits.{fewer-bits}
 
 -- an index's word depends on the count's remainder alone
 pub word-of-remainder : (q : Queue) (n m : ℕ) → n % q.modulus ≡ m % q.modulus → index_word q n ≡ index_word q m
@@ -75,6 +79,41 @@ pub word-linear : (w : ℕ) (q : Queue) (f : Form) (xs : List ℕ) → 1 ≤ w �
 word-linear w q f xs positive whole low = whole-word w q.base q.scale q.modulus (form_value f xs + q.offset) positive whole low
     ∙ ap (λ n. n % w) (sym (value-scaled q (plus f (number q.offset)) xs ∙ ap (λ n. q.base + q.scale * n) (value-offset q f xs)))
 
+-- whether a number between bounds is 0, where these tell
+pub within-nothing : (b : Bounds) (x : ℕ) (t : Bool) → b.low ≤ x → x ≤ b.high → is_nothing (Some b) ≡ Some t → (x == 0) ≡ t
+within-nothing b x t low high is = by (nat_lt 0 b.low) (b.high == 0) refl refl is
+  where
+    by : (r s : Bool) → nat_lt 0 b.low ≡ r → (b.high == 0) ≡ s → (if r then Some false else (if s then Some true else None)) ≡ Some t → (x == 0) ≡ t
+    by true s some none is = ne_eqb x 0 (λ e. (let u : 0 < b.low = ltb-true 0 b.low some in omega (arith, u, e, low))) ∙ (let e : false ≡ t = cc in e)
+    by false true some none is = eq-eqb x 0 (let u : b.high ≡ 0 = eqb-true b.high 0 none in omega (arith, u, high)) ∙ (let e : true ≡ t = cc in e)
+    by false false some none is = absurd (cc)
+
+-- whether a remainder is 0, where bounds tell
+pub nothing-is : (n : ℕ) (rs : List (Option ℕ)) (f : Form) (xs : List ℕ) (t : Bool) → InRanges rs xs → is_nothing (bounds_of n rs f) ≡ Some t
+    → (1 ≤ n) × ((form_value f xs % n == 0) ≡ t)
+nothing-is n rs f xs t ranges is = by (bounds_of n rs f) refl is
+  where
+    by : (o : Option Bounds) → bounds_of n rs f ≡ o → is_nothing o ≡ Some t → (1 ≤ n) × ((form_value f xs % n == 0) ≡ t)
+    by None of is = absurd (cc)
+    by (Some b) of is = (between.some, within-nothing b (form_value f xs % n) t between.low between.high is)
+      where
+        between : IsBetween n f xs b
+        between = value-between n rs f xs b ranges of
+
+number-bounds : (n x : ℕ) (o : Option Bool) (b : Bounds) → x < 2 ^ n → ((t : Bool) → o ≡ Some t → (x == 0) ≡ t) → bounds_by n o ≡ Some b
+    → (b.low ≤ x) × (x ≤ b.high)
+number-bounds n x None b low is of = absurd (cc)
+number-bounds n x (Some true) b low is of = subst (λ z. (z.low ≤ x) × (x ≤ z.high)) (let e : record { low = 0; high = 0 } ≡ b = cc in e)
+    (omega arith, (let none : x ≡ 0 = eqb-true x 0 (is true refl) in omega (arith, none)))
+number-bounds n x (Some false) b low is of = subst (λ z. (z.low ≤ x) × (x ≤ z.high)) (let e : record { low = 1; high = 2 ^ n - 1 } ≡ b = cc in e)
+    (eqb-false x (is false refl), omega (arith, low))
+  where
+    eqb-false : (x : ℕ) → (x == 0) ≡ false → 1 ≤ x
+    eqb-false x other = elim (cases_eq x 0) [
+      | inl none ↦ absurd (let e : true ≡ false = sym (eq-eqb x 0 none) ∙ other in cc)
+      | inr some ↦ omega (arith, some)
+    ]
+
 module _ (queues : ℕ → Queue) where
   pub has-by : (t : Form → Form) (xs ys : List ℕ) → ((f : Form) → form_value (t f) ys ≡ form_value f xs)
       → (v : KnownValue) (x : ℕ) → Has queues xs v x → Has queues ys (value_by t v) x
@@ -82,6 +121,8 @@ module _ (queues : ℕ → Queue) where
   has-by t xs ys same (linear f) x has = has ∙ ap (λ n. n % 2 ^ 32) (sym (same f))
   has-by t xs ys same (index_for i f) x has = has ∙ ap (index_word (queues i)) (sym (same f))
   has-by t xs ys same (signed_for i f) x has = has ∙ ap (λ n. signed_word (queues i).index_width (index_word (queues i) n)) (sym (same f))
+  has-by t xs ys same (ends_as n f) x has = (has.0, subst (EndAlike n x) (sym (same f)) has.1)
+  has-by t xs ys same (has_bits m b) x has = has
 
   pub has-back : (t : Form → Form) (xs ys : List ℕ) → ((f : Form) → form_value (t f) ys ≡ form_value f xs)
       → (v : KnownValue) (x : ℕ) → Has queues ys (value_by t v) x → Has queues xs v x
@@ -89,6 +130,8 @@ module _ (queues : ℕ → Queue) where
   has-back t xs ys same (linear f) x has = has ∙ ap (λ n. n % 2 ^ 32) (same f)
   has-back t xs ys same (index_for i f) x has = has ∙ ap (index_word (queues i)) (same f)
   has-back t xs ys same (signed_for i f) x has = has ∙ ap (λ n. signed_word (queues i).index_width (index_word (queues i) n)) (same f)
+  has-back t xs ys same (ends_as n f) x has = (has.0, subst (EndAlike n x) (same f) has.1)
+  has-back t xs ys same (has_bits m b) x has = has
 
   pub has-lifted : (v : KnownValue) (x y : ℕ) (xs : List ℕ) → Has queues xs v x → Has queues (y ∷ xs) (value_by lifted v) x
   has-lifted v x y xs has = has-by lifted xs (y ∷ xs) (λ f. value-lifted f y xs) v x has
@@ -137,12 +180,16 @@ module _ (queues : ℕ → Queue) where
     has-plain (linear f) x has = has
     has-plain (index_for i f) x has = (same-word i f x).0 has
     has-plain (signed_for i f) x has = has
+    has-plain (ends_as n f) x has = has
+    has-plain (has_bits m b) x has = has
 
     pub plain-has : (v : KnownValue) (x : ℕ) → Has queues xs (plain queues rs v) x → Has queues xs v x
     plain-has any x has = tt
     plain-has (linear f) x has = has
     plain-has (index_for i f) x has = (same-word i f x).1 has
     plain-has (signed_for i f) x has = has
+    plain-has (ends_as n f) x has = has
+    plain-has (has_bits m b) x has = has
 
     within-plain : (v w : KnownValue) (x : ℕ) → is_within_plain queues rs v w ≡ true → Has queues xs v x → Has queues xs w x
     within-plain v any x ok has = tt
@@ -156,6 +203,32 @@ module _ (queues : ℕ → Queue) where
     within-plain (index_for i f) (signed_for j g) x ok has = absurd (cc)
     within-plain (signed_for i f) (linear g) x ok has = absurd (cc)
     within-plain (signed_for i f) (index_for j g) x ok has = absurd (cc)
+    within-plain any (ends_as m g) x ok has = absurd (cc)
+    within-plain (linear f) (ends_as m g) x ok has = absurd (cc)
+    within-plain (index_for i f) (ends_as m g) x ok has = absurd (cc)
+    within-plain (signed_for i f) (ends_as m g) x ok has = absurd (cc)
+    within-plain (ends_as n f) (linear g) x ok has = absurd (cc)
+    within-plain (ends_as n f) (index_for j g) x ok has = absurd (cc)
+    within-plain (ends_as n f) (signed_for j g) x ok has = absurd (cc)
+    within-plain any (has_bits n c) x ok has = absurd (cc)
+    within-plain (linear f) (has_bits n c) x ok has = absurd (cc)
+    within-plain (index_for i f) (has_bits n c) x ok has = absurd (cc)
+    within-plain (signed_for i f) (has_bits n c) x ok has = absurd (cc)
+    within-plain (ends_as b f) (has_bits n c) x ok has = absurd (cc)
+    within-plain (has_bits m b) (linear g) x ok has = absurd (cc)
+    within-plain (has_bits m b) (index_for j g) x ok has = absurd (cc)
+    within-plain (has_bits m b) (signed_for j g) x ok has = absurd (cc)
+    within-plain (has_bits m b) (ends_as n g) x ok has = absurd (cc)
+    within-plain (has_bits m b) (has_bits n c) x ok has =
+        let parts = and_parts (bit_and m n == n) (bit_and b n == c) ok in (
+          has.0,
+          fewer-bits x m n (eqb-true (bit_and m n) n parts.0) ∙ ap (λ y. bit_and y n) has.1 ∙ eqb-true (bit_and b n) c parts.1,
+        )
+    within-plain (ends_as n f) (ends_as m g) x ok has =
+        let p2 = and_parts ((n == m) && nat_le n 32) (is_same (2 ^ n) f g) ok in
+        let p1 = and_parts (n == m) (nat_le n 32) p2.0 in
+        subst (λ k. (x < 2 ^ k) × EndAlike k x (form_value g xs)) (eqb-true n m p1.0)
+        (has.0, alike-same n x (form_value f xs) (form_value g xs) (same-value (2 ^ n) f g xs p2.1) has.1)
     within-plain (signed_for i f) (signed_for j g) x ok has =
         let parts = and_parts (i == j) (is_same ((queues i).modulus) f g) ok in
         subst (λ k. x ≡ signed_word (queues k).index_width (index_word (queues k) (form_value g xs))) (eqb-true i j parts.0)
@@ -173,6 +246,8 @@ module _ (queues : ℕ → Queue) where
   known-is xs any x a is has = absurd (cc)
   known-is xs (index_for i f) x a is has = absurd (cc)
   known-is xs (signed_for i f) x a is has = absurd (cc)
+  known-is xs (ends_as n f) x a is has = absurd (cc)
+  known-is xs (has_bits m b) x a is has = absurd (cc)
   known-is xs (linear f) x a is has = by (vanishes (2 ^ 32) f.factors) refl is
     where
       by : (t : Bool) → vanishes (2 ^ 32) f.factors ≡ t → (if t then Some (f.constant % 2 ^ 32) else None) ≡ Some a → x ≡ a
@@ -184,5 +259,46 @@ module _ (queues : ℕ → Queue) where
   has-bounds rs xs any x b ranges is has = absurd (cc)
   has-bounds rs xs (index_for i f) x b ranges is has = absurd (cc)
   has-bounds rs xs (signed_for i f) x b ranges is has = absurd (cc)
+  has-bounds rs xs (has_bits m c) x b ranges is has = absurd (cc)
+  has-bounds rs xs (ends_as n f) x b ranges is has = by (nat_le 1 n && nat_le n 32) is
+    where
+      by : (s : Bool) → (if s then bounds_by n (is_nothing (bounds_of (2 ^ n) rs f)) else None) ≡ Some b → (b.low ≤ x) × (x ≤ b.high)
+      by false is = absurd (cc)
+      by true is = number-bounds n x (is_nothing (bounds_of (2 ^ n) rs f)) b has.0
+          (λ t of. alike-zero n x (form_value f xs) t has.0 has.1 (nothing-is (2 ^ n) rs f xs t ranges of).1) is
   has-bounds rs xs (linear f) x b ranges is has = let e = value-between (2 ^ 32) rs f xs b ranges is in
       subst (λ z. (b.low ≤ z) × (z ≤ b.high)) (sym has) (e.low, e.high)
+
+  -- ---- bits
+
+  whole-bits : (x : ℕ) → x < 2 ^ 32 → bit_and x (2 ^ 32 - 1) ≡ x
+  whole-bits x small = and_mask x 32 ∙ mod-eq_of_lt small
+
+  pub of-bits-has : (xs : List ℕ) (m b x : ℕ) → x < 2 ^ 32 → bit_and x m ≡ b → Has queues xs (of_bits m b) x
+  of-bits-has xs m b x small is = by (m == 2 ^ 32 - 1) refl
+    where
+      by : (t : Bool) → (m == 2 ^ 32 - 1) ≡ t → Has queues xs (if t then linear (number b) else has_bits m b) x
+      by false some = (small, is)
+      by true all =
+          let same : x ≡ b = sym (whole-bits x small) ∙ ap (bit_and x) (sym (eqb-true m (2 ^ 32 - 1) all)) ∙ is in
+          sym (mod-eq_of_lt small) ∙ ap (λ z. z % 2 ^ 32) (same ∙ sym (value-number b xs))
+
+  pub bits-have : (xs : List ℕ) (v : KnownValue) (x : ℕ) (k : Bits) → bits_of v ≡ Some k → Has queues xs v x → (x < 2 ^ 32) × (bit_and x k.mask ≡ k.bits)
+  bits-have xs any x k is has = absurd (cc)
+  bits-have xs (index_for i f) x k is has = absurd (cc)
+  bits-have xs (signed_for i f) x k is has = absurd (cc)
+  bits-have xs (ends_as n f) x k is has = absurd (cc)
+  bits-have xs (has_bits m b) x k is has = subst (λ (k : Bits). (x < 2 ^ 32) × (bit_and x k.mask ≡ k.bits))
+      (let e : record { mask = m; bits = b } ≡ k = cc in e) has
+  bits-have xs (linear f) x k is has = (
+    small,
+    subst (λ (k : Bits). bit_and x k.mask ≡ k.bits)
+        (let e : number_bits (as_number (linear f)) ≡ k = cc in e) (by (as_number (linear f)) refl),
+  )
+    where
+      small : x < 2 ^ 32
+      small = subst (λ y. y < 2 ^ 32) (sym has) (mod-lt (form_value f xs) (omega arith))
+
+      by : (o : Option ℕ) → as_number (linear f) ≡ o → bit_and x (number_bits o).mask ≡ (number_bits o).bits
+      by None is = and_zero_r x
+      by (Some n) is = whole-bits x small ∙ known-is xs (linear f) x n is has

@@ -15,13 +15,13 @@ use Rattle.slot_queue.specs.Queues.{Queue, index_word}
 use Rattle.queue_parties.specs.Positions.{IsInBytes}
 use Rattle.queue_parties.specs.Parties.{Party, the_sender, the_receiver, all_at}
 use Rattle.slot_queue.specs.Ownership.{party_of, end}
-use Rattle.owned_run.specs.Certified.{View, AllCounts, number_seen, OpenQueues, IsCertified, LoadsAreOwned, Beside}
-use Rattle.owned_run.specs.Certificates.{Field, MeetsField}
+use Rattle.queue_certificates.specs.OwnedRuns.{View, AllCounts, number_seen, OpenQueues, IsCertified, LoadsAreOwned, Beside}
+use Rattle.queue_certificates.specs.RecordFields.{Field, MeetsField}
 use Rattle.slots_that_tell.specs.Slots.{tag_of}
 use Rattle.slots_that_tell.specs.Telling.{owned_end}
-use Rattle.telling_run.specs.Certified.{telling, OpenTellers}
+use Rattle.queue_certificates.specs.ToldRuns.{telling, OpenTellers}
 use Rattle.queue_certificates.specs.Forms.{Form, form_value, number, substituted, is_same, settled, are_in}
-use Rattle.queue_certificates.specs.States.{KnownValue, any, linear, index_for, signed_for, Share, no_share, KnownState}
+use Rattle.queue_certificates.specs.States.{KnownValue, any, linear, index_for, signed_for, ends_as, has_bits, Share, no_share, KnownState}
 use Rattle.queue_certificates.specs.States.{value_by, state_by, signed_word, is_within, MeansAt, Means}
 use Rattle.queue_certificates.specs.Steps.{all_below, is_apart, addresses, exchanged, follow, instruction_at, loads_owned}
 use Rattle.queue_certificates.specs.Cases.{Arrow, Cases, leaf, each_leaf}
@@ -282,6 +282,8 @@ is_value queues xs any x = true
 is_value queues xs (linear f) x = x == form_value f xs % 2 ^ 32
 is_value queues xs (index_for i f) x = x == index_word (queues i) (form_value f xs)
 is_value queues xs (signed_for i f) x = x == signed_word (queues i).index_width (index_word (queues i) (form_value f xs))
+is_value queues xs (ends_as n f) x = false
+is_value queues xs (has_bits m b) x = false
 
 abbrev pub is_at_most : Option ℕ → ℕ → Bool
 is_at_most None x = true

@@ -7,7 +7,7 @@ use Rattle.memory.specs.Writes.{write, covers}
 use Rattle.step_machine.specs.Access.{Access, store, exchange}
 use Rattle.slot_queue.specs.Queues.{Queue}
 use Rattle.queue_certificates.specs.Forms.{Form, Bounds, most}
-use Rattle.queue_certificates.specs.States.{KnownValue, any, linear, index_for, signed_for, plain, Share, KnownState}
+use Rattle.queue_certificates.specs.States.{KnownValue, any, linear, index_for, signed_for, ends_as, has_bits, plain, Share, KnownState}
 use Rattle.queue_certificates.specs.Steps.{last_below, is_just, position_at, offset_at, is_owned}
 use Rattle.queue_certificates.specs.Steps.{register_at, share_at, operand, address_value, addresses, exchanged, is_own_index}
 use Rattle.queue_certificates.specs.declared.effect.Effect.{Effect}
@@ -30,6 +30,8 @@ abbrev pub filled_by : List (Option ℕ) → Queue → Share → (place : KnownV
 filled_by rs q s any width = Leaves
 filled_by rs q s (index_for i f) width = Leaves
 filled_by rs q s (signed_for i f) width = Leaves
+filled_by rs q s (ends_as n f) width = Leaves
+filled_by rs q s (has_bits m b) width = Leaves
 filled_by rs q s (linear f) width = if is_owned rs q s (linear f) width
     then Fills (position_at q s.own.constant f.constant) (offset_at q f.constant) width else Leaves
 

@@ -7,8 +7,8 @@ use Rattle.rv_decode.specs.declared.instruction.Instr.{Instr}
 use Rattle.rv_decode.specs.declared.instruction.Instr.TheVariants.{Load}
 use Rattle.hart.specs.Effects.{next_pc, load_width}
 use Rattle.slot_queue.specs.Queues.{Queue}
-use Rattle.owned_run.specs.Certificates.{Field}
-use Rattle.queue_certificates.specs.States.{KnownValue, any, linear, index_for, signed_for, KnownState}
+use Rattle.queue_certificates.specs.RecordFields.{Field}
+use Rattle.queue_certificates.specs.States.{KnownValue, any, linear, index_for, signed_for, ends_as, has_bits, KnownState}
 use Rattle.queue_certificates.specs.Results.{Result}
 use Rattle.queue_certificates.specs.Steps.{last_below, offset_at, is_owned, with_result, share_at, address_value, addresses, is_look}
 
@@ -49,6 +49,8 @@ module _ (queues : ℕ → Queue) (fields : ℕ → List Field) (h : ℕ) where
   field_in k any width i = None
   field_in k (index_for j f) width i = None
   field_in k (signed_for j f) width i = None
+  field_in k (ends_as n f) width i = None
+  field_in k (has_bits m b) width i = None
   field_in k (linear f) width i = if ((queues i).receiver == h) && is_owned k.ranges (queues i) (share_at k i) (linear f) width
       then field_there (fields i) (offset_at (queues i) f.constant) width else None
 

@@ -3,9 +3,9 @@ use Rattle.std.specs.Prelude.{ℕ, ◌+◌, ◌%◌, ◌^◌, ◌==◌, ◌&&◌
 use Rattle.std.specs.Prelude.{List, [], length, get_or}
 use Rattle.std.specs.List.{list_all, list_any}
 use Rattle.slot_queue.specs.Queues.{Queue}
-use Rattle.owned_run.specs.Certificates.{Field}
+use Rattle.queue_certificates.specs.RecordFields.{Field}
 use Rattle.queue_certificates.specs.Forms.{Form, vanishes, Bounds, risings, fallings, bounds_of}
-use Rattle.queue_certificates.specs.States.{KnownValue, any, linear, index_for, signed_for}
+use Rattle.queue_certificates.specs.States.{KnownValue, any, linear, index_for, signed_for, ends_as, has_bits}
 use Rattle.queue_certificates.specs.Steps.{all_below}
 use Rattle.queue_certificates.specs.Fields.{last_number}
 use Rattle.queue_certificates.specs.declared.effect.Effect.{Effect}
@@ -36,6 +36,8 @@ abbrev pub is_number_of : List (Option ℕ) → KnownValue → Field → Bool
 is_number_of rs any f = false
 is_number_of rs (index_for i g) f = false
 is_number_of rs (signed_for i g) f = false
+is_number_of rs (ends_as n g) f = false
+is_number_of rs (has_bits m b) f = false
 is_number_of rs (linear g) f = lies_in (bounds_of (2 ^ 32) rs g) g f
 
 -- ---- what is right after an effect

@@ -1,3 +1,8 @@
+pub mod RecordFields
+pub mod OwnedRuns
+pub mod Delivered
+pub mod ToldRuns
+pub mod Arrived
 pub mod Forms
 pub mod States
 pub mod Cases

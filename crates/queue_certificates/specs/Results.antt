@@ -1,6 +1,6 @@
 -- What an instruction leaves in a register, as far as it is known. What isn't treated becomes any number.
 use Rattle.std.specs.Prelude.{ℕ, ℤ, zero, suc, pos, negsuc, ◌+◌, ◌-◌, ◌*◌, ◌/◌, ◌%◌, ◌^◌, ◌==◌, ◌&&◌, not, nat_le, nat_lt}
-use Rattle.std.specs.Prelude.{if◌then◌else◌, Bool, true, false, Option, None, Some, List, map, count_ones}
+use Rattle.std.specs.Prelude.{if◌then◌else◌, Bool, true, false, Option, None, Some, List, map, count_ones, bit_and, bit_or, bit_xor}
 use Rattle.std.specs.Int.{trailing_zeros, w32}
 use Rattle.rv_decode.specs.declared.instruction.BranchOp.{BranchOp}
 use Rattle.rv_decode.specs.declared.instruction.BranchOp.TheVariants as branch
@@ -14,7 +14,7 @@ use Rattle.hart.specs.Effects.{word, computed, with_immediate, shifted, is_taken
 use Rattle.slot_queue.specs.Queues.{Queue}
 use Rattle.queue_certificates.specs.Forms.{Form, number, first_variable, plus, times, lifted, vanishes, is_same, most, fits_in}
 use Rattle.queue_certificates.specs.Forms.{remainder_word, Bounds, bounds_of}
-use Rattle.queue_certificates.specs.States.{KnownValue, any, linear, index_for, signed_for, value_by, scaled}
+use Rattle.queue_certificates.specs.States.{KnownValue, any, linear, index_for, signed_for, ends_as, has_bits, value_by, scaled}
 
 -- a value over one variable more, the first, which is at most so much
 pub record Result : Type 0 where
@@ -42,6 +42,38 @@ as_number any = None
 as_number (linear f) = if vanishes (2 ^ 32) f.factors then Some (f.constant % 2 ^ 32) else None
 as_number (index_for i f) = None
 as_number (signed_for i f) = None
+as_number (ends_as n f) = None
+as_number (has_bits m b) = None
+
+-- some bits of a word: those under the mask are these. A number is a word of which all are known
+pub record Bits : Type 0 where
+  pub mask : ℕ
+  pub bits : ℕ
+
+abbrev pub of_bits : (mask bits : ℕ) → KnownValue
+of_bits mask bits = if mask == 2 ^ 32 - 1 then linear (number bits) else has_bits mask bits
+
+abbrev pub number_bits : Option ℕ → Bits
+number_bits None = record { mask = 0; bits = 0 }
+number_bits (Some n) = record { mask = 2 ^ 32 - 1; bits = n }
+
+-- what bits are known of a value, where it is a word
+abbrev pub bits_of : KnownValue → Option Bits
+bits_of any = None
+bits_of (linear f) = Some (number_bits (as_number (linear f)))
+bits_of (index_for i f) = None
+bits_of (signed_for i f) = None
+bits_of (ends_as n f) = None
+bits_of (has_bits m b) = Some (record { mask = m; bits = b })
+
+-- an `or` has a bit where both are known there, or one is known to have it
+abbrev pub either_bits : Option Bits → Option Bits → KnownValue
+either_bits None b = any
+either_bits (Some a) None = any
+either_bits (Some a) (Some b) = of_bits (bit_or (bit_and a.mask b.mask) (bit_or a.bits b.bits)) (bit_or a.bits b.bits)
+
+abbrev pub or_of : KnownValue → KnownValue → KnownValue
+or_of v w = either_bits (bits_of v) (bits_of w)
 
 -- what one says where it says something, and else the other
 abbrev pub or_else : Option ℕ → Result → Result
@@ -69,6 +101,12 @@ is_below_signed (Some a) (Some b) = if nat_lt a.high (2 ^ 31) && nat_lt b.high (
 abbrev pub is_nothing : Option Bounds → Option Bool
 is_nothing None = None
 is_nothing (Some b) = if nat_lt 0 b.low then Some false else (if b.high == 0 then Some true else None)
+
+-- a number of n bits, where it is known whether it is 0
+abbrev pub bounds_by : (n : ℕ) → Option Bool → Option Bounds
+bounds_by n None = None
+bounds_by n (Some true) = Some (record { low = 0; high = 0 })
+bounds_by n (Some false) = Some (record { low = 1; high = 2 ^ n - 1 })
 
 abbrev pub negated : Option Bool → Option Bool
 negated None = None
@@ -134,11 +172,34 @@ abbrev pub rest_of : (ℕ → Queue) → KnownValue → Option Rest
 rest_of queues any = None
 rest_of queues (linear f) = whole f
 rest_of queues (index_for i f) = index_rest (queues i) f
+rest_of queues (ends_as n f) = None
+rest_of queues (has_bits m b) = None
 rest_of queues (signed_for i f) = if 256 ^ (queues i).index_width % ((queues i).scale * (queues i).modulus) == 0 then index_rest (queues i) f else None
 
 abbrev pub shifted_left : (ℕ → Queue) → KnownValue → (amount : ℕ) → Result
 shifted_left queues (linear f) amount = just (linear (times (2 ^ amount) f))
+shifted_left queues (has_bits m b) amount = just (of_bits (bit_or ((m * 2 ^ amount) % 2 ^ 32) (2 ^ amount - 1)) ((b * 2 ^ amount) % 2 ^ 32))
 shifted_left queues v amount = result_by (times (2 ^ amount)) (of_rest (rest_of queues v))
+
+-- two numbers agree in their lowest bits where their `xor` is 0 in these, and where their difference is
+abbrev pub xor_of : KnownValue → KnownValue → KnownValue
+xor_of (linear f) (linear g) = ends_as 32 (plus f (times (2 ^ 32 - 1) g))
+xor_of v w = any
+
+-- bits that a mask keeps of known ones, and 0 beside it. Low bits of which none is known are the other
+abbrev pub kept_bits : (m b mask : ℕ) → (other : Result) → Result
+kept_bits m b mask other = if (mask + 1 == 2 ^ count_ones mask) && (bit_and m mask == 0) then other
+    else just (of_bits (bit_or m (bit_xor mask (2 ^ 32 - 1))) (bit_and b mask))
+
+-- some of the lowest bits of a number of which that is known, or of a word of which some are; or the other
+abbrev pub ending_in : KnownValue → (mask : ℕ) → (other : Result) → Result
+ending_in (ends_as n f) mask other = if (mask + 1 == 2 ^ count_ones mask) && nat_le (count_ones mask) n then just (ends_as (count_ones mask) f) else other
+ending_in (has_bits m b) mask other = kept_bits m b mask other
+ending_in v mask other = other
+
+abbrev pub ending_by : KnownValue → Option ℕ → (other : Result) → Result
+ending_by v None other = other
+ending_by v (Some mask) other = ending_in v mask other
 
 -- an index that counts on in n words, so that each is a remainder by n
 abbrev pub is_count : Queue → (n : ℕ) → Bool
@@ -171,12 +232,28 @@ taken_known op None b other = other
 taken_known op (Some a) None other = other
 taken_known op (Some a) (Some b) other = Some (is_taken op a b)
 
+-- a word is negative where its highest bit is 1: whether it is below a number that is 0, or the other
+abbrev pub sign_or : KnownValue → Option ℕ → (other : Option Bool) → Option Bool
+sign_or (has_bits m b) (Some zero) other = if bit_and m (2 ^ 31) == 2 ^ 31 then Some (bit_and b (2 ^ 31) == 2 ^ 31) else other
+sign_or v a other = other
+
 module _ (ranges : List (Option ℕ)) where
   abbrev pub bounds : KnownValue → Option Bounds
   bounds any = None
   bounds (linear f) = bounds_of (2 ^ 32) ranges f
   bounds (index_for i f) = None
   bounds (signed_for i f) = None
+  bounds (ends_as n f) = if nat_le 1 n && nat_le n 32 then bounds_by n (is_nothing (bounds_of (2 ^ n) ranges f)) else None
+  bounds (has_bits m b) = None
+
+  -- whether one is below the other, in two's complement
+  abbrev pub is_less : KnownValue → KnownValue → Option Bool
+  is_less v w = sign_or v (as_number w) (is_below_signed (bounds v) (bounds w))
+
+  -- whether a value is this number, where that is 0
+  abbrev pub is_zero : KnownValue → Option ℕ → Option Bool
+  is_zero v None = None
+  is_zero v (Some a) = if a == 0 then is_nothing (bounds v) else None
 
   -- whether their remainders by n are the same, where bounds of the difference tell
   abbrev pub agrees : (n : ℕ) → Form → Form → Option Bool
@@ -212,6 +289,8 @@ module _ (queues : ℕ → Queue) (N : ℕ) (ranges : List (Option ℕ)) where
   shifted_back any amount = just any
   shifted_back (index_for i f) amount = just any
   shifted_back (signed_for i f) amount = just any
+  shifted_back (ends_as n f) amount = just any
+  shifted_back (has_bits m b) amount = just (of_bits (bit_or (m / 2 ^ amount) (2 ^ 32 - 2 ^ (32 - amount))) (b / 2 ^ amount))
   shifted_back (linear f) amount = if nat_le amount 32 && is_same 0 f (times (2 ^ amount) (without ranges (2 ^ amount) f))
       then remaining (2 ^ (32 - amount)) (without ranges (2 ^ amount) f) (remainder_word ranges (without ranges (2 ^ amount) f) (2 ^ (32 - amount)))
       (shifted_right (bounds_of (2 ^ 32) ranges f) amount)
@@ -228,11 +307,11 @@ module _ (queues : ℕ → Queue) (N : ℕ) (ranges : List (Option ℕ)) where
   -- of a value and an immediate
   abbrev pub immediate_part : ImmediateOp → KnownValue → ℤ → Result
   immediate_part immediate.Add v n = of_rest (rests_added (rest_of queues v) (whole (number (word n))))
-  immediate_part immediate.And v n = masked (rest_of queues v) (word n)
+  immediate_part immediate.And v n = ending_in v (word n) (masked (rest_of queues v) (word n))
   immediate_part immediate.SetLess v n = set_less (bounds ranges v) n
   immediate_part immediate.SetLessUnsigned v n = flag_of (is_below (bounds ranges v) (bounds ranges (linear (number (word n)))))
   immediate_part immediate.Xor v n = turned v (word n)
-  immediate_part immediate.Or v n = just any
+  immediate_part immediate.Or v n = just (or_of v (linear (number (word n))))
 
   abbrev pub of_immediate : ImmediateOp → KnownValue → ℤ → Result
   of_immediate op v n = or_else (number_and (λ a. with_immediate op a n) (as_number v)) (immediate_part op v n)
@@ -243,11 +322,12 @@ module _ (queues : ℕ → Queue) (N : ℕ) (ranges : List (Option ℕ)) where
   register_part register.ShiftLeft v w = just any
   register_part register.SetLess v w = flag_of (is_below_signed (bounds ranges v) (bounds ranges w))
   register_part register.SetLessUnsigned v w = flag_of (is_below (bounds ranges v) (bounds ranges w))
-  register_part register.Xor v w = just any
+  register_part register.Xor v w = just (xor_of v w)
   register_part register.ShiftRight v w = just any
   register_part register.ShiftRightArithmetic v w = just any
-  register_part register.Or v w = just any
-  register_part register.And v w = masked_by (rest_of queues v) (as_number w) (masked_by (rest_of queues w) (as_number v) (just any))
+  register_part register.Or v w = just (or_of v w)
+  register_part register.And v w = ending_by v (as_number w) (ending_by w (as_number v)
+      (masked_by (rest_of queues v) (as_number w) (masked_by (rest_of queues w) (as_number v) (just any))))
 
   abbrev pub of_registers : RegisterOp → KnownValue → KnownValue → Result
   of_registers op v w = or_else (both (computed op) (as_number v) (as_number w)) (register_part op v w)
@@ -267,6 +347,8 @@ module _ (queues : ℕ → Queue) (ranges : List (Option ℕ)) where
   standing i (linear f) = if is_scaled (queues i) f (unscaled (queues i) f) then Some (unscaled (queues i) f) else None
   standing i (index_for j f) = if i == j then Some (plus f (number (queues i).offset)) else None
   standing i (signed_for j f) = None
+  standing i (ends_as n f) = None
+  standing i (has_bits m b) = None
 
   abbrev pub both_agree : (n : ℕ) → Option Form → Option Form → Option Bool
   both_agree n None k = None
@@ -290,13 +372,19 @@ module _ (queues : ℕ → Queue) (ranges : List (Option ℕ)) where
   is_equal (linear f) (signed_for i g) = None
   is_equal (linear f) (index_for i g) = is_equal_word i (linear f) (index_for i g)
   is_equal (linear f) (linear g) = agrees ranges (2 ^ 32) f g
+  is_equal (linear f) (ends_as n g) = is_zero ranges (ends_as n g) (as_number (linear f))
+  is_equal (ends_as n f) w = is_zero ranges (ends_as n f) (as_number w)
+  is_equal (has_bits m b) w = None
+  is_equal (linear f) (has_bits m b) = None
+  is_equal (signed_for i f) (ends_as n g) = None
+  is_equal (signed_for i f) (has_bits m b) = None
 
   -- whether a branch is taken, where that is known
   abbrev pub branch_part : BranchOp → KnownValue → KnownValue → Option Bool
   branch_part branch.Equal v w = is_equal v w
   branch_part branch.NotEqual v w = negated (is_equal v w)
-  branch_part branch.Less v w = is_below_signed (bounds ranges v) (bounds ranges w)
-  branch_part branch.GreaterEqual v w = negated (is_below_signed (bounds ranges v) (bounds ranges w))
+  branch_part branch.Less v w = is_less ranges v w
+  branch_part branch.GreaterEqual v w = negated (is_less ranges v w)
   branch_part branch.LessUnsigned v w = is_below (bounds ranges v) (bounds ranges w)
   branch_part branch.GreaterEqualUnsigned v w = negated (is_below (bounds ranges v) (bounds ranges w))
 

@@ -1,20 +1,24 @@
 -- What a certificate says of one hart at one pc, and what that means.
-use Rattle.std.specs.Prelude.{ℕ, ◌≡◌, ◌+◌, ◌-◌, ◌*◌, ◌%◌, ◌^◌, ◌<◌, ◌==◌, ◌&&◌, nat_lt, if◌then◌else◌, Bool, true}
-use Rattle.std.specs.Prelude.{false, Option, None, Some, List, map, length, get_or, slice_index}
+use Rattle.std.specs.Prelude.{ℕ, ◌≡◌, ◌+◌, ◌-◌, ◌*◌, ◌%◌, ◌^◌, ◌<◌, ◌≤◌, ◌==◌, ◌&&◌, nat_lt, nat_le, if◌then◌else◌, Bool, true}
+use Rattle.std.specs.Prelude.{false, Option, None, Some, List, map, length, get_or, slice_index, bit_and}
 use Rattle.hart.specs.State.{HartState}
 use Rattle.slot_queue.specs.Queues.{Queue, index_word}
 use Rattle.queue_parties.specs.Parties.{Party, QueueCounts, count}
 use Rattle.slot_queue.specs.Ownership.{hart, end}
-use Rattle.owned_run.specs.Certified.{View, AllCounts, number_seen}
+use Rattle.queue_certificates.specs.OwnedRuns.{View, AllCounts, number_seen}
 use Rattle.queue_certificates.specs.Forms.{Form, form_value, number, plus, times, is_same, InRanges, most, fits_in, remainder}
 
 -- what is known of a register or a word: nothing; that it is this form's remainder by 2 ^ 32; that it is the word of queue i that
--- stands for the count that this form is; or that it is what a signed load leaves of that word
+-- stands for the count that this form is; that it is what a signed load leaves of that word; or that it is a number of this many bits that
+-- ends in as many zeros as the form does, and is 0 where all these bits of the form are: what `xor` leaves of two numbers, of their difference;
+-- or that it is a word whose bits under this mask are these
 pub data KnownValue : Type 0 where
   any : KnownValue
   linear : (f : Form) → KnownValue
   index_for : (i : ℕ) (f : Form) → KnownValue
   signed_for : (i : ℕ) (f : Form) → KnownValue
+  ends_as : (bits : ℕ) (f : Form) → KnownValue
+  has_bits : (mask bits : ℕ) → KnownValue
 
 -- of a queue of which the hart is a party: its own count, and how many positions it owns, exactly so many
 pub record Share : Type 0 where
@@ -37,6 +41,8 @@ value_by t any = any
 value_by t (linear f) = linear (t f)
 value_by t (index_for i f) = index_for i (t f)
 value_by t (signed_for i f) = signed_for i (t f)
+value_by t (ends_as n f) = ends_as n (t f)
+value_by t (has_bits m b) = has_bits m b
 
 abbrev pub share_by : (Form → Form) → Share → Share
 share_by t s = record { own = t s.own; owned = t s.owned }
@@ -56,12 +62,18 @@ state_by t ranges s = record {
 abbrev pub signed_word : (width x : ℕ) → ℕ
 signed_word width x = if nat_lt (x + x) (256 ^ width) then x else x + (2 ^ 32 - 256 ^ width)
 
+-- in their lowest bits, n of them, two numbers end in the same number of zeros
+abbrev pub EndAlike : (n x y : ℕ) → Type 0
+EndAlike n x y = (j : ℕ) → j ≤ n → (x % 2 ^ j == 0) ≡ (y % 2 ^ j == 0)
+
 module _ (queues : ℕ → Queue) where
   abbrev pub Has : List ℕ → KnownValue → (x : ℕ) → Type 0
   Has xs any x = Unit {0}
   Has xs (linear f) x = x ≡ form_value f xs % 2 ^ 32
   Has xs (index_for i f) x = x ≡ index_word (queues i) (form_value f xs)
   Has xs (signed_for i f) x = x ≡ signed_word (queues i).index_width (index_word (queues i) (form_value f xs))
+  Has xs (ends_as n f) x = (x < 2 ^ n) × EndAlike n x (form_value f xs)
+  Has xs (has_bits m b) x = (x < 2 ^ 32) × (bit_and x m ≡ b)
 
 -- an index's word as a form, where it is one
 abbrev pub scaled : Queue → Form → Form
@@ -77,6 +89,8 @@ module _ (queues : ℕ → Queue) (ranges : List (Option ℕ)) where
   plain (linear f) = linear f
   plain (index_for i f) = of_remainder ranges (queues i) i f (remainder ranges (plus f (number (queues i).offset)) (queues i).modulus)
   plain (signed_for i f) = signed_for i f
+  plain (ends_as n f) = ends_as n f
+  plain (has_bits m b) = has_bits m b
 
   -- a number of which the first is known, of that the second holds too
   abbrev pub is_within_plain : KnownValue → KnownValue → Bool
@@ -91,6 +105,22 @@ module _ (queues : ℕ → Queue) (ranges : List (Option ℕ)) where
   is_within_plain (index_for i f) (signed_for j g) = false
   is_within_plain (signed_for i f) (linear g) = false
   is_within_plain (signed_for i f) (index_for j g) = false
+  is_within_plain (ends_as n f) (ends_as m g) = (n == m) && nat_le n 32 && is_same (2 ^ n) f g
+  is_within_plain (ends_as n f) (linear g) = false
+  is_within_plain (ends_as n f) (index_for j g) = false
+  is_within_plain (ends_as n f) (signed_for j g) = false
+  is_within_plain (linear f) (ends_as m g) = false
+  is_within_plain (index_for i f) (ends_as m g) = false
+  is_within_plain (signed_for i f) (ends_as m g) = false
+  is_within_plain (has_bits m b) (has_bits n c) = (bit_and m n == n) && (bit_and b n == c)
+  is_within_plain (has_bits m b) (linear g) = false
+  is_within_plain (has_bits m b) (index_for j g) = false
+  is_within_plain (has_bits m b) (signed_for j g) = false
+  is_within_plain (has_bits m b) (ends_as n g) = false
+  is_within_plain (linear f) (has_bits n c) = false
+  is_within_plain (index_for i f) (has_bits n c) = false
+  is_within_plain (signed_for i f) (has_bits n c) = false
+  is_within_plain (ends_as n f) (has_bits m c) = false
 
   abbrev pub is_within : KnownValue → KnownValue → Bool
   is_within v w = is_within_plain (plain v) (plain w)

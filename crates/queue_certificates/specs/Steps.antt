@@ -21,7 +21,7 @@ use Rattle.slot_queue.specs.Queues.{Queue}
 use Rattle.queue_parties.specs.Parties.{Party, the_sender, the_receiver, other}
 use Rattle.slot_queue.specs.Ownership.{party_of, index}
 use Rattle.queue_certificates.specs.Forms.{Form, number, first_variable, plus, times, remainder, lifted, is_same, most, fits_in, Bounds, minus}
-use Rattle.queue_certificates.specs.States.{KnownValue, any, linear, index_for, signed_for, Share, no_share, KnownState, value_by}
+use Rattle.queue_certificates.specs.States.{KnownValue, any, linear, index_for, signed_for, ends_as, has_bits, Share, no_share, KnownState, value_by}
 use Rattle.queue_certificates.specs.States.{share_by, state_by, scaled, plain, is_within}
 use Rattle.queue_certificates.specs.Results.{Result, just, exactly, or_up_to, as_number, bounds, sum_of, of_immediate, of_shift, of_registers, is_branch_taken}
 
@@ -63,6 +63,8 @@ abbrev pub is_owned : List (Option ℕ) → Queue → Share → KnownValue → (
 is_owned rs q s any width = false
 is_owned rs q s (index_for i f) width = false
 is_owned rs q s (signed_for i f) width = false
+is_owned rs q s (ends_as n f) width = false
+is_owned rs q s (has_bits m b) width = false
 is_owned rs q s (linear f) width = nat_lt (position_at q s.own.constant f.constant) s.owned.constant && nat_le (offset_at q f.constant + width) q.width
     && is_slot rs q f (offset_at q f.constant) (remainder rs (plus s.own (number (position_at q s.own.constant f.constant))) q.size)
 
@@ -76,6 +78,8 @@ abbrev pub is_cut : Queue → KnownValue → (f : Form) → Bool
 is_cut q any f = false
 is_cut q (index_for i g) f = false
 is_cut q (signed_for i g) f = false
+is_cut q (ends_as n g) f = false
+is_cut q (has_bits m b) f = false
 is_cut q (linear g) f = (q.scale * q.modulus == 256 ^ q.index_width) && nat_lt q.base q.scale
     && is_same (256 ^ q.index_width) g (scaled q (plus f (number q.offset)))
 
@@ -149,6 +153,8 @@ shared k rs1 rs2 any w = record k { registers = with_register k.registers rs1.nu
 shared k rs1 rs2 (linear f) any = record k { registers = with_register k.registers rs2.number (linear f) }
 shared k rs1 rs2 (index_for i f) any = record k { registers = with_register k.registers rs2.number (index_for i f) }
 shared k rs1 rs2 (signed_for i f) any = record k { registers = with_register k.registers rs2.number (signed_for i f) }
+shared k rs1 rs2 (ends_as n f) any = record k { registers = with_register k.registers rs2.number (ends_as n f) }
+shared k rs1 rs2 (has_bits m b) any = record k { registers = with_register k.registers rs2.number (has_bits m b) }
 shared k rs1 rs2 v w = k
 
 abbrev pub with_equal : KnownState → (rs1 rs2 : Reg) → KnownState
@@ -186,6 +192,8 @@ storable N any = any
 storable N (linear f) = linear f
 storable N (index_for i f) = if nat_lt i N then index_for i f else any
 storable N (signed_for i f) = if nat_lt i N then signed_for i f else any
+storable N (ends_as n f) = any
+storable N (has_bits m b) = has_bits m b
 
 -- the own words at these addresses after a store of a value
 abbrev pub word_then : (N : ℕ) → Bounds → (width : ℕ) → KnownValue → (a : ℕ) → KnownValue → KnownValue
@@ -236,12 +244,16 @@ module _ (queues : ℕ → Queue) where
   is_index_below limit any = false
   is_index_below limit (linear f) = false
   is_index_below limit (signed_for i f) = false
+  is_index_below limit (ends_as n f) = false
+  is_index_below limit (has_bits m b) = false
   is_index_below limit (index_for i f) = nat_le 1 (queues i).modulus && nat_lt ((queues i).base + (queues i).scale * ((queues i).modulus - 1)) limit
 
   abbrev pub signed_value : (width : ℕ) → KnownValue → KnownValue
   signed_value width any = any
   signed_value width (linear f) = any
   signed_value width (signed_for i f) = any
+  signed_value width (ends_as n f) = any
+  signed_value width (has_bits m b) = any
   signed_value width (index_for i f) = if (queues i).index_width == width then signed_for i f else any
 
   -- a signed load leaves a number as it is if its highest bit is 0

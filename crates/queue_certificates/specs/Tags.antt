@@ -1,24 +1,26 @@
 -- Queues of a certificate whose slots tell whose they are: how their tags tell, what is known of a party's share, and what an instruction
 -- makes of a known state besides.
 use Rattle.std.specs.Prelude.{ℕ, ℤ, ◌≡◌, ◌+◌, ◌-◌, ◌*◌, ◌%◌, ◌^◌, ◌≤◌, ◌<◌, ◌==◌, ◌&&◌, ◌||◌, not, nat_le, nat_lt, if◌then◌else◌, Bool, true, false}
-use Rattle.std.specs.Prelude.{Option, None, Some, is_some, List, [], ◌∷◌, map, length, get_or, set}
+use Rattle.std.specs.Prelude.{Option, None, Some, is_some, List, [], ◌∷◌, map, length, get_or, set, bit_and, bit_or}
 use Rattle.rv_decode.specs.declared.instruction.Reg.{Reg}
 use Rattle.rv_decode.specs.declared.instruction.LoadOp.{LoadOp}
+use Rattle.rv_decode.specs.declared.instruction.LoadOp.TheVariants as load
 use Rattle.rv_decode.specs.declared.instruction.StoreOp.{StoreOp}
 use Rattle.rv_decode.specs.declared.instruction.Instr.{Instr}
 use Rattle.rv_decode.specs.declared.instruction.Instr.TheVariants.{Load, Store, Amo}
-use Rattle.hart.specs.Effects.{next_pc, load_width, store_width}
+use Rattle.hart.specs.Effects.{next_pc, extended, load_width, store_width}
 use Rattle.queue_parties.specs.Parties.{Party, the_sender, the_receiver, other, QueueCounts, count}
 use Rattle.certified_runs.specs.TwoParties.{AllCounts}
 use Rattle.slot_queue.specs.Queues.{Queue}
+use Rattle.slots_that_tell.specs.Slots.{gap}
 use Rattle.slots_that_tell.specs.Telling.{teller_of, teller_hart, owned_end}
 use Rattle.queue_layouts.specs.declared.tagged.Codec.{Codec}
 use Rattle.queue_layouts.specs.declared.tagged.Codec.TheVariants as codec
 use Rattle.queue_layouts.specs.declared.tagged.TaggedQueue.{TaggedQueue}
 use Rattle.queue_layouts.specs.Tagged.{slots_of}
 use Rattle.queue_certificates.specs.Forms.{Form, form_value, number, first_variable, plus, lifted, substituted, is_same, most, fits_in, remainder, Bounds}
-use Rattle.queue_certificates.specs.States.{KnownValue, any, linear, index_for, signed_for, Share, no_share, KnownState}
-use Rattle.queue_certificates.specs.Results.{Result, just, bounds}
+use Rattle.queue_certificates.specs.States.{KnownValue, any, linear, index_for, signed_for, ends_as, has_bits, Share, no_share, KnownState}
+use Rattle.queue_certificates.specs.Results.{Result, just, bounds, Bits, of_bits, bits_of}
 use Rattle.queue_certificates.specs.Steps.{all_below, last_below, is_just, is_apart, position_at, offset_at, is_slot, is_owned}
 use Rattle.queue_certificates.specs.Steps.{most_loaded, with_result, share_at, operand, address_value, addresses, exchanged, may_load, updated_value}
 
@@ -44,10 +46,11 @@ abbrev pub party_in : TaggedQueue → (h : ℕ) → Option Party
 party_in q h = teller_of (slots_of q) h
 
 -- two harts, some slots, and in each a tag of at most a word. Positions' numbers fill a word, and those of a free slot and of a full one
--- differ
+-- differ; bits are of the tag, and those of a free slot and of a full one differ
 abbrev pub is_codec : TaggedQueue → Codec → Bool
 is_codec q codec.Zero = true
 is_codec q codec.Number = (q.tag_width == 4) && not (q.size % 2 ^ 32 == 1)
+is_codec q (codec.Bit mask free full) = nat_lt mask (256 ^ q.tag_width) && not (free == full)
 
 abbrev pub is_tagged : TaggedQueue → Bool
 is_tagged q = not (q.sender == q.receiver) && nat_le 1 q.size && nat_le 1 q.tag_width && nat_le q.tag_width 4
@@ -71,6 +74,8 @@ abbrev pub tag_position : List (Option ℕ) → TaggedQueue → Share → (place
 tag_position rs q s any width = None
 tag_position rs q s (index_for i f) width = None
 tag_position rs q s (signed_for i f) width = None
+tag_position rs q s (ends_as n f) width = None
+tag_position rs q s (has_bits m b) width = None
 tag_position rs q s (linear f) width = if (width == q.tag_width) && (offset_at (bare q) f.constant == q.tag_offset) && is_in_slot rs q s f
     then Some (position_at (bare q) s.own.constant f.constant) else None
 
@@ -79,6 +84,8 @@ abbrev pub is_of_rest : List (Option ℕ) → TaggedQueue → Share → (place :
 is_of_rest rs q s any width = false
 is_of_rest rs q s (index_for i f) width = false
 is_of_rest rs q s (signed_for i f) width = false
+is_of_rest rs q s (ends_as n f) width = false
+is_of_rest rs q s (has_bits m b) width = false
 is_of_rest rs q s (linear f) width = (nat_le (offset_at (bare q) f.constant + width) q.tag_offset
     || nat_le (q.tag_offset + q.tag_width) (offset_at (bare q) f.constant)) && is_owned rs (bare q) s (linear f) width
 
@@ -87,30 +94,63 @@ abbrev pub is_of_tag : List (Option ℕ) → TaggedQueue → Share → (place : 
 is_of_tag rs q s any width = false
 is_of_tag rs q s (index_for i f) width = false
 is_of_tag rs q s (signed_for i f) width = false
+is_of_tag rs q s (ends_as n f) width = false
+is_of_tag rs q s (has_bits m b) width = false
 is_of_tag rs q s (linear f) width = nat_le q.tag_offset (offset_at (bare q) f.constant)
     && nat_le (offset_at (bare q) f.constant + width) (q.tag_offset + q.tag_width) && is_in_slot rs q s f
 
 abbrev pub is_beside_slots : TaggedQueue → Bounds → (width : ℕ) → Bool
 is_beside_slots q b width = is_apart b width q.slots (q.size * q.width)
 
--- ---- what a party loads: the number that tells it of the position so much further, and the one that tells the other party
+-- ---- what a tag satisfies that tells a party that it has a position
+
+-- it is 0; it isn't; it is the number that this form is, of a whole word; or its bits under this mask are these
+pub data Told : Type 0 where
+  nothing : Told
+  something : Told
+  number_of : (f : Form) → Told
+  bits_are : (mask bits : ℕ) → Told
+
+-- of the position that the form is
+abbrev pub told_by : Codec → Party → (position : Form) → Told
+told_by codec.Zero the_sender f = nothing
+told_by codec.Zero the_receiver f = something
+told_by codec.Number the_sender f = number_of f
+told_by codec.Number the_receiver f = number_of (plus f (number 1))
+told_by (codec.Bit mask free full) the_sender f = bits_are mask free
+told_by (codec.Bit mask free full) the_receiver f = bits_are mask full
+
+-- the position, so much further than the own count, and the other party's own position of that slot, which are alike modulo 2 ^ 32
+abbrev pub back_to : TaggedQueue → Party → ℕ
+back_to q the_sender = 0
+back_to q the_receiver = 2 ^ 32 - q.size % 2 ^ 32
+
+-- ---- what a load leaves of such a tag
 
 -- a number that isn't 0
 abbrev pub some_up_to : (n : ℕ) → Result
 some_up_to n = record { most = n - 1; value = linear (plus (number 1) first_variable) }
 
+-- the bits that an unsigned load leaves 0
+abbrev pub bits_above : LoadOp → ℕ
+bits_above load.ByteUnsigned = 2 ^ 32 - 2 ^ 8
+bits_above load.HalfUnsigned = 2 ^ 32 - 2 ^ 16
+bits_above op = 0
+
+abbrev pub value_told : LoadOp → Told → Result
+value_told op nothing = just (linear (number 0))
+value_told op something = some_up_to (most_loaded op)
+value_told op (number_of f) = just (linear f)
+value_told op (bits_are mask bits) = just (of_bits (bit_or (extended op mask) (bits_above op)) (extended op bits))
+
+-- what a party loads where the tag tells it of the position so much further, and where it tells the other party
 abbrev pub told_value : Codec → Party → LoadOp → (own : Form) → (position : ℕ) → Result
-told_value codec.Zero the_sender op own j = just (linear (number 0))
-told_value codec.Zero the_receiver op own j = some_up_to (most_loaded op)
-told_value codec.Number the_sender op own j = just (linear (plus own (number j)))
-told_value codec.Number the_receiver op own j = just (linear (plus own (number (j + 1))))
+told_value c p op own j = value_told op (told_by c p (plus own (number j)))
 
 abbrev pub other_value : TaggedQueue → Codec → Party → LoadOp → (own : Form) → (position : ℕ) → Result
-other_value q codec.Zero p op own j = told_value codec.Zero (other p) op own j
-other_value q codec.Number the_sender op own j = just (linear (plus own (number (j + 1 + (2 ^ 32 - q.size % 2 ^ 32)))))
-other_value q codec.Number the_receiver op own j = just (linear (plus own (number j)))
+other_value q c p op own j = value_told op (told_by c (other p) (plus own (number (j + back_to q (other p)))))
 
--- ---- what hands the own position over
+-- ---- what hands the own position over: a stored value that makes the tag tell the other party
 
 abbrev pub is_positive : (width : ℕ) → Option Bounds → Bool
 is_positive width None = false
@@ -120,13 +160,23 @@ abbrev pub is_number : (n : ℕ) → KnownValue → Form → Bool
 is_number n any g = false
 is_number n (index_for i f) g = false
 is_number n (signed_for i f) g = false
+is_number n (ends_as b f) g = false
+is_number n (has_bits m b) g = false
 is_number n (linear f) g = is_same n f g
 
+abbrev pub are_these : Option Bits → (mask bits : ℕ) → Bool
+are_these None mask bits = false
+are_these (Some b) mask bits = (bit_and b.mask mask == mask) && (bit_and b.bits mask == bits)
+
+abbrev pub makes : List (Option ℕ) → (width : ℕ) → Told → (stored : KnownValue) → Bool
+makes rs width nothing v = is_number (256 ^ width) v (number 0)
+makes rs width something v = is_positive width (bounds rs v)
+makes rs width (number_of f) v = is_number (2 ^ 32) v f
+makes rs width (bits_are mask bits) v = are_these (bits_of v) mask bits
+
+-- the sender hands over its own position, and the receiver the slot's next one
 abbrev pub hands_over : List (Option ℕ) → TaggedQueue → Codec → Party → (own : Form) → (stored : KnownValue) → Bool
-hands_over rs q codec.Zero the_sender own v = is_positive q.tag_width (bounds rs v)
-hands_over rs q codec.Zero the_receiver own v = is_number (256 ^ q.tag_width) v (number 0)
-hands_over rs q codec.Number the_sender own v = is_number (2 ^ 32) v (plus own (number 1))
-hands_over rs q codec.Number the_receiver own v = is_number (2 ^ 32) v (plus own (number q.size))
+hands_over rs q c p own v = makes rs q.tag_width (told_by c (other p) (plus own (number (gap (slots_of q) p)))) v
 
 -- one position is handed over
 abbrev pub handed : Share → Share

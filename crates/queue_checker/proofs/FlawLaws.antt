@@ -125,6 +125,8 @@ same-codec : (q : TaggedQueue) (way : Codec) → IsSame (is_codec q way) (codec_
 same-codec q codec.Zero = record { empty = λ e. refl; holds = λ e. refl }
 same-codec q codec.Number = same-first_of (q.tag_width == 4) (not (q.size % 2 ^ 32 == 1)) _ _
     (same-unless (q.tag_width == 4) tag.NarrowNumber) (same-unless (not (q.size % 2 ^ 32 == 1)) tag.SameNumbers)
+same-codec q (codec.Bit mask free full) = same-first_of (nat_lt mask (256 ^ q.tag_width)) (not (free == full)) _ _
+    (same-unless (nat_lt mask (256 ^ q.tag_width)) tag.WideMask) (same-unless (not (free == full)) tag.SameBits)
 
 same-tag : (q : TaggedQueue) → IsSame (is_tagged q) (tag_flaw q)
 same-tag q =

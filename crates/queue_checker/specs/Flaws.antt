@@ -12,7 +12,7 @@ use Rattle.queue_certificates.specs.Fields.{is_field}
 use Rattle.queue_layouts.specs.declared.tagged.Codec.{Codec}
 use Rattle.queue_layouts.specs.declared.tagged.Codec.TheVariants as codec
 use Rattle.queue_layouts.specs.declared.tagged.TaggedQueue.{TaggedQueue}
-use Rattle.owned_run.specs.Certificates.{Field}
+use Rattle.queue_certificates.specs.RecordFields.{Field}
 use Rattle.slot_queue.specs.Queues.{Queue as SlotQueue, index_word}
 use Rattle.store_buffers.specs.StoreBuffers.{memory_number}
 use Rattle.queue_checker.specs.declared.flaws.QueueFlaw.{QueueFlaw}
@@ -105,6 +105,7 @@ flaw_of_queue o c i = option_map (λ why. Queue i why) (queue_flaw o c i)
 abbrev pub codec_flaw : TaggedQueue → Codec → Option TaggedFlaw
 codec_flaw q codec.Zero = None
 codec_flaw q codec.Number = unless (q.tag_width == 4) tag.NarrowNumber <|> unless (not (q.size % 2 ^ 32 == 1)) tag.SameNumbers
+codec_flaw q (codec.Bit mask free full) = unless (nat_lt mask (256 ^ q.tag_width)) tag.WideMask <|> unless (not (free == full)) tag.SameBits
 
 abbrev pub tag_flaw : TaggedQueue → Option TaggedFlaw
 tag_flaw q = unless (not (q.sender == q.receiver)) tag.OneHart

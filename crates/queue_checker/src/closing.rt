@@ -8,9 +8,27 @@ use crate::certificate::{Arrow, Cases, KnownState, QueueCertificate};
 use crate::fields::next_received;
 use crate::leaves::{LeafCheck, each_leaf};
 use crate::steps::{follow, instruction_at};
+use crate::successors::Successors;
 use crate::tags::next_told;
 use known_values::{Form, Lack};
 use std::alloc::Global;
+
+/// The states that may follow the instruction at a leaf, which hands over `handed` positions.
+pub fn next_states(
+    alloc: Global,
+    certificate: &QueueCertificate,
+    hart: u32,
+    code: &[u32],
+    state: &KnownState,
+    handed: &Form,
+) -> Result<Successors, Lack>
+    ensures { IfOk result (λ next. next ≡ next_states certificate.now hart code.now state.now handed.now) }
+{
+    let instruction = instruction_at(code, state.pc);
+    let known = follow(alloc, certificate, hart, state, handed, instruction)?;
+    let received = next_received(alloc, certificate, hart, state, instruction, known)?;
+    next_told(alloc, certificate, hart, state, instruction, received)
+}
 
 /// Whether the instruction leads from a state along these arrows.
 fn is_leaf_closed(
@@ -24,10 +42,7 @@ fn is_leaf_closed(
 ) -> Result<bool, Lack>
     ensures { IfOk result (λ closed. closed ≡ all_lead certificate.now hart (next_states certificate.now hart code.now state.now handed.now) arrows.now) }
 {
-    let instruction = instruction_at(code, state.pc);
-    let known = follow(alloc, certificate, hart, state, handed, instruction)?;
-    let received = next_received(alloc, certificate, hart, state, instruction, known)?;
-    let next = next_told(alloc, certificate, hart, state, instruction, received)?;
+    let next = next_states(alloc, certificate, hart, code, state, handed)?;
     all_lead(alloc, certificate, hart, &next, arrows)
 }
 

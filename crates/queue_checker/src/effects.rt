@@ -63,6 +63,8 @@ pub(crate) fn filled_by(
         Known::Any => Ok(Effect::Leaves),
         Known::IndexFor(_, _) => Ok(Effect::Leaves),
         Known::SignedFor(_, _) => Ok(Effect::Leaves),
+        Known::EndsAs(_, _) => Ok(Effect::Leaves),
+        Known::HasBits(_, _) => Ok(Effect::Leaves),
     }
 }
 

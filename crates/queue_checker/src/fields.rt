@@ -14,8 +14,8 @@ use crate::states::{next_pc, share_in, with_result};
 use crate::steps::address_value;
 use crate::successors::Successors;
 use known_values::fields::last_number;
+use known_values::numbers::bounds;
 use known_values::queues::{fields_in, queue_in};
-use known_values::results::bounds;
 use known_values::values::linear;
 use known_values::{Field, Form, Known, KnownValue, Lack, Outcome};
 use rv_decode::instruction::LoadOp;
@@ -89,6 +89,8 @@ fn field_in(
         Known::Any => Ok(None),
         Known::IndexFor(_, _) => Ok(None),
         Known::SignedFor(_, _) => Ok(None),
+        Known::EndsAs(_, _) => Ok(None),
+        Known::HasBits(_, _) => Ok(None),
         Known::Linear(form) => {
             let queue = queue_in(&certificate.queues, i);
             let share = share_in(alloc, &state.shares, i as usize)?;

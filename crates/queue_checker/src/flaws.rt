@@ -51,6 +51,10 @@ pub enum TaggedFlaw {
     NarrowNumber,
     /// A position's number is the same for a free slot and for a full one.
     SameNumbers,
+    /// The mask has a bit that the tag doesn't.
+    WideMask,
+    /// The bits of a free slot are those of a full one.
+    SameBits,
     /// Memory opens with a slot that isn't free for its position.
     NotFree,
 }

@@ -4,7 +4,7 @@
 //! ([`laws_of_flaws`]); [`first_unowned`] does the same for the loads of one hart, and [`first_unowned_rest`] for those of the slots of a
 //! queue with tags. A [`Lack`](known_values::Lack) decides nothing. This crate finds no certificate, reads no text and runs no machine.
 //!
-//! Called by `hart_safety`, `records_written`, `certificate_reader` and `certifying`.
+//! Called by `hart_safety`, `queue_progress`, `certificate_reader`, `records_written` and `certifying`.
 
 #![tactic(auto)]
 
@@ -14,7 +14,7 @@ pub mod certificate;
 mod checking;
 #[cfg(test)]
 mod checking_tags;
-mod closing;
+pub mod closing;
 pub mod effects;
 mod fields;
 mod filled;
@@ -33,7 +33,7 @@ pub mod slots;
 pub mod states;
 pub mod steps;
 pub mod stores;
-mod successors;
+pub mod successors;
 pub mod tag_effects;
 mod tag_loads;
 mod tag_places;

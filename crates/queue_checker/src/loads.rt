@@ -40,7 +40,14 @@ pub fn load_width(op: LoadOp) -> u64
     }
 }
 
-fn is_look(certificate: &QueueCertificate, hart: u32, bounds: Bounds, width: u64, i: u32) -> bool
+/// Whether an access is of the other's index of queue `i`, whole.
+pub fn is_look(
+    certificate: &QueueCertificate,
+    hart: u32,
+    bounds: Bounds,
+    width: u64,
+    i: u32,
+) -> bool
     ensures { result ≡ is_look (queue_at certificate.now) hart bounds width i }
 {
     is_one(bounds) && is_others(queue_in(&certificate.queues, i), hart, bounds.low, width)
@@ -161,6 +168,8 @@ fn is_index_below(
         Known::Any => Ok(false),
         Known::Linear(_) => Ok(false),
         Known::SignedFor(_, _) => Ok(false),
+        Known::EndsAs(_, _) => Ok(false),
+        Known::HasBits(_, _) => Ok(false),
         Known::IndexFor(i, _) => {
             let queue = queue_in(&certificate.queues, *i);
             let last = last_word(queue)?;

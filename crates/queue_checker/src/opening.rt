@@ -5,7 +5,7 @@ ghost use Rattle.memory.specs.Writes.{byte_of, joined};
 ghost use Rattle.step_machine.specs.Entries.{opening_byte};
 ghost use Rattle.slot_queue.specs.Queues.{index_word};
 ghost use Rattle.slot_queue.specs.Ownership.{party_of};
-ghost use Rattle.owned_run.specs.Certified.{number_seen};
+ghost use Rattle.queue_certificates.specs.OwnedRuns.{number_seen};
 ghost use Rattle.queue_certificates.specs.States.{any, no_share};
 ghost use Rattle.queue_certificates.specs.Steps.{all_below};
 ghost use Rattle.queue_certificates.specs.Certificates.{queue_at, start_at, own_of, part_of, state_at, no_queue};
@@ -88,6 +88,8 @@ fn is_value(
             let index = index_word(queue, form_value(form, numbers)?)?;
             Ok(word == signed_word(queue.index_width, index)?)
         }
+        Known::EndsAs(_, _) => Ok(false),
+        Known::HasBits(_, _) => Ok(false),
     }
 }
 

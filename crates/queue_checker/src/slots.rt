@@ -89,5 +89,7 @@ pub fn is_owned(
         Known::Any => Ok(false),
         Known::IndexFor(_, _) => Ok(false),
         Known::SignedFor(_, _) => Ok(false),
+        Known::EndsAs(_, _) => Ok(false),
+        Known::HasBits(_, _) => Ok(false),
     }
 }

@@ -16,8 +16,9 @@ use crate::stores::{exchanging, storable, store_width, storing};
 use crate::successors::{Successors, none, not_shown, one, two};
 use known_values::forms::number;
 use known_values::lack::{product, sum};
+use known_values::numbers::{as_number, bounds};
 use known_values::results::{
-    as_number, bounds, exactly, is_branch_taken, just, of_immediate, of_registers, of_shift, sum_of,
+    exactly, is_branch_taken, just, of_immediate, of_registers, of_shift, sum_of,
 };
 use known_values::values::{linear, plain};
 use known_values::{Form, Known, KnownValue, Lack, Outcome};
@@ -115,6 +116,28 @@ fn shared(
         (Known::SignedFor(_, _), Known::Linear(_)) => copied_state(alloc, state),
         (Known::SignedFor(_, _), Known::IndexFor(_, _)) => copied_state(alloc, state),
         (Known::SignedFor(_, _), Known::SignedFor(_, _)) => copied_state(alloc, state),
+        (Known::Linear(_), Known::EndsAs(_, _)) => copied_state(alloc, state),
+        (Known::IndexFor(_, _), Known::EndsAs(_, _)) => copied_state(alloc, state),
+        (Known::SignedFor(_, _), Known::EndsAs(_, _)) => copied_state(alloc, state),
+        (Known::EndsAs(_, _), Known::Any) => {
+            with_value(alloc, state, rs2.number, left.copy(alloc)?)
+        }
+        (Known::EndsAs(_, _), Known::Linear(_)) => copied_state(alloc, state),
+        (Known::EndsAs(_, _), Known::IndexFor(_, _)) => copied_state(alloc, state),
+        (Known::EndsAs(_, _), Known::SignedFor(_, _)) => copied_state(alloc, state),
+        (Known::EndsAs(_, _), Known::EndsAs(_, _)) => copied_state(alloc, state),
+        (Known::HasBits(_, _), Known::Any) => {
+            with_value(alloc, state, rs2.number, left.copy(alloc)?)
+        }
+        (Known::HasBits(_, _), Known::Linear(_)) => copied_state(alloc, state),
+        (Known::HasBits(_, _), Known::IndexFor(_, _)) => copied_state(alloc, state),
+        (Known::HasBits(_, _), Known::SignedFor(_, _)) => copied_state(alloc, state),
+        (Known::HasBits(_, _), Known::EndsAs(_, _)) => copied_state(alloc, state),
+        (Known::HasBits(_, _), Known::HasBits(_, _)) => copied_state(alloc, state),
+        (Known::Linear(_), Known::HasBits(_, _)) => copied_state(alloc, state),
+        (Known::IndexFor(_, _), Known::HasBits(_, _)) => copied_state(alloc, state),
+        (Known::SignedFor(_, _), Known::HasBits(_, _)) => copied_state(alloc, state),
+        (Known::EndsAs(_, _), Known::HasBits(_, _)) => copied_state(alloc, state),
     }
 }
 
@@ -331,6 +354,20 @@ fn follow_jalr(
     jumping(alloc, state, rd.number, offset, as_number(&value))
 }
 
+/// Whether a branch by two values is taken, where that is known.
+fn branch_result(
+    alloc: Global,
+    certificate: &QueueCertificate,
+    state: &KnownState,
+    op: BranchOp,
+    left: &KnownValue,
+    right: &KnownValue,
+) -> Result<Option<bool>, Lack>
+    ensures { IfOk result (λ known. known ≡ is_branch_taken (queue_at certificate.now) state.now.ranges op left.now right.now) }
+{
+    is_branch_taken(alloc, &certificate.queues, &state.ranges, op, left, right)
+}
+
 /// Whether a branch is taken, where that is known.
 fn branch_known(
     alloc: Global,
@@ -345,7 +382,7 @@ fn branch_known(
 {
     let left = operand(alloc, certificate, state, rs1)?;
     let right = operand(alloc, certificate, state, rs2)?;
-    is_branch_taken(alloc, &certificate.queues, &state.ranges, op, &left, &right)
+    branch_result(alloc, certificate, state, op, &left, &right)
 }
 
 /// The states that may follow a branch, if this is known of it.

@@ -4,7 +4,8 @@ ghost use Rattle.std.specs.Prelude.{◌≡◌, ◌+◌, ◌-◌, ◌++◌, ◌^�
 ghost use Rattle.hart.specs.Effects.{next_pc, store_width};
 ghost use Rattle.slot_queue.specs.Ownership.{party_of};
 ghost use Rattle.slot_queue.specs.Queues.{Queue};
-ghost use Rattle.queue_certificates.specs.States.{no_share, linear, index_for, is_within};
+ghost use Rattle.queue_certificates.specs.States.{no_share, linear, index_for, is_within, plain};
+ghost use Rattle.queue_certificates.specs.Results.{sum_of};
 ghost use Rattle.queue_certificates.specs.Certificates.{queue_at, own_of};
 ghost use Rattle.queue_certificates.specs.Steps.{all_below, is_cut, moved_share, may_move, may_fill, may_store, is_apart, leaves_words, storable};
 ghost use Rattle.queue_certificates.specs.Steps.{word_then, words_then, shares_moved, after_store, storing, updated_value, after_exchange, exchanging, misses};
@@ -58,6 +59,8 @@ fn is_cut(alloc: Global, queue: Queue, value: &KnownValue, count: &Form) -> Resu
         Known::Any => Ok(false),
         Known::IndexFor(_, _) => Ok(false),
         Known::SignedFor(_, _) => Ok(false),
+        Known::EndsAs(_, _) => Ok(false),
+        Known::HasBits(_, _) => Ok(false),
     }
 }
 
@@ -264,6 +267,7 @@ pub(crate) fn storable(
     match &value.known {
         Known::IndexFor(i, _) if *i as usize >= certificate.queues.len() => Ok(any()),
         Known::SignedFor(i, _) if *i as usize >= certificate.queues.len() => Ok(any()),
+        Known::EndsAs(_, _) => Ok(any()),
         _ => value.copy(alloc),
     }
 }
@@ -447,6 +451,21 @@ pub(crate) fn storing(
     }
 }
 
+/// The sum of two values as forms, where they are some.
+fn plain_sum(
+    alloc: Global,
+    certificate: &QueueCertificate,
+    ranges: &[Option<u64>],
+    left: &KnownValue,
+    right: &KnownValue,
+) -> Result<KnownValue, Lack>
+    ensures { IfOk result (λ v. v ≡ sum_of (plain (queue_at certificate.now) ranges.now left.now) (plain (queue_at certificate.now) ranges.now right.now)) }
+{
+    let left = plain(alloc, &certificate.queues, ranges, left)?;
+    let right = plain(alloc, &certificate.queues, ranges, right)?;
+    sum_of(alloc, &left, &right)
+}
+
 /// The value that an AMO stores, of what it loads and what its register holds.
 pub(crate) fn updated_value(
     alloc: Global,
@@ -460,11 +479,7 @@ pub(crate) fn updated_value(
 {
     match op {
         AmoOp::Swap => with.copy(alloc),
-        AmoOp::Add => {
-            let old = plain(alloc, &certificate.queues, ranges, old)?;
-            let with = plain(alloc, &certificate.queues, ranges, with)?;
-            sum_of(alloc, &old, &with)
-        }
+        AmoOp::Add => plain_sum(alloc, certificate, ranges, old, with),
         _ => Ok(any()),
     }
 }

@@ -9,9 +9,9 @@ use std::marker::Model;
 
 /// The states that may follow, or that it isn't shown that the instruction may be executed.
 #[derive(Drop)]
-pub(crate) struct Successors {
-    pub(crate) shown: bool,
-    pub(crate) states: Vec<KnownState>,
+pub struct Successors {
+    pub shown: bool,
+    pub states: Vec<KnownState>,
 }
 
 impl Model for Successors {

@@ -27,6 +27,8 @@ pub(crate) fn tag_position(
         Known::Any => Ok(None),
         Known::IndexFor(_, _) => Ok(None),
         Known::SignedFor(_, _) => Ok(None),
+        Known::EndsAs(_, _) => Ok(None),
+        Known::HasBits(_, _) => Ok(None),
         Known::Linear(form) => {
             let slots = bare(queue);
             let whole = width == u64::from(queue.tag_width);
@@ -59,6 +61,8 @@ pub(crate) fn is_of_rest(
         Known::Any => Ok(false),
         Known::IndexFor(_, _) => Ok(false),
         Known::SignedFor(_, _) => Ok(false),
+        Known::EndsAs(_, _) => Ok(false),
+        Known::HasBits(_, _) => Ok(false),
         Known::Linear(form) => {
             let from = offset_at(slots, form.constant);
             let tag = u64::from(queue.tag_offset);
@@ -84,6 +88,8 @@ pub(crate) fn is_of_tag(
         Known::Any => Ok(false),
         Known::IndexFor(_, _) => Ok(false),
         Known::SignedFor(_, _) => Ok(false),
+        Known::EndsAs(_, _) => Ok(false),
+        Known::HasBits(_, _) => Ok(false),
         Known::Linear(form) => {
             let slots = bare(queue);
             let from = offset_at(slots, form.constant);

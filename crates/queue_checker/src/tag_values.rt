@@ -1,23 +1,25 @@
 //! What a tag tells a party, and what hands a position over.
 
 ghost use Rattle.std.specs.Prelude.{◌≡◌, ℕ, List, Option, IfOk};
-ghost use Rattle.rv_decode.specs.declared.instruction.LoadOp.{LoadOp};
-ghost use Rattle.queue_parties.specs.Parties.{other};
+ghost use Rattle.hart.specs.Effects.{extended};
+ghost use Rattle.slots_that_tell.specs.Slots.{gap};
 ghost use Rattle.queue_layouts.specs.declared.tagged.Codec.TheVariants as codecs;
 ghost use Rattle.queue_certificates.specs.Forms.{Form, number, plus};
-ghost use Rattle.queue_certificates.specs.States.{linear};
-ghost use Rattle.queue_certificates.specs.Results.{just};
-ghost use Rattle.queue_certificates.specs.Tags.{some_up_to, told_value, other_value, is_positive, is_number, hands_over};
+ghost use Rattle.queue_certificates.specs.Tags.{number_of, bits_are, told_by, back_to, some_up_to, bits_above, value_told, told_value, other_value};
+ghost use Rattle.queue_certificates.specs.Tags.{is_positive, is_number, are_these, makes, hands_over};
 ghost use Rattle.queue_layouts.specs.Sides.{the_party};
+ghost use Rattle.queue_layouts.specs.Tagged.{slots_of};
 
 use crate::loads::most_loaded;
+use known_values::bits::{bits_of, of_bits};
 use known_values::forms::{first_variable, is_same, number, plus};
 use known_values::lack::sum;
+use known_values::numbers::bounds;
 use known_values::queues::words_of;
-use known_values::results::{bounds, just};
+use known_values::results::just;
 use known_values::values::linear;
-use known_values::{Bounds, Form, Known, KnownValue, Lack, Outcome};
-use queue_layouts::{Codec, Party, TaggedQueue};
+use known_values::{Bits, Bounds, Form, Known, KnownValue, Lack, Outcome};
+use queue_layouts::{Codec, Party, TaggedQueue, other};
 use rv_decode::instruction::LoadOp;
 use std::alloc::Global;
 
@@ -34,16 +36,58 @@ fn some_up_to(alloc: Global, most: u64) -> Result<Outcome, Lack>
     })
 }
 
-/// A number so much further than a count.
-fn further(alloc: Global, own: &Form, by: u64) -> Result<Outcome, Lack>
-    ensures { IfOk result (λ r. r ≡ just (linear (plus own.now (number by)))) }
+/// The form of what is so much further than a count.
+fn further(alloc: Global, own: &Form, by: u64) -> Result<Form, Lack>
+    ensures { IfOk result (λ f. f ≡ plus own.now (number by)) }
 {
-    just(alloc, &linear(plus(alloc, own, &number(alloc, by))?))
+    plus(alloc, own, &number(alloc, by))
 }
 
-/// By 0 and other numbers: what tells the party that it has a position.
-fn told_by_zero(alloc: Global, party: Party, op: LoadOp) -> Result<Outcome, Lack>
-    ensures { (own : Form) (j : ℕ) → IfOk result (λ r. r ≡ told_value codecs.Zero (the_party party) op own j) }
+/// The word that a load leaves, of the number that it read.
+fn extended(op: LoadOp, read: u32) -> u32
+    ensures { result ≡ extended op read }
+{
+    match op {
+        LoadOp::Byte if read >= 128 => read.wrapping_sub(256),
+        LoadOp::Half if read >= 32768 => read.wrapping_sub(65536),
+        _ => read,
+    }
+}
+
+/// The bits that an unsigned load leaves 0.
+fn bits_above(op: LoadOp) -> u32
+    ensures { result ≡ bits_above op }
+{
+    match op {
+        LoadOp::ByteUnsigned => 0xffff_ff00,
+        LoadOp::HalfUnsigned => 0xffff_0000,
+        LoadOp::Byte | LoadOp::Half | LoadOp::Word => 0,
+    }
+}
+
+/// The bits of a slot's tag that tell the party, where bits under a mask do.
+fn bits_for(party: Party, free: u32, full: u32) -> u32
+    ensures { (mask : ℕ) (position : Form) → bits_are mask result ≡ told_by (codecs.Bit mask free full) (the_party party) position }
+{
+    match party {
+        Party::Sender => free,
+        Party::Receiver => full,
+    }
+}
+
+/// The number of a slot's tag that tells the party of this position, where positions' numbers do.
+fn number_for(alloc: Global, party: Party, position: &Form) -> Result<Form, Lack>
+    ensures { IfOk result (λ f. number_of f ≡ told_by codecs.Number (the_party party) position.now) }
+{
+    match party {
+        Party::Sender => position.copy(alloc),
+        Party::Receiver => further(alloc, position, 1),
+    }
+}
+
+/// What a load leaves of a tag that tells the party, where 0 is free.
+fn zero_told(alloc: Global, op: LoadOp, party: Party) -> Result<Outcome, Lack>
+    ensures { (position : Form) → IfOk result (λ r. r ≡ value_told op (told_by codecs.Zero (the_party party) position)) }
 {
     match party {
         Party::Sender => just(alloc, &linear(number(alloc, 0))),
@@ -51,42 +95,30 @@ fn told_by_zero(alloc: Global, party: Party, op: LoadOp) -> Result<Outcome, Lack
     }
 }
 
-/// By 0 and other numbers: what tells the other party that it has it.
-fn other_by_zero(alloc: Global, party: Party, op: LoadOp) -> Result<Outcome, Lack>
-    ensures { (own : Form) (j : ℕ) → IfOk result (λ r. r ≡ told_value codecs.Zero (other (the_party party)) op own j) }
+/// What a load leaves of a tag that has these bits under a mask.
+fn bits_told(alloc: Global, op: LoadOp, mask: u32, bits: u32) -> Result<Outcome, Lack>
+    ensures { IfOk result (λ r. r ≡ value_told op (bits_are mask bits)) }
 {
-    match party {
-        Party::Sender => some_up_to(alloc, most_loaded(op)),
-        Party::Receiver => just(alloc, &linear(number(alloc, 0))),
-    }
+    let known = extended(op, mask) | bits_above(op);
+    just(alloc, &of_bits(alloc, known, extended(op, bits)))
 }
 
-/// By positions' numbers: what tells the party that it has the position that is so much further than its own count.
-fn told_by_number(alloc: Global, party: Party, own: &Form, position: u64) -> Result<Outcome, Lack>
-    ensures { (op : LoadOp) → IfOk result (λ r. r ≡ told_value codecs.Number (the_party party) op own.now position) }
-{
-    match party {
-        Party::Sender => further(alloc, own, position),
-        Party::Receiver => further(alloc, own, sum(position, 1)?),
-    }
-}
-
-/// By positions' numbers: what tells the other party that it has it, or had the one that is a round before.
-fn other_by_number(
+/// What a load leaves of a tag that tells the party of this position.
+fn value_told(
     alloc: Global,
-    queue: TaggedQueue,
+    op: LoadOp,
+    codec: Codec,
     party: Party,
-    own: &Form,
-    position: u64,
+    position: &Form,
 ) -> Result<Outcome, Lack>
-    ensures { (op : LoadOp) → IfOk result (λ r. r ≡ other_value queue codecs.Number (the_party party) op own.now position) }
+    ensures { IfOk result (λ r. r ≡ value_told op (told_by codec (the_party party) position.now)) }
 {
-    match party {
-        Party::Sender => {
-            let back = WORDS.saturating_sub(u64::from(queue.size) % WORDS);
-            further(alloc, own, sum(sum(position, 1)?, back)?)
+    match codec {
+        Codec::Zero => zero_told(alloc, op, party),
+        Codec::Number => just(alloc, &linear(number_for(alloc, party, position)?)),
+        Codec::Bit { mask, free, full } => {
+            bits_told(alloc, op, mask, bits_for(party, free, full))
         }
-        Party::Receiver => further(alloc, own, position),
     }
 }
 
@@ -101,9 +133,16 @@ pub(crate) fn told_value(
 ) -> Result<Outcome, Lack>
     ensures { IfOk result (λ r. r ≡ told_value codec (the_party party) op own.now position) }
 {
-    match codec {
-        Codec::Zero => told_by_zero(alloc, party, op),
-        Codec::Number => told_by_number(alloc, party, own, position),
+    value_told(alloc, op, codec, party, &further(alloc, own, position)?)
+}
+
+/// How much further a party's own position of a slot is than the other's, modulo 2^32.
+fn back_to(queue: TaggedQueue, party: Party) -> u64
+    ensures { result ≡ back_to queue (the_party party) }
+{
+    match party {
+        Party::Sender => 0,
+        Party::Receiver => WORDS.saturating_sub(u64::from(queue.size) % WORDS),
     }
 }
 
@@ -118,10 +157,9 @@ pub(crate) fn other_value(
 ) -> Result<Outcome, Lack>
     ensures { IfOk result (λ r. r ≡ other_value queue queue.codec (the_party party) op own.now position) }
 {
-    match queue.codec {
-        Codec::Zero => other_by_zero(alloc, party, op),
-        Codec::Number => other_by_number(alloc, queue, party, own, position),
-    }
+    let theirs = other(party);
+    let by = sum(position, back_to(queue, theirs))?;
+    value_told(alloc, op, queue.codec, theirs, &further(alloc, own, by)?)
 }
 
 /// Whether numbers between these are words of `width` bytes, and not 0.
@@ -142,42 +180,67 @@ fn is_number(modulus: u64, value: &KnownValue, form: &Form) -> bool
         Known::Any => false,
         Known::IndexFor(_, _) => false,
         Known::SignedFor(_, _) => false,
+        Known::EndsAs(_, _) => false,
+        Known::HasBits(_, _) => false,
         Known::Linear(its) => is_same(modulus, its, form),
     }
 }
 
-/// Whether a tag of this value hands the own position to the other party, where 0 is free.
-fn hands_over_by_zero(
-    alloc: Global,
-    ranges: &[Option<u64>],
-    queue: TaggedQueue,
-    party: Party,
-    stored: &KnownValue,
-) -> Result<bool, Lack>
-    ensures { (own : Form) → IfOk result (λ over. over ≡ hands_over ranges.now queue codecs.Zero (the_party party) own stored.now) }
+/// Whether a value surely has these bits under the mask.
+fn are_these(known: Option<Bits>, mask: u32, bits: u32) -> bool
+    ensures { result ≡ are_these known mask bits }
 {
-    match party {
-        Party::Sender => is_positive(queue.tag_width, bounds(alloc, ranges, stored)?),
-        Party::Receiver => Ok(is_number(words_of(queue.tag_width)?, stored, &number(alloc, 0))),
+    match known {
+        None => false,
+        Some(known) => known.mask & mask == mask && known.bits & mask == bits,
     }
 }
 
-/// And where positions' numbers tell.
-fn hands_over_by_number(
+/// Whether a stored value makes a tag that tells the party, where 0 is free.
+fn makes_by_zero(
     alloc: Global,
-    queue: TaggedQueue,
+    ranges: &[Option<u64>],
+    width: u32,
     party: Party,
-    own: &Form,
     stored: &KnownValue,
 ) -> Result<bool, Lack>
-    ensures { (ranges : List (Option ℕ)) → IfOk result (λ over. over ≡ hands_over ranges queue codecs.Number (the_party party) own.now stored.now) }
+    ensures { (position : Form) → IfOk result (λ made. made ≡ makes ranges.now width (told_by codecs.Zero (the_party party) position) stored.now) }
 {
-    let by = match party {
-        Party::Sender => 1,
+    match party {
+        Party::Sender => Ok(is_number(words_of(width)?, stored, &number(alloc, 0))),
+        Party::Receiver => is_positive(width, bounds(alloc, ranges, stored)?),
+    }
+}
+
+/// Whether a stored value makes a tag that tells the party of this position.
+fn makes(
+    alloc: Global,
+    ranges: &[Option<u64>],
+    width: u32,
+    codec: Codec,
+    party: Party,
+    position: &Form,
+    stored: &KnownValue,
+) -> Result<bool, Lack>
+    ensures { IfOk result (λ made. made ≡ makes ranges.now width (told_by codec (the_party party) position.now) stored.now) }
+{
+    match codec {
+        Codec::Zero => makes_by_zero(alloc, ranges, width, party, stored),
+        Codec::Number => Ok(is_number(WORDS, stored, &number_for(alloc, party, position)?)),
+        Codec::Bit { mask, free, full } => {
+            Ok(are_these(bits_of(stored), mask, bits_for(party, free, full)))
+        }
+    }
+}
+
+/// How far on the position is that a party's tag hands to the other.
+fn gap(queue: TaggedQueue, party: Party) -> u64
+    ensures { result ≡ gap (slots_of queue) (the_party party) }
+{
+    match party {
+        Party::Sender => 0,
         Party::Receiver => u64::from(queue.size),
-    };
-    let wanted = plus(alloc, own, &number(alloc, by))?;
-    Ok(is_number(WORDS, stored, &wanted))
+    }
 }
 
 /// Whether a tag of this value hands the own position to the other party.
@@ -191,8 +254,15 @@ pub(crate) fn hands_over(
 ) -> Result<bool, Lack>
     ensures { IfOk result (λ over. over ≡ hands_over ranges.now queue queue.codec (the_party party) own.now stored.now) }
 {
-    match queue.codec {
-        Codec::Zero => hands_over_by_zero(alloc, ranges, queue, party, stored),
-        Codec::Number => hands_over_by_number(alloc, queue, party, own, stored),
-    }
+    let position = further(alloc, own, gap(queue, party))?;
+    let theirs = other(party);
+    makes(
+        alloc,
+        ranges,
+        queue.tag_width,
+        queue.codec,
+        theirs,
+        &position,
+        stored,
+    )
 }

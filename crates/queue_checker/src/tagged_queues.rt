@@ -15,6 +15,7 @@ use crate::flaws::TaggedFlaw;
 use crate::opening::number_at;
 use crate::sites::small;
 use known_values::lack::{product, remainder_by, sum};
+use known_values::queues::words_of;
 use known_values::{Lack, Queue};
 use queue_layouts::{Codec, OpenedTagged, Party, TaggedQueue, party_among};
 use step_machine::Opening;
@@ -86,41 +87,50 @@ pub fn bare(queue: TaggedQueue) -> Queue
 }
 
 /// What is wrong with how the queue's tags tell.
-fn codec_flaw(queue: TaggedQueue) -> Option<TaggedFlaw>
-    ensures { result ≡ codec_flaw queue queue.codec }
+fn codec_flaw(queue: TaggedQueue) -> Result<Option<TaggedFlaw>, Lack>
+    ensures { IfOk result (λ flaw. flaw ≡ codec_flaw queue queue.codec) }
 {
     match queue.codec {
-        Codec::Zero => None,
+        Codec::Zero => Ok(None),
         Codec::Number => {
             if queue.tag_width != 4 {
-                Some(TaggedFlaw::NarrowNumber)
+                Ok(Some(TaggedFlaw::NarrowNumber))
             } else if u64::from(queue.size) % WORDS == 1 {
-                Some(TaggedFlaw::SameNumbers)
+                Ok(Some(TaggedFlaw::SameNumbers))
             } else {
-                None
+                Ok(None)
+            }
+        }
+        Codec::Bit { mask, free, full } => {
+            if u64::from(mask) >= words_of(queue.tag_width)? {
+                Ok(Some(TaggedFlaw::WideMask))
+            } else if free == full {
+                Ok(Some(TaggedFlaw::SameBits))
+            } else {
+                Ok(None)
             }
         }
     }
 }
 
 /// What is wrong with a queue with tags by itself.
-fn tag_flaw(queue: TaggedQueue) -> Option<TaggedFlaw>
-    ensures { result ≡ tag_flaw queue }
+fn tag_flaw(queue: TaggedQueue) -> Result<Option<TaggedFlaw>, Lack>
+    ensures { IfOk result (λ flaw. flaw ≡ tag_flaw queue) }
 {
     if queue.sender == queue.receiver {
-        return Some(TaggedFlaw::OneHart);
+        return Ok(Some(TaggedFlaw::OneHart));
     }
     if queue.size == 0 {
-        return Some(TaggedFlaw::NoSlot);
+        return Ok(Some(TaggedFlaw::NoSlot));
     }
     if queue.tag_width == 0 {
-        return Some(TaggedFlaw::NoTag);
+        return Ok(Some(TaggedFlaw::NoTag));
     }
     if queue.tag_width > 4 {
-        return Some(TaggedFlaw::WideTag);
+        return Ok(Some(TaggedFlaw::WideTag));
     }
     if u64::from(queue.tag_offset) + u64::from(queue.tag_width) > u64::from(queue.width) {
-        return Some(TaggedFlaw::PastSlot);
+        return Ok(Some(TaggedFlaw::PastSlot));
     }
     codec_flaw(queue)
 }
@@ -132,6 +142,11 @@ fn tells_free(codec: Codec, position: u64, number: u64) -> bool
     match codec {
         Codec::Zero => number == 0,
         Codec::Number => number == position % WORDS,
+        Codec::Bit {
+            mask,
+            free,
+            full: _,
+        } => number & u64::from(mask) == u64::from(free),
     }
 }
 
@@ -176,7 +191,7 @@ pub(crate) fn tagged_flaw(
     ensures { IfOk result (λ flaw. flaw ≡ tagged_flaw opening.now certificate.now t) }
 {
     let queue = tagged_in(&certificate.tagged, t);
-    if let Some(flaw) = tag_flaw(queue) {
+    if let Some(flaw) = tag_flaw(queue)? {
         return Ok(Some(flaw));
     }
     if opens_free(opening, queue, tagged_start_in(&certificate.tagged, t))? {

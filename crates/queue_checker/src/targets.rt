@@ -8,7 +8,7 @@ use crate::loads::load_width;
 use crate::places::anywhere;
 use crate::steps::{address_value, operand};
 use crate::stores::store_width;
-use known_values::results::bounds;
+use known_values::numbers::bounds;
 use known_values::{Bounds, KnownValue, Lack};
 use rv_decode::{Instr, Reg};
 use std::alloc::Global;

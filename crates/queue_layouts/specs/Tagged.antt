@@ -2,7 +2,7 @@
 use Rattle.std.specs.Prelude.{ℕ, ◌^◌, Bool}
 use Rattle.queue_parties.specs.Parties.{Party}
 use Rattle.slots_that_tell.specs.Slots.{Slots}
-use Rattle.slots_that_tell.specs.Codecs.{zero_is_free, position_number}
+use Rattle.slots_that_tell.specs.Codecs.{zero_is_free, position_number, bits_under}
 use Rattle.queue_layouts.specs.declared.tagged.Codec.{Codec}
 use Rattle.queue_layouts.specs.declared.tagged.Codec.TheVariants as codec
 use Rattle.queue_layouts.specs.declared.tagged.TaggedQueue.{TaggedQueue}
@@ -10,6 +10,7 @@ use Rattle.queue_layouts.specs.declared.tagged.TaggedQueue.{TaggedQueue}
 abbrev pub tells_by : Codec → Party → (k v : ℕ) → Bool
 tells_by codec.Zero = zero_is_free
 tells_by codec.Number = position_number (2 ^ 32)
+tells_by (codec.Bit mask free full) = bits_under mask free full
 
 abbrev pub slots_of : TaggedQueue → Slots
 slots_of q = record {

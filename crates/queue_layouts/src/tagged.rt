@@ -7,6 +7,8 @@ pub enum Codec {
     Zero,
     /// By positions' numbers modulo 2^32: by k where the slot is free for position k, and by k + 1 where it is full of it.
     Number,
+    /// By its bits under a mask, as an OWN bit is: `free` where the slot is free, and `full` where it is full.
+    Bit { mask: u32, free: u32, full: u32 },
 }
 
 /// The harts that send and receive; where the slots begin, how many they are, and how many bytes one has; the bytes of a slot that

@@ -1,2 +1,2 @@
 pub mod OffsetLaws
-mod RangeLaws
+pub mod RangeLaws

@@ -1,5 +1,5 @@
 -- The offsets below a number that pass a test.
-use Rattle.std.proofs.Common.{arith, ◌≡◌, ◌⊎◌, ◌<◌, ◌≤◌, ◌∷◌, ℕ, Bool, true, false, zero, suc, [], refl, sym, subst, inl, inr}
+use Rattle.std.proofs.Common.{arith, ◌≡◌, ◌⊎◌, ◌<◌, ◌≤◌, ◌+◌, ◌∷◌, ℕ, ap, Bool, true, false, zero, suc, [], refl, sym, subst, inl, inr}
 use Rattle.std.specs.List.{Contains}
 use Rattle.std.proofs.lemmas.Bool.{cases_lt}
 use Rattle.std.proofs.lemmas.List.Elements.{Contains-append_left, Contains-append_right}
@@ -40,3 +40,12 @@ module _ (p : ℕ → Bool) where
       at : ((offsets_below p n ≡ [] → ⊥) → (m : ℕ) × (m < n) × (p m ≡ true)) → (b : Bool) → p n ≡ b → (m : ℕ) × (m < suc n) × (p m ≡ true)
       at earlier true is = (n, omega arith, is)
       at earlier false is = more (earlier (λ none. some (rw is none)))
+
+-- where no number from e on passes, a greater bound adds none
+pub none-more : (p : ℕ → Bool) (e k : ℕ) → ((b : ℕ) → e ≤ b → b < e + k → p b ≡ false) → offsets_below p (e + k) ≡ offsets_below p e
+none-more p e zero none = ap (offsets_below p) (let same : e + zero ≡ e = omega arith in same)
+none-more p e (suc k) none =
+    let next : e + suc k ≡ suc (e + k) = omega arith in
+    let last : p (e + k) ≡ false = none (e + k) (omega arith) (omega arith) in
+    let before = none-more p e k (λ b from below. none b from (omega (arith, below))) in
+    rw next (rw last before)

@@ -8,6 +8,7 @@ use Rattle.texts.specs.Numbers.{word_of}
 use Rattle.texts.specs.Pieces.{pieces}
 use Rattle.texts.specs.declared.pieces.Separators.TheVariants.{Byte}
 use Rattle.record_bytes.specs.declared.ranges.ByteRange.{ByteRange}
+use Rattle.record_bytes.specs.Ranges.{range_has}
 
 -- the offset that one to four decimal digits say
 abbrev pub offset_of : List ℕ → Option ℕ
@@ -29,12 +30,12 @@ range_of item =
 abbrev pub is_range : List ℕ → Bool
 is_range item = is_some (range_of item)
 
-abbrev pub is_within : (offset : ℕ) → Option ByteRange → Bool
-is_within offset None = false
-is_within offset (Some range) = nat_le range.first offset && nat_le offset range.last
+abbrev pub part_has : (offset : ℕ) → Option ByteRange → Bool
+part_has offset None = false
+part_has offset (Some range) = range_has range offset
 
 abbrev pub has_offset : (offset : ℕ) → (item : List ℕ) → Bool
-has_offset offset item = is_within offset (range_of item)
+has_offset offset item = part_has offset (range_of item)
 
 -- the text names bytes
 abbrev pub is_bytes : List ℕ → Bool

@@ -1,6 +1,14 @@
 -- Offsets as ranges.
-use Rattle.std.specs.Prelude.{ℕ, ◌+◌, ◌==◌, if◌then◌else◌, List, [], ◌∷◌}
+use Rattle.std.specs.Prelude.{ℕ, ◌+◌, ◌==◌, ◌&&◌, nat_le, if◌then◌else◌, Bool, List, [], ◌∷◌}
+use Rattle.std.specs.List.{list_any}
 use Rattle.record_bytes.specs.declared.ranges.ByteRange.{ByteRange}
+
+abbrev pub range_has : ByteRange → (b : ℕ) → Bool
+range_has r b = nat_le r.first b && nat_le b r.last
+
+-- one of these ranges has the byte
+abbrev pub has_byte : List ByteRange → (b : ℕ) → Bool
+has_byte rs b = list_any (λ r. range_has r b) rs
 
 abbrev pub one_offset : ℕ → ByteRange
 one_offset b = record { first = b; last = b }

@@ -1,12 +1,14 @@
 //! Texts that name bytes.
 
-ghost use Rattle.std.specs.Prelude.{◌≡◌, ◌≤◌, IfOk, IfSome};
+ghost use Rattle.std.specs.Prelude.{ℕ, ◌≡◌, ◌≤◌, ◌<◌, IfOk, false, true, codes};
 ghost use Rattle.std.specs.List.{list_all, list_any};
+ghost use Rattle.std.specs.Str.{bytes_eq};
 ghost use Rattle.texts.specs.Pieces.{pieces};
 ghost use Rattle.texts.specs.declared.pieces.Separators.TheVariants.{Byte};
 ghost use Rattle.record_bytes.specs.Naming.{has_offset, is_bytes, is_range, names_byte, offset_of, offsets_below, range_of};
+ghost use Rattle.record_bytes.specs.Ranges.{byte_ranges};
 
-use crate::ranges::ByteRange;
+use crate::ranges::{ByteRange, add_offset};
 use std::alloc::{AllocError, Global};
 use texts::cutting::cut_at;
 use texts::{Separators, first_piece, word};
@@ -100,15 +102,66 @@ fn names_byte(text: &str, offset: u64) -> bool
     text == "all" || have_offset(text.as_bytes(), offset)
 }
 
-/// The offsets of the bytes that a text names of a record of this width, in their order.
-pub fn offsets_in(alloc: Global, text: &str, width: u64) -> Result<Vec<u64>, AllocError>
-    ensures { IfOk result (λ offsets. offsets.items ≡ offsets_below (names_byte text.now) width) }
+/// The last of an item's offsets; 0, if it has none.
+fn last_of(item: &[u8]) -> u64
+    ensures { (b : ℕ) → result < b → has_offset b item.now ≡ false }
 {
-    let mut offsets = Vec::new(alloc);
-    for offset in 0..width {
+    match range_of(item) {
+        None => 0,
+        Some(range) => range.last,
+    }
+}
+
+/// The greatest offset that a text with items has.
+fn last_in(text: &[u8]) -> u64
+    ensures { (b : ℕ) → result < b → list_any (has_offset b) (pieces (Byte 44) text.now) ≡ false }
+{
+    let mut last = 0;
+    let mut rest = Some(text);
+    while let Some(items) = rest {
+        let (item, after) = first_piece(COMMA, items);
+        last = last_of(item).max(last);
+        rest = after;
+    }
+    last
+}
+
+/// The offsets below a width that a text with items names, as ranges.
+fn named_ranges(alloc: Global, text: &str, width: u64) -> Result<Vec<ByteRange>, AllocError>
+    requires { bytes_eq text.now (codes "all") ≡ false }
+    ensures { IfOk result (λ ranges. ranges.items ≡ byte_ranges (offsets_below (names_byte text.now) width)) }
+{
+    let mut ranges = Vec::new(alloc);
+    let end = width.min(last_in(text.as_bytes()).saturating_add(1));
+    for offset in 0..end {
         if names_byte(text, offset) {
-            offsets.push(offset)?;
+            add_offset(&mut ranges, offset)?;
         }
     }
-    Ok(offsets)
+    Ok(ranges)
+}
+
+/// All offsets below a width.
+fn all_ranges(alloc: Global, width: u64) -> Result<Vec<ByteRange>, AllocError>
+    ensures { IfOk result (λ ranges. ranges.items ≡ byte_ranges (offsets_below (λ b. true) width)) }
+{
+    let mut ranges = Vec::new(alloc);
+    if width > 0 {
+        ranges.push(ByteRange {
+            first: 0,
+            last: width - 1,
+        })?;
+    }
+    Ok(ranges)
+}
+
+/// The bytes that a text names of a record of this width, as the shortest list of ranges. Its time and memory don't depend on the width.
+pub fn ranges_in(alloc: Global, text: &str, width: u64) -> Result<Vec<ByteRange>, AllocError>
+    ensures { IfOk result (λ ranges. ranges.items ≡ byte_ranges (offsets_below (names_byte text.now) width)) }
+{
+    if text == "all" {
+        all_ranges(alloc, width)
+    } else {
+        named_ranges(alloc, text, width)
+    }
 }

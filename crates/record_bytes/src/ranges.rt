@@ -1,7 +1,8 @@
 //! Offsets as ranges.
 
-ghost use Rattle.std.specs.Prelude.{◌≡◌, ◌++◌, ◌∷◌, [], IfOk, OnOk};
-ghost use Rattle.record_bytes.specs.Ranges.{one_offset, byte_ranges, with_offset};
+ghost use Rattle.std.specs.Prelude.{ℕ, ◌≡◌, ◌++◌, ◌∷◌, ◌&&◌, ◌||◌, not, nat_lt, [], IfOk, OnOk};
+ghost use Rattle.record_bytes.specs.Naming.{part_has};
+ghost use Rattle.record_bytes.specs.Ranges.{range_has, has_byte, one_offset, with_offset};
 
 use std::alloc::{AllocError, Global};
 
@@ -24,7 +25,7 @@ fn push_one(ranges: &mut Vec<ByteRange>, offset: u64) -> Result<(), AllocError>
 }
 
 /// Adds an offset after these ranges: to the last of them, if it follows that.
-fn add_offset(ranges: &mut Vec<ByteRange>, offset: u64) -> Result<(), AllocError>
+pub(crate) fn add_offset(ranges: &mut Vec<ByteRange>, offset: u64) -> Result<(), AllocError>
     ensures { OnOk result (ranges.new.items ≡ with_offset ranges.old.items offset) }
 {
     match ranges.pop() {
@@ -43,13 +44,66 @@ fn add_offset(ranges: &mut Vec<ByteRange>, offset: u64) -> Result<(), AllocError
     }
 }
 
-/// The shortest list of ranges that has these offsets, in their order.
-pub fn byte_ranges(alloc: Global, offsets: &[u64]) -> Result<Vec<ByteRange>, AllocError>
-    ensures { IfOk result (λ ranges. ranges.items ≡ byte_ranges offsets.now) }
+/// The bytes of a range that come before another one; `None`, or a range whose last byte comes before its first, where there is none.
+pub fn part_before(range: ByteRange, cut: ByteRange) -> Option<ByteRange>
+    ensures { (b : ℕ) → part_has b result ≡ (range_has range b && nat_lt b cut.first) }
 {
-    let mut ranges = Vec::new(alloc);
-    for offset in offsets {
-        add_offset(&mut ranges, *offset)?;
+    if range.first < cut.first {
+        Some(ByteRange {
+            first: range.first,
+            last: range.last.min(cut.first - 1),
+        })
+    } else {
+        None
     }
-    Ok(ranges)
+}
+
+/// The bytes of a range that come after another one.
+pub fn part_after(range: ByteRange, cut: ByteRange) -> Option<ByteRange>
+    ensures { (b : ℕ) → part_has b result ≡ (range_has range b && nat_lt cut.last b) }
+{
+    if cut.last < range.last {
+        Some(ByteRange {
+            first: range.first.max(cut.last + 1),
+            last: range.last,
+        })
+    } else {
+        None
+    }
+}
+
+fn push_part(ranges: &mut Vec<ByteRange>, part: Option<ByteRange>) -> Result<(), AllocError>
+    ensures { OnOk result ((b : ℕ) → has_byte ranges.new.items b ≡ (has_byte ranges.old.items b || part_has b part)) }
+{
+    if let Some(range) = part {
+        ranges.push(range)?;
+    }
+    Ok(())
+}
+
+/// Adds what is left of a range without another.
+fn push_rest(
+    ranges: &mut Vec<ByteRange>,
+    range: ByteRange,
+    cut: ByteRange,
+) -> Result<(), AllocError>
+    ensures { OnOk result ((b : ℕ) → has_byte ranges.new.items b ≡ (has_byte ranges.old.items b || (range_has range b && not (range_has cut b)))) }
+{
+    push_part(ranges, part_before(range, cut))?;
+    push_part(ranges, part_after(range, cut))
+}
+
+/// Ranges without the bytes of another.
+pub fn ranges_without(
+    alloc: Global,
+    ranges: &[ByteRange],
+    cut: ByteRange,
+) -> Result<Vec<ByteRange>, AllocError>
+    ensures { IfOk result (λ left. (b : ℕ) → has_byte left.items b ≡ (has_byte ranges.now b && not (range_has cut b))) }
+{
+    let mut left = Vec::new(alloc);
+    for range in ranges {
+        push_rest(&mut left, *range, cut)?;
+    }
+    Ok(left)
 }

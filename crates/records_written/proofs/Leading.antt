@@ -1,9 +1,11 @@
--- What an entry of a queue's sender leads to from a state of the certificate: an effect that the state's marks allow, and a next state
--- whose marks are so after it.
-use Rattle.std.proofs.Common.{ℕ, ◌<◌, ◌≤◌, ◌≡◌, Bool, true, Option, Some, None, List, []}
-use Rattle.std.proofs.Common.{length, get_or, sym, ◌∙◌, ap, refl, subst}
-use Rattle.std.specs.List.{slice_get}
-use Rattle.std.proofs.lemmas.Bool.{and_parts}
+-- What an entry of a queue's sender leads to from a state of the certificate: what a leaf of the state does, and a next state in which no
+-- more is marked than is written after it.
+use Rattle.std.proofs.Common.{ℕ, ◌<◌, ◌≤◌, ◌≡◌, ◌||◌, not, if◌then◌else◌, Bool, true, false, Option, Some, None, List, [], ◌∷◌}
+use Rattle.std.proofs.Common.{length, map, get_or, sym, ◌∙◌, ap, refl, subst}
+use Rattle.std.specs.List.{slice_get, list_all, list_any}
+use Rattle.std.proofs.lemmas.Bool.{and_parts, and_from, or_parts, not_from_false}
+use Rattle.std.proofs.lemmas.List.{get_or-map}
+use Rattle.std.proofs.lemmas.List.Folds.{list_all-append}
 use Rattle.std.proofs.lemmas.Option.{get_or_from_slice_get}
 use Rattle.rv_decode.specs.declared.instruction.Instr.{Instr}
 use Rattle.hart.specs.State.{HartState}
@@ -16,19 +18,17 @@ use Rattle.step_machine.specs.Paths.{number_read}
 use Rattle.slot_queue.specs.Queues.{slot_of}
 use Rattle.queue_parties.specs.Parties.{the_sender}
 use Rattle.slot_queue.specs.Ownership.{party_of, after_access}
-use Rattle.owned_run.specs.Certified.{View, AllCounts, view_then, Acts, kept_beside}
+use Rattle.queue_certificates.specs.OwnedRuns.{View, AllCounts, view_then, Acts, kept_beside}
 use Rattle.queue_certificates.specs.Forms.{Form}
 use Rattle.queue_certificates.specs.States.{KnownState, MeansAt}
 use Rattle.queue_certificates.specs.Steps.{follow, instruction_at}
-use Rattle.queue_certificates.specs.Cases.{Arrow}
+use Rattle.queue_certificates.specs.Cases.{Arrow, Cases, leaf, split, with_low, with_high, may_exceed, each_leaf}
 use Rattle.queue_certificates.specs.Certificates.{QueueCertificate, queue_at, part_of, own_of, state_at, tagged_at}
-use Rattle.queue_certificates.specs.Certificates.{HasFields, MeetsFields, SharesTold, MeansAll, told_beside, no_hart, next_states}
+use Rattle.queue_certificates.specs.Certificates.{HasFields, MeetsFields, SharesTold, MeansAll, told_beside, no_hart, nowhere, next_states}
 use Rattle.queue_certificates.specs.Certificates.{all_lead, accepts}
 use Rattle.queue_certificates.specs.Effects.{effect_of, value_stored}
 use Rattle.queue_certificates.specs.TagEffects.{tag_effect_of}
-use Rattle.queue_certificates.specs.Filled.{are_so}
 use Rattle.queue_certificates.specs.declared.effect.Effect.{Effect}
-use Rattle.queue_certificates.proofs.States.{at-below}
 use Rattle.queue_certificates.proofs.Steps.{untold}
 use Rattle.queue_certificates.proofs.Accesses.{hart-party}
 use Rattle.queue_certificates.proofs.Accepted.{fine, past, OfHart, accepted-opens}
@@ -38,7 +38,9 @@ use Rattle.queue_certificates.proofs.Sends.{state-does}
 use Rattle.records_written.specs.Senders.{IsListed, sender_in, size_in, slot_in, published_of, effect_in}
 use Rattle.records_written.specs.declared.senders.QueueNumber.{QueueNumber}
 use Rattle.records_written.specs.declared.senders.QueueNumber.TheVariants.{Indexed, Tagged}
-use Rattle.records_written.specs.Marks.{Marks, may_publish, has_mark_after, arrows_keep, effect_keeps, keeps_marks, shows_written}
+use Rattle.records_written.specs.SenderLeaves.{SenderLeaf, written_after, may_hand, may_publish}
+use Rattle.records_written.specs.Sure.{Marks, keeps}
+use Rattle.records_written.specs.Marks.{sent_by, sent_in, sender_graph}
 
 -- the counts after an access of hart h
 abbrev pub indexed_then : QueueCertificate → (h : ℕ) → Access → AllCounts → AllCounts
@@ -80,72 +82,118 @@ leaf-sends M o c ok (Tagged t) less x of s m cs us e acts knows code size k d xs
     (ap (λ n. its (instruction_at s.code n)) means.pc ∙ ap (λ ws. its (instruction_at ws k.pc)) code
     ∙ (let same : its (instruction_at x.code k.pc) ≡ f = cc in same)) (goes.sends t less refl)
 
-module _ (M : ℕ) (o : OpeningValue) (c : QueueCertificate) (ok : accepts o c ≡ true) (w : QueueNumber) (less : IsListed c w)
-    (mask : List ℕ) (marks : List Marks) (shown : shows_written o c w mask marks ≡ true) where
+-- ---- what is so of all that a state's leaves do is so of each
+
+each-sent : (P : SenderLeaf → Bool) (f : KnownState → Form → List Arrow → SenderLeaf) (k : KnownState) (t : Cases)
+    → list_all P (sent_in f k t) ≡ true → each_leaf (λ k d arrows. P (f k d arrows)) k t ≡ true
+each-sent P f k (leaf d arrows) ok = (and_parts (P (f k d arrows)) true ok).0
+each-sent P f k (split j v low high) ok =
+    let both = and_parts (list_all P (sent_in f (with_low k j v) low))
+    (list_all P (if may_exceed v (get_or k.ranges j (Some 0)) then sent_in f (with_high k j v) high else []))
+    (sym (list_all-append P (sent_in f (with_low k j v) low) _) ∙ ok) in
+    rw (each-sent P f (with_low k j v) low both.0)
+    (above (may_exceed v (get_or k.ranges j (Some 0))) both.1 (each-sent P f (with_high k j v) high))
+  where
+    above : (t : Bool) → list_all P (if t then sent_in f (with_high k j v) high else []) ≡ true
+        → (list_all P (sent_in f (with_high k j v) high) ≡ true → each_leaf (λ k d arrows. P (f k d arrows)) (with_high k j v) high ≡ true)
+        → (not t || each_leaf (λ k d arrows. P (f k d arrows)) (with_high k j v) high) ≡ true
+    above true ok higher = higher ok
+    above false ok higher = refl
+
+none-passes : {A : Type 0} (p : A → Bool) (xs : List A) → list_any p xs ≡ false → list_all (λ x. not (p x)) xs ≡ true
+none-passes p [] none = refl
+none-passes p (x ∷ xs) none =
+    let both = or_parts (p x) (list_any p xs) none in
+    and_from (not (p x)) (list_all (λ x. not (p x)) xs) (not_from_false (p x) both.0) (none-passes p xs both.1)
+
+module _ (M : ℕ) (o : OpeningValue) (c : QueueCertificate) (ok : accepts o c ≡ true) (w : QueueNumber) (less : IsListed c w) where
   abbrev h : ℕ
   h = sender_in c w
 
   abbrev states : ℕ
   states = length (part_of c (sender_in c w)).states
 
-  -- what is shown of the marks of each of the sender's states
-  pub marks-keep : (x : HartOpeningValue) → slice_get o.harts (sender_in c w) ≡ Some x → (n : ℕ) → n < states
-      → keeps_marks c w x.code mask marks (get_or marks n []) (state_at c h n).known (state_at c h n).cases ≡ true
-  marks-keep x is n listed = subst
-      (λ y. keeps_marks c w y.code mask marks (get_or marks n []) (state_at c h n).known (state_at c h n).cases ≡ true)
-      (get_or_from_slice_get o.harts h x no_hart is)
-      (at-below states (λ n. keeps_marks c w (get_or o.harts h no_hart).code mask marks (get_or marks n []) (state_at c h n).known
-      (state_at c h n).cases) (and_parts _ _ shown).1 n listed)
+  -- what the sender does at the leaves of state n
+  abbrev pub leaves : ℕ → List SenderLeaf
+  leaves n = get_or (sender_graph o c w) n []
 
-  -- a state of the sender's whose marks are so where f says so
-  pub record Found (f : ℕ → ℕ → Bool) (z : HartState) (m : View) (cs us : AllCounts) : Type 0 where
+  -- what is so of all of them is so of each leaf of the certificate
+  pub leaves-pass : (x : HartOpeningValue) → slice_get o.harts (sender_in c w) ≡ Some x → (n : ℕ) → n < states → (P : SenderLeaf → Bool)
+      → list_all P (leaves n) ≡ true
+      → each_leaf (λ k d arrows. P (sent_by c w x.code k d arrows)) (state_at c h n).known (state_at c h n).cases ≡ true
+  leaves-pass x is n listed P all =
+      each-sent P (sent_by c w x.code) (state_at c h n).known (state_at c h n).cases
+      (subst (λ (y : HartOpeningValue). list_all P (sent_in (sent_by c w y.code) (state_at c h n).known (state_at c h n).cases) ≡ true)
+      (get_or_from_slice_get o.harts h x no_hart is)
+      (ap (λ ys. list_all P ys)
+      (sym (get_or-map (λ t. sent_in (sent_by c w (get_or o.harts h no_hart).code) t.known t.cases)
+      (part_of c h).states n nowhere [] listed))
+      ∙ all))
+
+  -- a leaf of state n, by its effect and its targets
+  abbrev pub IsLeafOf : (n : ℕ) → SenderLeaf → Type 0
+  IsLeafOf n s = (P : SenderLeaf → Bool) → list_all P (leaves n) ≡ true → P s ≡ true
+
+  -- it publishes what the state may
+  pub hands : (n : ℕ) (s : SenderLeaf) → IsLeafOf n s → (d : ℕ) → may_hand d s.effect ≡ true → may_publish (leaves n) d ≡ true
+  hands n s of d may = by (may_publish (leaves n) d) refl
+    where
+      by : (t : Bool) → may_publish (leaves n) d ≡ t → may_publish (leaves n) d ≡ true
+      by true so = so
+      by false none = absurd (let unless : not (may_hand d s.effect) ≡ true =
+          of (λ s. not (may_hand d s.effect)) (none-passes (λ s. may_hand d s.effect) (leaves n) none) in
+          cc)
+
+  -- a state of the sender's in which no more is marked than after the leaf, whatever marks its leaves keep
+  pub record Found (n : ℕ) (s : SenderLeaf) (z : HartState) (m : View) (cs us : AllCounts) : Type 0 where
     pub state : ℕ
     pub listed : state < states
     pub means : MeansAll c h (state_at c h state).known z m cs us
-    pub so : are_so (get_or marks state []) f ≡ true
+    pub keeps : (f : Marks) (d b : ℕ) → list_all (keeps f n d b) (leaves n) ≡ true → f state d b ≡ true → written_after s.effect (f n) d b ≡ true
 
-  found-led : (arrows : List Arrow) (f : ℕ → ℕ → Bool) (z : HartState) (m : View) (cs us : AllCounts) → arrows_keep marks arrows f ≡ true
-      → Led c h arrows z m cs us → Found f z m cs us
-  found-led arrows f z m cs us keep found = record {
+  found-led : (n : ℕ) (effect : Option Effect) (arrows : List Arrow) (z : HartState) (m : View) (cs us : AllCounts)
+      → IsLeafOf n (record { effect = effect; targets = map (λ a. a.to) arrows }) → Led c h arrows z m cs us
+      → Found n (record { effect = effect; targets = map (λ a. a.to) arrows }) z m cs us
+  found-led n effect arrows z m cs us of found = record {
     state = found.state;
     listed = found.listed;
     means = found.means;
-    so = found.passes (λ bs. arrows_keep marks bs f) (λ n. are_so (get_or marks n []) f) (λ b bs both. and_parts _ _ both) keep;
+    keeps = λ f d b kept marked.
+        (let passes : (not (f found.state d b) || written_after effect (f n) d b) ≡ true =
+        found.passes (λ bs. list_all (λ to. not (f to d b) || written_after effect (f n) d b) (map (λ a. a.to) bs))
+        (λ to. not (f to d b) || written_after effect (f n) d b) (λ a bs both. and_parts _ _ both) (of (keeps f n d b) kept) in
+        rw marked at passes);
   }
 
-  -- what an entry comes to from a leaf of a state with these marks
-  pub record Leads (ms : Marks) (m : View) (cs us : AllCounts) (y : Access) (z : HartState) : Type 0 where
-    pub effect : Effect
-    pub sends : SendsBy c w cs us effect y z
-    pub whole : may_publish mask ms effect ≡ true
+  -- what an entry comes to from a leaf of state n
+  pub record Leads (n : ℕ) (m : View) (cs us : AllCounts) (y : Access) (z : HartState) : Type 0 where
+    pub does : SenderLeaf
+    pub leaf : IsLeafOf n does
+    pub sends : (f : Effect) → does.effect ≡ Some f → SendsBy c w cs us f y z
     pub next : z.status ≡ status.Running
-        → Found (has_mark_after ms effect) z (view_then y m) (indexed_then c (sender_in c w) y cs) (tagged_then c (sender_in c w) y us)
+        → Found n does z (view_then y m) (indexed_then c (sender_in c w) y cs) (tagged_then c (sender_in c w) y us)
 
   pub leads : (x : HartOpeningValue) → OfHart M o c ok (sender_in c w) x → (s : HartState) (m : View) (cs us : AllCounts) (e : Entry)
       → Acts M o (length c.queues) (queue_at c) (HasFields c) (MeetsFields c) (sender_in c w) s m cs e
       → (kept_beside (told_beside c)).Knows (sender_in c w) us m → s.code ≡ x.code → length s.registers ≡ length x.registers
-      → (ms : Marks) (k : KnownState) (d : Form) (arrows : List Arrow) (xs : List ℕ)
+      → (n : ℕ) (k : KnownState) (d : Form) (arrows : List Arrow) (xs : List ℕ)
       → all_lead c (sender_in c w) (next_states c (sender_in c w) x.code k d) arrows ≡ true
-      → effect_keeps mask marks ms arrows (effect_in c w k d (instruction_at x.code k.pc)) ≡ true
+      → IsLeafOf n (sent_by c w x.code k d arrows)
       → MeansAt (queue_at c) (length c.queues) (own_of c (sender_in c w)) (sender_in c w) xs k s m cs
-      → SharesTold c (sender_in c w) xs k us → Leads ms m cs us (access_of e) (advanced s (number_read e))
-  leads x of s m cs us e acts knows code size ms k d arrows xs closed keeps means told =
-      by (next_states c h x.code k d) refl (effect_in c w k d (instruction_at x.code k.pc)) refl closed keeps
+      → SharesTold c (sender_in c w) xs k us → Leads n m cs us (access_of e) (advanced s (number_read e))
+  leads x of s m cs us e acts knows code size n k d arrows xs closed among means told = by (next_states c h x.code k d) refl closed
     where
-      by : (ts : Option (List KnownState)) → next_states c h x.code k d ≡ ts
-          → (f : Option Effect) → effect_in c w k d (instruction_at x.code k.pc) ≡ f
-          → all_lead c h ts arrows ≡ true → effect_keeps mask marks ms arrows f ≡ true
-          → Leads ms m cs us (access_of e) (advanced s (number_read e))
-      by None may f effect closed keeps = absurd (cc)
-      by (Some ts) may None effect closed keeps = absurd (cc)
-      by (Some ts) may (Some f) effect closed keeps =
+      by : (ts : Option (List KnownState)) → next_states c h x.code k d ≡ ts → all_lead c h ts arrows ≡ true
+          → Leads n m cs us (access_of e) (advanced s (number_read e))
+      by None may closed = absurd (cc)
+      by (Some ts) may closed =
           let goes = leaf-goes M o c ok h x of s m cs us e acts knows code size k d xs ts means told may in
           record {
-            effect = f;
-            sends = leaf-sends M o c ok w less x of s m cs us e acts knows code size k d xs ts means told may f effect;
-            whole = (and_parts _ _ keeps).0;
-            next = λ runs. found-led arrows (has_mark_after ms f) (advanced s (number_read e)) (view_then (access_of e) m)
-                (indexed_then c h (access_of e) cs) (tagged_then c h (access_of e) us) (and_parts _ _ keeps).1
+            does = sent_by c w x.code k d arrows;
+            leaf = among;
+            sends = λ f effect. leaf-sends M o c ok w less x of s m cs us e acts knows code size k d xs ts means told may f effect;
+            next = λ runs. found-led n (effect_in c w k d (instruction_at x.code k.pc)) arrows (advanced s (number_read e)) (view_then (access_of e) m)
+                (indexed_then c h (access_of e) cs) (tagged_then c h (access_of e) us) among
                 (among-leads c h xs ts arrows (advanced s (number_read e)) (view_then (access_of e) m)
                 (indexed_then c h (access_of e) cs) (tagged_then c h (access_of e) us) closed (goes.next runs));
           }

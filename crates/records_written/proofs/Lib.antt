@@ -1,4 +1,6 @@
-mod Marked
+mod MarkLaws
+mod Most
 mod Leading
 mod Runs
+pub mod Answers
 mod LittleTexts

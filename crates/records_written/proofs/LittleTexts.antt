@@ -1,36 +1,32 @@
--- Three texts held against the definition by hand: of one slot, for ever; of three slots that are published by one store; and the same
--- with one slot left as it was, which keeps the protocol of ownership and isn't shown to be written.
-use Rattle.std.proofs.Common.{ℕ, ◌≡◌, ◌+◌, ◌*◌, ◌^◌, List, [], ◌∷◌, true, false, refl}
+-- Two texts held against the definitions by hand: of three slots that are published by one store; and the same with one slot left as it
+-- was, which keeps the protocol of ownership, and of which that slot's first byte is the first that isn't shown to be written.
+use Rattle.std.proofs.Common.{ℕ, zero, suc, ◌≡◌, ◌<◌, ◌+◌, ◌*◌, ◌^◌, ◌&&◌, ◌||◌, not, Bool, true, false, Some, List, [], ◌∷◌, ◌++◌, length, get_or}
+use Rattle.std.proofs.Common.{refl, ap, arith, lit<, length-append}
+use Rattle.std.specs.Prelude.{nat_lt, min}
+use Rattle.std.specs.List.{list_all}
+use Rattle.std.proofs.lemmas.Bool.Decides.{nat_tests}
 use Rattle.rv_decode.specs.Meaning.{meaning}
 use Rattle.step_machine.specs.History.{OpeningValue}
 use Rattle.slot_queue.specs.Queues.{Queue}
-use Rattle.owned_run.proofs.OneSlotText.{text}
 use Rattle.queue_certificates.specs.Forms.{number}
 use Rattle.queue_certificates.specs.States.{KnownValue, any, linear}
 use Rattle.queue_certificates.specs.Cases.{leaf}
 use Rattle.queue_certificates.specs.Certificates.{ListedState, QueueCertificate, accepts}
 use Rattle.queue_certificates.proofs.OneSlotQueue.{certificate}
 use Rattle.records_written.specs.declared.senders.QueueNumber.TheVariants.{Indexed}
-use Rattle.records_written.specs.Marks.{Marks, shows_written}
+use Rattle.records_written.specs.SenderLeaves.{SenderLeaf}
+use Rattle.records_written.specs.Sure.{Marks, keeps, AreKept, IsSurelyWritten, IsSureAt, IsSure, IsFirstUnsure}
+use Rattle.records_written.specs.Marks.{sender_graph}
+use Rattle.records_written.specs.Senders.{published_after}
+use Rattle.records_written.specs.Written.{IsWritten}
+use Rattle.step_machine.specs.declared.events.Entry.{Entry}
+use Rattle.step_machine.specs.declared.events.Entry.TheVariants as entry
+use Rattle.queue_certificates.specs.declared.effect.Effect.TheVariants.{Leaves, Fills, Publishes}
 use Rattle.queue_certificates.specs.Tags.{told_by_store}
 
-abbrev word : List ℕ
-word = 0 ∷ 1 ∷ 2 ∷ 3 ∷ []
-
--- ---- one slot: written at pc 12, published at pc 20
-
-one_slot_written : shows_written text certificate (Indexed 0) word ([] ∷ [] ∷ [] ∷ [] ∷ (word ∷ []) ∷ (word ∷ []) ∷ [] ∷ []) ≡ true
-unfolding meaning told_by_store
-one_slot_written = refl
-
--- marks that say less, before the store of the head, or more, after it
-one_slot_unmarked : shows_written text certificate (Indexed 0) word [] ≡ false
-unfolding meaning told_by_store
-one_slot_unmarked = refl
-
-one_slot_kept : shows_written text certificate (Indexed 0) word ([] ∷ [] ∷ [] ∷ [] ∷ (word ∷ []) ∷ (word ∷ []) ∷ (word ∷ []) ∷ []) ≡ false
-unfolding meaning told_by_store
-one_slot_kept = refl
+-- the bytes of a word
+abbrev word : ℕ → Bool
+word b = nat_lt b 4
 
 -- ---- three slots
 
@@ -86,16 +82,55 @@ abbrev five : QueueCertificate
 five = certified (listed 0 0 3 any 0 ∷ listed 1 0 3 any 0 ∷ listed 2 0 3 any 0 ∷ listed 3 0 3 any 0
     ∷ listed 4 0 3 (linear (number 3)) 3 ∷ listed 5 3 0 any 0 ∷ [])
 
-abbrev five_marks : List Marks
-five_marks = [] ∷ (word ∷ []) ∷ (word ∷ word ∷ []) ∷ (word ∷ word ∷ word ∷ []) ∷ (word ∷ word ∷ word ∷ []) ∷ [] ∷ []
-
 all_filled_accepted : accepts all_filled five ≡ true
 unfolding meaning told_by_store
 all_filled_accepted = refl
 
-all_filled_written : shows_written all_filled five (Indexed 0) word five_marks ≡ true
+abbrev fills : (position to : ℕ) → List SenderLeaf
+fills position to = record { effect = Some (Fills position 0 4); targets = to ∷ [] } ∷ []
+
+abbrev leaves : (to : ℕ) → List SenderLeaf
+leaves to = record { effect = Some Leaves; targets = to ∷ [] } ∷ []
+
+abbrev publishes : (n to : ℕ) → List SenderLeaf
+publishes n to = record { effect = Some (Publishes n); targets = to ∷ [] } ∷ []
+
+abbrev all_graph : List (List SenderLeaf)
+all_graph = fills 0 1 ∷ fills 1 2 ∷ fills 2 3 ∷ leaves 4 ∷ publishes 3 5 ∷ leaves 6 ∷ []
+
+all_filled_sends : sender_graph all_filled five (Indexed 0) ≡ all_graph
 unfolding meaning told_by_store
-all_filled_written = refl
+all_filled_sends = refl
+
+-- a leaf that fills or leaves publishes nothing
+no-position : (d : ℕ) → (nat_lt d 0 || false) ≡ true → ⊥
+no-position d is = let less : d < 0 = grind (arith, nat_tests, is) in omega (arith, less)
+
+-- in states 1 to 4 as many positions are whole as were filled before
+abbrev filled_in : Marks
+filled_in n d b = nat_lt d (min n 3) && nat_lt n 5 && nat_lt b 4
+
+filled_kept : AreKept all_graph 0 filled_in
+filled_kept = record { opens = λ d b. grind (arith, nat_tests); leads = leads }
+  where
+    leads : (n d b : ℕ) → list_all (keeps filled_in n d b) (get_or all_graph n []) ≡ true
+    leads zero d b = grind (arith, nat_tests)
+    leads (suc zero) d b = grind (arith, nat_tests)
+    leads (suc (suc zero)) d b = grind (arith, nat_tests)
+    leads (suc (suc (suc zero))) d b = grind (arith, nat_tests)
+    leads (suc (suc (suc (suc zero)))) d b = grind (arith, nat_tests)
+    leads (suc (suc (suc (suc (suc zero))))) d b = grind (arith, nat_tests)
+    leads (suc (suc (suc (suc (suc (suc n)))))) d b = refl
+
+all_filled_written : IsSure all_graph 0 word
+all_filled_written zero d published b asked = absurd (no-position d published)
+all_filled_written (suc zero) d published b asked = absurd (no-position d published)
+all_filled_written (suc (suc zero)) d published b asked = absurd (no-position d published)
+all_filled_written (suc (suc (suc zero))) d published b asked = absurd (no-position d published)
+all_filled_written (suc (suc (suc (suc zero)))) d published b asked =
+    record { marks = filled_in; kept = filled_kept; marked = grind (arith, nat_tests, published, asked) }
+all_filled_written (suc (suc (suc (suc (suc zero))))) d published b asked = absurd (no-position d published)
+all_filled_written (suc (suc (suc (suc (suc (suc n)))))) d published b asked = absurd (cc)
 
 -- the same without the store at pc 4
 abbrev two_filled : OpeningValue
@@ -109,18 +144,76 @@ two_filled_accepted : accepts two_filled four ≡ true
 unfolding meaning told_by_store
 two_filled_accepted = refl
 
--- with the marks that are so, and with those that would do
-two_filled_unwritten : shows_written two_filled four (Indexed 0) word
-    ([] ∷ (word ∷ []) ∷ (word ∷ [] ∷ word ∷ []) ∷ (word ∷ [] ∷ word ∷ []) ∷ [] ∷ []) ≡ false
-unfolding meaning told_by_store
-two_filled_unwritten = refl
+abbrev two_graph : List (List SenderLeaf)
+two_graph = fills 0 1 ∷ fills 2 2 ∷ leaves 3 ∷ publishes 3 4 ∷ leaves 5 ∷ []
 
-two_filled_not_so : shows_written two_filled four (Indexed 0) word
-    ([] ∷ (word ∷ []) ∷ (word ∷ word ∷ word ∷ []) ∷ (word ∷ word ∷ word ∷ []) ∷ [] ∷ []) ≡ false
+two_filled_sends : sender_graph two_filled four (Indexed 0) ≡ two_graph
 unfolding meaning told_by_store
-two_filled_not_so = refl
+two_filled_sends = refl
 
--- of bytes 0 and 1 alone nothing else is asked
-bytes_of_mask : shows_written all_filled five (Indexed 0) (0 ∷ 1 ∷ []) five_marks ≡ true
-unfolding meaning told_by_store
-bytes_of_mask = refl
+-- the slot that was left as it was is the first, by its first byte
+abbrev first_filled : Marks
+first_filled n d b = nat_lt d 1 && nat_lt 0 n && nat_lt n 4 && nat_lt b 4
+
+first_kept : AreKept two_graph 0 first_filled
+first_kept = record { opens = λ d b. grind (arith, nat_tests); leads = leads }
+  where
+    leads : (n d b : ℕ) → list_all (keeps first_filled n d b) (get_or two_graph n []) ≡ true
+    leads zero d b = grind (arith, nat_tests)
+    leads (suc zero) d b = grind (arith, nat_tests)
+    leads (suc (suc zero)) d b = grind (arith, nat_tests)
+    leads (suc (suc (suc zero))) d b = grind (arith, nat_tests)
+    leads (suc (suc (suc (suc zero)))) d b = grind (arith, nat_tests)
+    leads (suc (suc (suc (suc (suc n))))) d b = refl
+
+-- it isn't written on the way to the store of the head
+left_out : IsSurelyWritten two_graph 0 3 1 0 → ⊥
+left_out is =
+    let none : is.marks 0 1 0 ≡ false = is.kept.opens 1 0 in
+    let second : ((not (is.marks 1 1 0) || is.marks 0 1 0) && true) && true ≡ true = is.kept.leads 0 1 0 in
+    let third : ((not (is.marks 2 1 0) || is.marks 1 1 0) && true) && true ≡ true = is.kept.leads 1 1 0 in
+    let last : ((not (is.marks 3 1 0) || is.marks 2 1 0) && true) && true ≡ true = is.kept.leads 2 1 0 in
+    let some : is.marks 3 1 0 ≡ true = is.marked in
+    absurd (grind arith)
+
+two_filled_unwritten : IsFirstUnsure two_graph 0 word 3 0
+two_filled_unwritten = record {
+  position = 1;
+  published = refl;
+  asked = refl;
+  unsure = left_out;
+  bytes = λ a less asked. absurd (omega (arith, less));
+  positions = λ d less a asked. record { marks = first_filled; kept = first_kept; marked = grind (arith, nat_tests, less, asked) };
+  states = states;
+}
+  where
+    states : (m : ℕ) → m < 3 → IsSureAt two_graph 0 word m
+    states zero less d published a asked = absurd (no-position d published)
+    states (suc zero) less d published a asked = absurd (no-position d published)
+    states (suc (suc zero)) less d published a asked = absurd (no-position d published)
+    states (suc (suc (suc n))) less d published a asked = absurd (omega (arith, less))
+
+-- ---- when a byte was written: after the record before in its slot was published
+
+abbrev fill : Entry
+fill = entry.Store 0 8 4 7
+
+abbrev publish : (n : ℕ) → Entry
+publish n = entry.Store 0 0 4 n
+
+-- of one slot: before position 0 is published, and between positions 0 and 1
+written_first : IsWritten certificate (Indexed 0) (fill ∷ []) 0 8
+written_first = record { before = []; writes = fill; since = []; is = refl; sender = refl; byte = refl; after = lit< tt }
+
+written_again : IsWritten certificate (Indexed 0) (fill ∷ publish 1 ∷ fill ∷ []) 1 8
+written_again = record { before = fill ∷ publish 1 ∷ []; writes = fill; since = []; is = refl; sender = refl; byte = refl; after = lit< tt }
+
+-- one entry wrote it, which came before position 0 was published
+written_before : IsWritten certificate (Indexed 0) (fill ∷ []) 1 8 → ⊥
+written_before is = by is.before is.is is.after
+  where
+    by : (before : List Entry) → fill ∷ [] ≡ before ++ is.writes ∷ is.since → 1 < published_after certificate (Indexed 0) before + 1 → ⊥
+    by [] same after = absurd (let less : 1 < 1 = after in omega (arith, less))
+    by (e ∷ es) same after =
+        absurd (let long : 1 ≡ length ((e ∷ es) ++ is.writes ∷ is.since) = ap (λ (fs : List Entry). length fs) same in
+        omega (arith, long, length-append (e ∷ es) (is.writes ∷ is.since)))

@@ -1,9 +1,9 @@
--- In every run the marks of the state in which the sender is are so: by induction over the run's entries.
+-- In every run all is written that surely is in the state in which the sender is: by induction over the run's entries.
 use Rattle.std.proofs.Common.{ℕ, ◌+◌, ◌-◌, ◌<◌, ◌≤◌, ◌≡◌, ◌==◌, ◌&&◌, inl, inr, Bool, true, false}
 use Rattle.std.proofs.Common.{Option, Some, None, List, [], ◌∷◌, ◌++◌, length, get_or, refl, sym, ◌∙◌, ap, subst, arith, append-nil, append_assoc}
 use Rattle.std.specs.Prelude.{nat_lt, nat_le, option_map}
-use Rattle.std.specs.List.{slice_get, Contains}
-use Rattle.std.proofs.lemmas.Bool.{and_parts, or_cases, eqb-true, ltb-true, leb-true}
+use Rattle.std.specs.List.{slice_get}
+use Rattle.std.proofs.lemmas.Bool.{and_parts, or_cases, eqb-true, ltb-true, leb-true, lt-ltb}
 use Rattle.hart.specs.State.{HartState}
 use Rattle.hart.specs.Steps.{advanced}
 use Rattle.hart.specs.declared.status.Status.TheVariants as status
@@ -18,8 +18,8 @@ use Rattle.step_machine.proofs.OwnRuns.{kept-front}
 use Rattle.store_buffers.proofs.OwnEntries.{same_state, next_state, own_parts}
 use Rattle.slot_queue.specs.Ownership.{counts_after}
 use Rattle.queue_parties.specs.Parties.{the_sender, all_at}
-use Rattle.owned_run.specs.Certified.{View, AllCounts, view_then, IsSameFor, kept_beside}
-use Rattle.owned_run.proofs.Every as every
+use Rattle.queue_certificates.specs.OwnedRuns.{View, AllCounts, view_then, IsSameFor, kept_beside}
+use Rattle.queue_certificates.proofs.Every as every
 use Rattle.queue_certificates.specs.States.{KnownState}
 use Rattle.queue_certificates.specs.Steps.{instruction_at}
 use Rattle.queue_certificates.specs.Certificates.{QueueCertificate, queue_at, start_at, part_of, own_of, state_at, tagged_at, told_beside}
@@ -28,7 +28,6 @@ use Rattle.queue_certificates.specs.Filled.{most_published}
 use Rattle.queue_certificates.specs.declared.effect.Effect.{Effect}
 use Rattle.queue_certificates.specs.declared.effect.Effect.TheVariants.{Leaves, Fills, Publishes, PublishesSome}
 use Rattle.queue_certificates.proofs.States.{means-frame}
-use Rattle.queue_certificates.proofs.Filled.{so-listed}
 use Rattle.queue_certificates.proofs.Effects.{IsSent, Sends}
 use Rattle.queue_certificates.proofs.TagShares.{told-frame, told-opens}
 use Rattle.queue_certificates.proofs.Accepted.{fine-tagged, of-hart, opens-means}
@@ -38,9 +37,10 @@ use Rattle.records_written.specs.declared.senders.QueueNumber.{QueueNumber}
 use Rattle.records_written.specs.declared.senders.QueueNumber.TheVariants.{Indexed, Tagged}
 use Rattle.records_written.specs.Senders.{IsListed, sender_in, size_in, slot_in, published_of, published_after, effect_in}
 use Rattle.records_written.specs.Written.{IsWritten}
-use Rattle.records_written.specs.Marks.{Marks, has_mark, has_mark_after, effect_keeps, shows_written}
-use Rattle.records_written.proofs.Marked.{whole-at}
-use Rattle.records_written.proofs.Leading.{indexed_then, tagged_then, marks-keep, Leads, leads}
+use Rattle.records_written.specs.SenderLeaves.{SenderLeaf, is_filled, written_after, may_hand, may_publish}
+use Rattle.records_written.specs.Sure.{Marks, keeps, IsSurelyWritten}
+use Rattle.records_written.specs.Marks.{sent_by, sender_graph, first_of, IsShownWritten}
+use Rattle.records_written.proofs.Leading.{indexed_then, tagged_then, leaves-pass, hands, Leads, leads}
 
 -- ---- a byte that is written stays so
 
@@ -60,9 +60,9 @@ module _ (c : QueueCertificate) (w : QueueNumber) where
   abbrev IsWrittenAt : List Entry → (k b : ℕ) → Type 0
   IsWrittenAt es k b = IsWritten c w es k (slot_in c w k + b)
 
-  -- these marks are so after these entries
-  abbrev AreWritten : Marks → List Entry → Type 0
-  AreWritten ms es = (d b : ℕ) → has_mark ms d b ≡ true → IsWrittenAt es (published_after c w es + d) b
+  -- what f marks is so after these entries
+  abbrev AreWritten : (f : ℕ → ℕ → Bool) → List Entry → Type 0
+  AreWritten f es = (d b : ℕ) → f d b ≡ true → IsWrittenAt es (published_after c w es + d) b
 
   -- the same position is d further than the count, after an entry that publishes
   written-on : (es : List Entry) (e : Entry) (p d b : ℕ) → published_after c w (es ++ e ∷ []) + d ≡ p → IsWrittenAt es p b
@@ -70,15 +70,15 @@ module _ (c : QueueCertificate) (w : QueueNumber) where
   written-on es e p d b same is = subst (λ k. IsWrittenAt (es ++ e ∷ []) k b) (sym same) (later c w es e p (slot_in c w p + b) is)
 
   -- after an entry of the sender's whose effect is done, its marks are so
-  marks-after : (es : List Entry) (e : Entry) (ms : Marks) (f : Effect) → hart_of e ≡ sender_in c w → AreWritten ms es
+  marks-after : (es : List Entry) (e : Entry) (was : ℕ → ℕ → Bool) (f : Effect) → hart_of e ≡ sender_in c w → AreWritten was es
       → IsSent (size_in c w) (slot_in c w) (published_after c w es) (published_after c w (es ++ e ∷ [])) f (access_of e) → (d b : ℕ)
-      → has_mark_after ms f d b ≡ true → IsWrittenAt (es ++ e ∷ []) (published_after c w (es ++ e ∷ []) + d) b
-  marks-after es e ms Leaves mine so to d b marked = written-on es e (published_after c w es + d) d b (omega (arith, to)) (so d b marked)
-  marks-after es e ms (Publishes m) mine so to d b marked =
+      → written_after (Some f) was d b ≡ true → IsWrittenAt (es ++ e ∷ []) (published_after c w (es ++ e ∷ []) + d) b
+  marks-after es e was Leaves mine so to d b marked = written-on es e (published_after c w es + d) d b (omega (arith, to)) (so d b marked)
+  marks-after es e was (Publishes m) mine so to d b marked =
       written-on es e (published_after c w es + (d + m)) d b (omega (arith, to)) (so (d + m) b marked)
-  marks-after es e ms (PublishesSome m) mine so to d b marked = absurd (cc)
-  marks-after es e ms (Fills j offset width) mine so sent d b marked =
-      elim (or_cases ((j == d) && nat_le offset b && nat_lt b (offset + width)) (has_mark ms d b) marked) [
+  marks-after es e was (PublishesSome m) mine so to d b marked = absurd (cc)
+  marks-after es e was (Fills j offset width) mine so sent d b marked =
+      elim (or_cases (is_filled j offset width d b) (was d b) marked) [
         | inr old ↦ written-on es e (published_after c w es + d) d b (omega (arith, sent.0)) (so d b old)
         | inl new ↦ (
             let front : ((j == d) && nat_le offset b) ≡ true = (and_parts _ _ new).0 in
@@ -97,6 +97,13 @@ module _ (c : QueueCertificate) (w : QueueNumber) where
               after = omega (arith, sent.1);
             }))
       ]
+
+  -- the same, where the effect may not be known
+  marks-then : (es : List Entry) (e : Entry) (was : ℕ → ℕ → Bool) (f : Option Effect) → hart_of e ≡ sender_in c w → AreWritten was es
+      → ((g : Effect) → f ≡ Some g → IsSent (size_in c w) (slot_in c w) (published_after c w es) (published_after c w (es ++ e ∷ [])) g (access_of e))
+      → (d b : ℕ) → written_after f was d b ≡ true → IsWrittenAt (es ++ e ∷ []) (published_after c w (es ++ e ∷ []) + d) b
+  marks-then es e was None mine so sent d b marked = absurd (cc)
+  marks-then es e was (Some f) mine so sent d b marked = marks-after es e was f mine so (sent f refl) d b marked
 
 module _ (B M : ℕ) (o : OpeningValue) (c : QueueCertificate) (ok : accepts o c ≡ true) where
   -- what hart h reads at each byte
@@ -136,16 +143,20 @@ module _ (B M : ℕ) (o : OpeningValue) (c : QueueCertificate) (ok : accepts o c
     count-acted (Tagged t) less mine =
         sym ((every.beside_acted (sets B M o c ok) done e run holds (tagged_at c t).sender mine t less).count the_sender refl)
 
-  module _ (w : QueueNumber) (less : IsListed c w) (mask : List ℕ) (marks : List Marks) (shown : shows_written o c w mask marks ≡ true) where
+  module _ (w : QueueNumber) (less : IsListed c w) (mask : ℕ → Bool) (shown : IsShownWritten o c w mask) where
     abbrev h : ℕ
     h = sender_in c w
 
-    -- a listed state of the sender's, and its marks
+    -- a byte is surely written, in state n
+    abbrev IsSurely : (n d b : ℕ) → Type 0
+    IsSurely n d b = IsSurelyWritten (sender_graph o c w) (first_of c w) n d b
+
+    -- a listed state of the sender's, where all is written that surely is
     record IsMarked (done : List Entry) (s : HartState) : Type 0 where
       state : ℕ
       listed : state < length (part_of c h).states
       means : MeansAll c h (state_at c h state).known s (Sees h done) (Counted done) (Told done)
-      written : AreWritten c w (get_or marks state []) done
+      written : (d b : ℕ) → IsSurely state d b → IsWrittenAt c w done (published_after c w done + d) b
 
     -- a sender that runs is in such a state
     abbrev StaysMarked : List Entry → Type 0
@@ -159,9 +170,9 @@ module _ (B M : ℕ) (o : OpeningValue) (c : QueueCertificate) (ok : accepts o c
       record Stepped : Type 0 where
         state : HartState
         at : state_of M (history_of o done) h ≡ Some state
-        ms : Marks
-        written : AreWritten c w ms done
-        leading : Leads M o c ok w less mask marks shown ms (Sees h done) (Counted done) (Told done) (access_of e) (advanced state (number_read e))
+        from : ℕ
+        written : (d b : ℕ) → IsSurely from d b → IsWrittenAt c w done (published_after c w done + d) b
+        leading : Leads M o c ok w less from (Sees h done) (Counted done) (Told done) (access_of e) (advanced state (number_read e))
 
       stepped : hart_of e ≡ h → is_land e ≡ false → Stepped
       stepped mine act =
@@ -173,21 +184,21 @@ module _ (B M : ℕ) (o : OpeningValue) (c : QueueCertificate) (ok : accepts o c
           record {
             state = k.0;
             at = k.1;
-            ms = get_or marks m.state [];
+            from = m.state;
             written = m.written;
-            leading = leads M o c ok w less mask marks shown a.opens of k.0 (Sees h done) (Counted done) (Told done) e a
-                (every.knows_beside (sets B M o c ok) done holds h) a.code a.size (get_or marks m.state []) leaf.known leaf.handed leaf.arrows leaf.numbers
+            leading = leads M o c ok w less a.opens of k.0 (Sees h done) (Counted done) (Told done) e a
+                (every.knows_beside (sets B M o c ok) done holds h) a.code a.size m.state leaf.known leaf.handed leaf.arrows leaf.numbers
                 (leaf.passes (λ k d arrows. all_lead c h (next_states c h a.opens.code k d) arrows) (of.closed m.state m.listed))
-                (leaf.passes (λ k d arrows. effect_keeps mask marks (get_or marks m.state []) arrows (effect_in c w k d (instruction_at a.opens.code k.pc)))
-                (marks-keep M o c ok w less mask marks shown a.opens a.is m.state m.listed))
+                (λ P all. leaf.passes (λ k d arrows. P (sent_by c w a.opens.code k d arrows)) (leaves-pass M o c ok w less a.opens a.is m.state m.listed P all))
                 leaf.means (leaf.told (Told done) m.means.2);
           }
 
       -- what it sends, by the counts of the run
-      sends : (mine : hart_of e ≡ h) (act : is_land e ≡ false) → Sends (size_in c w) (slot_in c w) (published_after c w done)
-          (published_after c w (done ++ e ∷ [])) (stepped mine act).leading.effect (access_of e) (advanced (stepped mine act).state (number_read e))
-      sends mine act = subst (λ n. Sends (size_in c w) (slot_in c w) (published_after c w done) n (stepped mine act).leading.effect (access_of e)
-          (advanced (stepped mine act).state (number_read e))) (count-acted done e run holds w less mine) (stepped mine act).leading.sends
+      sends : (mine : hart_of e ≡ h) (act : is_land e ≡ false) (f : Effect) → (stepped mine act).leading.does.effect ≡ Some f
+          → Sends (size_in c w) (slot_in c w) (published_after c w done) (published_after c w (done ++ e ∷ [])) f (access_of e)
+          (advanced (stepped mine act).state (number_read e))
+      sends mine act f is = subst (λ n. Sends (size_in c w) (slot_in c w) (published_after c w done) n f (access_of e)
+          (advanced (stepped mine act).state (number_read e))) (count-acted done e run holds w less mine) ((stepped mine act).leading.sends f is)
 
       marked-next : StaysMarked (done ++ e ∷ [])
       marked-next z at runs = by (is_own h e) refl
@@ -222,25 +233,32 @@ module _ (B M : ℕ) (o : OpeningValue) (c : QueueCertificate) (ok : accepts o c
                     (λ x kept. every.view_acted (sets B M o c ok) done e run holds h x parts.0 parts.1)
                     (λ j short. every.counts_acted (sets B M o c ok) done e run holds h parts.0 j)
                     (every.beside_acted (sets B M o c ok) done e run holds h parts.0));
-                written = λ d b is. marks-after c w done e st.ms st.leading.effect parts.0 st.written ((sends parts.0 parts.1).done running) d b
-                    (so-listed (get_or marks found.state []) (has_mark_after st.ms st.leading.effect) found.so d b is);
+                written = λ d b is. marks-then c w done e (is.marks st.from) st.leading.does.effect parts.0
+                    (λ j a marked. st.written j a (record { marks = is.marks; kept = is.kept; marked = marked }))
+                    (λ f does. (sends parts.0 parts.1 f does).done running) d b (found.keeps is.marks d b (is.kept.leads st.from d b) is.marked);
               }
 
       -- what it publishes was written
-      written-there : (k : ℕ) → published_after c w done ≤ k → k < published_after c w (done ++ e ∷ []) → (b : ℕ) → Contains mask b → IsWrittenAt c w done k b
-      written-there k from past b among = by (is_own h e) refl
+      written-there : (k : ℕ) → published_after c w done ≤ k → k < published_after c w (done ++ e ∷ []) → (b : ℕ) → mask b ≡ true → IsWrittenAt c w done k b
+      written-there k from past b asked = by (is_own h e) refl
         where
+          handed : (f : Option Effect)
+              → ((g : Effect) → f ≡ Some g → published_after c w (done ++ e ∷ []) ≤ published_after c w done + most_published g)
+              → may_hand (k - published_after c w done) f ≡ true
+          handed None upto = refl
+          handed (Some f) upto = lt-ltb _ _ (omega (arith, upto f refl, from, past))
+
           by : (t : Bool) → is_own h e ≡ t → IsWrittenAt c w done k b
           by false off = absurd (let same : published_after c w (done ++ e ∷ []) ≡ published_after c w done = count-left done e run holds w less off in
               omega (arith, same, from, past))
           by true on =
               let parts = own_parts h e on in
               let st = stepped parts.0 parts.1 in
-              let upto : published_after c w (done ++ e ∷ []) ≤ published_after c w done + most_published st.leading.effect = (sends parts.0 parts.1).upto in
               subst (λ p. IsWrittenAt c w done p b)
               (let at : published_after c w done + (k - published_after c w done) ≡ k = omega (arith, from) in at)
-              (st.written (k - published_after c w done) b
-              (whole-at mask st.ms st.leading.effect st.leading.whole (k - published_after c w done) (omega (arith, upto, from, past)) b among))
+              (st.written (k - published_after c w done) b (shown st.from (k - published_after c w done)
+              (hands M o c ok w less st.from st.leading.does st.leading.leaf (k - published_after c w done)
+              (handed st.leading.does.effect (λ f is. (sends parts.0 parts.1 f is).upto))) b asked))
 
     first : StaysMarked []
     first s at runs = opened (slice_get o.harts h) refl at
@@ -258,8 +276,8 @@ module _ (B M : ℕ) (o : OpeningValue) (c : QueueCertificate) (ok : accepts o c
                 opens-means M o c ok h x (state_at c h (part_of c h).first).known (part_of c h).numbers of.opens,
                 told-opens c h (state_at c h (part_of c h).first).known (part_of c h).numbers (fine-tagged M o c ok) of.told,
               );
-              written = λ d b marked. absurd (let no : false ≡ true =
-                  so-listed (get_or marks (part_of c h).first []) (λ d b. false) (and_parts _ _ shown).0 d b marked in
+              written = λ d b is. absurd (let none : is.marks (first_of c w) d b ≡ false = is.kept.opens d b in
+                  let some : is.marks (first_of c w) d b ≡ true = is.marked in
                   cc);
             })
 
@@ -272,5 +290,5 @@ module _ (B M : ℕ) (o : OpeningValue) (c : QueueCertificate) (ok : accepts o c
 
     -- EVERY record, in every run, is written before it is published
     pub each_written : (es : List Entry) (e : Entry) → WellFormed B M (history_of o (es ++ e ∷ [])) → (k : ℕ)
-        → published_after c w es ≤ k → k < published_after c w (es ++ e ∷ []) → (b : ℕ) → Contains mask b → IsWritten c w es k (slot_in c w k + b)
+        → published_after c w es ≤ k → k < published_after c w (es ++ e ∷ []) → (b : ℕ) → mask b ≡ true → IsWritten c w es k (slot_in c w k + b)
     each_written es e run = written-there es e run (from [] es (kept-front B M o es (e ∷ []) run) first)

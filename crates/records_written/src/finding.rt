@@ -1,21 +1,26 @@
 //! The first byte of records that isn't shown to be written.
 
-ghost use Rattle.std.specs.Prelude.{◌≡◌, ◌<◌, IfOk, IfSome, None, length};
+ghost use Rattle.std.specs.Prelude.{ℕ, ◌≡◌, ◌==◌, ◌&&◌, ◌<◌, IfOk, IfSome, MatchOption, length, true, false};
+ghost use Rattle.record_bytes.specs.Ranges.{has_byte};
 ghost use Rattle.queue_certificates.specs.Certificates.{part_of};
 ghost use Rattle.records_written.specs.Senders.{sender_in};
-ghost use Rattle.records_written.specs.Marks.{IsShownWritten};
+ghost use Rattle.records_written.specs.Marks.{IsShownWritten, IsFirstUnwritten};
+ghost use Rattle.records_written.specs.SenderLeaves.{may_publish};
+ghost use Rattle.records_written.specs.Sure.{IsSure, IsFirstUnsure};
+ghost use Rattle.records_written.specs.MarkLists.{has_mark, marks_of, IsBound, IsEnd, IsFirstOf, IsFirstOpen, IsLowestOpen};
 
-use crate::keeping::has_mark;
-use crate::leaves::{Leaf, StateLeaves, sender_leaves};
-use crate::marking::StateMarks;
-use crate::searching::most_marks;
-use crate::senders::{QueueNumber, sender_in};
-use crate::showing::{first_state, shows_written};
+use crate::keeping::are_kept;
+use crate::leaves::{StateLeaves, sender_graph};
+use crate::marking::{Mark, StateMarks, end_of, lowest, minus};
+use crate::searching::{marks_at, most_marks};
+use crate::senders::{QueueNumber, first_state};
 use known_values::Lack;
+use known_values::lack::sum;
 use queue_checker::QueueCertificate;
 use queue_checker::effects::most_published;
-use queue_checker::sites::{listed_states, small};
-use std::alloc::Global;
+use queue_checker::sites::small;
+use record_bytes::ByteRange;
+use std::alloc::{AllocError, Global};
 use step_machine::Opening;
 
 /// The first byte of the mask that isn't shown to be written, in the records of a queue: at the sender's state of this number, which
@@ -26,134 +31,184 @@ pub struct Unwritten {
     pub byte: u64,
 }
 
-/// How many positions a state's leaves may publish, as far as that is known.
-fn most_handed(leaves: &[Leaf]) -> u64 {
-    let handed = leaves
-        .iter()
-        .map(|leaf| leaf.effect.map_or(0, most_published));
-    handed.max().unwrap_or(0)
+/// A byte of the mask that isn't marked, of a position.
+#[derive(Clone, Copy)]
+pub(crate) struct Open {
+    position: u64,
+    byte: u64,
 }
 
-/// The lowest byte of the mask that isn't marked.
-fn lowest_unmarked(mask: &[u64], marks: &StateMarks, position: u64) -> Option<u64> {
-    let bytes = mask.iter().copied();
-    bytes.filter(|byte| !has_mark(marks, position, *byte)).min()
-}
-
-/// The lowest byte that isn't marked of the first position that has one, of those that may be published.
-fn first_unmarked(mask: &[u64], marks: &StateMarks, published: u64) -> Option<u64> {
-    for position in 0..published {
-        let byte = lowest_unmarked(mask, marks, position);
-        if byte.is_some() {
-            return byte;
+/// Whether there is a byte in these ranges.
+fn has_bytes(mask: &[ByteRange]) -> bool
+    ensures { result ≡ false → (b : ℕ) → has_byte mask.now b ≡ false }
+{
+    for range in mask {
+        if range.first <= range.last {
+            return true;
         }
     }
-    None
+    false
 }
 
-/// What isn't shown at a state, by its leaves and its marks.
-fn unwritten_at(
-    all: &[StateLeaves],
-    marks: &[StateMarks],
-    mask: &[u64],
-    n: u32,
-) -> Option<Unwritten>
-    ensures { IfSome result (λ unwritten. unwritten.state ≡ n) }
+/// The mask's bytes of a position.
+fn asked_at(alloc: Global, mask: &[ByteRange], position: u64) -> Result<Vec<Mark>, AllocError>
+    ensures { IfOk result (λ asked. (d b : ℕ) → has_mark asked.items d b ≡ ((position == d) && has_byte mask.now b)) }
 {
-    let state = all.get(n as usize)?;
-    let own = marks.get(n as usize)?;
-    let byte = first_unmarked(mask, own, most_handed(&state.leaves))?;
-    Some(Unwritten { state: n, byte })
-}
-
-/// The first such state.
-fn first_publishing(
-    all: &[StateLeaves],
-    marks: &[StateMarks],
-    mask: &[u64],
-    states: u32,
-) -> Option<Unwritten>
-    ensures { IfSome result (λ unwritten. unwritten.state < states) }
-{
-    for n in 0..states {
-        let found = unwritten_at(all, marks, mask, n);
-        if found.is_some() {
-            return found;
-        }
+    let mut asked = Vec::new(alloc);
+    for range in mask {
+        asked.push(Mark {
+            position,
+            bytes: *range,
+        })?;
     }
-    None
+    Ok(asked)
 }
 
-/// The first state with a leaf of which it isn't known how many positions it publishes.
-fn first_unbounded(all: &[StateLeaves], mask: &[u64], states: u32) -> Option<Unwritten>
-    ensures { IfSome result (λ unwritten. unwritten.state < states) }
-{
-    for n in 0..states {
-        if let Some(state) = all.get(n as usize) {
-            if state.leaves.iter().any(|leaf| leaf.effect.is_none()) {
-                let byte = mask.first().copied().unwrap_or(0);
-                return Some(Unwritten { state: n, byte });
-            }
-        }
-    }
-    None
-}
-
-/// Whether these marks show it, and else where they don't.
-fn judged(
+/// The lowest byte of the mask that isn't marked at a position.
+fn lowest_open(
     alloc: Global,
-    opening: &Opening,
-    certificate: &QueueCertificate,
-    queue: QueueNumber,
-    mask: &[u64],
-    states: u32,
-    all: &[StateLeaves],
-    marks: &[StateMarks],
-) -> Result<Option<Unwritten>, Lack>
-    ensures shown { IfOk result (λ unwritten. unwritten ≡ None → IsShownWritten opening.now certificate.now queue mask.now) }
-    ensures within { IfOk result (λ unwritten. IfSome unwritten (λ u. u.state < states)) }
+    mask: &[ByteRange],
+    own: &[Mark],
+    position: u64,
+) -> Result<Option<u64>, AllocError>
+    ensures { IfOk result (IsLowestOpen mask.now (has_mark own.now) position) }
 {
-    let shows = shows_written(alloc, opening, certificate, queue, mask, marks)?;
-    if shows {
+    let asked = asked_at(alloc, mask, position)?;
+    let open = minus(alloc, &asked, own)?;
+    Ok(lowest(&open))
+}
+
+/// The first position before the end that has such a byte.
+fn first_open(
+    alloc: Global,
+    mask: &[ByteRange],
+    own: &[Mark],
+    end: u64,
+) -> Result<Option<Open>, AllocError>
+    ensures { IfOk result (IsFirstOpen mask.now (has_mark own.now) (λ d. d < end)) }
+{
+    for position in 0..end {
+        if let Some(byte) = lowest_open(alloc, mask, own, position)? {
+            return Ok(Some(Open { position, byte }));
+        }
+    }
+    Ok(None)
+}
+
+/// How many positions a state's leaves may publish; `None`, if any number.
+fn published_by(state: &StateLeaves) -> Option<u64>
+    ensures { IsBound state.now result }
+{
+    let mut most = 0;
+    for leaf in &state.leaves {
+        match leaf.effect {
+            None => return None,
+            Some(effect) => most = most_published(effect).max(most),
+        }
+    }
+    Some(most)
+}
+
+/// The end of the positions that are asked about at a state: of those that it may publish, or one past all that have a mark.
+fn end_at(own: &[Mark], state: &StateLeaves) -> Result<u64, Lack>
+    ensures { IfOk result (IsEnd state.now (has_mark own.now)) }
+{
+    match published_by(state) {
+        Some(published) => Ok(published),
+        None => sum(end_of(own)?, 1),
+    }
+}
+
+/// The first byte at a state with these marks.
+fn open_in(
+    alloc: Global,
+    mask: &[ByteRange],
+    own: &[Mark],
+    state: &StateLeaves,
+) -> Result<Option<Open>, Lack>
+    ensures { IfOk result (IsFirstOpen mask.now (has_mark own.now) (λ d. may_publish state.now d ≡ true)) }
+{
+    let end = end_at(own, state)?;
+    let open = first_open(alloc, mask, own, end)?;
+    Ok(open)
+}
+
+/// The first byte at a state.
+fn open_at(
+    alloc: Global,
+    all: &[Option<StateMarks>],
+    mask: &[ByteRange],
+    state: &StateLeaves,
+    n: u32,
+) -> Result<Option<Open>, Lack>
+    ensures { IfOk result (IsFirstOpen mask.now (marks_of all.now n) (λ d. may_publish state.now d ≡ true)) }
+{
+    match marks_at(alloc, all, n)? {
+        None => Ok(None),
+        Some(own) => open_in(alloc, mask, &own.marks, state),
+    }
+}
+
+/// The first byte of all states.
+fn first_unmarked(
+    alloc: Global,
+    graph: &[StateLeaves],
+    states: u32,
+    all: &[Option<StateMarks>],
+    mask: &[ByteRange],
+) -> Result<Option<Unwritten>, Lack>
+    requires { states ≡ length graph.now }
+    ensures { IfOk result (IsFirstOf graph.now mask.now (marks_of all.now) states) }
+{
+    for n in 0..states {
+        if let Some(open) = open_at(alloc, all, mask, &graph[n as usize], n)? {
+            return Ok(Some(Unwritten {
+                state: n,
+                byte: open.byte,
+            }));
+        }
+    }
+    Ok(None)
+}
+
+/// The first byte of the mask that isn't surely written, of the leaves of a sender that opens in state `first`.
+pub(crate) fn first_unsure(
+    alloc: Global,
+    graph: &[StateLeaves],
+    states: u32,
+    first: u32,
+    mask: &[ByteRange],
+) -> Result<Option<Unwritten>, Lack>
+    requires { states ≡ length graph.now }
+    ensures { IfOk result (λ r. MatchOption r (IsSure graph.now first (has_byte mask.now))
+        (λ u. IsFirstUnsure graph.now first (has_byte mask.now) u.state u.byte)) }
+{
+    if !has_bytes(mask) {
         return Ok(None);
     }
-    let found = first_publishing(all, marks, mask, states);
-    if found.is_some() {
-        return Ok(found);
+    let all = most_marks(alloc, graph, states, first)?;
+    if !are_kept(alloc, graph, states, first, &all)? {
+        // the search ends only when they are
+        return Err(Lack::TooLarge);
     }
-    match first_unbounded(all, mask, states) {
-        Some(unwritten) => Ok(Some(unwritten)),
-        // settled marks fail nowhere else
-        None => Err(Lack::TooLarge),
-    }
+    first_unmarked(alloc, graph, states, &all, mask)
 }
 
-/// Looks for marks that show that the queue's sender writes the bytes of the mask of each record. None: there are some. Otherwise the first
-/// state that may publish a position with a byte for which the search found no mark: its lowest byte of the first such position. A sender
-/// that writes it in a way that marks don't express is named too.
+/// Which byte of the mask a queue's sender isn't shown to write in each record, before it publishes it. None: it is shown of all. Otherwise
+/// the first: of the states that may publish a position with a byte that isn't surely written there, in their order, then of the
+/// positions, then of the bytes. A sender that writes it in a way that marks don't express is named too.
 pub fn first_unwritten(
     alloc: Global,
     opening: &Opening,
     certificate: &QueueCertificate,
     queue: QueueNumber,
-    mask: &[u64],
+    mask: &[ByteRange],
 ) -> Result<Option<Unwritten>, Lack>
-    ensures shown { IfOk result (λ unwritten. unwritten ≡ None → IsShownWritten opening.now certificate.now queue mask.now) }
+    ensures exact { IfOk result (λ unwritten. MatchOption unwritten (IsShownWritten opening.now certificate.now queue (has_byte mask.now))
+        (IsFirstUnwritten opening.now certificate.now queue (has_byte mask.now))) }
     ensures within { IfOk result (λ unwritten. IfSome unwritten (λ u. u.state < length (part_of certificate.now (sender_in certificate.now queue)).states)) }
 {
-    let hart = sender_in(certificate, queue);
-    let states = small(listed_states(certificate, hart).len())?;
-    let first = first_state(certificate, queue);
-    let all = sender_leaves(alloc, opening, certificate, queue)?;
-    let marks = most_marks(alloc, &all, states, first, mask)?;
-    judged(
-        alloc,
-        opening,
-        certificate,
-        queue,
-        mask,
-        states,
-        &all,
-        &marks,
-    )
+    let graph = sender_graph(alloc, opening, certificate, queue)?;
+    let states = small(graph.len())?;
+    first_unsure(alloc, &graph, states, first_state(certificate, queue), mask)
 }

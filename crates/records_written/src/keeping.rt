@@ -1,109 +1,126 @@
-//! Whether marks are so after an effect.
+//! Whether the leaves of a sender's states keep marks.
 
-ghost use Rattle.std.specs.Prelude.{◌≡◌, IfOk};
+ghost use Rattle.std.specs.Prelude.{ℕ, ◌≡◌, ◌||◌, not, IfOk, true, false, length};
 ghost use Rattle.std.specs.List.{list_all};
-ghost use Rattle.queue_certificates.specs.Filled.{are_so};
-ghost use Rattle.records_written.specs.Marks.{has_mark, may_publish, has_mark_after};
+ghost use Rattle.records_written.specs.SenderLeaves.{written_after};
+ghost use Rattle.records_written.specs.Sure.{keeps, AreKept};
+ghost use Rattle.records_written.specs.MarkLists.{marks_byte, marks_of};
 
-use crate::marking::StateMarks;
+use crate::leaves::{Leaf, StateLeaves};
+use crate::marking::{StateMarks, left_after};
+use crate::searching::{left_of, marks_at};
 use known_values::Lack;
-use known_values::lack::sum;
-use queue_certificates::Effect;
-use queue_checker::effects::most_published;
+use std::alloc::Global;
 
-pub(crate) fn has_mark(marks: &StateMarks, position: u64, byte: u64) -> bool
-    ensures { result ≡ has_mark marks.now position byte }
-{
-    let position = usize::try_from(position).unwrap_or(usize::MAX);
-    match marks.slots.get(position) {
-        Some(slot) => slot.bytes.contains(&byte),
-        None => false,
-    }
-}
-
-/// Whether all these bytes of a position's slot are marked.
-fn have_marks(marks: &StateMarks, position: u64, mut bytes: &[u64]) -> bool
-    ensures { result ≡ list_all (has_mark marks.now position) bytes.now }
-{
-    'bytes: loop {
-        match bytes {
-            [] => return true,
-            [byte, others @ ..] => {
-                if !has_mark(marks, position, *byte) {
-                    return false;
-                }
-                bytes = others;
-            }
-        }
-    }
-}
-
-/// Whether all that may be published is marked.
-pub(crate) fn may_publish(mask: &[u64], marks: &StateMarks, effect: Effect) -> bool
-    ensures { result ≡ may_publish mask.now marks.now effect }
-{
-    for position in 0..most_published(effect) {
-        if !have_marks(marks, position, mask) {
-            return false;
-        }
-    }
-    true
-}
-
-/// Whether a byte is marked after an effect.
-pub(crate) fn has_mark_after(
-    marks: &StateMarks,
-    effect: Effect,
-    position: u64,
-    byte: u64,
+/// Whether a state has only such marks.
+fn target_keeps(
+    alloc: Global,
+    all: &[Option<StateMarks>],
+    to: u32,
+    left: &Option<StateMarks>,
 ) -> Result<bool, Lack>
-    ensures { IfOk result (λ marked. marked ≡ has_mark_after marks.now effect position byte) }
+    ensures { IfOk result (λ keeps. keeps ≡ true → (d b : ℕ) → (not (marks_of all.now to d b) || marks_byte left.now d b) ≡ true) }
 {
-    match effect {
-        Effect::Leaves => Ok(has_mark(marks, position, byte)),
-        Effect::Fills {
-            position: filled,
-            offset,
-            width,
-        } => {
-            let end = sum(offset, width)?;
-            let fills = filled == position && offset <= byte && byte < end;
-            Ok(fills || has_mark(marks, position, byte))
+    let Some(left) = left else {
+        return Ok(true);
+    };
+    match all.get(to as usize) {
+        None => Ok(true),
+        Some(own) => {
+            let fewer = left_of(alloc, own, &left.marks)?;
+            Ok(fewer.is_none())
         }
-        Effect::Publishes(n) => Ok(has_mark(marks, sum(position, n)?, byte)),
-        Effect::PublishesSome(_) => Ok(false),
     }
 }
 
-/// Whether all these bytes are.
-fn have_marks_after(
-    marks: &StateMarks,
-    effect: Effect,
-    position: u64,
-    mut bytes: &[u64],
+/// Whether these states have.
+fn targets_keep(
+    alloc: Global,
+    all: &[Option<StateMarks>],
+    left: &Option<StateMarks>,
+    targets: &[u32],
 ) -> Result<bool, Lack>
-    ensures { IfOk result (λ marked. marked ≡ list_all (has_mark_after marks.now effect position) bytes.now) }
+    ensures { IfOk result (λ k. k ≡ true → (d b : ℕ) → list_all (λ to. not (marks_of all.now to d b) || marks_byte left.now d b) targets.now ≡ true) }
 {
-    'bytes: loop {
-        match bytes {
-            [] => return Ok(true),
-            [byte, others @ ..] => {
-                if !has_mark_after(marks, effect, position, *byte)? {
-                    return Ok(false);
-                }
-                bytes = others;
-            }
-        }
+    let mut all_keep = true;
+    for to in targets {
+        let keeps = target_keeps(alloc, all, *to, left)?;
+        all_keep = all_keep && keeps;
+    }
+    Ok(all_keep)
+}
+
+/// Whether a leaf of a state with these marks keeps them.
+fn leaf_keeps(
+    alloc: Global,
+    all: &[Option<StateMarks>],
+    own: &Option<StateMarks>,
+    leaf: &Leaf,
+) -> Result<bool, Lack>
+    ensures { IfOk result (λ k. k ≡ true → (d b : ℕ)
+        → list_all (λ to. not (marks_of all.now to d b) || written_after leaf.now.effect (marks_byte own.now) d b) leaf.now.targets ≡ true) }
+{
+    let left = left_after(alloc, own, leaf.effect)?;
+    targets_keep(alloc, all, &left, &leaf.targets)
+}
+
+/// Whether each of these leaves does.
+fn leaves_keep(
+    alloc: Global,
+    all: &[Option<StateMarks>],
+    own: &Option<StateMarks>,
+    leaves: &[Leaf],
+) -> Result<bool, Lack>
+    ensures { IfOk result (λ k. k ≡ true → (d b : ℕ) → list_all (λ s. list_all (λ to. not (marks_of all.now to d b)
+        || written_after s.effect (marks_byte own.now) d b) s.targets) leaves.now ≡ true) }
+{
+    let mut all_keep = true;
+    for leaf in leaves {
+        let keeps = leaf_keeps(alloc, all, own, leaf)?;
+        all_keep = all_keep && keeps;
+    }
+    Ok(all_keep)
+}
+
+/// Whether each leaf of state `n` does.
+fn state_keeps(
+    alloc: Global,
+    all: &[Option<StateMarks>],
+    n: u32,
+    state: &StateLeaves,
+) -> Result<bool, Lack>
+    ensures { IfOk result (λ k. k ≡ true → (d b : ℕ) → list_all (keeps (marks_of all.now) n d b) state.now ≡ true) }
+{
+    let own = marks_at(alloc, all, n)?;
+    leaves_keep(alloc, all, &own, &state.leaves)
+}
+
+/// Whether nothing is marked where the sender opens.
+fn opens_unmarked(all: &[Option<StateMarks>], first: u32) -> bool
+    ensures { result ≡ true → (d b : ℕ) → marks_of all.now first d b ≡ false }
+{
+    match all.get(first as usize) {
+        None => true,
+        Some(None) => false,
+        Some(Some(own)) => own.marks.is_empty(),
     }
 }
 
-/// Whether all that the target's marks say is so after an effect.
-pub(crate) fn are_so(target: &StateMarks, marks: &StateMarks, effect: Effect) -> Result<bool, Lack>
-    ensures { IfOk result (λ so. so ≡ are_so target.now (has_mark_after marks.now effect)) }
+/// Whether all leaves keep these marks, and nothing is marked where the sender opens.
+pub(crate) fn are_kept(
+    alloc: Global,
+    graph: &[StateLeaves],
+    states: u32,
+    first: u32,
+    all: &[Option<StateMarks>],
+) -> Result<bool, Lack>
+    requires { states ≡ length graph.now }
+    ensures { IfOk result (λ k. k ≡ true → AreKept graph.now first (marks_of all.now)) }
 {
-    let mut all = true;
-    for i in 0..target.slots.len() {
-        all = have_marks_after(marks, effect, i as u64, &target.slots[i].bytes)? && all;
+    for n in 0..states {
+        if !state_keeps(alloc, all, n, &graph[n as usize])? {
+            return Ok(false);
+        }
     }
-    Ok(all)
+    Ok(opens_unmarked(all, first))
 }

@@ -1,9 +1,12 @@
 //! What a sender does at each of its states: the leaves of the state's cases, with their effects.
 
-ghost use Rattle.std.specs.Prelude.{◌≡◌, IfOk, map};
+ghost use Rattle.std.specs.Prelude.{◌≡◌, ◌++◌, IfOk, OnOk, map};
+ghost use Rattle.queue_checker.specs.Flaws.{hart_at};
+ghost use Rattle.records_written.specs.Senders.{sender_in};
+ghost use Rattle.records_written.specs.Marks.{sent_by, sent_in, sender_graph};
 
 use crate::senders::{QueueNumber, effect_in, sender_in};
-use known_values::Lack;
+use known_values::{Form, Lack};
 use queue_certificates::Effect;
 use queue_checker::leaves::{goes_beyond, with_high, with_low};
 use queue_checker::owning::code_of;
@@ -11,6 +14,7 @@ use queue_checker::sites::listed_states;
 use queue_checker::steps::instruction_at;
 use queue_checker::{Arrow, CaseNode, Cases, KnownState, ListedState, QueueCertificate};
 use std::alloc::Global;
+use std::marker::Model;
 use step_machine::Opening;
 
 /// A leaf: its effect, or none where it isn't known how many positions it publishes, and the states to which it leads.
@@ -20,10 +24,27 @@ pub(crate) struct Leaf {
     pub(crate) targets: Vec<u32>,
 }
 
+impl Model for Leaf {
+    ghost use Rattle.records_written.specs.SenderLeaves.{SenderLeaf};
+
+    ghost Value = { SenderLeaf };
+
+    ghost view = { λ s. record { effect = s.effect; targets = s.targets.items } };
+}
+
 /// The leaves of one state.
 #[derive(Drop)]
 pub(crate) struct StateLeaves {
     pub(crate) leaves: Vec<Leaf>,
+}
+
+impl Model for StateLeaves {
+    ghost use Rattle.std.specs.Prelude.{List};
+    ghost use Rattle.records_written.specs.SenderLeaves.{SenderLeaf};
+
+    ghost Value = { List SenderLeaf };
+
+    ghost view = { λ s. s.leaves.items };
 }
 
 fn targets_of(alloc: Global, arrows: &[Arrow]) -> Result<Vec<u32>, Lack>
@@ -31,6 +52,23 @@ fn targets_of(alloc: Global, arrows: &[Arrow]) -> Result<Vec<u32>, Lack>
 {
     let targets = arrows.iter().map(|arrow| arrow.to).collect(alloc)?;
     Ok(targets)
+}
+
+fn leaf_of(
+    alloc: Global,
+    certificate: &QueueCertificate,
+    queue: QueueNumber,
+    code: &[u32],
+    state: &KnownState,
+    handed: &Form,
+    arrows: &[Arrow],
+) -> Result<Leaf, Lack>
+    ensures { IfOk result (λ leaf. leaf ≡ sent_by certificate.now queue code.now state.now handed.now arrows.now) }
+{
+    let instruction = instruction_at(code, state.pc);
+    let effect = effect_in(alloc, certificate, queue, state, handed, instruction)?;
+    let targets = targets_of(alloc, arrows)?;
+    Ok(Leaf { effect, targets })
 }
 
 /// Adds the leaves of these cases of a state.
@@ -42,13 +80,13 @@ fn push_leaves(
     state: &KnownState,
     cases: &Cases,
     leaves: &mut Vec<Leaf>,
-) -> Result<(), Lack> {
+) -> Result<(), Lack>
+    ensures { IfOk result (λ _. leaves.new.items ≡ leaves.old.items ++ sent_in (sent_by certificate.now queue code.now) state.now cases.now) }
+{
     match &cases.node {
         CaseNode::Leaf(handed, arrows) => {
-            let instruction = instruction_at(code, state.pc);
-            let effect = effect_in(alloc, certificate, queue, state, handed, instruction)?;
-            let targets = targets_of(alloc, arrows)?;
-            leaves.push(Leaf { effect, targets })?;
+            let leaf = leaf_of(alloc, certificate, queue, code, state, handed, arrows)?;
+            leaves.push(leaf)?;
             Ok(())
         }
         CaseNode::Split(variable, most, low, high) => {
@@ -56,9 +94,10 @@ fn push_leaves(
             push_leaves(alloc, certificate, queue, code, &below, low, leaves)?;
             if goes_beyond(state, *variable, *most) {
                 let above = with_high(alloc, state, *variable, *most)?;
-                push_leaves(alloc, certificate, queue, code, &above, high, leaves)?;
+                push_leaves(alloc, certificate, queue, code, &above, high, leaves)
+            } else {
+                Ok(())
             }
-            Ok(())
         }
     }
 }
@@ -69,7 +108,9 @@ fn leaves_of(
     queue: QueueNumber,
     code: &[u32],
     listed: &ListedState,
-) -> Result<StateLeaves, Lack> {
+) -> Result<StateLeaves, Lack>
+    ensures { IfOk result (λ state. state ≡ sent_in (sent_by certificate.now queue code.now) listed.now.known listed.now.cases) }
+{
     let mut leaves = Vec::new(alloc);
     push_leaves(
         alloc,
@@ -83,18 +124,37 @@ fn leaves_of(
     Ok(StateLeaves { leaves })
 }
 
+fn graph_by(
+    alloc: Global,
+    certificate: &QueueCertificate,
+    queue: QueueNumber,
+    code: &[u32],
+    states: &[ListedState],
+) -> Result<Vec<StateLeaves>, Lack>
+    ensures { IfOk result (λ graph. graph.items ≡ map (λ t. sent_in (sent_by certificate.now queue code.now) t.known t.cases) states.now) }
+{
+    let mut graph = Vec::new(alloc);
+    for listed in states {
+        graph.push(leaves_of(alloc, certificate, queue, code, listed)?)?;
+    }
+    Ok(graph)
+}
+
 /// The leaves of each state of the queue's sender.
-pub(crate) fn sender_leaves(
+pub(crate) fn sender_graph(
     alloc: Global,
     opening: &Opening,
     certificate: &QueueCertificate,
     queue: QueueNumber,
-) -> Result<Vec<StateLeaves>, Lack> {
+) -> Result<Vec<StateLeaves>, Lack>
+    ensures { IfOk result (λ graph. graph.items ≡ sender_graph opening.now certificate.now queue) }
+{
     let hart = sender_in(certificate, queue);
-    let code = code_of(opening, hart);
-    let mut all = Vec::new(alloc);
-    for listed in listed_states(certificate, hart) {
-        all.push(leaves_of(alloc, certificate, queue, code, listed)?)?;
-    }
-    Ok(all)
+    graph_by(
+        alloc,
+        certificate,
+        queue,
+        code_of(opening, hart),
+        listed_states(certificate, hart),
+    )
 }

@@ -1,111 +1,88 @@
 //! The most marks that the states of a sender can have: all of them at first, and then without those that a leaf doesn't keep, until
 //! nothing changes.
-//!
-//! No clause states that these are the most, and none has to state that they are so: `shows_written` decides.
 
-ghost use Rattle.std.specs.Prelude.{◌≡◌, IfOk};
-ghost use Rattle.std.specs.List.{filter};
-ghost use Rattle.records_written.specs.Marks.{has_mark_after};
+ghost use Rattle.std.specs.Prelude.{ℕ, ◌≡◌, ◌==◌, ◌&&◌, ◌||◌, ◌<◌, not, IfOk, OnOk, MatchOption, length, get_or, set, Some, [], true};
+ghost use Rattle.records_written.specs.SenderLeaves.{written_after};
+ghost use Rattle.records_written.specs.MarkLists.{has_mark, marks_byte, marks_of, is_left, are_left, AreMost};
 
-use crate::keeping::{are_so, has_mark_after};
 use crate::leaves::{Leaf, StateLeaves};
-use crate::marking::{SlotMarks, StateMarks};
+use crate::marking::{Mark, StateMarks, left_after, narrowed, unmarked};
 use known_values::Lack;
-use queue_certificates::Effect;
-use std::alloc::Global;
-
-/// At most this number of marks is looked at: what a sender writes further ahead of its count isn't shown.
-const MOST_MARKS: u64 = 1 << 24;
+use std::alloc::{AllocError, Global};
 
 /// The marks of each state, and the states whose leaves aren't followed yet, or whose marks are fewer since.
 #[derive(Drop)]
 struct Search {
-    marks: Vec<StateMarks>,
+    marks: Vec<Option<StateMarks>>,
     waiting: Vec<u32>,
     waits: Vec<bool>,
 }
 
-/// One more than the position that a leaf fills; 0, if it fills none.
-fn filled_to(leaf: &Leaf) -> u64 {
-    match leaf.effect {
-        Some(Effect::Fills { position, .. }) => position.saturating_add(1),
-        _ => 0,
-    }
-}
-
-fn most_filled(state: &StateLeaves) -> u64 {
-    state.leaves.iter().map(filled_to).max().unwrap_or(0)
-}
-
-/// Of how many positions from the count on there can be marks.
-fn positions(all: &[StateLeaves], mask: &[u64]) -> u64 {
-    let most = all.iter().map(most_filled).max().unwrap_or(0);
-    let each = (all.len().max(1) as u64).saturating_mul(mask.len().max(1) as u64);
-    most.min(MOST_MARKS / each)
-}
-
-/// Every byte of the mask, at this number of positions.
-fn all_marked(alloc: Global, mask: &[u64], positions: u64) -> Result<StateMarks, Lack> {
-    let mut slots = Vec::new(alloc);
-    for _ in 0..positions {
-        let bytes = Vec::from_slice(alloc, mask)?;
-        slots.push(SlotMarks { bytes })?;
-    }
-    Ok(StateMarks { slots })
-}
-
-/// Of a slot's marks those that are so after an effect.
-fn bytes_after(
+/// The marks of a state. A state that isn't there has none.
+pub(crate) fn marks_at(
     alloc: Global,
-    bytes: &[u64],
-    own: &StateMarks,
-    effect: Effect,
-    position: u64,
-) -> Result<SlotMarks, Lack>
-    ensures { IfOk result (λ left. left ≡ filter (has_mark_after own.now effect position) bytes.now) }
+    all: &[Option<StateMarks>],
+    n: u32,
+) -> Result<Option<StateMarks>, AllocError>
+    ensures { IfOk result (λ own. own ≡ get_or all.now n (Some [])) }
 {
-    let mut left = Vec::new(alloc);
-    for byte in bytes {
-        if has_mark_after(own, effect, position, *byte)? {
-            left.push(*byte)?;
+    match all.get(n as usize) {
+        None => Ok(Some(unmarked(alloc))),
+        Some(None) => Ok(None),
+        Some(Some(own)) => {
+            let marks = Vec::from_slice(alloc, &own.marks)?;
+            Ok(Some(StateMarks { marks }))
         }
     }
-    Ok(SlotMarks { bytes: left })
 }
 
-/// Of a state's marks those that are so after an effect, from a state with marks `own`.
-fn marks_after(
+/// The marks of a state that are left, where it may be reached with these only; `None`, if it keeps all that it has.
+pub(crate) fn left_of(
     alloc: Global,
-    target: &StateMarks,
-    own: &StateMarks,
-    effect: Effect,
-) -> Result<StateMarks, Lack> {
-    let mut slots = Vec::new(alloc);
-    for i in 0..target.slots.len() {
-        let bytes = &target.slots[i].bytes;
-        slots.push(bytes_after(alloc, bytes, own, effect, i as u64)?)?;
+    own: &Option<StateMarks>,
+    left: &[Mark],
+) -> Result<Option<StateMarks>, AllocError>
+    ensures { IfOk result (λ r. MatchOption r ((d b : ℕ) → marks_byte own.now d b ≡ true → has_mark left.now d b ≡ true)
+        (λ kept. (d b : ℕ) → has_mark kept d b ≡ (marks_byte own.now d b && has_mark left.now d b))) }
+{
+    match own {
+        None => {
+            let marks = Vec::from_slice(alloc, left)?;
+            Ok(Some(StateMarks { marks }))
+        }
+        Some(own) => match narrowed(alloc, &own.marks, left)? {
+            None => Ok(None),
+            Some(marks) => Ok(Some(StateMarks { marks })),
+        },
     }
-    Ok(StateMarks { slots })
+}
+
+/// What is marked at first in a state: all, or nothing where the sender opens.
+fn opening_marks(alloc: Global, n: u32, first: u32) -> Option<StateMarks>
+    ensures { (d b : ℕ) → marks_byte result d b ≡ not (n == first) }
+{
+    if n == first {
+        Some(unmarked(alloc))
+    } else {
+        None
+    }
+}
+
+fn opened(alloc: Global, states: u32, first: u32) -> Result<Vec<Option<StateMarks>>, AllocError>
+    ensures { IfOk result (λ all. (n d b : ℕ) → n < states → marks_of all.items n d b ≡ not (n == first)) }
+{
+    let mut all = Vec::new(alloc);
+    for n in 0..states {
+        all.push(opening_marks(alloc, n, first))?;
+    }
+    Ok(all)
 }
 
 impl Search {
-    /// Every mark, except in the state in which the sender opens.
-    fn new(alloc: Global, all: &[StateLeaves], first: u32, mask: &[u64]) -> Result<Self, Lack> {
-        let positions = positions(all, mask);
-        let mut marks = Vec::new(alloc);
-        for n in 0..all.len() {
-            let here = if n == first as usize { 0 } else { positions };
-            marks.push(all_marked(alloc, mask, here)?)?;
-        }
-        Ok(Search {
-            marks,
-            waiting: Vec::new(alloc),
-            waits: vec![in alloc; false; all.len()]?,
-        })
-    }
-
     /// Puts a state on the list, if it isn't there.
-    fn wait(&mut self, n: u32) -> Result<(), Lack> {
+    fn wait(&mut self, n: u32) -> Result<(), Lack>
+        ensures { OnOk result (self.new.marks.items ≡ self.old.marks.items) }
+    {
         if let Some(waits) = self.waits.get_mut(n as usize) {
             if !*waits {
                 *waits = true;
@@ -116,7 +93,9 @@ impl Search {
     }
 
     /// The last state of the list, which leaves it.
-    fn next(&mut self) -> Option<u32> {
+    fn next(&mut self) -> Option<u32>
+        ensures { self.new.marks.items ≡ self.old.marks.items }
+    {
         let n = self.waiting.pop()?;
         if let Some(waits) = self.waits.get_mut(n as usize) {
             *waits = false;
@@ -124,60 +103,93 @@ impl Search {
         Some(n)
     }
 
-    fn put(&mut self, n: u32, marks: StateMarks) {
-        if let Some(place) = self.marks.get_mut(n as usize) {
-            *place = marks;
+    fn put(&mut self, n: u32, left: StateMarks)
+        ensures { self.new.marks.items ≡ set self.old.marks.items n (Some left) }
+    {
+        if (n as usize) < self.marks.len() {
+            self.marks[n as usize] = Some(left);
         }
     }
 
-    /// Takes the marks of a state away that aren't so after an effect, from another one.
-    fn follow_arrow(
+    /// Takes from a state what isn't among these marks.
+    fn narrow(&mut self, alloc: Global, to: u32, left: &[Mark]) -> Result<(), Lack>
+        ensures { OnOk result ((m d b : ℕ) → marks_of self.new.marks.items m d b
+            ≡ (marks_of self.old.marks.items m d b && (not (to == m) || has_mark left.now d b))) }
+    {
+        let Some(own) = self.marks.get(to as usize) else {
+            return Ok(());
+        };
+        match left_of(alloc, own, left)? {
+            None => Ok(()),
+            Some(kept) => {
+                self.put(to, kept);
+                self.wait(to)
+            }
+        }
+    }
+
+    fn follow_targets(&mut self, alloc: Global, left: &[Mark], targets: &[u32]) -> Result<(), Lack>
+        ensures { OnOk result ((m d b : ℕ) → marks_of self.new.marks.items m d b
+            ≡ (marks_of self.old.marks.items m d b && is_left targets.now (has_mark left.now d b) m)) }
+    {
+        for to in targets {
+            self.narrow(alloc, *to, left)?;
+        }
+        Ok(())
+    }
+
+    fn follow_leaf(
         &mut self,
         alloc: Global,
-        from: u32,
-        effect: Effect,
-        to: u32,
-    ) -> Result<(), Lack> {
-        let Some(own) = self.marks.get(from as usize) else {
-            return Ok(());
-        };
-        let Some(target) = self.marks.get(to as usize) else {
-            return Ok(());
-        };
-        if are_so(target, own, effect)? {
-            return Ok(());
+        own: &Option<StateMarks>,
+        leaf: &Leaf,
+    ) -> Result<(), Lack>
+        ensures { OnOk result ((m d b : ℕ) → marks_of self.new.marks.items m d b ≡ (marks_of self.old.marks.items m d b
+            && is_left leaf.now.targets (written_after leaf.now.effect (marks_byte own.now) d b) m)) }
+    {
+        match left_after(alloc, own, leaf.effect)? {
+            None => Ok(()),
+            Some(left) => self.follow_targets(alloc, &left.marks, &leaf.targets),
         }
-        let left = marks_after(alloc, target, own, effect)?;
-        self.put(to, left);
-        self.wait(to)
     }
 
-    fn follow_leaf(&mut self, alloc: Global, from: u32, leaf: &Leaf) -> Result<(), Lack> {
-        // after a leaf of which not even a bound is known nothing is marked
-        let effect = leaf.effect.unwrap_or(Effect::PublishesSome(0));
-        for to in &leaf.targets {
-            self.follow_arrow(alloc, from, effect, *to)?;
+    fn follow_leaves(
+        &mut self,
+        alloc: Global,
+        own: &Option<StateMarks>,
+        leaves: &[Leaf],
+    ) -> Result<(), Lack>
+        ensures { OnOk result ((m d b : ℕ) → marks_of self.new.marks.items m d b
+            ≡ (marks_of self.old.marks.items m d b && are_left leaves.now (marks_byte own.now) m d b)) }
+    {
+        for leaf in leaves {
+            self.follow_leaf(alloc, own, leaf)?;
         }
         Ok(())
     }
 
-    fn follow(&mut self, alloc: Global, n: u32, state: &StateLeaves) -> Result<(), Lack> {
-        for leaf in &state.leaves {
-            self.follow_leaf(alloc, n, leaf)?;
+    /// Takes from the states to which a state leads what isn't so after its leaves.
+    fn follow(&mut self, alloc: Global, graph: &[StateLeaves], n: u32) -> Result<(), Lack>
+        ensures { OnOk result ((m d b : ℕ) → marks_of self.new.marks.items m d b ≡ (marks_of self.old.marks.items m d b
+            && are_left (get_or graph.now n []) (marks_of self.old.marks.items n) m d b)) }
+    {
+        let own = marks_at(alloc, &self.marks, n)?;
+        match graph.get(n as usize) {
+            None => Ok(()),
+            Some(state) => self.follow_leaves(alloc, &own, &state.leaves),
         }
-        Ok(())
     }
 
     /// Follows leaves until no state is left on the list.
-    fn settle(&mut self, alloc: Global, all: &[StateLeaves]) -> Result<(), Lack> {
+    fn settle(&mut self, alloc: Global, graph: &[StateLeaves]) -> Result<(), Lack>
+        ensures { OnOk result ((first : ℕ) → AreMost graph.now first self.old.marks.items → AreMost graph.now first self.new.marks.items) }
+    {
         // a state comes back only after it has lost a mark
         for _ in 0..u64::MAX {
             let Some(n) = self.next() else {
                 break;
             };
-            if let Some(state) = all.get(n as usize) {
-                self.follow(alloc, n, state)?;
-            }
+            self.follow(alloc, graph, n)?;
         }
         Ok(())
     }
@@ -186,16 +198,23 @@ impl Search {
 /// The most marks that states with these leaves can have, if the sender opens in state `first`.
 pub(crate) fn most_marks(
     alloc: Global,
-    all: &[StateLeaves],
+    graph: &[StateLeaves],
     states: u32,
     first: u32,
-    mask: &[u64],
-) -> Result<Vec<StateMarks>, Lack> {
-    let mut search = Search::new(alloc, all, first, mask)?;
+) -> Result<Vec<Option<StateMarks>>, Lack>
+    requires { states ≡ length graph.now }
+    ensures { IfOk result (λ all. AreMost graph.now first all.items) }
+{
+    let marks = opened(alloc, states, first)?;
+    let mut search = Search {
+        marks,
+        waiting: Vec::new(alloc),
+        waits: vec![in alloc; false; graph.len()]?,
+    };
     for n in (0..states).rev() {
         search.wait(n)?;
     }
-    search.settle(alloc, all)?;
+    search.settle(alloc, graph)?;
     let Search {
         marks,
         waiting: _waiting,

@@ -2,6 +2,7 @@
 
 ghost use Rattle.std.specs.Prelude.{◌≡◌, IfOk};
 ghost use Rattle.records_written.specs.Senders.{sender_in, effect_in};
+ghost use Rattle.records_written.specs.Marks.{first_of};
 
 use known_values::queues::queue_in;
 use known_values::{Form, Lack};
@@ -27,6 +28,17 @@ pub(crate) fn sender_in(certificate: &QueueCertificate, queue: QueueNumber) -> u
     match queue {
         QueueNumber::Indexed(i) => queue_in(&certificate.queues, i).sender,
         QueueNumber::Tagged(t) => tagged_in(&certificate.tagged, t).sender,
+    }
+}
+
+/// The number of the state in which the sender opens.
+pub(crate) fn first_state(certificate: &QueueCertificate, queue: QueueNumber) -> u32
+    ensures { result ≡ first_of certificate.now queue }
+{
+    let hart = sender_in(certificate, queue);
+    match certificate.harts.get(hart as usize) {
+        Some(part) => part.first,
+        None => 0,
     }
 }
 

@@ -1,3 +1,4 @@
 pub mod Run
 pub mod Replay
 pub mod Move
+pub mod Threads

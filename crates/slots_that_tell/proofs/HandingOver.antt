@@ -1,5 +1,5 @@
 -- A byte of a slot, handed over: where a party stores the slot's tag, the other reads there what the party's hart read then.
-use Rattle.std.proofs.Common.{ℕ, ◌+◌, ◌<◌, ◌≤◌, ◌≡◌, ◌==◌, ◌⊎◌, inl, inr, if◌then◌else◌}
+use Rattle.std.proofs.Common.{ℕ, ◌+◌, ◌<◌, ◌≤◌, ◌≡◌, ◌≢◌, ◌==◌, ◌⊎◌, inl, inr, if◌then◌else◌}
 use Rattle.std.proofs.Common.{List, [], ◌∷◌, ◌++◌, length, drop, Some, None, refl, sym, ◌∙◌, ap, subst, arith, append-nil, append_assoc}
 use Rattle.std.specs.Prelude.{All, slice_index_or, unwrap_or}
 use Rattle.std.proofs.lemmas.Bool.{cases_lt, eq-eqb, ne_eqb}
@@ -10,7 +10,7 @@ use Rattle.memory.specs.Writes.{write}
 use Rattle.step_machine.specs.declared.events.Entry.{Entry}
 use Rattle.step_machine.specs.History.{OpeningValue, history_of}
 use Rattle.step_machine.specs.Access.{Access, nothing, load, store, exchange, fence, land, access_of}
-use Rattle.step_machine.specs.Entries.{hart_of, stored_by, own_store, pending, own_stores, lands, memory_byte, read_byte}
+use Rattle.step_machine.specs.Entries.{hart_of, stored_by, own_store, pending, own_stores, landed_by, land_of, lands, memory_byte, read_byte}
 use Rattle.step_machine.specs.Legal.{Legal}
 use Rattle.step_machine.proofs.Appended.{stores-append, lands-append, LegalAfter-front, LegalAfter-back}
 use Rattle.step_machine.proofs.Balanced.{balanced}
@@ -280,29 +280,62 @@ module _ (B : ℕ) (q : Slots) (start : QueueCounts) (o : OpeningValue) (before 
                             (omega (arith, most, level, first, known_now)) in
                             omega (arith, landed, late2)
 
-    module _ (given : count (other p) (counts q start (es ++ e ∷ fs)) ≤ k + gap q p) (has : k + gap q p < owned_end q (other p) (counts q start (es ++ e ∷ fs)))
-        (kept : LeavesByteAt (teller_hart q (other p)) x fs) where
-      abbrev later : QueueCounts
-      later = counts q start (es ++ e ∷ fs)
+    -- where all that the party's hart had stored there has landed
+    pub reads-landed : count (other p) (counts q start (es ++ e ∷ fs)) ≤ k + gap q p → LeavesByteAt (teller_hart q (other p)) x fs
+        → length (own_stores (teller_hart q p) (before ++ run1)) ≤ lands (teller_hart q p) (before ++ (run1 ++ fs))
+        → read_byte o (before ++ (es ++ e ∷ fs)) (teller_hart q (other p)) x ≡ read_byte o (before ++ (es ++ e ∷ [])) (teller_hart q p) x
+    reads-landed given kept landed =
+        let place : (before ++ run1) ++ fs ≡ before ++ (es ++ e ∷ fs) = append_assoc before run1 fs ∙ ap (λ xs. before ++ xs) (sym parts1) in
+        subst (λ xs. read_byte o xs (teller_hart q (other p)) x ≡ read_byte o (before ++ run1) (teller_hart q p) x) place
+        (handed_over B o (teller_hart q p) (teller_hart q (other p)) x (before ++ run1) fs (subst (λ xs. Legal B (history_of o xs)) (sym place) f.legal)
+        (subst (λ xs. length (own_stores (teller_hart q p) (before ++ run1)) ≤ lands (teller_hart q p) xs)
+        (sym (append_assoc before run1 fs)) landed) only-writer
+        (leave-after B q start o before run1 fs (subst (FollowsTelling B q start o before) parts1 f) p k past x of_k
+        (subst (λ xs. count (other p) (counts q start xs) ≤ k + gap q p) parts1 given) kept))
 
-      landed : length (own_stores (teller_hart q p) (before ++ run1)) ≤ lands (teller_hart q p) (before ++ (run1 ++ fs))
-      landed =
-          let knows : k < known (other p) later = (let there : k + gap q p < known (other p) later + gap q p =
-          subst (λ t. k + gap q p < known (other p) later + gap q t) (twice p) has in omega (arith, there)) in
-          published_by B q start o before es e fs (subst (FollowsTelling B q start o before) parts1 f) p (omega (arith, from, past))
-          (subst (λ xs. count p l ≤ known (other p) (counts q start xs)) parts1 (omega (arith, last, knows)))
+  -- once the other party knows of the position, that is so
+  pub landed : k < known (other p) (counts q start (es ++ e ∷ fs))
+      → length (own_stores (teller_hart q p) (before ++ run1)) ≤ lands (teller_hart q p) (before ++ (run1 ++ fs))
+  landed knows = published_by B q start o before es e fs (subst (FollowsTelling B q start o before) parts1 f) p (omega (arith, from, past))
+      (subst (λ xs. count p l ≤ known (other p) (counts q start xs)) parts1 (omega (arith, last, knows)))
 
-      leave : AllLeaveByte x fs
-      leave = leave-after B q start o before run1 fs (subst (FollowsTelling B q start o before) parts1 f) p k past x of_k
-          (subst (λ xs. count (other p) (counts q start xs) ≤ k + gap q p) parts1 given) kept
+  pub handed : (x : ℕ) → IsSlotByte q k x → count (other p) (counts q start (es ++ e ∷ fs)) ≤ k + gap q p
+      → k + gap q p < owned_end q (other p) (counts q start (es ++ e ∷ fs)) → LeavesByteAt (teller_hart q (other p)) x fs
+      → read_byte o (before ++ (es ++ e ∷ fs)) (teller_hart q (other p)) x ≡ read_byte o (before ++ (es ++ e ∷ [])) (teller_hart q p) x
+  handed x of_k given has kept = reads-landed x of_k given kept (landed
+      (let there : k + gap q p < known (other p) (counts q start (es ++ e ∷ fs)) + gap q p =
+      subst (λ t. k + gap q p < known (other p) (counts q start (es ++ e ∷ fs)) + gap q t) (twice p) has in omega (arith, there)))
 
-      pub handed : read_byte o (before ++ (es ++ e ∷ fs)) (teller_hart q (other p)) x ≡ read_byte o (before ++ (es ++ e ∷ [])) (teller_hart q p) x
-      handed =
-          let place : (before ++ run1) ++ fs ≡ before ++ (es ++ e ∷ fs) = append_assoc before run1 fs ∙ ap (λ xs. before ++ xs) (sym parts1) in
-          subst (λ xs. read_byte o xs (teller_hart q (other p)) x ≡ read_byte o (before ++ run1) (teller_hart q p) x) place
-          (handed_over B o (teller_hart q p) (teller_hart q (other p)) x (before ++ run1) fs (subst (λ xs. Legal B (history_of o xs)) (sym place) f.legal)
-          (subst (λ xs. length (own_stores (teller_hart q p) (before ++ run1)) ≤ lands (teller_hart q p) xs)
-          (sym (append_assoc before run1 fs)) landed) only-writer leave)
+-- the same just before the entry of the other party's by which it comes to know of the position
+module _ (B : ℕ) (q : Slots) (start : QueueCounts) (o : OpeningValue) (before es : List Entry) (e : Entry) (fs : List Entry) (d : Entry)
+    (f : FollowsTelling B q start o before ((es ++ e ∷ fs) ++ d ∷ [])) (p : Party) (k : ℕ) (from : count p (counts q start es) ≤ k)
+    (past : k < count p (counts q start (es ++ e ∷ []))) (apart : hart_of d ≢ teller_hart q p)
+    (knows : k < known (other p) (counts q start ((es ++ e ∷ fs) ++ d ∷ []))) where
+  joins : (es ++ e ∷ fs) ++ d ∷ [] ≡ es ++ e ∷ (fs ++ d ∷ [])
+  joins = append_assoc es (e ∷ fs) (d ∷ [])
+
+  still : (y : Access) → landed_by (hart_of d == teller_hart q p) y ≡ 0
+  still land = ap (λ b. if b then 1 else 0) (ne_eqb (hart_of d) (teller_hart q p) apart)
+  still y = refl
+
+  landed-before : length (own_stores (teller_hart q p) (before ++ (es ++ e ∷ []))) ≤ lands (teller_hart q p) (before ++ ((es ++ e ∷ []) ++ fs))
+  landed-before =
+      let h : ℕ = teller_hart q p in
+      let all : length (own_stores h (before ++ (es ++ e ∷ []))) ≤ lands h (before ++ ((es ++ e ∷ []) ++ (fs ++ d ∷ []))) =
+      landed B q start o before es e (fs ++ d ∷ []) (subst (FollowsTelling B q start o before) joins f) p k from past
+      (subst (λ xs. k < known (other p) (counts q start xs)) joins knows) in
+      let place : before ++ ((es ++ e ∷ []) ++ (fs ++ d ∷ [])) ≡ (before ++ ((es ++ e ∷ []) ++ fs)) ++ d ∷ [] =
+      ap (λ xs. before ++ xs) (sym (append_assoc (es ++ e ∷ []) fs (d ∷ []))) ∙ sym (append_assoc before ((es ++ e ∷ []) ++ fs) (d ∷ [])) in
+      let parts : lands h (before ++ ((es ++ e ∷ []) ++ (fs ++ d ∷ []))) ≡ lands h (before ++ ((es ++ e ∷ []) ++ fs)) + (land_of h d + 0) =
+      ap (lands h) place ∙ lands-append h (before ++ ((es ++ e ∷ []) ++ fs)) (d ∷ []) in
+      let none : land_of h d ≡ 0 = still (access_of d) in
+      omega (arith, all, parts, none)
+
+  pub handed-before : (x : ℕ) → IsSlotByte q k x → count (other p) (counts q start (es ++ e ∷ fs)) ≤ k + gap q p
+      → LeavesByteAt (teller_hart q (other p)) x fs
+      → read_byte o (before ++ (es ++ e ∷ fs)) (teller_hart q (other p)) x ≡ read_byte o (before ++ (es ++ e ∷ [])) (teller_hart q p) x
+  handed-before x of_k given kept =
+      reads-landed B q start o before es e fs (follows-front B q start o before (es ++ e ∷ fs) (d ∷ []) f) p k from past x of_k given kept landed-before
 
 -- ---- a record that waits where the run begins
 

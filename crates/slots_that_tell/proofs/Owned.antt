@@ -11,7 +11,7 @@ use Rattle.step_machine.specs.Access.{Access, nothing, load, store, exchange, fe
 use Rattle.step_machine.specs.Entries.{hart_of}
 use Rattle.store_buffers.specs.StoreBuffers.{LeavesByte, LeavesByteBy}
 use Rattle.queue_parties.specs.Parties.{Party, the_sender, the_receiver, other, QueueCounts, count, known, with_known}
-use Rattle.queue_parties.proofs.Parties.{two, count-set, count-set-other, known-set-count, count-set-known}
+use Rattle.queue_parties.proofs.Parties.{two, count-set, count-set-other, known-set-count, known-set-other, count-set-known}
 use Rattle.queue_parties.proofs.Parties.{Grows, grows-same, grows-on, Whose, mine, theirs, whose, grows-count, grows-known, grows-from}
 use Rattle.slots_that_tell.specs.Slots.{Slots, IsSlots, gap, is_tag, position_at, IsSlotByte, KeepsOff}
 use Rattle.slots_that_tell.specs.Telling.{teller_of, owned_end, told, learned, moved, after_load, after_store}
@@ -253,6 +253,44 @@ module _ (q : Slots) (p : Party) where
         subst (λ t. count t c < count t (after_store q r (write a 4 new) c1)) same more in
         absurd (omega (arith, n, s, on))
   ]
+
+  -- ---- and one by which it comes to know of more is its own, and leaves the other's count
+
+  other-loads : (r : Party) (a width v : ℕ) (c : QueueCounts) → p ≡ other r → known p (after_load q r a width v c) ≡ known p c
+  other-loads r a width v c apart = elim (loaded q r a width v c) [
+    | inl same ↦ ap (known p) same
+    | inr more ↦ ap (known p) more.1
+        ∙ subst (λ t. known t (with_known r more.0 c) ≡ known t c) (sym apart) (known-set-other r more.0 c)
+  ]
+
+  pub learning : (t : Option Party) (y : Access) (c : QueueCounts) → known p c < known p (told_access q t y c)
+      → (t ≡ Some p) × (count (other p) (told_access q t y c) ≡ count (other p) c)
+  learning None y c more = absurd (omega (arith, more))
+  learning (Some r) nothing c more = absurd (omega (arith, more))
+  learning (Some r) (fence full) c more = absurd (omega (arith, more))
+  learning (Some r) land c more = absurd (omega (arith, more))
+  learning (Some r) (store w) c more =
+      absurd (let still : known p (after_store q r w c) ≡ known p c = known-set-count r p (moved q (count r c) w) c in omega (arith, still, more))
+  learning (Some r) (load a width v) c more = elim (two r p) [
+    | inl same ↦ (ap (λ s. Some s) (sym same), loaded-count q r (other p) a width v c)
+    | inr apart ↦ absurd (let still : known p (after_load q r a width v c) ≡ known p c = other-loads r a width v c apart in omega (arith, still, more))
+  ]
+  learning (Some r) (exchange a old new) c more = by (two r p)
+    where
+      c1 : QueueCounts
+      c1 = after_load q r a 4 old c
+
+      w : Write
+      w = write a 4 new
+
+      by : (p ≡ r) ⊎ (p ≡ other r) → (Some r ≡ Some p) × (count (other p) (after_store q r w c1) ≡ count (other p) c)
+      by (inl same) = (
+        ap (λ s. Some s) (sym same),
+        subst (λ t. count (other t) (after_store q r w c1) ≡ count (other t) c1) (sym same) (count-set-other r (moved q (count r c1) w) c1)
+            ∙ loaded-count q r (other p) a 4 old c,
+      )
+      by (inr apart) = absurd (let still : known p (after_store q r w c1) ≡ known p c1 = known-set-count r p (moved q (count r c1) w) c1 in
+          let level : known p c1 ≡ known p c = other-loads r a 4 old c apart in omega (arith, still, level, more))
 
 pub mine-of : (q : Slots) (is : IsSlots q) (p : Party) (h : ℕ) → teller_of q h ≡ Some p → h ≡ Rattle.slots_that_tell.specs.Telling.teller_hart q p
 mine-of q is p h party = by (whose q.sender q.receiver h)

@@ -1,5 +1,5 @@
 -- Records in order, each once: those that the receiver takes are a prefix of those that the sender published.
-use Rattle.std.proofs.Common.{ℕ, ◌+◌, ◌-◌, ◌<◌, ◌≤◌, ◌≡◌, ◌⊎◌, inl, inr, Bool, true, false, if◌then◌else◌}
+use Rattle.std.proofs.Common.{ℕ, ◌+◌, ◌-◌, ◌<◌, ◌≤◌, ◌≡◌, ◌≢◌, ◌⊎◌, inl, inr, Bool, true, false, if◌then◌else◌}
 use Rattle.std.proofs.Common.{List, [], ◌∷◌, ◌++◌, Some, refl, sym, ◌∙◌, ap, subst, arith, append_assoc}
 use Rattle.std.specs.Prelude.{nat_lt}
 use Rattle.std.proofs.lemmas.Bool.{cases_lt, lt-ltb}
@@ -19,11 +19,11 @@ use Rattle.queue_parties.proofs.Records.{numbers-prefix, numbers-same, numbers-s
 use Rattle.slots_that_tell.specs.Slots.{Slots, IsSlots, tagged_slot, IsSlotByte, IsTagByte, tag_of}
 use Rattle.slots_that_tell.specs.Telling.{KeepsEntry, teller_of, owned_end, moved, after_load, after_store}
 use Rattle.slots_that_tell.specs.Telling.{told_access, after_entry, told_counts, MayStore, TellsAccess, KeepsTelling}
-use Rattle.slots_that_tell.specs.Laws.{FollowsTelling, counts, StoresTagsAlone, tagged_record, reading_at, records_by, records_waiting}
+use Rattle.slots_that_tell.specs.Laws.{FollowsTelling, counts, StoresTagsAlone, tagged_record, reading_at, records_by, records_learned, records_waiting}
 use Rattle.slots_that_tell.proofs.Places.{tag-in-slot, fills-leaves, moved-tag, far}
 use Rattle.slots_that_tell.proofs.Publication.{follows-front}
-use Rattle.slots_that_tell.proofs.Owned.{grows-entry, grows-after, Window, window-of, loaded-count, Moving, moving}
-use Rattle.slots_that_tell.proofs.HandingOver.{handed, below, waited}
+use Rattle.slots_that_tell.proofs.Owned.{grows-entry, grows-after, Window, window-of, loaded-count, Owned, access-byte, Moving, moving, learning, mine-of}
+use Rattle.slots_that_tell.proofs.HandingOver.{handed, handed-before, below, waited}
 
 -- a party's store over a byte of a tag is the one of its own position's
 module _ (q : Slots) (is : IsSlots q) (r : Party) (k x : ℕ) (of_k : IsTagByte q k x) where
@@ -109,6 +109,55 @@ tag-kept B q start o before fr gs f k x of_k sent given = at-by-parts q.receiver
             (tag-in-slot q is k x of_k) (omega (arith, one, low, given)) in
             omega (arith, back, sent, knows, more)
 
+-- while the receiver doesn't know of position k, it writes over no byte of its slot
+unlearned-left : (B : ℕ) (q : Slots) (start : QueueCounts) (o : OpeningValue) (before fr gs : List Entry) → FollowsTelling B q start o before (fr ++ gs)
+    → (k x : ℕ) → IsSlotByte q k x → k < owned_end q the_sender (counts q start fr) → (counts q start (fr ++ gs)).known_published ≤ k
+    → LeavesByteAt q.receiver x gs
+unlearned-left B q start o before fr gs f k x of_k sent unknown = at-by-parts q.receiver x gs part
+  where
+    part : (es1 : List Entry) (e1 : Entry) (es2 : List Entry) → gs ≡ es1 ++ e1 ∷ es2 → hart_of e1 ≡ q.receiver → LeavesByteBy x (access_of e1)
+    part es1 e1 es2 split at = elim (access-byte q is x k of_k the_receiver c1 (access_of e1) (subst (λ t. TellsAccess q t c1 (access_of e1)) party keeps)) [
+      | inl leaves ↦ leaves
+      | inr owns ↦ absurd (gone owns)
+    ]
+      where
+        is : IsSlots q
+        is = f.slots
+
+        done : List Entry
+        done = fr ++ es1
+
+        c1 : QueueCounts
+        c1 = counts q start done
+
+        d1 : QueueCounts
+        d1 = told_access q (Some the_receiver) (access_of e1) c1
+
+        party : teller_of q (hart_of e1) ≡ Some the_receiver
+        party = receiver-is q is (hart_of e1) at
+
+        parts : fr ++ gs ≡ done ++ e1 ∷ es2
+        parts = ap (λ xs. fr ++ xs) split ∙ sym (append_assoc fr es1 (e1 ∷ es2))
+
+        keeps : TellsAccess q (teller_of q (hart_of e1)) c1 (access_of e1)
+        keeps = keeps-at (after_entry q) (KeepsEntry q) start done e1 es2 (subst (KeepsTelling q start) parts f.keeps)
+
+        gone : Owned q is x the_receiver c1 d1 → ⊥
+        gone owns =
+            let l : QueueCounts = counts q start fr in
+            let final : Grows d1 (counts q start (fr ++ gs)) = subst (Grows d1)
+            (ap (λ t. told_counts q (told_access q t (access_of e1) c1) es2) (sym party)
+            ∙ sym (counts-append (after_entry q) start done (e1 ∷ es2)) ∙ ap (counts q start) (sym parts))
+            (grows-after q d1 es2) in
+            let low : known the_receiver d1 ≤ known the_receiver (counts q start (fr ++ gs)) = final.knows the_receiver in
+            let since : Grows l c1 = subst (Grows l) (sym (counts-append (after_entry q) start fr es1)) (grows-after q l es1) in
+            let more : count the_receiver l ≤ count the_receiver c1 = since.counts the_receiver in
+            let w : Window q l = window-of B q start o before fr (follows-front B q start o before fr gs f) in
+            let knows : known the_sender l ≤ count the_receiver l = w.known_less the_receiver in
+            let first : owns.position < known the_receiver d1 + 0 = owns.before in
+            let back : owns.position + q.size ≤ k = far q is owns.position k x owns.byte of_k (omega (arith, first, low, unknown)) in
+            omega (arith, back, sent, knows, more, owns.from)
+
 tag_byte_or : (q : Slots) (k x : ℕ) → IsTagByte q k x ⊎ (IsTagByte q k x → ⊥)
 tag_byte_or q k x = elim (cases_lt x (tag_of q k)) [
   | inl less ↦ inr (λ at. omega (arith, at.0, less))
@@ -155,22 +204,21 @@ module _ (B : ℕ) (q : Slots) (start : QueueCounts) (o : OpeningValue) (before 
       own-records (after_entry q) (count the_sender) sent_record sent-grows start before es es1 e es2 k split from past
       ∙ R-sent k (omega (arith, more, from))
 
-  all : records_waiting q o start before ++ records_by q the_sender o start before es
-      ≡ numbers_from R start.taken ((counts q start es).published - start.taken)
-  all =
-      let low : start.taken ≤ start.published = (let one : start.taken ≤ start.known_published = f.rest.window.taken in
-      omega (arith, one, f.rest.window.known_published)) in
+  -- all records from position k0 on
+  all-from : (k0 : ℕ) → k0 ≤ start.published → records_waiting q o start before k0 ++ records_by q the_sender o start before es
+      ≡ numbers_from R k0 ((counts q start es).published - k0)
+  all-from k0 low =
       let more : start.published ≤ (counts q start es).published = (grows-after q start es).counts the_sender in
-      let parts : (start.published - start.taken) + ((counts q start es).published - start.published)
-      ≡ (counts q start es).published - start.taken = omega (arith, low, more) in
-      let at : start.taken + (start.published - start.taken) ≡ start.published = omega (arith, low) in
-      ap (λ xs. xs ++ records_by q the_sender o start before es) (numbers-same waiting_record R start.taken (start.published - start.taken)
+      let parts : (start.published - k0) + ((counts q start es).published - start.published)
+      ≡ (counts q start es).published - k0 = omega (arith, low, more) in
+      let at : k0 + (start.published - k0) ≡ start.published = omega (arith, low) in
+      ap (λ xs. xs ++ records_by q the_sender o start before es) (numbers-same waiting_record R k0 (start.published - k0)
       (λ i from below. R-waiting i (omega (arith, below, at))))
-      ∙ ap (λ xs. numbers_from R start.taken (start.published - start.taken) ++ xs)
+      ∙ ap (λ xs. numbers_from R k0 (start.published - k0) ++ xs)
       (records-are (after_entry q) (count the_sender) sent_record sent-grows R start before es sent
       ∙ ap (λ k. numbers_from R k ((counts q start es).published - start.published)) (sym at))
-      ∙ sym (numbers-split R start.taken (start.published - start.taken) ((counts q start es).published - start.published))
-      ∙ ap (numbers_from R start.taken) parts
+      ∙ sym (numbers-split R k0 (start.published - k0) ((counts q start es).published - start.published))
+      ∙ ap (numbers_from R k0) parts
 
   few : (counts q start es).taken - start.taken ≤ (counts q start es).published - start.taken
   few =
@@ -199,7 +247,7 @@ module _ (B : ℕ) (q : Slots) (start : QueueCounts) (o : OpeningValue) (before 
           (subst (λ d. count the_receiver c < count the_receiver d) d_is (omega (arith, from, past)))
 
       mine_e : hart_of e ≡ q.receiver
-      mine_e = Rattle.slots_that_tell.proofs.Owned.mine-of q f.slots the_receiver (hart_of e) moves.0
+      mine_e = mine-of q f.slots the_receiver (hart_of e) moves.0
 
       known_there : k < (counts q start es1).known_published
       known_there = elim moves.1 [
@@ -268,10 +316,103 @@ module _ (B : ℕ) (q : Slots) (start : QueueCounts) (o : OpeningValue) (before 
               (left (tagged_slot q k + i) (omega arith, omega (arith, lt)))
               ∙ ap (λ xs. read_byte o xs q.sender (tagged_slot q k + i)) (sym (append_assoc before at.done (at.entry ∷ []))))
 
-  pub in_order : StoresTagsAlone q q.receiver es
-      → IsPrefix (records_by q the_receiver o start before es) (records_waiting q o start before ++ records_by q the_sender o start before es)
+  pub in_order : StoresTagsAlone q q.receiver es → IsPrefix (records_by q the_receiver o start before es)
+      (records_waiting q o start before start.taken ++ records_by q the_sender o start before es)
   in_order reads =
-      subst (λ xs. IsPrefix xs (records_waiting q o start before ++ records_by q the_sender o start before es))
+      let low : start.taken ≤ start.published = (let one : start.taken ≤ start.known_published = f.rest.window.taken in
+      omega (arith, one, f.rest.window.known_published)) in
+      subst (λ xs. IsPrefix xs (records_waiting q o start before start.taken ++ records_by q the_sender o start before es))
       (sym (records-are (after_entry q) (count the_receiver) taken_record taken-grows R start before es (same reads)))
-      (subst (IsPrefix (numbers_from R start.taken ((counts q start es).taken - start.taken))) (sym all)
+      (subst (IsPrefix (numbers_from R start.taken ((counts q start es).taken - start.taken))) (sym (all-from start.taken low))
       (numbers-prefix R start.taken ((counts q start es).taken - start.taken) ((counts q start es).published - start.taken) few))
+
+  -- ---- as the receiver learns of them
+
+  abbrev learned_record : List Entry → Entry → ℕ → ℕ
+  learned_record front e k = tagged_record q o front q.receiver k
+
+  knows-grows : (c : QueueCounts) (e : Entry) → c.known_published ≤ (after_entry q c e).known_published
+  knows-grows c e = (grows-entry q c e).knows the_receiver
+
+  learned : HasRecords (after_entry q) (known the_receiver) learned_record knows-grows R start before es
+  learned es1 e es2 k split from past = by (cases_lt k start.published)
+    where
+      run : FollowsTelling B q start o before (es1 ++ e ∷ es2)
+      run = subst (FollowsTelling B q start o before) split f
+
+      front : FollowsTelling B q start o before es1
+      front = follows-front B q start o before es1 (e ∷ es2) run
+
+      front2 : FollowsTelling B q start o before (es1 ++ e ∷ [])
+      front2 = follows-front B q start o before (es1 ++ e ∷ []) es2
+          (subst (FollowsTelling B q start o before) (sym (append_assoc es1 (e ∷ []) es2)) run)
+
+      c : QueueCounts
+      c = counts q start es1
+
+      d_is : counts q start (es1 ++ e ∷ []) ≡ after_entry q c e
+      d_is = counts-append (after_entry q) start es1 (e ∷ [])
+
+      learns : (teller_of q (hart_of e) ≡ Some the_receiver) × ((after_entry q c e).published ≡ c.published)
+      learns = learning q the_receiver (teller_of q (hart_of e)) (access_of e) c
+          (subst (λ d. c.known_published < d.known_published) d_is (omega (arith, from, past)))
+
+      apart : hart_of e ≢ q.sender
+      apart at = f.slots.parties (sym at ∙ mine-of q f.slots the_receiver (hart_of e) learns.0)
+
+      given : c.taken ≤ k
+      given = let w : c.taken ≤ c.known_published + 0 = (window-of B q start o before es1 front).within the_receiver in omega (arith, w, from)
+
+      was_published : k < c.published
+      was_published =
+          let less : (counts q start (es1 ++ e ∷ [])).known_published ≤ (counts q start (es1 ++ e ∷ [])).published =
+          (window-of B q start o before (es1 ++ e ∷ []) front2).known_less the_sender in
+          let level : (counts q start (es1 ++ e ∷ [])).published ≡ c.published = ap (count the_sender) d_is ∙ learns.1 in
+          omega (arith, past, less, level)
+
+      by : (k < start.published) ⊎ (start.published ≤ k) → tagged_record q o (before ++ es1) q.receiver k ≡ R k
+      by (inl lt) = joined-same (λ i. read_byte o (before ++ es1) q.receiver (tagged_slot q k + i))
+          (λ i. read_byte o before q.receiver (tagged_slot q k + i)) q.width
+          (λ i less. waited B q start o before es1 front k (tagged_slot q k + i) (omega arith, omega (arith, less)) lt given
+          (unlearned-left B q start o before [] es1 front k (tagged_slot q k + i) (omega arith, omega (arith, less))
+          (omega (arith, lt, f.rest.window.published)) from) q.receiver q.receiver)
+          ∙ R-waiting k lt
+      by (inr le) = bytes ∙ sent at.done at.entry (at.rest ++ e ∷ es2) k place at.from at.past
+        where
+          at : Passed (after_entry q) (count the_sender) start es1 k
+          at = passed (after_entry q) (count the_sender) sent_record sent-grows start es1 k le was_published
+
+          place : es ≡ at.done ++ at.entry ∷ (at.rest ++ e ∷ es2)
+          place = split ∙ ap (λ xs. xs ++ e ∷ es2) at.is ∙ append_assoc at.done (at.entry ∷ at.rest) (e ∷ es2)
+
+          joins : es1 ≡ (at.done ++ at.entry ∷ []) ++ at.rest
+          joins = at.is ∙ sym (append_assoc at.done (at.entry ∷ []) at.rest)
+
+          left : (x : ℕ) → IsSlotByte q k x → LeavesByteAt q.receiver x at.rest
+          left x of_k = unlearned-left B q start o before (at.done ++ at.entry ∷ []) at.rest (subst (FollowsTelling B q start o before) joins front) k x of_k
+              (below B q start o before at.done at.entry at.rest (subst (FollowsTelling B q start o before) at.is front) the_sender k at.from at.past)
+              (subst (λ xs. (counts q start xs).known_published ≤ k) joins from)
+
+          bytes : tagged_record q o (before ++ es1) q.receiver k ≡ tagged_record q o ((before ++ at.done) ++ at.entry ∷ []) q.sender k
+          bytes = joined-same (λ i. read_byte o (before ++ es1) q.receiver (tagged_slot q k + i))
+              (λ i. read_byte o ((before ++ at.done) ++ at.entry ∷ []) q.sender (tagged_slot q k + i)) q.width
+              (λ i lt. ap (λ xs. read_byte o (before ++ xs) q.receiver (tagged_slot q k + i)) at.is
+              ∙ handed-before B q start o before at.done at.entry at.rest e
+              (subst (λ xs. FollowsTelling B q start o before (xs ++ e ∷ [])) at.is front2) the_sender k at.from at.past apart
+              (subst (λ xs. k < (counts q start (xs ++ e ∷ [])).known_published) at.is past)
+              (tagged_slot q k + i) (omega arith, omega (arith, lt))
+              (let give : (counts q start (at.done ++ at.entry ∷ at.rest)).taken ≤ k = subst (λ xs. (counts q start xs).taken ≤ k) at.is given in
+              omega (arith, give))
+              (left (tagged_slot q k + i) (omega arith, omega (arith, lt)))
+              ∙ ap (λ xs. read_byte o xs q.sender (tagged_slot q k + i)) (sym (append_assoc before at.done (at.entry ∷ []))))
+
+  pub in_order_as_learned : IsPrefix (records_learned q o start before es)
+      (records_waiting q o start before start.known_published ++ records_by q the_sender o start before es)
+  in_order_as_learned =
+      let less : (counts q start es).known_published ≤ (counts q start es).published = (window-of B q start o before es f).known_less the_sender in
+      subst (λ xs. IsPrefix xs (records_waiting q o start before start.known_published ++ records_by q the_sender o start before es))
+      (sym (records-are (after_entry q) (known the_receiver) learned_record knows-grows R start before es learned))
+      (subst (IsPrefix (numbers_from R start.known_published ((counts q start es).known_published - start.known_published)))
+      (sym (all-from start.known_published f.rest.window.known_published))
+      (numbers-prefix R start.known_published ((counts q start es).known_published - start.known_published)
+      ((counts q start es).published - start.known_published) (omega (arith, less))))

@@ -1,5 +1,5 @@
--- Two ways for a tag to tell.
-use Rattle.std.specs.Prelude.{ℕ, ◌+◌, ◌%◌, ◌==◌, not, Bool}
+-- Three ways for a tag to tell.
+use Rattle.std.specs.Prelude.{ℕ, ◌+◌, ◌%◌, ◌==◌, not, bit_and, Bool}
 use Rattle.queue_parties.specs.Parties.{Party, the_sender, the_receiver}
 
 -- FastForward's: 0 is free, anything else is full
@@ -12,3 +12,9 @@ zero_is_free the_receiver k v = not (v == 0)
 abbrev pub position_number : (m : ℕ) → Party → (k v : ℕ) → Bool
 position_number m the_sender k v = v == k % m
 position_number m the_receiver k v = v == (k + 1) % m
+
+-- an OWN bit, or some bits: those of the tag under the mask are one number where the slot is free, and another where it is full. Its other
+-- bits are free, for a length or a status
+abbrev pub bits_under : (mask free full : ℕ) → Party → (k v : ℕ) → Bool
+bits_under mask free full the_sender k v = bit_and v mask == free
+bits_under mask free full the_receiver k v = bit_and v mask == full

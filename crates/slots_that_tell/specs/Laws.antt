@@ -7,7 +7,7 @@ use Rattle.step_machine.specs.Legal.{Legal}
 use Rattle.step_machine.specs.Access.{exchange, access_of}
 use Rattle.step_machine.specs.Entries.{hart_of, read}
 use Rattle.store_buffers.specs.StoreBuffers.{LeavesByteAt}
-use Rattle.queue_parties.specs.Parties.{Party, the_sender, the_receiver, QueueCounts, count}
+use Rattle.queue_parties.specs.Parties.{Party, the_sender, the_receiver, QueueCounts, count, known}
 use Rattle.queue_parties.specs.Positions.{numbers_from, records_passed}
 use Rattle.slots_that_tell.specs.Slots.{Slots, IsSlots, RestsAt, tagged_slot, IsSlotByte, IsTagByte}
 use Rattle.slots_that_tell.specs.Telling.{teller_hart, after_entry, told_counts, moved, KeepsTelling}
@@ -36,9 +36,9 @@ pub record StoresTagsAlone (q : Slots) (h : ℕ) (es : List Entry) : Type 0 wher
 abbrev pub tagged_record : Slots → OpeningValue → List Entry → (h k : ℕ) → ℕ
 tagged_record q o es h k = read o es h (tagged_slot q k) q.width
 
--- the records that wait where a run begins, as the receiver's hart reads them there
-abbrev pub records_waiting : Slots → OpeningValue → QueueCounts → (before : List Entry) → List ℕ
-records_waiting q o start before = numbers_from (tagged_record q o before q.receiver) start.taken (start.published - start.taken)
+-- the records that wait from position k on where a run begins, as the receiver's hart reads them there
+abbrev pub records_waiting : Slots → OpeningValue → QueueCounts → (before : List Entry) → (k : ℕ) → List ℕ
+records_waiting q o start before k = numbers_from (tagged_record q o before q.receiver) k (start.published - k)
 
 -- the sender's record is what its hart reads just after its tag is stored, and the receiver's what its hart reads just before
 abbrev pub reading_at : Party → (before : List Entry) → Entry → List Entry
@@ -47,3 +47,7 @@ reading_at the_receiver before e = before
 
 abbrev pub records_by : Slots → Party → OpeningValue → QueueCounts → (before es : List Entry) → List ℕ
 records_by q p o c before es = records_passed (after_entry q) (count p) (λ front e k. tagged_record q o (reading_at p front e) (teller_hart q p) k) c before es
+
+-- the records of which the receiver learns, each as its hart reads it just before the load or the AMO that tells it
+abbrev pub records_learned : Slots → OpeningValue → QueueCounts → (before es : List Entry) → List ℕ
+records_learned q o c before es = records_passed (after_entry q) (known the_receiver) (λ front e k. tagged_record q o front q.receiver k) c before es

@@ -5,7 +5,7 @@
 //! likes into the rest of slots that it owns, and hands its own position over by a store to the tag. The contract is that of
 //! [`laws_of_telling`]. This crate runs nothing.
 //!
-//! Called by none, and cited by more than 6 crates, from `telling_run` to `certifying`.
+//! Called by none, and cited by more than 6 crates, from `queue_certificates` to `certifying`.
 
 #![tactic(auto)]
 
@@ -18,8 +18,8 @@ ghost use Rattle.queue_parties.specs.Positions.{IsPrefix};
 ghost use Rattle.queue_parties.specs.Parties.{Party, the_sender, the_receiver, other, QueueCounts, count, known, IsWindow};
 ghost use Rattle.slots_that_tell.specs.Slots.{Slots, gap, tag_of, IsSlotByte};
 ghost use Rattle.slots_that_tell.specs.Telling.{teller_hart};
-ghost use Rattle.slots_that_tell.specs.Codecs.{zero_is_free, position_number};
-ghost use Rattle.slots_that_tell.specs.Laws.{FollowsTelling, counts, moved_on, StoresTagsAlone, records_by, records_waiting};
+ghost use Rattle.slots_that_tell.specs.Codecs.{zero_is_free, position_number, bits_under};
+ghost use Rattle.slots_that_tell.specs.Laws.{FollowsTelling, counts, moved_on, StoresTagsAlone, records_by, records_learned, records_waiting};
 ghost use Rattle.store_buffers.specs.StoreBuffers.{LeavesByteAt};
 
 /// Of every run that keeps the protocol from where the queue was at rest, empty or with records that wait. It does nothing.
@@ -34,12 +34,16 @@ ghost use Rattle.store_buffers.specs.StoreBuffers.{LeavesByteAt};
 /// - `in_order`: if the receiver's hart stores nothing to the slots but tags, and makes no AMO: the records whose tags it stores,
 ///   as it reads them just before, are a prefix of those that waited and those whose tags the sender stored, as the sender reads them
 ///   just after.
+/// - `in_order_as_learned`: the records of which the receiver learns, by a load or an AMO that tells it, as its hart reads them just
+///   before, are a prefix of those that waited without its knowing and those whose tags the sender stored. Whatever it stores to its
+///   slots later, and by whatever it hands them back.
 /// - `waiting`: until the receiver has taken a record that waited where the run began, every hart reads it as any hart did there,
 ///   unless the receiver's hart has stored there since.
 /// - `look`: a tag that doesn't tell a party of position j, of its next round: the other's pending stores make its count of one at
 ///   which position j isn't this party's. So where it has none pending to tags, full means full, and empty means empty.
 /// - `zero_tells`: 0 for free and anything else for full is a way to tell.
 /// - `numbers_tell`: so are positions' numbers mod m, unless the size is 1 mod m.
+/// - `bits_tell`: so are bits under a mask, where a free slot's and a full one's differ.
 pub fn laws_of_telling()
     ensures window { (B : ℕ) (q : Slots) (start : QueueCounts) (o : OpeningValue) (before es : List Entry) → FollowsTelling B q start o before es
         → IsWindow q.size (counts q start es) }
@@ -63,7 +67,11 @@ pub fn laws_of_telling()
         → read_byte o (before ++ (es ++ e ∷ fs)) q.sender x ≡ read_byte o (before ++ (es ++ e ∷ [])) q.receiver x }
     ensures in_order { (B : ℕ) (q : Slots) (start : QueueCounts) (o : OpeningValue) (before es : List Entry) → FollowsTelling B q start o before es
         → StoresTagsAlone q q.receiver es
-        → IsPrefix (records_by q the_receiver o start before es) (records_waiting q o start before ++ records_by q the_sender o start before es) }
+        → IsPrefix (records_by q the_receiver o start before es)
+        (records_waiting q o start before start.taken ++ records_by q the_sender o start before es) }
+    ensures in_order_as_learned { (B : ℕ) (q : Slots) (start : QueueCounts) (o : OpeningValue) (before es : List Entry)
+        → FollowsTelling B q start o before es → IsPrefix (records_learned q o start before es)
+        (records_waiting q o start before start.known_published ++ records_by q the_sender o start before es) }
     ensures waiting { (B : ℕ) (q : Slots) (start : QueueCounts) (o : OpeningValue) (before es : List Entry) → FollowsTelling B q start o before es
         → (k x : ℕ) → IsSlotByte q k x → k < start.published → (counts q start es).taken ≤ k → LeavesByteAt q.receiver x es
         → (g h : ℕ) → read_byte o (before ++ es) h x ≡ read_byte o before g x }
@@ -74,4 +82,6 @@ pub fn laws_of_telling()
     ensures zero_tells { (q : Slots) (p : Party) (k v : ℕ) → zero_is_free p k v ≡ true → zero_is_free (other p) (k + gap q p) v ≡ false }
     ensures numbers_tell { (m : ℕ) → 2 ≤ m → (q : Slots) → q.size % m ≢ 1 → (p : Party) (k v : ℕ) → position_number m p k v ≡ true
         → position_number m (other p) (k + gap q p) v ≡ false }
+    ensures bits_tell { (mask free full : ℕ) → free ≢ full → (q : Slots) (p : Party) (k v : ℕ) → bits_under mask free full p k v ≡ true
+        → bits_under mask free full (other p) (k + gap q p) v ≡ false }
 {}

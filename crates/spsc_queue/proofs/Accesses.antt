@@ -1,14 +1,9 @@
 -- The accesses of a hart's own entries: at the end of a list, one by one, and that a party that makes none leaves its part
 -- of the protocol.
-use Rattle.std.proofs.Common.{ℕ, ◌+◌, ◌≡◌, ◌≢◌, ◌⊎◌, inl, inr, Bool, true, false, if◌then◌else◌, List, [], ◌∷◌, ◌++◌, length, refl, sym, ◌∙◌, ap, subst, arith}
-use Rattle.std.proofs.Common.{append-nil, append_assoc}
-use Rattle.step_machine.specs.declared.events.Entry.{Entry}
-use Rattle.step_machine.specs.Access.{Access, nothing, access_of}
-use Rattle.step_machine.specs.Entries.{hart_of, is_land, is_own, own}
-use Rattle.spsc_queue.specs.RingBuffers.{Kind, RingBuffer}
-use Rattle.spsc_queue.specs.Protocol.{ProtocolState, role_of, next_by, protocol_next, protocol_after}
-use Rattle.spsc_queue.specs.Calls.{SpscQueue, Party, party_hart, buffer}
-use Rattle.spsc_queue.specs.CallEffects.{memory_access, accesses}
+use Rattle.spsc_queue.proofs.Common.{ℕ, ◌+◌, ◌≡◌, ◌≢◌, ◌⊎◌, inl, inr, Bool, true, false, if◌then◌else◌, List, [], ◌∷◌, ◌++◌, length, refl, sym, ◌∙◌, ap, subst}
+use Rattle.spsc_queue.proofs.Common.{arith, append-nil, append_assoc, Entry, Access, nothing, access_of, hart_of, is_land, is_own, own, Kind, RingBuffer}
+use Rattle.spsc_queue.proofs.Common.{ProtocolState, role_of, next_by, protocol_next, protocol_after, SpscQueue, party_hart, buffer, memory_access, accesses}
+use Rattle.spsc_queue.specs.Calls.{Party}
 use Rattle.spsc_queue.proofs.Outline.{part, role}
 use Rattle.spsc_queue.proofs.Parts.{inner-leaves, other-leaves, land-leaves}
 use Rattle.spsc_queue.proofs.OwnEntries.{land_is, own_is}

@@ -1,38 +1,27 @@
 -- What the functions' lines share: how a line's effect leads to the next line's row, and the returns.
-use Rattle.std.proofs.Common.{ℕ, pos, ◌+◌, ◌*◌, ◌/◌, ◌%◌, ◌^◌, ◌<◌, ◌≤◌, ◌≡◌, ◌≢◌, ◌==◌, ◌&&◌, Bool, true, false, if◌then◌else◌, Option, Some, None, List, []}
-use Rattle.std.proofs.Common.{◌∷◌, ◌++◌, refl, sym, ◌∙◌, ap, subst, arith, append-nil, append_assoc}
-use Rattle.std.specs.Prelude.{slice_index, slice_set, map}
-use Rattle.std.specs.List.{slice_get}
-use Rattle.std.proofs.lemmas.Bool.{eq-eqb, ne_eqb}
-use Rattle.rv_decode.specs.Meaning.{meaning, reg_of}
+use Rattle.spsc_queue.proofs.Common.{ℕ, pos, ◌+◌, ◌*◌, ◌/◌, ◌%◌, ◌^◌, ◌<◌, ◌≤◌, ◌≡◌, ◌≢◌, ◌==◌, ◌&&◌, Bool, true, false, if◌then◌else◌, Option, Some, None}
+use Rattle.spsc_queue.proofs.Common.{List, [], ◌∷◌, ◌++◌, refl, sym, ◌∙◌, ap, subst, arith, append-nil, append_assoc, slice_index, slice_set, map, slice_get}
+use Rattle.spsc_queue.proofs.Common.{eq-eqb, ne_eqb, reg_of, Instr, Immediate, Write, write, HartState, Need, next_pc, address, IsAt, nothing, load, store}
+use Rattle.spsc_queue.proofs.Common.{access_of, entry_of, Kind, RingBuffer, next, overlaps, ProtocolState, room_at, says_full, next_by, Listed, words_of}
+use Rattle.spsc_queue.proofs.Common.{lines_of, Block, IsBlock, listing_of, ring_at, is_in_call_after, completed_at, longest, IsPlainNeed, sees_full}
+use Rattle.spsc_queue.proofs.Common.{look_accesses, completed_word, take_accesses, word-plus, add_line, goes_to, leaves_in}
+use Rattle.rv_decode.specs.Meaning.{meaning}
 use Rattle.rv_decode.specs.declared.instruction.Reg.{Reg}
-use Rattle.rv_decode.specs.declared.instruction.ImmediateOp.TheVariants as immediate
-use Rattle.rv_decode.specs.declared.instruction.Instr.{Instr}
-use Rattle.rv_decode.specs.declared.instruction.Instr.TheVariants.{Jalr, Immediate}
-use Rattle.memory.specs.declared.writes.Write.{Write}
-use Rattle.memory.specs.Writes.{write}
-use Rattle.hart.specs.State.{HartState}
+use Rattle.rv_decode.specs.declared.instruction.Instr.TheVariants.{Jalr}
 use Rattle.hart.specs.Steps.{advanced}
-use Rattle.hart.specs.declared.need.Need.{Need}
-use Rattle.hart.specs.declared.need.Need.TheVariants as need
-use Rattle.hart.specs.Effects.{next_pc, address}
-use Rattle.hart.proofs.Instructions.{IsAt}
-use Rattle.step_machine.specs.Access.{nothing, load, store, access_of}
-use Rattle.step_machine.specs.Paths.{entry_of}
-use Rattle.spsc_queue.specs.RingBuffers.{Kind, RingBuffer, next, overlaps}
-use Rattle.spsc_queue.specs.Protocol.{ProtocolState, room_at, says_full, next_by}
-use Rattle.rv_decode.specs.Listings.{Listed, words_of, lines_of}
-use Rattle.spsc_queue.specs.Calls.{Block, IsBlock, Party, the_sender, the_receiver, listing_of, ring_at, is_in_call_after, completed_at}
-use Rattle.spsc_queue.specs.CallEffects.{longest_send, longest, IsPlainNeed, sees_full, look_accesses, completed_word, take_accesses}
-use Rattle.step_machine.proofs.Lines.{Line, word-plus, at_line, add_line, return_line, loads, stores, goes_to, leaves_in}
+use Rattle.spsc_queue.specs.Calls.{Party, the_sender, the_receiver}
+use Rattle.spsc_queue.specs.CallEffects.{longest_send}
+use Rattle.step_machine.proofs.Lines.{Line, at_line, return_line, loads, stores}
 use Rattle.spsc_queue.proofs.Registers.{set-same, set-other, decoded, thirteen, code_line, code_room, next_line, line_on}
 use Rattle.spsc_queue.proofs.Courses.{more_left, At, at_24, at_28, at_2C, at_30, number, Equipped, Course, went, left_on, left_set, frame_on, frame_set}
-use Rattle.spsc_queue.proofs.Courses.{more_frame, back_of, returned, Left, free_5, free_7}
-use Rattle.spsc_queue.proofs.Courses.{free_10, goes_on, completes_none, ends_10, ends_12, completes_one, completes_no_word}
+use Rattle.spsc_queue.proofs.Courses.{more_frame, back_of, returned, Left, free_5, free_7, free_10, goes_on, completes_none, ends_10, ends_12, completes_one}
+use Rattle.spsc_queue.proofs.Courses.{completes_no_word}
 use Rattle.spsc_queue.proofs.Outline.{Part, part, role, Level, IsOffset, index_at, look_at, says_no, Knows, Looked, MayStore, Stored, Word, Found, looked}
 use Rattle.spsc_queue.proofs.Outline.{ready, put, all_accesses, Effect, Fresh, Indexed, Seen, Ready, Half, Finished, Ended, Row, CourseStands, IsStore, Does}
 use Rattle.spsc_queue.proofs.Outline.{Moves, first_look, detour, more}
 use Rattle.spsc_queue.proofs.Parts.{level-next, inner-leaves, first-load, look-load, load-words, index-stored}
+use Rattle.rv_decode.specs.declared.instruction.ImmediateOp.TheVariants as immediate
+use Rattle.hart.specs.declared.need.Need.TheVariants as need
 
 -- of a result that chose by a test
 if_true : {X : Type 0} (b : Bool) (x y : X) → b ≡ true → x ≡ (if b then x else y)

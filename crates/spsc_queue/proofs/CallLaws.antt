@@ -1,29 +1,21 @@
 -- What calls of the functions deliver, publish and reclaim, and what they find.
-use Rattle.std.proofs.Common.{ℕ, ◌+◌, ◌<◌, ◌≤◌, ◌≡◌, inl, inr, true, false, List, [], ◌∷◌, ◌++◌, length, Some, refl, sym, ◌∙◌, ap, subst, arith, take, drop}
-use Rattle.std.proofs.Common.{append-nil, append_assoc, length-append}
-use Rattle.std.specs.Prelude.{slice_index}
 use Rattle.std.proofs.Math.Seq.{take-length}
 use Rattle.std.proofs.lemmas.List.{take-append-drop}
-use Rattle.hart.specs.State.{HartState}
-use Rattle.step_machine.specs.declared.events.Entry.{Entry}
-use Rattle.step_machine.specs.History.{OpeningValue, history_of}
-use Rattle.step_machine.specs.Access.{load, access_of}
-use Rattle.step_machine.specs.Entries.{hart_of, own_stores, lands, pending, read_byte}
-use Rattle.step_machine.specs.Paths.{state_of}
-use Rattle.step_machine.specs.Legal.{Legal}
-use Rattle.spsc_queue.specs.RingBuffers.{Kind, lamport, fastforward, RingBuffer, capacity, unpublished, unreleased}
-use Rattle.spsc_queue.specs.Protocol.{placed, asked, ProtocolState, room_at, says_full, watched_address, says_empty, parties_after}
-use Rattle.spsc_queue.specs.Laws.{IsPrefix, FollowsSpscProtocol, available_of, available_count, available_words}
-use Rattle.store_buffers.specs.StoreBuffers.{IsOnlyWriter, AllLeaveByte}
-use Rattle.spsc_queue.specs.Calls.{SpscQueue, Party, the_sender, the_receiver, party_line, buffer, is_sender_in_call, is_receiver_in_call, given_words}
-use Rattle.spsc_queue.specs.Calls.{received_words, UsesAsSpscQueue}
+use Rattle.spsc_queue.proofs.Common.{ℕ, ◌+◌, ◌<◌, ◌≤◌, ◌≡◌, inl, inr, true, false, List, [], ◌∷◌, ◌++◌, length, Some, refl, sym, ◌∙◌, ap, subst, arith, take}
+use Rattle.spsc_queue.proofs.Common.{drop, append-nil, append_assoc, length-append, slice_index, HartState, Entry, OpeningValue, history_of, load, access_of}
+use Rattle.spsc_queue.proofs.Common.{hart_of, own_stores, lands, pending, read_byte, state_of, Legal, Kind, lamport, fastforward, RingBuffer, capacity}
+use Rattle.spsc_queue.proofs.Common.{unpublished, unreleased, placed, asked, ProtocolState, room_at, says_full, watched_address, says_empty, parties_after}
+use Rattle.spsc_queue.proofs.Common.{FollowsSpscProtocol, available_of, available_count, IsOnlyWriter, SpscQueue, party_line, buffer, is_sender_in_call}
+use Rattle.spsc_queue.proofs.Common.{is_receiver_in_call, given_words, received_words, UsesAsSpscQueue}
+use Rattle.spsc_queue.specs.Laws.{IsPrefix, available_words}
+use Rattle.store_buffers.specs.StoreBuffers.{AllLeaveByte}
+use Rattle.spsc_queue.specs.Calls.{Party, the_sender, the_receiver}
 use Rattle.spsc_queue.proofs.Cases.{IsLevel}
-use Rattle.spsc_queue.proofs.Invariant.{level-counts}
-use Rattle.spsc_queue.proofs.Invariants.{Known}
-use Rattle.spsc_queue.proofs.Runs.{known-of, delivered, length-firsts}
-use Rattle.spsc_queue.proofs.Publication.{published, returned}
+use Rattle.spsc_queue.proofs.States.{level-counts, Known}
+use Rattle.spsc_queue.proofs.Growing.{length-firsts}
+use Rattle.spsc_queue.proofs.Runs.{known-of, delivered}
 use Rattle.store_buffers.proofs.MessagePassing.{handed_over}
-use Rattle.spsc_queue.proofs.Linearization.{empty_landed, full_landed, word_found, room_found}
+use Rattle.spsc_queue.proofs.Landed.{published, returned, empty_landed, full_landed, word_found, room_found}
 use Rattle.spsc_queue.proofs.Outline.{part, Level, Stands, WordsAre}
 use Rattle.spsc_queue.proofs.Functions.{words_are_by}
 use Rattle.spsc_queue.proofs.Parties.{is_busy, words}

@@ -1,24 +1,18 @@
 -- Code that calls the functions follows the protocol, and each party stands where its outline says.
-use Rattle.std.proofs.Common.{ℕ, ◌<◌, ◌≡◌, ◌≢◌, ◌⊎◌, inl, inr, Bool, true, false, if◌then◌else◌, List, [], ◌∷◌, ◌++◌, length, Some, refl, sym, ◌∙◌, ap, subst}
-use Rattle.std.proofs.Common.{append-nil, append_assoc}
-use Rattle.std.specs.Prelude.{All, slice_index}
-use Rattle.hart.specs.State.{HartState}
+use Rattle.spsc_queue.proofs.Common.{ℕ, ◌<◌, ◌≡◌, ◌≢◌, ◌⊎◌, inl, inr, Bool, true, false, if◌then◌else◌, List, [], ◌∷◌, ◌++◌, length, Some, refl, sym, ◌∙◌, ap}
+use Rattle.spsc_queue.proofs.Common.{subst, append-nil, append_assoc, All, slice_index, HartState, Entry, OpeningValue, history_of, Access, land, access_of}
+use Rattle.spsc_queue.proofs.Common.{hart_of, is_land, is_own, number_read, state_of, WellFormed, LegalAfter, LegalAfter-front, Kind, RingBuffer, IsRingBuffer}
+use Rattle.spsc_queue.proofs.Common.{ProtocolState, at_start, role_of, next_by, protocol_next, KeepsProtocolBy, KeepsProtocol, parties_after}
+use Rattle.spsc_queue.proofs.Common.{FollowsSpscProtocol, Block, SpscQueue, party_hart, party_line, listing_of, buffer, enters, is_in_call_after}
+use Rattle.spsc_queue.proofs.Common.{is_in_call_with, completed_at, completed_by_entry, HasArguments, CallerObligation, SharesQueue, UsesAsSpscQueue}
+use Rattle.spsc_queue.proofs.Common.{completed_word}
 use Rattle.hart.specs.Steps.{advanced}
-use Rattle.step_machine.specs.declared.events.Entry.{Entry}
-use Rattle.step_machine.specs.History.{OpeningValue, history_of}
-use Rattle.step_machine.specs.Access.{Access, land, access_of}
-use Rattle.step_machine.specs.Entries.{hart_of, is_land, is_own}
-use Rattle.step_machine.specs.Paths.{number_read, CanMake, state_of}
-use Rattle.step_machine.specs.Legal.{WellFormed, LegalAfter, IsOfHarts}
-use Rattle.step_machine.proofs.Appended.{LegalAfter-front}
+use Rattle.step_machine.specs.Paths.{CanMake}
+use Rattle.step_machine.specs.Legal.{IsOfHarts}
 use Rattle.step_machine.proofs.Placing.{land_other, own_other}
-use Rattle.spsc_queue.specs.RingBuffers.{Kind, RingBuffer, IsRingBuffer}
-use Rattle.spsc_queue.specs.Protocol.{ProtocolState, at_start, role_of, next_by, protocol_next, KeepsProtocolBy, KeepsProtocol, parties_after}
-use Rattle.spsc_queue.specs.Laws.{FollowsSpscProtocol}
-use Rattle.spsc_queue.specs.Calls.{Block, SpscQueue, Party, the_sender, the_receiver, party_hart, party_line, listing_of, buffer, enters, is_in_call_after}
-use Rattle.spsc_queue.specs.Calls.{is_in_call_with, completed_at, completed_by_entry, HasArguments, CallerObligation, SharesQueue, UsesAsSpscQueue}
-use Rattle.spsc_queue.specs.CallEffects.{completed_word}
-use Rattle.spsc_queue.proofs.Runs.{known-of, protocol-append}
+use Rattle.spsc_queue.specs.Calls.{Party, the_sender, the_receiver}
+use Rattle.spsc_queue.proofs.Growing.{protocol-append}
+use Rattle.spsc_queue.proofs.Runs.{known-of}
 use Rattle.spsc_queue.proofs.Courses.{moved, Course, went}
 use Rattle.spsc_queue.proofs.Outline.{Part, part, role, Level, Near, Inside, CourseStands, Stands, any_course, Does, Moves}
 use Rattle.spsc_queue.proofs.Parts.{ring_is, keeps-more, stays-keeps, does-keeps, land-leaves, other-leaves, level-next, near-of}

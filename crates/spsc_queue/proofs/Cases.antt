@@ -1,13 +1,11 @@
 -- Case by case: whose entry it is, what a load makes of a party's place, and which accesses keep the protocol.
-use Rattle.std.proofs.Common.{ℕ, ◌≡◌, ◌≢◌, ◌==◌, ◌⊎◌, inl, inr, Bool, true, false, if◌then◌else◌, Option, Some, None, refl, sym, subst}
-use Rattle.std.proofs.lemmas.Bool.{eqb-true, eqb-false}
-use Rattle.memory.specs.declared.writes.Write.{Write}
-use Rattle.step_machine.specs.Access.{Access, load, store}
+use Rattle.std.proofs.lemmas.Bool.{eqb-false}
+use Rattle.spsc_queue.proofs.Common.{ℕ, ◌≡◌, ◌≢◌, ◌==◌, ◌⊎◌, inl, inr, Bool, true, false, if◌then◌else◌, Option, Some, None, refl, sym, subst, eqb-true, Write}
+use Rattle.spsc_queue.proofs.Common.{Access, load, store, Kind, RingBuffer, overlaps, SenderState, placed, filled, ReceiverState, asked, cleared, ProtocolState}
+use Rattle.spsc_queue.proofs.Common.{Role, role_of, send_look, send_load, send_store, receive_look, receive_load, receive_store, next_by, WritesNothingTo}
+use Rattle.spsc_queue.proofs.Common.{IsSenderStore, IsReceiverStore, KeepsProtocolBy}
 use Rattle.queue_parties.specs.Parties.{Party, the_sender, the_receiver, party_among}
-use Rattle.spsc_queue.specs.RingBuffers.{Kind, RingBuffer, overlaps}
-use Rattle.spsc_queue.specs.Protocol.{SenderState, placed, filled, ReceiverState, asked, cleared}
-use Rattle.spsc_queue.specs.Protocol.{ProtocolState, Role, sends, receives, passes, role_of, send_look, send_load, send_store, receive_look, receive_load}
-use Rattle.spsc_queue.specs.Protocol.{receive_store, next_by, WritesNothingTo, IsSenderStore, IsReceiverStore, KeepsProtocolBy}
+use Rattle.spsc_queue.specs.Protocol.{sends, receives, passes}
 
 -- what holds of each party and of any other hart holds of the hart h
 pub by-role : (r : RingBuffer) (h : ℕ) (P : Role → Option Party → Type 0) → (h ≡ r.sender → P sends (Some the_sender))

@@ -1,38 +1,25 @@
 -- A queue that is at rest again, at whichever slot and with whichever words in it, may be used from there on, also by other harts.
-use Rattle.std.proofs.Common.{ℕ, ◌+◌, ◌-◌, ◌*◌, ◌%◌, ◌<◌, ◌≤◌, ◌≡◌, ◌≢◌, false, Some, List, [], ◌++◌, length, sym, ◌∙◌, ap, subst, refl, arith, append-nil}
-use Rattle.std.specs.Prelude.{slice_index}
-use Rattle.memory.specs.declared.writes.Write.{Write}
-use Rattle.step_machine.specs.declared.events.Entry.{Entry}
-use Rattle.step_machine.specs.History.{OpeningValue}
-use Rattle.step_machine.specs.Entries.{pending, memory_word}
-use Rattle.spsc_queue.specs.RingBuffers.{Kind, lamport, fastforward, RingBuffer, IsRingBuffer, slot_offset, slot_address, writes_to, IsQuiescent, capacity_of}
+use Rattle.spsc_queue.proofs.Common.{ℕ, ◌+◌, ◌-◌, ◌*◌, ◌%◌, ◌<◌, ◌≤◌, ◌≡◌, ◌≢◌, false, Some, List, [], ◌++◌, length, sym, ◌∙◌, ap, subst, refl, arith}
+use Rattle.spsc_queue.proofs.Common.{append-nil, slice_index, Entry, OpeningValue, history_of, Legal, pending, memory_word, Kind, lamport, fastforward}
+use Rattle.spsc_queue.proofs.Common.{RingBuffer, IsRingBuffer, slot_offset, slot_address, writes_to, IsQuiescent, capacity_of, ProtocolState, parties_after}
+use Rattle.spsc_queue.proofs.Common.{FollowsSpscProtocol, ready_by_state, available_count, SpscQueue, ring_at, buffer, is_sender_in_call, is_receiver_in_call}
+use Rattle.spsc_queue.proofs.Common.{received_words, UsesAsSpscQueue, given_words}
 use Rattle.spsc_queue.specs.RingBuffers.{waiting_words}
-use Rattle.spsc_queue.specs.Protocol.{ProtocolState, parties_after}
-use Rattle.spsc_queue.specs.Laws.{FollowsSpscProtocol, ready_by_state, available_count}
-use Rattle.spsc_queue.specs.Calls.{SpscQueue, the_receiver, ring_at, buffer, is_sender_in_call, is_receiver_in_call, received_words}
-use Rattle.spsc_queue.specs.Calls.{UsesAsSpscQueue, given_words, block_after, the_sender}
-use Rattle.spsc_queue.proofs.Spread.{spread, sent_store}
-use Rattle.spsc_queue.proofs.Rows.{Earlier}
-use Rattle.spsc_queue.proofs.PastRows.{length-spread}
-use Rattle.spsc_queue.proofs.Invariant.{whole-counts, freed, tails, there, their_store, they_made, Theirs, unsent, unread, Invariant, firsts}
+use Rattle.spsc_queue.specs.Calls.{the_receiver, block_after, the_sender}
 use Rattle.queue_parties.specs.Positions.{numbers_from}
+use Rattle.spsc_queue.proofs.Offsets.{slot_word}
+use Rattle.spsc_queue.proofs.OwnWords.{quiet_read}
+use Rattle.spsc_queue.proofs.States.{firsts, spare_capacity, whole-counts}
+use Rattle.spsc_queue.proofs.Copies.{Copied}
 use Rattle.spsc_queue.proofs.Numbers.{numbers-moved, firsts-on}
-use Rattle.spsc_queue.proofs.Words.{row_of}
-use Rattle.spsc_queue.proofs.Copies.{Copied, quiet_read}
-use Rattle.spsc_queue.proofs.Invariants.{row_none, earlier, known}
+use Rattle.spsc_queue.proofs.Growing.{follows-front}
+use Rattle.spsc_queue.proofs.Points.{At}
+use Rattle.spsc_queue.proofs.Contents.{Content, counts, word-mine}
 use Rattle.spsc_queue.proofs.Parts.{ring_is}
-use Rattle.spsc_queue.proofs.Runs.{invariant-of, known-of}
+use Rattle.spsc_queue.proofs.Runs.{at-of, sent_before, freed_before, content-of, known-of}
 use Rattle.spsc_queue.proofs.Cases.{IsWhole}
 use Rattle.spsc_queue.proofs.Calls.{calls_follow}
 use Rattle.spsc_queue.proofs.CallLaws.{idle_words, idle_sent, idle_received}
-
-none_left : (f : ℕ → Write) (i n : ℕ) (ws : List Write) → ws ≡ spread f i n → ws ≡ [] → n ≡ 0
-none_left f i n ws is none = sym (length-spread f i n) ∙ ap length (sym is ∙ none)
-
--- where all that it made has landed, so have its zeros and tails
-all_landed : (K : Kind) (n m j : ℕ) → Theirs K n m → n ≡ m → j ≡ they_made K n m → (freed K j ≡ n) × (tails K j ≡ n)
-all_landed lamport n m j is level all = (omega (arith, level, all), omega (arith, level, all))
-all_landed fastforward n m j is level all = (omega (arith, level, all), omega (arith, level, all))
 
 -- the words of the block where no store to it is pending, and the words from m to n wait
 record IsQuiet (k : Kind) (r : RingBuffer) (L : ℕ → ℕ) (o : OpeningValue) (es : List Entry) (m n : ℕ) : Type 0 where
@@ -53,35 +40,28 @@ copy-quiet lamport r is o es n m a some none copy = (
   copy.place,
   omega (arith, copy.low),
   copy.high,
-  sym (quiet_read r o es r.sender a none (is.copy a some).above (is.copy a some).below) ∙ copy.reads,
+  sym (quiet_read r o es r.sender a (is.copy a some).above (is.copy a some).below none) ∙ copy.own.reads,
 )
 
-quiet : (k : Kind) (r : RingBuffer) (is : IsRingBuffer r) (L : ℕ → ℕ) (c : Earlier) (o : OpeningValue) (es : List Entry) (s : ProtocolState)
-    → Invariant k r L c o es s → s.stored ≡ s.published → IsWhole s.receiving → ((h : ℕ) → writes_to r (pending h es) ≡ [])
-    → IsQuiet k r L o es s.taken s.stored
-quiet k r is L c o es s inv level whole none =
-    let unsent = none_left (sent_store r L) inv.landed.mine (unsent s inv.landed) (row_of r (pending r.sender es))
-    inv.rows.mine.pends (row_none r (pending r.sender es) (none r.sender)) in
-    let unread = none_left (their_store k r) inv.landed.theirs (unread k s inv.landed) (row_of r (pending r.receiver es))
-    inv.rows.theirs.pends (row_none r (pending r.receiver es) (none r.receiver)) in
-    let landed = all_landed k s.taken s.consumed inv.landed.theirs inv.order.theirs
-    (whole-counts k r L s.taken s.consumed (there k inv.landed.mine) s.receiving whole inv.receiving)
-    (omega (arith, unread, inv.rows.theirs.landed)) in
-    let all : inv.landed.mine ≡ s.stored + s.stored = omega (arith, unsent, level, inv.rows.mine.landed) in
-    let place = copy-quiet k r is o es (s.stored + ready_by_state s.sending) (freed k inv.landed.theirs) in
-    let facts = known r is L c o es s k inv in
+quiet : (B : ℕ) (k : Kind) (r : RingBuffer) (is : IsRingBuffer r) (L : ℕ → ℕ) (o : OpeningValue) (b d : ℕ) (es : List Entry) (s : ProtocolState)
+    (at : At k r o es s) → Content k r L o b d es s → Legal B (history_of o es) → s.stored ≡ s.published → IsWhole s.receiving
+    → ((h : ℕ) → writes_to r (pending h es) ≡ []) → IsQuiet k r L o es s.taken s.stored
+quiet B k r is L o b d es s at c legal level whole none =
+    let bounds = counts B k r L o b d es s at c legal in
     record {
-      head = inv.words.head ∙ ap (slot_offset r) (omega (arith, all));
-      tail = inv.words.tail ∙ ap (slot_offset r) landed.1;
-      least = omega (arith, facts.taken_available, facts.available_stored);
-      most = facts.room;
-      full = λ j from below. inv.words.full j (omega (arith, from, landed.0)) (omega (arith, below, all));
-      nonzero = inv.nonzero;
-      free = λ kind j from below. inv.words.free kind j (omega (arith, from, all)) (omega (arith, below, landed.0));
+      head = sym (quiet_read r o es r.sender r.head is.head.above is.head.below (none r.sender)) ∙ at.head ∙ ap (slot_offset r) (sym level);
+      tail = sym (quiet_read r o es r.receiver r.tail is.tail.above is.tail.below (none r.receiver)) ∙ at.tail
+          ∙ ap (slot_offset r) (sym (whole-counts k s.taken s.consumed s.receiving whole at.taking));
+      least = omega (arith, bounds.3, bounds.0, bounds.1);
+      most = omega (arith, at.ready_freed, bounds.2, spare_capacity k r.size is.some_slots);
+      full = λ j from below. (let word = slot_word r is j in
+          sym (quiet_read r o es r.sender (slot_address r j) word.above word.below (none r.sender)) ∙ word-mine B k r L o b d es s at c legal j from below);
+      nonzero = c.nonzero;
+      free = λ kind j from below. at.free kind none j from below;
       copy = λ a some.
-          let at = place a some (none r.sender)
-          (subst (λ q. Copied k q r o es (s.stored + ready_by_state s.sending) (freed k inv.landed.theirs)) some inv.copy) in
-          (at.0, omega (arith, at.1), omega (arith, at.2, landed.0), at.3);
+          let place = copy-quiet k r is o es (s.stored + ready_by_state s.sending) s.taken a some (none r.sender)
+          (subst (λ q. Copied k q r o es (s.stored + ready_by_state s.sending) s.taken) some at.copied) in
+          (place.0, omega (arith, place.1), place.2, place.3);
     }
 
 module _ (B M : ℕ) (o : OpeningValue) (q : SpscQueue) (before es : List Entry) (c : UsesAsSpscQueue B M o q before es)
@@ -112,11 +92,14 @@ module _ (B M : ℕ) (o : OpeningValue) (q : SpscQueue) (before es : List Entry)
   sent : (s.stored ≡ n) × (available_count r s ≡ n) × (s.stored ≡ s.published)
   sent = idle_sent B M o q before es c es [] whole idle_sender
 
+  front : FollowsSpscProtocol B r o before es
+  front = follows-front B r o before es [] follows
+
   rest : IsQuiet q.block.kind r L o (before ++ es) m n
   rest = subst (λ i. IsQuiet q.block.kind r L o (before ++ es) i n) (idle_received B M o q before es c es [] whole idle_receiver)
       (subst (IsQuiet q.block.kind r L o (before ++ es) s.taken) sent.0
-      (quiet q.block.kind r (ring_is M q.block q.sender q.receiver c.shares.block c.shares.parties) L
-      (earlier r before) o (before ++ es) s (invariant-of B r o before es [] follows) sent.2
+      (quiet B q.block.kind r (ring_is M q.block q.sender q.receiver c.shares.block c.shares.parties) L o (sent_before r before) (freed_before r before)
+      (before ++ es) s (at-of B r o before es front) (content-of B r o before es [] follows) front.legal sent.2
       (idle_words B M o q before es c es [] whole the_receiver idle_receiver).0.receiving none))
 
   -- place j of the block that moved on is place m + j of this one

@@ -1,34 +1,26 @@
 -- Lines that several of the functions have: each leads to a line `to`, whose row is what the line makes of its own.
-use Rattle.std.proofs.Common.{ℕ, pos, ◌+◌, ◌*◌, ◌%◌, ◌^◌, ◌<◌, ◌≤◌, ◌≡◌, ◌≢◌, ◌⊎◌, inl, inr, true, false, Some, List}
-use Rattle.std.proofs.Common.{[], ◌∷◌, ◌++◌, refl, Bool, Option, Some, sym, ◌∙◌, ap, subst, arith}
-use Rattle.std.specs.Prelude.{slice_index, slice_set, map}
-use Rattle.std.specs.List.{slice_get}
-use Rattle.std.proofs.lemmas.Bool.{cases_eq}
-use Rattle.rv_decode.specs.Meaning.{meaning, reg_of}
+use Rattle.spsc_queue.proofs.Common.{ℕ, pos, ◌+◌, ◌*◌, ◌%◌, ◌^◌, ◌<◌, ◌≤◌, ◌≡◌, ◌≢◌, ◌⊎◌, inl, inr, true, false, Some, List, [], ◌∷◌, ◌++◌, refl, Bool, Option}
+use Rattle.spsc_queue.proofs.Common.{Some, sym, ◌∙◌, ap, subst, arith, slice_index, slice_set, map, slice_get, cases_eq, reg_of, Immediate, Instr, Write, write}
+use Rattle.spsc_queue.proofs.Common.{next_pc, address, IsAt, nothing, load, store, Kind, lamport, fastforward, RingBuffer, IsWordIn, next, overlaps, roomy}
+use Rattle.spsc_queue.proofs.Common.{filled, ProtocolState, next_by, IsWordAt, IsSendable, IsSenderStore, lines_of, Block, copy_in, listing_of, ring_at}
+use Rattle.spsc_queue.proofs.Common.{sees_full, look_accesses, send_accesses, word-plus, add_line, load_line, other_jumps, same_goes_on, goes_to, leaves_in}
+use Rattle.rv_decode.specs.Meaning.{meaning}
 use Rattle.rv_decode.specs.declared.instruction.Reg.{Reg}
-use Rattle.rv_decode.specs.declared.instruction.BranchOp.TheVariants as branch
-use Rattle.rv_decode.specs.declared.instruction.ImmediateOp.TheVariants as immediate
-use Rattle.rv_decode.specs.declared.instruction.LoadOp.TheVariants as load_op
-use Rattle.rv_decode.specs.declared.instruction.StoreOp.TheVariants as store_op
-use Rattle.rv_decode.specs.declared.instruction.Instr.TheVariants.{Jalr, Branch, Load, Store, Immediate}
-use Rattle.rv_decode.specs.declared.instruction.Instr.{Instr}
-use Rattle.memory.specs.declared.writes.Write.{Write}
-use Rattle.memory.specs.Writes.{write}
-use Rattle.hart.specs.Effects.{next_pc, address, register_value}
-use Rattle.hart.proofs.Instructions.{IsAt}
-use Rattle.step_machine.specs.Access.{nothing, load, store}
-use Rattle.spsc_queue.specs.RingBuffers.{Kind, lamport, fastforward, RingBuffer, IsWordIn, next, overlaps}
-use Rattle.spsc_queue.specs.Protocol.{roomy, filled, ProtocolState, sends, next_by, IsWordAt, IsSendable, IsSenderStore}
-use Rattle.rv_decode.specs.Listings.{lines_of}
-use Rattle.spsc_queue.specs.Calls.{Block, Party, the_sender, the_receiver, copy_in, listing_of, ring_at}
-use Rattle.spsc_queue.specs.CallEffects.{sees_full, look_accesses, send_accesses}
-use Rattle.step_machine.proofs.Lines.{word-plus, add_line, load_line, store_line, other_jumps, same_goes_on, goes_to, leaves_in}
+use Rattle.rv_decode.specs.declared.instruction.Instr.TheVariants.{Jalr, Branch, Load, Store}
+use Rattle.hart.specs.Effects.{register_value}
+use Rattle.spsc_queue.specs.Protocol.{sends}
+use Rattle.spsc_queue.specs.Calls.{Party, the_sender, the_receiver}
+use Rattle.step_machine.proofs.Lines.{store_line}
 use Rattle.spsc_queue.proofs.Courses.{At, at_00, at_04, at_24, at_28, at_2C, at_30, number, went, bytes_of}
 use Rattle.spsc_queue.proofs.Words.{word_overlaps}
 use Rattle.spsc_queue.proofs.Outline.{part, role, IsOffset, Near, index_at, ready, put, all_accesses, Ready, Half, Row, IsStore, Moves, Part, Stored, more}
 use Rattle.spsc_queue.proofs.Parts.{copied, ready-offset, stored-offset, slot-sent}
 use Rattle.spsc_queue.proofs.AllLines.{Spot, to_line, loads_to, stores_to, line_at, on, over, wraps_not, wraps, to_indexed, ready_5, ready_on, to_half}
 use Rattle.spsc_queue.proofs.AllLines.{to_finished, if_false, short, Answered, none, returns_1, returns_0, answers_1, answers_0}
+use Rattle.rv_decode.specs.declared.instruction.BranchOp.TheVariants as branch
+use Rattle.rv_decode.specs.declared.instruction.ImmediateOp.TheVariants as immediate
+use Rattle.rv_decode.specs.declared.instruction.LoadOp.TheVariants as load_op
+use Rattle.rv_decode.specs.declared.instruction.StoreOp.TheVariants as store_op
 
 -- where a party's index lies in the block
 abbrev pub gap : Party → ℕ

@@ -1,16 +1,10 @@
 -- Whether a hart is in a call and what its calls completed, at the end of a list of entries.
-use Rattle.std.proofs.Common.{ℕ, ◌*◌, ◌≡◌, Bool, true, false, if◌then◌else◌, List, [], ◌∷◌, ◌++◌, Some, sym, ◌∙◌, ap, append-nil}
-use Rattle.std.proofs.Common.{append_assoc}
-use Rattle.std.specs.Prelude.{slice_index}
-use Rattle.hart.specs.State.{HartState}
+use Rattle.spsc_queue.proofs.Common.{ℕ, ◌*◌, ◌≡◌, Bool, true, false, if◌then◌else◌, List, [], ◌∷◌, ◌++◌, Some, sym, ◌∙◌, ap, append-nil, append_assoc}
+use Rattle.spsc_queue.proofs.Common.{slice_index, HartState, Entry, OpeningValue, history_of, is_own, number_read, state_of, Block, enters, is_in_call_after}
+use Rattle.spsc_queue.proofs.Common.{is_in_call_with, is_in_call_from, completed_at, completed_by_entry}
 use Rattle.hart.specs.Steps.{advanced}
-use Rattle.step_machine.specs.declared.events.Entry.{Entry}
-use Rattle.step_machine.specs.History.{OpeningValue, history_of}
-use Rattle.step_machine.specs.Entries.{is_own}
-use Rattle.step_machine.specs.Paths.{number_read, state_of}
 use Rattle.queue_parties.proofs.Parties.{both-equal}
-use Rattle.spsc_queue.specs.Calls.{Block, enters, is_in_call_after, is_in_call_by, is_in_call_with, is_in_call_from, completed_at, completed_in}
-use Rattle.spsc_queue.specs.Calls.{completed_by_entry, completed_words_from}
+use Rattle.spsc_queue.specs.Calls.{is_in_call_by, completed_in, completed_words_from}
 
 pub is_in_call-last : (M : ℕ) (o : OpeningValue) (h n : ℕ) (k : Block) (b : Bool) (front es : List Entry) (e : Entry)
     → is_in_call_from M o h n k b front (es ++ e ∷ []) ≡ is_in_call_with M o h n k (is_in_call_from M o h n k b front es) (front ++ es) e

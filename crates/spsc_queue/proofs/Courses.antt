@@ -1,15 +1,10 @@
 -- What both functions' outlines share: the lines, the course of a call so far, and where a call goes on or ends.
-use Rattle.std.proofs.Common.{ℕ, ◌+◌, ◌*◌, ◌/◌, ◌<◌, ◌≤◌, ◌≡◌, ◌≢◌, ◌==◌, ◌&&◌, ◌||◌, true, false, if◌then◌else◌, List, [], ◌∷◌, ◌++◌, length, sym, ◌∙◌, ap}
-use Rattle.std.proofs.Common.{subst, arith}
-use Rattle.std.specs.Prelude.{slice_index, slice_set}
-use Rattle.std.proofs.lemmas.Bool.{eq-eqb, ne_eqb}
-use Rattle.hart.specs.State.{HartState}
+use Rattle.spsc_queue.proofs.Common.{ℕ, ◌+◌, ◌*◌, ◌/◌, ◌<◌, ◌≤◌, ◌≡◌, ◌≢◌, ◌==◌, ◌&&◌, ◌||◌, true, false, if◌then◌else◌, List, [], ◌∷◌, ◌++◌, length, sym, ◌∙◌}
+use Rattle.spsc_queue.proofs.Common.{ap, subst, arith, slice_index, slice_set, eq-eqb, ne_eqb, HartState, Access, access_of, entry_of, Block, HasArguments}
+use Rattle.spsc_queue.proofs.Common.{enters, is_in_call_after, completed_at, StandsIn, Listed, memory_access}
 use Rattle.hart.specs.Steps.{need_of}
-use Rattle.step_machine.specs.Access.{Access, access_of}
-use Rattle.step_machine.specs.Paths.{entry_of}
-use Rattle.spsc_queue.specs.Calls.{Block, Party, HasArguments, enters, is_in_call_after, completed_at, StandsIn}
-use Rattle.rv_decode.specs.Listings.{Listed}
-use Rattle.spsc_queue.specs.CallEffects.{memory_access, KeepsOtherRegisters, Returns}
+use Rattle.spsc_queue.specs.Calls.{Party}
+use Rattle.spsc_queue.specs.CallEffects.{KeepsOtherRegisters, Returns}
 use Rattle.spsc_queue.proofs.Registers.{set-other}
 
 pub data At : Type 0 where

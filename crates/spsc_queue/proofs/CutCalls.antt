@@ -1,20 +1,16 @@
 -- A call that is cut at some line: its accesses are the first of a whole call's, and stay in the block.
-use Rattle.std.proofs.Common.{ℕ, ◌+◌, ◌*◌, ◌%◌, ◌≤◌, ◌≡◌, ◌⊎◌, inl, inr, Bool, true, false, if◌then◌else◌, Option, Some, None, List, [], ◌∷◌, ◌++◌}
-use Rattle.std.proofs.Common.{refl, sym, ◌∙◌, ap, subst, arith, append-nil, append_assoc}
-use Rattle.std.specs.Prelude.{slice_index, All}
-use Rattle.std.proofs.lemmas.List.Elements.{All-nil, All-cons, All-head, All-tail, All-append}
-use Rattle.memory.specs.Writes.{write}
-use Rattle.hart.specs.State.{HartState}
-use Rattle.step_machine.specs.Access.{Access, load, store}
-use Rattle.spsc_queue.specs.RingBuffers.{Kind, lamport, fastforward, RingBuffer, IsRingBuffer, next}
-use Rattle.spsc_queue.specs.Protocol.{SenderState, placed, renewing, waiting, room_at, says_full, says_empty, watched_address, looks_past_copy}
-use Rattle.spsc_queue.specs.Calls.{Block, Party, the_sender, the_receiver, ring_at}
-use Rattle.spsc_queue.specs.CallEffects.{sees_full, look_accesses, send_accesses, receive_accesses, take_accesses, KeepsOtherRegisters, StaysInBlock}
-use Rattle.spsc_queue.specs.CallEffects.{SendSoFar, ReceiveSoFar}
-use Rattle.spsc_queue.proofs.Courses.{At, at_00, at_04, at_08, at_0C, at_10, at_14, at_18, at_1C, at_20, at_24, at_28}
-use Rattle.spsc_queue.proofs.Courses.{at_2C, at_30, at_34, at_38, at_3C, at_40, Course}
-use Rattle.spsc_queue.proofs.Outline.{Part, IsOffset, IsNear, IsFit, Near, first_look, Word, Found, looked, ready, all_accesses}
-use Rattle.spsc_queue.proofs.Outline.{Fresh, Indexed, Seen, Waiting, Past, Ready, Half, Finished, OwnRow, Row}
+use Rattle.std.proofs.lemmas.List.Elements.{All-append}
+use Rattle.spsc_queue.proofs.Common.{ℕ, ◌+◌, ◌*◌, ◌%◌, ◌≤◌, ◌≡◌, ◌⊎◌, inl, inr, Bool, true, false, if◌then◌else◌, Option, Some, None, List, [], ◌∷◌, ◌++◌, refl}
+use Rattle.spsc_queue.proofs.Common.{sym, ◌∙◌, ap, subst, arith, append-nil, append_assoc, slice_index, All, All-nil, All-cons, All-head, All-tail, write}
+use Rattle.spsc_queue.proofs.Common.{HartState, Access, load, store, Kind, lamport, fastforward, RingBuffer, IsRingBuffer, next, SenderState, placed, renewing}
+use Rattle.spsc_queue.proofs.Common.{waiting, room_at, says_full, says_empty, watched_address, looks_past_copy, Block, ring_at, sees_full, look_accesses}
+use Rattle.spsc_queue.proofs.Common.{send_accesses, receive_accesses, take_accesses}
+use Rattle.spsc_queue.specs.Calls.{Party, the_sender, the_receiver}
+use Rattle.spsc_queue.specs.CallEffects.{KeepsOtherRegisters, StaysInBlock, SendSoFar, ReceiveSoFar}
+use Rattle.spsc_queue.proofs.Courses.{At, at_00, at_04, at_08, at_0C, at_10, at_14, at_18, at_1C, at_20, at_24, at_28, at_2C, at_30, at_34, at_38, at_3C, at_40}
+use Rattle.spsc_queue.proofs.Courses.{Course}
+use Rattle.spsc_queue.proofs.Outline.{Part, IsOffset, IsNear, IsFit, Near, first_look, Word, Found, looked, ready, all_accesses, Fresh, Indexed, Seen, Waiting}
+use Rattle.spsc_queue.proofs.Outline.{Past, Ready, Half, Finished, OwnRow, Row}
 use Rattle.spsc_queue.proofs.Cases.{either}
 use Rattle.spsc_queue.proofs.Parts.{knows-offset, looked-offset, ready-offset, stored-offset}
 

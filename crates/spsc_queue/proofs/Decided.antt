@@ -1,22 +1,15 @@
 -- The computation of what callers owe is complete: of a run that keeps all it says so.
-use Rattle.std.proofs.Common.{ℕ, ◌*◌, ◌/◌, ◌%◌, ◌^◌, ◌<◌, ◌≡◌, ◌≢◌, ◌==◌, ◌&&◌, ◌||◌, not, Bool, true, false, if◌then◌else◌, List, [], ◌∷◌, ◌++◌, Some, refl}
-use Rattle.std.proofs.Common.{sym, ◌∙◌, ap, subst, arith, append-nil, append_assoc, nat_lt}
-use Rattle.std.specs.Prelude.{slice_index}
-use Rattle.std.proofs.lemmas.Bool.{eq-eqb, ne_eqb, eqb-false}
-use Rattle.std.proofs.lemmas.Bool.Decides.{nat_tests}
-use Rattle.hart.specs.State.{HartState}
+use Rattle.std.proofs.Common.{not, nat_lt}
+use Rattle.std.proofs.lemmas.Bool.{eqb-false}
+use Rattle.spsc_queue.proofs.Common.{ℕ, ◌*◌, ◌/◌, ◌%◌, ◌^◌, ◌<◌, ◌≡◌, ◌≢◌, ◌==◌, ◌&&◌, ◌||◌, Bool, true, false, if◌then◌else◌, List, [], ◌∷◌, ◌++◌, Some, refl}
+use Rattle.spsc_queue.proofs.Common.{sym, ◌∙◌, ap, subst, arith, append-nil, append_assoc, slice_index, eq-eqb, ne_eqb, nat_tests, HartState, Entry, Access}
+use Rattle.spsc_queue.proofs.Common.{store, exchange, access_of, OpeningValue, history_of, hart_of, is_own, number_read, state_of, Kind, lamport, fastforward}
+use Rattle.spsc_queue.proofs.Common.{RingBuffer, WritesNothingTo, Block, SpscQueue, party_hart, party_line, buffer, enters, is_in_call_with, is_in_call_from}
+use Rattle.spsc_queue.proofs.Common.{MayPass, HasArguments, PartyObligation, UsesAsSpscQueue, obligations_kept}
 use Rattle.hart.specs.Steps.{advanced}
-use Rattle.step_machine.specs.declared.events.Entry.{Entry}
-use Rattle.step_machine.specs.Access.{Access, store, exchange, access_of}
-use Rattle.step_machine.specs.History.{OpeningValue, history_of}
-use Rattle.step_machine.specs.Entries.{hart_of, is_own}
-use Rattle.step_machine.specs.Paths.{number_read, state_of}
-use Rattle.spsc_queue.specs.RingBuffers.{Kind, lamport, fastforward, RingBuffer}
-use Rattle.spsc_queue.specs.Protocol.{WritesNothingTo}
-use Rattle.spsc_queue.specs.Calls.{Block, SpscQueue, Party, the_sender, the_receiver, party_hart, party_line, buffer, enters, is_in_call_with, is_in_call_from}
-use Rattle.spsc_queue.specs.Calls.{MayPass, HasArguments, PartyObligation, UsesAsSpscQueue}
+use Rattle.spsc_queue.specs.Calls.{Party, the_sender, the_receiver}
 use Rattle.spsc_queue.specs.Obligations.{writes_nothing_to, may_pass, has_arguments, party_keeps_in, party_keeps, others_keep, obligation_kept}
-use Rattle.spsc_queue.specs.Obligations.{obligations_kept_from, obligations_kept}
+use Rattle.spsc_queue.specs.Obligations.{obligations_kept_from}
 use Rattle.spsc_queue.proofs.OwnEntries.{own_parts}
 use Rattle.spsc_queue.proofs.Parties.{is_busy}
 use Rattle.spsc_queue.proofs.Calls.{here, was_here}

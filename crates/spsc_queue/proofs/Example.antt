@@ -1,37 +1,23 @@
 -- The example's runs use their queues, and end as said.
-use Rattle.std.proofs.Common.{ℕ, zero, suc, ◌+◌, ◌*◌, ◌%◌, ◌<◌, ◌≤◌, ◌≡◌, ◌≢◌, ◌==◌, ◌&&◌, not, Bool, true, false, nat_lt, List, [], ◌∷◌, ◌++◌}
-use Rattle.std.proofs.Common.{length, Option, Some, None, refl, sym, ◌∙◌, ap, subst, arith, append-nil, append_assoc, drop}
-use Rattle.std.specs.Prelude.{slice_index, All}
-use Rattle.std.specs.List.{slice_get}
-use Rattle.std.proofs.lemmas.Bool.Decides.{nat_tests}
-use Rattle.std.proofs.lemmas.List.Elements.{All-head, All-tail}
+use Rattle.std.proofs.Common.{not, nat_lt}
+use Rattle.spsc_queue.proofs.Common.{ℕ, zero, suc, ◌+◌, ◌*◌, ◌%◌, ◌<◌, ◌≤◌, ◌≡◌, ◌≢◌, ◌==◌, ◌&&◌, Bool, true, false, List, [], ◌∷◌, ◌++◌, length, Option, Some}
+use Rattle.spsc_queue.proofs.Common.{None, refl, sym, ◌∙◌, ap, subst, arith, append-nil, append_assoc, drop, slice_index, All, slice_get, nat_tests, All-head}
+use Rattle.spsc_queue.proofs.Common.{All-tail, words_of, Write, HartState, Need, Entry, OpeningValue, history_of, hart_of, pending, own_stores, own_store}
+use Rattle.spsc_queue.proofs.Common.{lands, memory_word, entry_of, state_of, Allowed, WellFormed, writes_to, IsQuiescent, slot_address, capacity, slot_offset}
+use Rattle.spsc_queue.proofs.Common.{party_hart, party_line, listing_of, buffer, enters, is_in_call, copy_in, received_words, StandsIn, HasFunction}
+use Rattle.spsc_queue.proofs.Common.{UsesAsSpscQueue, accesses, obligations_kept}
 use Rattle.rv_decode.specs.Meaning.{meaning}
-use Rattle.rv_decode.specs.Listings.{words_of}
-use Rattle.memory.specs.declared.writes.Write.{Write}
-use Rattle.hart.specs.State.{HartState}
 use Rattle.hart.specs.Steps.{need_of, advanced}
 use Rattle.hart.specs.declared.status.Status.{Status}
-use Rattle.hart.specs.declared.status.Status.TheVariants as status
-use Rattle.hart.specs.declared.need.Need.{Need}
-use Rattle.hart.specs.declared.need.Need.TheVariants as need
-use Rattle.step_machine.specs.declared.events.Entry.{Entry}
-use Rattle.step_machine.specs.declared.events.Entry.TheVariants as entry
 use Rattle.step_machine.specs.declared.events.Event.{Event}
-use Rattle.step_machine.specs.declared.events.Event.TheVariants as event
-use Rattle.step_machine.specs.declared.events.Outcome.TheVariants as outcome
-use Rattle.step_machine.specs.History.{OpeningValue, history_of, with_entry}
-use Rattle.step_machine.specs.Entries.{hart_of, pending, own_stores, own_store, lands, memory_word}
-use Rattle.step_machine.specs.Paths.{entry_of, state_of}
-use Rattle.step_machine.specs.Legal.{Allowed, IsOfHarts, WellFormed}
+use Rattle.step_machine.specs.History.{with_entry}
+use Rattle.step_machine.specs.Legal.{IsOfHarts}
 use Rattle.step_machine.proofs.Acts.{does, land_happens}
 use Rattle.step_machine.proofs.Running.{kept-happens, kept-at_opening}
 use Rattle.step_machine.proofs.Lists.{some_first}
 use Rattle.step_machine.proofs.OwnRuns.{kept-front}
-use Rattle.spsc_queue.specs.RingBuffers.{writes_to, IsQuiescent, slot_address, capacity, slot_offset}
-use Rattle.spsc_queue.specs.Calls.{Party, the_sender, the_receiver, party_hart, party_line, listing_of, buffer, enters, is_in_call, sent_words, copy_in}
-use Rattle.spsc_queue.specs.Calls.{received_words, StandsIn, HasFunction, UsesAsSpscQueue}
-use Rattle.spsc_queue.specs.CallEffects.{IsWholeCall, accesses}
-use Rattle.spsc_queue.specs.Obligations.{obligations_kept}
+use Rattle.spsc_queue.specs.Calls.{Party, the_sender, the_receiver, sent_words}
+use Rattle.spsc_queue.specs.CallEffects.{IsWholeCall}
 use Rattle.spsc_queue.specs.Example.{value_at, entry_in, entry_by, entries_by, fast, kind_of, caches_of, Variant, caching, waiting_of, Scenario, sends, hits}
 use Rattle.spsc_queue.specs.Example.{receives, finds_full, takes_over, plain, finds_empty, goes_on, variant, sender_of, receiver_of, party, queue}
 use Rattle.spsc_queue.specs.Example.{hart_of_party, opening, first_events, lead_events, call_events, before_entries, lead_entries, call_entries, entries}
@@ -40,6 +26,11 @@ use Rattle.spsc_queue.proofs.Registers.{thirteen}
 use Rattle.spsc_queue.proofs.Parts.{copied_in}
 use Rattle.spsc_queue.proofs.Words.{both}
 use Rattle.spsc_queue.proofs.Obligations.{obligations_decided}
+use Rattle.hart.specs.declared.status.Status.TheVariants as status
+use Rattle.hart.specs.declared.need.Need.TheVariants as need
+use Rattle.step_machine.specs.declared.events.Entry.TheVariants as entry
+use Rattle.step_machine.specs.declared.events.Event.TheVariants as event
+use Rattle.step_machine.specs.declared.events.Outcome.TheVariants as outcome
 
 -- ---- entries that events make are a run, where each event may come
 

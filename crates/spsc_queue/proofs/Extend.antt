@@ -1,10 +1,7 @@
 -- A run that uses a queue does so up to each point, and with one entry more that owes nothing.
-use Rattle.std.proofs.Common.{ℕ, ◌≡◌, ◌⊎◌, inl, inr, List, [], ◌∷◌, ◌++◌, refl, sym, ◌∙◌, ap, subst, append_assoc}
-use Rattle.step_machine.specs.declared.events.Entry.{Entry}
-use Rattle.step_machine.specs.History.{OpeningValue, history_of}
-use Rattle.step_machine.specs.Legal.{WellFormed}
+use Rattle.spsc_queue.proofs.Common.{ℕ, ◌≡◌, ◌⊎◌, inl, inr, List, [], ◌∷◌, ◌++◌, refl, sym, ◌∙◌, ap, subst, append_assoc, Entry, OpeningValue, history_of}
+use Rattle.spsc_queue.proofs.Common.{WellFormed, SpscQueue, CallerObligation, UsesAsSpscQueue}
 use Rattle.step_machine.proofs.OwnRuns.{kept-front}
-use Rattle.spsc_queue.specs.Calls.{SpscQueue, CallerObligation, UsesAsSpscQueue}
 
 -- an entry of a longer list stands in the shorter one, or is the last
 record Old (es done : List Entry) (e : Entry) : Type 0 where

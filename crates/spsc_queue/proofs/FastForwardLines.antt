@@ -1,23 +1,15 @@
 -- FastForward's functions, line by line: what each line does keeps the protocol, and leads to the next line of the outline.
-use Rattle.std.proofs.Common.{ℕ, pos, ◌+◌, ◌*◌, ◌%◌, ◌^◌, ◌<◌, ◌≤◌, ◌≡◌, ◌≢◌, ◌==◌, not, ◌⊎◌, inl, inr, true, false, if◌then◌else◌, None, List, [], ◌∷◌, ◌++◌}
-use Rattle.std.proofs.Common.{refl, sym, ◌∙◌, ap, subst, arith}
-use Rattle.std.specs.Prelude.{slice_index}
-use Rattle.std.proofs.lemmas.Bool.{cases_eq, eq-eqb, ne_eqb}
-use Rattle.rv_decode.specs.Meaning.{reg_of}
-use Rattle.rv_decode.specs.declared.instruction.RegisterOp.TheVariants as register
+use Rattle.std.proofs.Common.{not}
+use Rattle.spsc_queue.proofs.Common.{ℕ, pos, ◌+◌, ◌*◌, ◌%◌, ◌^◌, ◌<◌, ◌≤◌, ◌≡◌, ◌≢◌, ◌==◌, ◌⊎◌, inl, inr, true, false, if◌then◌else◌, None, List, [], ◌∷◌, ◌++◌}
+use Rattle.spsc_queue.proofs.Common.{refl, sym, ◌∙◌, ap, subst, arith, slice_index, cases_eq, eq-eqb, ne_eqb, reg_of, Write, write, HartState, next_pc, address}
+use Rattle.spsc_queue.proofs.Common.{IsAt, load, store, fastforward, RingBuffer, next, overlaps, placed, roomy, asked, holding, ProtocolState, next_by}
+use Rattle.spsc_queue.proofs.Common.{IsSendable, IsReceiverStore, Block, IsBlock, copy_in, listing_of, ring_at, sees_full, take_accesses, receive_accesses}
+use Rattle.spsc_queue.proofs.Common.{load_line, other_jumps, same_goes_on, goes_to, leaves_in}
 use Rattle.rv_decode.specs.declared.instruction.Instr.TheVariants.{Register}
-use Rattle.memory.specs.declared.writes.Write.{Write}
-use Rattle.memory.specs.Writes.{write}
-use Rattle.hart.specs.State.{HartState}
-use Rattle.hart.specs.Effects.{next_pc, address}
-use Rattle.hart.proofs.Instructions.{IsAt}
-use Rattle.step_machine.specs.Access.{load, store}
-use Rattle.spsc_queue.specs.RingBuffers.{fastforward, RingBuffer, next, overlaps}
-use Rattle.spsc_queue.specs.Protocol.{placed, roomy, asked, holding, ProtocolState, receives, next_by, IsSendable, IsReceiverStore}
+use Rattle.spsc_queue.specs.Protocol.{receives}
 use Rattle.spsc_queue.specs.FastForward.{fastforward_send, fastforward_receive}
-use Rattle.spsc_queue.specs.Calls.{Block, IsBlock, Party, the_sender, the_receiver, copy_in, listing_of, ring_at}
-use Rattle.spsc_queue.specs.CallEffects.{sees_full, take_accesses, receive_accesses}
-use Rattle.step_machine.proofs.Lines.{sum_line, load_line, same_jumps, other_goes_on, other_jumps, same_goes_on, goes_to, leaves_in}
+use Rattle.spsc_queue.specs.Calls.{Party, the_sender, the_receiver}
+use Rattle.step_machine.proofs.Lines.{sum_line, same_jumps, other_goes_on}
 use Rattle.spsc_queue.proofs.Registers.{set-same, set-other}
 use Rattle.spsc_queue.proofs.Courses.{At, at_04, at_08, at_0C, at_10, at_14, at_18, at_1C, at_20, at_2C, number, Equipped, Course, free_6, free_11}
 use Rattle.spsc_queue.proofs.Outline.{Part, part, IsOffset, Near, first_look, Stored, IsStore, OwnRow, Row, Moves}
@@ -25,6 +17,7 @@ use Rattle.spsc_queue.proofs.Parts.{slot-taken, knows-offset, looked-offset}
 use Rattle.spsc_queue.proofs.AllLines.{Spot, spot, to_line, to_ready, loads_to, line_at, on, over, indexed_7, to_seen, to_no, word_set, if_false, found_room}
 use Rattle.spsc_queue.proofs.AllLines.{looked_once}
 use Rattle.spsc_queue.proofs.CommonLines.{bumps, zeroes, tests, slot_stores, index_stores, sender_puts, sender_publishes, send_whole}
+use Rattle.rv_decode.specs.declared.instruction.RegisterOp.TheVariants as register
 
 module _ (M n a b : ℕ) (k : Block) (is : IsBlock M k) (h : ℕ) (s : HartState) (t : ProtocolState) (v : ℕ) where
   abbrev r : RingBuffer

@@ -1,15 +1,12 @@
 -- The functions: each line of a call, how a call begins, and which words a party's calls completed.
-use Rattle.std.proofs.Common.{ℕ, ◌+◌, ◌*◌, ◌<◌, ◌≡◌, inl, inr, Bool, true, false, List, [], refl, ◌∙◌, arith}
-use Rattle.hart.specs.State.{HartState}
-use Rattle.spsc_queue.specs.RingBuffers.{Kind, lamport, fastforward, RingBuffer}
-use Rattle.spsc_queue.specs.Protocol.{ProtocolState}
-use Rattle.spsc_queue.specs.Calls.{Block, IsBlock, Party, the_sender, the_receiver, listing_of, ring_at, enters, HasArguments}
+use Rattle.spsc_queue.proofs.Common.{ℕ, ◌+◌, ◌*◌, ◌<◌, ◌≡◌, inl, inr, Bool, true, false, List, [], refl, ◌∙◌, arith, HartState, Kind, lamport, fastforward}
+use Rattle.spsc_queue.proofs.Common.{RingBuffer, ProtocolState, Block, IsBlock, listing_of, ring_at, enters, HasArguments, longest}
+use Rattle.spsc_queue.specs.Calls.{Party, the_sender, the_receiver}
 use Rattle.spsc_queue.proofs.Courses.{At, at_00, at_04, at_08, at_0C, at_10, at_14, at_18, at_1C, at_20, at_24, at_28, at_2C, at_30, at_34, at_38, at_3C, at_40}
 use Rattle.spsc_queue.proofs.Courses.{number, Equipped, Course}
 use Rattle.spsc_queue.proofs.Outline.{Part, part, Level, Near, OwnRow, more, Row, Inside, Stands, WordsAre, Moves}
 use Rattle.spsc_queue.proofs.Cases.{by-bool}
 use Rattle.spsc_queue.proofs.Completed.{entered}
-use Rattle.spsc_queue.specs.CallEffects.{longest}
 use Rattle.spsc_queue.proofs.AllLines.{spot, short, Answered, none}
 use Rattle.spsc_queue.proofs.CommonLines.{common_00, common_24, common_28, common_2C, common_30}
 use Rattle.spsc_queue.proofs.LamportLines as lamports

@@ -1,34 +1,18 @@
 -- Lamport's functions, line by line: what each line does keeps the protocol, and leads to the next line of the outline.
-use Rattle.std.proofs.Common.{ℕ, pos, negsuc, ◌+◌, ◌*◌, ◌%◌, ◌^◌, ◌<◌, ◌≤◌, ◌≡◌, ◌≢◌, ◌==◌, ◌&&◌, ◌⊎◌, inl, inr, true, false, if◌then◌else◌, List, [], ◌∷◌}
-use Rattle.std.proofs.Common.{◌++◌, Some, None, refl, sym, ◌∙◌, ap, subst, arith, append-nil}
-use Rattle.std.specs.Prelude.{slice_index, slice_set, map}
-use Rattle.std.specs.List.{slice_get}
-use Rattle.std.proofs.lemmas.Bool.{cases_eq, eq-eqb, ne_eqb}
-use Rattle.std.proofs.lemmas.Bool.Decides.{nat_tests}
-use Rattle.rv_decode.specs.Meaning.{meaning, reg_of}
-use Rattle.rv_decode.specs.declared.instruction.BranchOp.TheVariants as branch
-use Rattle.rv_decode.specs.declared.instruction.ImmediateOp.TheVariants as immediate
-use Rattle.rv_decode.specs.declared.instruction.RegisterOp.TheVariants as register
-use Rattle.rv_decode.specs.declared.instruction.LoadOp.TheVariants as load_op
-use Rattle.rv_decode.specs.declared.instruction.StoreOp.TheVariants as store_op
-use Rattle.rv_decode.specs.declared.instruction.Instr.{Instr}
-use Rattle.rv_decode.specs.declared.instruction.Instr.TheVariants.{Branch, Load, Store, Immediate, Register}
-use Rattle.memory.specs.declared.writes.Write.{Write}
-use Rattle.memory.specs.Writes.{write}
-use Rattle.hart.specs.State.{HartState}
-use Rattle.hart.specs.Effects.{next_pc, address}
-use Rattle.hart.proofs.Instructions.{IsAt}
-use Rattle.step_machine.specs.Access.{Access, nothing, load, store}
-use Rattle.spsc_queue.specs.RingBuffers.{Kind, lamport, fastforward, RingBuffer, IsWordIn, next, overlaps}
-use Rattle.spsc_queue.specs.Protocol.{SenderState, placed, renewing, roomy, asked, waiting, holding, ProtocolState, says_full, looks_past_copy, IsWordAt}
-use Rattle.spsc_queue.specs.Protocol.{IsCopyStore, IsSenderStore, IsReceiverStore}
-use Rattle.rv_decode.specs.Listings.{lines_of}
+use Rattle.std.proofs.Common.{negsuc}
+use Rattle.spsc_queue.proofs.Common.{ℕ, pos, ◌+◌, ◌*◌, ◌%◌, ◌^◌, ◌<◌, ◌≤◌, ◌≡◌, ◌≢◌, ◌==◌, ◌&&◌, ◌⊎◌, inl, inr, true, false, if◌then◌else◌, List, [], ◌∷◌, ◌++◌}
+use Rattle.spsc_queue.proofs.Common.{Some, None, refl, sym, ◌∙◌, ap, subst, arith, append-nil, slice_index, slice_set, map, slice_get, cases_eq, eq-eqb, ne_eqb}
+use Rattle.spsc_queue.proofs.Common.{nat_tests, reg_of, Instr, Immediate, Write, write, HartState, next_pc, address, IsAt, Access, nothing, load, store, Kind}
+use Rattle.spsc_queue.proofs.Common.{lamport, fastforward, RingBuffer, IsWordIn, next, overlaps, SenderState, placed, renewing, roomy, asked, waiting, holding}
+use Rattle.spsc_queue.proofs.Common.{ProtocolState, says_full, looks_past_copy, IsWordAt, IsCopyStore, IsSenderStore, IsReceiverStore, lines_of, Block, IsBlock}
+use Rattle.spsc_queue.proofs.Common.{copy_in, listing_of, ring_at, sees_full, look_accesses, take_accesses, word-plus, add_line, load_line, other_jumps}
+use Rattle.spsc_queue.proofs.Common.{same_goes_on, goes_to, leaves_in}
+use Rattle.rv_decode.specs.Meaning.{meaning}
+use Rattle.rv_decode.specs.declared.instruction.Instr.TheVariants.{Branch, Load, Store, Register}
 use Rattle.spsc_queue.specs.Listings.{try_send, try_receive}
 use Rattle.spsc_queue.specs.Cached.{cached_send}
-use Rattle.spsc_queue.specs.Calls.{Block, IsBlock, the_sender, the_receiver, copy_in, listing_of, ring_at}
-use Rattle.spsc_queue.specs.CallEffects.{sees_full, look_accesses, take_accesses}
-use Rattle.step_machine.proofs.Lines.{word-plus, add_line, sum_line, load_line, store_line, jump_line, same_jumps, other_goes_on, other_jumps, same_goes_on}
-use Rattle.step_machine.proofs.Lines.{goes_to, leaves_in}
+use Rattle.spsc_queue.specs.Calls.{the_sender, the_receiver}
+use Rattle.step_machine.proofs.Lines.{sum_line, store_line, jump_line, same_jumps, other_goes_on}
 use Rattle.spsc_queue.proofs.Words.{word_overlaps}
 use Rattle.spsc_queue.proofs.Registers.{set-same, set-other, decoded, code_room, next_line, line_on, line_back}
 use Rattle.spsc_queue.proofs.Courses.{At, at_04, at_08, at_0C, at_10, at_14, at_18, at_1C, at_20, at_24, at_2C, at_34, at_38, at_3C, at_40, number, Equipped}
@@ -39,6 +23,11 @@ use Rattle.spsc_queue.proofs.Parts.{copied, level-next, past-load, word-load, co
 use Rattle.spsc_queue.proofs.AllLines.{Spot, spot, to_line, to_ready, loads_to, stores_to, line_at, line_of, on, over, wraps_not, wraps, to_seen, to_no}
 use Rattle.spsc_queue.proofs.AllLines.{ready_5, ready_on, word_set, if_false, found_room, looked_once}
 use Rattle.spsc_queue.proofs.CommonLines.{bumps, zeroes, tests, slot_stores, index_stores, sender_puts, sender_publishes, send_whole}
+use Rattle.rv_decode.specs.declared.instruction.BranchOp.TheVariants as branch
+use Rattle.rv_decode.specs.declared.instruction.ImmediateOp.TheVariants as immediate
+use Rattle.rv_decode.specs.declared.instruction.RegisterOp.TheVariants as register
+use Rattle.rv_decode.specs.declared.instruction.LoadOp.TheVariants as load_op
+use Rattle.rv_decode.specs.declared.instruction.StoreOp.TheVariants as store_op
 
 abbrev stores_of : RingBuffer → (w u : ℕ) → List Access
 stores_of r w u = store (write (r.slots + u) 4 w) ∷ store (write r.head 4 (next r u)) ∷ []

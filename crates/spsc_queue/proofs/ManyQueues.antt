@@ -1,18 +1,12 @@
 -- Several queues at once: where blocks don't meet, a call for one stays off the others, so each queue is used rightly.
-use Rattle.std.proofs.Common.{ℕ, zero, suc, ◌+◌, ◌*◌, ◌<◌, ◌≤◌, ◌≡◌, ◌≢◌, ◌⊎◌, inl, inr, Option, Some, None, Bool, true, false, List, [], ◌∷◌, ◌++◌, refl, sym}
-use Rattle.std.proofs.Common.{◌∙◌, subst, arith, append-nil, append_assoc}
-use Rattle.std.proofs.lemmas.Bool.{cases_eq}
-use Rattle.std.proofs.lemmas.Bool.Decides.{nat_tests}
-use Rattle.memory.specs.declared.writes.Write.{Write}
-use Rattle.step_machine.specs.declared.events.Entry.{Entry}
-use Rattle.step_machine.specs.History.{OpeningValue}
-use Rattle.step_machine.specs.Access.{Access, store, exchange, access_of}
-use Rattle.step_machine.specs.Entries.{hart_of, is_land}
-use Rattle.spsc_queue.specs.RingBuffers.{Kind, lamport, fastforward, RingBuffer, overlaps}
-use Rattle.spsc_queue.specs.Protocol.{SenderState, renewing, roomy, filled, ReceiverState, holding, cleared, ProtocolState, WritesNothingTo, IsCopyStore}
-use Rattle.spsc_queue.specs.Protocol.{IsSenderStore, IsTaking, IsReceiverStore, parties_after}
-use Rattle.spsc_queue.specs.Calls.{Block, SpscQueue, Party, the_sender, the_receiver, party_hart, copy_in, ring_at, buffer, is_sender_in_call}
-use Rattle.spsc_queue.specs.Calls.{is_receiver_in_call, CallerObligation, UsesAsSpscQueue}
+use Rattle.spsc_queue.proofs.Common.{ℕ, zero, suc, ◌+◌, ◌*◌, ◌<◌, ◌≤◌, ◌≡◌, ◌≢◌, ◌⊎◌, inl, inr, Option, Some, None, Bool, true, false, List, [], ◌∷◌, ◌++◌}
+use Rattle.spsc_queue.proofs.Common.{refl, sym, ◌∙◌, subst, arith, append-nil, append_assoc, cases_eq, nat_tests, Write, Entry, OpeningValue, Access, store}
+use Rattle.spsc_queue.proofs.Common.{exchange, access_of, hart_of, is_land, Kind, lamport, fastforward, RingBuffer, overlaps, SenderState, renewing, roomy}
+use Rattle.spsc_queue.proofs.Common.{filled, ReceiverState, holding, cleared, ProtocolState, WritesNothingTo, IsCopyStore, IsSenderStore, IsReceiverStore}
+use Rattle.spsc_queue.proofs.Common.{parties_after, Block, SpscQueue, party_hart, copy_in, ring_at, buffer, is_sender_in_call, is_receiver_in_call}
+use Rattle.spsc_queue.proofs.Common.{CallerObligation, UsesAsSpscQueue}
+use Rattle.spsc_queue.specs.Protocol.{IsTaking}
+use Rattle.spsc_queue.specs.Calls.{Party, the_sender, the_receiver}
 use Rattle.spsc_queue.specs.ManyQueues.{IsIdle, UsesManyQueues}
 use Rattle.spsc_queue.proofs.Outline.{part, IsOffset, IsNear, IsFit, Near, Does}
 use Rattle.spsc_queue.proofs.Parts.{copied}

@@ -1,9 +1,8 @@
 -- Lists of numbers by their places.
-use Rattle.std.proofs.Common.{ℕ, zero, suc, ◌+◌, ◌-◌, ◌^◌, ◌<◌, ◌≤◌, ◌≡◌, List, [], ◌∷◌, ◌++◌, refl, sym, ◌∙◌, ap, arith}
-use Rattle.std.specs.Prelude.{slice_index}
+use Rattle.spsc_queue.proofs.Common.{ℕ, zero, suc, ◌+◌, ◌-◌, ◌<◌, ◌≤◌, ◌≡◌, List, [], ◌∷◌, ◌++◌, refl, sym, ◌∙◌, ap, arith, slice_index}
 use Rattle.queue_parties.specs.Positions.{numbers_from}
 use Rattle.queue_parties.proofs.Records.{numbers-split}
-use Rattle.spsc_queue.proofs.Invariant.{firsts}
+use Rattle.spsc_queue.proofs.States.{firsts}
 
 numbers-last : (R : ℕ → ℕ) (n : ℕ) → numbers_from R 0 (suc n) ≡ numbers_from R 0 n ++ R n ∷ []
 unfolding numbers_from
@@ -44,9 +43,3 @@ numbers-at R k zero more j below = absurd (omega (arith, below))
 numbers-at R k (suc n) more zero below = let here : k ≡ k + 0 = omega arith in ap R here
 numbers-at R k (suc n) more (suc j) below =
     let on : (k + 1) + j ≡ k + suc j = omega arith in numbers-at R (k + 1) n more j (omega (arith, below)) ∙ ap R on
-
-pub numbers-small : (R : ℕ → ℕ) (k n j : ℕ) → ((i : ℕ) → R i < 2 ^ 32) → slice_index (numbers_from R k n) j < 2 ^ 32
-unfolding numbers_from
-numbers-small R k zero j small = omega arith
-numbers-small R k (suc n) zero small = small k
-numbers-small R k (suc n) (suc j) small = numbers-small R (k + 1) n j small

@@ -1,20 +1,14 @@
 -- The computation of what a caller owes is sound.
-use Rattle.std.proofs.Common.{ℕ, ◌≡◌, ◌≢◌, ◌==◌, ◌&&◌, ◌||◌, not, Bool, true, false, if◌then◌else◌, List, [], ◌∷◌, ◌++◌, Some, sym, ◌∙◌, ap, subst, arith}
-use Rattle.std.proofs.Common.{append-nil, append_assoc}
-use Rattle.std.proofs.lemmas.Bool.{ne_eqb, eq-eqb}
-use Rattle.hart.specs.State.{HartState}
+use Rattle.std.proofs.Common.{not}
+use Rattle.spsc_queue.proofs.Common.{ℕ, ◌≡◌, ◌≢◌, ◌==◌, ◌&&◌, ◌||◌, Bool, true, false, if◌then◌else◌, List, [], ◌∷◌, ◌++◌, Some, sym, ◌∙◌, ap, subst, arith}
+use Rattle.spsc_queue.proofs.Common.{append-nil, append_assoc, ne_eqb, eq-eqb, HartState, Entry, Access, store, exchange, access_of, OpeningValue, history_of}
+use Rattle.spsc_queue.proofs.Common.{hart_of, number_read, state_of, Kind, lamport, fastforward, RingBuffer, WritesNothingTo, Block, SpscQueue, party_hart}
+use Rattle.spsc_queue.proofs.Common.{party_line, buffer, enters, is_in_call_with, is_in_call_from, MayPass, HasArguments, PartyObligation, CallerObligation}
+use Rattle.spsc_queue.proofs.Common.{obligations_kept}
 use Rattle.hart.specs.Steps.{advanced}
-use Rattle.step_machine.specs.declared.events.Entry.{Entry}
-use Rattle.step_machine.specs.Access.{Access, store, exchange, access_of}
-use Rattle.step_machine.specs.History.{OpeningValue, history_of}
-use Rattle.step_machine.specs.Entries.{hart_of}
-use Rattle.step_machine.specs.Paths.{number_read, state_of}
-use Rattle.spsc_queue.specs.RingBuffers.{Kind, lamport, fastforward, RingBuffer}
-use Rattle.spsc_queue.specs.Protocol.{WritesNothingTo}
-use Rattle.spsc_queue.specs.Calls.{Block, SpscQueue, Party, the_sender, the_receiver, party_hart, party_line, buffer, enters, is_in_call_with, is_in_call_from}
-use Rattle.spsc_queue.specs.Calls.{MayPass, HasArguments, PartyObligation, CallerObligation}
+use Rattle.spsc_queue.specs.Calls.{Party, the_sender, the_receiver}
 use Rattle.spsc_queue.specs.Obligations.{writes_nothing_to, may_pass, has_arguments, party_keeps_in, party_keeps, others_keep, obligation_kept}
-use Rattle.spsc_queue.specs.Obligations.{obligations_kept_from, obligations_kept}
+use Rattle.spsc_queue.specs.Obligations.{obligations_kept_from}
 use Rattle.spsc_queue.proofs.Words.{both}
 use Rattle.spsc_queue.proofs.OwnEntries.{own_is}
 use Rattle.spsc_queue.proofs.Parties.{is_busy}

@@ -1,25 +1,17 @@
 -- One whole call: what it does, what it completes, and what it has found where it returns 0.
-use Rattle.std.proofs.Common.{ℕ, ◌+◌, ◌<◌, ◌≡◌, ◌≢◌, ◌&&◌, ◌⊎◌, inl, inr, Option, Some, None, Bool, true, false, if◌then◌else◌, List, [], ◌∷◌, ◌++◌, length}
-use Rattle.std.proofs.Common.{refl, sym, ◌∙◌, ap, subst, arith, append-nil, append_assoc}
-use Rattle.std.specs.Prelude.{slice_index}
-use Rattle.hart.specs.State.{HartState}
+use Rattle.spsc_queue.proofs.Common.{ℕ, ◌+◌, ◌<◌, ◌≡◌, ◌≢◌, ◌&&◌, ◌⊎◌, inl, inr, Option, Some, None, Bool, true, false, if◌then◌else◌, List, [], ◌∷◌, ◌++◌}
+use Rattle.spsc_queue.proofs.Common.{length, refl, sym, ◌∙◌, ap, subst, arith, append-nil, append_assoc, slice_index, HartState, Entry, OpeningValue}
+use Rattle.spsc_queue.proofs.Common.{history_of, write, Access, load, store, access_of, hart_of, is_own, own, pending, number_read, state_of, Kind, RingBuffer}
+use Rattle.spsc_queue.proofs.Common.{IsRingBuffer, next, capacity, unpublished, unreleased, placed, roomy, ProtocolState, at_start, role_of, next_by}
+use Rattle.spsc_queue.proofs.Common.{protocol_next, room_at, says_full, watched_address, says_empty, parties_after, Block, SpscQueue, party_hart, party_line}
+use Rattle.spsc_queue.proofs.Common.{listing_of, buffer, is_in_call, is_in_call_with, enters, completed_by_entry, given_words, received_words, UsesAsSpscQueue}
+use Rattle.spsc_queue.proofs.Common.{longest, sees_full, look_accesses, accesses, completed_word, take_accesses}
 use Rattle.hart.specs.Steps.{advanced}
-use Rattle.step_machine.specs.declared.events.Entry.{Entry}
-use Rattle.step_machine.specs.History.{OpeningValue, history_of}
-use Rattle.memory.specs.Writes.{write}
-use Rattle.step_machine.specs.Access.{Access, load, store, access_of}
-use Rattle.step_machine.specs.Entries.{hart_of, is_own, own, pending}
-use Rattle.step_machine.specs.Paths.{number_read, state_of}
-use Rattle.spsc_queue.specs.RingBuffers.{Kind, RingBuffer, IsRingBuffer, next, capacity, unpublished, unreleased}
-use Rattle.spsc_queue.specs.Protocol.{placed, roomy, ProtocolState, at_start, role_of, next_by, protocol_next}
-use Rattle.spsc_queue.specs.Protocol.{room_at, says_full, watched_address, says_empty, parties_after}
-use Rattle.spsc_queue.specs.Calls.{Block, SpscQueue, Party, the_sender, the_receiver, party_hart, party_line, listing_of, buffer, is_in_call, is_in_call_with}
-use Rattle.spsc_queue.specs.Calls.{enters, completed_by_entry, given_words, received_words, UsesAsSpscQueue}
-use Rattle.spsc_queue.specs.CallEffects.{longest, sees_full, look_accesses, IsWholeCall, IsCallUnderWay, IsSend, IsReceive, accesses, completed_word}
-use Rattle.spsc_queue.specs.CallEffects.{take_accesses, FoundFull, FoundEmpty}
+use Rattle.spsc_queue.specs.Calls.{Party, the_sender, the_receiver}
+use Rattle.spsc_queue.specs.CallEffects.{IsWholeCall, IsCallUnderWay, IsSend, IsReceive, FoundFull, FoundEmpty}
 use Rattle.spsc_queue.proofs.Cases.{by-bool}
 use Rattle.spsc_queue.proofs.Words.{both}
-use Rattle.spsc_queue.proofs.Runs.{protocol-append}
+use Rattle.spsc_queue.proofs.Growing.{protocol-append}
 use Rattle.spsc_queue.proofs.Courses.{at_00, Course}
 use Rattle.spsc_queue.proofs.Outline.{Part, part, role, Level, first_look, index_at, Knows, Effect, Fresh, Row, Inside, Outside, CourseStands, Stands}
 use Rattle.spsc_queue.proofs.Parts.{ring_is, first-load, look-load, load-words}

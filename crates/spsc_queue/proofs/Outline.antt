@@ -1,17 +1,13 @@
 -- The outline of the functions of both kinds: what holds at each line of a call.
-use Rattle.std.proofs.Common.{ℕ, ◌+◌, ◌*◌, ◌%◌, ◌≤◌, ◌≡◌, Bool, true, false, if◌then◌else◌, Option, Some, None, List, [], ◌∷◌, ◌++◌, ◌⊎◌}
-use Rattle.std.specs.Prelude.{slice_index}
-use Rattle.memory.specs.declared.writes.Write.{Write}
-use Rattle.memory.specs.Writes.{write}
-use Rattle.hart.specs.State.{HartState}
+use Rattle.spsc_queue.proofs.Common.{ℕ, ◌+◌, ◌*◌, ◌%◌, ◌≤◌, ◌≡◌, Bool, true, false, if◌then◌else◌, Option, Some, None, List, [], ◌∷◌, ◌++◌, ◌⊎◌, slice_index}
+use Rattle.spsc_queue.proofs.Common.{Write, write, HartState, Access, load, store, exchange, Kind, lamport, fastforward, RingBuffer, next, SenderState, resting}
+use Rattle.spsc_queue.proofs.Common.{placed, renewing, roomy, filled, ReceiverState, idle, asked, waiting, holding, cleared, ProtocolState, Role, room_at}
+use Rattle.spsc_queue.proofs.Common.{says_full, watched_address, says_empty, looks_for_room, looks_past_copy, next_by, IsSenderStore, IsReceiverStore, Block}
+use Rattle.spsc_queue.proofs.Common.{IsPlainNeed, sees_full, look_accesses, send_accesses, receive_accesses}
 use Rattle.hart.specs.Steps.{need_of, advanced}
-use Rattle.step_machine.specs.Access.{Access, load, store, exchange}
-use Rattle.spsc_queue.specs.RingBuffers.{Kind, lamport, fastforward, RingBuffer, next}
-use Rattle.spsc_queue.specs.Protocol.{SenderState, resting, placed, renewing, roomy, filled, ReceiverState, idle, asked, waiting, holding, cleared}
-use Rattle.spsc_queue.specs.Protocol.{ProtocolState, Role, sends, receives, room_at, says_full, watched_address, says_empty, looks_for_room, looks_past_copy}
-use Rattle.spsc_queue.specs.Protocol.{looks_for_word, next_by, IsSenderStore, IsReceiverStore}
-use Rattle.spsc_queue.specs.Calls.{Block, Party, the_sender, the_receiver}
-use Rattle.spsc_queue.specs.CallEffects.{IsPlainNeed, sees_full, look_accesses, send_accesses, receive_accesses, IsFound, SendEffect, ReceiveEffect}
+use Rattle.spsc_queue.specs.Protocol.{sends, receives, looks_for_word}
+use Rattle.spsc_queue.specs.Calls.{Party, the_sender, the_receiver}
+use Rattle.spsc_queue.specs.CallEffects.{IsFound, SendEffect, ReceiveEffect}
 use Rattle.spsc_queue.proofs.Courses.{At, at_00, at_04, at_08, at_0C, at_10, at_14, at_18, at_1C, at_20, at_24, at_28, at_2C, at_30, at_34, at_38, at_3C, at_40}
 use Rattle.spsc_queue.proofs.Courses.{number, moved, Course, went, Left, Frame}
 use Rattle.spsc_queue.proofs.Cases.{IsLevel, IsWhole}

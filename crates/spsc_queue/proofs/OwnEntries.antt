@@ -1,16 +1,10 @@
 -- The own entries of a hart that opens with a function.
-use Rattle.std.proofs.Common.{ℕ, ◌≡◌, false, List, [], ◌∷◌, ◌++◌, Some, sym, ◌∙◌, ap, subst}
 use Rattle.std.specs.Prelude.{option_map}
-use Rattle.hart.specs.State.{HartState}
+use Rattle.spsc_queue.proofs.Common.{ℕ, ◌≡◌, false, List, [], ◌∷◌, ◌++◌, Some, sym, ◌∙◌, ap, subst, HartState, Entry, OpeningValue, history_of, hart_of}
+use Rattle.spsc_queue.proofs.Common.{is_land, is_own, own, number_read, state_of, Listed, StandsIn, HasFunction}
 use Rattle.hart.specs.Steps.{advanced}
-use Rattle.step_machine.specs.declared.events.Entry.{Entry}
-use Rattle.step_machine.specs.History.{OpeningValue, history_of}
-use Rattle.step_machine.specs.Entries.{hart_of, is_land, is_own, own}
-use Rattle.step_machine.specs.Paths.{number_read, state_of}
 use Rattle.step_machine.proofs.Follows.{state_after}
 use Rattle.step_machine.proofs.States.{state_keeps}
-use Rattle.rv_decode.specs.Listings.{Listed}
-use Rattle.spsc_queue.specs.Calls.{StandsIn, HasFunction}
 use Rattle.spsc_queue.proofs.Courses.{Equipped}
 pub use Rattle.store_buffers.proofs.OwnEntries.{joined_on, path_upto, made_by, known_hart, same_state, next_state, own_parts, land_is, own_is}
 

@@ -1,11 +1,10 @@
 -- The two parties of a queue: whose entry it is, and which function each has.
-use Rattle.std.proofs.Common.{ℕ, ◌≡◌, ◌≢◌, ◌⊎◌, inl, inr, Bool, false, List, [], ◌∷◌, ◌++◌, refl, sym, ◌∙◌, ap, append_assoc}
-use Rattle.step_machine.specs.declared.events.Entry.{Entry}
-use Rattle.step_machine.specs.History.{OpeningValue}
+use Rattle.spsc_queue.proofs.Common.{ℕ, ◌≡◌, ◌≢◌, ◌⊎◌, inl, inr, Bool, false, List, [], ◌∷◌, ◌++◌, refl, sym, ◌∙◌, ap, append_assoc, Entry, OpeningValue}
+use Rattle.spsc_queue.proofs.Common.{role_of, SpscQueue, party_hart, party_line, listing_of, buffer, is_in_call, completed_by_entry, HasFunction}
+use Rattle.spsc_queue.proofs.Common.{PartyObligation, CallerObligation, SharesQueue}
 use Rattle.spsc_queue.specs.RingBuffers.{waiting_words}
-use Rattle.spsc_queue.specs.Protocol.{passes, role_of}
-use Rattle.spsc_queue.specs.Calls.{SpscQueue, Party, the_sender, the_receiver, party_hart, party_line, listing_of, buffer, is_in_call, completed_words}
-use Rattle.spsc_queue.specs.Calls.{completed_by_entry, HasFunction, PartyObligation, CallerObligation, SharesQueue}
+use Rattle.spsc_queue.specs.Protocol.{passes}
+use Rattle.spsc_queue.specs.Calls.{Party, the_sender, the_receiver, completed_words}
 use Rattle.spsc_queue.proofs.Cases.{by-role}
 use Rattle.spsc_queue.proofs.Outline.{role}
 use Rattle.spsc_queue.proofs.Completed.{completed-last}

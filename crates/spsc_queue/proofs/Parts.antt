@@ -1,21 +1,15 @@
 -- What an access makes of a party's part of the protocol's state, and which accesses keep the protocol.
-use Rattle.std.proofs.Common.{ℕ, ◌+◌, ◌≡◌, ◌≢◌, ◌==◌, inl, inr, Bool, true, false, if◌then◌else◌, Option, Some, None}
-use Rattle.std.proofs.Common.{List, [], ◌∷◌, ◌++◌, refl, sym, ◌∙◌, ap, subst, arith}
-use Rattle.std.proofs.lemmas.Bool.{eq-eqb, ne_eqb}
-use Rattle.memory.specs.declared.writes.Write.{Write}
-use Rattle.step_machine.specs.declared.events.Entry.{Entry}
-use Rattle.step_machine.specs.Access.{Access, nothing, load, store, exchange, land, access_of}
-use Rattle.step_machine.specs.Entries.{hart_of}
-use Rattle.spsc_queue.specs.RingBuffers.{Kind, lamport, fastforward, RingBuffer, IsRingBuffer, overlaps}
-use Rattle.spsc_queue.specs.Protocol.{SenderState, resting, placed, renewing, roomy, filled, ReceiverState, idle, asked, waiting, holding, cleared}
-use Rattle.spsc_queue.specs.Protocol.{ProtocolState, Role, sends, receives, passes, role_of, looks_for_room, looks_past_copy, looks_at, looks_for_word}
-use Rattle.spsc_queue.specs.Protocol.{send_look, send_load, send_store, receive_look, receive_load, receive_store, room_at, says_full, says_empty, next_by}
-use Rattle.spsc_queue.specs.Protocol.{protocol_next, protocol_after, WritesNothingTo, KeepsProtocolBy, KeepsProtocol}
-use Rattle.spsc_queue.specs.Calls.{Block, IsBlock, Party, the_sender, the_receiver, copy_in, ring_at}
-use Rattle.spsc_queue.proofs.Spread.{offset_low}
+use Rattle.spsc_queue.proofs.Common.{ℕ, ◌+◌, ◌≡◌, ◌≢◌, ◌==◌, inl, inr, Bool, true, false, if◌then◌else◌, Option, Some, None, List, [], ◌∷◌, ◌++◌, refl, sym}
+use Rattle.spsc_queue.proofs.Common.{◌∙◌, ap, subst, arith, eq-eqb, ne_eqb, Write, Entry, Access, nothing, load, store, exchange, land, access_of, hart_of}
+use Rattle.spsc_queue.proofs.Common.{Kind, lamport, fastforward, RingBuffer, IsRingBuffer, overlaps, SenderState, resting, placed, renewing, roomy, filled}
+use Rattle.spsc_queue.proofs.Common.{ReceiverState, idle, asked, waiting, holding, cleared, ProtocolState, Role, role_of, looks_for_room, looks_past_copy}
+use Rattle.spsc_queue.proofs.Common.{looks_at, send_look, send_load, send_store, receive_look, receive_load, receive_store, room_at, says_full, says_empty}
+use Rattle.spsc_queue.proofs.Common.{next_by, protocol_next, protocol_after, WritesNothingTo, KeepsProtocolBy, KeepsProtocol, Block, IsBlock, copy_in, ring_at}
+use Rattle.spsc_queue.specs.Protocol.{sends, receives, passes, looks_for_word}
+use Rattle.spsc_queue.specs.Calls.{Party, the_sender, the_receiver}
+use Rattle.spsc_queue.proofs.Offsets.{offset_low}
 use Rattle.spsc_queue.proofs.Cases.{chosen, either, IsLevel, IsWhole, by-send-load, by-receive-load}
-use Rattle.spsc_queue.proofs.Invariant.{IsPlaced}
-use Rattle.spsc_queue.proofs.Invariants.{IsAsked, Known}
+use Rattle.spsc_queue.proofs.States.{IsPlaced, IsAsked, Known}
 use Rattle.spsc_queue.proofs.Outline.{Part, part, role, Level, IsOffset, IsNear, IsFit, Near, first_look, index_at, look_at, Knows, Looked, MayStore, Stored}
 use Rattle.spsc_queue.proofs.Outline.{Does}
 

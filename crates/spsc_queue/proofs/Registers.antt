@@ -1,16 +1,13 @@
 -- Registers after a write, lines of code in their place, and the pc after a line.
-use Rattle.std.proofs.Common.{ℕ, pos, negsuc, ◌+ℤ◌, suc, ◌+◌, ◌-◌, ◌*◌, ◌^◌, ◌<◌, ◌≤◌, ◌≡◌, ◌≢◌, Bool, true, false}
-use Rattle.std.proofs.Common.{List, [], ◌∷◌, ◌++◌, length, Some, refl, sym, ◌∙◌, ap, arith, length-append, add-zero}
+use Rattle.std.proofs.Common.{negsuc, ◌+ℤ◌, add-zero}
 use Rattle.std.proofs.lemmas.Int.{ints}
-use Rattle.std.specs.Prelude.{slice_index, slice_set, map}
-use Rattle.std.specs.List.{slice_get}
 use Rattle.std.proofs.lemmas.List.{get_or-set_same, get_or-set_other}
+use Rattle.spsc_queue.proofs.Common.{ℕ, pos, suc, ◌+◌, ◌-◌, ◌*◌, ◌^◌, ◌<◌, ◌≤◌, ◌≡◌, ◌≢◌, Bool, true, false, List, [], ◌∷◌, ◌++◌, length, Some, refl, sym, ◌∙◌}
+use Rattle.spsc_queue.proofs.Common.{ap, arith, length-append, slice_index, slice_set, map, slice_get, next_pc, address, Kind, lamport, fastforward, Listed}
+use Rattle.spsc_queue.proofs.Common.{words_of, lines_of, listing_of, StandsIn, word-plus}
 use Rattle.rv_decode.specs.Meaning.{meaning}
-use Rattle.hart.specs.Effects.{next_pc, address, word}
-use Rattle.spsc_queue.specs.RingBuffers.{Kind, lamport, fastforward}
-use Rattle.rv_decode.specs.Listings.{Listed, words_of, lines_of}
-use Rattle.spsc_queue.specs.Calls.{Party, the_sender, the_receiver, listing_of, StandsIn}
-use Rattle.step_machine.proofs.Lines.{word-plus}
+use Rattle.hart.specs.Effects.{word}
+use Rattle.spsc_queue.specs.Calls.{Party, the_sender, the_receiver}
 
 pub set-same : (xs : List ℕ) (i v : ℕ) → i < length xs → slice_index (slice_set xs i v) i ≡ v
 set-same xs i v below = get_or-set_same xs i v 0 below

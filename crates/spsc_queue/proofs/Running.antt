@@ -1,27 +1,17 @@
 -- A hart that a run leads to a state runs there, except where it wants to stop or to end.
-use Rattle.std.proofs.Common.{arith, ℕ, ◌*◌, ◌≡◌, ◌==◌, ◌⊎◌, inl, inr, false, if◌then◌else◌, List, [], ◌∷◌, length, Option, Some, None, refl, sym, subst}
 use Rattle.std.specs.Prelude.{nat_lt}
-use Rattle.std.proofs.lemmas.Bool.{eqb-true}
-use Rattle.std.proofs.lemmas.Bool.Decides.{nat_tests}
 use Rattle.std.proofs.lemmas.Option.{slice_get_within}
-use Rattle.rv_decode.specs.declared.instruction.Instr.{Instr}
-use Rattle.hart.specs.State.{HartState}
+use Rattle.spsc_queue.proofs.Common.{arith, ℕ, ◌*◌, ◌≡◌, ◌==◌, ◌⊎◌, inl, inr, false, if◌then◌else◌, List, [], ◌∷◌, length, Option, Some, None, refl, sym, subst}
+use Rattle.spsc_queue.proofs.Common.{eqb-true, nat_tests, Instr, HartState, Need, Entry, OpeningValue, history_of, own, number_read, WellFormed, Listed}
+use Rattle.spsc_queue.proofs.Common.{HasFunction, IsPlainNeed}
 use Rattle.hart.specs.Steps.{need_of, settled, after_meaning, given, advanced_by, advanced, fetched}
 use Rattle.hart.specs.Effects.{registers_after, pc_after}
 use Rattle.hart.specs.declared.status.Status.{Status}
-use Rattle.hart.specs.declared.status.Status.TheVariants as status
-use Rattle.hart.specs.declared.need.Need.{Need}
-use Rattle.hart.specs.declared.need.Need.TheVariants as need
-use Rattle.step_machine.specs.declared.events.Entry.{Entry}
-use Rattle.step_machine.specs.History.{OpeningValue, history_of}
-use Rattle.step_machine.specs.Entries.{own}
-use Rattle.step_machine.specs.Paths.{number_read, after_entries, MakesEntries, opens_as, PathOf}
-use Rattle.step_machine.specs.Legal.{WellFormed}
-use Rattle.rv_decode.specs.Listings.{Listed}
-use Rattle.spsc_queue.specs.Calls.{HasFunction}
-use Rattle.spsc_queue.specs.CallEffects.{IsPlainNeed}
+use Rattle.step_machine.specs.Paths.{after_entries, MakesEntries, opens_as, PathOf}
 use Rattle.spsc_queue.proofs.Cases.{by-bool}
 use Rattle.spsc_queue.proofs.OwnEntries.{state_here}
+use Rattle.hart.specs.declared.status.Status.TheVariants as status
+use Rattle.hart.specs.declared.need.Need.TheVariants as need
 
 abbrev IsHalt : Need → Type 0
 IsHalt need.Exit = Unit {0}

@@ -1,18 +1,11 @@
 -- The run of two queues uses both.
-use Rattle.std.proofs.Common.{ℕ, zero, suc, ◌+◌, ◌*◌, ◌%◌, ◌<◌, ◌≤◌, ◌≡◌, ◌≢◌, ◌⊎◌, inl, inr, Bool, true, false, List, [], ◌∷◌, ◌++◌, refl, sym, subst, arith}
+use Rattle.spsc_queue.proofs.Common.{ℕ, zero, suc, ◌+◌, ◌*◌, ◌%◌, ◌<◌, ◌≤◌, ◌≡◌, ◌≢◌, ◌⊎◌, inl, inr, Bool, true, false, List, [], ◌∷◌, ◌++◌, refl, sym, subst}
+use Rattle.spsc_queue.proofs.Common.{arith, words_of, Entry, OpeningValue, history_of, access_of, hart_of, is_land, memory_word, WellFormed, WritesNothingTo}
+use Rattle.spsc_queue.proofs.Common.{SpscQueue, party_hart, party_line, buffer, is_in_call, received_words, CallerObligation, SharesQueue, obligations_kept}
 use Rattle.rv_decode.specs.Meaning.{meaning}
-use Rattle.rv_decode.specs.Listings.{words_of}
 use Rattle.hart.specs.Steps.{need_of, advanced}
-use Rattle.step_machine.specs.declared.events.Entry.{Entry}
-use Rattle.step_machine.specs.History.{OpeningValue, history_of}
-use Rattle.step_machine.specs.Access.{access_of}
-use Rattle.step_machine.specs.Entries.{hart_of, is_land, memory_word}
-use Rattle.step_machine.specs.Legal.{WellFormed}
 use Rattle.step_machine.proofs.Running.{kept-at_opening}
-use Rattle.spsc_queue.specs.Protocol.{WritesNothingTo}
-use Rattle.spsc_queue.specs.Calls.{SpscQueue, Party, the_sender, the_receiver, party_hart, party_line, buffer, is_in_call, sent_words, received_words}
-use Rattle.spsc_queue.specs.Calls.{CallerObligation, SharesQueue}
-use Rattle.spsc_queue.specs.Obligations.{obligations_kept}
+use Rattle.spsc_queue.specs.Calls.{Party, the_sender, the_receiver, sent_words}
 use Rattle.spsc_queue.specs.ManyQueues.{IsIdle, CallersObligation, UsesManyQueues}
 use Rattle.spsc_queue.specs.Listings.{try_send, try_receive}
 use Rattle.spsc_queue.specs.TwoQueues.{both_queues, opening_of_two, both_events, entries_of_two}

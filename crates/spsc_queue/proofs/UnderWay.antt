@@ -1,17 +1,10 @@
 -- A call under way, at the end of a run: what its hart wants next, and what it has done.
-use Rattle.std.proofs.Common.{ℕ, ◌≡◌, true, Some, List, [], ◌++◌, length, refl, sym, ◌∙◌, ap, subst, append-nil}
-use Rattle.std.specs.Prelude.{slice_index}
-use Rattle.hart.specs.State.{HartState}
+use Rattle.spsc_queue.proofs.Common.{ℕ, ◌≡◌, true, Some, List, [], ◌++◌, length, refl, sym, ◌∙◌, ap, subst, append-nil, slice_index, HartState, Entry}
+use Rattle.spsc_queue.proofs.Common.{OpeningValue, history_of, own, state_of, IsRingBuffer, ProtocolState, parties_after, FollowsSpscProtocol, Block, SpscQueue}
+use Rattle.spsc_queue.proofs.Common.{party_hart, party_line, listing_of, buffer, is_in_call, UsesAsSpscQueue, longest, IsPlainNeed, accesses}
 use Rattle.hart.specs.Steps.{need_of}
-use Rattle.step_machine.specs.declared.events.Entry.{Entry}
-use Rattle.step_machine.specs.History.{OpeningValue, history_of}
-use Rattle.step_machine.specs.Entries.{own}
-use Rattle.step_machine.specs.Paths.{state_of}
-use Rattle.spsc_queue.specs.RingBuffers.{IsRingBuffer}
-use Rattle.spsc_queue.specs.Protocol.{ProtocolState, parties_after}
-use Rattle.spsc_queue.specs.Laws.{FollowsSpscProtocol}
-use Rattle.spsc_queue.specs.Calls.{Block, SpscQueue, Party, the_sender, the_receiver, party_hart, party_line, listing_of, buffer, is_in_call, UsesAsSpscQueue}
-use Rattle.spsc_queue.specs.CallEffects.{longest, IsCallUnderWay, IsPlainNeed, ContinuesCall, accesses, SendSoFar, ReceiveSoFar}
+use Rattle.spsc_queue.specs.Calls.{Party, the_sender, the_receiver}
+use Rattle.spsc_queue.specs.CallEffects.{IsCallUnderWay, ContinuesCall, SendSoFar, ReceiveSoFar}
 use Rattle.spsc_queue.proofs.Runs.{known-of}
 use Rattle.spsc_queue.proofs.Outline.{Near, part, Inside}
 use Rattle.spsc_queue.proofs.Parts.{ring_is, near-of}

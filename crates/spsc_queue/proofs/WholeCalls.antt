@@ -1,13 +1,8 @@
 -- What whole calls of both functions share: the first line, the course so far.
-use Rattle.std.proofs.Common.{ℕ, ◌*◌, ◌/◌, ◌%◌, ◌^◌, ◌<◌, ◌≡◌, ◌⊎◌, inl, inr, Bool, true, false, if◌then◌else◌, List}
-use Rattle.std.proofs.Common.{[], ◌∷◌, ◌++◌, length, refl, sym, ◌∙◌, ap, subst, arith}
-use Rattle.std.specs.Prelude.{slice_index}
-use Rattle.hart.specs.State.{HartState}
-use Rattle.step_machine.specs.declared.events.Entry.{Entry}
-use Rattle.step_machine.specs.Access.{access_of}
-use Rattle.step_machine.specs.Entries.{is_own, own}
-use Rattle.spsc_queue.specs.Calls.{Block, Party, MayPass, HasArguments}
-use Rattle.spsc_queue.specs.CallEffects.{accesses, memory_access}
+use Rattle.spsc_queue.proofs.Common.{ℕ, ◌*◌, ◌/◌, ◌%◌, ◌^◌, ◌<◌, ◌≡◌, ◌⊎◌, inl, inr, Bool, true, false, if◌then◌else◌, List, [], ◌∷◌, ◌++◌, length, refl, sym}
+use Rattle.spsc_queue.proofs.Common.{◌∙◌, ap, subst, arith, slice_index, HartState, Entry, access_of, is_own, own, Block, MayPass, HasArguments, accesses}
+use Rattle.spsc_queue.proofs.Common.{memory_access}
+use Rattle.spsc_queue.specs.Calls.{Party}
 use Rattle.spsc_queue.proofs.Courses.{At, at_00, number, Course, went}
 use Rattle.spsc_queue.proofs.Accesses.{other-accesses, other-own, mine-accesses, mine-own}
 

@@ -1,6 +1,7 @@
 pub mod RingBuffers
 pub mod Protocol
 pub mod Laws
+pub mod Instances
 pub mod Listings
 pub mod Cached
 pub mod FastForward

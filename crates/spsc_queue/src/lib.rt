@@ -6,14 +6,16 @@
 //! `CallerObligation` asks of it, whatever else its harts and others execute before, between and after.
 //! [`laws_of_one_call`] states what one call does, [`laws_of_many_queues`] that calls for one queue stay off the others,
 //! [`laws_of_obligations`] that what callers owe can be computed and kept. Below these, [`laws_of_protocol`] states the same
-//! of loads and stores alone, of any program that keeps the queue's protocol. The crate gives the words of the functions and
-//! runs none.
+//! of loads and stores alone, of any program that keeps the queue's protocol, and [`laws_of_instances`] that such a run keeps the
+//! protocol of `slot_queue` or of `slots_that_tell`. The crate gives the words of the functions and runs none.
 //!
-//! `proofs/` is read best in this order. Loads and stores: `Cases` (whose entry, which access), `Parts` (what an access makes of the protocol's
-//! state), `Rows`, `Spread` and `Effects` (who stored what, in order), `Invariant`; then `Steps`, `Landings` and `Loads`, which keep it, and what
-//! follows from it: `Publication`, `Runs`, `Linearization`. Functions: `Outline` (what holds at each line) and `Functions`; `CommonLines`,
-//! `LamportLines` and `FastForwardLines`, which lead from line to line; `Calls`, which joins both halves. The laws: `CallLaws`, `OneCall`,
-//! `CutCalls`, `ManyQueues`, `ChangingHands`, `Obligations`, `Decided`.
+//! `proofs/` is read best in this order. Loads and stores: `Cases` (whose entry, which access), `Offsets`, `OwnWords` (words that one hart alone
+//! stores), `States` and `Counts` (how many words are available, by the stores that were made and those that pend); `LamportRings` and
+//! `LamportRuns`, by which Lamport's runs are `slot_queue`'s, and `FastForwardRings` and `FastForwardRuns`, by which FastForward's are
+//! `slots_that_tell`'s; these give `Points`, what is known at a point of either; from it `Contents` (which words lie in the slots), `Runs` and
+//! `Landed`, the laws. Functions: `Parts` (what an access makes of the protocol's state), `Outline` (what holds at each line) and `Functions`;
+//! `CommonLines`, `LamportLines` and `FastForwardLines`, which lead from line to line; `Calls`, which joins both halves. The laws: `CallLaws`,
+//! `OneCall`, `CutCalls`, `ManyQueues`, `ChangingHands`, `Obligations`, `Decided`.
 //!
 //! Called by `callers`.
 
@@ -35,9 +37,13 @@ ghost use Rattle.step_machine.specs.Entries.{hart_of, own, own_stores, lands, pe
 ghost use Rattle.step_machine.specs.Access.{access_of, load};
 ghost use Rattle.step_machine.specs.Paths.{state_of};
 ghost use Rattle.step_machine.specs.Legal.{Legal, WellFormed};
-ghost use Rattle.spsc_queue.specs.RingBuffers.{Kind, RingBuffer, lamport, capacity, writes_to, unpublished, unreleased, waiting_words, IsQuiescent};
+ghost use Rattle.spsc_queue.specs.RingBuffers.{Kind, lamport, fastforward, RingBuffer, capacity, writes_to, unpublished, unreleased};
+ghost use Rattle.spsc_queue.specs.RingBuffers.{waiting_words, IsQuiescent};
 ghost use Rattle.spsc_queue.specs.Protocol.{parties_after, asked, placed, room_at, says_full, watched_address, says_empty};
 ghost use Rattle.store_buffers.specs.StoreBuffers.{AllLeaveByte, IsOnlyWriter};
+ghost use Rattle.slot_queue.specs.Laws.{FollowsOwnership};
+ghost use Rattle.slots_that_tell.specs.Laws.{FollowsTelling};
+ghost use Rattle.spsc_queue.specs.Instances.{queue_of, ring_slots_of, counts_at_start};
 ghost use Rattle.spsc_queue.specs.Laws.{IsPrefix, FollowsSpscProtocol, available_words, available_count, known_count, ready_count};
 ghost use Rattle.rv_decode.specs.Listings.{words_of, lines_of};
 ghost use Rattle.spsc_queue.specs.Listings.{try_send, try_receive};
@@ -139,6 +145,18 @@ pub fn laws_of_protocol()
     ensures room { (B : ℕ) (r : RingBuffer) (o : OpeningValue) (before es : List Entry) → FollowsSpscProtocol B r o before es → r.kind ≡ lamport
         → (parties_after r o before es).stored + length (writes_to r (pending r.receiver (before ++ es)))
         ≤ (parties_after r o before es).taken + capacity r }
+{}
+
+/// Of each run that keeps the protocol of a queue, from where that was at rest, empty or with words that wait: so the laws of `slot_queue`
+/// and `slots_that_tell` hold of it too. It does nothing.
+///
+/// - `lamport_ring`: Lamport's, with a copy of the tail or without, keeps the protocol of ownership.
+/// - `fastforward_ring`: FastForward's keeps the protocol of slots that tell.
+pub fn laws_of_instances()
+    ensures lamport_ring { (B : ℕ) (r : RingBuffer) (o : OpeningValue) (before es : List Entry) → r.kind ≡ lamport
+        → FollowsSpscProtocol B r o before es → FollowsOwnership B (queue_of r) (counts_at_start r) o before es }
+    ensures fastforward_ring { (B : ℕ) (r : RingBuffer) (o : OpeningValue) (before es : List Entry) → r.kind ≡ fastforward
+        → FollowsSpscProtocol B r o before es → FollowsTelling B (ring_slots_of r) (counts_at_start r) o before es }
 {}
 
 /// Of every run in which one hart's code calls the function that sends and another's the one that receives, of one kind, with a copy of the

@@ -109,7 +109,7 @@ impl Moves {
         let memory = number_at(row, machine.harts() as usize);
         let mut act = None;
         let mut landing = None;
-        if facts.lands || facts.act == Act::ByMemory {
+        if facts.needs_memory() {
             let steps = stepper.steps(machine, hart, number_at(row, hart as usize), memory)?;
             act = steps.act;
             landing = steps.landing;

@@ -65,6 +65,7 @@ fn violation(
     addr: u32,
     value: u32,
     owned: Option<(u128, u128)>,
+    described: bool,
 ) -> Violation {
     Violation {
         place,
@@ -73,6 +74,7 @@ fn violation(
         width: 4,
         value,
         owned: owned.map(|(from, end)| Owned { from, end }),
+        described,
     }
 }
 
@@ -106,23 +108,23 @@ fn the_first_violation_says_what_was_owned(rt: HostRuntime) {
     let rows = [
         (
             [store(0, 128, 7), store(1, 64, 1)],
-            violation(1, 1, 64, 1, Some((0, 0))),
+            violation(1, 1, 64, 1, Some((0, 0)), true),
         ),
         (
             [store(0, 152, 7), store(0, 152, 8)],
-            violation(0, 0, 152, 7, Some((0, 3))),
+            violation(0, 0, 152, 7, Some((0, 3)), true),
         ),
         (
             [store(0, 0, 1), store(0, 128, 7)],
-            violation(1, 0, 128, 7, Some((1, 3))),
+            violation(1, 0, 128, 7, Some((1, 3)), true),
         ),
         (
             [amo(1, 0, 2, 1), store(1, 64, 2)],
-            violation(0, 1, 0, 1, Some((0, 2))),
+            violation(0, 1, 0, 1, Some((0, 2)), false),
         ),
         (
             [store(2, 200, 1), store(2, 156, 1)],
-            violation(1, 2, 156, 1, None),
+            violation(1, 2, 156, 1, None, false),
         ),
     ];
     for (entries, wanted) in rows {
@@ -148,11 +150,11 @@ fn slots_with_tags_are_stored_to_by_whom_they_tell(rt: HostRuntime) {
     let rows = [
         (
             [store(0, 128, 1), store(1, 128, 4)],
-            violation(1, 1, 128, 4, Some((0, 0))),
+            violation(1, 1, 128, 4, Some((0, 0)), true),
         ),
         (
             [store(0, 128, 1), amo(1, 128, 1, 1)],
-            violation(1, 1, 128, 1, Some((0, 1))),
+            violation(1, 1, 128, 1, Some((0, 1)), false),
         ),
     ];
     for (entries, wanted) in rows {
@@ -246,7 +248,7 @@ fn a_violation_is_shown_by_the_events_that_it_needs(rt: HostRuntime) {
             Told::Good(_) => assert_same!(rt; true, false),
             Told::Flawed { part, flaw } => {
                 assert_same!(rt; part.len(), 3);
-                assert_same!(rt; flaw == violation(2, 0, 12, 1, Some((1, 1))), true);
+                assert_same!(rt; flaw == violation(2, 0, 12, 1, Some((1, 1)), true), true);
             }
         }
     }

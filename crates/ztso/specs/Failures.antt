@@ -3,7 +3,7 @@ use Rattle.std.specs.Prelude.{ℕ, Bool, true, false, Result, Ok, Err}
 use Rattle.command_line.specs.declared.fault.CommandLineError.{CommandLineError}
 use Rattle.command_line.specs.declared.fault.CommandLineError.TheVariants as command_line
 use Rattle.certifying.specs.declared.judgement.Judgement.{Judgement}
-use Rattle.certifying.specs.declared.judgement.Judgement.TheVariants.{Kept, ReadsNotShown, AskedNotShown, NotShown, Broken}
+use Rattle.certifying.specs.declared.judgement.Judgement.TheVariants.{Kept, ReadsNotShown, ProgressNotShown, AskedNotShown, NotShown, Broken, OtherProtocol}
 use Rattle.finding.specs.declared.finds.Found.{Found}
 use Rattle.finding.specs.declared.finds.Found.TheVariants as found
 use Rattle.litmus.specs.declared.verdict.Verdict.{Verdict}
@@ -56,8 +56,10 @@ abbrev pub judgement_status : Judgement → Result ℕ Failure
 judgement_status Kept = Ok 0
 judgement_status ReadsNotShown = Ok 6
 judgement_status AskedNotShown = Ok 9
+judgement_status ProgressNotShown = Ok 10
 judgement_status NotShown = Ok 7
 judgement_status Broken = Ok 8
+judgement_status OtherProtocol = Ok 11
 
 abbrev pub judgement_exit : Result Judgement Fault → Result ℕ Failure
 judgement_exit = exit_of judgement_status

@@ -1,5 +1,5 @@
 -- What each command that a command line can ask for does.
-use Rattle.std.specs.Prelude.{ℕ, ◌≡◌, ◌*◌, ◌⊎◌, max, Bool, true, false, List, [], ◌∷◌, Option, Result, Ok, Err}
+use Rattle.std.specs.Prelude.{ℕ, ◌≡◌, ◌*◌, ◌⊎◌, max, not, Bool, true, false, List, [], ◌∷◌, Option, Result, Ok, Err}
 use Rattle.std.specs.Io.KnownBytes.{Appends}
 use Rattle.rand_core.specs.Stream.{Stream}
 use Rattle.rand_core.specs.Steps.{stream_of, steps_u32}
@@ -41,7 +41,7 @@ use Rattle.drawn_runs.specs.declared.Runs.{Runs}
 use Rattle.drawn_runs.specs.declared.draws.Draw.{Draw}
 use Rattle.drawn_runs.specs.Samples.{DrawnRuns, runs_drawn}
 use Rattle.channel_engines.specs.Channels.{IsChannelAnswer}
-use Rattle.threading.specs.Threads.{IsThreadsAnswer}
+use Rattle.run_engines.specs.Threads.{IsThreadsAnswer}
 use Rattle.channel_engines.specs.UserChannels.{IsUserAnswer}
 use Rattle.channel_engines.specs.Programs.{programs}
 use Rattle.engine_support.specs.declared.fault.Role.TheVariants.{Sender, Receiver}
@@ -103,8 +103,8 @@ queue_of called = record {
 }
 
 -- what is asked of a certificate besides the protocol
-abbrev pub queue_asked : (written : Option (List ℕ)) → (harts : Bool) → Questions
-queue_asked written harts = record { written = written; harts = harts }
+abbrev pub queue_asked : (written : Option (List ℕ)) → (harts safety : Bool) → Questions
+queue_asked written harts safety = record { progress = not safety; written = written; harts = harts }
 
 -- in which form `show` tells a test
 abbrev pub form_of : (steps : Bool) → Form
@@ -173,12 +173,12 @@ Does B (UserChannel place) result given =
     Done done_exit (IsUserAnswer B WORDS (layout_of place []) given.first given.second given.third given.fourth) result
 Does B (Ring seed draw runs place) result given =
     Done good_exit (IsRingAnswer (runs_from B seed draw runs) place given.first given.second given.third) result
-Does B (OfQueues seed draw runs harts) result given =
-    Done judgement_exit (IsQueueAnswer (runs_from B seed draw runs) (queue_asked given.written harts) given.first given.second) result
+Does B (OfQueues seed draw runs harts safety) result given =
+    Done judgement_exit (IsQueueAnswer (runs_from B seed draw runs) (queue_asked given.written harts safety) given.first given.second) result
 
 -- the greatest exit status of a command that doesn't fail
 abbrev pub greatest_status : Command → ℕ
-greatest_status (OfQueues seed draw runs harts) = 9
+greatest_status (OfQueues seed draw runs harts safety) = 11
 greatest_status command = 1
 
 -- a command that judges records, one after the other
@@ -209,7 +209,7 @@ refusals (Find states) result = []
 refusals (Threads turns) result = []
 refusals (UserChannel place) result = IsRefused (programs Sender) ∷ IsRefused (programs Receiver) ∷ IsRefused schedules ∷ []
 refusals (Ring seed draw runs place) result = IsRefused (programs Sender) ∷ IsRefused (programs Receiver) ∷ []
-refusals (OfQueues seed draw runs harts) result = IsRefused tests ∷ []
+refusals (OfQueues seed draw runs harts safety) result = IsRefused tests ∷ []
 
 -- The input after these is left unread: the command has none there, or one of these is refused.
 abbrev pub LeavesUnread : List (Option (List ℕ) → Type 0) → (before : List (Option (List ℕ))) → Type 0

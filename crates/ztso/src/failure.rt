@@ -105,14 +105,16 @@ pub fn after_runs(ended: Result<bool, Fault>) -> Result<u8, Failure>
 /// The exit status after a certificate was judged.
 pub fn after_judgement(ended: Result<Judgement, Fault>) -> Result<u8, Failure>
     ensures ended { result ≡ judgement_exit ended }
-    ensures status { IfOk result (λ status. status ≤ 9) }
+    ensures status { IfOk result (λ status. status ≤ 11) }
 {
     match ended? {
         Judgement::Kept => Ok(0),
         Judgement::ReadsNotShown => Ok(6),
         Judgement::AskedNotShown => Ok(9),
+        Judgement::ProgressNotShown => Ok(10),
         Judgement::NotShown => Ok(7),
         Judgement::Broken => Ok(8),
+        Judgement::OtherProtocol => Ok(11),
     }
 }
 

@@ -76,7 +76,7 @@ fn run<R, P: Progress, Q: SearchProgress>(
 where
     R: Env + Files + Input + Clock + Print + Eprint + AllocGlobal + Threads + Wait + Sync,
     R::Reader: IsTerminal,
-    ensures { IfOk result (λ status. status ≤ 9) }
+    ensures { IfOk result (λ status. status ≤ 11) }
 {
     let arguments = env::args(rt).map_err(CommandLineError::of_arguments)?;
     let words: Vec<String> = arguments.collect(rt.alloc())?;

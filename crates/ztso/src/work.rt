@@ -46,12 +46,12 @@ use rand_pcg::Lcg64Xsh32;
 use run_engines::moving::move_engine;
 use run_engines::replay::replay_engine;
 use run_engines::run::run_engine;
+use run_engines::threads::threads_engine;
 use sampling::trials::{Unfinished, try_engine};
 use std::alloc::Global;
 use std::io::{BufReader, Read, Write};
 use std::sync::Wait;
 use std::thread::Threads;
-use threading::threads::threads_engine;
 use view_engines::charting::chart_engine;
 use view_engines::showing::{Form, show_engine};
 use view_engines::shrinking::shrink_engine;
@@ -440,13 +440,18 @@ where
             draw,
             runs,
             harts,
+            safety,
         } => after_judgement(judge_certificate::<B, _, _, _, _, _>(
             rt,
             alloc,
             seed,
             draw,
             runs,
-            Questions { written, harts },
+            Questions {
+                progress: !safety,
+                written,
+                harts,
+            },
             &mut streams.first,
             &mut streams.second,
             progress,
@@ -459,7 +464,8 @@ where
 /// their order, each after an accepted one before it, and a user's commands, and writes what it answers. It answers the exit
 /// status: 0, but 1 where the verdict is that the test fails or is unfinished, the runs that were tried don't show what the
 /// test asks, a record was refused, callers of a queue owe something, or a run of a channel isn't clean, and of a certificate 6
-/// where only its loads aren't shown, 9 where only what is asked besides isn't, 7 where nothing is, or 8 where a run breaks the protocol.
+/// where its loads aren't shown, 10 where its queues aren't shown to go on, 9 where only what is asked besides isn't shown, 7 where nothing
+/// is, or 8 where a run breaks the protocol.
 /// `written` is which bytes of records are asked about. `progress` gets the reports of runs that are tried, and `search` those of a search.
 pub fn do_command<R, I: Read, C: Read, W: Write, P: Progress, Q: SearchProgress>(
     rt: &R,

@@ -7,7 +7,7 @@ from pathlib import Path
 from crates import Crates
 
 from mutant_parts import cited, functions, passes, sums, table
-from mutant_parts.edits import Unfit, edits_of
+from mutant_parts.edits import ONE_BY_ONE, Unfit, edits_of
 
 LOW = '''//! Rows, as "fn text() {" has none.
 
@@ -57,13 +57,15 @@ class House(unittest.TestCase):
         self.write("low/specs/Rows.antt", "row n = n\n")
         self.write("low/proofs/next/Answers.antt", "returns c = refl\n")
         self.write("high/src/lib.rt", HIGH)
-        for name, text in EDITS.items():
-            self.write(f"low/mutants/{name}.edit", text)
+        self.mutants(EDITS)
 
     def write(self, name, text):
         path = self.top / "crates" / name
         path.parent.mkdir(parents=True, exist_ok=True)
         path.write_text(text)
+
+    def mutants(self, texts):
+        self.write("low/mutants.edits", "\n".join(f"== {name}\n{text}" for name, text in texts.items()))
 
 
 class Functions(unittest.TestCase):
@@ -92,6 +94,39 @@ class Functions(unittest.TestCase):
         self.assertNotIn("Rattle", last)
 
 
+class Mutants(House):
+    def setUp(self):
+        super().setUp()
+        self.crate = self.top / "crates/low"
+
+    def refused(self, text, words):
+        self.write("low/mutants.edits", text)
+        with self.assertRaisesRegex(Unfit, words):
+            edits_of(self.crate)
+
+    def test_each_is_read_with_its_text(self):
+        self.assertEqual({edit.name: edit.text for edit in edits_of(self.crate)}, EDITS)
+
+    def test_a_crate_without_any(self):
+        self.assertEqual(edits_of(self.top / "crates/high"), [])
+
+    def test_those_of_must_fail(self):
+        self.write("low/must-fail/wide.edit", EDITS["wide"])
+        self.assertEqual([(edit.name, edit.text) for edit in edits_of(self.crate, ONE_BY_ONE)], [("wide", EDITS["wide"])])
+
+    def test_two_of_a_name(self):
+        self.refused(f"== wide\n{EDITS['wide']}\n== wide\n{EDITS['next_skips']}", "low/mutants.edits: wide: two mutants have this name")
+
+    def test_text_above_the_first_name(self):
+        self.refused(EDITS["wide"], "low/mutants.edits: no line '== NAME' stands above: file:")
+
+    def test_a_line_that_is_none(self):
+        self.refused(f"== wide\nodl: 4\n{EDITS['wide']}", "low/mutants.edits: wide: a line begins with none of .*: odl: 4")
+
+    def test_one_that_edits_nothing(self):
+        self.refused("== wide\nfile: src/lib.rt\n", "low/mutants.edits: wide: it has no lines 'old:' and 'new:'")
+
+
 class Passes(House):
     def setUp(self):
         super().setUp()
@@ -115,12 +150,12 @@ class Passes(House):
         self.assertEqual(len(passes.packed(pairs, calls, {("last_is_next", "next_skips")})), 2)
 
     def test_an_edit_that_does_not_apply(self):
-        self.write("low/mutants/gone.edit", "file: src/lib.rt\nold: number - 1\nnew: number\n")
+        self.mutants({"gone": "file: src/lib.rt\nold: number - 1\nnew: number\n"})
         with self.assertRaises(Unfit):
             edits_of(self.top / "crates/low")[0].applied()
 
     def test_an_edit_that_changes_nothing(self):
-        self.write("low/mutants/a.edit", "file: src/lib.rt\nold: next(9)\nnew: next(9)\n")
+        self.mutants({"same": "file: src/lib.rt\nold: next(9)\nnew: next(9)\n"})
         with self.assertRaises(Unfit):
             edits_of(self.top / "crates/low")[0].applied()
 
@@ -178,8 +213,14 @@ class Sums(House):
     def test_a_mutant_counts(self):
         crate = self.top / "crates/low"
         before = sums.of_edits(edits_of(crate))
-        self.write("low/mutants/wide.edit", EDITS["wide"].replace("8", "16"))
+        self.mutants({**EDITS, "wide": EDITS["wide"].replace("8", "16")})
         self.assertNotEqual(sums.of_edits(edits_of(crate)), before)
+
+    def test_the_order_of_mutants_does_not_count(self):
+        crate = self.top / "crates/low"
+        before = sums.of_edits(edits_of(crate))
+        self.mutants(dict(reversed(EDITS.items())))
+        self.assertEqual(sums.of_edits(edits_of(crate)), before)
 
 
 class Table(House):

@@ -69,15 +69,11 @@ class Whole(House):
     def setUp(self):
         super().setUp()
         self.crate = self.top / "crates/low"
-        for file in (self.crate / "mutants").glob("*"):
-            file.unlink()
         self.write("low/src/lib.rt", SOURCE)
 
     def tried(self, *names, breaks_after=None):
         """What a trial finds of these mutants, by the first letters of their names, and its checks."""
-        for name, (old, new) in EDITS.items():
-            if name[0] in names:
-                self.write(f"low/mutants/{name}.edit", f"file: src/lib.rt\nold: {old}\nnew: {new}\n")
+        self.mutants({name: f"file: src/lib.rt\nold: {old}\nnew: {new}\n" for name, (old, new) in EDITS.items() if name[0] in names})
         prover = Prover(self.crate, breaks_after)
         trial = trying.Trial(prover, self.crate, edits_of(self.crate), lambda line: None)
         trial.run()

@@ -1,8 +1,8 @@
 use Rattle.slots_that_tell.proofs.Runs.{window, look}
 use Rattle.slots_that_tell.proofs.Publication.{published}
 use Rattle.slots_that_tell.proofs.HandingOver.{published_by, handed, waited}
-use Rattle.slots_that_tell.proofs.Records.{in_order}
-use Rattle.slots_that_tell.proofs.Codecs.{zero_differs, numbered_differs}
+use Rattle.slots_that_tell.proofs.Records.{in_order, in_order_as_learned}
+use Rattle.slots_that_tell.proofs.Codecs.{zero_differs, numbered_differs, bits_differ}
 use Rattle.queue_parties.specs.Parties.{the_sender, the_receiver}
 use Rattle.std.proofs.Common.{arith}
 use Rattle.slots_that_tell.proofs.laws_of_telling.Goals as goal
@@ -27,6 +27,9 @@ returns-clause-handing_back c = λ B q n o before es e fs follows k x of_k from 
 pub returns-clause-in_order : goal.returns-clause-in_order
 returns-clause-in_order c = λ B q n o before es follows reads. in_order B q n o before es follows reads
 
+pub returns-clause-in_order_as_learned : goal.returns-clause-in_order_as_learned
+returns-clause-in_order_as_learned c = λ B q n o before es follows. in_order_as_learned B q n o before es follows
+
 pub returns-clause-look : goal.returns-clause-look
 returns-clause-look c = λ B q n o before es e follows p j v mine does from below silent. look B q n o before es e follows p j v mine does from below silent
 
@@ -35,6 +38,9 @@ returns-clause-zero_tells c = λ q p k v has. zero_differs q p k v has
 
 pub returns-clause-numbers_tell : goal.returns-clause-numbers_tell
 returns-clause-numbers_tell c = λ m two q apart p k v has. numbered_differs m two q apart p k v has
+
+pub returns-clause-bits_tell : goal.returns-clause-bits_tell
+returns-clause-bits_tell c = λ mask free full apart q p k v has. bits_differ mask free full apart q p k v has
 
 pub returns-clause-waiting : goal.returns-clause-waiting
 returns-clause-waiting c = λ B q start o before es follows k x of_k sent given left g h. waited B q start o before es follows k x of_k sent given left g h

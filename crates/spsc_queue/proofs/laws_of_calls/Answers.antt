@@ -1,4 +1,4 @@
-use Rattle.std.proofs.Common.{[], sym, append-nil}
+use Rattle.spsc_queue.proofs.Common.{[], sym, append-nil}
 use Rattle.spsc_queue.proofs.Calls.{calls_follow}
 use Rattle.spsc_queue.proofs.CallLaws.{fifo, fifo_within, always_capacity, idle_capacity, publication, message_passing, reclamation, handing_back}
 use Rattle.spsc_queue.proofs.ChangingHands.{changes_hands, waiting_left}

@@ -1,4 +1,4 @@
-use Rattle.std.proofs.Common.{◌++◌, []}
+use Rattle.spsc_queue.proofs.Common.{◌++◌, []}
 use Rattle.spsc_queue.specs.Calls.{the_sender, the_receiver}
 use Rattle.spsc_queue.proofs.OneCall.{whole, whole_begun, effect_of, call_completes, found_full, found_empty, word_available, room_available}
 use Rattle.spsc_queue.proofs.UnderWay.{goes_on, send_so_far, receive_so_far}

@@ -1,6 +1,5 @@
 use Rattle.spsc_queue.proofs.Runs.{delivered}
-use Rattle.spsc_queue.proofs.Publication.{published, returned}
-use Rattle.spsc_queue.proofs.Linearization.{empty_landed, full_landed, word_found, room_found, room_landed}
+use Rattle.spsc_queue.proofs.Landed.{published, returned, empty_landed, full_landed, word_found, room_found, room_landed}
 use Rattle.spsc_queue.proofs.laws_of_protocol.Goals as goal
 
 pub returns-clause-fifo : goal.returns-clause-fifo

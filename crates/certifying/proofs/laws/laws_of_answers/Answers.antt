@@ -11,6 +11,14 @@ returns-clause-promised c = answers.promised (record {
   sent = λ o listed accepted B M es formed i less. c.laws_of_queue_certificates.ensures.sent B M o listed accepted i less es formed;
   reads_owned = c.laws_of_queue_certificates.ensures.reads_owned;
   rest_owned = c.laws_of_queue_certificates.ensures.rest_owned;
+  going = record {
+    shown = c.laws_of_queue_progress.ensures.shown;
+    going = c.laws_of_queue_progress.ensures.going;
+    stands = c.laws_of_queue_progress.ensures.stands;
+    told_shown = c.laws_of_queue_progress.ensures.told_shown;
+    told_going = c.laws_of_queue_progress.ensures.told_going;
+    told_stands = c.laws_of_queue_progress.ensures.told_stands;
+  };
   asked = record {
     written = λ B M o listed accepted. c.laws_of_written_records.ensures.shown B M o listed accepted;
     never_stopped = c.laws_of_hart_safety.ensures.never_stopped;

@@ -1,6 +1,6 @@
 use Rattle.std.proofs.Common.{arith, ℕ, ◌≡◌, ◌+◌, ◌∷◌, [], List, length, sym, ap, subst, ◌∙◌}
 use Rattle.std.proofs.lemmas.List.{length-append}
-use Rattle.certifying.specs.Records.{AreFoundFrom, IsFound, asked_bytes}
+use Rattle.certifying.specs.Records.{AreFoundFrom, IsFound, asked_ranges}
 use Rattle.certifying.specs.declared.records.Records.{Records}
 use Rattle.certifying.proofs.AskedLaws.{found-more}
 use Rattle.certifying.proofs.records.found_in.Goals as goal
@@ -18,5 +18,5 @@ loop-index-preserved c =
           ∙ ap (λ (n : ℕ). n + 1) c.loop-index.invariant.count;
       found = subst (AreFoundFrom o listed bytes 0) (sym c.in_ok-push.ensures.items)
           (found-more o listed bytes 0 items r c.loop-index.invariant.found
-          (subst (λ (i : ℕ). IsFound o listed i (asked_bytes listed bytes i) r) at c.in_ok-found_at.ensures));
+          (subst (λ (i : ℕ). IsFound o listed i (asked_ranges listed bytes i) r) at c.in_ok-found_at.ensures));
     }

@@ -4,7 +4,7 @@ use Rattle.rand_core.specs.Stream.{Stream}
 use Rattle.drawn_runs.specs.Samples.{runs_of, schedule_in}
 use Rattle.judged_runs.specs.Telling.{IsTold}
 use Rattle.judged_runs.proofs.Better.{told_better}
-use Rattle.ownership_runs.specs.Runs.{HasKeptRun, BreaksNothing, HasBrokenRun, IsOfOneHart, AreMovesOf}
+use Rattle.ownership_runs.specs.Runs.{HasKeptRun, BreaksNothing, HasBrokenRun, IsOfOneKind, AreMovesOf}
 use Rattle.ownership_runs.proofs.Judged.{kept-run}
 use Rattle.ownership_runs.proofs.checking.check_runs.Goals as goal
 
@@ -19,9 +19,9 @@ returns g c =
     let Has = HasBrokenRun g.row.B g.row.M o q start in
     let Counts = AreMovesOf g.row.B g.row.M o q start in
     let schedule = λ (s : Stream). schedule_in (record d { stream = s }) (length o.harts) in
-    IfOk-weaker c.told_of_runs.result (λ told. IsTold Good Has IsOfOneHart Counts (schedule (g.G.Rng.stream c.in_ok-from.from)) d.number told)
-    (λ told. IsTold Keeps Has IsOfOneHart Counts (schedule d.stream) d.number told)
-    (λ told is. told_better Good Keeps Has IsOfOneHart Counts (schedule d.stream) d.number
+    IfOk-weaker c.told_of_runs.result (λ told. IsTold Good Has IsOfOneKind Counts (schedule (g.G.Rng.stream c.in_ok-from.from)) d.number told)
+    (λ told. IsTold Keeps Has IsOfOneKind Counts (schedule d.stream) d.number told)
+    (λ told is. told_better Good Keeps Has IsOfOneKind Counts (schedule d.stream) d.number
     (λ events free. kept-run g.row.B g.row.M o q start events c.requires.some_slot free) told
-    (subst (λ (s : Stream). IsTold Good Has IsOfOneHart Counts (schedule s) d.number told) {y = d.stream} c.in_ok-from.ensures is))
+    (subst (λ (s : Stream). IsTold Good Has IsOfOneKind Counts (schedule s) d.number told) {y = d.stream} c.in_ok-from.ensures is))
     c.told_of_runs.ensures

@@ -1,5 +1,6 @@
 use Rattle.std.proofs.Common.{[], ◌∷◌}
 use Rattle.ownership_runs.proofs.Decisions.{decides-entry, keeps-each, each-keeps}
+use Rattle.ownership_runs.proofs.Foreign.{is-foreign}
 use Rattle.ownership_runs.proofs.First.{kept-all, none-first, is-first}
 use Rattle.ownership_runs.proofs.laws.laws_of_violations.Goals as goal
 
@@ -17,3 +18,6 @@ returns-clause-none c = λ q counts es some keeps. none-first q some counts es k
 
 pub returns-clause-first : goal.returns-clause-first
 returns-clause-first c = λ q counts es b some found. is-first q some counts es b found
+
+pub returns-clause-foreign : goal.returns-clause-foreign
+returns-clause-foreign c = λ q counts es b some found undescribed. is-foreign q some counts es b found undescribed

@@ -1,7 +1,7 @@
 use Rattle.std.proofs.Common.{◌≡◌, get_or}
 use Rattle.std.specs.Prelude.{slice_index}
 use Rattle.memory.specs.Writes.{byte_of}
-use Rattle.owned_run.specs.Certified.{number_seen}
+use Rattle.queue_certificates.specs.OwnedRuns.{number_seen}
 use Rattle.queue_certificates.specs.States.{any}
 use Rattle.queue_certificates.specs.Steps.{all_below}
 use Rattle.queue_certificates.specs.Certificates.{is_value}

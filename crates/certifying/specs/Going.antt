@@ -1,0 +1,145 @@
+-- Whether the parties of queues go on, as lines state it.
+use Rattle.std.specs.Prelude.{ℕ, ◌+◌, ◌==◌, ◌&&◌, nat_lt, if◌then◌else◌, Bool, true, false, List, [], ◌∷◌, ◌++◌, length, codes}
+use Rattle.std.specs.Fmt.{decimal}
+use Rattle.step_machine.specs.History.{OpeningValue}
+use Rattle.slot_queue.specs.Queues.{Queue}
+use Rattle.queue_certificates.specs.Certificates.{QueueCertificate, queue_at, tagged_at}
+use Rattle.queue_certificates.specs.Steps.{all_below}
+use Rattle.queue_checker.specs.declared.flaws.Flaw.TheVariants.{State}
+use Rattle.certificate_reader.specs.Known.{known_at}
+use Rattle.queue_progress.specs.declared.pace.Pace.{Pace}
+use Rattle.queue_progress.specs.declared.pace.Progress.{Progress}
+use Rattle.queue_progress.specs.declared.pace.Progress.TheVariants.{GoesOn, NoPace, NoLook}
+use Rattle.queue_progress.specs.declared.pace.ToldProgress.{ToldProgress}
+use Rattle.queue_progress.specs.declared.pace.ToldProgress.TheVariants.{Within, Endless}
+use Rattle.queue_progress.specs.Progress.{progress_of}
+use Rattle.queue_progress.specs.Told.{told_progress_of}
+use Rattle.engine_support.specs.OpeningTexts.{numbered}
+use Rattle.certifying.specs.Unread.{pc_place}
+
+-- ---- of one party of queue i, hart h: whether it sends, and its other party
+
+unfoldable pub moves_front : (sends : Bool) → (i h : ℕ) → List ℕ
+moves_front true i h = codes "queue " ++ (decimal i ++ (codes ": hart " ++ (decimal h ++ codes " publishes, or looks and finds ")))
+moves_front false i h = codes "queue " ++ (decimal i ++ (codes ": hart " ++ (decimal h ++ codes " takes, or looks and finds ")))
+
+-- of free slots, or of records
+abbrev pub none_text : (sends : Bool) → List ℕ
+none_text true = codes "no slot free"
+none_text false = codes "no record"
+
+abbrev pub one_text : (sends : Bool) → List ℕ
+one_text true = codes "at most 1 slot free"
+one_text false = codes "at most 1 record"
+
+unfoldable pub many_text : (sends : Bool) → (n : ℕ) → List ℕ
+many_text true n = codes "at most " ++ (decimal n ++ codes " slots free")
+many_text false n = codes "at most " ++ (decimal n ++ codes " records")
+
+abbrev pub few_text : (sends : Bool) → (n : ℕ) → List ℕ
+few_text sends n = if n == 0 then none_text sends else if n == 1 then one_text sends else many_text sends n
+
+unfoldable pub within_end : (n other : ℕ) → List ℕ
+within_end n other = codes ", within " ++ (decimal n ++ (codes " of its instructions, whatever hart " ++ (decimal other ++ (codes " does" ++ 10 ∷ []))))
+
+-- of this number of its instructions in a row one does
+abbrev pub bound_of : Pace → ℕ
+bound_of pace = pace.pace + pace.sight + 2
+
+abbrev pub moves_line : (sends : Bool) → (i h other : ℕ) → Pace → List ℕ
+moves_line sends i h other pace = moves_front sends i h ++ few_text sends pace.owned ++ within_end (bound_of pace) other
+
+unfoldable pub idle_front : (sends : Bool) → (i h : ℕ) → List ℕ
+idle_front true i h = codes "queue " ++ (decimal i ++ (codes ": not shown that hart " ++ (decimal h ++ codes " publishes, or finds no slot free: ")))
+idle_front false i h = codes "queue " ++ (decimal i ++ (codes ": not shown that hart " ++ (decimal h ++ codes " takes, or finds no record: ")))
+
+unfoldable pub blind_front : (sends : Bool) → (i h : ℕ) → List ℕ
+blind_front true i h = codes "queue " ++ (decimal i ++ (codes ": not shown that hart " ++ (decimal h ++ codes " publishes, or looks for a free slot: ")))
+blind_front false i h = codes "queue " ++ (decimal i ++ (codes ": not shown that hart " ++ (decimal h ++ codes " takes, or looks for a record: ")))
+
+-- a state of a cycle without that, with what is known there
+abbrev pub cycle_end : OpeningValue → QueueCertificate → (h n : ℕ) → List ℕ
+cycle_end o c h n = pc_place o c h n ++ 10 ∷ known_at c (State h n)
+
+abbrev pub party_lines : OpeningValue → QueueCertificate → (sends : Bool) → (i h other : ℕ) → Progress → List ℕ
+party_lines o c sends i h other (GoesOn pace) = moves_line sends i h other pace
+party_lines o c sends i h other (NoPace n) = idle_front sends i h ++ cycle_end o c h n
+party_lines o c sends i h other (NoLook n) = blind_front sends i h ++ cycle_end o c h n
+
+-- ---- of both parties
+
+unfoldable pub moving_line : (i : ℕ) → List ℕ
+moving_line i = codes "queue " ++ (decimal i ++ (codes ": whenever both indices have landed and both harts run on, more is published or taken" ++ 10 ∷ []))
+
+unfoldable pub waiting_front : (i sender slots : ℕ) → List ℕ
+waiting_front i sender slots = codes "queue " ++ (decimal i ++ (codes ": hart " ++ (decimal sender ++ (codes " may wait for " ++ (decimal slots
+    ++ codes " free slots and hart ")))))
+
+unfoldable pub waiting_end : (receiver records capacity : ℕ) → List ℕ
+waiting_end receiver records capacity =
+    decimal receiver ++ (codes " for " ++ (decimal records ++ (codes " records, of " ++ (decimal capacity ++ 10 ∷ []))))
+
+abbrev pub waiting_line : (i : ℕ) → Queue → (slots records : ℕ) → List ℕ
+waiting_line i q slots records = waiting_front i q.sender slots ++ waiting_end q.receiver records q.capacity
+
+-- while they wait they own fewer positions together than it has
+abbrev pub is_moving : Queue → Progress → Progress → Bool
+is_moving q (GoesOn s) (GoesOn r) = nat_lt (s.owned + r.owned) q.capacity
+is_moving q s r = false
+
+abbrev pub both_line : (i : ℕ) → Queue → Progress → Progress → List ℕ
+both_line i q (GoesOn s) (GoesOn r) =
+    if nat_lt (s.owned + r.owned) q.capacity then moving_line i else waiting_line i q (s.owned + 1) (r.owned + 1)
+both_line i q s r = []
+
+abbrev pub progress_lines : OpeningValue → QueueCertificate → (i : ℕ) → Queue → Progress → Progress → List ℕ
+progress_lines o c i q s r = party_lines o c true i q.sender q.receiver s ++ party_lines o c false i q.receiver q.sender r ++ both_line i q s r
+
+-- ---- of a queue with indices
+
+unfoldable pub going_lines : OpeningValue → QueueCertificate → (i : ℕ) → List ℕ
+going_lines o c i = progress_lines o c i (queue_at c i) (progress_of o c (queue_at c i).sender i) (progress_of o c (queue_at c i).receiver i)
+
+unfoldable pub is_going : OpeningValue → QueueCertificate → (i : ℕ) → Bool
+is_going o c i = is_moving (queue_at c i) (progress_of o c (queue_at c i).sender i) (progress_of o c (queue_at c i).receiver i)
+
+-- ---- of a queue with tags, whose parties wait for one slot at a time
+
+abbrev pub told_lines : OpeningValue → QueueCertificate → (sends : Bool) → (i h other : ℕ) → ToldProgress → List ℕ
+told_lines o c sends i h other (Within N) = moves_front sends i h ++ none_text sends ++ within_end (N + 1) other
+told_lines o c sends i h other (Endless n) = idle_front sends i h ++ cycle_end o c h n
+
+unfoldable pub told_moving_line : (i : ℕ) → List ℕ
+told_moving_line i =
+    codes "queue " ++ (decimal i ++ (codes ": whenever no store to a tag is pending and both harts run on, more is published or taken" ++ 10 ∷ []))
+
+abbrev pub is_within : ToldProgress → Bool
+is_within (Within N) = true
+is_within (Endless n) = false
+
+abbrev pub told_both_line : (i : ℕ) → (moving : Bool) → List ℕ
+told_both_line i true = told_moving_line i
+told_both_line i false = []
+
+abbrev pub told_progress_lines : OpeningValue → QueueCertificate → (i sender receiver : ℕ) → ToldProgress → ToldProgress → List ℕ
+told_progress_lines o c i sender receiver s r = told_lines o c true i sender receiver s ++ told_lines o c false i receiver sender r
+    ++ told_both_line i (is_within s && is_within r)
+
+-- of queue t of those with tags, which are numbered on after the others
+unfoldable pub told_going_lines : OpeningValue → QueueCertificate → (t : ℕ) → List ℕ
+told_going_lines o c t = told_progress_lines o c (length c.queues + t) (tagged_at c t).sender (tagged_at c t).receiver
+    (told_progress_of o c (tagged_at c t).sender t) (told_progress_of o c (tagged_at c t).receiver t)
+
+unfoldable pub is_told_going : OpeningValue → QueueCertificate → (t : ℕ) → Bool
+is_told_going o c t = is_within (told_progress_of o c (tagged_at c t).sender t) && is_within (told_progress_of o c (tagged_at c t).receiver t)
+
+-- ---- of all queues, if it is asked
+
+abbrev pub all_going_lines : OpeningValue → QueueCertificate → (asked : Bool) → List ℕ
+all_going_lines o c true = numbered (λ i opened. going_lines o c i) 0 c.queues ++ numbered (λ t opened. told_going_lines o c t) 0 c.tagged
+all_going_lines o c false = []
+
+-- it is shown
+abbrev pub all_going : OpeningValue → QueueCertificate → (asked : Bool) → Bool
+all_going o c true = all_below (length c.queues) (is_going o c) && all_below (length c.tagged) (is_told_going o c)
+all_going o c false = true

@@ -1,2 +1,0 @@
-pub mod LamportRings
-pub mod FastForwardRings

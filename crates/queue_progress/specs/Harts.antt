@@ -1,0 +1,116 @@
+-- A hart that is a party of several queues with indices: what its instructions do for all of them together.
+use Rattle.std.specs.Prelude.{ℕ, zero, suc, ◌≡◌, ◌+◌, ◌<◌, ◌++◌, ◌&&◌, ◌||◌, not, nat_le, nat_lt, if◌then◌else◌, Bool, true, false}
+use Rattle.std.specs.Prelude.{Option, None, Some, List, [], ◌∷◌, map, length}
+use Rattle.std.specs.Option.{is_some}
+use Rattle.rv_decode.specs.declared.instruction.Instr.{Instr}
+use Rattle.step_machine.specs.declared.events.Entry.{Entry}
+use Rattle.step_machine.specs.Access.{access_of}
+use Rattle.step_machine.specs.History.{OpeningValue}
+use Rattle.queue_parties.specs.Parties.{Party, QueueCounts, count}
+use Rattle.slot_queue.specs.Queues.{Queue}
+use Rattle.slot_queue.specs.Ownership.{hart, party_of, counts_next, end}
+use Rattle.queue_certificates.specs.Forms.{Form, fits_in}
+use Rattle.queue_certificates.specs.States.{KnownState}
+use Rattle.queue_certificates.specs.Steps.{all_below, is_just, share_at, instruction_at}
+use Rattle.queue_certificates.specs.Cases.{Arrow}
+use Rattle.queue_certificates.specs.Certificates.{QueueCertificate, queue_at, part_of}
+use Rattle.queue_checker.specs.Accesses.{any_below}
+use Rattle.queue_progress.specs.declared.pace.Pace.{Pace}
+use Rattle.queue_progress.specs.Graphs.{Stay, may_own_more, looks_away, are_within}
+use Rattle.queue_progress.specs.Stays.{code_of, moves, most_owned, looks, targets}
+use Rattle.queue_progress.specs.Shown.{at_leaves}
+use Rattle.queue_progress.specs.Rows.{counts_at, LooksBy}
+
+-- ---- a leaf
+
+abbrev pub is_side : QueueCertificate → (h i : ℕ) → Bool
+is_side c h i = is_some (party_of (queue_at c i) h)
+
+-- of how many of the first n queues hart h is a party
+abbrev pub sides : QueueCertificate → (h n : ℕ) → ℕ
+sides c h zero = 0
+sides c h (suc n) = (if is_side c h n then 1 else 0) + sides c h n
+
+-- its instruction moves one of its counts on
+abbrev pub moves_some : QueueCertificate → (h : ℕ) → (code : List ℕ) → KnownState → Form → Bool
+moves_some c h code k d = any_below (length c.queues) (λ i. is_side c h i && moves c h code i k d)
+
+abbrev pub lesser : Option ℕ → Option ℕ → Option ℕ
+lesser None b = b
+lesser (Some a) None = Some a
+lesser (Some a) (Some b) = Some (if nat_le a b then a else b)
+
+-- the most positions that it may own of one of its first n queues: of the one of which that is the least
+abbrev pub fewest_owned : QueueCertificate → (h n : ℕ) → KnownState → Option ℕ
+fewest_owned c h zero k = None
+fewest_owned c h (suc n) k = lesser (if is_side c h n then most_owned n k else None) (fewest_owned c h n k)
+
+-- the least capacity of those of its first n queues
+abbrev pub least_capacity : QueueCertificate → (h n : ℕ) → Option ℕ
+least_capacity c h zero = None
+least_capacity c h (suc n) = lesser (if is_side c h n then Some (queue_at c n).capacity else None) (least_capacity c h n)
+
+-- it surely owns more than K positions of each of its queues, or of each but one
+abbrev pub surely_owns : QueueCertificate → (h K : ℕ) → (but : Option ℕ) → KnownState → Bool
+surely_owns c h K but k = all_below (length c.queues) (λ i. is_just but i || not (is_side c h i) || nat_lt K (share_at k i).owned.constant)
+
+-- it looks at a queue of which it surely owns at most K positions, or alone of all its queues may
+abbrev pub looks_at_need : QueueCertificate → (h K i : ℕ) → KnownState → Option Instr → Bool
+looks_at_need c h K i k instruction = is_side c h i && looks c h i k instruction
+    && (fits_in (most_owned i k) (Some K) || surely_owns c h K (Some i) k)
+
+-- and where it may own at most K positions of a queue, it looks at one of those
+abbrev pub looks_where_needed : QueueCertificate → (h K : ℕ) → KnownState → Option Instr → Bool
+looks_where_needed c h K k instruction = surely_owns c h K None k || any_below (length c.queues) (λ i. looks_at_need c h K i k instruction)
+
+abbrev pub hart_stays_at : QueueCertificate → (h K : ℕ) → (code : List ℕ) → KnownState → Form → List Arrow → List Stay
+hart_stays_at c h K code k d arrows = if moves_some c h code k d then [] else record {
+  owned = fewest_owned c h (length c.queues) k;
+  looks = looks_where_needed c h K k (instruction_at code k.pc);
+  to = targets arrows;
+} ∷ []
+
+abbrev pub hart_graph : OpeningValue → QueueCertificate → (h K : ℕ) → List (List Stay)
+hart_graph o c h K = map (λ t. at_leaves (hart_stays_at c h K (code_of o h)) t.known t.cases) (part_of c h).states
+
+-- At most `pace` of its instructions in a row move none of its counts while it owns more than K positions of each of its queues; and at most
+-- `sight` while it owns at most K of one, and loads the other's index of none of which it does
+abbrev pub hart_keeps_going : OpeningValue → QueueCertificate → (h : ℕ) → Pace → Bool
+hart_keeps_going o c h g = are_within (may_own_more g.owned) (hart_graph o c h g.owned) g.pace
+    && are_within looks_away (hart_graph o c h g.owned) g.sight
+
+-- ---- an entry of the hart's, by those before it
+
+abbrev pub owns_more : Queue → Option Party → (K : ℕ) → QueueCounts → Bool
+owns_more q None K d = true
+owns_more q (Some p) K d = nat_lt (count p d + K) (end q p d)
+
+-- of queue i, if it is a party of it
+abbrev pub has_more : QueueCertificate → (h K : ℕ) → List Entry → (i : ℕ) → Bool
+has_more c h K es i = owns_more (queue_at c i) (party_of (queue_at c i) h) K (counts_at c i es)
+
+abbrev pub has_more_of_all : QueueCertificate → (h K : ℕ) → List Entry → Bool
+has_more_of_all c h K es = all_below (length c.queues) (has_more c h K es)
+
+-- it leaves each of the hart's counts
+abbrev pub LeavesCounts : QueueCertificate → (h : ℕ) → List Entry → Entry → Type 0
+LeavesCounts c h es e = (i : ℕ) → i < length c.queues → (p : Party) → h ≡ hart (queue_at c i) p
+    → count p (counts_next (queue_at c i) (counts_at c i es) e) ≡ count p (counts_at c i es)
+
+-- and where it loads the other's index of a queue, the hart has more of that queue after these entries
+abbrev pub HasMoreWhereItLooks : QueueCertificate → (h K : ℕ) → (es : List Entry) → Entry → Type 0
+HasMoreWhereItLooks c h K es e = (i : ℕ) → i < length c.queues → (p : Party) → h ≡ hart (queue_at c i) p → LooksBy (queue_at c i) p (access_of e)
+    → has_more c h K es i ≡ true
+
+pub record IsHartIdle (c : QueueCertificate) (h K : ℕ) (es : List Entry) (e : Entry) : Type 0 where
+  pub stays : LeavesCounts c h es e
+  pub owns : has_more_of_all c h K es ≡ true
+
+pub record IsHartBlind (c : QueueCertificate) (h K : ℕ) (es : List Entry) (e : Entry) : Type 0 where
+  pub stays : LeavesCounts c h es e
+  pub waits : has_more_of_all c h K es ≡ false
+  pub unseen : HasMoreWhereItLooks c h K es e
+
+pub record IsHartStuck (c : QueueCertificate) (h K : ℕ) (es : List Entry) (e : Entry) : Type 0 where
+  pub stays : LeavesCounts c h es e
+  pub finds : HasMoreWhereItLooks c h K (es ++ e ∷ []) e

@@ -1,0 +1,9 @@
+pub mod Graphs
+pub mod Stays
+pub mod Shown
+pub mod Rows
+pub mod Longest
+pub mod Ranks
+pub mod Harts
+pub mod Told
+pub mod Progress

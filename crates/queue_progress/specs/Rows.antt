@@ -1,0 +1,77 @@
+-- What a run shows of a party of a queue with indices: instructions in a row that don't get it further.
+use Rattle.std.specs.Prelude.{ℕ, ◌≡◌, ◌+◌, ◌<◌, ◌++◌, if◌then◌else◌, true, Some, List, [], ◌∷◌}
+use Rattle.hart.specs.State.{HartState}
+use Rattle.hart.specs.declared.status.Status.TheVariants as status
+use Rattle.step_machine.specs.declared.events.Entry.{Entry}
+use Rattle.step_machine.specs.Access.{Access, load, exchange, access_of}
+use Rattle.step_machine.specs.Entries.{is_own}
+use Rattle.step_machine.specs.History.{OpeningValue, history_of}
+use Rattle.step_machine.specs.Legal.{WellFormed}
+use Rattle.step_machine.specs.Paths.{state_of}
+use Rattle.store_buffers.specs.StoreBuffers.{memory_number}
+use Rattle.queue_parties.specs.Parties.{Party, other, QueueCounts, count, all_at, KeepsEach}
+use Rattle.slot_queue.specs.Queues.{Queue, index_word}
+use Rattle.slot_queue.specs.Ownership.{hart, index, end, counts_next, counts_after}
+use Rattle.queue_certificates.specs.Certificates.{QueueCertificate, queue_at, start_at}
+
+-- how many instructions hart h executes
+abbrev pub executed : (h : ℕ) → List Entry → ℕ
+executed h [] = 0
+executed h (e ∷ es) = (if is_own h e then 1 else 0) + executed h es
+
+-- the access loads the other's index, whole
+abbrev pub LooksBy : Queue → Party → Access → Type 0
+LooksBy q p (load a width v) = (a ≡ index q (other p)) × (width ≡ q.index_width)
+LooksBy q p (exchange a old new) = (a ≡ index q (other p)) × (4 ≡ q.index_width)
+LooksBy q p y = ⊥
+
+-- ---- an entry of the party's, by the counts before it
+
+-- it leaves the party's count, and the party owns more than K positions
+pub record IsIdleStep (q : Queue) (p : Party) (K : ℕ) (c : QueueCounts) (e : Entry) : Type 0 where
+  pub stays : count p (counts_next q c e) ≡ count p c
+  pub owns : count p c + K < end q p c
+
+-- it leaves the party's count, and doesn't load the other's index
+pub record IsBlindStep (q : Queue) (p : Party) (c : QueueCounts) (e : Entry) : Type 0 where
+  pub stays : count p (counts_next q c e) ≡ count p c
+  pub unseen : LooksBy q p (access_of e) → ⊥
+
+-- it leaves the party's count, and where it loads the other's index, the party finds that it owns more than K positions
+pub record IsStuckStep (q : Queue) (p : Party) (K : ℕ) (c : QueueCounts) (e : Entry) : Type 0 where
+  pub stays : count p (counts_next q c e) ≡ count p c
+  pub finds : LooksBy q p (access_of e) → count p c + K < end q p (counts_next q c e)
+
+-- ---- entries
+
+-- each of the party's own is so
+abbrev pub EachOwn : Queue → Party → (QueueCounts → Entry → Type 0) → QueueCounts → List Entry → Type 0
+EachOwn q p Is c es = KeepsEach (counts_next q) (λ d e. is_own (hart q p) e ≡ true → Is d e) c es
+
+-- each entry of hart h's own is so, by those before it
+abbrev pub EachAfter : (h : ℕ) → (List Entry → Entry → Type 0) → List Entry → List Entry → Type 0
+EachAfter h Is done [] = Unit {0}
+EachAfter h Is done (e ∷ es) = (is_own h e ≡ true → Is done e) × EachAfter h Is (done ++ e ∷ []) es
+
+-- of queue i, after these entries
+abbrev pub counts_at : QueueCertificate → (i : ℕ) → List Entry → QueueCounts
+counts_at c i es = counts_after (queue_at c i) (all_at (start_at c i)) es
+
+-- how many positions were published, and how many taken, together
+abbrev pub all_moved : QueueCounts → ℕ
+all_moved c = c.published + c.taken
+
+-- in memory both indices stand for the counts, as where no store to either is pending
+abbrev pub HaveLanded : Queue → OpeningValue → List Entry → QueueCounts → Type 0
+HaveLanded q o es c = (p : Party) → memory_number o es (index q p) q.index_width ≡ index_word q (count p c)
+
+-- the hart is there and runs, in every run
+abbrev pub Lasts : (B M : ℕ) → OpeningValue → (h : ℕ) → Type 0
+Lasts B M o h = (es : List Entry) → WellFormed B M (history_of o es) → (s : HartState) × (state_of M (history_of o es) h ≡ Some s)
+    × (s.status ≡ status.Running)
+
+-- after these entries of a run others may follow, and in the end one position more of queue i was published or taken
+pub record Arrives (B M : ℕ) (o : OpeningValue) (c : QueueCertificate) (i : ℕ) (es : List Entry) : Type 0 where
+  pub later : List Entry
+  pub run : WellFormed B M (history_of o (es ++ later))
+  pub more : all_moved (counts_at c i es) < all_moved (counts_at c i (es ++ later))

@@ -1,6 +1,0 @@
-use Rattle.std.proofs.Common.{◌≡◌}
-use Rattle.record_bytes.specs.Naming.{names_byte, offsets_below}
-use Rattle.record_bytes.proofs.naming.offsets_in.Given as goal
-
-abbrev pub invariant-loop-offset : goal.invariant-loop-offset
-invariant-loop-offset l = l.offsets.items ≡ offsets_below (names_byte l.text) l.offset

@@ -1,0 +1,76 @@
+-- There is at most one answer: all is sure, or one byte is the first that isn't.
+use Rattle.std.proofs.Common.{ℕ, ◌≡◌, ◌<◌, ◌⊎◌, arith, inl, inr, Bool, true, false, List, [], length, get_or, refl, subst, sym, ◌∙◌}
+use Rattle.std.proofs.lemmas.Bool.{cases_lt}
+use Rattle.std.proofs.lemmas.List.{get_or_past}
+use Rattle.records_written.specs.SenderLeaves.{SenderLeaf, may_publish}
+use Rattle.records_written.specs.Sure.{IsSurelyWritten, IsSure, IsFirstUnsure}
+
+module _ (graph : List (List SenderLeaf)) (first : ℕ) (mask : ℕ → Bool) where
+  pub not-both : (n b : ℕ) → IsSure graph first mask → IsFirstUnsure graph first mask n b → ⊥
+  not-both n b all u = u.unsure (all n u.position u.published b u.asked)
+
+  state-not-before : (n b m a : ℕ) → IsFirstUnsure graph first mask n b → IsFirstUnsure graph first mask m a → n < m → ⊥
+  state-not-before n b m a u v less = u.unsure (v.states n less u.position u.published b u.asked)
+
+  pub same-state : (n b m a : ℕ) → IsFirstUnsure graph first mask n b → IsFirstUnsure graph first mask m a → n ≡ m
+  same-state n b m a u v = elim (cases_lt n m) [
+    | inl less ↦ absurd (state-not-before n b m a u v less)
+    | inr over ↦ (elim (cases_lt m n) [
+      | inl less ↦ absurd (state-not-before m a n b v u less)
+      | inr under ↦ omega (arith, over, under)
+    ])
+  ]
+
+  position-not-before : (n b a : ℕ) (u : IsFirstUnsure graph first mask n b) (v : IsFirstUnsure graph first mask n a) → u.position < v.position → ⊥
+  position-not-before n b a u v less = u.unsure (v.positions u.position less b u.asked)
+
+  same-position : (n b a : ℕ) (u : IsFirstUnsure graph first mask n b) (v : IsFirstUnsure graph first mask n a) → u.position ≡ v.position
+  same-position n b a u v = elim (cases_lt u.position v.position) [
+    | inl less ↦ absurd (position-not-before n b a u v less)
+    | inr over ↦ (elim (cases_lt v.position u.position) [
+      | inl less ↦ absurd (position-not-before n a b v u less)
+      | inr under ↦ omega (arith, over, under)
+    ])
+  ]
+
+  byte-not-before : (n b a : ℕ) → IsFirstUnsure graph first mask n b → IsFirstUnsure graph first mask n a → b < a → ⊥
+  byte-not-before n b a u v less = u.unsure (subst (λ (d : ℕ). IsSurelyWritten graph first n d b) (sym (same-position n b a u v))
+      (v.bytes b less u.asked))
+
+  same-byte-at : (n b a : ℕ) → IsFirstUnsure graph first mask n b → IsFirstUnsure graph first mask n a → b ≡ a
+  same-byte-at n b a u v = elim (cases_lt b a) [
+    | inl less ↦ absurd (byte-not-before n b a u v less)
+    | inr over ↦ (elim (cases_lt a b) [
+      | inl less ↦ absurd (byte-not-before n a b v u less)
+      | inr under ↦ omega (arith, over, under)
+    ])
+  ]
+
+  -- the first is at a state that is there
+  pub listed : (n b : ℕ) → IsFirstUnsure graph first mask n b → n < length graph
+  listed n b u = elim (cases_lt n (length graph)) [
+    | inl less ↦ less
+    | inr past ↦ absurd (let none : may_publish (get_or graph n []) u.position ≡ false = rw (get_or_past graph n [] past) refl in
+        let some : may_publish (get_or graph n []) u.position ≡ true = u.published in
+        cc)
+  ]
+
+  pub same-byte : (n b m a : ℕ) → IsFirstUnsure graph first mask n b → IsFirstUnsure graph first mask m a → b ≡ a
+  same-byte n b m a u v = same-byte-at m b a (subst (λ (k : ℕ). IsFirstUnsure graph first mask k b) (same-state n b m a u v) u) v
+
+-- ---- of another test with the same bytes
+
+module _ (graph : List (List SenderLeaf)) (first : ℕ) (f g : ℕ → Bool) (same : (b : ℕ) → f b ≡ g b) where
+  pub sure-same : IsSure graph first f → IsSure graph first g
+  sure-same all = λ n d published b asked. all n d published b (same b ∙ asked)
+
+  pub first-same : (n b : ℕ) → IsFirstUnsure graph first f n b → IsFirstUnsure graph first g n b
+  first-same n b u = record {
+    position = u.position;
+    published = u.published;
+    asked = sym (same b) ∙ u.asked;
+    unsure = u.unsure;
+    bytes = λ a less asked. u.bytes a less (same a ∙ asked);
+    positions = λ d less a asked. u.positions d less a (same a ∙ asked);
+    states = λ m less d published a asked. u.states m less d published a (same a ∙ asked);
+  }

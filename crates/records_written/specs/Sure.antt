@@ -1,0 +1,41 @@
+-- Which bytes a queue's sender has surely written at each of its states: those of the greatest marks that its leaves keep.
+use Rattle.std.specs.Prelude.{ℕ, ◌≡◌, ◌<◌, ◌||◌, not, Bool, true, false, List, [], length, get_or}
+use Rattle.std.specs.List.{list_all}
+use Rattle.records_written.specs.SenderLeaves.{SenderLeaf, written_after, may_publish}
+
+-- Marks: in state n, byte b of the slot of the position d further than the sender's count is written
+abbrev pub Marks : Type 0
+Marks = (n d b : ℕ) → Bool
+
+-- a leaf of state n leads only to states where no more is marked than is written after it
+abbrev pub keeps : Marks → (n d b : ℕ) → SenderLeaf → Bool
+keeps f n d b s = list_all (λ to. not (f to d b) || written_after s.effect (f n) d b) s.targets
+
+-- nothing is marked where the sender opens, and each leaf keeps the marks
+pub record AreKept (graph : List (List SenderLeaf)) (first : ℕ) (f : Marks) : Type 0 where
+  pub opens : (d b : ℕ) → f first d b ≡ false
+  pub leads : (n d b : ℕ) → list_all (keeps f n d b) (get_or graph n []) ≡ true
+
+-- The greatest such marks are all of them together: what any of them mark is surely written
+pub record IsSurelyWritten (graph : List (List SenderLeaf)) (first : ℕ) (n d b : ℕ) : Type 0 where
+  pub marks : Marks
+  pub kept : AreKept graph first marks
+  pub marked : marks n d b ≡ true
+
+module _ (graph : List (List SenderLeaf)) (first : ℕ) (mask : ℕ → Bool) where
+  -- each byte of the mask is, of each position that state n may publish
+  abbrev pub IsSureAt : (n : ℕ) → Type 0
+  IsSureAt n = (d : ℕ) → may_publish (get_or graph n []) d ≡ true → (b : ℕ) → mask b ≡ true → IsSurelyWritten graph first n d b
+
+  abbrev pub IsSure : Type 0
+  IsSure = (n : ℕ) → IsSureAt n
+
+  -- byte b at state n is the first that isn't: of states, then of positions, then of bytes
+  pub record IsFirstUnsure (n b : ℕ) : Type 0 where
+    pub position : ℕ
+    pub published : may_publish (get_or graph n []) position ≡ true
+    pub asked : mask b ≡ true
+    pub unsure : IsSurelyWritten graph first n position b → ⊥
+    pub bytes : (a : ℕ) → a < b → mask a ≡ true → IsSurelyWritten graph first n position a
+    pub positions : (d : ℕ) → d < position → (a : ℕ) → mask a ≡ true → IsSurelyWritten graph first n d a
+    pub states : (m : ℕ) → m < n → IsSureAt m

@@ -1,0 +1,16 @@
+use Rattle.litmus.specs.LitmusTests.{LitmusTest}
+use Rattle.engine_support.specs.Tests.{tests}
+use Rattle.engine_support.specs.inner.Making.{text_and_value}
+use Rattle.engine_support.proofs.InputLaws.{made_after, read_after, refused_after}
+use Rattle.run_engines.specs.Threads.{IsThreadsGiven}
+use Rattle.run_engines.proofs.threads.made.Goals as goal
+
+pub returns : goal.returns
+returns g c =
+    read_after tests _ _ text_and_value c.answer.result c.in_ok-test.test c.in_ok-test.ensures.test
+    (made_after (IsThreadsGiven g.row.B g.row.M c.args.turns c.in_ok-test.test) text_and_value c.answer.result c.answer.ensures)
+
+pub returns-in_err-test : goal.returns-in_err-test
+returns-in_err-test g c =
+    refused_after tests _ _ (λ (q : LitmusTest). q) text_and_value c.from_residual.result c.in_err-test.field-0.0
+    c.from_residual.ensures.1 c.in_err-test.ensures.test

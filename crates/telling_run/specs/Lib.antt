@@ -1,3 +1,0 @@
-pub mod Certified
-pub mod Arrived
-pub mod Certificates
