@@ -5,11 +5,11 @@ from pathlib import Path
 
 ROOT = Path(__file__).resolve().parent.parent.parent
 FOLDERS = ("docs", "examples", "litmus", "crates", "tools", "tests", "scripts", "bench", "cases")
-PARTS = ("src", "specs", "proofs", "must-fail", "mutants")
+PARTS = ("src", "specs", "proofs", "must-fail", "mutants.edits")
 LINK = re.compile(r"\[[^\]\n]*\]\((?P<target>[^)\s]+)\)")
 PATH = re.compile(r"(?<![\w./:<*~-])(?:[\w.+-]+/)+[\w.+-]*[\w+]")
 # A word that stands for a name, and what only a build makes.
-OPEN = re.compile(r"NAME|WHAT_IT_DOES|OUTCOME|(^|/)out(/|$)")
+OPEN = re.compile(r"NAME|OUTCOME|(^|/)out(/|$)")
 
 
 def pages():

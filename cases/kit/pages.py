@@ -10,7 +10,7 @@ import re
 
 from . import form
 
-PAGES = [form.ROOT / "docs/errors.md"]
+PAGES = [form.ROOT / "docs/errors.md", form.ROOT / "docs/errors-of-queues.md"]
 STATUS = {"all": 1, "cut": 5, "refused": 2, "bad": 2, "read": 3, "write": 3, "no memory": 4, "no record": 1}
 
 
@@ -68,12 +68,12 @@ def numbers(source):
 
 
 def missing():
-    """A line for each number of the crates' faults and stops that has no section in docs/errors.md."""
-    page = PAGES[0].read_text()
+    """A line for each number of the crates' faults and stops that has no section in docs/errors.md or errors-of-queues.md."""
+    text = "".join(page.read_text() for page in PAGES)
     for path in sorted(form.ROOT.glob("crates/*/src/*.rt")):
         if path.stem in ("fault", "faults", "status"):
             for name, number in numbers(path.read_text()):
-                if f"\n### {number} {name}\n" not in page:
+                if f"\n### {number} {name}\n" not in text:
                     yield f"docs/errors.md: no section `{number} {name}` ({path.relative_to(form.ROOT)})"
 
 

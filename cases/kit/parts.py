@@ -9,6 +9,7 @@ ROOT = Path(__file__).resolve().parent.parent.parent
 sys.path.append(str(ROOT / "tools/reference"))
 
 from ring_kinds import RINGS  # noqa: E402
+from sections import sections  # noqa: E402
 
 CRATE = {name: ring.crate for name, ring in RINGS.items()}
 ROLES = ("sender", "receiver")
@@ -39,9 +40,13 @@ def programs():
 def listed(page, heading):
     """The listings below a heading: the lines of each and their remarks, by their offsets."""
     section = page.split(f"{heading}\n")[1].split("\n## ")[0]
-    found = [re.findall(r"^\| ([0-9A-F]{2}) \| `([^`]*)` \|(.*)\|", part, re.MULTILINE)
-             for part in section.split("\n\n")]
-    return [{at: (line, remark.strip()) for at, line, remark in lines} for lines in found if lines]
+    return [{line[:2]: remarked(line[2:]) for line in block.split("```")[0].splitlines()} for block in section.split("```asm\n")[1:]]
+
+
+def remarked(line):
+    """A line of a listing, with one blank between its words, and the remark beside it."""
+    line, _, remark = line.partition("#")
+    return " ".join(line.split()), remark.strip()
 
 
 def heading(kind):
@@ -55,8 +60,9 @@ def listing(page, kind, role):
 
 
 def function(page, name):
-    """The listing of one of the queue's functions."""
-    return listed(page, f"### {name}")[0]
+    """The listing of one of the queue's functions: its lines and their remarks."""
+    block = page.split(f"### {name}\n")[1].split("```asm\n")[1].split("```")[0]
+    return [remarked(line) for line in block.splitlines()]
 
 
 def program(assembly, name):
@@ -77,19 +83,34 @@ def table(source, name):
     return [int(word, 16) for word in words]
 
 
+def crate_of(kind):
+    """The folder of a ring's crate."""
+    return ROOT / "crates" / CRATE[kind]
+
+
 def source_of(kind):
     """The file with a ring's tables."""
-    return ROOT / "crates" / CRATE[kind] / "src/lib.rt"
+    return crate_of(kind) / "src/lib.rt"
 
 
-def edited(source, edit):
-    """A ring's source, which is its file src/lib.rt, after the edits that a mutant makes in it."""
-    for part in re.split("^file: ", Path(edit).read_text(), flags=re.MULTILINE):
-        name, _, changes = part.partition("\n")
-        for old, new in re.findall("^old: (.*)\nnew: (.*)$", changes, re.MULTILINE) if name == "src/lib.rt" else ():
-            if old not in source:
-                raise NoSuchPart(f"{edit} is of another ring")
-            source = source.replace(old, new)
+def mutants(crate):
+    """The mutants of a ring's crate that edit its tables, each as pairs of what stands there and what comes in its place."""
+    found = {}
+    for mutant, edits in sections((crate / "mutants.edits").read_text()):
+        parts = (part.partition("\n") for part in re.split("^file: ", edits, flags=re.MULTILINE)[1:])
+        changes = "".join(text for name, _, text in parts if name == "src/lib.rt")
+        if pairs := re.findall("^old: (.*)\nnew: (.*)$", changes, re.MULTILINE):
+            found[mutant] = pairs
+    return found
+
+
+def edited(crate, name):
+    """A ring's source, which is its crate's file src/lib.rt, after the edits of a mutant."""
+    known, source = mutants(crate), (crate / "src/lib.rt").read_text()
+    if name not in known:
+        raise NoSuchPart(f"no mutant {name} edits the ring's tables, but {', '.join(known)}")
+    for old, new in known[name]:
+        source = source.replace(old, new)
     return source
 
 
@@ -102,13 +123,12 @@ def content(name):
     text = read.decode()
     try:
         if path.endswith(".md"):
-            found = function(text, part) if part in FUNCTIONS else listing(text, *part.split("-"))
-            lines = [line for line, _ in found.values()]
+            lines = [line for line, _ in (function(text, part) if part in FUNCTIONS else listing(text, *part.split("-")).values())]
         elif path.endswith(".S"):
             lines = program(text, part)
-        elif path.endswith(".edit"):
-            source = ROOT / Path(path).parent.parent / "src/lib.rt"
-            lines = [f"{word:08x}" for word in table(edited(source.read_text(), ROOT / path), part)]
+        elif path.endswith(".edits"):
+            mutant, _, name = part.partition("-")
+            lines = [f"{word:08x}" for word in table(edited((ROOT / path).parent, mutant), name)]
         else:
             lines = [f"{word:08x}" for word in table(text, part)]
     except (KeyError, IndexError, TypeError) as error:

@@ -29,7 +29,7 @@ def renewed(case, folder):
     if why := why_not(case):
         raise running.Wrong(why)
     came = running.run(REFERENCE, case, folder)
-    if came[0] not in range(10) or b"Traceback" in came[1]:
+    if came[0] not in range(12) or b"Traceback" in came[1]:
         raise running.Wrong(f"tools/reference/ztso fails: {came[1][-200:].decode(errors='replace')}")
     lines = differing.difference(case.answer(), came)
     if not lines:

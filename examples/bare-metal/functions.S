@@ -32,7 +32,7 @@ lamport_try_send:
     .globl lamport_try_receive
     .type lamport_try_receive, @function
 lamport_try_receive:
-    lw x5,64(x10)                             # its own tail, maybe of its own pending store
+    lw x5,64(x10)                             # its own tail, likewise
     lw x6,0(x10)                              # the head
     beq x5,x6,.Llamport_try_receive_empty     # nothing is there
     add x7,x10,x5
@@ -54,11 +54,11 @@ lamport_try_receive:
     .globl cached_try_send
     .type cached_try_send, @function
 cached_try_send:
-    lw x5,0(x10)                              # its own head, maybe of its own pending store
-    lw x6,4(x10)                              # its copy of the tail, likewise
-    addi x7,x5,4                              # the head after this word: one slot on,
-    bne x7,x12,.Lcached_try_send_test         # and if that is past the last slot
-    addi x7,x0,0                              # the first one
+    lw x5,0(x10)                              # its own head
+    lw x6,4(x10)                              # its copy of the tail
+    addi x7,x5,4                              # the next head
+    bne x7,x12,.Lcached_try_send_test
+    addi x7,x0,0
 .Lcached_try_send_test:
     beq x6,x7,.Lcached_try_send_look          # by the copy the head would meet the tail
 .Lcached_try_send_store:
@@ -82,13 +82,13 @@ cached_try_send:
     .globl fastforward_try_send
     .type fastforward_try_send, @function
 fastforward_try_send:
-    lw x5,0(x10)                              # its own head, maybe of its own pending store
+    lw x5,0(x10)                              # its own head
     add x7,x10,x5
     lw x6,128(x7)                             # the slot there
     bne x6,x0,.Lfastforward_try_send_full     # a word is in it still
-    addi x5,x5,4                              # the head after this word: one slot on,
-    bne x5,x12,.Lfastforward_try_send_keep    # and if that is past the last slot
-    addi x5,x0,0                              # the first one
+    addi x5,x5,4                              # the next head
+    bne x5,x12,.Lfastforward_try_send_keep
+    addi x5,x0,0
 .Lfastforward_try_send_keep:
     sw x11,128(x7)                            # the word into its slot,
     sw x5,0(x10)                              # then the head
@@ -104,7 +104,7 @@ fastforward_try_send:
     .globl fastforward_try_receive
     .type fastforward_try_receive, @function
 fastforward_try_receive:
-    lw x5,64(x10)                             # its own tail, maybe of its own pending store
+    lw x5,64(x10)                             # its own tail
     add x7,x10,x5
     lw x11,128(x7)                            # the word of the slot there
     beq x11,x0,.Lfastforward_try_receive_empty # nothing is there

@@ -83,7 +83,7 @@ lamport_receiver:
     .type fastforward_sender, @function
 fastforward_sender:
 .Lfastforward_sender_next:
-    addi x17,x0,1                             # ask for the next word of the list:
+    addi x17,x0,1                             # ask for the next word:
     ecall                                     # x10 is the word and x11 is 1, or x11 is 0
     beq x11,x0,.Lfastforward_sender_done      # no word is left
     add x28,x8,x5
@@ -153,12 +153,12 @@ fastforward_receiver:
     .type cached_sender, @function
 cached_sender:
 .Lcached_sender_next:
-    addi x17,x0,1                             # ask for the next word of the list:
+    addi x17,x0,1                             # ask for the next word:
     ecall                                     # x10 is the word and x11 is 1, or x11 is 0
     beq x11,x0,.Lcached_sender_done           # no word is left
-    addi x6,x5,4                              # the head after this word: one slot on,
-    bne x6,x9,.Lcached_sender_test            # and where that is past the last slot
-    addi x6,x0,0                              # the first one
+    addi x6,x5,4                              # the next head
+    bne x6,x9,.Lcached_sender_test
+    addi x6,x0,0
 .Lcached_sender_test:
     bne x7,x6,.Lcached_sender_store           # by the tail that it read last the slot is free
 .Lcached_sender_again:

@@ -1,6 +1,6 @@
 /* Hart 0 fills buffers and hands each over by its index, hart 1 reads them, without an end: for `make queue`.
    queue: head=q_head,tail=q_tail,slots=q_slots,size=3,index=wrapping,scale=4
-   answer: kept in every run */
+   answer: kept in every run, and goes on while its harts run */
 #include "queue.h"
 
 /* one more than slots, so that a buffer is read before it is filled anew; a power of 2, for `%` */

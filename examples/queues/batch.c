@@ -1,6 +1,6 @@
 /* Three records published by one store, and a receiver that takes all that wait.
    queue: head=q.sent,tail=q.taken,slots=q.word,size=8
-   answer: kept in every run */
+   answer: kept in every run, and goes on while its harts run */
 #include <stdatomic.h>
 
 #define SLOTS 8

@@ -1,6 +1,6 @@
 /* Sends addresses of buffers of a pool: the receiver writes into what it received, and so into the pool alone.
    queue: head=q.head,tail=q.tail,slots=q.at,size=4
-   answer: kept in every run */
+   answer: kept in every run, and goes on while its harts run */
 #include <stdatomic.h>
 
 #define SLOTS 4

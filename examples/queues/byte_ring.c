@@ -1,6 +1,6 @@
 /* A ring of bytes: width=1 says that a slot is one byte.
    queue: head=q.in,tail=q.out,slots=q.data,size=16,width=1
-   answer: kept in every run */
+   answer: kept in every run, and goes on while its harts run */
 #include <stdatomic.h>
 #include <stdint.h>
 

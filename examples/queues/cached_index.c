@@ -1,6 +1,6 @@
 /* Each party keeps a copy of the other's index, and looks again only where the copy says full or empty.
    queue: head=q.sent,tail=q.taken,slots=q.word,size=8
-   answer: kept in every run */
+   answer: kept in every run, and goes on while its harts run */
 #include <stdatomic.h>
 
 #define SLOTS 8

@@ -1,6 +1,6 @@
 /* FastForward: a slot is free if it holds 0, so 0 is no record, and the harts share no index.
    tagged: slots=q,size=8
-   answer: kept in every run */
+   answer: kept in every run, and goes on while its harts run */
 #include <stdatomic.h>
 
 #define SLOTS 8

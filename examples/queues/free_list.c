@@ -1,7 +1,7 @@
 /* Numbers of buffers, which go there full and come back free. Both queues open empty: hart 1 first sends all buffers to the free list.
    queue: head=full.sent,tail=full.taken,slots=full.word,size=2
    queue: head=free.sent,tail=free.taken,slots=free.word,size=2,sender=1,receiver=0
-   answer: kept in every run */
+   answer: kept in every run, but not shown to go on */
 #include <stdatomic.h>
 
 #define SLOTS 2

@@ -1,6 +1,6 @@
 /* Indices that are addresses of slots: base is where the slots lie, as `ztso show` says, and scale the bytes from one to the next.
    queue: head=put,tail=get,slots=ring,size=6,index=wrapping,scale=4,base=ring
-   answer: kept in every run */
+   answer: kept in every run, and goes on while its harts run */
 #include <stdatomic.h>
 
 #define SLOTS 6

@@ -1,6 +1,6 @@
 /* Records of 12 bytes, filled where they lie: the slots have the name of their first field.
    queue: head=q.sent,tail=q.taken,slots=q.record,size=4,width=12
-   answer: kept in every run */
+   answer: kept in every run, and goes on while its harts run */
 #include <stdatomic.h>
 
 #define SLOTS 4

@@ -1,6 +1,6 @@
 /* Counts that run on in a word: a power of 2 for the slots, and all of them in use.
    queue: head=q.sent,tail=q.taken,slots=q.word,size=8
-   answer: kept in every run */
+   answer: kept in every run, and goes on while its harts run */
 #include <stdatomic.h>
 
 #define SLOTS 8

@@ -1,6 +1,6 @@
 /* Vyukov's bounded queue as he publishes it, with one sender and one receiver: a free cell has its position's number, a full one 1 more.
    tagged: slots=buffer,size=4,width=8,tells=number
-   answer: kept in every run */
+   answer: kept in every run, and goes on while its harts run */
 #include <stdatomic.h>
 
 #define CELLS 4

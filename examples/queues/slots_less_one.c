@@ -1,6 +1,6 @@
 /* Numbers of slots, any number of them; one slot stays free, to tell full from empty.
    queue: head=put,tail=get,slots=ring,size=6,index=wrapping
-   answer: kept in every run */
+   answer: kept in every run, and goes on while its harts run */
 #include <stdatomic.h>
 
 #define SLOTS 6

@@ -1,6 +1,6 @@
 /* Numbers modulo twice the slots: any number of slots, and all of them in use.
    queue: head=q.put,tail=q.get,slots=q.word,size=5,index=wrapping,modulus=10
-   answer: kept in every run */
+   answer: kept in every run, and goes on while its harts run */
 #include <stdatomic.h>
 
 #define SLOTS 5

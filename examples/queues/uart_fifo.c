@@ -1,6 +1,6 @@
 /* A UART's FIFO of received bytes: numbers of slots in a byte each. The data begin in the word of the indices, so they are named by it.
    queue: head=rx_head,tail=rx_head+1,slots=rx_head+2,size=16,width=1,bytes=1,index=wrapping
-   answer: kept in every run */
+   answer: kept in every run, and goes on while its harts run */
 #include <stdatomic.h>
 #include <stdint.h>
 

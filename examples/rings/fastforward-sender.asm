@@ -1,5 +1,5 @@
 # The sender of docs/channels.md's ring fastforward. scripts/make-ring-assembly makes this file.
-next:  addi x17,x0,1       # ask for the next word of the list:
+next:  addi x17,x0,1       # ask for the next word:
        ecall               # x10 is the word and x11 is 1, or x11 is 0
        beq x11,x0,done     # no word is left
        add x28,x8,x5

@@ -3,7 +3,7 @@
 import re
 
 from . import proofs
-from .pieces import Refused, code_after, end_of_code, piece_at
+from .pieces import Piece, Refused, code_after, end_of_code, piece_at
 
 # In scope in every module, as the kit's own names are.
 PRELUDE = "use std::{assert, assert_eq, panic, prelude::*};"
@@ -20,6 +20,12 @@ WRITES_OF_CORE = "fn fmt(&self, f: &mut fmt::Formatter<'_>)"
 MAIN = re.compile(r"^fn main\(rt: HostRuntime\)", re.MULTILINE)
 # The status and the words of a program that finds no memory, as crates/ztso/src/failure.rt has them.
 START = 'std::program!(main, 4, "ztso: no memory\\n");\n'
+# The next piece that may be written otherwise, or one that could hide such a one: a comment or a literal.
+NEXT = re.compile(
+    rf"""(?P<kept>//[^\n]*|(?<!\w)b?r(?P<hashes>\#*)".*?"(?P=hashes)|"(?:\\.|[^"\\])*"|'(?:\\(?:x..|u\{{[^}}]*\}}|.)|[^\\'])')
+    |\#!?\[|\b(?:{"|".join((*proofs.CLAUSES, *RENAMED, "ghost", "impl", "mod", "fn"))})\b""",
+    re.VERBOSE | re.DOTALL,
+)
 
 
 class Reading:
@@ -44,12 +50,27 @@ class Reading:
 
     def unwrite(self, word):
         """Takes back a word that was written last, with the blanks after it."""
-        places = [place for place, text in enumerate(self.written) if text.strip()][-1:]
-        if places and self.written[places[0]] == word:
-            self.written[places[0]] = ""
+        place = len(self.written) - 1
+        while place >= 0 and not self.written[place].strip():
+            place -= 1
+        if place >= 0:
+            self.written[place] = re.sub(rf"\b{word}(?=\s*\Z)", "", self.written[place])
+
+    def keep_plain(self):
+        """Writes what stands before the next piece that may be written otherwise."""
+        found = NEXT.search(self.text, self.at)
+        while found and found["kept"]:
+            found = NEXT.search(self.text, found.end())
+        end = found.start() if found else len(self.text)
+        if end > self.at:
+            self.keep(Piece("plain", self.text[self.at : end], self.at))
 
     def translated(self):
         while self.at < len(self.text):
+            if self.has_prelude:
+                self.keep_plain()
+                if self.at == len(self.text):
+                    break
             piece = piece_at(self.text, self.at)
             begins = piece.kind not in ("blank", "comment") or piece.text.startswith("///")
             if begins and not self.has_prelude and not self.text.startswith("#!", self.at):
@@ -119,7 +140,7 @@ class Reading:
 
     def name_of(self, piece):
         """The word, or the name of the stand-in's method where it is a call of a method with an allocator or a handle."""
-        if piece.text not in RENAMED or not self.written or self.written[-1] != ".":
+        if piece.text not in RENAMED or not self.text.endswith(".", 0, piece.at):
             return piece.text
         if not self.text.startswith("(", piece.end):
             return piece.text

@@ -19,6 +19,13 @@ codegen-units = 16
 lto = "off"
 incremental = true
 
+[profile.unoptimized]
+inherits = "release"
+opt-level = 0
+codegen-units = 4
+incremental = false
+strip = "none"
+
 [profile.checked]
 inherits = "release"
 overflow-checks = true

@@ -1,4 +1,4 @@
-"""Objects that compilers make: the forms of object_forms/, C as objects of one's own, by flags of strangers, and each compressed
+"""Objects that compilers make: the forms of object_forms.texts, C as objects of one's own, by flags of strangers, and each compressed
 instruction."""
 
 import re
@@ -12,8 +12,10 @@ from bring_parts.making import Way
 from bring_parts.mappings import joined
 from bring_parts.objects import tool
 from bring_trials import forms
+from bring_trials.counting import write, write_all
 
-FORMS = Path(__file__).resolve().parent / "object_forms"
+FORMS = Path(__file__).resolve().parent / "object_forms.texts"
+ANSWERS = FORMS.with_suffix(".tsv")
 C = ROOT / "examples/c"
 # how strangers compile, after the flags that all have
 COMMON = "-O2 -ffreestanding -march=rv32ia -mabi=ilp32 -g -c".split()
@@ -37,17 +39,40 @@ def answer(files, way, states=forms.STATES):
 
 def part(count, rust):
     """The forms have the answers of their table. `rust` are the ways of compiling Rust that there are."""
-    rows = [line.split("\t") for line in (FORMS / "answers.tsv").read_text().splitlines()[1:]]
-    files = sorted(path for path in FORMS.iterdir() if path.suffix != ".tsv")
-    count.told("answers.tsv has each form", sorted({name for name, _, _ in rows}) == [path.name for path in files], "")
-    ways, left = {**{name: Way(name) for name in TARGETS}, **rust}, 0
-    for name, by, wanted in rows:
-        if by not in ways:
-            left += 1
-            continue
-        came = answer([FORMS / name], ways[by])
-        count.told(f"{name} by {by}", came == wanted, f"{came}, and {wanted} is wanted")
-    print(f"  {len(rows) - left} forms tried" + f", {left} left out, since --rust names no compiler for them" * bool(left))
+    rows = [line.split("\t") for line in ANSWERS.read_text().splitlines()[1:]]
+    ways = {**{name: Way(name) for name in TARGETS}, **rust}
+    tried = [row for row in rows if row[1] in ways]
+    left = len(rows) - len(tried)
+    with tempfile.TemporaryDirectory() as folder:
+        files = {path.name: path for path in write_all(folder, FORMS)}
+        count.told(f"{ANSWERS.name} has each form", {name for name, _, _ in rows} == files.keys(), "")
+        for name, by, wanted in tried:
+            came = answer([files[name]], ways[by])
+            count.told(f"{name} by {by}", came == wanted, f"{came}, and {wanted} is wanted")
+    print(f"  {len(tried)} forms tried" + f", {left} left out, since --rust names no compiler for them" * bool(left))
+
+
+# a header beside which a `string.h` lies that isn't the one it includes, and a file that includes the header
+HEADERS = {"lib/ring.h": "#include <string.h>\nextern struct { int words[4]; } ring, other;\n\n"
+                         "static __attribute__((noinline)) void put(int n) {\n  ring.words[0] = n;\n  ring.words[1] = n;\n}\n",
+           "lib/string.h": "struct text { char *begin; };\n",
+           "own.c": '#include "lib/ring.h"\n// 2\n// 3\n// 4\n// 5\n__typeof__(ring) ring, other;\nvoid P0(void) { put(5); }\n'
+                    "void P1(void) { memcpy(&other, &ring, sizeof ring); }\n// exists (ring.words[0]=5)\n"}
+
+
+def of_headers(count):
+    """A header's function has the header's lines, and what it includes is the C library's."""
+    for compiler in TARGETS:
+        with tempfile.TemporaryDirectory() as folder:
+            Path(folder, "lib").mkdir()
+            for name, text in HEADERS.items():
+                write(folder, name, text)
+            try:
+                made = making.made([str(Path(folder, "own.c"))], Way(compiler, lines=True))
+            except Refused as refused:
+                made = "\n".join([str(refused), *refused.before])
+        rows = [line for line in made.splitlines() if "# ring.h:5: ring.words[0] = n" in line or "# ring.h:6: ring.words[1] = n" in line]
+        count.told(f"a header's function by {compiler}", len(rows) == 2 and "# 7: void P0(void)" in made and "// " not in made, made)
 
 
 def compiled(file, compiler, flags, folder):

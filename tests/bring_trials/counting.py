@@ -7,6 +7,8 @@ from pathlib import Path
 
 from bring_parts import TOOLS
 
+from sections import sections
+
 # a tool that takes so long hangs; on a machine with nothing else to do none takes more than 3
 SECONDS = 300
 
@@ -42,3 +44,8 @@ def write(folder, name, text):
     path = Path(folder, name)
     path.write_bytes(text if isinstance(text, bytes) else text.encode())
     return path
+
+
+def write_all(folder, texts):
+    """The files of the folder that have each text of a file of several, by their names and in their order."""
+    return [write(folder, name, text) for name, text in sections(texts.read_text())]

@@ -1,4 +1,4 @@
-"""C that a compiler makes something of: the files of forms/ and of examples/c, by gcc and clang."""
+"""C that a compiler makes something of: the texts of forms.texts and the files of examples/c, by gcc and clang."""
 
 import re
 import shutil
@@ -12,7 +12,8 @@ from bring_trials import counting, hostile
 
 import programs
 
-FORMS = Path(__file__).resolve().parent / "forms"
+# the texts, some of which are mappings of C, and the answers
+FORMS, ANSWERS = (Path(__file__).resolve().with_suffix(suffix) for suffix in (".texts", ".tsv"))
 COMPILERS = ("gcc", "clang")
 # options of from-c, its status, and a part of what it prints
 OPTIONS = [(["--flag=-O0"], 0, "-fno-ipa-icf -O0"), (["--flag=-no-such-flag"], 2, "fails"),
@@ -58,13 +59,23 @@ def sources():
     return sorted([*(ROOT / "examples/c").glob("*.c"), *(ROOT / "examples/c").glob("*.c.litmus")])
 
 
+def written(folder):
+    """The forms that are C, as files of the folder."""
+    return [path for path in counting.write_all(folder, FORMS) if path.suffix != ".h"]
+
+
 def part(count):
     """The forms have the answers of their table, and what is taken comes through from-herd unchanged."""
-    rows = [line.split("\t") for line in (FORMS / "answers.tsv").read_text().splitlines()[1:]]
+    with tempfile.TemporaryDirectory() as folder:
+        answered(count, written(folder))
+
+
+def answered(count, files):
+    """What `part` says, of the forms as these files."""
+    rows = [line.split("\t") for line in ANSWERS.read_text().splitlines()[1:]]
     asked = {(name, compiler): wanted for name, compiler, wanted in rows}
-    files = sorted(FORMS.glob("*.c*"))
     every = {(path.name, compiler) for path in files for compiler in COMPILERS}
-    count.told("answers.tsv has each form", set(asked) == every, "")
+    count.told(f"{ANSWERS.name} has each form", set(asked) == every, "")
     jobs = [(path, compiler) for path in files + sources() for compiler in COMPILERS]
     taken = 0
     for path, compiler in jobs:
@@ -93,11 +104,10 @@ def assembled(path, compiler):
 
 def words(count):
     """Each statement that is no jump assembles to the compiler's word, wherever a file is taken."""
-    rows = []
-    for path in sorted(FORMS.glob("*.c*")) + sources():
-        for compiler in COMPILERS:
-            if answer(path, Way(compiler))[0]:
-                rows += [(path.name, *row) for row in assembled(path, compiler)]
+    with tempfile.TemporaryDirectory() as folder:
+        jobs = [(path, compiler) for path in written(folder) + sources() for compiler in COMPILERS]
+        taken = [(path, compiler) for path, compiler in jobs if answer(path, Way(compiler))[0]]
+        rows = [(path.name, *row) for path, compiler in taken for row in assembled(path, compiler)]
     other = [row for row in rows if row[2] != row[3]]
     count.told("statements assemble to the compiler's words", rows and not other, str(other[:3]))
     print(f"  {len(rows) - len(other)} of {len(rows)} statements that are no jumps assemble to the compiler's words")

@@ -216,7 +216,7 @@ SOURCES = [
     to_record(f"core   9: 3 0x0 (0x13){ESCAPE}\n", 2, "the log has a hart 9", "--log", "spike"),
     to_record(f"run 1\ndrain 1 0 0 f {ESCAPE}\n", 2, "DATA is `?[31m?2J?`: it takes 1 to 16 hex digits"),
     to_record(b"\xff\nrun 1\nend 1\n", 1, "hart 0 has 2 words of code and no line"),
-    Row("compare-mappings", None, 2, "refused", words=("--compiler", "no-such-compiler")),
+    Row("compare-mappings", None, 3, "refused", words=("--compiler", "no-such-compiler")),
     *[row for tool in ("reference/explore", "reference/axioms") for row in (
         Row(tool, SB, 0, f"\n\ntools/{tool} FILE", words=("--help",)), Row(tool, SB, 0, "0:x7=1 1:x7=0"),
         Row(tool, "no litmus", 2, "refused 21"), Row(tool, None, 2, "No such file"), Row(tool, b"\xff", 2, "no UTF-8"),

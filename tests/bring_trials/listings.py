@@ -7,6 +7,7 @@ from bring_parts.fields import Part
 from bring_parts.memory import Placed
 from bring_parts.objects import Symbol
 from bring_parts.queues import Call, Queue
+from certify_parts.texts import Test
 
 CALLS = """
 00100000 <P0>:
@@ -110,6 +111,8 @@ def sources(count):
     """A C file's parts, and what is compiled of it."""
     source = c_source.read(SOURCE, "a {b}.c")
     count.told("the source's names", (source.name, source.file) == ("a_{b}", "a__b_.c"), f"{source.name} {source.file}")
+    blanked = [c_source.blanked("x (* y *) + (*z)", is_litmus) for is_litmus in (True, False)]
+    count.told("herd's comments", blanked == ["x         + (*z)", "x (* y *) + (*z)"], str(blanked))
     settings = {(0, "n"): "3", (1, "n"): "0x4", (0, "p"): "x", (1, "p"): "y"}
     count.told("init", source.settings == settings, str(source.settings))
     kinds = [(each.typed, each.returns, len(each.parameters)) for each in source.functions]
@@ -179,7 +182,45 @@ def queue_users(count):
         count.told(f"a queue at {block}", "make it a global object" in refused, refused)
 
 
+# parameters, and the storage for what they point to
+STORED = [("int a[2]", "__typeof__(*(int *)0) a[2];\n"), ("volatile int a[static 3], int n", "__typeof__(*(volatile int *)0) a[3];\n"),
+          ("int a[]", "__typeof__(*(int *)0) a;\n"), ("int *p", "__typeof__(*(int *)0) p;\n"), ("int n", "")]
+
+
+def past_names(count):
+    """Words past those that have names: they open as 0, a parameter may point there, and no condition asks for them."""
+    words = memory.Memory([0] * 1030, [Placed(4, 4, "x"), Placed(4100, 4, "far"), Placed(4108, 8, "array")])
+    made = (words.value("x", ""), words.value("far", ""), words.push_stack(0, 16), len(words.names), words.items()[-1].endswith("int word4092;"))
+    count.told("words without names", made == ("x", "4100", 4136, 1024, True), str(made))
+    ends = [Test("", [], {at: 0 for at in range(0, 4 * count_of, 4)}, {}).end() for count_of in (0, 8, 1023, 1024)]
+    count.told("where a text's words end", ends == [0, 32, 4092, 16384], str(ends))
+    for text in ("far", "array[1]"):
+        try:
+            said = words.named(text, "the condition asks for")
+        except Refused as refused:
+            said = str(refused)
+        count.told(f"the word {text}", said.startswith(f"the condition asks for {text}, which lies past the 1024 words that ztso names"), said)
+    for place, value, size, wanted in ((1029, 7, 0, "the word at 4116 opens as 7"), (0, 0, 0, ""),
+                                       (0, 0, 16384, "5126 words of data and stacks: the machine has 4096")):
+        tried = memory.Memory([0] * 1030, [])
+        tried.values[place] = value
+        tried.push_stack(0, size)
+        try:
+            said = tried.check_size() or ""
+        except Refused as refused:
+            said = str(refused)
+        count.told(f"{size} bytes of stack, and {value} at {place}", wanted in said and bool(wanted) == bool(said), said)
+
+
+def stored(count):
+    for parameters, wanted in STORED:
+        source = c_source.read(f"int P0({parameters}) {{ return 0; }}\n// exists (0:a0=0)\n", "a.c")
+        count.told(f"storage for ({parameters})", c_tests.storage_of(source) == wanted, c_tests.storage_of(source))
+
+
 def part(count):
+    stored(count)
+    past_names(count)
     queue_users(count)
     count.told("calls", cells(CALLS) == MADE, str(cells(CALLS)))
     count.told("calls, full fences", cells(CALLS, "full") == FULL, str(cells(CALLS, "full")))

@@ -105,6 +105,7 @@ ADDRESSES = "  For compilation unit at offset 0x0:\n\tIndex\tAddress\n\t0:\t0000
 # first bytes of files, and what is said of each
 HEADS = [
     (b"", "no ELF object"), (b"int P0", "no ELF object"), (b"\x7fELF\x01\x01", "no ELF object"), (b"BC\xc0\xde" + bytes(20), "without -flto"),
+    (b"\x7fELF\x01\x02\x01" + bytes(9) + b"\x00\x01\x00\xf3", "an object with the highest byte of a number first: compile with"),
     (b"!<arch>\n" + bytes(20), "an archive"), (b"\x7fELF\x02\x01\x01" + bytes(9) + b"\x01\x00\xf3\x00", "an object of 64 bits: compile with"),
     (b"\x7fELF\x02\x01\x01" + bytes(9) + b"\x01\x00\x3e\x00", "an object for x86-64"),
     (b"\x7fELF\x01\x01\x01" + bytes(9) + b"\x01\x00\x28\x00", "an object for ARM"),
@@ -174,7 +175,7 @@ def information(count):
     count.told("parts of a class", made == [(0, "q"), (4, "q.tail"), (8, "q.low")], str(made))
     made = [[(part.at, part.name) for part in parts.of_variable("s.1", "s", at, 4)] for at in (16, 24, 32)]
     count.told("parts of what was taken apart", made == [[], [(0, "s.tail")], [(0, "s.low")]], str(made))
-    count.told("what was taken apart", (parts.is_apart("s.0"), parts.is_apart("_ZN3app1qE")) == (True, False), "")
+    count.told("what was taken apart", (parts.is_apart("s.0", 24), parts.is_apart("_ZN3app1qE", 4)) == (True, False), "")
     function = known.function("P0")
     made = [(name, kind.tag) for name, kind in known.parameters(function)]
     count.told("parameters", made == [("n", "base_type"), ("p", "pointer_type")], str(made))

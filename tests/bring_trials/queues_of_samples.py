@@ -4,10 +4,13 @@ import re
 import runpy
 import tempfile
 from pathlib import Path
+from types import SimpleNamespace
 
 from bring_parts import ROOT, TOOLS, Refused, compilers, memory, queue_hints, queue_types
 from bring_parts.fields import Part
 from bring_trials import counting
+
+from sections import sections
 
 EXAMPLES = ROOT / "examples"
 QUEUES = {
@@ -28,22 +31,23 @@ DRAWN = "queue 0: kept in 1000 drawn runs of 1000 events, in which {} positions 
 BROKEN = "broken: hart 0 at pc 4\nqueue 0: it stored 1 to the 4 bytes at 12, and owned no position\n"
 KEPT = "kept in every run\nqueue 0: stored to by hart 0 at pc 4, sw x5,0(x6)\nqueue 0: loaded from by hart 1 at pc 4, lw x5,0(x6)\n"
 HINTS = [
-    ("", "not shown: no instruction loads from a slot of queue 0\n", [], COUNTS, ["volatile object"]),
-    ("", "not shown: no instruction stores to a slot of queue 0\n", [], COUNTS, ["one global object"]),
-    (NOT_COVERED, "not shown\n", ["12: i % 6", "12", "support.c:30"], COUNTS, ["`%` and `/` by what is no power of two"]),
-    (NOT_COVERED, "not shown\n", ["12: i % 6", "support.c:61", "support.c:30"], COUNTS, ["a copy by a loop"]),
-    (NOT_COVERED, "not shown\n", ["12: i * 6", "12", "support.c:4"], COUNTS, []),
+    ("", "not shown: no instruction of hart 1 loads from a slot of queue 0\n", [], COUNTS, ["volatile object"]),
+    ("", "not shown: no instruction of hart 0 stores to a slot of queue 0\n", [], COUNTS, ["one global object"]),
+    (NOT_COVERED, "not shown\n", ["12: i % 6", "12", "ztso-support.c:30"], COUNTS, ["`%` and `/` by what is no power of two"]),
+    (NOT_COVERED, "not shown\n", ["12: i % 6", "ztso-support.c:61", "ztso-support.c:30"], COUNTS, ["a copy by a loop"]),
+    (NOT_COVERED, "not shown\n", ["12: i * 6", "12", "ztso-support.c:4"], COUNTS, []),
     (NOT_COVERED, "not shown\n", ["12: i % 6", "12"], COUNTS, []),
-    (NOT_COVERED, BROKEN, ["12: i % 6", "12", "support.c:30"], COUNTS,
+    (NOT_COVERED, BROKEN, ["12: i % 6", "12", "ztso-support.c:30"], COUNTS,
      ["if queue 0 isn't 16 slots of 8 bytes with indices of 1 byte that count on, the fault is in its description: see size=, width=, bytes=, index=wrapping"]),
     ("", BROKEN, [], COUNTS.replace("16 0 1 0 256", "15 0 1 0 16"), ["indices of 1 byte that go back to 0 after the last slot", "index=counting"]),
-    ("", BROKEN, [], COUNTS.replace("0 1 0 256", "12 8 0 16"), ["whose word of count n is 12 + 8 * ((n + 0) mod 16)"]),
+    ("", BROKEN, [], COUNTS.replace("0 1 0 256", "12 8 0 16"), ["whose word of count n is 12 + 8 * (n mod 16)"]),
     ("", BROKEN, [], TAGS, ["8 slots of 12 bytes with the tag in bytes 4-4 of each, 0 where it is free, the fault", "tag=, tells="]),
     ("", "not shown\n" + DRAWN.format(10999), [], COUNTS, ["about 11 positions each, and one turn of its index is 256: try --length 47000 --runs 20"]),
+    ("", "not shown\n" + DRAWN.format(10999), [], COUNTS.replace("256", "4294967296"),
+     ["about 11 positions each, and one turn of its slots is 16: try --length 3000 --runs 20"]),
     ("", "not shown\n" + DRAWN.format(0), [], TAGS, ["about 0 positions each, and one turn of its slots is 8: try --length 100000 --runs 20"]),
     ("", "not shown\n" + DRAWN.format(512000), [], COUNTS, []),
-    ("", KEPT, ["support.c:30"], COUNTS, []),
-    ("", KEPT.replace("hart 1", "hart 0"), [""], COUNTS, ["hart 1 loads from no slot of queue 0 in any state, so no record is ever read"]),
+    ("", KEPT, ["ztso-support.c:30"], COUNTS, []),
 ]
 # the parts of objects, as `q` with two indices of a byte and structs of 8 bytes; descriptions, and what is made of them or refused
 PARTS = [Part(0, 1, "q.in"), Part(1, 1, "q.out"), Part(2, 2, "q.wide"), *(Part(4 + 8 * at + 4 * of, 4 - 3 * of, f"q.slot[{at}].{name}")
@@ -70,18 +74,26 @@ TYPED = [
     ("--queue", OF_Q.replace("q.out", "q.wide"), "q.in has 1 byte and q.wide 2: both indices must have the same type"),
     ("--queue", "head=l.head,tail=l.tail,slots=q.slot",
      "l.head has 8 bytes, and an index has 1, 2 or 4: the code is compiled for RV32, take uint32_t or size_t"),
+    # the lower word of a number of 8 bytes, where that is said
+    ("--queue", "head=l.head,tail=l.tail,slots=q.slot,bytes=4", "head=l.head,tail=l.tail,slots=q.slot,bytes=4,size=4,width=8"),
     ("--tagged", "slots=q.slot", "slots=q.slot,size=4,width=8,tag=0+4"), ("--tagged", "slots=q.slot,tag=4", "slots=q.slot,tag=4+1,size=4,width=8"),
     ("--tagged", "slots=q.slot,tag=q.slot[0].full,size=2", "slots=q.slot,tag=q.slot[0].full+1,size=2,width=8"),
     ("--tagged", "slots=q.slot,tag=q.slot[0].full+4", "the tag q.slot[0].full has 1 byte, and not 4: leave +4 out, or say tag=q.slot[0].full+1"),
     ("--tagged", "slots=l", "the tag at 0 has 8 bytes, and may have at most 4: say which they are, as tag=0+4"),
 ]
+# a description of a source by its author's names, of which one leaves the tag's bytes out, and what tools/certify is given
+PLACED = {"q.slot": "12", "q.slot[0].full": "16", "q.sent": "4", "q.taken": "8"}
+DESCRIBED = [(None, ["slots=q.slot,size=2,width=8,tag=q.slot[0].full+1"], ["--tagged", "slots=12,size=2,width=8,tag=4+1"]),
+             (None, ["slots=q.slot, size=2, width=8, tag=4+1"], ["--tagged", "slots=12,size=2,width=8,tag=4+1"]),
+             (["head=q.sent,tail=q.taken,slots=q.slot,size=2"], None, ["--queue", "head=4,tail=8,slots=12,size=2"]),
+             (["head=q.sent,tail=q.taken,slots=q.slot,size=2,scale=8,base=q.slot"], None, ["--queue", "head=4,tail=8,slots=12,size=2,scale=8,base=12"])]
 # a line after a schedule's first one, and what a terminal is shown
 SCHEDULES = [("a0*3 l0", "a0*3 l0"), ("a0*3 l0 " * 60, "a0*3 l0 " * 49 + "a0*3 l0 .. 240 events in all: -o FOLDER keeps them")]
 # edits of examples/cpp/queue.cpp, the places, and parts of what comes
 PLACES = QUEUES["cpp/queue"]
 EDITS = [
-    ((), PLACES, ["kept in every run", "    P0 32: slots_[write] = value"]),
-    ((("16 * seen + *word", "seen + 1"),), PLACES, ["no instruction loads from a slot", "a volatile object"]),
+    ((), PLACES, ["kept in every run", "mine.cpp:32: P0: slots_[write] = value"]),
+    ((("16 * seen + *word", "seen + 1"),), PLACES, ["no instruction of hart 1 loads from a slot", "a volatile object"]),
     ((("write + 1;", "(write + 1) % slots_.size();"),), PLACES, ["kept in every run"]),
     ((), PLACES.replace("write_", "wrote"),
      ["ring::queue.wrote is no place of the program: there are queue.slots_[0], queue.write_, queue.read_cache_"]),
@@ -140,10 +152,10 @@ ROW = re.compile(r"\| \[([\w-]+)\]\([\w.-]+\) \| `(head=.*?)` \| (.*) \|")
 
 
 def answer_of(files, sample, program=None, options=()):
-    """The first line of the answer, without those of harts, or what is refused."""
+    """The first line of the answer, up to the model, or what is refused."""
     words = [*files, "--queue", QUEUES[sample], *options, *(["--program", program] if program else [])]
     _, printed, error = counting.run("queue", *words)
-    return next((line for line in (printed + error).splitlines() if not re.match(r"hart [0-9]+: [0-9]+ states$", line)), "")
+    return (printed + error).partition("\n")[0].partition(", under Ztso ")[0]
 
 
 def part(count, program):
@@ -158,14 +170,18 @@ def part(count, program):
         for sample, (_, cells) in rows.items():
             for way, wanted in zip(heads, cells):
                 came = answer_of([EXAMPLES / f"{sample}.{way}.litmus"], sample, program)
-                count.told(f"tools/queue of {sample} by {way}", wanted == "kept in every run" == came, f"{came}, and {wanted} is written")
+                count.told(f"tools/queue of {sample} by {way}", wanted == "kept in every run, and goes on while its harts run" == came, f"{came}, and {wanted} is written")
     queue = runpy.run_path(str(TOOLS / "queue"))
     for place, wanted in NAMED:
         count.told(f"the place {place} of a text", queue["named_in"](LOCATIONS, place) == wanted, queue["named_in"](LOCATIONS, place))
     for found, answer, notes, certificate, wanted in HINTS:
         lines = answer.splitlines()
-        came = "\n".join(line for line in queue_hints.added(iter(lines), found, [notes], certificate) if line not in lines)
+        after = (line for line in queue_hints.added(iter(lines), certificate) if line not in lines)
+        came = "\n".join([*after, *queue_hints.at_end(answer, found, [notes], certificate)])
         count.told(f"what helps after {found + answer!r}", all(part in came for part in wanted) and bool(came) == bool(wanted), came)
+    for queues, tagged, wanted in DESCRIBED:
+        came = [*queue["described"](SimpleNamespace(queue=queues, tagged=tagged), PLACED.get, None)]
+        count.told(f"what is made of {queues or tagged}", came == wanted, str(came))
     types = queue_types.Types(memory.Memory([0] * 40, [memory.Placed(4, 36, "q", PARTS), memory.Placed(40, 80, "l", LONG)]))
     for kind, given, wanted in TYPED:
         try:
@@ -198,7 +214,8 @@ def compiled(count, program, _):
         compilers.Compiler("gcc").compile(counting.write(folder, "mine.cpp", text), module, language="C++")
         _, printed, error = counting.run("queue", module, "--queue", PLACES, "--program", program)
         count.told("tools/queue of an object", "kept in every run" in printed and "P0 mine.cpp:32: slots_[write] = value" in printed, printed + error)
-        c = re.sub(r"/\* exists.*?\*/", "", (ROOT / "tests/queue_trials/running_indices.c").read_text())
+        sources = dict(sections((ROOT / "tests/queue_trials/sources.texts").read_text()))
+        c = re.sub(r"/\* exists.*?\*/", "", sources["running_indices"])
         file = counting.write(folder, "mine.c", c)
         _, printed, error = counting.run("queue", file, "--queue", "head=q.tail,tail=q.head,slots=q.slot,size=4", "--program", program)
         count.told("tools/queue of C without a condition", "kept in every run" in printed and "(* tools/from-c" not in printed, printed + error)

@@ -4,6 +4,7 @@ import re
 
 from kit import pages
 from ring_kinds import RINGS
+from witnesses import witnesses
 
 from . import ROOT
 
@@ -11,7 +12,7 @@ PAGES = [ROOT / "README.md", *sorted((ROOT / "docs").glob("*.md"))]
 # what makes a call of a page a long one, of which it doesn't show what is printed
 LONG_CALL = "100000"
 SB = "litmus/store-buffering/sb.litmus"
-WITNESS = "litmus/store-buffering/sb/0-0.schedule"
+WITNESS = "examples/store-buffering.schedule"
 TICKET = "litmus/mutual-exclusion/ticket.litmus"
 LISTS = (ROOT / "examples/two-senders.lists").read_bytes()
 # each of the debugger's commands, each with an answer and with `?`
@@ -184,7 +185,7 @@ def kinds():
     yield ["move", SB, WITNESS], b"", {}
     yield ["move", TICKET, "some.schedule", "--buffer", "1"], b"", {}
     yield ["shrink", SB, "long.schedule"], b"", {"long.schedule": LONG}
-    yield ["shrink", TICKET, str(sorted(ROOT.glob("litmus/mutual-exclusion/ticket/*.schedule"))[0])], b"", {}
+    yield ["shrink", TICKET, "ticket.schedule"], b"", {"ticket.schedule": next(iter(witnesses(ROOT / TICKET).values())).encode()}
     yield ["chart", SB, WITNESS], b"", {}
     yield ["chart", TICKET, "some.schedule", "--buffer", "1"], b"", {
         "some.schedule": b"ztso-schedule 1\n" + b"a0 a1 l0 a1*2 l1 " * 60}

@@ -10,7 +10,7 @@ from . import examples
 from .runs import NO_MEMORY, WRITE_FAILED, brief
 
 KINDS = ["a write that takes nothing", "no memory for a read", "no memory for a thread", "answers of threads"]
-TEST, SCHEDULE = "litmus/store-buffering/sb.litmus", "litmus/store-buffering/sb/0-0.schedule"
+TEST, SCHEDULE = "litmus/store-buffering/sb.litmus", "examples/store-buffering.schedule"
 RECORDS = b"ztso-schedule 2\na0 store 0 0 1\n"
 # the most allocations of a run's threads
 MOST = 200

@@ -2,11 +2,18 @@
 
 import re
 
+from witnesses import witnesses
+
 from . import ROOT, examples
 
 TELLING = b"\0\t\n\r\x0b\x0c !\"#$'()*+,-./0159:;<=>?@AFPRX[\\]_`abflsxz{|}~\x7f\x80\xbf\xc3\xff"
 # of a text's changes that many are drawn
 DRAWN, DRAWN_SHORT = 1400, 12
+
+
+# tests of the shelf by the name of a schedule that goes with each
+SHELF = {f"{name}.schedule": next(ROOT.glob(f"litmus/*/{name}.litmus")) for name in ("sb", "ticket", "n6")}
+WITNESSES = {name: next(iter(witnesses(test).values())).encode() for name, test in SHELF.items()}
 
 
 def read(name):
@@ -16,11 +23,9 @@ def read(name):
 def grammars():
     """The texts of each grammar: its name, a text, the words of a command that reads it, and standard input. The words
     name the text's file `text` where it isn't standard input."""
-    shelf = [str(test.relative_to(ROOT)).removesuffix(".litmus")
-             for name in ("sb", "ticket", "n6") for test in ROOT.glob(f"litmus/*/{name}.litmus")]
-    for name in (*shelf, "examples/message-passing"):
-        witness = sorted([*ROOT.glob(f"{name}/*.schedule"), *ROOT.glob(f"{name}*.schedule")])[0]
-        yield "litmus", read(f"{name}.litmus"), ["run", "text", str(witness)], None
+    for name, test in SHELF.items():
+        yield "litmus", test.read_bytes(), ["run", "text", name], None
+    yield "litmus", read("examples/message-passing.litmus"), ["run", "text", str(ROOT / "examples/message-passing.schedule")], None
     for name, test in ((examples.WITNESS, examples.SB),
                        ("examples/message-passing.schedule", "examples/message-passing.litmus")):
         yield "schedules", read(name), ["replay", str(ROOT / test), "text"], None
@@ -68,7 +73,7 @@ NAMES = ["litmus", "callers", "schedules", "records", "shrunk", "steps", "lists"
 def hold(runs, grammar, text, words, stdin):
     """Holds the program against the reference on a text, which is a file where the words name it."""
     if "text" in words:
-        runs.put({"text": text})
+        runs.put({"text": text, **WITNESSES})
         wanted = runs.compare(grammar, words, stdin or b"")
     else:
         wanted = runs.compare(grammar, words, text)

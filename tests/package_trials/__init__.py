@@ -14,7 +14,11 @@ import tree
 from bring_trials import counting
 
 SECONDS = 120
-SB = ("litmus/store-buffering/sb.litmus", "litmus/store-buffering/sb/0-0.schedule")
+# the program that is proved, and those by rustc, of this checkout; and what each call of an installed copy of others says
+PROVED, BY_RUSTC = tree.TOP / "crates/ztso/out/ztso", ("ztso", "ztso-unoptimized", "ztso-checked")
+NOT_PROVED = "ztso: built by rustc, and nothing is proved of it\n"
+NOT_KNOWN = "ztso: what built it isn't known, so nothing of it is taken as proved\n"
+SB = ("litmus/store-buffering/sb.litmus", "examples/store-buffering.schedule")
 
 
 class Count(counting.Count):
@@ -38,6 +42,14 @@ def call(*words, folder=None, text=None, variables=None, umask=-1):
 
 def is_binary(program):
     return Path(program).read_bytes()[:4] == b"\x7fELF"
+
+
+def said_of(program):
+    """What each call says where a copy of the program is installed."""
+    program = Path(program)
+    if program == PROVED:
+        return ""
+    return NOT_PROVED if program.parent == tree.TOP / "stock/out" and program.name in BY_RUSTC else NOT_KNOWN
 
 
 @contextmanager

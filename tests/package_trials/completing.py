@@ -1,6 +1,7 @@
 """The completions in the shells themselves: what comes after the words of a line."""
 
 import re
+from functools import partial
 
 import tree
 
@@ -29,6 +30,12 @@ LINES = [
     ("ztso asm ", []),
 ]
 FILES = ["one.litmus", "two words.schedule"]
+# the same of tools, which are asked for their help
+OF_TOOLS = [
+    ("compare-mappings --kn", ["--known"]), ("from-c one.c --fences ", ["all", "full", "none"]), ("core-log-to-record --order pl", []),
+    ("core-log-to-record --log ", ["rvfi", "spike"]), ("core-log-to-record one.litmus --f", ["--first"]), ("queue ", "files"),
+    ("from-object --compiler ", "files"), ("queue --requ", ["--require-fences"]), ("queue one.litmus --writ", ["--written"]),
+]
 
 
 def part(count, program):
@@ -43,6 +50,11 @@ def part(count, program):
                     came = ask(line, inside, folder)
                     wanted = FILES if wanted == "files" else wanted
                     count.told(f"{shell}: {line!r}", came == wanted, f"{came}, wanted {wanted}")
+        for shell, ask in (("bash", partial(in_bash, script=OF_TOOL)), ("fish", in_fish), ("zsh", in_zsh)):
+            if count.there(shell, f"completion of tools for {shell}"):
+                for line, wanted in OF_TOOLS:
+                    came = ask(f"{tree.TOP}/tools/{line}", inside, folder)
+                    count.told(f"{shell}: tools/{line!r}", came == (FILES if wanted == "files" else wanted), f"{came}, wanted {wanted}")
 
 
 # ---- bash and fish say what they would complete
@@ -56,9 +68,13 @@ if [ -n "$files" ]; then compgen -f -- "${!#}"; else printf '%s\\n' "${COMPREPLY
 """
 
 
-def in_bash(line, inside, _):
+# bash gives the function the command, the word and the one before
+OF_TOOL = BASH.replace("\n_ztso\n", '\n_ztso_tool "$1" "${!#}" "${@: -2:1}"\n')
+
+
+def in_bash(line, inside, _, script=BASH):
     completion = tree.TOP / "scripts/completion.bash"
-    _, said, faults = call("bash", "-c", BASH, "bash", completion, *line.split(" "), folder=inside)
+    _, said, faults = call("bash", "-c", script, "bash", completion, *line.split(" "), folder=inside)
     return sorted(filter(None, (said + faults).split("\n")))
 
 

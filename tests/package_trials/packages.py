@@ -7,7 +7,7 @@ from pathlib import Path
 
 import tree
 
-from . import SB, below, call, is_binary, prefix, workplace
+from . import SB, below, call, is_binary, prefix, said_of, workplace
 
 # in place of the program where that is no binary: it is packed, and not run
 STAND_IN = Path("/bin/true")
@@ -31,9 +31,10 @@ def part(count, program):
                          variables={"TZ": "Asia/Tokyo", "LC_ALL": "C"})
         count.told("packs", first[0] == 0 and second[0] == 0, first[2] + second[2])
         made = below(folder / "first")
-        version = tree.version()
+        version, called = tree.version(), "ztso-unproved" if said_of(program) else "ztso"
         count.same("what is made", [name.replace("aarch64", "x86_64").replace("arm64", "amd64") for name in made],
-                   ["SHA256SUMS", *(f"ztso-{version}-{what}.tar.xz" for what in ("page", "queue", "source", "x86_64-linux")), f"ztso_{version}_amd64.deb"])
+                   ["SHA256SUMS", *(f"ztso-{version}-{what}.tar.xz" for what in ("page", "queue", "source")),
+                    f"{called}-{version}-x86_64-linux.tar.xz", f"{called}_{version}_amd64.deb"])
         for name in made:
             one, other = (folder / "first" / name).read_bytes(), (folder / "second/deep" / name).read_bytes()
             count.told(f"{name} is the same twice", one == other)
@@ -46,7 +47,7 @@ def part(count, program):
             count.same("functions that the program calls", there, [])
         _, of_page, of_queue, of_source, of_program, of_debian = (folder / "first" / name for name in made)
         archive(count, folder, of_program, packed, page)
-        debian(count, folder, of_debian, packed)
+        debian(count, folder, of_debian, packed, said_of(program))
         page_archive(count, folder, of_page, page)
         queue_archive(count, folder, of_queue)
         source_archive(count, folder, of_source)
@@ -142,8 +143,12 @@ def source_archive(count, folder, path):
     count.told("the sources", came == wanted, "other files, contents or rights")
 
 
-def debian(count, folder, path, packed):
+def debian(count, folder, path, packed, notice):
     """The package is installed into a root of its own by dpkg, runs there, and is removed with all that it brought."""
+    called = "ztso-unproved" if notice else "ztso"
+    described = call("dpkg-deb", "--field", path, "Package", "Description")[1]
+    good = described.startswith(f"Package: {called}\n") and (notice.removeprefix("ztso: ").strip() in " ".join(described.split()))
+    count.told("the package's name and description say what is proved", good and ("is proved to follow" in described) != bool(notice), described)
     root = folder / "root"
     for name in ("var/lib/dpkg/info", "var/lib/dpkg/updates"):
         (root / name).mkdir(parents=True)
@@ -159,7 +164,7 @@ def debian(count, folder, path, packed):
         witness(count, "from the package", root / "usr/bin/ztso", root / "usr/share/ztso", packed)
         alone(count, "the package's program alone", root, root / "usr/lib/ztso/ztso", root / "usr/share/ztso", packed)
         prefix.manual(count, root / "usr/share/man", folder)
-        status, said, faults = call(*as_root, "dpkg", f"--root={root}", "--purge", "ztso")
+        status, said, faults = call(*as_root, "dpkg", f"--root={root}", "--purge", called)
         count.told("dpkg --purge", status == 0, said + faults)
         shutil.rmtree(root / "var")
         count.same("nothing is left", below(root), [])

@@ -1,5 +1,6 @@
 """Installing below a prefix, and taking that away again."""
 
+import hashlib
 import re
 import signal
 import subprocess
@@ -7,7 +8,7 @@ from pathlib import Path
 
 import tree
 
-from . import SB, below, call, install, workplace
+from . import NOT_KNOWN, NOT_PROVED, SB, below, call, install, said_of, workplace
 
 # the lines that explain a name in a checkout begin with these, where N stands for the number of a line
 WINDOWS = ["poll_close::Invariant::Blocks::window: crates/poll_close/specs/Invariant/Blocks.antt:N, a definition",
@@ -32,7 +33,8 @@ def part(count, program):
         status, said, faults = install("--prefix", prefix, "--program", alone)
         count.told("installs", status == 0 and not faults and str(prefix / "bin") in said, said + faults)
         whole = contents(prefix)
-        runs(count, prefix, elsewhere, alone)
+        runs(count, prefix, elsewhere, alone, said_of(program))
+        marks(count, folder, prefix)
         explains_names(count, prefix, elsewhere)
         manual(count, prefix / "share/man", elsewhere)
         page(count, prefix, elsewhere)
@@ -52,17 +54,18 @@ def contents(prefix):
             for name in below(prefix) if (prefix / name).is_file()}
 
 
-def runs(count, prefix, elsewhere, alone):
+def runs(count, prefix, elsewhere, alone, notice):
     """What is installed runs from any folder, and by a link."""
     words = ["run", *(prefix / "share/ztso" / name for name in SB)]
     wanted = call(alone, *words)
-    count.told("the witness holds", wanted[0] == 0 and wanted[1].endswith("\nHolds\n"), wanted)
+    count.told("the witness holds", wanted[0] == 0 and wanted[1].endswith("\nHolds\n") and not wanted[2], wanted)
+    wanted = (*wanted[:2], notice)
     count.same("runs from another folder", call(prefix / "bin/ztso", *words, folder=elsewhere), wanted)
     (elsewhere / "linked").symlink_to(prefix / "bin/ztso")
     count.same("runs by a link", call("./linked", *words, folder=elsewhere), wanted)
     path = {"PATH": f"{prefix / 'bin'}:/usr/bin:/bin"}
     count.same("runs by the PATH", call("ztso", "asm", text="nop\n", folder=elsewhere, variables=path),
-               (0, "00000013\n", ""))
+               (0, "00000013\n", notice))
     status, said, _ = call(prefix / "bin/ztso-explain", "ztso: refused 24 at line 4", folder=elsewhere)
     count.same("explains", (status, said.split("\n")[0]), (0, "24 BadInstr"))
     for line, wanted in (("hart 0 called with a2 = 12, not the bytes of the slots", "The code breaks rule 6 of docs/functions.md."),
@@ -73,6 +76,34 @@ def runs(count, prefix, elsewhere, alone):
     status, said, faults = call(prefix / "bin/ztso", *words)
     count.same("without its program", (status, said, faults.startswith("ztso: ") and faults.count("\n")), (70, "", 1))
     (elsewhere / "ztso").rename(prefix / "lib/ztso/ztso")
+
+
+def marks(count, folder, prefix):
+    """What built a program is what the mark beside it says of its very bytes, and nothing else."""
+    place, program = folder / "marked", folder / "answers"
+    program.write_text("#!/bin/sh\necho answered\n")
+    program.chmod(0o755)
+    queue = ("examples/queues/running_indices.litmus", "--queue", "head=q_put,tail=q_get,slots=q_slot,size=4")
+
+    def said_by(name, kind, notice, which):
+        (place / "lib/ztso/built").write_text(f"{kind} {hashlib.sha256(program.read_bytes()).hexdigest()}\n")
+        count.same(f"{name} answers", call(place / "bin/ztso", "run"), (0, "answered\n", notice))
+        count.same(f"{name} is named", call(place / "bin/ztso", "--which"), (0, f"{place}/lib/ztso/ztso: {which}\n", ""))
+        faults = call(place / "bin/ztso-queue", *queue, folder=place / "share/ztso")[2]
+        count.same(f"{name} judges a queue", [line for line in faults.splitlines(keepends=True) if "proved" in line], [notice] if notice else [])
+    status, said, faults = install("--prefix", place, "--program", program)
+    count.told("installs what nobody knows", status == 0 and NOT_KNOWN.replace("ztso:", "the program:") in said, said + faults)
+    unknown = NOT_KNOWN.removeprefix("ztso: ").strip()
+    said_by("what nobody knows", "unknown", NOT_KNOWN, unknown)
+    said_by("what is marked as proved", "proved", "", "proved, and built by the kit")
+    said_by("what is marked as built by rustc", "rustc", NOT_PROVED, "built by rustc from the sources that ./prove proves; nothing is proved of it")
+    install("--prefix", folder / "again", "--program", place / "lib/ztso/ztso")
+    count.same("the mark goes with the program", (folder / "again/lib/ztso/built").read_bytes(), (place / "lib/ztso/built").read_bytes())
+    said_by("again what is marked as proved", "proved", "", "proved, and built by the kit")
+    (place / "lib/ztso/ztso").write_text("#!/bin/sh\necho changed\n")
+    count.same("another program has no mark", call(place / "bin/ztso", "run"), (0, "changed\n", NOT_KNOWN))
+    (place / "lib/ztso/built").unlink()
+    count.same("nor has one without a mark", call(place / "bin/ztso", "--which"), (0, f"{place}/lib/ztso/ztso: {unknown}\n", ""))
 
 
 def explains_names(count, prefix, elsewhere):

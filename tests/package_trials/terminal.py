@@ -7,8 +7,9 @@ import subprocess
 
 import tree
 from kit import terminal
+from page_parts import listing
 
-from . import SB, SECONDS, Typed, call, install, is_binary, workplace
+from . import NOT_KNOWN, NOT_PROVED, SB, SECONDS, Typed, call, install, is_binary, said_of, workplace
 
 BAD = "ztso: bad command line\n"
 RUN = """\
@@ -51,14 +52,32 @@ WRONG = ((("run",), "FILE is missing"), (("run", "a", "b", "c"), "`c` is one wor
          (("r[un'", "x"), "`r[un'` is no command"), (("try", "a", "--[seed", "1"), "`--[seed` is no option of try"),
          (("run", "a", "b", "c\x1b[31m\x07\x9b"), "`c?[31m??` is one word too many"), (("\x1b[2Jrun",), "`?[2Jrun` is no command"),
          (("chart", "a", "b", "--svg", "--svg"), "--svg is given twice"), (("chart", "a", "b", "--svg=1"), "--svg takes no value"))
+# slips of the pen in a test, with what is said of them, and in a copy of it without them nothing is
+SLIPS = ((("0(x8) | lw", "0(x9) | lw"), ("Nothing sets P0's `x9`: it is 0, and `lw x7,0(x9)` (line 9) touches `x`.",)),
+         (("1:x8=x", "1:x8=X"), ("Only one hart names `x` (P0) and `X` (P1). To share a location, both harts name it.",)),
+         (("1:x7=0)", "1:x9=0)"), ("The condition asks of `1:x9`, which no instruction of P1 sets.",)),
+         (("1:x7=0)", "1:x7=0 /\\ z=0)"), ("The condition asks of `z`, which no hart touches.",)),
+         (("0(x8) | lw", "4(x9) | lw"), ("Nothing sets P0's `x9`: it is 0, and `lw x7,4(x9)` (line 9) touches `y`.",)),
+         (("0:x8=y", "0:x8=0"), ("Only one hart names `y` (P1). To share a location, both harts name it.",)), (("RISCV SB", "RISCV other"), ()))
+# faults of a test, with what is said of their place at a terminal
+TABLE, CELL, HEADER = ("  There is no table, its first row isn't `P0`,", "  A cell is no statement of assembly,", "  The first line that isn't blank isn't `RISCV`")
+PLACES = ((("sw x5,0(x6) |", "swx x5,0(x6) |"), 24, 8, "line 8, P0: `swx x5,0(x6)`: The mnemonic isn't known, or a text in a register's place is no register.", CELL),
+          (("lw x7,0(x8) ;", "lw x7,9999(x8) ;"), 24, 9, "line 9, P1: `lw x7,9999(x8)`: A number", CELL),
+          (("lw x7,0(x8) ;", "lw \x1b\x9b,0(x8) ;"), 24, 9, "line 9, P1: `lw ??,0(x8)`: The mnemonic", CELL),
+          (("lw x7,0(x8) ;", "j nowhere ;"), 24, 9, "line 9, P1: `j nowhere`: ", CELL), (("exists", "exist"), 23, 10, "line 10: `exist`, did you mean `exists`?", TABLE),
+          (("exists", "~exsits"), 23, 10, "line 10: `~exsits`, did you mean `~exists`?", TABLE), (("exists", "maybe"), 23, 10, "", TABLE),
+          (("x5,0(x6) | sw", "x5,0(x6)   sw"), 23, 8, "", TABLE), (("RISCV", "riscv"), 21, 1, "line 1: `riscv`, did you mean `RISCV`?", HEADER),
+          (("RISCV", "X86"), 21, 1, "", HEADER))
 DRAWN = ("--seed", "1", "--runs", "10", "--length", "20")
 
 
 class Place:
     """A folder with the wrapper, and what it names there."""
 
-    def __init__(self, name, wrapper, pages, explain, manual):
+    def __init__(self, name, wrapper, pages, explain, manual, notice=""):
         self.name, self.wrapper, self.pages, self.explain, self.manual = name, wrapper, pages, explain, manual
+        # what each call says first of a program that isn't proved
+        self.notice = notice
 
 
 def part(count, program):
@@ -68,13 +87,17 @@ def part(count, program):
         (folder / "bad.litmus").write_text("no test\n")
         share = prefix / "share/ztso"
         places = [
-            Place("installed", prefix / "bin/ztso", share, prefix / "bin/ztso-explain", manual_of(prefix)),
+            Place("installed", prefix / "bin/ztso", share, prefix / "bin/ztso-explain", manual_of(prefix),
+                  said_of(program)),
             Place("in a checkout", top / "ztso", top, top / "tools/explain", f"man {top}/docs/ztso.1")]
         for place in places:
             in_a_pipe(count, place, folder)
             after_bad_words(count, place, folder)
             after_faults(count, place, folder)
             nothing_added(count, place, folder, alone)
+            drawn(count, place, folder, alone)
+            slips(count, place, folder, alone)
+            faulty_places(count, place, folder)
         short_names(count, places, prefix, top)
         which(count, places, alone, folder)
         by_rustc(count, checkout(folder / "by-rustc", alone), folder)
@@ -92,9 +115,9 @@ def checkout(top, program):
     """A folder like a checkout, in which nothing is to be built."""
     for name in ("scripts", "tools", "crates/ztso/out"):
         (top / name).mkdir(parents=True)
-    for name in ("ztso", "VERSION", "scripts/program", "scripts/at-terminal", "scripts/usage.awk", "scripts/words.awk", "tools/explain"):
+    for name in ("ztso", "VERSION", "scripts/program", "scripts/at-terminal", "scripts/about-test", "scripts/drawing", "scripts/usage.awk", "scripts/words.awk", "tools/explain"):
         shutil.copy(tree.TOP / name, top / name)
-    for name in ("docs", "litmus"):
+    for name in ("docs", "litmus", "examples", "tools/page_parts", "tools/reference"):
         (top / name).symlink_to(tree.TOP / name)
     (top / "scripts/build").write_text("#!/bin/sh\n")
     (top / "scripts/build").chmod(0o755)
@@ -105,7 +128,8 @@ def checkout(top, program):
 def which(count, places, program, folder):
     """What `--which` says of the program that runs."""
     installed, here = places
-    words = "as it was installed; a package holds the proved program, scripts/install --program what it was given"
+    words = {"": "proved, and built by the kit", NOT_PROVED: "built by rustc from the sources that ./prove proves; nothing is proved of it"}.get(
+        installed.notice, NOT_KNOWN.removeprefix("ztso: ").strip())
     count.same("which program is installed", call(installed.wrapper, "--which", folder=folder),
                (0, f"{installed.wrapper.parent.parent}/lib/ztso/ztso: {words}\n", ""))
     count.same("which program a checkout runs", call(here.wrapper, "--which", folder=folder),
@@ -138,10 +162,20 @@ def at_terminal(words, folder, text="", before=""):
 
 
 def in_a_pipe(count, place, folder):
-    for words in ((), ("--help",), ("run",), ("run", "--help"), ("help",)):
-        count.same(f"{place.name}, {words} in a pipe", call(place.wrapper, *words, folder=folder, text=""), (2, "", BAD))
+    for words in ((), ("run",), ("no-command",), ("run", "a", "b", "c")):
+        count.same(f"{place.name}, {words} in a pipe", call(place.wrapper, *words, folder=folder, text=""), (2, "", place.notice + BAD))
     count.same(f"{place.name}, a refusal in a pipe", call(place.wrapper, "asm", folder=folder, text="mov x1,x2\n"),
-               (2, "", UNKNOWN.split("\n")[0] + "\n"))
+               (2, "", place.notice + UNKNOWN.split("\n")[0] + "\n"))
+    # what asks for help or the version has it on standard output, and the program's answer on standard error
+    version = (tree.TOP / "VERSION").read_text()
+    for words, begins in ((("--help",), f"ztso {version.strip()} runs "), (("help",), f"ztso {version.strip()} runs "), (("-h",), f"ztso {version.strip()} runs "),
+                          (("run", "--help"), RUN), (("help", "run"), RUN), (("try", "-h"), "usage: ztso try FILE "), (("--version",), f"ztso {version}")):
+        status, said, faults = call(place.wrapper, *words, folder=folder, text="")
+        count.same(f"{place.name}, {words} in a pipe", (status, said[:len(begins)], faults), (2, begins, place.notice + BAD))
+        count.same(f"{place.name}, {words} at a terminal", at_terminal([place.wrapper, *words], folder), (2, said, place.notice + BAD))
+    count.same(f"{place.name}, the version", call(place.wrapper, "--version")[1], f"ztso {version}")
+    (folder / "help").write_text("nop\n")
+    count.same(f"{place.name}, a file that is called help", call(place.wrapper, "run", "help", "help", folder=folder)[1:], ("", place.notice + NO_HEADER.split("\n")[0] + "\n"))
 
 
 def after_bad_words(count, place, folder):
@@ -150,34 +184,37 @@ def after_bad_words(count, place, folder):
     names = [row[1].split()[0] for row in rows if row[0] == "command"]
     for words in ((), ("--help",), ("help",), ("no-command",)):
         status, said, shown = at_terminal([place.wrapper, *words], folder)
-        lines = shown.replace("  `no-command` is no command\n", "").split("\n")
-        count.same(f"{place.name}, {words}", (status, said, lines[0]), (2, "", BAD.strip()))
+        helps = "help" in " ".join(words)
+        faults, _, added = shown.removeprefix(place.notice).partition("\n")
+        count.same(f"{place.name}, {words}", (status, faults, "" if helps else said, added if helps else ""), (2, BAD.strip(), "", ""))
+        lines = ["", *(said if helps else added).replace("  `no-command` is no command\n", "").split("\n")]
         listed, end = lines[2:2 + len(names)], lines[2 + len(names):]
         count.same(f"{place.name}, the commands after {words}", [line.split()[0] for line in listed], names)
         count.same(f"{place.name}, the end after {words}", end, [
             f"`ztso COMMAND --help`: its words and options; more: {place.manual}",
             f"litmus tests: {place.pages}/litmus", ""])
     more = f"more: {place.manual}; {place.pages}/docs/formats.md\n"
-    for words, wrong in ((("run",), "  FILE is missing\n"), (("run", "a", "b", "c"), "  `c` is one word too many\n"), (("help", "run"), "")):
-        count.same(f"{place.name}, {words}", at_terminal([place.wrapper, *words], folder), (2, "", BAD + wrong + RUN + more))
+    for words, wrong in ((("run",), "  FILE is missing\n"), (("run", "a", "b", "c"), "  `c` is one word too many\n")):
+        count.same(f"{place.name}, {words}", at_terminal([place.wrapper, *words], folder), (2, "", place.notice + BAD + wrong + RUN + more))
+    count.same(f"{place.name}, help run", at_terminal([place.wrapper, "help", "run"], folder), (2, RUN + more, place.notice + BAD))
     for words, wrong in WRONG:
         _, _, shown = at_terminal([place.wrapper, *words], folder)
-        count.same(f"{place.name}, the word that is wrong of {words}", shown.split("\n")[1], f"  {wrong}")
+        count.same(f"{place.name}, the word that is wrong of {words}", shown.removeprefix(place.notice).split("\n")[1], f"  {wrong}")
     for name in names:
         status, said, shown = at_terminal([place.wrapper, name, "--help"], folder, before="stty cols 64 <&2; ")
         taken = [row[1] for row in rows if row[0] == "option" and name in row[2].split()]
         count.told(f"{place.name}, {name} --help",
-                   (status, said) == (2, "") and shown.startswith(f"{BAD}usage: ztso {name}")
-                   and all(f"\n  {option} " in shown for option in taken)
-                   and all(len(line) < 64 for line in shown.split("\n") if not line.startswith("more: ")), shown)
+                   (status, shown) == (2, place.notice + BAD) and said.startswith(f"usage: ztso {name}")
+                   and all(f"\n  {option} " in said for option in taken)
+                   and all(len(line) < 64 for line in said.split("\n") if not line.startswith("more: ")), said + shown)
 
 
 def after_faults(count, place, folder):
     """The first line of the fault's section, and how to read the rest."""
     _, _, shown = at_terminal([place.wrapper, "find", "none"], folder)
-    count.same(f"{place.name}, a file that find can't read", shown, "ztso: read failed\n  none isn't there\n")
+    count.same(f"{place.name}, a file that find can't read", shown, place.notice + "ztso: read failed\n  none isn't there\n")
     _, _, shown = at_terminal([place.wrapper, "find", "a\x1b[31m\x07\x9bé"], folder)
-    count.same(f"{place.name}, a name with what a terminal obeys", shown, "ztso: read failed\n  a?[31m??é isn't there\n")
+    count.same(f"{place.name}, a name with what a terminal obeys", shown, place.notice + "ztso: read failed\n  a?[31m??é isn't there\n")
     trials = (
         (("asm",), "mov x1,x2\n", 2, UNKNOWN, "2"),
         (("run", "bad.litmus", "none"), "", 2, NO_HEADER, "21"),
@@ -188,21 +225,81 @@ def after_faults(count, place, folder):
         (("queue", f"{place.pages}/litmus/message-passing/mp.litmus", "--certificate", "none"), "", 3, READ_FAILED, "read failed"))
     for words, text, status, shown, what in trials:
         count.same(f"{place.name}, {' '.join(words)}", at_terminal([place.wrapper, *words], folder, text),
-                   (status, "", f"{shown}  {place.explain} {what}: an example, and what to do\n"))
+                   (status, "", f"{place.notice}{shown}  {place.explain} {what}: an example, and what to do\n"))
 
 
 def nothing_added(count, place, folder, alone):
     """Where there is no fault, where the line can't be asked for again, and where standard output is closed."""
-    sb = [place.pages / "litmus/store-buffering" / name for name in ("sb.litmus", "sb/0-0.schedule", "sb/1-1.schedule")]
+    holds, fails = ([place.pages / f"examples/{name}{end}" for end in (".litmus", ".schedule")] for name in ("store-buffering", "message-passing"))
     for words, text in (
-            (("run", sb[0], sb[1]), ""), (("run", sb[0], sb[2]), ""), (("try", sb[0], *DRAWN), ""),
-            (("debug", sb[0], sb[1]), "s\nbad\nq\n"), (("asm",), "nop\n"),
+            (("run", *holds), ""), (("run", *fails), ""), (("try", holds[0], *DRAWN), ""),
+            (("debug", *holds), "s\nbad\nq\n"), (("asm",), "nop\n"),
             (("try", "/dev/stdin", *DRAWN), "no test\n")):
-        count.same(f"{place.name}, {words[0]} adds nothing", at_terminal([place.wrapper, *words], folder, text),
-                   call(alone, *words, folder=folder, text=text))
+        status, said, faults = call(alone, *words, folder=folder, text=text)
+        count.same(f"{place.name}, {words[0]} adds nothing", at_terminal([place.wrapper, *words], folder, text), (status, said, place.notice + faults))
     closed = "exec >&-; "
-    wanted = call("sh", "-c", f'{closed}exec "$0" "$@"', alone, "asm", text="nop\n", folder=folder)
-    count.same(f"{place.name}, closed output", at_terminal([place.wrapper, "asm"], folder, "nop\n", closed), wanted)
+    status, said, faults = call("sh", "-c", f'{closed}exec "$0" "$@"', alone, "asm", text="nop\n", folder=folder)
+    count.same(f"{place.name}, closed output", at_terminal([place.wrapper, "asm"], folder, "nop\n", closed), (status, said, place.notice + faults))
+
+
+def drawn(count, place, folder, alone):
+    """What `try` asks of the program where its words don't say how runs are drawn, which is said; and its table without schedules."""
+    sb = place.pages / "litmus/store-buffering/sb.litmus"
+    more = "--seed 1 --runs 1000 --length 60"
+    said = f"{place.notice}ztso: try {sb} {more}\n"
+    whole = call(alone, "try", sb, *more.split(), folder=folder)
+    count.same(f"{place.name}, try with a file alone", call(place.wrapper, "try", sb, folder=folder), (whole[0], whole[1], said + whole[2]))
+    table = "".join(line.partition(" ; ")[0] + "\n" for line in whole[1].splitlines())
+    count.same(f"{place.name}, its table", call(place.wrapper, "try", sb, "--table", *more.split(), folder=folder),
+               (whole[0], table, place.notice + whole[2]))
+    few = call(alone, "try", sb, "--length", "9", "--seed", "1", "--runs", "1000", folder=folder)
+    count.same(f"{place.name}, try with a length", call(place.wrapper, "try", sb, "--length", "9", folder=folder),
+               (few[0], few[1], f"{place.notice}ztso: try {sb} --length 9 --seed 1 --runs 1000\n" + few[2]))
+    for words in (("try",), ("try", "/dev/stdin"), ("try", sb, sb), ("try", sb, "--table", "--table")):
+        refused = call(place.wrapper, *words, folder=folder)
+        count.same(f"{place.name}, {words[1:]} is refused", (refused[:2], refused[2].endswith("ztso: bad command line\n")), ((2, ""), True))
+    shown = at_terminal([place.wrapper, "try", sb, "--table"], folder)
+    count.same(f"{place.name}, a table at a terminal", shown[:2], (whole[0], table))
+
+
+def slips(count, place, folder, alone):
+    """What looks like a slip of the pen is said before the program answers, at a terminal or not, and of the shelf nothing."""
+    shelf = sorted((place.pages / "litmus").glob("*/*.litmus"))
+    right = (place.pages / "litmus/store-buffering/sb.litmus").read_text()
+    count.same(f"{place.name}, the shelf", len(shelf), 72)
+    found = {path.name: listing.listed(call(alone, "show", path)[1], path.read_text())["slips"] for path in shelf}
+    count.same(f"{place.name}, a location of one hart is meant", {name: len(lines) for name, lines in found.items() if lines}, {"rsw.litmus": 1})
+    for path in (path for path in shelf if path.name in ("rsw.litmus", "sb.litmus", "peterson.litmus")):
+        count.same(f"{place.name}, no slip in {path.name}", call(place.wrapper, "show", path, folder=folder)[2], place.notice)
+    file = folder / "slip.litmus"
+    (folder / "none.schedule").write_text("ztso-schedule 1\n")
+    for change, lines in SLIPS:
+        file.write_text(right.replace(*change))
+        said = place.notice + "".join(f"ztso: {line}\n" for line in lines)
+        others = ("find", "--states", "9999", file), ("try", file, *DRAWN), ("run", file, folder / "none.schedule")
+        for words in (("show", file), *(others if change == SLIPS[0][0] else ())):
+            status, written, faults = call(alone, *words, folder=folder)
+            count.same(f"{place.name}, {words[0]} after {change}", call(place.wrapper, *words, folder=folder), (status, written, said + faults))
+        count.same(f"{place.name}, a terminal after {change}", at_terminal([place.wrapper, "show", file], folder)[2], said)
+    for name, text in (("a refused text", "no test\n"), ("a slip and a fault", right.replace("x8) | lw", "x9) | lwx"))):
+        file.write_text(text)
+        count.same(f"{place.name}, {name}", call(place.wrapper, "show", file, folder=folder)[2], place.notice + call(alone, "show", file, folder=folder)[2])
+    status, written, faults = call(place.wrapper, "show", "/dev/stdin", folder=folder, text=right.replace("0(x8) | lw", "0(x9) | lw"))
+    count.same(f"{place.name}, a text on standard input", (status, bool(written), faults), (0, True, place.notice))
+
+
+def faulty_places(count, place, folder):
+    """The hart and the cell of a fault, or the word that is spelled almost as one that may stand there."""
+    right, file = (place.pages / SB[0]).read_text(), folder / "fault.litmus"
+    for change, number, line, said, section in PLACES:
+        file.write_text(right.replace(*change))
+        fault = f"ztso: refused {number} at line {line}"
+        for words in (("show", file), *([("find", "--states", "9", file)] if change == PLACES[0][0] else [])):
+            shown = at_terminal([place.wrapper, *words], folder)[2].removeprefix(place.notice).split("\n")
+            wanted = [fault, *([f"  {said}"] if said else []), section]
+            count.told(f"{place.name}, {words[0]}: the place of {change}",
+                       len(shown) == len(wanted) + 2 and all(map(str.startswith, shown, wanted)), shown)
+        count.same(f"{place.name}, {change} in a pipe", call(place.wrapper, "show", file, folder=folder), (2, "", f"{place.notice}{fault}\n"))
 
 
 def short_names(count, places, prefix, top):
@@ -212,35 +309,36 @@ def short_names(count, places, prefix, top):
     _, _, shown = at_terminal([places[0].wrapper, "asm"], top, "mov x1,x2\n", f"PATH='{prefix}/bin':$PATH; ")
     _, _, words = at_terminal([places[0].wrapper, "run"], top, "", f"PATH='{prefix}/bin':$PATH; ")
     count.told("the manual page on the PATH", f"more: man ztso; {prefix}/share" in words, words)
-    count.same("on the PATH", shown, f"{UNKNOWN}  ztso-explain 2: an example, and what to do\n")
+    count.same("on the PATH", shown, f"{places[0].notice}{UNKNOWN}  ztso-explain 2: an example, and what to do\n")
 
 
 def progress(count, place, share):
     """`try`, `ring`, `callers` and `check` still see that they are at a terminal."""
+    first = place.notice.encode()
     words = [place.wrapper, "try", share / SB[0], "--seed", "1", "--runs", "100000", "--length", "1000"]
     done, written = terminal.run(list(map(str, words)), stdout=subprocess.PIPE, timeout=SECONDS)
     shown, gone = terminal.shown(written)
-    count.told("the progress of try", shown == b"" and gone and gone[-1].startswith(b"runs ") and done.stdout, (shown, gone))
+    count.told("the progress of try", shown == first and gone and gone[-1].startswith(b"runs ") and done.stdout, (shown, gone))
     rings = tree.TOP / "examples/rings"
     words = [place.wrapper, "ring", rings / "lamport-sender.asm", rings / "lamport-receiver.asm", "2", "--seed", "1", "--runs", "9", "--length", "99"]
     done, written = terminal.run(list(map(str, words)), input=b"7\n", stdout=subprocess.PIPE, timeout=SECONDS)
     shown, gone = terminal.shown(written)
-    count.told("the progress of ring", (shown, gone[-1:]) == (b"", [b"runs 9 of 9"]) and done.stdout, (shown, gone))
+    count.told("the progress of ring", (shown, gone[-1:]) == (first, [b"runs 9 of 9"]) and done.stdout, (shown, gone))
     words = [place.wrapper, "callers", share / "examples/callers/lamport.litmus", "--slots", "2", "--base", "1024", *DRAWN]
     done, written = terminal.run(list(map(str, words)), stdout=subprocess.PIPE, timeout=SECONDS)
     shown, gone = terminal.shown(written)
     count.same("the progress of callers", (shown, gone[-1:], done.stdout.splitlines()[:1]),
-               (b"", [b"runs 10 of 10"], [b"kept 10 runs"]))
+               (first, [b"runs 10 of 10"], [b"kept 10 runs"]))
     # more than a second passes between two records
     record = "printf 'ztso-schedule 2\\n'"
     words = ["sh", "-c", f'({record}; sleep 2; {record}) | "$0" check "$1"', place.wrapper, share / SB[0]]
     done, written = terminal.run(list(map(str, words)), stdout=subprocess.PIPE, timeout=SECONDS)
     shown, gone = terminal.shown(written)
-    count.told("the progress of check", shown == b"" and gone and gone[-1].startswith(b"0 kB read, ") and done.stdout, (shown, gone))
+    count.told("the progress of check", shown == first and gone and gone[-1].startswith(b"0 kB read, ") and done.stdout, (shown, gone))
     # what is written to the terminal itself stands in lines of its own
     done, written = terminal.run([*words[:2], words[2].replace('check "$1"', 'check "$1" >&2'), *map(str, words[3:])], timeout=SECONDS)
     shown, gone = terminal.shown(written)
-    count.same("the answers of check at a terminal", shown, b"1 unfinished\n2 unfinished\nunfinished 2\nrefused 0\n")
+    count.same("the answers of check at a terminal", shown, first + b"1 unfinished\n2 unfinished\nunfinished 2\nrefused 0\n")
 
 
 def prompt(count, place, share):
@@ -252,4 +350,7 @@ def prompt(count, place, share):
         said = typed.until(b"store 0 0 1")
     finally:
         typed.end()
+    named = b"".join(asked.splitlines(keepends=True)[:-1])
+    count.told("debug's commands, before the first is asked for", all(each in named for each in (b"s: ", b"g: ", b"u K: ", b"r H: ", b"q: ", b"a H: ", b"l H: ",
+               b"p H: ", b"w A: ", b"b H PC: ", b"t: ")), asked)
     count.told("the prompt of debug", asked.endswith(b"\n> ") and b"store 0 0 1" in said, said)

@@ -5,14 +5,16 @@ import json
 import os
 import re
 import signal
+import socket
 import subprocess
 import tempfile
 import threading
 import time
 from pathlib import Path
+from types import SimpleNamespace
 
 from bring_parts import REFERENCE
-from page_parts.calls import MEMORY
+from page_parts.calls import MEMORY, OUTPUT, Calls, Failed
 from page_trials.served import LOOP, SB, Served
 
 RUN = {"text": SB, "buffer": 4}
@@ -33,6 +35,7 @@ LONG = {"text": LOOP, "buffer": 4, "draw": "uniform", "seed": "1", "skip": 0, "r
 
 
 def part(count, program):
+    outputs(count)
     served = Served(program)
     try:
         texts(count, served)
@@ -41,6 +44,21 @@ def part(count, program):
         children(count, served)
     finally:
         ends(count, served)
+
+
+def outputs(count):
+    """A child's answer comes in pieces, and is refused where all of them are longer than it may be."""
+    ours, theirs = socket.socketpair()
+    with tempfile.TemporaryDirectory() as folder, ours, theirs:
+        child = Path(folder, "child")
+        for more, wanted in ((0, OUTPUT), (1, "the program's answer is too long for the page")):
+            child.write_text(f"#!/bin/sh\nhead -c {OUTPUT + more} /dev/zero\n")
+            child.chmod(0o755)
+            try:
+                came = len(Calls(SimpleNamespace(can=None)).of(ours).run([str(child)], {})[1])
+            except Failed as failed:
+                came = str(failed)
+            count.told(f"{OUTPUT + more} bytes of output", came == wanted, came)
 
 
 def texts(count, served):

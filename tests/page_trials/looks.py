@@ -1,5 +1,7 @@
 """What is seen: contrast, names of controls, narrow windows and large type."""
 
+from page_trials.texts import link_of
+
 # the texts whose contrast with what is under them is below 4.5
 PALE = """(() => {
     const numbers = text => { const found = /color\\(srgb ([^)]+)\\)/.exec(text);
@@ -32,6 +34,10 @@ SMALL = """[...document.querySelectorAll("button, select, input, summary, textar
     .map(([one, { width, height }]) => `${one.id || one.textContent} ${width} x ${height}`)"""
 GOES_ON = """(() => { const box = document.getElementById("chart");
     return [box.scrollWidth > box.clientWidth, !document.getElementById("goes-on").hidden]; })()"""
+# whether the buttons that lead through a run, and its picture, are whole in the window
+SEEN = """["back", "chart"].map(id => document.getElementById(id).getBoundingClientRect()).map(
+    ({ top, bottom }) => top >= 0 && bottom <= innerHeight)"""
+PRESSED = "document.getElementById('fit').getAttribute('aria-pressed')"
 CONTROLS = ("button", "combobox", "textbox", "checkbox", "region", "dialog", "image", "img")
 
 
@@ -59,6 +65,7 @@ def part(count, page):
     broken = page.run(BROKEN)
     count.told("nor is a short word broken there", not broken and not page.wide(), broken)
     phone(count, page)
+    sent(count, page)
     page.browser.size(1280, 800)
     pictures(count, page)
     about(count, page)
@@ -66,19 +73,37 @@ def part(count, page):
 
 
 def phone(count, page):
-    """A phone's window: targets for fingers, and a picture that is scrolled in its own box."""
+    """A phone's window: targets for fingers, and a picture that is whole, or scrolled in its own box."""
     page.browser.size(390, 844)
     page.event("a0", "a1")
     page.click('[data-key="break 1 4"]')
     small = page.run(SMALL)
     count.told("no target is below 24 pixels on a phone", not small, small)
+    whole = page.run(GOES_ON), page.run(PRESSED)
+    count.told("a picture fits the width", whole == ([False, False], "true"), whole)
+    page.click("#fit")
     found = page.run("""(() => { const box = document.getElementById("chart"), rows = document.querySelector(".rows");
         return [box.scrollWidth > box.clientWidth, rows.clientHeight / 2 >= 24]; })()""")
-    count.told("nor a row of the picture, which is scrolled", found == [True, True] and not page.wide(), found)
+    count.told("as large as it is read, its rows are no smaller, and it is scrolled", found == [True, True] and not page.wide(), found)
     seen = page.run(GOES_ON)
     page.run("document.getElementById('chart').scrollLeft = 9999")
     page.browser.until("document.getElementById('goes-on').hidden", 5)
     count.told("a picture that goes on says so, until it is scrolled to its end", seen == [True, True], seen)
+
+
+def sent(count, page):
+    """A run that somebody was sent begins at its picture, with the buttons that lead through it in reach, however far it is scrolled."""
+    for width, name, run in ((390, "sb", "a0 a1 a0 a1 l0 l1"), (360, "wrc", "a0 l0 a1 a1 l1 a2 a2"), (360, "iriw", "a0 a1*2 a2 a3*2 l0 l2")):
+        page.browser.size(width, 780)
+        page.choose(name)
+        text = page.run("document.getElementById('text').value")
+        page.open(link_of({"text": text, "buffer": 4, "tokens": run}))
+        seen = page.run(SEEN)
+        count.told(f"{name}'s run begins at its picture on {width} pixels", seen == [True, True], seen)
+        count.told(f"which is whole, {name}", page.run(GOES_ON) == [False, False], page.run(GOES_ON))
+        page.run("window.scrollBy(0, 160)")
+        page.click("#back")
+        count.told(f"Back is in reach, {name}", page.run("document.getElementById('back').getBoundingClientRect().top") >= 0)
 
 
 def pictures(count, page):

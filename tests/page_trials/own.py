@@ -11,6 +11,7 @@ OWN = rows.COMPUTES
 # P0 stores to an address that is no multiple of 4, so it stops
 STOPS = SB.replace("0:x6=x;", "0:x6=3;").replace("RISCV SB", "RISCV stops")
 SLIP = SB.replace("1:x8=x;", "1:x8=X;").replace("RISCV SB", "RISCV slip")
+UNSET = SB.replace("0(x8) | lw", "0(x9) | lw").replace("RISCV SB", "RISCV unset")
 X86 = "X86 SB\n{ x=0; y=0; }\n P0 | P1 ;\n MOV [x],$1 | MOV [y],$1 ;\nexists (0:EAX=0)\n"
 TEXT = "document.getElementById('text').value"
 
@@ -135,10 +136,13 @@ def slips(count, page):
         said = page.note()
         count.told("also where a search finds nothing", "Not found in" in said and "P0 stops by 9 Misaligned." in said, said)
     page.over("text", SLIP)
-    said = page.text("#lone")
+    said = page.text("#slips")
     count.told("locations that one hart names", said.startswith("Only one hart names x (P0) and X (P1)."), said)
+    page.over("text", UNSET)
+    said = page.text("#slips")
+    count.told("a base that nothing sets", said == "Nothing sets P0's x9: it is 0, and lw x7,0(x9) (line 9) touches x.", said)
     page.choose("rsw")
-    count.told("the shelf's are meant", page.text("#lone") == "", page.text("#lone"))
+    count.told("the shelf's are meant", page.text("#slips") == "", page.text("#slips"))
 
 
 def room(count, page):

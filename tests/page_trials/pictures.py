@@ -57,6 +57,12 @@ def compiled(page):
     page.keys("m", "0", "0", "1", "1", "0", "1")
 
 
+def with_sources(page):
+    page.over("text", (ROOT / "examples/queues/wrong/no_look.litmus").read_text())
+    page.run("document.activeElement.blur()")
+    page.paste("a0*11 l0 a0*9 a1*4")
+
+
 def menu(page):
     page.event(*SB[:4])
     page.click("#saving summary")
@@ -96,6 +102,7 @@ def sized(width, height, scale=1):
 LOOKS = {"begin": lambda page: page.choose("sb"), "drawn": drawn, "narrow": sized(400, 800), "zoom": sized(640, 400, 2),
          "dark": lambda page: (drawn(page), page.browser.dark(True)), "veiled": veiled, "harts": many_harts,
          "long-names": long_names, "not-shown": not_shown, "fault": lambda page: page.over("text", texts.FAULTY), "compiled": compiled,
+         "with-sources": with_sources,
          "keys": lambda page: page.press("?"), "menu": menu,
          "many-outcomes": lambda page: (page.choose("iriw"), page.draw()),
          "unfinished": unfinished, **{f"four-harts-{width}": four_harts(width) for width in WIDTHS},

@@ -13,6 +13,16 @@ COMPUTES = """RISCV computes
  sw x5,0(x6)    | lw x7,0(x6) ;
 exists (1:x7=1)
 """
+# cells with the lines of a source, as from-c --lines has them, and a comment of somebody's own
+SOURCES = """RISCV sources
+{ 0:x6=x; 1:x6=x; }
+ P0 | P1 ;
+ addi x5,x0,1 # 4: x = a ¦ b | addi x5,x0,2 # mine ;
+ sw x5,0(x6) # 4 | sw x5,0(x6) ;
+ addi x5,x0,3 # at.h:7: y = f(x⁏) | ;
+ sw x5,0(x6) # 4 | ;
+exists (0:x5=3)
+"""
 TOPS = "parseFloat(getComputedStyle(document.querySelector('.rows')).top)"
 PLACES = """(() => { const box = document.querySelector('.rows').getBoundingClientRect();
     return [box.x + 60, box.y, box.height]; })()"""
@@ -38,6 +48,7 @@ def part(count, page):
         page.idle()
         count.told("the switch stays", page.run("document.getElementById('memory-rows').checked"))
         page.click("#memory-rows")
+    sources(count, page)
     if page.run("!document.getElementById('find').hidden"):
         finds(count, page)
 
@@ -50,6 +61,15 @@ def code(count, page):
     page.event("a1", "a1")
     both = lines, page.texts("#numbers .here")
     count.told("the lines where the harts are", both == (["4", "5"], ["5", "6"]), both)
+
+
+def sources(count, page):
+    """The comments of cells stand above their instructions, the line of a source once for all of one row, with its text from where it stands."""
+    page.over("text", SOURCES)
+    page.run("document.activeElement.blur()")
+    page.idle()
+    found = page.texts(".code .note")
+    count.told("the source's lines above the code", found == ["4: x = a | b", "at.h:7: y = f(x;)", "4: x = a | b", "mine"], found)
 
 
 def leads(count, page, places, name):

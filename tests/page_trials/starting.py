@@ -1,17 +1,23 @@
 """How tools/page starts: its words, its port, its program."""
 
+import base64
+import json
 import os
+import re
 import shutil
 import subprocess
+import sys
 import tempfile
 import time
+import zlib
 from pathlib import Path
 
+from bring_parts import provenance
 from page_parts import ROOT, TOOLS, programs
 from page_trials.served import SB, Served
 
 NEEDED = ("tools/page", "tools/page_parts", "tools/bring_parts", "tools/from-c", "tools/from-herd", "tools/reference",
-          "examples/mappings", "docs/errors.md", "docs/page.md", "README.md", "docs/rings.tsv", "litmus")
+          "examples/mappings", "docs/errors.md", "docs/errors-of-queues.md", "docs/page.md", "README.md", "docs/rings.tsv", "litmus")
 
 
 def part(count, program):
@@ -29,12 +35,73 @@ def part(count, program):
     served = Served(program, "https://example.org/ztso/#run=abc")
     address = served.address
     count.told("a whole link, without its address", address.endswith("/#run=abc") and "example" not in address, address)
+    unproved(count, served, Path(program or programs.REFERENCE))
     served.end()
     with tempfile.TemporaryDirectory(prefix="ztso-page-") as folder:
+        linked(count, folder)
+        exercises(count)
+        no_library(count, Path(folder))
         written(count, Path(folder, "hosted"))
         found(count, program, Path(folder, "ztso"))
         opened(count, program, Path(folder))
         moved(count, program, Path(folder, "moved"))
+
+
+def linked(count, folder):
+    """The link of a run has the text and the events, and what can't be a run is refused."""
+    schedule, text = Path(folder, "a.schedule"), ROOT / "litmus/store-buffering/sb.litmus"
+    schedule.write_text("ztso-schedule 1\na0*2\nl0 a1\n")
+
+    def call(*words):
+        return subprocess.run([TOOLS / "page", "--link", *words], capture_output=True, text=True, timeout=60, check=False)
+    done = call(text, schedule, "--to", "https://example.org/page/#old")
+    address, mark, packed = done.stdout.strip().partition("#run=")
+    run = json.loads(zlib.decompress(base64.urlsafe_b64decode(packed + "=" * (-len(packed) % 4)), -15)) if mark else {}
+    count.told("the link of a run", address == "https://example.org/page/" and run == {
+        "text": SB, "buffer": 4, "draw": "uniform", "tokens": "a0*2 l0 a1", "place": None}, done)
+    for words, said in (((schedule, schedule), "refused 21"), ((text, text), "refused 27"), ((text, Path(folder, "none")), "No such file"), ((text, schedule, schedule), "and no more")):
+        done = call(*words)
+        count.told(f"no link of {words}", done.returncode == 2 and said in done.stderr and not done.stdout, done)
+    done = subprocess.run([TOOLS / "page", "--to", "https://example.org"], capture_output=True, text=True, timeout=60, check=False)
+    count.told("an address without a link", done.returncode == 2 and "--to goes with --link" in done.stderr and not done.stdout, done)
+
+
+def exercises(count):
+    """Each command of docs/exercises.md that makes a link makes one that begins before the first event."""
+    lines = [line for line in (ROOT / "docs/exercises.md").read_text().splitlines() if line.startswith("tools/page --link ")]
+    count.told("five exercises", len(lines) == 5, lines)
+    for line in lines:
+        done = subprocess.run(line.split(" "), cwd=ROOT, capture_output=True, text=True, timeout=60, check=False)
+        address, _, packed = done.stdout.strip().partition("#run=")
+        run = json.loads(zlib.decompress(base64.urlsafe_b64decode(packed + "=" * (-len(packed) % 4)), -15)) if packed else {}
+        count.told(line, (address, run.get("text"), run.get("tokens")) == (line.split(" ")[-1], (ROOT / line.split(" ")[2]).read_text(), ""), done)
+
+
+def no_library(count, folder):
+    """What is said where rustc has no library for WebAssembly: one command, by whether there is rustup."""
+    tools = folder / "tools"
+    tools.mkdir()
+    (tools / "python3").symlink_to(sys.executable)
+    for name, said in (("rustc", "on Debian 13 `apt-get install cargo "), ("rustup", "`rustup target add wasm32-unknown-unknown`, or ")):
+        (tools / name).write_text("#!/bin/sh\necho /none\n")
+        (tools / name).chmod(0o755)
+        done = subprocess.run([ROOT / "scripts/static-page", folder / "no-page"], env=os.environ | {"PATH": str(tools)}, capture_output=True,
+                              text=True, timeout=60, check=False)
+        wanted = f"static-page: rustc has no library for wasm32-unknown-unknown: {said}"
+        count.told(f"no library, with {name}", done.returncode == 1 and done.stderr.startswith(wanted) and done.stderr.count("\n") == 1, done)
+
+
+def unproved(count, served, program):
+    """What the page says of a program that isn't proved, below its head, which a narrow window shows too."""
+    said, name = served.shelf()["unproved"], program.relative_to(ROOT) if program.is_relative_to(ROOT) else program.name
+    wanted = "" if program == ROOT / provenance.KEPT else f"The program {name}: built by rustc, and nothing is proved of it." if (
+        str(name) in provenance.STOCK) else f"The program {name}: the second implementation, of which nothing is proved." if (
+        program == programs.REFERENCE) else f"The program {name}: what built it isn't known, so nothing of it is taken as proved."
+    count.told("what is said of the program", said == wanted, said)
+    page, sheet = (served.request("GET", served.own + file)[1].decode() for file in ("", "page.css"))
+    rules = re.findall(r"[^{}]*#built[^{}]*\{([^}]*)\}", sheet)
+    good = '</header>\n<p id="built" hidden></p>' in page and rules and not any("display" in rule or "visibility" in rule for rule in rules)
+    count.told("it stands below the head, at any width", good, rules)
 
 
 def written(count, top):
@@ -78,7 +145,8 @@ def moved(count, program, top):
         else:
             shutil.copy2(source, target)
     before = sorted(top.rglob("*"))
-    served = Served(program or programs.REFERENCE, page=top / "tools/page", cwd="/")
+    # as an installed tool starts, which writes no compiled modules
+    served = Served(program or programs.REFERENCE, page=top / "tools/page", cwd="/", PYTHONDONTWRITEBYTECODE="1")
     try:
         status, answer = served.ask("test", text=SB)
         herd = served.ask("herd", text=(ROOT / "examples/herd/LB+typed.litmus").read_text())[1]
@@ -109,7 +177,8 @@ def found(count, program, stand_in):
         *) exec '{program or programs.REFERENCE}' "$@" ;;
         esac"""))
     try:
-        can = served.shelf()["can"]
+        can, said = (served.shelf()[name] for name in ("can", "unproved"))
+        count.told("nobody knows what built a stand-in", said == "The program ztso: what built it isn't known, so nothing of it is taken as proved.", said)
         count.told("a program's commands are known", can["find"] and can["memory"], can)
         answer = served.ask("chart", text=SB, buffer=4, tokens="a0", rows="memory")[1]
         count.told("a picture of some rows", "rows of memory\n" in (answer.get("svg"), answer.get("text")), answer)

@@ -56,7 +56,6 @@ class Ownership(Run):
         super().__init__(draw)
         # what is read of some bytes, each where nobody else has a pending store over it, and which count its hart's party had there
         self.noted = []
-        self.to_learn, self.learns = self.waiting_records(self.counts.known[RECEIVER]), 0
 
     def opened(self, first):
         queue, machine, draw = self.queue, self.machine, self.draw
@@ -157,24 +156,12 @@ class Ownership(Run):
     def tells_full(self):
         return self.queue.capacity < self.queue.modulus
 
-    def send(self, records):
-        super().send(records)
-        self.to_learn += records
-
     def try_laws(self, hart, access, old):
         super().try_laws(hart, access, old)
-        self.try_learning(old)
         self.try_own_index()
         self.try_other_memory()
         if self.draw.random() < 0.5:
             self.note()
-
-    def try_learning(self, old):
-        """The records of which the receiver learns are a beginning of those that waited and were published."""
-        for k in range(old.known[RECEIVER], min(self.counts.known[RECEIVER], old.known[RECEIVER] + 2 * self.queue.size)):
-            if self.to_learn[self.learns:self.learns + 1] != [self.record(RECEIVER, k)]:
-                self.broken.add("in_order_as_learned")
-            self.learns += 1
 
     def try_codec(self):
         queue, n = self.queue, self.draw.below(2**33)

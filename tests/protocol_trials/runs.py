@@ -39,6 +39,8 @@ class Run:
     published_with = None
     # whether a party hands over what its hart reads after the entry that moves its count, or before
     hands_what_stands_after = False
+    # whether the receiver learns of a record as its hart reads it before the entry that tells it, or after
+    learns_what_stood_before = False
 
     def __init__(self, draw):
         self.draw, self.broken, self.is_over = draw, set(), False
@@ -58,6 +60,8 @@ class Run:
         # for a position past which a party moved: the entry, and the bytes of its slot as its hart read them there
         self.passed = [{}, {}]
         self.sent, self.took, self.leaves = self.waiting_records(self.counts.count[RECEIVER]), [], True
+        # the records of which the receiver may learn, and of how many it has
+        self.to_learn, self.learns = self.waiting_records(self.counts.known[RECEIVER]), 0
         self.waiting = {k: self.record(THIRD, k) for k in range(self.counts.count[RECEIVER], self.counts.count[SENDER])}
 
     # ---- what a protocol adds
@@ -181,6 +185,8 @@ class Run:
             self.broken.add("window")
             return
         before = [self.record(hart, k) for k in passes]
+        learned = range(old.known[RECEIVER], min(new.known[RECEIVER], old.known[RECEIVER] + 2 * self.queue.size))
+        stood = [self.record(RECEIVER, k) for k in learned]
         self.look(hart, access, new)
         self.machine.perform(hart, access)
         self.counts = new
@@ -192,6 +198,7 @@ class Run:
                 self.send(after)
             else:
                 self.take(access, before)
+        self.try_learning(stood if self.learns_what_stood_before else [self.record(RECEIVER, k) for k in learned])
         self.try_laws(hart, access, old)
 
     def note_stores(self, p, access, old):
@@ -201,6 +208,7 @@ class Run:
 
     def send(self, records):
         self.sent += records
+        self.to_learn += records
 
     def take(self, access, records):
         """The records that the receiver takes are a beginning of those that waited and were sent, if it left the slots to the sender."""
@@ -239,6 +247,12 @@ class Run:
             del self.waiting[k]
         for k, record in self.waiting.items():
             self.try_byte("waiting", self.slot_of(k) + offset, record[offset], reader, RECEIVER, 0)
+
+    def try_learning(self, records):
+        """The records of which the receiver learns are a beginning of those that waited and were published."""
+        if self.to_learn[self.learns:self.learns + len(records)] != records:
+            self.broken.add("in_order_as_learned")
+        self.learns += len(records)
 
     def is_window(self):
         (published, taken), (known_taken, known_published) = self.counts

@@ -62,10 +62,17 @@ OF_FEW = tuple(queue for queue in QUEUES if queue.size < 3)
 class Telling(Run):
     """the protocol of slots that tell"""
 
-    laws = ("window", "publication", "publication_of_tag", "delivery", "handing_back", "waiting", "in_order", "look", "zero_tells", "numbers_tell")
+    laws = ("window", "publication", "publication_of_tag", "delivery", "handing_back", "waiting", "in_order",
+            "in_order_as_learned", "look", "zero_tells", "numbers_tell")
     queues = QUEUES
     published_with = "publication_of_tag"
     hands_what_stands_after = True
+    learns_what_stood_before = True
+
+    def __init__(self, draw):
+        super().__init__(draw)
+        # the order of what a receiver takes is asked only of one that makes no AMO
+        self.exchanges = draw.random() < 0.5
 
     def opened(self, first):
         queue, machine, draw = self.queue, self.machine, self.draw
@@ -130,7 +137,7 @@ class Telling(Run):
             return self.load(hart, queue.tag_of(k), queue.tag_width)
         if kind < 0.65:
             return self.store(queue.tag_of(k), queue.tag_width, self.drawn_word(hart, k))
-        if kind < 0.9 or hart == RECEIVER:
+        if kind < 0.9 or hart == RECEIVER and not self.exchanges:
             x = self.slot_of(k) + draw.below(queue.width)
             return self.store(x if draw.random() < 0.8 else draw.one_of(self.beside), draw.one_of((1, 1, 2, 4)))
         return self.exchange(hart, queue.tag_of(k), self.drawn_word(hart, k))
@@ -181,7 +188,7 @@ class Alike(Slots):
 class SenderOwnsMore(Telling):
     """the sender owns one more"""
 
-    breaks = ("window", "publication", "publication_of_tag", "delivery", "in_order", "look")
+    breaks = ("window", "publication", "publication_of_tag", "delivery", "in_order", "in_order_as_learned", "look")
     seldom_breaks = ("handing_back",)
     queues = OF_FEW
 
@@ -192,7 +199,7 @@ class SenderOwnsMore(Telling):
 class ReceiverOwnsMore(Telling):
     """the receiver owns one more"""
 
-    breaks = ("window", "publication", "publication_of_tag", "delivery", "in_order", "look")
+    breaks = ("window", "publication", "publication_of_tag", "delivery", "in_order", "in_order_as_learned", "look")
     seldom_breaks = ("handing_back",)
 
     def end(self, p, counts):
@@ -202,7 +209,7 @@ class ReceiverOwnsMore(Telling):
 class FilledAfterTheTag(Telling):
     """the rest of a slot is filled after its tag is stored"""
 
-    breaks = ("delivery", "handing_back")
+    breaks = ("delivery", "handing_back", "in_order_as_learned")
     seldom_breaks = ("in_order",)
     holds = ("window", "publication", "publication_of_tag", "look")
     queues = tuple(queue for queue in QUEUES if queue.width > queue.tag_width)
@@ -243,7 +250,7 @@ class TellsNothing(Telling):
 class ThirdHart(Telling):
     """a third hart stores to slots"""
 
-    breaks = ("delivery", "handing_back", "waiting", "in_order", "look")
+    breaks = ("delivery", "handing_back", "waiting", "in_order", "in_order_as_learned", "look")
     seldom_breaks = ("window", "publication", "publication_of_tag")
 
     def may_third(self, access):
@@ -267,7 +274,7 @@ class PartOfATag(Telling):
 class ToldOfMore(Telling):
     """a tag tells of one position more"""
 
-    breaks = ("window", "publication", "publication_of_tag", "delivery", "handing_back", "in_order", "look")
+    breaks = ("window", "publication", "publication_of_tag", "delivery", "handing_back", "in_order", "in_order_as_learned", "look")
 
     def told(self, p, j):
         return super().told(p, j) + 1
@@ -284,7 +291,7 @@ class NumbersStay(Telling):
 class BothAlike(Telling):
     """a zero tells both parties"""
 
-    breaks = ("window", "publication", "publication_of_tag", "delivery", "in_order", "look", "zero_tells")
+    breaks = ("window", "publication", "publication_of_tag", "delivery", "in_order", "in_order_as_learned", "look", "zero_tells")
     seldom_breaks = ("handing_back",)
     queues = tuple(Alike(*queue) for queue in QUEUES if not queue.modulus)
 
@@ -299,5 +306,13 @@ class PendingAtTheStart(Telling):
         return range(self.queue.slots, self.queue.slots + self.queue.size * self.queue.width)
 
 
+class LearnedAfterTheAmo(Telling):
+    """the receiver learns of a record as it reads it after the AMO that tells it, which may have handed it back"""
+
+    breaks = ("in_order_as_learned",)
+    holds = tuple(law for law in Telling.laws if law != "in_order_as_learned")
+    learns_what_stood_before = False
+
+
 PROTOCOLS = (Telling, SenderOwnsMore, ReceiverOwnsMore, FilledAfterTheTag, AnyTag, TellsNothing, ThirdHart, PartOfATag, ToldOfMore,
-             NumbersStay, BothAlike, PendingAtTheStart)
+             NumbersStay, BothAlike, PendingAtTheStart, LearnedAfterTheAmo)

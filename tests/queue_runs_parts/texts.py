@@ -11,16 +11,16 @@ import queues as reference
 import tags
 import words
 from certify_parts import certificates as writer
-from certify_parts import harts
 from certify_parts import queues as descriptions
 from certify_parts import sent, texts
 from certify_parts import tags as described_tags
+from certify_parts.clock import SECONDS, Clock
 
 TOP = Path(__file__).resolve().parents[2]
 REGISTERS = 32
 NOP = 0x13
-# each way of the search is gone once; of a changed text the first ways alone, for so many seconds of the processor
-FEW_WAYS, FEW_SECONDS = 2, 0.4
+# how long the search of a changed text may take, in seconds of the processor
+FEW_SECONDS = 1
 SAID = re.compile(r"/\* .*?\n((?: +(?:queue|tagged): \S+\n)+) +answer: (.*?) \*/", re.S)
 # a count that opens at so much less than 2^32, or at a few less, wraps soon
 BEFORE_THE_WRAP = 4
@@ -48,10 +48,9 @@ class Accepted(NamedTuple):
     reads: frozenset
 
 
-def source_of(path):
-    text = path.read_text()
+def source_of(name, text):
     queues, answer = SAID.match(text).groups()
-    return Source(path.stem, text, tuple(re.findall(r"(queue|tagged): (\S+)", queues)), answer)
+    return Source(name, text, tuple(re.findall(r"(queue|tagged): (\S+)", queues)), answer)
 
 
 def variants(source):
@@ -126,14 +125,7 @@ def accepted(test, words_of_queues, is_quick=False):
 
 
 def searched(test, queues, is_quick):
-    whole = harts.SECONDS, harts.TURNS
-    if is_quick:
-        harts.SECONDS = ((FEW_SECONDS,) * FEW_WAYS,)
-    harts.TURNS = [(0, at) for at in range(len(harts.SECONDS[0]))]
-    try:
-        return sent.found_of(test, queues)
-    finally:
-        harts.SECONDS, harts.TURNS = whole
+    return sent.found_of(test, queues, Clock(FEW_SECONDS if is_quick else SECONDS))
 
 
 def unjudged(test, words_of_queues):

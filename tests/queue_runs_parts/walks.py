@@ -3,6 +3,7 @@ certificate is followed from one listed state to the next, with the numbers that
 
 import certificates
 import machine
+import progress
 import tags
 from protocol_trials import ownership, telling
 from protocol_trials.machine import Access
@@ -139,6 +140,31 @@ class Followed:
         return function("n, pc, r, read, s", "0")
 
 
+# ---- how soon a party goes on
+
+
+class Row:
+    """Of a party that is shown to go on, the instructions in a row by which it doesn't: how many there are now, the most that there were, and how many
+    in a row never are."""
+
+    def __init__(self, owned, most):
+        self.owned, self.never, self.now, self.longest = owned, most, 0, 0
+
+    def see(self, has_moved, has_looked, owned):
+        """An instruction that moves the own count, or is a load of the other's index by which so many positions are known to be owned, or neither."""
+        self.now = 0 if has_moved or has_looked and owned <= self.owned else self.now + 1
+        self.longest = max(self.longest, self.now)
+
+
+def rows_of(accepted):
+    """The rows of each queue with indices, by the queue and the hart, where the certificate shows that it goes on."""
+    for i, each in enumerate(accepted.certificate.queues if accepted.certificate.harts else ()):
+        for h in (each.queue.sender, each.queue.receiver):
+            found = progress.progress_of(accepted.opening, accepted.certificate, h, i)
+            if isinstance(found, progress.GoesOn):
+                yield (i, h), Row(found.owned, found.pace + found.sight + 2)
+
+
 # ---- walks
 
 
@@ -152,14 +178,15 @@ class Test:
 
 
 class Walks:
-    """Drawn runs of a text: `breaches` and `outside` name the first of each, and `entries` and `taken` count entries and records. A
+    """Drawn runs of a text: `breaches`, `outside` and `idle` name the first of each, and `entries` and `taken` count entries and records. A
     certificate without harts isn't followed."""
 
     def __init__(self, accepted):
         self.accepted, self.test, self.followed = accepted, Test(accepted.test), Followed(accepted)
         self.harts = range(len(self.test.codes))
         self.events = [("a", h) for h in self.harts] + [("l", h) for h in self.harts]
-        self.breaches, self.outside, self.entries, self.taken = [], [], 0, 0
+        self.breaches, self.outside, self.idle, self.entries, self.taken = [], [], [], 0, 0
+        self.rows = dict(rows_of(accepted))
 
     def walk(self, capacity, numbers):
         """One run, of the events of these numbers, up to the first thing that must not be."""
@@ -170,6 +197,8 @@ class Walks:
         self.shares = [[protocol.share(h) for protocol in self.protocols] for h in self.harts]
         follows = self.accepted.certificate.harts
         at = [self.followed.first(h) for h in self.harts] if follows else []
+        for row in self.rows.values():
+            row.now = 0
         for h, first in enumerate(at):
             if not self.followed.is_inside(h, *first, self.seen(h, state)):
                 self.outside.append(f"hart {h} at its opening")
@@ -184,10 +213,13 @@ class Walks:
             h = event[1]
             kind, *parts = outcome.split()
             name = kind.rstrip("12")
+            before, access = self.shares[h][:], None
             if name in KINDS:
-                self.enter(h, KINDS[name], int(kind[len(name):] or 4), parts)
+                access = self.enter(h, KINDS[name], int(kind[len(name):] or 4), parts)
                 if self.breaches:
                     return
+            if name not in ("stopped", "ended"):
+                self.count(h, before, access)
             if not follows or name in ("stopped", "ended"):
                 continue
             following = self.followed.after(h, *at[h], self.seen(h, state))
@@ -197,19 +229,28 @@ class Walks:
             at[h] = following
         self.taken += sum(protocol.counts.count[RECEIVER] for protocol in self.protocols)
 
+    def count(self, h, before, access):
+        """An instruction of a hart, in the rows of its queues."""
+        for (i, party), row in self.rows.items():
+            if party == h:
+                queue, share = self.accepted.certificate.queues[i].queue, self.shares[h][i]
+                others = queue.tail if h == queue.sender else queue.head
+                row.see(share[0] != before[i][0], access is not None and access[:3] == ("load", others, queue.index_width), share[1])
+                if row.now >= row.never and not self.idle:
+                    self.idle.append(f"queue {i}, hart {h}: {row.now} instructions in a row by which it doesn't go on, of fewer than {row.never}")
+
     def seen(self, h, state):
         """What a listed state speaks of: the pc, the registers, words as the hart reads them, and its shares."""
         pc, registers, _, pending, _ = state[0][h]
         return pc, registers, lambda a: word_read(pending, state[1], a), self.shares[h]
 
     def enter(self, h, kind, width, parts):
-        """An access, by each queue's protocol."""
-        address = int(parts[1])
+        """An access, by each queue's protocol, which it returns."""
+        address, value = int(parts[1]), int(parts[-1])
+        access = Access(kind, address, width, int(parts[2]) if kind != "store" else 0, value if kind != "load" else 0)
         for i, protocol in enumerate(self.protocols):
             if address + width <= protocol.low or protocol.high <= address:
                 continue
-            value = int(parts[-1])
-            access = Access(kind, address, width, int(parts[2]) if kind != "store" else 0, value if kind != "load" else 0)
             party = protocol.parties.get(h, THIRD)
             if not protocol.keeps(party, access):
                 self.breaches.append(f"queue {i}, hart {h}: {access}")
@@ -217,6 +258,7 @@ class Walks:
                 self.breaches.append(f"queue {i}, hart {h} loads what it doesn't own: {access}")
             protocol.counts = protocol.counts_next(party, access)
             self.shares[h][i] = protocol.share(h)
+        return access
 
 
 def word_read(pending, memory, a):

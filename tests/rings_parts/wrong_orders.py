@@ -14,7 +14,7 @@ import re
 import subprocess
 import sys
 
-from kit import mutants, parts
+from kit import parts
 
 from . import ROOT
 
@@ -24,18 +24,13 @@ INPUTS = ((3, 3, 1000), (2, 4000, 20), (16, 4000, 20), (200, 4000, 20))
 SECONDS = 5
 
 
-def edits_of(kind):
-    """The mutants that change the ring's tables."""
-    return [file for file in mutants.edits(parts.CRATE[kind]) if re.search("^file: src/lib.rt$", file.read_text(), re.MULTILINE)]
-
-
-def shows(kind, edit, draw):
+def shows(kind, mutant, draw):
     """Runs a table over all inputs, prints what came out, and returns whether a fault was seen."""
-    name, seen = edit.stem if edit else "as it is", False
+    name, seen = mutant or "as it is", False
     for slots, count, runs in INPUTS:
         words = " ".join(str(draw.randrange(1, 2**32)) for _ in range(count))
         done = subprocess.run(
-            [ON_HARTS, "--runs", str(runs), "--seconds", str(SECONDS), *(["--edit", edit] if edit else []), kind,
+            [ON_HARTS, "--runs", str(runs), "--seconds", str(SECONDS), *(["--mutant", mutant] if mutant else []), kind,
              str(slots)], input=words, capture_output=True, text=True)
         found = re.search(r"^# runs (\d+) .* unclean (\d+)$", done.stderr, re.MULTILINE)
         if not found:
@@ -53,9 +48,9 @@ def main(words):
     for kind in words or parts.CRATE:
         unclean = shows(kind, None, draw)
         passed, failed = passed + (not unclean), failed + unclean
-        for edit in edits_of(kind):
+        for mutant in parts.mutants(parts.crate_of(kind)):
             wrong += 1
-            shown += shows(kind, edit, draw)
+            shown += shows(kind, mutant, draw)
     print(f"{shown} of {wrong} wrong tables showed their fault")
     passed, failed = passed + (shown > 0), failed + (shown == 0)
     print(f"{passed} passed, {failed} failed")

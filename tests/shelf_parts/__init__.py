@@ -1,11 +1,13 @@
 """The shelf of litmus tests below litmus/: each test with its witnesses, and what a program shows of it."""
 
+import math
 import os
 import re
 import subprocess
 import sys
 import tempfile
 from concurrent.futures import ThreadPoolExecutor
+from contextlib import contextmanager
 from pathlib import Path
 
 ROOT = Path(__file__).resolve().parent.parent.parent
@@ -13,7 +15,7 @@ REFERENCE = ROOT / "tools/reference/ztso"
 sys.path[:0] = [str(ROOT / folder) for folder in ("tools", "tools/reference", "cases")]
 
 import schedules  # noqa: E402
-from bring_parts.witnessed import SHELF, Entry, shown  # noqa: E402
+from bring_parts.witnessed import SHELF, Entry, named, shown  # noqa: E402
 from faults import Fault  # noqa: E402
 from kit import chosen, form  # noqa: E402
 
@@ -58,21 +60,37 @@ def drawn(program, entry, seed):
     return found
 
 
-def outcome(program, entry, events):
-    """The outcome that a schedule gives, or None where it doesn't finish the test."""
-    entry.ran += len(events)
+@contextmanager
+def schedule_of(events):
+    """The path of a schedule that has these events."""
     with tempfile.NamedTemporaryFile("w", suffix=".schedule") as file:
         file.write(schedules.written(events))
         file.flush()
-        return shown(entry, output(program, "run", entry.path, file.name))
+        yield file.name
+
+
+def outcome(program, entry, events):
+    """The outcome that a schedule gives, or None where it doesn't finish the test."""
+    entry.ran += len(events)
+    with schedule_of(events) as schedule:
+        return shown(entry, output(program, "run", entry.path, schedule))
 
 
 def table():
-    """The outcomes that the table of the shelf's README names, by test: those with a witness, and those
-    that a source excludes."""
-    row = re.compile(r"\| \[[^]]*\]\([a-z-]*/(.*)\.litmus\) \|[^|]*\|[^|]*\|([^|]*)\|([^|]*)\|")
+    """What the table of the shelf's README has, by test: the cell of the outcomes with a witness, and the
+    outcomes that a source excludes."""
+    row = re.compile(r"\| \[[^]]*\]\([a-z-]*/(.*)\.litmus\) \|[^|]*\|([^|]*)\|([^|]*)\|")
     rows = filter(None, map(row.fullmatch, (SHELF / "README.md").read_text().splitlines()))
-    return {row[1]: (outcomes_in(row[2]), outcomes_in(row[3])) for row in rows}
+    return {row[1]: (row[2].strip(), outcomes_in(row[3])) for row in rows}
+
+
+def names(cell, outcomes):
+    """Whether a cell names these outcomes: each of them, their number, or `all N` where no other can be made of their values."""
+    counted = re.fullmatch(r"(all )?(\d+)", cell)
+    if not counted:
+        return outcomes_in(cell) == set(outcomes)
+    every = math.prod(len(set(values)) for values in zip(*outcomes))
+    return int(counted[2]) == len(outcomes) and (not counted[1] or every == len(outcomes))
 
 
 def outcomes_in(cell):

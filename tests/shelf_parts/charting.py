@@ -9,22 +9,20 @@ hart or than 200; or if the columns of the witness's first half stand elsewhere 
 in the tests of which a load takes its bytes from several places.
 """
 
-import tempfile
 from collections import Counter
 
 import shelf_parts as shelf
-from shelf_parts import schedules
 
 SEVERAL_SOURCES = {"bytes-of-a-word", "halfword-over-two-stores"}
 
 
 def drawn(program, entry, values):
     """The width of a witness's picture, and what is wrong with it."""
-    picture, reference = (shelf.output(each, "chart", entry.path, entry.witness_path(values))
-                          for each in (program, shelf.REFERENCE))
+    events = entry.witnesses()[values]
+    picture, reference = (chart(each, entry, events) for each in (program, shelf.REFERENCE))
     harts = len(entry.test.codes)
     width, most = max(map(len, picture.split("\n\n")[1].splitlines())), 110 if harts <= 2 else min(20 + 40 * harts, 200)
-    moves = entry.name not in SEVERAL_SOURCES and heads(picture) != heads(half_drawn(program, entry, values))
+    moves = entry.name not in SEVERAL_SOURCES and heads(picture) != heads(chart(program, entry, events[:len(events) // 2]))
     wrong = (["isn't the reference's"] * (picture != reference) + [f"is wider than {most}"] * (width > most)
              + ["has other columns than its first half"] * moves)
     return width, [f"{entry.case_name(values)} {each}" for each in wrong]
@@ -34,13 +32,10 @@ def heads(picture):
     return picture.split("\n\n")[1].splitlines()[0]
 
 
-def half_drawn(program, entry, values):
-    """The picture of the first half of a witness's events."""
-    events = entry.witnesses()[values]
-    with tempfile.NamedTemporaryFile("w", suffix=".schedule") as file:
-        file.write(schedules.written(events[:len(events) // 2]))
-        file.flush()
-        return shelf.output(program, "chart", entry.path, file.name)
+def chart(program, entry, events):
+    """The picture of a test's run by these events."""
+    with shelf.schedule_of(events) as schedule:
+        return shelf.output(program, "chart", entry.path, schedule)
 
 
 def main(words):

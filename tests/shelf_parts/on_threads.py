@@ -12,7 +12,6 @@ line is `N passed, M failed`, if the share of unfinished runs counts as one more
 """
 
 import subprocess
-import tempfile
 from collections import Counter
 from concurrent.futures import ThreadPoolExecutor
 
@@ -35,12 +34,11 @@ def one_run(program, entry, options):
     status, text = ran(program, "threads", entry.path, *options)
     begin = text.index("hart ")
     schedule, answer = text[:begin], text[begin:]
-    if schedules.written(schedules.read(schedule)) != schedule:
+    events = schedules.read(schedule)
+    if schedules.written(events) != schedule:
         raise shelf.Wrong(f"{entry.name}: the schedule isn't canonical: {schedule!r}")
-    with tempfile.NamedTemporaryFile("w", suffix=".schedule") as file:
-        file.write(schedule)
-        file.flush()
-        again = ran(program, "run", entry.path, file.name)
+    with shelf.schedule_of(events) as file:
+        again = ran(program, "run", entry.path, file)
     if again != (status, answer):
         raise shelf.Wrong(f"{entry.name}: run answers {again}, threads {(status, answer)}, by {schedule!r}")
     return shelf.shown(entry, answer)

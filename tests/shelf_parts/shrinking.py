@@ -11,7 +11,6 @@ events above the witness.
 """
 
 import re
-import tempfile
 
 import shelf_parts as shelf
 from shelf_parts import schedules
@@ -19,10 +18,8 @@ from shelf_parts import schedules
 
 def shrunk(program, entry, events):
     """The events that `shrink` leaves."""
-    with tempfile.NamedTemporaryFile("w", suffix=".schedule") as file:
-        file.write(schedules.written(events))
-        file.flush()
-        return schedules.read(shelf.output(program, "shrink", entry.path, file.name))
+    with shelf.schedule_of(events) as schedule:
+        return schedules.read(shelf.output(program, "shrink", entry.path, schedule))
 
 
 def is_part(part, whole):

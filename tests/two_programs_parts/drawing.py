@@ -7,6 +7,7 @@ import runpy
 
 from hostile_parts import examples, texts
 from ring_kinds import RINGS
+from witnesses import witnesses
 
 from . import ROOT
 from .asking import Question
@@ -25,7 +26,7 @@ class Test:
     def __init__(self, path):
         self.name, self.text = str(path.relative_to(ROOT)), path.read_text()
         self.harts = len(set(re.findall(r"\bP(\d+)\b", self.text)))
-        self.witnesses = [witness.read_text() for witness in sorted(path.with_suffix("").glob("*.schedule"))]
+        self.witnesses = list(witnesses(path).values())
 
 
 class Draw:
@@ -185,7 +186,7 @@ class Draw:
         at, byte = self.random.randrange(len(text)), self.random.randrange(len(texts.TELLING))
         text = text[:at] + texts.TELLING[byte:byte + 1] + text[at + 1:]
         if "text" in words:
-            return Question("grammars", words, stdin or b"", {"text": text})
+            return Question("grammars", words, stdin or b"", {"text": text, **texts.WITNESSES})
         return Question("grammars", words, text)
 
     def words_of_a_command(self):

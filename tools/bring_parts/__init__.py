@@ -20,6 +20,8 @@ sys.path.insert(0, str(TOOLS / "reference"))
 
 from faults import ended  # noqa: E402, F401
 
+from . import provenance  # noqa: E402
+
 # what the program reads of a text at most
 MOST = 1 << 20
 # so many names are named in place of one that isn't there, if so much of them is the same
@@ -27,17 +29,22 @@ NEAREST, LIKE = 3, 0.6
 
 
 class Refused(Exception):
-    """What can't be brought, in words for its author; `before` are lines of another program, which come before them."""
+    """What can't be brought, in words for its author; `before` are lines of another program, which come before them, of `whole`, all that it says."""
 
-    def __init__(self, words, before=()):
+    def __init__(self, words, before=(), whole=()):
         super().__init__(words)
-        self.before = before
+        self.before, self.whole = before, whole or before
 
 
 def nearest(name, names):
     """The names that are most like this one, capitals aside: three at most, or none."""
     alike = [(SequenceMatcher(None, name.lower(), each.lower()).ratio(), each) for each in names]
     return [each for ratio, each in sorted(alike, key=lambda row: -row[0]) if ratio >= LIKE][:NEAREST]
+
+
+def listed(words):
+    """Words as a sentence has them: `a`, `a and b`, `a, b and c`."""
+    return " and ".join(filter(None, [", ".join(words[:-1]), *words[-1:]]))
 
 
 def plain(text):
@@ -108,7 +115,7 @@ def put(path, text):
 
 def program_of(named=None, *, says=False):
     """The program that is named, or the one that ./ztso runs, or the reference where there is none. With `says` standard error says if
-    nothing is proved of it."""
+    nothing is proved of it, and at first one may answer that isn't optimized."""
     program = Path(named) if named else chosen(says)
     if not program:
         print("the second implementation answers, tools/reference/ztso, of which nothing is proved", file=sys.stderr)
@@ -121,8 +128,10 @@ def program_of(named=None, *, says=False):
 def chosen(says=False):
     """The program that ./ztso runs, made if it isn't there, or None."""
     if not CHOOSER.exists():
+        if says and INSTALLED.exists() and (said := provenance.SAID.get(provenance.kind_of(INSTALLED))):
+            print(f"ztso: {said}", file=sys.stderr)
         return INSTALLED if INSTALLED.exists() else None
-    made = subprocess.run([CHOOSER] if says else [CHOOSER, "--quiet"], stdin=subprocess.DEVNULL, stdout=subprocess.PIPE, text=True, check=False)
+    made = subprocess.run([CHOOSER, "--first" if says else "--quiet"], stdin=subprocess.DEVNULL, stdout=subprocess.PIPE, text=True, check=False)
     return None if made.returncode else Path(made.stdout.strip())
 
 

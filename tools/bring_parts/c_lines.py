@@ -24,6 +24,8 @@ WRITTEN = str.maketrans("¦⁏∗", "|;*")
 ROW_TEXT = re.compile(r"<text [^>]*? y='([0-9]+)' class='quiet' id='row-([0-9]+)'>")
 SIZE = re.compile(r"(<(?:svg|rect) .*?width=')([0-9]+)(' height=')([0-9]+)'")
 CHARACTER, ROW_HEIGHT, MARGIN, LINE = 8, 22, 16, 5
+# how a row is marked
+MARK = ".mark{fill:#cf222e;fill-opacity:.18}"
 
 
 def in_cell(line):
@@ -111,6 +113,20 @@ def beside_svg(picture, notes, lines):
                  *(2 * MARGIN + CHARACTER * len(line) for line in lines)])
     made = SIZE.sub(lambda shape: f"{shape[1]}{width}{shape[3]}{bottom + ROW_HEIGHT * len(lines)}'", made, count=2)
     return made.replace("</svg>", f"{below}</svg>")
+
+
+def marked_svg(picture, marks):
+    """A picture as SVG with a band over each row that is in `marks`, and beside it the words that are there."""
+    size = SIZE.search(picture)
+    right, width = int(size[2]), int(size[2]) + CHARACTER * max(map(len, marks.values()), default=0) + MARGIN * bool(marks)
+
+    def marked(shape):
+        words = marks.get(int(shape[2]))
+        band = f"<rect class='mark' x='{MARGIN}' y='{int(shape[1]) - MARGIN}' width='{width - 2 * MARGIN}' height='{ROW_HEIGHT}'/>\n"
+        return (band + svg_text(right, shape[1], words) if words else "") + shape[0]
+    made = ROW_TEXT.sub(marked, picture)
+    made = SIZE.sub(lambda shape: f"{shape[1]}{width}{shape[3]}{shape[4]}'", made, count=2)
+    return made.replace("</style>", f"{MARK}</style>", 1)
 
 
 def picture(program, path, test, schedule, buffer=4, options=()):

@@ -4,7 +4,7 @@ herd's C format, or plain C with the condition in a comment."""
 import re
 from dataclasses import dataclass, field
 
-from bring_parts import Refused, conditions
+from bring_parts import Refused, c_groups, conditions
 
 # comments and strings; a comment that isn't closed goes on to the end
 C_BLANK = r"/\*.*?(?:\*/|\Z)|//[^\n]*|\"(?:\\.|[^\"\\\n])*(?:\"|$)|'(?:\\.|[^'\\\n])*(?:'|$)"
@@ -65,14 +65,17 @@ def blanked(text, is_litmus):
     return blanks.sub(lambda found: re.sub(r"[^\n]", " ", found[0]), text)
 
 
-def read(text, file):
-    """The source of a file's text. `file` is its name; a test that has no other is named after it."""
+def read(text, file, preprocessed=lambda code: None):
+    """The source of a file's text. `file` is its name; a test that has no other is named after it. `preprocessed` is the compiler's, for files that
+    have a function in one half of an `#ifdef` or in both."""
     text = text.replace("\r\n", "\n")
     head = HEAD.match(blanked(text, True))
     source = of_litmus(text, head) if head else of_comments(text)
     source.name = plain_name(source.name or file.removesuffix(".c"))
     source.file = re.sub(r"[^\w.+-]", "_", file)
-    source.functions = functions_of(blanked(source.code, source.is_litmus))
+    include = f"#include \"{source.header}\"\n" if source.header else ""
+    plain = blanked(source.code, source.is_litmus)
+    source.functions = functions_of(c_groups.only_taken(source.code, plain, lambda code: preprocessed(include + code)))
     return source
 
 

@@ -12,6 +12,8 @@ from bring_parts import Refused, columns
 from bring_parts.languages import ASSEMBLY, C, CXX, PLAIN_ASSEMBLY
 
 HERE = Path(__file__).resolve().parent
+# what compilers call where RV32I has no instruction, by a name that no author's file has
+SUPPORT = HERE / "c/ztso-support.c"
 FLAGS = ("-march=rv32ia -mabi=ilp32 -O2 -g -ffreestanding -fno-pic -mcmodel=medlow -msmall-data-limit=0 "
          "-fno-jump-tables -fdata-sections -fno-asynchronous-unwind-tables -fno-stack-protector").split()
 # gcc makes one function of two that are equal, so that a hart would have none
@@ -28,7 +30,8 @@ PACKAGES = {"riscv64-unknown-elf-gcc": "gcc-riscv64-unknown-elf", "riscv64-unkno
             "riscv64-linux-gnu-gcc": "gcc-riscv64-linux-gnu", "clang": "clang", "clang++": "clang",
             BINUTIL: "binutils-riscv64-unknown-elf", "rustc": "rustc"}
 SECONDS, FILE_BYTES, LINES = 60, 16 << 20, 12
-NO_HEADER = re.compile(r"fatal error: '?([^':]+)'?(?:: No such file or directory| file not found)")
+# of a header that lies beside the one that includes it by <..> clang says that it isn't found so, which is no fatal error
+NO_HEADER = re.compile(r"error: '?([^':]+)'?(?:: No such file or directory| file not found)")
 # an instruction that GNU as knows, and not of this machine
 NO_EXTENSION = re.compile(r"(?:.*/)?([^/:]+:[0-9]+): Error: unrecognized opcode `(([\w.]+)[^']*)', extension")
 # what assemblers say of `pause` where they don't know it, or only as a part of an extension; and what defines it
@@ -37,6 +40,9 @@ PAUSE = ["--include=pause_word.h"]
 # what mapping.h asserts, and a place in another file
 MAPPED = re.compile(r'static.assert.*"(a mapped [^"]*)"')
 SOURCE_PLACE = re.compile(r"(?:.*/)?(?!mapping\.h)([^/: ]+:[0-9]+):[0-9]+: (?:error|note):")
+# an atomic operation as the compilers print their own code
+ATOMIC_IN_GCC = re.compile(r"\b__(?:atomic|sync)_\w+ \(")
+ATOMIC_IN_CLANG = re.compile(r"^ +(?:%\S+ = )?(?:load atomic|store atomic|atomicrmw|cmpxchg|fence|(?:tail )?call [^@\n]*@__atomic_\w+\() ?", re.MULTILINE)
 # the headers of the host's libstdc++, and of a C library for RISC-V without a system
 CXX_ROOT, PICOLIBC = Path("/usr/include"), Path("/usr/lib/picolibc/riscv64-unknown-elf/include")
 PICOLIBC_PACKAGE = "picolibc-riscv64-unknown-elf"
@@ -88,16 +94,29 @@ class Compiler:
             return self.compile(source, module, [*given, *further], folders, language)
         return flags
 
+    def atomics(self, source, module, flags, folders, language):
+        """How many atomic operations of a file are left to the compiler, after it has inlined calls."""
+        if self.family == "clang":
+            self.compile(source, module, [*flags, "-S", "-emit-llvm"], folders, language)
+            return len(ATOMIC_IN_CLANG.findall(Path(module).read_text(errors="replace")))
+        dump = Path(module).with_suffix(".optimized")
+        self.compile(source, module, [*flags, f"-fdump-tree-optimized={dump}"], folders, language)
+        return len(ATOMIC_IN_GCC.findall(dump.read_text(errors="replace"))) if dump.exists() else 0
+
     def macros(self, header, folders):
         """The names of the macros that a header leaves defined."""
         include = [word for folder in folders for word in ("-I", folder)]
         printed = output([*self.words, *self.flags(), *include, "-E", "-dM", "-x", "c", header])
         return set(re.findall(r"^#define (\w+)", printed, re.MULTILINE))
 
-    def preprocessed(self, source, folders):
+    def preprocessed(self, source, folders, flags=()):
         """A C file after its macros are expanded."""
-        include = [word for folder in folders for word in ("-I", folder)]
-        return output([*self.words, *self.flags(), *include, "-E", "-P", source])
+        include = [word for folder in (HERE / "c", *folders) for word in ("-I", folder)]
+        command = [*self.words, *self.flags(), *flags, *include]
+        try:
+            return output([*command, "-E", "-P", source])
+        except Refused as refused:
+            return output([*command, *remedy(refused), "-E", "-P", source])
 
     @staticmethod
     def assemble(source, module):
@@ -130,13 +149,13 @@ def remedy(refused):
 def said_otherwise(refused, missing, language):
     """What a compiler complains of, with what helps."""
     if missing and language == CXX and PICOLIBC.is_dir():
-        return Refused(f"{refused}: libstdc++ has this header for systems alone; docs/from-objects.md has libc++", refused.before)
+        return Refused(f"{refused}: libstdc++ has this header for systems alone; docs/from-objects.md has stand-ins", refused.before)
     if missing and (language == CXX or missing in ("string.h", "stdlib.h", "assert.h", "stdio.h")):
         return Refused(f"{refused}: {missing} is a C library's: apt-get install {PICOLIBC_PACKAGE} brings headers, and of the functions "
                        "only memcpy and memset are here", refused.before)
     if missing:
         return Refused(f"{refused}: it looks for headers beside the C file, and there is no C library", refused.before)
-    if mapped := unmapped(refused.before):
+    if mapped := unmapped(refused.whole):
         return Refused(mapped)
     if shape := next(filter(None, map(NO_EXTENSION.match, refused.before)), None):
         return Refused(f"{shape[1]}: `{shape[2]}`: {columns.reason_of(shape[3])}")
@@ -180,5 +199,5 @@ def output(words, variables=(), seconds=SECONDS, file_bytes=FILE_BYTES):
         lines = done.stderr.strip().splitlines() or [f"it ended with {done.returncode}, and said nothing"]
         begin = next((at for at, line in enumerate(lines) if "error" in line.lower()), 0)
         lines = [each.replace("\t", " ") for each in lines[begin:]]
-        raise Refused(f"{Path(words[0]).name} fails", [*lines[:LINES], *["[..]"] * (len(lines) > LINES)])
+        raise Refused(f"{Path(words[0]).name} fails", [*lines[:LINES], *["[..]"] * (len(lines) > LINES)], lines)
     return done.stdout

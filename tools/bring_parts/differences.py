@@ -2,6 +2,7 @@
 picture, and all that makes it again, as a text and as one page of HTML."""
 
 import html
+import json
 import re
 import shlex
 import tempfile
@@ -156,18 +157,63 @@ def page(program, comparisons, found):
     return "\n".join(parts) + "\n"
 
 
-def summary(comparisons, found):
-    """How many outcomes are new, in how many files."""
+def key_of(one):
+    """What makes an outcome the same in another run: the file, the compiler, the way and the values."""
+    return [one.path.name, one.compiler, Path(one.show[0]).name, list(one.values)]
+
+
+def is_failing(one, known=()):
+    """Whether an outcome fails the run: it is new and not known, and no search that lacks it was cut."""
+    return one.is_new and not one.is_cut and key_of(one) not in known
+
+
+def as_json(comparisons, found, untried, known, status):
+    """All of it, as JSON has it: docs/from-c.md has the keys."""
+    def row(each, name):
+        if name not in each.ways:
+            return {"way": name, "refused": each.refused[name]}
+        way = each.ways[name]
+        return {"way": name, "instructions": way.instructions, "fences": sum(way.fences.values()), "full": way.full, "amos": way.amos,
+                "outcomes": [{"values": list(values), "schedule": tokens} for values, tokens in sorted(way.found.schedules.items())],
+                "states": way.found.states, "stopped": way.found.cut, "condition": way.condition()}
+
+    def outcome(one):
+        return {"file": one.path.name, "compiler": one.compiler, "way": Path(one.show[0]).name, "values": list(one.values), "shown": list(one.show),
+                "lacking": list(one.lack), "schedule": one.tokens, "stopped": one.is_cut, "known": key_of(one) in known}
+
+    files = [{"file": str(each.path), "compiler": each.compiler, "atomics": each.atomics, "mapped": each.atomics - each.left,
+              "rows": [row(each, name) for name in each.names]} for each in comparisons]
+    made = {"files": files, "new": [outcome(one) for one in found if one.is_new], "lost": [outcome(one) for one in found if not one.is_new],
+            "untried": untried, "status": status, "summary": summary(comparisons, found, untried, known)}
+    return json.dumps(made, indent=1) + "\n"
+
+
+def known_in(text, path):
+    """The outcomes that a file of `--json` has as new."""
+    try:
+        return [[one["file"], one["compiler"], one["way"], one["values"]] for one in json.loads(text)["new"]]
+    except (ValueError, KeyError, TypeError):
+        raise Refused(f"{path}: it isn't what --json prints") from None
+
+
+def summary(comparisons, found, untried=(), known=()):
+    """How many outcomes are new, in how many files; how many atomic operations went through a mapping; and what wasn't tried."""
     by = counted(len({each.compiler for each in comparisons}), "compiler")
-    new = {(one.path, one.compiler, one.values) for one in found if one.is_new}
+    new = {(one.path, one.compiler, one.values) for one in found if one.is_new and key_of(one) not in known}
     files = counted(len({each.path for each in comparisons}), "file")
     line = (f"{counted(len(new), 'new outcome')} in {len({path for path, *_ in new})} of {files} by {by}" if new else
             f"no new outcome in {files} by {by}")
     lost = sum(not one.is_new for one in found)
     line += f"; {counted(lost, 'outcome')} that another mapping shows and yours doesn't" if lost else ""
-    refused = sum(bool(each.refused) for each in comparisons)
-    has = "has" if refused == 1 else "have"
-    return line + (f"; {refused} of {counted(len(comparisons), 'compilation')} {has} refused rows" if refused else "")
+    old = sum(key_of(one) in known for one in found if one.is_new)
+    line += f"; {counted(old, 'outcome')} known" if old else ""
+    atomics, left = sum(each.atomics for each in comparisons), sum(each.left for each in comparisons)
+    line += f"; {atomics - left} of {counted(atomics, 'atomic operation')} went through a mapping" if any(map(mapped, comparisons)) else ""
+    return line + (f"; not tried: {len(untried)}" if untried else "")
+
+
+def mapped(comparison):
+    return mappings.is_mapped(comparison.path) and comparison.ways
 
 
 def version_of(compiler):

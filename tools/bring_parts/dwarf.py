@@ -50,7 +50,7 @@ class Information:
 
     def __init__(self, listing, addresses=""):
         self.entries, self.variables, self.functions, self.units = {}, [], [], []
-        self.addresses = addresses_in(addresses)
+        self.addresses, self.placed = addresses_in(addresses), None
         above, entry, unit = [], None, ""
         for line in listing.splitlines():
             if head := ENTRY.match(line):
@@ -84,10 +84,27 @@ class Information:
         shape = REFERENCE.match(entry.attributes.get("specification", entry.attributes.get("abstract_origin", "")))
         return self.entries.get(shape[1], entry) if shape else entry
 
-    def variable(self, name):
-        """The entry that says what the variable is that the linker calls so, or None."""
-        names = {name, SUFFIX.sub("", name)}
-        return next((self.origin(each) for each in self.variables if names & self.names(each)), None)
+    def variable(self, name, at=None):
+        """The entry that says what the variable is that the linker calls so, or None. Of several the one at this address; where the linker's name isn't
+        said, as gcc says none of what only its file sees, the one that is there."""
+        called, there = [self.origin(each) for each in self.variables if self.is_called(each, name)], self.variables_at(at)
+        # the linker's name has the author's in it
+        there = [each for each in there if each.name() in name]
+        return next((each for each in called if any(each is other for other in there)), next(iter(called + there), None))
+
+    def variables_at(self, at):
+        """The entries of the variables that lie whole at an address: more than one where a union without a name has its members for variables."""
+        if self.placed is None:
+            self.placed = {}
+            for each in self.variables:
+                pieces = self.pieces_in(each) if "location" in each.attributes else []
+                if len(pieces) == 1 and pieces[0][2] is None:
+                    self.placed.setdefault(pieces[0][1], []).append(self.origin(each))
+        return self.placed.get(at, [])
+
+    def is_called(self, entry, name):
+        """Whether the linker calls a variable so, or a part of it."""
+        return bool({name, SUFFIX.sub("", name)} & self.names(entry))
 
     def names(self, entry):
         """What the linker may call a variable or function."""
@@ -111,16 +128,19 @@ class Information:
     def pieces(self, entry):
         """Where a variable lies: for each of its pieces the place in it, the address, and the bytes, or None where there is one
         piece, which is all of it."""
-        location = next((each.attributes["location"] for each in self.variables
-                         if "location" in each.attributes and self.origin(each) is entry), "")
+        placed = next((each for each in self.variables if "location" in each.attributes and self.origin(each) is entry), None)
+        return self.pieces_in(placed) if placed else []
+
+    def pieces_in(self, placed):
+        """The same by the entry that has the location."""
         found, offset, address = [], 0, None
-        shape = re.search(r"\((DW_OP_.*)\)", location)
+        shape = re.search(r"\((DW_OP_.*)\)", placed.attributes["location"])
         for step in shape[1].split("; ") if shape else []:
             name, *operands = re.split(r"[: <>]+", step.strip())
             if name == "DW_OP_addr":
                 address = int(operands[0], 16)
             elif name == "DW_OP_addrx":
-                address = self.addresses.get((entry.unit, int(operands[0], 0)))
+                address = self.addresses.get((placed.unit, int(operands[0], 0)))
             elif name == "DW_OP_plus_uconst" and address is not None:
                 address += int(operands[0], 0)
             elif name == "DW_OP_piece":

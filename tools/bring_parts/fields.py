@@ -1,11 +1,13 @@
 """What a program calls the parts of each object, such as `q.tail` and `q.slot[1]`, by its debugging information."""
 
+import re
 from dataclasses import dataclass
 from itertools import islice
 
 CLASSES = ("structure_type", "class_type", "union_type")
+NUMBERED = re.compile(r"\.[0-9]+$")
 # the data of a program are no larger, so no more parts are of use
-MOST = 4096
+MOST = 16 * 1024
 
 
 @dataclass(frozen=True)
@@ -25,23 +27,38 @@ class Parts:
     def of_variable(self, name, shown, begin, size):
         """The parts of the variable that the linker calls so which lie in these bytes of memory, by their places there, under
         the name that is shown. A compiler may have taken it apart, and then these bytes have some of its parts."""
-        entry = self.information.variable(name)
+        entry = self.information.variable(name, begin)
         kind = self.information.kind_of(entry) if entry else None
-        found, pieces = self.of_kind(kind, shown), self.information.pieces(entry) if entry else []
+        found, pieces = self.of_kind(kind, shown) if not entry or entry.name() else self.of_members(kind), self.information.pieces(entry) if entry else []
+        # of a union without a name clang says a variable for each member, of one name for the linker
+        found += [part for each in self.information.variables_at(begin) if each is not entry and self.information.is_called(each, name)
+                  for part in self.of_kind(self.information.kind_of(each), each.name())]
         if not pieces or len(pieces) == 1 and pieces[0][2] is None:
             return found if all(part.at + part.size <= size for part in found) else []
         return [Part(address + part.at - offset - begin, part.size, part.name)
                 for part in found for offset, address, length in pieces
                 if offset <= part.at < offset + (length or MOST) and begin <= address + part.at - offset < begin + size]
 
-    def is_apart(self, name):
+    def called(self, symbol, at):
+        """What an author calls a variable, without what compilers put to it: a number after the name of a function's variable, and of one that was
+        taken apart; by clang the function before it."""
+        entry, name = self.information.variable(symbol.name, at), NUMBERED.sub("", symbol.plain)
+        if entry is None:
+            return symbol.plain
+        return name.replace(".", "::") if entry.name() and name.endswith(f".{entry.name()}") else name
+
+    def is_apart(self, name, at):
         """Whether the compiler took the variable apart."""
-        entry = self.information.variable(name)
+        entry = self.information.variable(name, at)
         return entry is not None and len(self.information.pieces(entry)) > 1
 
     def of_kind(self, kind, name):
         """The parts of an object of this type."""
         return self.some(part for part in self.parts(kind, 0, name) if part.size)
+
+    def of_members(self, kind):
+        """The parts of a variable without a name, which is a union: its members are called as variables are."""
+        return [Part(part.at, part.size, part.name[1:]) for part in self.of_kind(kind, "")]
 
     def begins(self, kind, name):
         """Where in an object of this type the classes inside begin, by their names: before their first part, if a bit-field is before that."""
@@ -74,9 +91,9 @@ class Parts:
         else:
             yield Part(at, kind.number("byte_size", default=4), name)
 
-    def whole(self, name):
+    def whole(self, name, at):
         """The type of the variable that the linker calls so, if the compiler says one and didn't take it apart."""
-        entry = self.information.variable(name)
+        entry = self.information.variable(name, at)
         is_one = entry is not None and not any(length for *_, length in self.information.pieces(entry))
         return self.information.kind_of(entry) if is_one else None
 

@@ -77,8 +77,10 @@ class Rewriter(litmus.Reader):
                               f"{each.value}")
         self.objects.judge()
         if ending.notes:
-            self.edits = [edit for edit in self.edits if edit[1] <= start]
-            self.edit(start, len(self.text), ending.text() + "\n", None)
+            # a blank after ~ was moved before it, and is a part of the condition that is written anew
+            begin = min([start, *(first for first, end, _ in self.edits if first < start < end)])
+            self.edits = [edit for edit in self.edits if edit[0] < begin]
+            self.edit(begin, len(self.text), ending.text() + "\n", None)
             for note in ending.notes:
                 self.notes[note] = [self.line(start)]
 

@@ -3,12 +3,12 @@
 import re
 from pathlib import Path
 
-from bring_parts import Refused, instructions, objects
+from bring_parts import Refused, instructions, line_tables, made_before, objects
 from bring_parts.instructions import TEXT
 from bring_parts.objects import tool
 
-# ztso names at most 1,024 words
-DATA = 4 * 1024
+# the bytes of the machine's memory, and of the words that a text names at most
+DATA, NAMED = 16 * 1024, 4 * 1024
 # word 0 stays empty, so that no object has the address of a null pointer; CODE and DATA are further sections of the objects
 SCRIPT = """
 SECTIONS {
@@ -61,35 +61,37 @@ def linked(modules, folder):
     """The image of modules, if its data aren't too large. What isn't defined is 0 in it."""
     sections = [section for module in modules for section in objects.sections_of(module)]
     data_fit(sum(size for _, size, flags, _ in sections if is_data(flags) and "W" in flags))
-    if made_before := next((name for name, size, _, _ in sections if size and MADE_BEFORE.fullmatch(name)), None):
-        raise Refused(f"{made_before}: an object is made before main begins{by_which(modules)}: give each of its members a constant "
-                      "value, arrays too (`T slots[4]{}`), and the object the word `constinit`, by which the compiler says what isn't constant")
     script, image = Path(folder, "script"), Path(folder, "image")
     script.write_text(script_for(sections))
     tool("ld", "-m", "elf32lriscv", "--no-relax", "--emit-relocs", "--unresolved-symbols=ignore-all", "--no-warn-mismatch",
          "-e", "0", "-T", script, "-o", image,
          *(by_words(module, Path(folder, f"words{at}")) for at, module in enumerate(modules)))
-    data_fit(sum(size for name, size, _, _ in objects.sections_of(image) if name == ".data"))
+    sections = objects.sections_of(image)
+    data_fit(sum(size for name, size, _, _ in sections if name == ".data"))
+    if made := [name for name, size, _, _ in sections if size and MADE_BEFORE.fullmatch(name)]:
+        before, after = ([word for name in made if ("fini" in name or "dtors" in name) is is_after for word in words_of(image, folder, name)]
+                         for is_after in (False, True))
+        raise Refused(made_before.said(made[0], Image(image, folder), before, after))
     return image
-
-
-def by_which(modules):
-    """The object after which a compiler has named what makes objects before main begins."""
-    names = (each.name for module in modules for each in objects.symbols_of(module))
-    mangled = next((name.partition("_I_")[2] for name in names if name.startswith("_GLOBAL__sub_I__Z")), None)
-    return f", as `{tool('c++filt', mangled).strip()}` is" if mangled else ""
 
 
 def data_fit(size):
     if size > DATA:
-        raise Refused(f"{size} bytes of data: ztso has names for {DATA} bytes")
+        raise Refused(f"{size} bytes of data: the machine has {DATA}")
 
 
 def script_for(sections):
     """The script, with the names of further sections by whether they have code."""
     further = {(name, "X" in flags) for name, _, flags, _ in sections if "A" in flags and not USUAL.fullmatch(name)}
     code, data = (" ".join(sorted(name for name, is_code in further if is_code is wanted)) for wanted in (True, False))
-    return SCRIPT.replace("CODE", code).replace("DATA", data)
+    script = SCRIPT.replace("CODE", code).replace("DATA", data)
+    if sum(size for _, size, flags, _ in sections if is_data(flags)) + 4 <= NAMED:
+        return script
+    # what has no name opens as 0, so that constants stand before that, and large objects at the end
+    zeros = dict.fromkeys(name for _, name in sorted((size, name) for name, size, _, _ in sections if name.startswith(".bss.")))
+    own = " ".join(f"*({name})" for name in zeros)
+    head, _, rest = script.partition("*(SORT_BY_NAME(.bss.*)) *(.data .sdata .sdata.* .bss .sbss .sbss.* COMMON)")
+    return head + rest.replace(". = ALIGN(4);", f"*(.data .sdata .sdata.*) {own} *(.bss .bss.* .sbss .sbss.* COMMON) . = ALIGN(4);", 1)
 
 
 class Image:
@@ -101,7 +103,8 @@ class Image:
         self.values = words_of(path, folder)
         self.relocations = relocations_of(path)
         listing = tool("objdump", "-d", "-z", "-l", "--inlines", "-M", "no-aliases,numeric", "--no-show-raw-insn", path)
-        self.code = instructions.absolute(instructions.listed(listing, sources), self.relocations)
+        lines = line_tables.Lines(tool("objdump", "--dwarf=rawline", path))
+        self.code = instructions.absolute(instructions.listed(listing, sources, lines.at), self.relocations)
         self.undefined = objects.undefined_in(self.symbols)
 
     def data(self):
@@ -128,10 +131,10 @@ class Image:
                 raise Refused(f"{each.where()}: `{plain}` isn't defined{why}")
 
 
-def words_of(image, folder):
-    """The values of the data's words, from address 0 on."""
+def words_of(image, folder, section=".data"):
+    """The values of the words of a section, of the data from address 0 on."""
     file = Path(folder, "data")
-    tool("objcopy", "-O", "binary", "-j", ".data", image, file)
+    tool("objcopy", "-O", "binary", "-j", section, image, file)
     data = file.read_bytes()
     return [int.from_bytes(data[at:at + 4], "little") for at in range(0, len(data), 4)]
 

@@ -78,14 +78,16 @@ class Instruction:
         return [] if self.name in (*assembly.STORES, *assembly.BRANCHES) else found[:1]
 
 
-def listed(listing, sources=()):
+def listed(listing, sources=(), place_at=lambda address: None):
     """The instructions of a listing of objdump. The line of one is that of these sources or of another file of the author's
-    if it comes from there, by whatever calls that were made part of others."""
+    if it comes from there, by whatever calls that were made part of others. `place_at` gives an address's own place where it is known better."""
     found, own, callers = [], ("", 0), []
     for text in listing.splitlines():
         if row := LINE.match(text):
+            address = int(row[1], 16)
+            own = place_at(address) or own
             path, line = next((place for place in [own, *callers] if Path(place[0]).name in sources or is_authors(place[0])), own)
-            found.append(Instruction(int(row[1], 16), row[2], (row[3] or "").strip(), Path(path).name, line, path if is_authors(path) else ""))
+            found.append(Instruction(address, row[2], (row[3] or "").strip(), Path(path).name, line, path if is_authors(path) else ""))
             callers = []
         elif place := PLACE.match(text):
             # objdump names the callers at each instruction, and its own place only where it is another

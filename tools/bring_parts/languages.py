@@ -7,6 +7,8 @@ from bring_parts import Refused
 C, CXX, RUST, ASSEMBLY, PLAIN_ASSEMBLY, OBJECT = "C", "C++", "Rust", "assembly", "assembly without macros", "object"
 LANGUAGES = {".c": C, ".litmus": C, ".cc": CXX, ".cpp": CXX, ".cxx": CXX, ".C": CXX, ".rs": RUST, ".S": ASSEMBLY, ".s": PLAIN_ASSEMBLY,
              ".asm": PLAIN_ASSEMBLY, ".o": OBJECT, ".obj": OBJECT}
+# those of which a mapping takes the atomic operations
+MAPPED = (C, CXX)
 
 
 def language_of(path):

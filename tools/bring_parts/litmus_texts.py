@@ -28,7 +28,7 @@ def complete(modules, compiler, folder):
     if SUPPORT & needed:
         modules = [*modules, Path(folder, "support")]
         # or the compiler makes a call of memcpy of memcpy's own loop
-        compilers.Compiler(compiler).compile(compilers.HERE / "c/support.c", modules[-1], ["-fno-builtin", "-ffunction-sections"])
+        compilers.Compiler(compiler).compile(compilers.SUPPORT, modules[-1], ["-fno-builtin", "-ffunction-sections"])
     return modules
 
 

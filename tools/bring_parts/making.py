@@ -170,17 +170,38 @@ def asked_in(asking, kind, way):
         return "", questions.of_text(UNASKED, asking), None
     text = text_of(asking)
     try:
-        return text, *question_in(text, asking, kind)
+        return text, *question_in(text, asking, kind, way)
     except c_source.NoCondition:
         if not way.unasked:
             raise
-    return text, *question_in(text + UNASKED, asking, kind)
+    return text, *question_in(text + UNASKED, asking, kind, way)
 
 
-def question_in(text, path, kind):
+def question_in(text, path, kind, way):
     """The question in a file's text, and its source if it is C."""
-    c = c_source.read(text, Path(path).name) if kind == C else None
+    c = c_source.read(text, Path(path).name, lambda code: preprocessed(code, path, way)) if kind == C else None
     return (of_source(c), c) if c else (questions.of_text(text, path), None)
+
+
+def preprocessed(code, path, way):
+    """What the compiler makes of C before it compiles it, or None if it complains: it does so again when it compiles."""
+    with tempfile.TemporaryDirectory() as folder:
+        source = Path(folder, "code.c")
+        source.write_text(code)
+        try:
+            return compilers.Compiler(way.compiler).preprocessed(source, folders_of(path, way), [*way.flags, *of_mapping(way)])
+        except Refused:
+            return None
+
+
+def of_mapping(way):
+    """The flags by which C is compiled by a mapping."""
+    return ["-include", str(mapping_of(way.mapping))] if way.mapping else []
+
+
+def folders_of(path, way):
+    """Where a file's headers are looked for. A mapping of one's own finds what it includes."""
+    return [Path(path).resolve().parent, *[MAPPINGS] * bool(way.mapping), queues.HEADERS]
 
 
 def of_source(source):
@@ -210,24 +231,37 @@ def module_of(file, language, way, module, c=None):
 
 def by_compiler(file, language, way, module, c):
     """Compiles a file, and returns what is said of it."""
-    compiler, written = compilers.Compiler(way.compiler), file
-    if c:
-        written = module.with_name(f"{module.name}.c") / c.file
-        written.parent.mkdir()
-        written.write_text(c_tests.c_text(c, c_tests.results_of(c)))
-    if way.mapping and language == C:
+    compiler, written = compilers.Compiler(way.compiler), rewritten(file, module, c)
+    if way.mapping and language in languages.MAPPED:
         check_rows(way.mapping)
-    of_mapping = ["-include", str(mapping_of(way.mapping))] if way.mapping and language == C else []
-    # a mapping of one's own finds what it includes
-    folders = [Path(file).resolve().parent, *[MAPPINGS] * bool(of_mapping), queues.HEADERS]
-    missing = missing_rows(compiler, way.mapping, folders) if of_mapping else []
+    way = way if language in languages.MAPPED else replace(way, mapping=None)
+    folders, mapped = folders_of(file, way), of_mapping(way)
+    missing = missing_rows(compiler, way.mapping, folders) if mapped else []
     try:
-        flags = compiler.compile(written, module, [*way.flags, *of_mapping], folders, language)
+        flags = compiler.compile(written, module, [*way.flags, *mapped], folders, language)
     except Refused as refused:
         if missing:
             raise Refused(f"{refused}, and {way.mapping} has no row {', '.join(missing)}", refused.before) from None
         raise
-    return [compiler.version(), " ".join(each for each in flags if each not in of_mapping)]
+    return [compiler.version(), " ".join(each for each in flags if each not in mapped)]
+
+
+def rewritten(file, module, c):
+    """The file that is compiled: one in C that asks for locals is written anew beside the module, in which they are kept."""
+    if not c:
+        return file
+    written = module.with_name(f"{module.name}.c") / c.file
+    written.parent.mkdir()
+    written.write_text(c_tests.c_text(c, c_tests.results_of(c)))
+    return written
+
+
+def atomics_left(file, language, way):
+    """How many atomic operations of a file a compiler makes by itself, and no mapping."""
+    with tempfile.TemporaryDirectory() as folder:
+        module = Path(folder, "module")
+        c = asked_in(file, language, replace(way, unasked=True))[2]
+        return compilers.Compiler(way.compiler).atomics(rewritten(file, module, c), module, [*way.flags, *of_mapping(way)], folders_of(file, way), language)
 
 
 def check_rows(name):

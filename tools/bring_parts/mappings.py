@@ -49,8 +49,13 @@ def joined(values):
 
 
 def is_c(path):
-    """Whether a file is C, which alone has the operations that a mapping is of."""
+    """Whether a file is C."""
     return languages.language_of(path) in (C, None)
+
+
+def is_mapped(path):
+    """Whether a file is of a language that has the operations that a mapping is of."""
+    return is_c(path) or languages.language_of(path) in languages.MAPPED
 
 
 def compiled(path, way, states):
@@ -65,17 +70,37 @@ def compiled(path, way, states):
 class Comparison:
     """A file by one compiler, by each way and by each mapping of one's own; `way` has what is the same in each."""
 
-    def __init__(self, path, way, own, states):
+    def __init__(self, path, way, own, states, tries=lambda name: None):
         self.path, self.own, self.ways, self.refused = Path(path), own, {}, {}
         self.compiler = "rustc" if languages.language_of(path) == RUST else way.compiler
         every = dict(WAYS) | {name: {"mapping": name} for name in own}
         self.names = {name: replace(way, lines=True, **options) for name, options in every.items()
-                      if is_c(path) or "mapping" not in options}
+                      if is_mapped(path) or "mapping" not in options}
         for name, each in self.names.items():
+            tries(name)
             try:
                 self.ways[name] = compiled(path, each, states)
             except Refused as refused:
                 self.refused[name] = ": ".join([str(refused), *refused.before[:1]])
+        # how many atomic operations the compiler's own code has, and how many are left of these beside a mapping
+        mapped = next((name for name in (*own, ZTSO) if name in self.ways), None)
+        self.atomics, self.left = (self.atomics_of(KEPT), self.atomics_of(mapped)) if mapped and KEPT in self.ways else (0, 0)
+
+    def atomics_of(self, name):
+        return making.atomics_left(self.path, languages.language_of(self.path) or C, self.names[name])
+
+    def untried(self, is_named):
+        """What of this isn't tried, in words: rows that are refused or cut, and mappings that take nothing. `is_named` says whether the
+        file was named."""
+        place = f"{self.path.name} by {self.compiler}"
+        if not self.ways:
+            return [place]
+        rows = [f"{place}, {name}" for name in self.refused] + [f"{place}, {name}: its search stopped" for name, way in self.ways.items() if way.found.cut]
+        if self.own and not is_mapped(self.path):
+            return [*rows, *(f"{place}, {name}: a mapping takes C and C++" for name in self.own)]
+        if self.own and is_named and set(self.own) & set(self.ways) and self.atomics == self.left:
+            rows.append(f"{place}: none of its {self.atomics} atomic operations goes through a mapping")
+        return rows
 
     def is_whole(self):
         """Whether each way was taken, and searched to the end."""
@@ -125,8 +150,8 @@ class Comparison:
         if RVWMO in self.ways and ZTSO in self.ways:
             yield f"{self.compiler}: ztso.h in place of rvwmo.h: {told_added(self.added(ZTSO, RVWMO))}"
         if self.own and self.is_same():
-            yield (f"{self.compiler}: each mapping makes the same code. A mapping takes the functions of <stdatomic.h>, not "
-                   "operators such as `x = 1` of an atomic object")
+            yield (f"{self.compiler}: each mapping makes the same code. A mapping takes functions such as those of "
+                   "<stdatomic.h>, not operators such as `x = 1` of C's atomic objects")
 
 
 def listed(fences):

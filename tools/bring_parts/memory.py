@@ -7,8 +7,8 @@ from dataclasses import dataclass, field
 
 from bring_parts import Refused, nearest
 
-# the names that ztso has for words
-LOCATIONS = 1024
+# the names that ztso has for words, and the words that the machine has
+LOCATIONS, WORDS = 1024, 4096
 WIDTH = 112
 # how many names a refusal has
 SHOWN = 12
@@ -37,8 +37,11 @@ class Memory:
     null pointer. `longer` has for an object its author's longer name of it, and `is_described` says whether there is debugging information of any."""
 
     def __init__(self, values, objects, longer=(), is_described=True):
-        self.values, self.names, self.is_described = values, [None] * len(values), is_described
-        self.longer = {full: name for name, full in dict(longer).items() if full != name}
+        self.values, self.names, self.is_described = values, [None] * min(len(values), LOCATIONS), is_described
+        fulls = dict(longer)
+        written = Counter(map(as_written, fulls.values()))
+        self.longer = {each: name for name, full in fulls.items() for each in (full, as_written(full))
+                       if each != name and (each == full or written[each] == 1)}
         # the word of an object's name, and of its further words; that of a part by its name; and the names of what has
         # fewer than 4 bytes
         self.places, self.parts, self.small = {}, {}, {each.name for each in objects if each.size < 4}
@@ -63,7 +66,8 @@ class Memory:
         `q.slot[0]`. Notes the parts that have a word for themselves."""
         called = {}
         for each in objects:
-            alone = Counter(part.at // 4 for part in each.parts)
+            # members of a union that lie in the same bytes are in nobody's way
+            alone = Counter(at // 4 for at, _ in {(part.at, part.size) for part in each.parts})
             for part in each.parts:
                 place, offset = divmod(each.at + part.at, 4)
                 if offset:
@@ -93,7 +97,11 @@ class Memory:
         shape = re.fullmatch(r"(.+?)(?:\[([0-9]+)\])?", text)
         place = self.parts.get(text, self.places.get((shape[1], int(shape[2] or 0))) if shape else None)
         if place is None and text not in self.names:
+            if text in self.sizes:
+                raise Refused(f"{what} {text}, which has no word for itself: let a hart return it, and ask for that")
             raise Refused(f"{what} {text}, which is no shared word: {self.there(text)}{self.undescribed(text)}")
+        if place is not None and place >= len(self.names):
+            raise Refused(f"{what} {text}, which lies past the {LOCATIONS} words that ztso names: let a hart return it, or make other data smaller")
         return text if place is None else self.names[place]
 
     def there(self, text):
@@ -125,7 +133,10 @@ class Memory:
         return begins + int(bytes_on or 0)
 
     def value(self, text, what):
-        """A number, or the name of a word."""
+        """A number, or the name of a word, or the address of one that has none."""
+        place = self.places.get((self.shorter(text), 0), 0)
+        if place >= len(self.names):
+            return str(4 * place)
         return self.named(text, what) if re.match(r"[A-Za-z_]", text) else text
 
     def is_small(self, text):
@@ -140,15 +151,19 @@ class Memory:
 
     def push_stack(self, hart, size):
         """Room for a hart's stack; returns its upper end."""
-        self.stacks[hart] = 4 * len(self.names)
+        self.stacks[hart] = 4 * len(self.values)
         for at in range(size // 4):
-            self.names.append(self.fresh(f"stack{hart}_{at}"))
+            if len(self.values) < LOCATIONS:
+                self.names.append(self.fresh(f"stack{hart}_{at}"))
             self.values.append(0)
-        return 4 * len(self.names)
+        return 4 * len(self.values)
 
     def check_size(self):
-        if len(self.names) > LOCATIONS:
-            raise Refused(f"{len(self.names)} words of data and stacks: ztso has names for {LOCATIONS}")
+        """Refuses more words than the machine has, and one past those that have names that doesn't open as 0."""
+        if len(self.values) > WORDS:
+            raise Refused(f"{len(self.values)} words of data and stacks: the machine has {WORDS}")
+        if wrong := next((at for at in range(LOCATIONS, len(self.values)) if self.values[at]), None):
+            raise Refused(f"the word at {4 * wrong} opens as {self.values[wrong]}, and ztso names {LOCATIONS} words: what lies past them opens as 0")
 
     def items(self):
         """The items of init, some of them on each line."""
@@ -166,6 +181,11 @@ def word_name(part):
     return re.sub(r"\W+", "_", re.sub(r"(?<!\])\[0\]$", "", part)).strip("_")
 
 
+def as_written(plain):
+    """A name as its author would write it: `app::x` of `app::(anonymous namespace)::x`, `f::count` of `f(int)::count`."""
+    return re.sub(r"\(anonymous namespace\)::|\([^()]*\)(?=::)", "", plain)
+
+
 def short(plain):
     """The last part of a name that a language has made: `q` of `app::q`, `slots` of `app::Pool<int, 4>::slots`."""
     while (shorter := re.sub(r"<[^<>]*>|\([^()]*\)|\[abi:\w+\]", "", plain)) != plain:
@@ -176,8 +196,9 @@ def short(plain):
 def objects_of(image, parts):
     """The objects of an image's data, and their authors' names by those that they have in the text: the last part, or all
     of it where two have the same. The parts of one that a compiler took apart have its name."""
-    found = [(at, size, symbol, re.sub(r"\.[0-9]+$", "", symbol.plain) if parts.is_apart(symbol.name) else symbol.plain)
-             for at, size, symbol in image.data()]
+    data = [(at, size, symbol, parts.called(symbol, at)) for at, size, symbol in image.data()]
+    whole = Counter(name for at, _, symbol, name in data if not parts.is_apart(symbol.name, at))
+    found = [(at, size, symbol, name if parts.is_apart(symbol.name, at) or whole[name] == 1 else symbol.plain) for at, size, symbol, name in data]
     plains = {plain for _, _, _, plain in found}
     count = Counter(map(short, plains))
     names = {plain: short(plain) if count[short(plain)] == 1 else plain for plain in plains}
@@ -185,7 +206,7 @@ def objects_of(image, parts):
     for at, size, symbol, plain in found:
         name, number = names[plain], pieces[plain]
         pieces[plain] += 1
-        kind = parts.whole(symbol.name)
+        kind = parts.whole(symbol.name, at)
         placed.append(Placed(at, size, f"{name}_{number}" if number else name,
                              parts.of_variable(symbol.name, name, at, size), parts.begins(kind, name), parts.is_plain(kind)))
     return placed, {name: plain for plain, name in names.items()}

@@ -37,7 +37,9 @@ def check(path):
     kind, machine = (int.from_bytes(head[at:at + 2], order) for at in (16, 18))
     if machine != RISCV:
         raise Refused(f"an object for {MACHINES.get(machine, f'machine {machine}')}: compile for RISC-V, {REMEDY[13:]}")
-    if head[4] != 1 or order != "little":
+    if order != "little":
+        raise Refused(f"an object with the highest byte of a number first: {REMEDY}")
+    if head[4] != 1:
         raise Refused(f"an object of 64 bits: {REMEDY}")
     if kind != RELOCATABLE:
         raise Refused("a linked program, in which each symbol has its address: give the objects that it was made of")

@@ -2,59 +2,47 @@
 
 import re
 
-from bring_parts import compilers
+from bring_parts import listed
 from bring_parts.queue_types import counted, ranges_in
+from bring_parts.queue_uncovered import of_uncovered
+from bring_parts.queue_words import word_of_count
 from certify_parts.queues import Queue
-from certify_parts.tags import Tagged
+from certify_parts import tags
 
 import assembly
+import litmus
+import progress
+from queues import Judge
 from words import text as text_of_instruction
 
-NO_USE = re.compile(r"no instruction (loads from|stores to) a slot of queue ([0-9]+)")
+NO_USE = re.compile(r"no instruction of hart [0-9]+ (loads from|stores to) a slot of queue ([0-9]+)")
 # the instructions of each use, and the word for one
 USES = {"loads from": ("load", assembly.LOADS), "stores to": ("store", assembly.STORES)}
 REMEDIES = {"loads from": "the compiler leaves out a load whose value nobody uses: store what was received to a volatile object, or return it",
             "stores to": "the compiler leaves out a store that nobody can read: let both functions use one global object"}
-DIVIDES = ("`%` and `/` by what is no power of two are loops here if the quotient is above 1, and of the result nothing is known: count as in "
-           "`i + 1 == N ? 0 : i + 1`, with index=wrapping, or take N slots that are a power of two")
-COPIES = "a copy by a loop, as memcpy's is here, and that of a large struct, isn't covered: assign the record's fields one by one"
 # what `likely:` says of an index, and what that is of a queue with tags
 TAGS = {"another count to its index": "of a queue with tags: it may store a part of a tag, or a tag that doesn't hand its own position over",
         "the other party's index": "of a queue with tags: what a tag that it loads may tell leads to a state that isn't listed"}
-# the functions of support.c that divide, and those that copy
-DIVISION, COPYING = {"divided", "size_of", "__udivsi3", "__umodsi3", "__divsi3", "__modsi3"}, {"memcpy", "memset"}
-SUPPORT = re.compile(r"support\.c:([0-9]+)")
-REFUSED = re.compile(r"hart ([0-9]+) is not covered: at pc ([0-9]+)")
+# what follows where another protocol may fit
+FIT = "another protocol may fit: "
+OTHERS = ("of a triple buffer, a seqlock, a lock or several senders ask for outcomes, with from-object and find: "
+          "docs/queues.md, \"If it isn't one of these\"")
 BROKEN = re.compile(r"queue ([0-9]+): it stored ")
 DRAWN = re.compile(r"queue ([0-9]+): kept in ([0-9]+) drawn runs of ([0-9]+) events, in which ([0-9]+) positions were published")
 QUEUE = re.compile(r"^(queue|tagged) (.*)$", re.MULTILINE)
+UNWRITTEN = re.compile(r"^queue [0-9]+: not shown that bytes? .* written: ", re.MULTILINE)
+# a party that isn't shown to go on, the indices that each moves and looks at, and what keeps a compiler from dropping a look
+STUCK = re.compile(r"^queue ([0-9]+): not shown that hart ([0-9]+) (publishes|takes), or (finds|looks) ", re.MULTILINE)
+INDICES = {"publishes": ("head", "tail"), "takes": ("tail", "head")}
+VOLATILE = "declare it volatile or atomic"
 # to which length longer runs are proposed, how many of them, and to how many counts an index is thought to turn in one
 LONGEST, FEW_RUNS, MOST_COUNTS = 100_000, 20, 1 << 16
 
 
 def queues_of(certificate):
     """The queues of a certificate's text."""
-    kinds = {"queue": Queue, "tagged": Tagged}
-    return [kinds[kind](*(int(word) if word.isdigit() else word for word in words.split())) for kind, words in QUEUE.findall(certificate)]
-
-
-def support_function(note):
-    """The function of support.c of which an instruction's note names a line, or None."""
-    shape = SUPPORT.match(note)
-    lines = (compilers.HERE / "c/support.c").read_text().split("\n")[:int(shape[1])] if shape else ()
-    heads = [re.match(r"[a-z].*?(\w+)\(", line) for line in lines]
-    return next((head[1] for head in reversed(heads) if head), None)
-
-
-def of_uncovered(answer, notes):
-    """What helps where the search found nothing of a hart."""
-    for hart, pc in REFUSED.findall(answer):
-        of_hart = [support_function(note) for note in notes[int(hart)]] if int(hart) < len(notes) else []
-        at = of_hart[int(pc) // 4] if int(pc) // 4 < len(of_hart) else None
-        if at not in COPYING and DIVISION & set(of_hart):
-            yield DIVIDES
-        elif COPYING & set(of_hart):
-            yield COPIES
+    kinds = {"queue": lambda words: Queue(*map(int, words)), "tagged": tags.of_words}
+    return [kinds[kind](words.split()) for kind, words in QUEUE.findall(certificate)]
 
 
 def states_of(certificate, hart):
@@ -79,7 +67,7 @@ def reaches(code, at, names):
     return any(code[each][0] in names for each in seen)
 
 
-def of_use(number, use, certificate, test, notes):
+def of_use(number, use, certificate, test):
     """What helps where no state of a queue's party uses its slots: a test that never lets the hart go on to where it may, or what the compiler left
     out. Without the text only this."""
     if not test:
@@ -94,21 +82,14 @@ def of_use(number, use, certificate, test, notes):
     if held is not None:
         yield (f"hart {hart} reaches no {what} after pc {4 * held}, {text_of_instruction(code[held], None)}, in any state: it waits there for ever, or "
                "the test always goes one way")
-        if held < len(notes[hart]) and notes[hart][held]:
-            yield f"    P{hart} {notes[hart][held]}"
     if held is None or moves:
         yield "or " * (held is not None) + REMEDIES[use]
 
 
-def of_unused(answer, certificate, test, notes):
-    """The same of an answer: that nobody uses a queue, or that no record of a queue that is kept is ever written, or read."""
+def of_unused(answer, certificate, test):
+    """The same of an answer: that a queue's sender stores to no slot of it, or its receiver loads from none."""
     if shape := NO_USE.search(answer):
-        yield from of_use(int(shape[2]), shape[1], certificate, test, notes)
-    for number, queue in enumerate(queues_of(certificate)) if answer.startswith("kept in every run") else ():
-        for use, used, hart, done in (("stores to", "stored to", queue.sender, "written"), ("loads from", "loaded from", queue.receiver, "read")):
-            if f"queue {number}: {used} by hart {hart} " not in answer:
-                yield f"hart {hart} {use} no slot of queue {number} in any state, so no record is ever {done}"
-                yield from of_use(number, use, certificate, test, notes)
+        yield from of_use(int(shape[2]), shape[1], certificate, test)
 
 
 def of_wraps(texts):
@@ -120,7 +101,7 @@ def of_wraps(texts):
         if size and modulus.isdigit() and int(modulus) % size:
             wraps = {256 ** power: f"2^{8 * power}" for power in (1, 2, 4)}.get(int(modulus), modulus)
             yield (f"queue {number}: its counts wrap at {wraps}, which is no multiple of its {size} slots, so position and slot part there, unless the "
-                   "slots have numbers of their own: take a power of two, or index=wrapping. The search may take minutes")
+                   "slots have numbers of their own: take a power of two, or index=wrapping")
 
 
 def of_written(asked, queues):
@@ -133,7 +114,7 @@ def of_written(asked, queues):
 def counting(queue):
     """How a queue's indices count, in words."""
     if (queue.base, queue.scale, queue.offset) != (0, 1, 0) or queue.modulus not in (queue.size, 256 ** queue.index_width):
-        return f"whose word of count n is {queue.base} + {queue.scale} * ((n + {queue.offset}) mod {queue.modulus})"
+        return f"whose word of count n is {word_of_count(queue.base, queue.scale, queue.offset, queue.modulus)}"
     return "that go back to 0 after the last slot" if queue.modulus == queue.size else "that count on"
 
 
@@ -141,7 +122,7 @@ def or_described_wrong(number, queue):
     """What is to be looked at where a queue is broken."""
     slots = f"{counted(queue.size, 'slot')} of {counted(queue.width, 'byte')}"
     if queue.has_tags:
-        told = "0 where it is free" if queue.tells == "zero" else "the position's number where it is free"
+        told = {"zero": "0 where it is free", "number": "the position's number where it is free"}.get(queue.tells, "the bits of a free slot where it is free")
         form = f"{slots} with the tag in bytes {queue.tag_offset}-{queue.tag_offset + queue.tag_width - 1} of each, {told}"
         keys = "size=, width=, tag=, tells=, sender= and receiver="
     else:
@@ -168,18 +149,59 @@ def longer(number, queue, drawn):
             f"{'slots' if turn == queue.size else 'index'} is {turn}: try --length {proposed} --runs {FEW_RUNS}")
 
 
-def added(lines, found, notes, certificate, test=None):
-    """The lines of an answer, with what helps: of a broken queue after what was stored, of one that isn't shown at the end. `found` is what
-    tools/certify says of the harts, and `test` the text's."""
-    queues, is_broken, said, more = queues_of(certificate), False, "", []
+def added(lines, certificate):
+    """The lines of an answer, with what helps after one of them."""
+    queues = queues_of(certificate)
     for line in lines:
         yield line
         yield from of_tags(line, queues)
-        said += f"{line}\n"
+        if line.startswith(FIT):
+            yield OTHERS
         if shape := BROKEN.match(line):
-            is_broken = True
             yield or_described_wrong(int(shape[1]), queues[int(shape[1])])
-        if shape := DRAWN.match(line):
-            more.append(longer(int(shape[1]), queues[int(shape[1])], shape.groups()[1:]))
+
+
+def at_end(answer, found, notes, certificate, test=None):
+    """What helps at the end of an answer. `found` is what tools/certify says of the harts, and `test` the text's."""
+    queues, drawn = queues_of(certificate), [shape.groups() for shape in map(DRAWN.match, answer.splitlines()) if shape]
+    is_broken = answer.startswith(("broken", "does not keep"))
     if not is_broken:
-        yield from filter(None, [*of_unused(said, certificate, test, notes), *dict.fromkeys(of_uncovered(found, notes)), *more])
+        yield from of_unused(answer, certificate, test)
+    yield from dict.fromkeys(of_uncovered(found, notes, queues, test, is_broken))
+    yield from filter(None, (longer(int(number), queues[int(number)], numbers) for number, *numbers in drawn))
+
+
+def of_asked(answer, by_types):
+    """What is said where bytes of records aren't shown to be written, and nobody named these."""
+    if by_types and UNWRITTEN.search(answer):
+        yield f"bytes {by_types} of a record are asked for since by the types they aren't padding: --written none doesn't ask" if by_types != "all" else (
+            "all bytes of a record are asked for since by the types none is padding: --written none doesn't ask")
+
+
+def looks_of(number, hart, text, certificate):
+    """The pcs at which a hart loads the other party's index."""
+    judge = Judge(litmus.read(text), certificate)
+    graph = progress.graph_of(judge.opening, judge.listed, hart, number)
+    return sorted({judge.pc(hart, state) for state, stays in enumerate(graph) if any(stay.looks for stay in stays)})
+
+
+def of_party(number, hart, moves, missed, text, certificate):
+    """A line for a party that isn't shown to go on, by its code, or None."""
+    own, other = INDICES[moves]
+    of_hart = [str(at) for at, queue in enumerate(queues_of(certificate)) if hart in (queue.sender, queue.receiver)]
+    if len(of_hart) > 1:
+        return f"hart {hart} is a party of queues {listed(of_hart)}, and each is asked by itself: where it may wait for another, ask with --safety"
+    if not states_of(certificate, hart)[1]:
+        return f"no instruction of hart {hart} moves {own} of queue {number}: if the compiler dropped the store, {VOLATILE}"
+    if missed == "finds":
+        return None
+    pcs = looks_of(number, hart, text, certificate)
+    if not pcs:
+        return f"hart {hart} never looks at {other} of queue {number}: if the compiler dropped the load, {VOLATILE}"
+    return f"hart {hart} looks at {other} of queue {number} only at pc {' and '.join(map(str, pcs))}, and waits without a look: {VOLATILE}"
+
+
+def of_stuck(answer, text, certificate):
+    """Lines for the parties of an answer that aren't shown to go on, where their code says why. `text` is the litmus text."""
+    found = [of_party(int(number), int(hart), moves, missed, text, certificate) for number, hart, moves, missed in STUCK.findall(answer)]
+    yield from dict.fromkeys(line for line in found if line)

@@ -66,9 +66,24 @@ class Types:
     def of_memory(self):
         """All parts of objects, and the stacks: of each its first byte, its end and its name."""
         stacks = sorted((begin, f"stack of hart {hart}") for hart, begin in self.words.stacks.items())
-        ends = [*(begin for begin, _ in stacks[1:]), 4 * len(self.words.names)]
+        ends = [*(begin for begin, _ in stacks[1:]), 4 * len(self.words.values)]
         return [*((self.begins[name], self.begins[name] + size, name) for name, size in self.sizes.items()),
                 *((begin, end, name) for (begin, name), end in zip(stacks, ends))]
+
+    def name_at(self, place, width):
+        """What these bytes are called, if they are one part or lie in one; or None."""
+        found = [(begin, name) for begin, end, name in self.of_memory() if begin <= place and place + width <= end]
+        exact = [name for begin, name in found if begin == place and self.sizes.get(name) == width]
+        begin, name = (place, exact[0]) if exact else found[0] if len(found) == 1 else (place, None)
+        return name and name + f"+{place - begin}" * (place > begin)
+
+    def written(self, queue):
+        """The bytes of a record that aren't padding, or None where the types don't say which these are."""
+        numbers = [array for array in self.arrays_at(str(queue.slots)) if array.number and queue.width % array.number == 0]
+        if numbers:
+            return set(range(queue.width))
+        padding, name = self.padding(queue)
+        return set(range(queue.width)) - padding if name else None
 
     def slots_of(self, queue):
         """The array that a queue's slots are, or None."""
@@ -138,6 +153,19 @@ def names_of(line, queues, types):
         yield f"    {found}"
 
 
+def written_by_types(queues, types):
+    """The bytes of records that are to be written, as --written takes them: those that are padding of no queue, if the types say of all queues
+    which these are; or None."""
+    found = [types.written(queue) for queue in queues]
+    if not found or None in found:
+        return None
+    asked = {at for queue, written in zip(queues, found) for at in written
+             if all(at in other or at >= each.width for each, other in zip(queues, found))}
+    if not all(asked & written for written in found):
+        return None
+    return "all" if all(len(written) == queue.width for queue, written in zip(queues, found)) else ranged(ranges_of(asked))
+
+
 def ranges_in(text):
     """The ranges of a line: of `0-3, 8 and 12`."""
     return [(int(first), int(last or first)) for first, last in RANGE.findall(text)]
@@ -192,11 +220,13 @@ def of_indices(given, said, types):
     """What the types of the indices say of bytes=."""
     found = {name: types.bytes_of(given[name]) for name in ("head", "tail")}
     for name, width in found.items():
+        if width and width > max(INDEX) and said in INDEX:
+            continue  # a part of it is the index, as where functions of a header store the lower word of a number of 8 bytes
         if width and width not in INDEX:
             raise Refused(f"{given[name]} has {counted(width, 'byte')}, and an index has 1, 2 or 4: the code is compiled for RV32, take uint32_t or size_t")
         if width and said and width != said:
             raise Refused(f"{given[name]} has {counted(width, 'byte')}, and not bytes={said}: leave bytes out, or say bytes={width}")
-    known = set(filter(None, found.values()))
+    known = {width for width in found.values() if width in INDEX}
     if len(known) > 1:
         raise Refused(f"{given['head']} has {counted(found['head'], 'byte')} and {given['tail']} {found['tail']}: both indices must have the same type")
     return {"bytes": str(width) for width in known if "bytes" not in given}

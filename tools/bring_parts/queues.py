@@ -5,7 +5,7 @@ from dataclasses import dataclass
 
 from bring_parts import ROOT, Refused
 from bring_parts.fields import Part
-from bring_parts.images import DATA
+from bring_parts.images import NAMED as DATA
 from bring_parts.memory import Placed
 
 import assembly

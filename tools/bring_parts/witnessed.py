@@ -2,6 +2,7 @@
 
 import litmus
 import schedules
+from witnesses import family_file, witnesses
 
 from bring_parts import ROOT
 from bring_parts.logs import values_in
@@ -24,24 +25,25 @@ class Entry:
 
     def witnesses(self):
         """The events of each outcome that has a witness."""
-        return {tuple(map(int, path.stem.split("-"))): schedules.read(path.read_text())
-                for path in sorted(self.folder().glob("*.schedule"))}
-
-    def folder(self):
-        """Where the witnesses stand, beside the test."""
-        return self.path.parent / self.name
-
-    def witness_path(self, values):
-        return self.folder() / f"{'-'.join(map(str, values))}.schedule"
+        return {tuple(map(int, outcome.split("-"))): schedules.read(text) for outcome, text in witnesses(self.path).items()}
 
     def case_name(self, values):
-        return f"{self.name}.{'-'.join(map(str, values))}"
+        return f"{self.name}.{named(values)}"
 
     def expected_path(self):
-        return self.path.parent / f"{self.name}.expected"
+        return family_file(self.path)
+
+    def has(self, case_name):
+        """Whether a case of its family is of one of its witnesses."""
+        return case_name.rpartition(".")[0] == self.name
 
     def length(self):
         return STRETCH * max(map(len, self.witnesses().values()), default=LENGTH // STRETCH)
+
+
+def named(values):
+    """The name of an outcome, as `0-1`."""
+    return "-".join(map(str, values))
 
 
 def shown(entry, text):

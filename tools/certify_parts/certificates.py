@@ -1,10 +1,10 @@
 """The text of a certificate: for each hart the states that were found, and how each instruction leads from them into them.
 
-A certificate's variables begin at 0; a step adds one, which comes first. docs/queues.md has the grammar.
+A certificate's variables begin at 0; a step adds one, which comes first. docs/queue-texts.md has the grammar.
 """
 
 from . import handed
-from .forms import SIZE, Word, signed
+from .forms import SIZE, Bits, Word, signed
 from .sent import marked
 
 
@@ -75,6 +75,10 @@ class Layout:
         return written(constant % modulus, {at: m % modulus for at, m in terms.items()})
 
     def value(self, value):
+        if isinstance(value, Bits):
+            return f"&{value.mask}:{value.bits}"
+        if isinstance(value, Word) and value.bits:
+            return f"^{value.bits}:{self.form(value.count, 1 << value.bits)}"
         if isinstance(value, Word):
             # up to the modulus; where that divides 2^32, up to that, so that a sum is the search's
             modulus = self.program.queues[value.queue].modulus
@@ -99,7 +103,7 @@ class Writer:
 
     def __init__(self, program, search):
         self.program, self.search = program, search
-        self.states = search.reached()
+        self.states = list(search.reached())
         self.numbers = {state: at for at, state in enumerate(self.states)}
         self.layouts = [Layout(program, state) for state in self.states]
         self.marked = marked(program, search)
@@ -117,7 +121,7 @@ class Writer:
             yield f"state {state.pc}"
             yield from layout.lines()
             yield from self.marked.get(state, ())
-            yield from self.tree(self.program.tree(state), layout)
+            yield from self.tree(self.search.trees[state], layout)
 
     def opening(self, variable, at):
         kind, which = variable

@@ -1,8 +1,8 @@
 """Values as linear forms: a number and multiples of variables, modulo 2^32.
 
 A variable is a pair: ("n", i) is the party's own count of queue i, ("A", i) how many of its positions it owns, ("w", k) a word that a tag's store
-may hand over (handed.py), ("z", k) any other number of a range. A value is None (anything), a `Form`, or a `Word`: what an index of a queue holds
-that stands for a count.
+may hand over (handed.py), ("z", k) any other number of a range. A value is None (anything), a `Form`, a `Word`: what an index of a queue holds
+that stands for a count, or `Bits`, a word of which some bits are known.
 """
 
 from typing import NamedTuple
@@ -16,11 +16,11 @@ def signed(number, bits=32):
 
 
 class Split(Exception):
-    """The numbers of a variable are to be parted after `at`."""
+    """The numbers of a variable are to be parted after `at`: since something changes there, or to try them one by one."""
 
-    def __init__(self, variable, at):
+    def __init__(self, variable, at, is_one_by_one=False):
         super().__init__(variable, at)
-        self.variable, self.at = variable, at
+        self.variable, self.at, self.is_one_by_one = variable, at, is_one_by_one
 
 
 class Form(NamedTuple):
@@ -33,35 +33,58 @@ class Form(NamedTuple):
         return [variable for variable, _ in self.terms]
 
     def times(self, factor):
-        return form(self.constant * factor, {variable: m * factor for variable, m in self.terms})
+        return Form(self.constant * factor % SIZE, tuple([(variable, m * factor % SIZE) for variable, m in self.terms if m * factor % SIZE]))
 
     def plus(self, other):
+        if not other.terms or not self.terms:
+            return Form((self.constant + other.constant) % SIZE, self.terms or other.terms)
         terms = dict(self.terms)
         for variable, m in other.terms:
             terms[variable] = terms.get(variable, 0) + m
         return form(self.constant + other.constant, terms)
 
     def minus(self, other):
-        return self.plus(other.times(-1))
+        return Form((self.constant - other.constant) % SIZE) if self.terms == other.terms else self.plus(other.times(-1))
 
     def put(self, variable, other):
         """The form with another in the place of a variable."""
+        if all(each != variable for each, _ in self.terms):
+            return self
         terms = dict(self.terms)
-        m = terms.pop(variable, 0)
-        return form(self.constant, terms).plus(other.times(m)) if m else self
+        m = terms.pop(variable)
+        return Form(self.constant, tuple(terms.items())).plus(other.times(m))
 
 
 class Word(NamedTuple):
-    """What an index of queue `queue` holds that stands for this count, an exact form, or what a signed load leaves of it."""
+    """What an index of queue `queue` holds that stands for this count, an exact form, or what a signed load leaves of it. Of no queue, and no
+    number either: so many bits of what `xor` leaves of two numbers, which are 0 where those of their difference are, the form."""
 
     queue: int
     count: Form
     is_signed: bool = False
+    bits: int = 0
+
+
+class Bits(NamedTuple):
+    """A word of which the bits under a mask are these. It names no variable."""
+
+    mask: int
+    bits: int
+
+    terms = ()
+
+    @staticmethod
+    def variables():
+        return []
+
+
+def of_bits(mask, bits):
+    """A number is a word of which all bits are known."""
+    return number(bits) if mask == SIZE - 1 else Bits(mask, bits)
 
 
 def form(constant, terms=None):
-    terms = {variable: m % SIZE for variable, m in (terms or {}).items()}
-    return Form(constant % SIZE, tuple(sorted((variable, m) for variable, m in terms.items() if m)))
+    return Form(constant % SIZE, tuple(sorted([(variable, m % SIZE) for variable, m in terms.items() if m % SIZE])) if terms else ())
 
 
 def number(constant):
@@ -69,7 +92,8 @@ def number(constant):
 
 
 def variable_of(kind, which, factor=1, constant=0):
-    return form(constant, {(kind, which): factor})
+    factor %= SIZE
+    return Form(constant % SIZE, (((kind, which), factor),) if factor else ())
 
 
 def has_word(value):

@@ -1,121 +1,200 @@
 """The search over all harts of a test: which words each alone writes depends on what the others store."""
 
+from itertools import chain
 from typing import NamedTuple
 
 from . import tags
+from .forms import SIZE
 from .handed import Hands
 from .live import flow_of, needed_of
-from .search import Mode, Search
-from .steps import Matters, Program, Refused
+from .progress import goes_on
+from .search import APART, Mode, Search, told_apart_of
+from .steps import LOAD, Matters, Program, Refused
+from .values import Parts
 
-# how a hart's states are searched, one way after the other until one succeeds: what is told apart, whether bytes and halves that are loaded
-# count as numbers of a range, by what values are spelled first, whether sums of an index's words are taken by their remainders, and whether
-# it counts that a sender opens with all slots of a queue with tags. What an earlier search saw of copies of the other's index is taken up, so
-# the first way is gone twice
-WAYS = ((Mode.TOGETHER, False, "npA", True, False), (Mode.TOGETHER, False, "npA", True, False), (Mode.BY_PATH, False, "npA", True, False),
-        (Mode.TOGETHER, False, "npA", False, False), (Mode.BY_POSITION, False, "npA", False, False), (Mode.BY_PATH, False, "npA", False, False),
-        (Mode.TOGETHER, False, "pnA", True, False), (Mode.TOGETHER, True, "npA", True, False), (Mode.BY_PATH, True, "npA", True, False),
-        (Mode.BY_PATH, True, "npA", False, False), (Mode.BY_OWNED, False, "npA", False, False), (Mode.TOGETHER, False, "pnA", True, True),
-        (Mode.BY_POSITION, False, "npA", False, True), (Mode.BY_PATH, False, "npA", True, True))
-# for how many seconds of the processor each way is gone, first and, if none succeeds, again
-SECONDS = ((2, 1, 4, 2, 1, 3, 0.5, 0.5, 1, 1, 1, 2, 2, 2), (5, 5, 15, 5, 10, 15, 5, 5, 10, 10, 15, 5, 10, 5))
-TURNS = [(turn, at) for turn in range(len(SECONDS)) for at in range(len(WAYS))]
-# of a queue with tags a party mostly counts slots, which the positions spell: it goes that way first, and so long
-BY_SLOTS, SECONDS_BY_SLOTS = 6, (4, 15)
-# the ways that tell soon whether it may be covered
-SOON = (BY_SLOTS, 2, 4)
 
+class Way(NamedTuple):
+    """How a hart's states are searched: what is told apart, for how much work, first and, if no way succeeds, again (see WORK); whether sums of an
+    index's words are taken by their remainders; whether bytes and halves that are loaded count as numbers of a range; by what values are spelled
+    first; whether it counts that a sender opens with all slots of a queue with tags; and how many states that can't be joined without loss are told
+    apart where all are joined."""
+
+    mode: Mode
+    work: tuple
+    loosens: bool = True
+    with_bytes: bool = False
+    order: str = "npA"
+    opens_full: bool = False
+    apart: int = APART
+
+
+FEW_APART = 6
+# of a queue with tags a party mostly counts slots, which the positions spell: it goes that way first, and so far
+BY_SLOTS, WORK_BY_SLOTS = Way(Mode.TOGETHER, (0.5, 5), order="pnA"), (4, 15)
+# the ways that tell soon whether a hart may be covered
+SOON = BY_SLOTS, Way(Mode.BY_PATH, (12, 45)), Way(Mode.BY_POSITION, (1.5, 30), loosens=False)
+# ways that take little and join less, so that their states sooner show that the hart goes on
+TELLING = Way(Mode.TOGETHER, (2, 5), loosens=False), Way(Mode.BY_ROOM, (8, 20), loosens=False)
+# one way after the other is gone until one succeeds. What an earlier search saw of copies of the other's index is taken up, so the first is gone twice,
+# and soon is over the first time, where a number that isn't known grows in a loop
+WAYS = (Way(Mode.TOGETHER, (1, 5), apart=FEW_APART), Way(Mode.TOGETHER, (2, 5)), *TELLING, *SOON[1:], Way(Mode.BY_PATH, (9, 45), loosens=False), BY_SLOTS,
+        Way(Mode.TOGETHER, (0.5, 5), with_bytes=True), Way(Mode.BY_PATH, (3, 30), with_bytes=True),
+        Way(Mode.BY_PATH, (3, 30), loosens=False, with_bytes=True), Way(Mode.BY_OWNED, (3, 45), loosens=False),
+        Way(Mode.TOGETHER, (2, 5), order="pnA", opens_full=True), Way(Mode.BY_POSITION, (6, 30), loosens=False, opens_full=True),
+        Way(Mode.BY_PATH, (6, 15), opens_full=True))
+# a way's work is counted in so many states, instructions and comparisons, not in seconds, so that a search finds the same on each machine; it
+# takes a third of a second to one and a half
+WORK = 10_000
+TURNS = 2
 MOST_ROUNDS = 60
 
 
 class FoundHart(NamedTuple):
-    """What was found of a hart: its program, the search, and why it isn't covered, or None."""
+    """What was found of a hart: its program, the search, why it isn't covered, or None, and in which turn of the ways that was."""
 
     hart: int
     program: Program
     search: Search
     refused: object
+    turn: int
 
-    def stands(self, others):
+    def is_apart(self, others):
         """Whether the same is found where other harts store to these words."""
-        return not self.refused and others.isdisjoint(self.program.kept[which] for which in self.program.reads)
+        return others.isdisjoint(self.program.kept[which] for which in self.program.reads)
+
+    def stands(self, others, turn):
+        """Whether nothing more is to be sought in a turn where other harts store to these words: nothing more is found where something was refused."""
+        return (self.refused or self.is_apart(others)) and (self.turn >= turn or not self.refused and not self.program.unowned)
 
 
 class Harts:
-    def __init__(self, test, queues, records=None):
-        self.test, self.queues, self.records = test, queues, records
+    """`clock` ends the search (certify_parts/clock.py): what isn't found by then is refused."""
+
+    def __init__(self, test, queues, clock, records=None):
+        self.test, self.queues, self.clock, self.records = test, queues, clock, records
         self.needed = [needed_of(hart.code) for hart in test.harts]
         for queue in queues:
             if queue.has_tags and queue.tells == tags.ZERO:
                 self.needed[queue.sender] = self.needed[queue.sender].with_hands(test.harts[queue.sender].code)
         self.flows = [flow_of(hart.code) for hart in test.harts]
-        self.turns, self.copies = [0] * len(test.harts), [frozenset()] * len(test.harts)
+        # of each hart at which turn and way it begins, which copies were seen, which ways came to an end, and by which numbers positions are parted
+        self.begins, self.copies, self.ended, self.parts = ([each() for _ in test.harts] for each in (lambda: (0, 0), frozenset, set, dict))
+        # where a word of counts wraps, position and slot part if the number of slots doesn't divide 2^32: more time seldom shows anything then
+        self.may_be_covered = not any(not queue.has_tags and queue.is_linear() and SIZE % queue.size for queue in queues)
         self.shared = {place for place in test.words if any(queue.meets(place, 4) for queue in queues)}
 
     def found(self, found=None):
-        """What was found of each hart, where no hart stores to what another one takes for its own. What is given isn't sought anew."""
+        """What was found of each hart, where no hart stores to what another one takes for its own. What is given isn't sought anew. All harts have
+        their first turn before one has another."""
         stored = [set() for _ in self.test.harts]
         found = found or [None] * len(stored)
-        for _ in range(MOST_ROUNDS):
-            others = [set().union(*stored[:hart], *stored[hart + 1:]) for hart in range(len(stored))]
-            found = [each if each and each.stands(theirs) else self.hart(hart, theirs) for hart, (each, theirs) in enumerate(zip(found, others))]
-            after = [before | each.program.stored for before, each in zip(stored, found)]
-            if after == stored:
-                return found
-            stored = after
-        raise AssertionError("each round stores to further words")
+        for turn in range(TURNS):
+            for _ in range(MOST_ROUNDS):
+                others = [set().union(*stored[:hart], *stored[hart + 1:]) for hart in range(len(stored))]
+                found = [each if each and each.stands(theirs, turn) else self.hart(hart, theirs, turn, each)
+                         for hart, (each, theirs) in enumerate(zip(found, others))]
+                after = [before | each.program.stored for before, each in zip(stored, found)]
+                if after == stored:
+                    break
+                stored = after
+            else:
+                raise AssertionError("each round stores to further words")
+        return found
 
-    def hart(self, hart, others):
-        """The search over one hart, whose own words are those that no other one stores to."""
-        kept = sorted(set(self.test.words) - self.shared - others)
-        ended, refused, reads = set(), None, None
+    def ways(self, hart):
+        """The turns and ways of a hart, in order: each with its number in that order, and its work."""
         is_tagged = any(queue.has_tags and queue.party(hart) is not None for queue in self.queues)
-        turns = sorted(TURNS, key=lambda each: (each[0], each[1] != BY_SLOTS)) if is_tagged else TURNS
-        for turn, at in turns[self.turns[hart]:]:
-            asked = *WAYS[at], self.copies[hart]
-            if asked in ended or WAYS[at][4] and not any(queue.has_tags and queue.sender == hart for queue in self.queues):
+        is_sender = any(queue.has_tags and queue.sender == hart for queue in self.queues)
+        # beside bits that tell a loaded word may be stored
+        least = 0 if any(queue.has_tags and isinstance(queue.tells, tags.BitsTell) for queue in self.queues) else 4
+        loads_bytes = any(word & 127 == LOAD and word >> 12 & 7 >= least for word in self.test.harts[hart].code)
+        ways = sorted(WAYS, key=lambda way: way != BY_SLOTS) if is_tagged else WAYS
+        for turn in range(TURNS):
+            for number, way in enumerate(ways):
+                if (is_sender or not way.opens_full) and (loads_bytes or not way.with_bytes):
+                    yield (turn, number), way, (WORK_BY_SLOTS if is_tagged and way == BY_SLOTS else way.work)[turn]
+
+    def hart(self, hart, others, turn, before):
+        """The search over one hart, whose own words are those that no other one stores to, up to a turn. `before` is what was found already."""
+        kept, last = sorted(set(self.test.words) - self.shared - others), max(turn, self.begins[hart][0])
+        refused = before if before and before.refused else None
+        reads = before if before and not before.refused and before.is_apart(others) else None
+        for at, way, work in self.ways(hart):
+            asked = self.asked(hart, kept, way, at[0])
+            # more work seldom shows which numbers it sends
+            is_idle = at[0] and (reads and self.records or not self.may_be_covered)
+            if at < self.begins[hart] or at[0] > last or asked in self.ended[hart] or is_idle or self.clock.is_over() and (reads or refused):
                 continue
-            if turn and reads and self.records:
-                # more time seldom shows which numbers it sends
-                break
-            found = self.searched(hart, kept, WAYS[at], SECONDS_BY_SLOTS[turn] if is_tagged and at == BY_SLOTS else SECONDS[turn][at])
+            self.clock.tell(hart, at[1] + 1, len(WAYS))
+            found = self.searched(hart, kept, way, work, at[0], reads is not None)
             # one that names an instruction is told first
             if found.refused and (not refused or refused.refused.pc is None):
                 refused = found
             if not found.refused or found.refused.pc is not None:
-                ended.add(asked)
-            if not found.refused and not found.program.unowned and (not self.records or self.records.are_shown(found.program, found.search)):
+                self.ended[hart] |= {(each, *asked[1:]) for each in self.alike(asked[0], found.program)}
+            if self.is_whole(found):
                 # a further round begins here
-                self.turns[hart] = turns.index((turn, at))
-                return found
+                self.begins[hart] = at
+                return self.going_on(found, kept)
             reads = reads or (None if found.refused else found)
             self.copies[hart] |= found.search.seen
-        return reads or refused
+        return (reads or refused)._replace(turn=last)
+
+    def asked(self, hart, kept, way, turn):
+        """What a search depends on, except for its work."""
+        far = way.mode == Mode.BY_PATH and tuple(told_apart_of(queue, not turn) for queue in self.queues)
+        return way._replace(work=()), len(kept), self.copies[hart], far, self.records and self.records.known(), tuple(self.parts_at(hart, turn).items())
+
+    def parts_at(self, hart, turn):
+        """By which numbers the queues' positions are parted, of those of which a search asked for that: in the second turn each is whole."""
+        return {which: self.queues[which].size for which in self.parts[hart]} if turn else self.parts[hart]
+
+    def alike(self, way, program):
+        """The ways in which the same is found as in this one: they differ in what nothing depended on."""
+        same, ways = {"loosens", "with_bytes"} - program.depends, [way]
+        if any(queue.counting() is not queue for queue in self.queues):
+            same.discard("loosens")
+        for name in same:
+            ways += [each._replace(**{name: not getattr(each, name)}) for each in ways]
+        return ways
+
+    def is_whole(self, found):
+        return not found.refused and not found.program.unowned and (not self.records or self.records.are_shown(found.program, found.search))
+
+    def going_on(self, found, kept):
+        """What was found of a hart, or, if its states don't show that it goes on, what one of a few other ways finds of which they do."""
+        new = (way for way in TELLING if self.asked(found.hart, kept, way, 0) not in self.ended[found.hart])
+        others = (self.searched(found.hart, kept, way, way.work[0], 0, True) for way in new)
+        return next((each for each in chain([found], others) if self.is_whole(each) and goes_on(each.program, each.search)), found)
 
     def refused_soon(self):
         """Of how many harts each of a few searches names an instruction that isn't shown to keep the protocol."""
         kept = sorted(set(self.test.words) - self.shared)
 
-        def is_refused(hart, at):
-            refused = self.searched(hart, kept, WAYS[at], SECONDS[0][at]).refused
+        def is_refused(hart, way):
+            refused = self.searched(hart, kept, way, way.work[0], 0).refused
             return refused is not None and refused.pc is not None
 
-        return sum(all(is_refused(hart, at) for at in SOON) for hart in range(len(self.test.harts)))
+        return sum(all(is_refused(hart, way) for way in SOON) for hart in range(len(self.test.harts)))
 
-    def searched(self, hart, kept, way, seconds):
-        """What one way finds of a hart, anew as long as what it stores turns out to matter at further places."""
-        mode, with_bytes, order, loosens, opens_full = way
-        queues = [queue.counting() for queue in self.queues] if loosens else self.queues
+    def searched(self, hart, kept, way, work, turn, wants_all=False):
+        """What one way finds of a hart, anew as long as what it stores turns out to matter at further places. With `wants_all` it ends as soon as not
+        all will be shown."""
         while True:
-            program = Program(self.test, queues, hart, kept, self.needed[hart], with_bytes, loosens, self.records, opens_full)
-            search = Search(program, mode, self.copies[hart], order, seconds, self.flows[hart])
+            parts = self.parts_at(hart, turn)
+            queues = [queue.parted(parts[which]) if which in parts else queue.counting() if way.loosens else queue for which, queue in enumerate(self.queues)]
+            program = Program(self.test, queues, hart, kept, self.needed[hart], way.with_bytes, way.loosens, self.records, way.opens_full,
+                              way.mode == Mode.BY_ROOM, wants_all)
+            search = Search(program, way, self.copies[hart], int(work * WORK), self.clock, self.flows[hart], not turn)
             try:
-                search.run_by_path() if mode == Mode.BY_PATH else search.run()
+                search.run_by_path() if way.mode == Mode.BY_PATH else search.run()
             except Matters as found:
                 self.needed[hart] = needed_of(self.test.harts[hart].code, self.needed[hart].matters | found.pcs, self.needed[hart].hands)
             except Hands as found:
                 self.needed[hart] = self.needed[hart].with_hands(self.test.harts[hart].code, found.pcs, found.places, found.addresses)
+            except Parts as found:
+                self.parts[hart][found.which] = found.part
             except Refused as why:
-                return FoundHart(hart, program, search, why)
+                return FoundHart(hart, program, search, why, turn)
             else:
-                return FoundHart(hart, program, search, None)
+                return FoundHart(hart, program, search, None, turn)

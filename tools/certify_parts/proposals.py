@@ -75,12 +75,13 @@ class Seen:
         """The arrays that a hart stores to and another one loads: where each begins, its elements, and the bytes of one."""
         found = []
         for (storer, _), addresses in sorted(self.stores.items(), key=lambda each: min(each[1])):
-            if storer == hart and len(addresses) > 1 and any(other in self.places[each].loaders for each in addresses):
+            if storer == hart and len(addresses) > 1:
                 if found and min(addresses) <= max(found[-1][-1]):
                     found[-1].append(addresses)
                 else:
                     found.append([addresses])
-        for fields in found:
+        # of a record the other hart may load a part alone
+        for fields in (each for each in found if any(other in self.places[place].loaders for place in set().union(*each))):
             width = gcd(*(after - before for each in fields for before, after in pairwise(sorted(each))))
             begin = min(map(min, fields))
             yield begin, max((max([self.last_named(begin), *each]) - begin) // width + 1 for each in fields), width

@@ -62,6 +62,15 @@ class Queue(NamedTuple):
         """The queue whose positions say no more than slots, if its count is a running one of one or two bytes; else itself."""
         return Counting(*self) if self.is_cut() and self.modulus % self.size == 0 else self
 
+    def may_be_parted(self, part):
+        """Whether positions may be told by their remainder by this and the rest, and there are many of the rest."""
+        return self.is_linear() and self.period() == self.size and not self.size % part and self.size // part > FEW
+
+    def parted(self, part):
+        found = Parted(*self)
+        found.part = part
+        return found
+
     def party(self, hart):
         """0 of the sender, 1 of the receiver, None of another hart."""
         return 0 if hart == self.sender else 1 if hart == self.receiver else None
@@ -115,6 +124,22 @@ class Counting(Queue):
 
     def period(self):
         return self.size
+
+
+class Parted(Queue):
+    """A queue with running counts of which a position is told by its remainder by `part`, which divides the slots, and, as a turn, the rest, if
+    there is any."""
+
+    part = None
+
+    def may_be_parted(self, part):
+        return False
+
+    def turns(self):
+        return self.size // self.part
+
+    def period(self):
+        return self.part
 
 
 NUMBERS = {"size": None, "width": 4, "bytes": 4, "scale": 1, "base": 0, "offset": 0, "sender": 0, "receiver": 1}

@@ -4,13 +4,14 @@ States that meet at one pc are joined if each of their values can be spelled ali
 nothing: what it finds is written as a certificate, and a check of that decides.
 """
 
-import time
 from enum import Enum
 from heapq import heappop, heappush
+from itertools import chain
 
 from . import handed
-from .forms import SIZE, Form, Word, bounds, number, signed, variable_of
-from .steps import Refused, leaves
+from .forms import SIZE, Bits, Form, Word, bounds, number, signed, variable_of
+from .groups import Group, Groups
+from .steps import BLOCK, Refused, leaves
 from .values import Share
 
 # so many states of one kind are told apart where they can't be joined without loss
@@ -18,77 +19,110 @@ APART = 20
 # and so many along paths, where only outermost loops join: so many where these begin, and elsewhere, or so many for each slot: a loop over
 # what is owned has two for each distance from the own count
 APART_BETWEEN_PATHS, APART_BY_PATH, APART_BY_SLOT = 6, 500, 3
+# of a count so many numbers are told apart between where the outermost loops begin: what goes round the slots shows itself by then
+FEW_COUNTS = 8
 # of what was joined, so many are kept, to see how a further one is spelled like them
 KEPT = 12
 # so many are joined by their own positions, before all positions are taken
 EARLY = 4
 # so many columns that couldn't be joined are looked at first, at each pc
 FAILED = 3
-MOST_STATES = 150_000
-# the time is looked at once in so many
-LOOKS = 16
+# the time is looked at once in so much work
+LOOKS = 64
+# a case tree of so many leaves is large
+LARGE = 16
+# of so many joins what was found is remembered
+REMEMBERED = 5_000
+# to compare so many states is the work of one
+COMPARED = 8
 MOST_FACTOR = 1 << 20
 
 
 class Mode(Enum):
     """What is told apart of states at one pc: nothing; at which position the own count stands; and how much is owned too; or nothing, but
-    states are joined only where a loop begins, so that between what a split told is kept."""
+    states are joined only where a loop begins, so that between what a split told is kept; or whether some position is known to be owned, while
+    words of indices are settled as forms."""
 
     TOGETHER = 0
     BY_POSITION = 1
     BY_OWNED = 2
     BY_PATH = 3
+    BY_ROOM = 4
 
 
 # where positions aren't told apart
-TOGETHER = (Mode.TOGETHER, Mode.BY_PATH)
+TOGETHER = (Mode.TOGETHER, Mode.BY_PATH, Mode.BY_ROOM)
 
 
-class Group:
-    """States that were met and joined, and what they were joined to."""
-
-    def __init__(self, met, state):
-        self.met, self.state = met, state
+def told_apart_of(queue, is_short):
+    """Of the counts of a queue so many are told apart along paths."""
+    return min(2 * queue.size, FEW_COUNTS) if is_short else 2 * queue.size
 
 
 class Search:
-    def __init__(self, program, mode, copies=frozenset(), order="npA", seconds=25, flow=None):
-        self.program, self.mode, self.order, self.ends = program, mode, order, time.process_time() + seconds
-        self.groups, self.number = {}, 0
+    def __init__(self, program, way, copies, work, clock, flow, is_short):
+        self.program, self.mode, self.order, self.left, self.clock = program, way.mode, way.order, work, clock
+        # up to which count numbers of it are told apart between the outermost joins
+        self.far = [queue.start + told_apart_of(queue, is_short) for queue in program.queues]
+        self.groups = {}
         self.flow = flow
         # whether what was found from there on is left, since there are other states where an outermost loop begins
         self.begins_anew = False
-        self.failed, self.apart = {}, APART_BETWEEN_PATHS if mode == Mode.BY_PATH else APART
+        # what `spelled` found, and numbers for what was said of variables
+        self.spelled_once, self.numbers, self.asked = {}, {}, (None, None)
+        # the pcs of states with large case trees
+        self.large = set()
+        self.failed, self.apart = {}, APART_BETWEEN_PATHS if way.mode == Mode.BY_PATH else way.apart
+        # of a search that has ended the states that are reached with their trees, and by which state each that follows is covered
+        self.trees, self.covered = {}, {}
         # at which pcs an earlier search saw what the other's index held in which register or word; and where this one does
-        self.copies, self.seen = copies, set()
+        self.copies, self.copied, self.seen = copies, {pc for pc, _ in copies}, set()
+
+    def spend(self, work):
+        """Counts work, and ends the search where that was all, or the time is over."""
+        self.left -= work
+        if self.left < 0 or self.left // LOOKS != (self.left + work) // LOOKS and self.clock.is_over():
+            raise Refused(None, "no end was found")
 
     def states(self):
         return [group.state for groups in self.groups.values() for group in groups]
 
     def covering(self, state):
-        """The state that was found last of those that cover this one."""
-        for group in reversed(self.groups[self.key(state)]):
-            if self.covers(group.state, state):
-                return group.state
-        raise AssertionError(f"no state covers {state}")
+        """The state that was found last of those that cover this one, of a search that has ended."""
+        return self.covering_group(state).state
+
+    def covering_group(self, state):
+        _, found = self.covered.get(id(state), (None, None))
+        if found is None:
+            found = next((group for group in reversed(self.groups[self.key(state)].near(state)) if self.covers(group.state, state)), None)
+            if found is None:
+                raise AssertionError(f"no state covers {state}")
+            # the state is kept with it, so that no other one has its id
+            self.covered[id(state)] = state, found
+        return found
 
     def reached(self):
-        """The states that a hart may come to from its first one."""
-        todo = [self.covering(self.program.start)]
-        found = dict.fromkeys(todo)
-        while todo:
-            for _, _, after in leaves(self.program.tree(todo.pop())):
-                new = [state for state in (self.covering(following.state) for following in after) if state not in found]
-                found.update(dict.fromkeys(new))
-                todo += new
-        return list(found)
+        """The states that a hart may come to from its first one, of a search that has ended, each with its case tree."""
+        if not self.trees:
+            todo = [self.covering_group(self.program.start)]
+            self.trees = {todo[0].state: None}
+            while todo:
+                group = todo.pop()
+                tree = self.trees[group.state] = group.tree or self.program.tree(group.state)
+                for _, _, after in leaves(tree):
+                    for found in [self.covering_group(following.state) for following in after]:
+                        if found.state not in self.trees:
+                            self.trees[found.state] = None
+                            todo.append(found)
+        return self.trees
 
     def key(self, state):
         """What is told apart of states."""
         shares = [share for share in state.shares if share]
         positions = tuple((share.first, share.last) for share in shares) if self.mode in (Mode.BY_POSITION, Mode.BY_OWNED) else ()
-        owned = tuple((share.low, share.high) for share in shares) if self.mode == Mode.BY_OWNED else ()
-        return state.pc, positions, owned, state.others
+        owned = tuple((share.low, share.high) if self.mode == Mode.BY_OWNED else (share.low > 0, share.first // BLOCK) for share in shares)
+        owned = owned if self.mode in (Mode.BY_OWNED, Mode.BY_ROOM) else ()
+        return state.pc, positions, owned, state.others, state.is_apart
 
     # ---- values
 
@@ -96,12 +130,19 @@ class Search:
         """Whether a value of a state is one that is wanted, whatever the state."""
         if wanted is None or value == wanted:
             return True
+        if isinstance(value, Bits) and isinstance(wanted, Bits):
+            return value.mask & wanted.mask == wanted.mask and value.bits & wanted.mask == wanted.bits
         if value is None or isinstance(value, Form) and isinstance(wanted, Form) and value.terms == wanted.terms:
             return False
-        known = self.program.known(value, state)
+        return self.is_known_value(value, self.program.known(value, state), state, wanted)
+
+    def is_known_value(self, value, known, state, wanted):
+        """The same of a value of which the number is known, or None."""
+        if value == wanted:
+            return True
         if known is not None:
             return known == self.program.known(wanted, state)
-        if isinstance(value, Word) or isinstance(wanted, Word):
+        if isinstance(value, Word) or isinstance(wanted, Word) or value.terms == wanted.terms:
             return False
         found = bounds(value.minus(wanted), self.program.ranges(state))
         return found is not None and found[0] == found[1] and found[0] % SIZE == 0
@@ -114,17 +155,17 @@ class Search:
                 return False
         if old.handed or state.handed:
             return handed.covers(self, old, state)
-        for new, wanted in zip(state.registers + state.words, old.registers + old.words):
-            if new != wanted and not self.is_value(new, state, wanted):
-                return False
-        return True
+        return self.are_values(state.registers, state, old.registers) and self.are_values(state.words, state, old.words)
 
-    def spellings(self, values, states):
-        """Values that all of these may be: each as it stands; what the other's index holds; and forms of counts through two numbers."""
+    def are_values(self, values, state, wanted):
+        return values == wanted or all(new == each or self.is_value(new, state, each) for new, each in zip(values, wanted))
+
+    def spellings(self, values, states, known):
+        """Values that all of these may be: each as it stands; what the other's index holds; and forms of counts through two of the numbers that are
+        known of them."""
         yield from list(dict.fromkeys(values))[:4]
         yield from self.program.looks
-        known = [(self.program.known(value, state), state) for value, state in zip(values, states)]
-        known = [(value, self.program.ranges(state)) for value, state in known if value is not None]
+        known = [(value, self.program.ranges(state)) for value, state in zip(known, states) if value is not None]
         for at in {1, len(known) // 2, len(known) - 1} - {0, -1}:
             if at < len(known):
                 yield from self.through(known[0], known[at])
@@ -135,20 +176,23 @@ class Search:
         # the newest first, which leads to fewer states more often
         both = [variable for variable in reversed(first_ranges) if variable in second_ranges and variable[0] != "z"]
         numbers = {variable: (first_ranges[variable][0], second_ranges[variable][0]) for variable in both
-                   if all(ranges[variable][0] == ranges[variable][1] for ranges in (first_ranges, second_ranges))}
-        for which in sorted({which for kind, which in numbers if kind == "t" and self.program.queues[which].turns() > 1}):
-            position = self.program.position(which).times(self.program.queues[which].scale)
+                   if first_ranges[variable][0] == first_ranges[variable][1] and second_ranges[variable][0] == second_ranges[variable][1]}
+        queues = self.program.queues
+        for which in sorted({which for kind, which in numbers if kind == "t" and queues[which].turns() > 1 and queues[which].has_known_words()}):
+            position = self.program.position(which).times(queues[which].scale)
             x, y = (value - bounds(position, ranges)[0] for value, ranges in two)
             if (x - y) % SIZE == 0:
                 yield position.plus(number(x))
+        ordered = sorted(((variable, two) for variable, two in numbers.items() if variable[0] != "t" and two[0] != two[1]),
+                         key=lambda row: self.order.find(row[0][0]))
         shifts = [(None, 0)] + [(variable, sign * self.program.queues[variable[1]].scale) for variable in numbers if variable[0] == "A" for sign in (1, -1)]
         for owned, m in shifts:
             x, y = (value - m * numbers[owned][at] if owned else value for at, value in enumerate((a, b)))
             begin = variable_of(*owned, m) if owned else number(0)
             if owned and (x - y) % SIZE == 0:
                 yield begin.plus(number(x))
-            for variable, (first, second) in sorted(numbers.items(), key=lambda row: self.order.find(row[0][0])):
-                if variable != owned and variable[0] != "t" and first != second and signed(y - x) % (second - first) == 0:
+            for variable, (first, second) in ordered:
+                if variable != owned and signed(y - x) % (second - first) == 0:
                     factor = signed(y - x) // (second - first)
                     if 0 < factor < MOST_FACTOR:
                         yield begin.plus(variable_of(*variable, factor, x - factor * first))
@@ -157,24 +201,55 @@ class Search:
     def contradict(known, states):
         """Whether two of these numbers differ, of states with the same counts: then no form is both."""
         met = {}
-        return any(value is not None and met.setdefault(state.shares, value) != value for value, state in zip(known, states))
+        for value, state in zip(known, states):
+            if value is not None and met.setdefault(state.shares, value) != value:
+                return True
+        return False
 
     def spelled(self, where, values, states):
         """A value that all of these are, or None where there is none."""
         if None in values:
             return None
         is_copy = (states[0].pc, where) in self.copies
-        if not is_copy and all(value == values[0] for value in values):
+        if not is_copy and values.count(values[0]) == len(values):
             return values[0]
-        known = [self.program.known(value, state) for value, state in zip(values, states)]
+        # most values are the same at one pc and the next
+        asked = values, self.number_of(states), is_copy
+        if asked not in self.spelled_once:
+            self.spelled_once[asked] = self.spelled_anew(values, states, is_copy)
+        return self.spelled_once[asked]
+
+    def number_of(self, states):
+        """A number for what these states say of their variables."""
+        if self.asked[0] is not states:
+            if len(self.numbers) == REMEMBERED or len(self.spelled_once) > 8 * REMEMBERED:
+                self.numbers.clear()
+                self.spelled_once.clear()
+            told = tuple([(state.shares, state.others, state.handed) for state in states])
+            self.asked = states, self.numbers.setdefault(told, len(self.numbers))
+        return self.asked[1]
+
+    def spelled_anew(self, values, states, is_copy):
+        known = list(map(self.program.known, values, states))
         if self.contradict(known, states):
             return None
-        for each in (*(self.program.looks if is_copy else ()), *self.spellings(values, states)):
-            if all(self.is_value(value, state, each) for value, state in zip(values, states)):
+        rows = list(zip(values, known, states))
+        for each in chain(self.program.looks if is_copy else (), self.spellings(values, states, known)):
+            for row in rows:
+                if not self.is_known_value(*row, each):
+                    break
+            else:
                 return each
         return None
 
     # ---- joins
+
+    def are_apart(self, one, other):
+        """Whether a value of one state is a number more in another one with the same counts: then a join loses it."""
+        if self.program.needed.hands or one.shares != other.shares or one.others != other.others:
+            return False
+        return any(a is not b and a.__class__ is b.__class__ is Form and a.terms == b.terms and a.constant != b.constant
+                   for a, b in zip(one.registers + one.words, other.registers + other.words))
 
     def is_early(self, state):
         """Whether its counts are among the first, which are told apart to see how values go with them."""
@@ -183,12 +258,13 @@ class Search:
 
     def joined(self, states, is_whole=False):
         """The states as one, and how many values are lost by it; None and 1 as soon as one is, if nothing may be."""
-        columns = list(zip(*(state.registers + state.words for state in states)))
+        values, lost, meeting, words = [], 0, self.meeting(states), states[0].words
+        # of many own words mostly all are the same
+        is_same = not meeting and states[0].pc not in self.copied and all(state.words == words for state in states)
         failed = self.failed.setdefault(states[0].pc, [])
-        if is_whole and any(self.is_lost(where, columns[where], states) for where in failed):
+        if is_whole and any(self.is_lost(where, states) for where in failed if where < 32 or not is_same):
             return None, 1
-        values, lost, meeting = [], 0, self.meeting(states)
-        for where, column in enumerate(columns):
+        for where, column in enumerate(zip(*[state.registers if is_same else state.registers + state.words for state in states])):
             values.append(self.spelled_among(meeting, where, column, states))
             if values[-1] is None and None not in column:
                 lost += 1
@@ -204,7 +280,7 @@ class Search:
                 if is_whole:
                     return None, 1
             shares.append(self.joined_share(which, each) if each[0] else None)
-        found = states[0]._replace(registers=tuple(values[:32]), words=tuple(values[32:]), shares=tuple(shares))
+        found = states[0]._replace(registers=tuple(values[:32]), words=words if is_same else tuple(values[32:]), shares=tuple(shares))
         return meeting.settled(found) if meeting else found, lost
 
     def meeting(self, states):
@@ -214,8 +290,9 @@ class Search:
     def spelled_among(self, meeting, where, column, states):
         return meeting.spelled(where, column) if meeting and meeting.is_asked(where, column) else self.spelled(where, column, states)
 
-    def is_lost(self, where, column, states):
-        """Whether a join loses the value of a column."""
+    def is_lost(self, where, states):
+        """Whether a join loses the value of a register, or of a word after them."""
+        column = tuple([state.registers[where] if where < 32 else state.words[where - 32] for state in states])
         return None not in column and self.spelled_among(self.meeting(states), where, column, states) is None
 
     def joined_share(self, which, shares):
@@ -275,42 +352,48 @@ class Search:
 
     def is_within(self, state):
         """Whether a state is of a place between the outermost joins, where no count goes on in a loop by itself."""
-        return state.pc not in self.flow.outer and all(share is None or share.count is None or share.count - queue.start <= 2 * queue.size
-                                                       for share, queue in zip(state.shares, self.program.queues))
+        return state.pc not in self.flow.outer and all(share is None or share.count is None or share.count <= far
+                                                       for share, far in zip(state.shares, self.far))
 
     def told_apart(self, state, groups):
         """Takes in a state that is joined with others only if nothing else comes in by it."""
-        at = 0
-        while at < len(groups):
-            one = self.as_one(groups[at].state, state)
+        ways_meet, left = state.pc in self.flow.meets, groups.near(state)[::-1]
+        while left:
+            group = left.pop()
+            # mostly they differ in a value
+            is_same = (group.state.registers, group.state.words) == (state.registers, state.words)
+            one = self.as_one(group.state, state) if ways_meet or is_same else None
             if one:
-                del groups[at]
-                state, at = one, 0
-            else:
-                at += 1
-        groups.append(Group([state], state))
+                groups.remove(group)
+                state, left = one, groups.near(one)[::-1]
+        groups.add(Group([state], state))
         if len(groups) > max([APART_BY_PATH, *(APART_BY_SLOT * queue.size for queue in self.program.queues)]):
             raise Refused(None, "no end was found")
         return state
 
     def take(self, state):
         """Takes in a state that may be met; returns it, or what it was joined to, if that is new."""
-        groups = self.groups.setdefault(self.key(state), [])
-        if any(self.covers(group.state, state) for group in reversed(groups)):
+        groups = self.groups.setdefault(self.key(state), Groups())
+        near = groups.near(state)
+        self.spend(len(near) // COMPARED)
+        if any(self.covers(group.state, state) for group in reversed(near)):
             return None
-        self.seen.update((state.pc, where) for where, value in enumerate(state.registers + state.words) if value is not None and any(
-            kind == "A" for kind, _ in (value.count if isinstance(value, Word) else value).variables()))
-        self.number += 1
-        if self.number > MOST_STATES or self.number % LOOKS == 0 and time.process_time() > self.ends:
-            raise Refused(None, "no end was found")
+        for where, value in enumerate(state.registers + state.words):
+            terms = (value.count if isinstance(value, Word) else value).terms if value is not None else ()
+            if terms and any(variable[0] == "A" for variable, _ in terms):
+                self.seen.add((state.pc, where))
+        self.spend(1)
         if self.mode == Mode.BY_PATH and self.is_within(state):
             return self.told_apart(state, groups)
         if len(groups) < self.apart and self.is_early(state):
-            groups.append(Group([state], state))
+            groups.add(Group([state], state))
             return state
         # the groups that it can be joined with and nothing is lost; if there are many others, the one with which least is lost
         met, whole, least = [state], None, None
-        for group in list(groups):
+        self.spend(len(groups))
+        for group in groups:
+            if self.are_apart(state, group.state):
+                continue
             found, lost = self.joined(met + group.met, True)
             if lost == 0:
                 met, whole = met + group.met, found
@@ -324,21 +407,39 @@ class Search:
             met, whole = met + least[1].met, least[2]
         self.begins_anew |= self.mode == Mode.BY_PATH and whole is not None and state.pc in self.flow.outer
         whole = whole or state
-        groups[:] = [group for group in groups if not self.covers(whole, group.state)]
+        for group in groups:
+            if self.covers(whole, group.state):
+                groups.remove(group)
         # what is joined counts too, so that a later join says no more
-        groups.append(Group([*met[:KEPT // 2], *met[KEPT // 2:][-KEPT // 2:], *[whole] * (len(met) > KEPT)], whole))
+        groups.add(Group([*met[:KEPT // 2], *met[KEPT // 2:][-KEPT // 2:], *[whole] * (len(met) > KEPT)], whole))
         return whole
 
+    def follow(self, state):
+        """What follows a state that was taken in, unless it was joined with others since."""
+        groups = self.groups.get(self.key(state))
+        group = groups and groups.of(state)
+        if group:
+            tree = self.program.tree(state)
+            for number, (_, _, after) in enumerate(leaves(tree)):
+                self.spend(1)
+                yield from (following.state for following in after)
+            group.tree = tree
+            if number >= LARGE:
+                self.large.add(state.pc)
+
     def run(self):
-        todo = [self.take(self.program.start)]
-        while todo:
+        # states with large case trees wait until nothing else is left, so that these are made seldom
+        todo, later = [self.take(self.program.start)], {}
+        while todo or later:
+            if not todo:
+                todo = [later.popitem()[1]]
             state = todo.pop()
-            if not any(group.state is state for group in self.groups[self.key(state)]):
-                continue
-            for _, _, after in leaves(self.program.tree(state)):
-                for following in after:
-                    new = self.take(following.state)
-                    if new is not None:
+            for following in self.follow(state):
+                new = self.take(following)
+                if new is not None:
+                    if new.pc in self.large:
+                        later[id(new)] = new
+                    else:
                         todo.append(new)
 
     def run_by_path(self):
@@ -349,12 +450,9 @@ class Search:
             for state in new:
                 number += 1
                 heappush(todo, (self.flow.turn(pc, state.pc), number, state))
-            new, state = [], heappop(todo)[2]
+            state = heappop(todo)[2]
             pc = state.pc
-            if not any(group.state is state for group in self.groups.get(self.key(state), ())):
-                continue
-            for _, _, after in leaves(self.program.tree(state)):
-                new += [taken for taken in (self.take(following.state) for following in after) if taken is not None]
+            new = [taken for taken in map(self.take, self.follow(state)) if taken is not None]
             if self.begins_anew:
                 todo, new, pc = [], self.only_outer(), None
 

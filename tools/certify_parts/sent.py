@@ -77,6 +77,10 @@ class Records:
         self.lost.add(part)
         self.numbers.pop(part, None)
 
+    def known(self):
+        """All that is known, as one value."""
+        return frozenset(self.numbers.items()), frozenset(self.lost)
+
     def given(self, part):
         """What a load of a part is told: None as long as nothing is sent, its numbers, or () where these aren't known."""
         return () if part in self.lost else self.numbers.get(part)
@@ -146,6 +150,8 @@ class Records:
             numbers = numbers_stored(program, value, state, width) if is_whole else None
             old = program.log.stored.get(part, numbers)
             program.log.stored[part] = old and numbers and old.joined(numbers)
+            if program.wants_all and not program.log.stored[part]:
+                raise Refused(state.pc, "a store of a number that isn't known to a field of a record")
 
     def are_shown(self, program, search):
         """Whether all numbers that a hart stores to parts are known; and where nothing more is sought, its fields are right."""
@@ -239,8 +245,8 @@ def needed_before(program, which, leaf, following, after):
 
 def marks_of(program, search, which):
     """For each state that is reached the marks that it needs of a queue to which the hart sends; Unshown where some can't stand."""
-    states = search.reached()
-    trees = {state: list(leaves(program.tree(state))) for state in states}
+    trees = {state: list(leaves(tree)) for state, tree in search.reached().items()}
+    states = list(trees)
     marks, before = {state: set() for state in states}, {}
     for state in states:
         for _, _, after in trees[state]:
@@ -292,37 +298,46 @@ def seek(records, found):
     return [None if is_new_to(hart) else hart for hart in found] if told or asked else None
 
 
-def sought(test, queues):
-    """The fields that loads of records need and that all stores to them keep, and in which ways the harts were searched."""
+def sought(test, queues, clock):
+    """The fields that loads of records need and that all stores to them keep, in which ways the harts were searched, and what was found of them."""
     records, found = Records(seeks=True), None
-    harts = Harts(test, queues, records)
+    harts = Harts(test, queues, clock, records)
     while True:
         after = harts.found(found)
         found = seek(records, after)
         if not found:
-            return Records({part: numbers for part, numbers in records.numbers.items() if numbers}), harts.turns
+            return Records({part: numbers for part, numbers in records.numbers.items() if numbers}), harts.begins, after
 
 
-def searched(test, queues, records, turns):
+def is_whole(records, found):
+    return not any(hart.refused for hart in found) and all(records.are_shown(hart.program, hart.search) for hart in found)
+
+
+def searched(test, queues, clock, records, begins):
     """What is found of each hart with these fields, first in ways that served before."""
-    harts = Harts(test, queues, records)
-    harts.turns = list(turns)
+    harts = Harts(test, queues, clock, records)
+    harts.begins = list(begins)
     found = harts.found()
-    is_whole = not any(hart.refused for hart in found) and all(records.are_shown(hart.program, hart.search) for hart in found)
-    return found if is_whole else Harts(test, queues, records).found()
+    return found if is_whole(records, found) else Harts(test, queues, clock, records).found()
 
 
-def kept(test, queues, records, turns):
-    """What is found of each hart with these fields, less those that aren't right wherever they are published."""
+def kept(test, queues, clock, records, begins, before):
+    """What is found of each hart with these fields, less those that aren't right wherever they are published. `before` is what was found while these
+    were sought."""
+    # the same is found again, unless nothing is sent in a part that is loaded
+    is_same = all(hart.program.log.loaded <= records.numbers.keys() | hart.program.records.lost for hart in before)
+    for hart in before if is_same else ():
+        hart.program.records = records
+    found = before if is_same and is_whole(records, before) else None
     while True:
-        found = searched(test, queues, records, turns)
+        found = found or searched(test, queues, clock, records, begins)
         try:
             for hart in found:
                 if not hart.refused:
                     marked(hart.program, hart.search)
             return found
         except Unshown as why:
-            records = Records(records.numbers)
+            records, found = Records(records.numbers), None
             records.lose(records.fields(why.which)[why.at][0])
 
 
@@ -331,13 +346,13 @@ def needs_records(hart):
     return hart.refused and not hart.program.slot_loads.isdisjoint(address_loads(hart.program.code, hart.program.needed.matters))
 
 
-def found_of(test, queues):
+def found_of(test, queues, clock):
     """What is found of each hart: without fields, or where some hart isn't covered so, with the fields that it needs."""
-    found = Harts(test, queues).found()
+    found = Harts(test, queues, clock).found()
     if not any(map(needs_records, found)):
         return found
-    records, turns = sought(test, queues)
+    records, begins, before = sought(test, queues, clock)
     if not records.numbers:
         return found
-    other = kept(test, queues, records, turns)
+    other = kept(test, queues, clock, records, begins, before)
     return found if any(hart.refused for hart in other) else other

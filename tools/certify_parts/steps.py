@@ -4,10 +4,11 @@
 or refuses by `Refused` what isn't shown to keep the protocol.
 """
 
+from math import prod
 from typing import NamedTuple
 
 from . import handed, tags
-from .forms import SIZE, Form, Split, Word, bounds, form, has_word, number, numbers_of, signed, variable_of
+from .forms import SIZE, Bits, Form, Split, Word, bounds, form, has_word, number, numbers_of, signed, variable_of
 from .values import MOST_TRIED, ZERO, Share, State, Values
 
 # the kinds of instructions, by their low seven bits
@@ -15,6 +16,8 @@ LOAD, FENCE, IMMEDIATE, AUIPC, STORE, AMO, REGISTER, LUI, BRANCH, JALR, JAL, SYS
     0x03, 0x0F, 0x13, 0x17, 0x23, 0x2F, 0x33, 0x37, 0x63, 0x67, 0x6F, 0x73)
 # so many splits a certificate may have of a state
 MOST_SPLITS = 1024
+# so many positions are tried one by one in a state
+BLOCK = 128
 NAMES = ("add", "sll", "slt", "sltu", "xor", "srl", "or", "and")
 
 
@@ -48,7 +51,7 @@ class Next(NamedTuple):
 class Program(Values):
     """One hart's code with what holds of all its states."""
 
-    def __init__(self, test, queues, hart, kept, needed, with_bytes=False, loosens=True, records=None, opens_full=False):
+    def __init__(self, test, queues, hart, kept, needed, with_bytes=False, loosens=True, records=None, opens_full=False, settles=False, wants_all=False):
         self.hart, self.code = hart, test.harts[hart].code
         super().__init__(queues, hart, loosens)
         self.tagged = [(which, queue, party) for which, (queue, party) in enumerate(zip(queues, self.parties)) if queue.has_tags and party is not None]
@@ -59,9 +62,15 @@ class Program(Values):
         self.at = {place: which for which, place in enumerate(kept)}
         self.stored = set()    # words that it may store to, apart from queues
         self.reads = set()     # which of `kept` it loads: of the others nothing need be known
-        self.needed, self.edges = needed, {}
+        self.needed, self.edges = needed, {}    # edges: by a variable, the numbers after which it was parted
+        # whether words of indices become forms where an instruction asks for that, and numbers that are tried one by one end no range. These are
+        # tried in blocks, each in states of its own, so that a state has no more cases than a certificate may have
+        self.settles = settles
+        for which, queue in enumerate(queues if settles else ()):
+            self.edges["p", which] = {edge - 1 for edge in range(BLOCK, queue.period(), BLOCK)}
         self.dropped = {}      # by a word: the pcs of its stores of which the value was left out
         self.unowned = {}      # by a queue: the first pc of which a load of its slots isn't shown to be of owned ones
+        self.wants_all = wants_all  # whether the search ends at such a load, or where it isn't known which number is sent
         self.slot_loads = set()  # the pcs of loads of slots
         self.records = records   # what is known of records, where that is asked
         if records:
@@ -124,13 +133,16 @@ class Program(Values):
     def positions(self, which, value, width, state):
         """From how many positions past the own count on an access of slots is of, and up to where, or None."""
         queue, share = self.queues[which], state.shares[which]
+        if queue.period() < queue.size:
+            return self.positions_by_parts(which, value, width, state)
         turn = share.first // queue.size
         if turn != share.last // queue.size:
             raise Split(("p", which), (turn + 1) * queue.size - 1)
         start = variable_of("p", which, queue.width, queue.slots - queue.width * queue.size * turn)
         found = bounds(value.minus(start), self.ranges(state))
         if found is None or found[0] != found[1]:
-            self.split_to_know(value.minus(start), state, 64)
+            if self.cases(value.minus(start), state) <= MOST_SPLITS + 1:
+                self.split_to_know(value.minus(start), state, 64)
             return None
         distance = signed(found[0])
         first, last = distance // queue.width, (distance + width - 1) // queue.width
@@ -144,6 +156,28 @@ class Program(Values):
             if low + edge < queue.size <= high + edge:
                 raise Split(("p", which), share.first - low + queue.size - edge - 1)
         return first % queue.size, last % queue.size
+
+    def positions_by_parts(self, which, value, width, state):
+        """The same where the own position is told by its remainder and the rest."""
+        queue, own = self.queues[which], self.position(which)
+        found = bounds(value.minus(own.times(queue.width).plus(number(queue.slots))), self.ranges(state))
+        if found is None or found[0] != found[1]:
+            return None
+        first, last = signed(found[0]) // queue.width, (signed(found[0]) + width - 1) // queue.width
+        # a turn behind there are no places
+        further = own.plus(number(first + queue.size))
+        turns = {end // queue.size for end in bounds(further, self.ranges(state))}
+        if first != last or not -queue.size < first < queue.size:
+            return None
+        if len(turns) > 1:
+            self.split_where(lambda end: end // queue.size, further, state)
+            return None
+        return (first % queue.size,) * 2 if turns == {1} else None
+
+    def cases(self, value, state):
+        """How many numbers the variables of a form may be, all together."""
+        ranges = self.ranges(state)
+        return prod(ranges[variable][1] - ranges[variable][0] + 1 for variable in value.variables() if variable in ranges)
 
     def owns(self, which, value, width, state):
         """Whether an access of slots is of owned ones; asks for a split where it is for some numbers."""
@@ -167,7 +201,7 @@ class Program(Values):
                 self.slot_loads.add(state.pc)
                 is_inside = queue.slots <= low and high + width <= queue.slots + queue.size * queue.width
                 if not is_inside or not self.owns(which, value, width, state):
-                    self.unowned.setdefault(which, state.pc)
+                    self.see_unowned(which, state.pc)
                     if not is_inside:
                         self.refuse_looks(state, low, high, width)
                 return None, None
@@ -179,6 +213,12 @@ class Program(Values):
             self.refuse_looks(state, low, high, width)
             return None, None
         return (self.own_word(state, low, width) if low == high else None), None
+
+    def see_unowned(self, which, pc):
+        """Takes down a load of slots that isn't shown to be of owned ones."""
+        self.unowned.setdefault(which, pc)
+        if self.wants_all:
+            raise Refused(pc, "a load of a slot that isn't known to be its own")
 
     @staticmethod
     def is_negative(queue, width, is_signed):
@@ -231,7 +271,7 @@ class Program(Values):
                 raise Refused(state.pc, f"a store {where}")
             share = state.shares[which]
             if not self.owns(which, value_of_place, width, state):
-                raise Refused(state.pc, self.not_owned(queue, share.first, share.last, share.low, share.high))
+                raise Refused(state.pc, self.not_owned(queue, *bounds(self.position(which), self.ranges(state)), share.low, share.high))
             if self.records:
                 self.records.stores(self, which, state, value_of_place, width, value)
             return state.words, None
@@ -247,7 +287,7 @@ class Program(Values):
 
     def not_owned(self, queue, first, last, low, high):
         """Why a store to a slot is refused, where the own position is from `first` to `last` and of `low` to `high` it is known that they are owned."""
-        next_one, number = "slot" if queue.period() == queue.size else "position", self.told(low, high) if high else "no"
+        next_one, number = "slot" if queue.period() <= queue.size else "position", self.told(low, high) if high else "no"
         return (f"a store to a slot that isn't known to be its own, where the hart's next {next_one} is {self.told(first, last)}, and {number} "
                 f"{'slot is' if high in (0, 1) and low == high else 'slots are'} known to be its own")
 
@@ -277,6 +317,8 @@ class Program(Values):
             step = self.step_of(value.count.minus(variable_of("n", which)), queue.modulus, state) if value.queue == which else None
         elif isinstance(value, Form) and (queue.is_linear() or queue.is_cut() or self.is_index(value, queue, state)):
             own = self.own_index(which, state)
+            if queue.is_cut() and not isinstance(own, Word):
+                value = self.by_position(value, which)
             scaled = value.minus(self.rest(own)[0] if isinstance(own, Word) else own)
             if queue.is_cut():
                 # the bytes that are stored are all that counts
@@ -289,7 +331,7 @@ class Program(Values):
         if value is not None and share.low < share.high:
             raise Split(("A", which), share.low)
         if value is not None and share.first < share.last <= share.first + MOST_TRIED and step is None:
-            raise Split(("p", which), share.first)
+            raise Split(("p", which), share.first, True)
         raise Refused(state.pc, f"the own index isn't known to move on by at most {share.low}, which are owned there")
 
     def is_index(self, value, queue, state):
@@ -318,6 +360,8 @@ class Program(Values):
     def execute(self, state):
         """The states after the instruction: none where the hart has ended."""
         pc, registers = state.pc, state.registers
+        if self.settles:
+            self.split_blocks(state)
         if pc == 4 * len(self.code):
             return []
         if pc % 4 or pc > 4 * len(self.code):
@@ -336,7 +380,7 @@ class Program(Values):
             if state.handed and name in ("add", "sub", "sll") and (has_word(x) or has_word(y)):
                 return [self.put(state, to, handed.computed(name, x, y, kind == IMMEDIATE, state, handed.is_handed(self, pc + 4, to)))]
             value, fresh = self.computed(name, x, y, state, kind == IMMEDIATE)
-            return [self.put(state, to, value, fresh=fresh)]
+            return [self.put(self.settled(state, x, y), to, value, fresh=fresh)]
         if kind == FENCE:
             return [self.put(state, 0, None)]
         if kind == JAL:
@@ -353,14 +397,16 @@ class Program(Values):
             width = 1 << (third & 3)
             place, most = self.offset(x, given, state), 256 ** width - 1 if third > 3 else SIZE - 1
             if self.tagged and (seen := tags.looked(self, state, place, width)):
-                return tags.after_load(self, state, to, *seen, most)
+                return tags.after_load(self, state, to, *seen, third)
             value, looked = self.loaded(state, place, width, third < 2)
             if self.records and value is None and looked is None and (found := self.records.received(self, state, place, width, third < 2)) is not None:
                 return [self.put(state, to, found[0], fresh=found[1])] if found else []
             if value is None and looked is None and handed.is_handed(self, pc + 4, to):
                 return [self.put(state, to, None, word=(0, most))]
-            is_range = self.with_bytes and value is None and looked is None and third > 3
-            return [self.put(state, to, value, fresh=(0, 256 ** width - 1) if is_range else None, looked=looked)]
+            is_range = value is None and looked is None and (third > 3 or self.tells_by_bits)
+            self.depends |= {"with_bytes"} if is_range else set()
+            is_range = is_range and self.with_bytes
+            return [self.put(state, to, value, fresh=(0, most) if is_range else None, looked=looked)]
         if kind == STORE:
             place = self.offset(x, signed(word >> 25 << 5 | to, 12), state)
             words, move = self.store(state, place, 1 << third, y)
@@ -372,6 +418,8 @@ class Program(Values):
         raise Refused(pc, f"the word {word:08x}")
 
     def offset(self, value, given, state):
+        if isinstance(value, Bits):
+            return None
         if isinstance(value, Word):
             found = self.known(value, state)
             return None if found is None else number(found + given)
@@ -380,15 +428,31 @@ class Program(Values):
     def branched(self, state, word, third, x, y):
         offset = signed((word >> 31) << 12 | (word >> 7 & 1) << 11 | (word >> 25 & 63) << 5 | (word >> 8 & 15) << 1, 13)
         answer, found = self.compared(third, x, y, state), []
+        state = self.settled(state, x, y)
         for taken in (True, False):
             if answer in (None, taken):
-                after = state
+                after = state._replace(is_apart=any(low == high for low, high in state.handed))
                 # where two registers are equal and nothing is known of one, it is what the other is
                 if third < 2 and taken == (third == 0) and (x is None) != (y is None):
                     which, value = (word >> 15 & 31, y) if x is None else (word >> 20 & 31, x)
-                    after = state._replace(registers=state.registers[:which] + (value,) + state.registers[which + 1:])
+                    after = after._replace(registers=state.registers[:which] + (value,) + state.registers[which + 1:], is_apart=True)
                 found.append(self.put(after, 0, None, state.pc + (offset if taken else 4)))
         return found
+
+    @staticmethod
+    def split_blocks(state):
+        for which, share in enumerate(state.shares):
+            if share and share.first // BLOCK < share.last // BLOCK:
+                raise Split(("p", which), (share.first // BLOCK + 1) * BLOCK - 1)
+
+    def settled(self, state, *values):
+        """The state with these values as forms, where they are words that a split made forms."""
+        if not self.settles:
+            return state
+        forms = {value: self.as_form(value, state, False) for value in values if isinstance(value, Word)}
+        if all(value == found for value, found in forms.items()):
+            return state
+        return state._replace(registers=tuple(forms.get(each, each) for each in state.registers), words=tuple(forms.get(each, each) for each in state.words))
 
     def exchanged(self, state, operation, to, x, y):
         place = x if isinstance(x, Form) and self.may_be_tag(x, state) else self.place_of_exchange(x, state)
@@ -450,8 +514,11 @@ class Program(Values):
         needed = self.needed.registers[pc // 4] if pc <= 4 * len(self.code) else frozenset()
         if state.pc in self.needed.after_calls:
             needed &= self.needed.after_calls[state.pc]
-        registers = (ZERO, *(value if which in needed else None for which, value in enumerate(registers) if which))
-        after = State(pc, registers, tuple(words), tuple(shares), others, state.handed + ((word,) if word else ()))
+        known = [None] * 32
+        for which in needed:
+            known[which] = registers[which]
+        known[0] = ZERO
+        after = State(pc, tuple(known), tuple(words), tuple(shares), others, state.handed + ((word,) if word else ()), state.is_apart)
         after, origins = handed.numbered(after)
         origins = [(old, more) if old < len(state.handed) else (None, more + word[0]) for old, more in origins]
         return self.tidied(after, kept, move, looked, tuple(origins))
@@ -472,6 +539,8 @@ class Program(Values):
             return None
         if isinstance(value, Word):
             return value._replace(count=self.rebased(value.count, which, step, on, further))
+        if not value.terms:
+            return value
         value = value.put(("n", which), variable_of("n", which, 1, -step)).put(("p", which), variable_of("p", which, 1, -on))
         value = value.put(("t", which), variable_of("t", which, 1, -further))
         return value.put(("A", which), variable_of("A", which, 1, step))
@@ -479,7 +548,7 @@ class Program(Values):
     def tidied(self, state, kept, move, looked, words):
         """The state without the variables ("z", k) that nothing names, or that are a number."""
         used = {variable for value in (*state.registers, *state.words) if value is not None
-                for variable in (value.count if isinstance(value, Word) else value).variables() if variable[0] == "z"}
+                for variable in (value.count if isinstance(value, Word) else value).variables() if variable[0] == "z"} if state.others else ()
         stay = [which for which, (low, high) in enumerate(state.others) if low < high and ("z", which) in used]
         new = {("z", old): variable_of("z", at) for at, old in enumerate(stay)}
 
@@ -488,7 +557,9 @@ class Program(Values):
                 return None
             if isinstance(value, Word):
                 return value._replace(count=renamed(value.count))
-            found = form(value.constant)
+            if all(variable[0] != "z" for variable, _ in value.terms):
+                return value
+            found = number(value.constant)
             for variable, m in value.terms:
                 each = new.get(variable) or (number(state.others[variable[1]][0]) if variable[0] == "z" else variable_of(*variable))
                 found = found.plus(each.times(m))
@@ -525,14 +596,17 @@ class Program(Values):
         except Split as split:
             if next(splits, None) is None:
                 raise Refused(state.pc, "more cases than a certificate may have") from None
-            self.edges.setdefault(split.variable, set()).add(split.at)
+            if not (split.is_one_by_one and self.settles):
+                self.edges.setdefault(split.variable, set()).add(split.at)
             left, right = self.halves(state, split)
             return "split", split.variable, split.at, self.tree_within(left, splits), self.tree_within(right, splits)
 
 
 def leaves(tree):
-    if tree[0] == "leaf":
-        yield tree
-    else:
-        yield from leaves(tree[3])
-        yield from leaves(tree[4])
+    todo = [tree]
+    while todo:
+        tree = todo.pop()
+        if tree[0] == "leaf":
+            yield tree
+        else:
+            todo += (tree[4], tree[3])

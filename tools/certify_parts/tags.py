@@ -5,16 +5,32 @@ A party's share says of such a queue how many positions are owned at least, as a
 
 from typing import NamedTuple
 
-from .forms import SIZE, Form, bounds, number, numbers_of, variable_of
+from .forms import SIZE, Bits, Form, bounds, number, numbers_of, of_bits, variable_of
 from .queues import Wrong, numbers_given
 
 ZERO, NUMBER = "zero", "number"
 WORD = 4
 
 
+class BitsTell(NamedTuple):
+    """The tag's bits under a mask are these in a free slot and in a full one."""
+
+    mask: int
+    free: int
+    full: int
+
+    def __str__(self):
+        return f"bits {self.mask} {self.free} {self.full}"
+
+    def told(self, party):
+        """The bits by which a tag tells the party that it has the slot."""
+        return self.full if party else self.free
+
+
 class Tagged(NamedTuple):
     """Of each slot the `tag_width` bytes from `tag_offset` on tell whose it is: with `zero` it is free if they are 0 and full otherwise, with
-    `number` it is free for position k if they are k, and full of it if they are k + 1. Position k lies in slot k mod `size`."""
+    `number` it is free for position k if they are k, and full of it if they are k + 1, else some bits of them tell. Position k lies in slot
+    k mod `size`."""
 
     sender: int
     receiver: int
@@ -23,7 +39,7 @@ class Tagged(NamedTuple):
     width: int
     tag_offset: int
     tag_width: int
-    tells: str
+    tells: object  # ZERO, NUMBER or BitsTell
     start: int
 
     has_tags = True
@@ -60,8 +76,13 @@ class Tagged(NamedTuple):
         return self.slots + position % self.size * self.width + self.tag_offset
 
     def free(self, position):
-        """The tag of a slot that is free for a position."""
-        return 0 if self.tells == ZERO else position % SIZE
+        """The tag of a slot that is free for a position, or the bits of it that tell."""
+        return self.tells.free if isinstance(self.tells, BitsTell) else 0 if self.tells == ZERO else position % SIZE
+
+    def found(self, position, test):
+        """What of the tag tells, as it opens."""
+        tag = test.number(self.tag(position), self.tag_width)
+        return tag & self.tells.mask if isinstance(self.tells, BitsTell) else tag
 
     def opened(self, test, is_given):
         """The queue with the position with which it opens: the given one, or else 0 or the first of the positions whose numbers the tags are."""
@@ -71,15 +92,23 @@ class Tagged(NamedTuple):
             starts = [position % SIZE for position in range(round_before + 1, round_before + self.size + 1)]
             first = self._replace(start=next((start for start in starts if self._replace(start=start).is_free(test)), 0))
         for position in range(first.start, first.start + first.size):
-            found, wanted = test.number(first.tag(position), first.tag_width), first.free(position)
+            found, wanted = first.found(position, test), first.free(position)
             if found != wanted:
-                raise Wrong(f"the tag of slot {position % first.size} opens as {found}, and not as {wanted}, which says that it is free for position "
+                bits = f"'s bits under {first.tells.mask} open" if isinstance(first.tells, BitsTell) else " opens"
+                raise Wrong(f"the tag of slot {position % first.size}{bits} as {found}, and not as {wanted}, which says that it is free for position "
                             f"{position}: a queue opens with all slots free, and start= and tells= say what their tags are")
         return first
 
     def is_free(self, test):
         """Whether each slot of a round opens free."""
-        return all(test.number(self.tag(position), self.tag_width) == self.free(position) for position in range(self.start, self.start + self.size))
+        return all(self.found(position, test) == self.free(position) for position in range(self.start, self.start + self.size))
+
+
+def of_words(words):
+    """The queue of a certificate's line, after its first word."""
+    *numbers, tells = words[:8]
+    bits = words[8:-1]
+    return Tagged(*map(int, numbers), BitsTell(*map(int, bits)) if bits else tells, int(words[-1]))
 
 
 NUMBERS = {"size": None, "width": WORD, "start": 0, "sender": 0, "receiver": 1}
@@ -94,6 +123,30 @@ def tag_given(text, width):
     return int(offset), int(count) if plus else min(WORD, max(width - int(offset), 1))
 
 
+def tells_given(text, width):
+    """How a tag of so many bytes tells."""
+    if text in (ZERO, NUMBER):
+        return text
+    name, *numbers = text.split(":")
+    if name != "bit" or not 1 <= len(numbers) <= 3:
+        raise Wrong("tells is zero, number, or bit:MASK, bit:MASK:FREE or bit:MASK:FREE:FULL, where MASK has the bits that tell, which are FREE (0) in a "
+                    "free slot and FULL (all of them) in a full one")
+    try:
+        mask, free, full = (int(each, 0) for each in (*numbers, "0", numbers[0])[:3] if each.isascii())
+    except ValueError as error:
+        raise Wrong(f"tells={text}: {error}") from error
+    if len(numbers) == 2:
+        full = mask
+    if not 0 < mask < 256 ** width:
+        raise Wrong(f"the mask of tells={text} has bits that a tag of {width} bytes doesn't have" if mask > 0 else f"the mask of tells={text} has no bit")
+    for each in (free, full):
+        if each & mask != each:
+            raise Wrong(f"of tells={text} {each} has bits that aren't of the mask")
+    if free == full:
+        raise Wrong(f"of tells={text} the bits of a free slot are those of a full one")
+    return BitsTell(mask, free, full)
+
+
 def described(places, given, test):
     """The queue of a --tagged: its places, and what else is given."""
     missing = [name for name in ("slots",) if name not in places] + ["size"] * ("size" not in given)
@@ -104,14 +157,12 @@ def described(places, given, test):
     for name in ("size", "width"):
         if numbers[name] < 1:
             raise Wrong(f"{name} is {numbers[name]}, and must be at least 1")
-    tells = given.get("tells", ZERO)
-    if tells not in (ZERO, NUMBER):
-        raise Wrong("tells is zero or number")
     offset, count = tag_given(given.get("tag", "0"), width)
     if not 1 <= count <= WORD:
         raise Wrong(f"a tag has 1 to {WORD} bytes, and not {count}")
     if offset + count > width:
         raise Wrong(f"the tag's {count} bytes from {offset} on reach past a slot of {width}: width is the bytes of a slot")
+    tells = tells_given(given.get("tells", ZERO), count)
     if tells == NUMBER and count != WORD:
         raise Wrong(f"with tells=number a tag has {WORD} bytes, and not {count}")
     if tells == NUMBER and size == 1:
@@ -121,7 +172,7 @@ def described(places, given, test):
     if numbers["sender"] == numbers["receiver"]:
         raise Wrong("the sender and the receiver are two harts")
     queue = Tagged(numbers["sender"], numbers["receiver"], places["slots"], size, width, offset, count, tells, start)
-    last = max(test.words, default=-4) + 4
+    last = test.end()
     if queue.slots + size * width > last:
         raise Wrong(f"{size} slots of {width} bytes from {queue.slots} on end past the text's words, which end at {last}: size is the number of slots,"
                     " and width the bytes of one")
@@ -158,15 +209,25 @@ def read_rest(program, which, state, place, width):
     queue, found = program.queues[which], place_in(program, which, state, place, width)
     if found is not None and (found[0] < state.shares[which].low or queue.tag_offset <= found[1] and found[1] + width <= queue.tag_offset + queue.tag_width):
         return
-    program.unowned.setdefault(which, state.pc)
+    program.see_unowned(which, state.pc)
 
 
-def after_load(program, state, to, which, position, most):
-    """The states after a load of a tag that leaves at most so much: the party is told that it owns up to that position, or not yet."""
+def bits_loaded(bits, tells, width, op):
+    """What a load leaves of a tag whose bits are these."""
+    mask, above = tells.mask, SIZE - 256 ** width if op > 3 else 0
+    if op < 2 and width < WORD:
+        mask, bits = ((each | SIZE - 256 ** width) if each >> 8 * width - 1 else each for each in (mask, bits))
+    return of_bits(mask | above, bits)
+
+
+def after_load(program, state, to, which, position, op):
+    """The states after a load of a tag by this instruction: the party is told that it owns up to that position, or not yet."""
     queue, party, own = program.queues[which], program.parties[which], variable_of("n", which)
     if queue.tells == ZERO:
-        values = [{"value": number(0)}, {"word": (1, most)}]
+        values = [{"value": number(0)}, {"word": (1, 256 ** (1 << (op & 3)) - 1 if op > 3 else SIZE - 1)}]
         told, other = reversed(values) if party else values
+    elif isinstance(queue.tells, BitsTell):
+        told, other = ({"value": bits_loaded(queue.tells.told(each), queue.tells, queue.tag_width, op)} for each in (party, not party))
     else:
         told, other = ({"value": own.plus(number(position + more))} for more in ((1, 0) if party else (0, 1 - queue.size)))
     is_owned = position < state.shares[which].low
@@ -201,6 +262,11 @@ def check_handed(program, which, state, value):
     """Refuses a store of the own tag that isn't known to hand its position over."""
     queue, party, pc = program.queues[which], program.parties[which], state.pc
     known = program.known(value, state)
+    if isinstance(queue.tells, BitsTell):
+        bits, wanted = program.bits_of(value, state), queue.tells.told(not party)
+        if not bits or bits.mask & queue.tells.mask != queue.tells.mask or bits.bits & queue.tells.mask != wanted:
+            program.refuse(pc, f"the bits under {queue.tells.mask} of the tag that it stores aren't known to be {wanted}")
+        return
     value = number(known) if known is not None else value if isinstance(value, Form) else None
     if queue.tells == NUMBER:
         own = variable_of("n", which, 1, queue.size if party else 1)

@@ -3,6 +3,9 @@
 import subprocess
 from typing import NamedTuple
 
+# the bytes of the words that a text can name, and of the machine's memory
+NAMED, MEMORY = 4 * 1024, 16 * 1024
+
 SIZE = 1 << 32
 
 
@@ -20,6 +23,11 @@ class Test(NamedTuple):
 
     def byte(self, place):
         return self.words.get(place & ~3, 0) >> 8 * (place % 4) & 255
+
+    def end(self):
+        """Where its words end. One that names as many as a text can may have more, which open as 0: then it is the memory's end."""
+        last = max(self.words, default=-4) + 4
+        return MEMORY if last == NAMED else last
 
     def number(self, place, width):
         return sum(self.byte(place + at) << 8 * at for at in range(width))

@@ -7,7 +7,7 @@ from bisect import bisect_left
 from typing import NamedTuple
 
 from . import handed
-from .forms import SIZE, Split, Word, bounds, form, has_word, number, numbers_of, signed, variable_of
+from .forms import SIZE, Bits, Form, Split, Word, bounds, form, has_word, number, numbers_of, of_bits, signed, variable_of
 
 ZERO = number(0)
 OPERATIONS = {
@@ -20,6 +20,31 @@ COMPARES = {0: lambda a, b: a == b, 1: lambda a, b: a != b, 4: lambda a, b: sign
 MOST_TRIED = 4200
 # masks up to here leave a number of which the range is known
 MOST_MASK = 1 << 16
+
+
+def change_of(part, first, last):
+    """The last of the numbers up to which a part of each is that of the first one, or None where that is so of all. Where the last one's part is another
+    it is found by halves, and comes before some change, though not before the first if there are several."""
+    begin = part(first)
+    if part(last) != begin:
+        return first + bisect_left(range(first, last), True, key=lambda at: part(at + 1) != begin)
+    return next((at - 1 for at in range(first + 1, last) if part(at) != begin), None)
+
+
+def next_root(value, variable, others, first, last):
+    """The first number of a variable, after `first`, for which a form is 0, the others' being known; or None."""
+    start, m = bounds(value, {**others, variable: (0, 0)})[0], signed(dict(value.terms)[variable])
+    ends = sorted((start + m * (first + 1), start + m * last))
+    roots = [(SIZE * turn - start) // m for turn in range(-(-ends[0] // SIZE), ends[1] // SIZE + 1) if not (SIZE * turn - start) % m]
+    return min(roots, default=None)
+
+
+class Parts(Exception):
+    """Of a queue of which code asks for the position's remainder by a number that divides the slots, the queue and that number."""
+
+    def __init__(self, which, part):
+        super().__init__(which, part)
+        self.which, self.part = which, part
 
 
 class Share(NamedTuple):
@@ -43,6 +68,7 @@ class State(NamedTuple):
     shares: tuple     # a Share for each queue, or None where the hart is no party
     others: tuple     # the ranges of the variables ("z", k)
     handed: tuple = ()  # and of the variables ("w", k)
+    is_apart: bool = False  # whether a branch just told what a value is, which is kept up to the next one
 
 
 class Values:
@@ -51,8 +77,12 @@ class Values:
     def __init__(self, queues, hart, loosens=True):
         # whether sums of words are taken by remainders at once, or only where no split makes a word a form
         self.loosens = loosens
+        # the names of what a way says (certify_parts/harts.py) on which it depended so far what is known
+        self.depends = set()
         self.queues, self.parties = queues, [queue.party(hart) for queue in queues]
         self.known_ranges = {}
+        # whether some bits of a tag tell, which the others are stored beside
+        self.tells_by_bits = any(queue.has_tags and not isinstance(queue.tells, str) for queue in queues)
 
     def ranges(self, state):
         """The range of each variable that has one; not to be changed."""
@@ -78,7 +108,7 @@ class Values:
         """The number that a value is, or None."""
         if isinstance(value, Word):
             return self.word_known(value, state)
-        if value is None:
+        if value is None or isinstance(value, Bits):
             return None
         if not value.terms:
             return value.constant
@@ -95,7 +125,7 @@ class Values:
     def position(self, which):
         """The own position, modulo the index's modulus where turns are told apart."""
         queue = self.queues[which]
-        return form(0, {("p", which): 1, ("t", which): queue.size if queue.turns() > 1 else 0})
+        return form(0, {("p", which): 1, ("t", which): queue.period() if queue.turns() > 1 else 0})
 
     def by_position(self, value, which):
         """A form in which the position stands for the own count, where it is the same modulo the index's modulus."""
@@ -116,7 +146,7 @@ class Values:
         closed = all(variable in ranges or isinstance(value, Word) and variable == ("n", value.queue) for variable, _ in terms)
         if closed and open_ones and min(open_ones)[0] <= most:
             variable = min(open_ones)[1]
-            raise Split(variable, ranges[variable][0])
+            raise Split(variable, ranges[variable][0], True)
 
     # ---- compares
 
@@ -124,6 +154,10 @@ class Values:
         """Whether a compare holds: True, False or None where it isn't known; asks for a split where one would tell."""
         if x is None or y is None:
             return None
+        if isinstance(x, Bits) or isinstance(y, Bits):
+            return self.sign_compared(kind, x, y, state)
+        if any(isinstance(value, Word) and value.bits for value in (x, y)):
+            return self.bits_compared(kind, x, y, state)
         if kind > 1:
             x, y = self.as_form(x, state), self.as_form(y, state)
         elif isinstance(x, Word) and isinstance(y, Word) and x.queue != y.queue:
@@ -155,6 +189,39 @@ class Values:
                 return corners.pop()
         return None
 
+    def sign_compared(self, kind, x, y, state):
+        """Whether a word of which some bits are known is negative, where its highest one is; no other compare of it is known."""
+        if kind not in (4, 5) or not isinstance(x, Bits) or not x.mask >> 31 or self.known(y, state) != 0:
+            return None
+        return bool(x.bits >> 31) == (kind == 4)
+
+    def bits_of(self, value, state):
+        """What bits are known of a value; None where it may be no word."""
+        if isinstance(value, Bits):
+            return value
+        found = self.known(value, state)
+        return Bits(SIZE - 1, found) if found is not None else Bits(0, 0) if isinstance(value, Form) else None
+
+    def bits_computed(self, name, x, y, state, is_immediate):
+        """What an operation makes of words of which some bits are known."""
+        if name == "or":
+            a, b = self.bits_of(x, state), self.bits_of(y, state)
+            return (of_bits(a.mask & b.mask | a.bits | b.bits, a.bits | b.bits) if a and b else None), None
+        if name in ("slt", "sltu"):
+            return None, (0, 1)
+        found, other = (x, self.known(y, state)) if isinstance(x, Bits) else (y, self.known(x, state))
+        if name == "and" and other is not None:
+            if other & (other + 1) == 0 and found.mask & other == 0:
+                return self.masked(None, other, state)
+            return of_bits(found.mask | other ^ SIZE - 1, found.bits & other), None
+        if not is_immediate or other is None:
+            return None, None
+        if name == "sll":
+            return of_bits(found.mask << (other & 31) & SIZE - 1 | (1 << (other & 31)) - 1, found.bits << (other & 31) & SIZE - 1), None
+        if name == "srl":
+            return of_bits(found.mask >> (other & 31) | SIZE - (SIZE >> (other & 31)), found.bits >> (other & 31)), None
+        return (found if name == "add" and other == 0 else None), None
+
     def split_turns(self, answer, variables, state):
         """Asks for the split of an open turn that leaves most of them with an answer, which may be sought for the numbers of ranges."""
         ranges = self.ranges(state)
@@ -182,7 +249,7 @@ class Values:
         variable = open_ones[0][1]
         first, last = ranges[variable]
         if len(open_ones) > 1:
-            raise Split(variable, first)
+            raise Split(variable, first, True)
         others = {name: limits for name, limits in ranges.items() if name != variable}
 
         def holds(at):
@@ -190,12 +257,10 @@ class Values:
             a, b = (bounds(value, here)[0] % SIZE for value in (x, y))
             return COMPARES[kind](a, b)
 
-        answer = holds(first)
-        for at in range(first + 1, last + 1):
-            if holds(at) != answer:
-                raise Split(variable, at - 1)
-        # the same for all, which bounds don't tell
-        raise Split(variable, (first + last) // 2)
+        root = next_root(x, variable, others, first, last) if kind < 2 else None
+        at = change_of(holds, first, last) if kind > 1 or holds(first) == (kind == 0) else None if root is None else root - 1
+        # where it is the same for all bounds don't tell so
+        raise Split(variable, (first + last) // 2 if at is None else at)
 
     def words_compared(self, kind, x, y, state):
         """A compare of what indices hold: of two words of one queue, or a word and a number, by their counts."""
@@ -226,6 +291,20 @@ class Values:
                 if known is None:
                     self.split_to_know(value, state)
         return None
+
+    def bits_compared(self, kind, x, y, state):
+        """A compare with a number of what `xor` left, of which alone is known whether it is 0."""
+        numbers, left = [self.known(value, state) for value in (x, y)], next(value for value in (x, y) if isinstance(value, Word) and value.bits)
+        rest = self.remainder(left.count, 1 << left.bits, state)
+        if numbers == [None, None] or rest is None or kind < 2 and 0 not in numbers:
+            return None
+        is_none = self.compared(0, rest, ZERO, state)
+        if is_none is None:
+            return None
+        ends = (0, 0) if is_none else (1, (1 << left.bits) - 1)
+        answers = {COMPARES[kind](*(end if known is None else known for known in numbers)) for end in ends}
+        # signs are compared only of what is below 2^31
+        return answers.pop() if len(answers) == 1 and (kind not in (4, 5) or ends[1] < SIZE // 2) else None
 
     def count_of(self, value, queue, which, state):
         """A form of a count that a value is the word of, with the position for the own count; or None, as of a form of which a check doesn't see
@@ -264,7 +343,7 @@ class Values:
         open_ones = [variable for variable in difference.variables() if ranges[variable][0] < ranges[variable][1]]
         if len(open_ones) != 1:
             if open_ones and ranges[open_ones[0]][1] - ranges[open_ones[0]][0] <= MOST_TRIED:
-                raise Split(open_ones[0], ranges[open_ones[0]][0])
+                raise Split(open_ones[0], ranges[open_ones[0]][0], True)
             return
         first, last = ranges[open_ones[0]]
         others = {name: limits for name, limits in ranges.items() if name != open_ones[0]}
@@ -272,10 +351,9 @@ class Values:
         def is_equal(at):
             return bounds(difference, {**others, open_ones[0]: (at, at)}, True)[0] % queue.modulus == 0
 
-        answer = is_equal(first)
-        for at in range(first + 1, min(last, first + MOST_TRIED) + 1):
-            if is_equal(at) != answer:
-                raise Split(open_ones[0], at - 1)
+        at = change_of(is_equal, first, min(last, first + MOST_TRIED))
+        if at is not None:
+            raise Split(open_ones[0], at)
 
     # ---- operations
 
@@ -284,6 +362,8 @@ class Values:
         a, b = self.known(x, state), self.known(y, state)
         if a is not None and b is not None:
             return number(OPERATIONS[name](a, b)), None
+        if isinstance(x, Bits) or isinstance(y, Bits) or name == "or" and self.tells_by_bits:
+            return self.bits_computed(name, x, y, state, is_immediate)
         x, y = (number(found) if isinstance(value, Word) and found is not None else value for value, found in ((x, a), (y, b)))
         if name == "and":
             return self.masked(x, b, state) if b is not None else self.masked(y, a, state)
@@ -311,8 +391,11 @@ class Values:
         if name == "srl" and is_immediate and limits and limits[0] >> b == 0 < limits[1] >> b:
             # what is small enough is 0 after it, and a number
             self.split_where(lambda found: found % SIZE >> b == 0, x, state)
-        self.split_to_know(x, state, 64)
-        self.split_to_know(y, state, 64)
+        few = 1 if name == "xor" else 64
+        self.split_to_know(x, state, few)
+        self.split_to_know(y, state, few)
+        if name == "xor" and not is_immediate:
+            return Word(None, x.minus(y), True, 32), None
         return None, (0, limits[1] >> (b & 31)) if name == "srl" and is_immediate and limits else None
 
     def shifted_back(self, value, amount, state):
@@ -347,7 +430,10 @@ class Values:
             return value
         limits = bounds(count, ranges, True)
         if limits[0] // queue.modulus != limits[1] // queue.modulus:
-            if not splits or self.loosens or not queue.has_known_words():
+            if not splits or not queue.has_known_words():
+                return value
+            self.depends.add("loosens")
+            if self.loosens:
                 return value
             count = form(signed(count.constant), dict(count.terms))
             self.split_where(lambda found: signed(found) // queue.modulus, count, state)
@@ -358,9 +444,11 @@ class Values:
         """The form of which a value is the remainder, and by what, which divides 2^32; or None."""
         if not isinstance(value, Word):
             return value and (value, SIZE)
+        if value.bits:
+            return None
         queue = self.queues[value.queue]
         by = queue.scale * queue.modulus
-        if SIZE % by or value.is_signed and 256 ** queue.index_width % by:
+        if SIZE % by:
             return None
         return value.count.plus(number(queue.offset)).times(queue.scale).plus(number(queue.base)), by
 
@@ -385,6 +473,8 @@ class Values:
     def masked(self, value, mask, state):
         if mask is None:
             return None, None
+        if isinstance(value, Word) and 0 < mask.bit_length() <= value.bits and mask & (mask + 1) == 0:
+            return value._replace(bits=mask.bit_length()), None
         value = self.as_form(value, state)
         rest = self.rest(value)
         if rest is not None and mask & (mask + 1) == 0 and rest[1] % (mask + 1) == 0:
@@ -424,8 +514,15 @@ class Values:
             if limits and limits[0] // modulus == limits[1] // modulus:
                 return rest.plus(number(-(limits[0] // modulus) * modulus))
         if limits:
+            self.part_positions(rest, modulus)
             self.split_where(lambda found: found // modulus, rest, state)
         return None
+
+    def part_positions(self, value, modulus):
+        """Asks for a search in which a position is told by its remainder and the rest, where else it would be split at each multiple."""
+        for (kind, which), m in value.terms:
+            if kind == "p" and m == 1 and not self.queues[which].has_tags and self.queues[which].may_be_parted(modulus):
+                raise Parts(which, modulus)
 
     def in_round(self, value, modulus, state):
         """A form with positions in the place of own counts that aren't known, if that is the same modulo this; or None."""
@@ -459,9 +556,8 @@ class Values:
         if last - first > MOST_TRIED:
             return
         if len(open_ones) > 1:
-            raise Split(variable, first)
+            raise Split(variable, first, True)
         others = {name: limits for name, limits in ranges.items() if name != variable}
-        begin = part(bounds(value, {**others, variable: (first, first)})[0])
-        for at in range(first + 1, last + 1):
-            if part(bounds(value, {**others, variable: (at, at)})[0]) != begin:
-                raise Split(variable, at - 1)
+        at = change_of(lambda at: part(bounds(value, {**others, variable: (at, at)})[0]), first, last)
+        if at is not None:
+            raise Split(variable, at)

@@ -1,10 +1,10 @@
 """An event of a record."""
 
-from dataclasses import dataclass
+from functools import lru_cache
+from typing import NamedTuple
 
 
-@dataclass(frozen=True)
-class Event:
+class Event(NamedTuple):
     """An event, its outcome (a name and what follows the hart), and the step of the log that it is."""
     letter: str
     hart: int
@@ -13,7 +13,13 @@ class Event:
     step: object
 
     def line(self):
-        return " ".join([f"{self.letter}{self.hart}", self.outcome()])
+        return line_of(*self[:4]).rstrip("\n")
 
     def outcome(self):
-        return " ".join(map(str, [self.name, self.hart, *self.values]))
+        return self.line().partition(" ")[2]
+
+
+@lru_cache(maxsize=1 << 16)
+def line_of(letter, hart, name, values):
+    """The line of a record, which many events have in common, with its end."""
+    return " ".join([f"{letter}{hart}", name, *map(str, (hart, *values))]) + "\n"

@@ -54,11 +54,12 @@ def drains(run, events):
     """Drains that aren't their hart's oldest store in the record's order; and where the run ended, stores that no drain
     let out."""
     pending = {}
-    for event in events:
-        stores, step = pending.setdefault(event.hart, []), event.step
-        if event.name.startswith("store"):
-            stores.append(step)
-        elif event.letter == "l":
+    for letter, hart, name, _, step in events:
+        if letter == "a":
+            if name.startswith("store"):
+                pending.setdefault(hart, []).append(step)
+        else:
+            stores = pending.get(hart)
             oldest = stores.pop(0) if stores else None
             if oldest is None or (step.address, step.lanes, step.data) != (oldest.address, oldest.write_lanes, oldest.written):
                 drained = store_text(step.address, step.lanes, step.data)
@@ -89,11 +90,11 @@ def backward(run):
 def other_words(run, opening):
     """Instructions that aren't those of the test's code. Where a trap has no word, or nothing could be fetched, there is
     none to compare."""
+    words = opening.by_places
     for step in run.steps:
         if isinstance(step, Drained) or isinstance(step, Trapped) and (step.cause == FETCH_FAULT or not step.insn):
             continue
-        code, place = opening.codes[step.hart], step.pc // 4
-        word = code[place] if place < len(code) and step.pc % 4 == 0 else None
+        word = words.get((step.hart, step.pc))
         if step.insn != word:
             there = "has no instruction" if word is None else f"has {word:08x}"
             yield Note("code", f"line {step.line}: hart {step.hart} has {step.insn:08x} at pc {step.pc:x}, where its code {there}",

@@ -2,6 +2,7 @@
 
 import re
 from dataclasses import dataclass, field
+from typing import NamedTuple
 
 # the fields of each line, decimal or, where marked, hex. What begins with any other word is no line of the log
 HEX = "ₕ"
@@ -24,8 +25,7 @@ class LogError(Exception):
     """A line that isn't of the log's form."""
 
 
-@dataclass(frozen=True)
-class Retired:
+class Retired(NamedTuple):
     """An instruction that retired. `performed` is the cycle in which it took effect."""
     cycle: int
     hart: int
@@ -42,8 +42,7 @@ class Retired:
     line: int = 0
 
 
-@dataclass(frozen=True)
-class Trapped:
+class Trapped(NamedTuple):
     """An instruction that raised an exception, by its cause."""
     cycle: int
     hart: int
@@ -57,8 +56,7 @@ class Trapped:
         return self.cycle
 
 
-@dataclass(frozen=True)
-class Drained:
+class Drained(NamedTuple):
     """A store that left its hart's store buffer and changed memory."""
     cycle: int
     hart: int
@@ -80,31 +78,77 @@ class Run:
     # whether the log has landings where there are any, and what its reader has to say of it
     has_drains: bool = True
     notes: list = field(default_factory=list)
-    state: dict = field(default_factory=dict)  # "0:pc", "0:pending", "0:x5" or "word 4": value
+    # the lines of the last state: each word and its numbers
+    last: list = field(default_factory=list)
+
+    @property
+    def state(self):
+        """The last state: `0:pc`, `0:pending`, `0:x5` or `word 4`, each with its value."""
+        found = {}
+        for kind, numbers in self.last:
+            if kind == "hart":
+                found[f"{numbers[0]}:pc"], found[f"{numbers[0]}:pending"] = numbers[1:]
+            else:
+                found[f"{numbers[0]}:x{numbers[1]}" if kind == "reg" else f"word {numbers[0]}"] = numbers[-1]
+        return found
 
 
-STEPS = {"retire": Retired, "trap": Trapped, "drain": Drained}
-# of how many other words a log's reader takes note
-MOST_SKIPPED = 20
+STEPS, LAST = {"retire": Retired, "trap": Trapped, "drain": Drained}, {"hart", "reg", "word"}
+# of how many other words a log's reader takes note, and how many different lines it keeps
+MOST_SKIPPED, KEPT = 20, 1 << 16
 
 
-def fields_of(kind, words, number):
+def shape_of(kind):
+    """The form of a whole line with this word."""
+    numbers = [f"({(HEXADECIMAL if each.endswith(HEX) else DECIMAL).pattern}{'|-' * (each == 'PERFORMED')})" for each in SHAPES[kind]]
+    return re.compile(r"\s*" + r"\s+".join([kind, *numbers]) + r"\s*")
+
+
+# of each kind of line its form, and which of its numbers are hex
+FORMS = {kind: (shape_of(kind), [16 if each.endswith(HEX) else 10 for each in fields]) for kind, fields in SHAPES.items()}
+
+
+class Lines(dict):
+    """The lines of a log that were read, each with its word and its numbers: a core's runs of one test have most lines in common. A word that is none
+    of a log's has no numbers."""
+
+    def __missing__(self, line):
+        kind = next(iter(line.split(None, 1)), "")
+        made = (kind, numbers_of(kind, line) if kind in SHAPES else None)
+        if len(self) >= KEPT:
+            self.clear()
+        self[line] = made
+        return made
+
+
+def numbers_of(kind, line):
     """The numbers of a line."""
+    shape, bases = FORMS[kind]
+    found = shape.fullmatch(line)
+    if not found:
+        raise LogError(wrong_in(kind, line.split()[1:]))
+    words = found.groups()
+    if words[-1] == "-":
+        words = (*words[:-1], words[0])
+    numbers = tuple(map(int, words, bases))
+    if kind in STEPS and not is_of_words(step := STEPS[kind](*numbers)):
+        raise LogError(f"the address {step.address:x} is no multiple of 4, or a mask has more than 4 bits")
+    return numbers
+
+
+def wrong_in(kind, words):
+    """What is wrong with the fields of a line."""
     fields = SHAPES[kind]
     if len(words) != len(fields):
-        raise LogError(f"line {number}: `{kind}` has {len(fields)} fields, not {len(words)}")
-    if fields[-1] == "PERFORMED" and words[-1] == "-":
-        words = [*words[:-1], words[0]]
-    return [number_of(field, word, number) for field, word in zip(fields, words)]
+        return f"`{kind}` has {len(fields)} fields, not {len(words)}"
+    name, word = next((name, word) for name, word in zip(fields, words) if not is_number(name, word))
+    taken = "1 to 16 hex digits" if name.endswith(HEX) else "1 to 20 decimal digits" + " or `-`" * (name == "PERFORMED")
+    return f"{name.removesuffix(HEX)} is `{word[:40]}`: it takes {taken}"
 
 
-def number_of(field, word, number):
-    """The number of a field of a line."""
-    name, is_hex = field.removesuffix(HEX), field.endswith(HEX)
-    if not (HEXADECIMAL if is_hex else DECIMAL).fullmatch(word):
-        taken = "1 to 16 hex digits" if is_hex else "1 to 20 decimal digits" + " or `-`" * (name == "PERFORMED")
-        raise LogError(f"line {number}: {name} is `{word[:40]}`: it takes {taken}")
-    return int(word, 16 if is_hex else 10)
+def is_number(name, word):
+    """Whether a word is the number of a field."""
+    return (HEXADECIMAL if name.endswith(HEX) else DECIMAL).fullmatch(word) or name == "PERFORMED" and word == "-"
 
 
 def is_of_words(step):
@@ -118,42 +162,42 @@ def is_of_words(step):
     return step.address % 4 == 0 and all(mask < 1 << 4 for mask in masks)
 
 
-def take(run, kind, numbers, line):
-    """Takes a line of a run."""
-    if kind in STEPS:
-        step = STEPS[kind](*numbers, line)
-        if not is_of_words(step):
-            raise LogError(f"line {line}: the address {step.address:x} is no multiple of 4, or a mask has more than 4 bits")
-        run.steps.append(step)
-    elif kind in ("end", "timeout"):
-        run.cycles, run.timed_out = numbers[0], kind == "timeout"
-    elif kind == "hart":
-        run.state[f"{numbers[0]}:pc"], run.state[f"{numbers[0]}:pending"] = numbers[1:]
-    elif kind == "reg":
-        run.state[f"{numbers[0]}:x{numbers[1]}"] = numbers[2]
-    else:
-        run.state[f"word {numbers[0]}"] = numbers[1]
-
-
-def runs(lines, skipped=None):
+def runs(lines, skipped=None, first=1):
     """The runs of a log, one after the other. Each word that begins another line than a log's goes into `skipped`, with
-    its first line and how often it came."""
-    run = None
-    for number, line in enumerate(lines, 1):
-        kind, *words = line.split() or [""]
-        if kind not in SHAPES:
-            if skipped is not None and kind and (kind in skipped or len(skipped) < MOST_SKIPPED):
-                first, count = skipped.get(kind, (number, 0))
-                skipped[kind] = first, count + 1
-            continue
-        numbers = fields_of(kind, words, number)
-        if kind == "run":
+    its first line and how often it came. `first` is the number of the first line."""
+    run, known, new = None, Lines(), tuple.__new__
+    for number, line in enumerate(lines, first):
+        try:
+            kind, numbers = known[line]
+        except LogError as error:
+            raise LogError(f"line {number}: {error}") from None
+        if run and kind in STEPS:
+            # a named tuple's own way takes twice as long
+            run.steps.append(new(STEPS[kind], (*numbers, number)))
+        elif run and kind in LAST:
+            run.last.append((kind, numbers))
+        elif numbers is None:
+            note_skipped(skipped, kind, number)
+        elif kind == "run":
             if run:
                 yield run
             run = Run(numbers[0], number)
         elif run is None:
             raise LogError(f"line {number}: no line `run SEED` stands above")
         else:
-            take(run, kind, numbers, number)
+            run.cycles, run.timed_out = numbers[0], kind == "timeout"
     if run:
         yield run
+
+
+def note_skipped(skipped, word, number, times=1):
+    """Counts a line that isn't a log's."""
+    if skipped is not None and word and (word in skipped or len(skipped) < MOST_SKIPPED):
+        first, count = skipped.get(word, (number, 0))
+        skipped[word] = first, count + times
+
+
+def add_skipped(skipped, later):
+    """Counts what was skipped in a later part of the log."""
+    for word, (number, times) in later.items():
+        note_skipped(skipped, word, number, times)

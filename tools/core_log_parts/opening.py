@@ -2,6 +2,7 @@
 `ztso show --steps` prints it."""
 
 from dataclasses import dataclass, field
+from functools import cached_property
 
 from bring_parts import Refused, answer
 
@@ -12,6 +13,11 @@ class Opening:
     codes: list = field(default_factory=list)      # of each hart, its words
     registers: dict = field(default_factory=dict)  # (hart, number): value
     words: dict = field(default_factory=dict)      # address: value
+
+    @cached_property
+    def by_places(self):
+        """The words of code by hart and pc."""
+        return {(hart, 4 * place): word for hart, code in enumerate(self.codes) for place, word in enumerate(code)}
 
 
 def opening(program, path):

@@ -1,7 +1,9 @@
 """The record of a core's run: its events in one order, each with what the core says came of it."""
 
+from functools import lru_cache
+
 from . import landings, placing
-from .event import Event
+from .event import Event, line_of
 from .log import Drained, LogError, Retired
 
 HEAD = "ztso-schedule 2\n"
@@ -18,16 +20,23 @@ def access(name, step, lanes, data):
     low = (lanes & -lanes).bit_length() - 1
     width = lanes.bit_count()
     if width not in SUFFIXES or lanes >> low != (1 << width) - 1:
-        raise LogError(f"line {step.line}: the mask {lanes:x} is of no load and no store")
+        raise LogError(f"the mask {lanes:x} is of no load and no store")
     value = None if data is None else data >> 8 * low & (1 << 8 * width) - 1
     return name + SUFFIXES[width], (step.address + low, value)
 
 
-def retired(step):
+@lru_cache(maxsize=1 << 16)
+def retired(numbers):
+    """The event of a retired instruction without its step, by what its line has: lines of many runs have it in common."""
+    step = Retired(*numbers)
+    return "a", step.hart, *outcome(step)
+
+
+def outcome(step):
     """The outcome of a retired instruction."""
     if step.read_lanes and step.write_lanes:
         if (step.read_lanes, step.write_lanes) != (0xF, 0xF):
-            raise LogError(f"line {step.line}: the masks {step.read_lanes:x} and {step.write_lanes:x} are of no AMO")
+            raise LogError(f"the masks {step.read_lanes:x} and {step.write_lanes:x} are of no AMO")
         return "amo", (step.address, step.read, step.written)
     if step.read_lanes:
         return access("load", step, step.read_lanes, step.read)
@@ -43,10 +52,13 @@ def event(step, opening):
     """The event of a step, or None where it is none: a hart that runs past its code's end has ended."""
     if step.hart >= len(opening.codes):
         raise LogError(f"line {step.line}: the log has a hart {step.hart}, and the test has {len(opening.codes)} harts")
+    if isinstance(step, Retired):
+        try:
+            return tuple.__new__(Event, (*retired(step[:-1]), step))
+        except LogError as error:
+            raise LogError(f"line {step.line}: {error}") from None
     if isinstance(step, Drained):
         return Event("l", step.hart, "land", (), step)
-    if isinstance(step, Retired):
-        return Event("a", step.hart, *retired(step), step)
     if step.cause == FETCH_FAULT and step.pc == 4 * len(opening.codes[step.hart]):
         return None
     if step.cause not in STOPS:
@@ -58,13 +70,12 @@ def times(events, order):
     """When each event happened: a cycle, then acts before landings. A hart's acts stay in the log's order, so
     an act is never earlier than the one before it."""
     latest = {}
-    for each in events:
-        if each.letter == "l":
-            yield each.step.cycle, 1
+    for letter, hart, name, _, step in events:
+        if letter == "l":
+            yield step.cycle, 1
             continue
-        known = order == "performed" or not each.name.startswith("load")
-        cycle = max(each.step.performed if known else each.step.cycle, latest.get(each.hart, 0))
-        latest[each.hart] = cycle
+        known = order == "performed" or not name.startswith("load")
+        cycle = latest[hart] = max(step.performed if known else step.cycle, latest.get(hart, 0))
         yield cycle, 0
 
 
@@ -82,11 +93,11 @@ def events(run, opening, order="performed", capacity=4):
     if order == "retired":
         return found
     stamps = list(times(found, order))
-    found = [found[at] for at in sorted(range(len(found)), key=lambda at: (stamps[at], at))]
+    found = [found[at] for at in sorted(range(len(found)), key=stamps.__getitem__)]
     if order == "performed":
         return found
     return placing.placed(found, opening.words) if has_landings(run) else landings.placed(found, opening.words, capacity)
 
 
 def text(found):
-    return HEAD + "".join(f"{each.line()}\n" for each in found)
+    return HEAD + "".join([line_of(*each[:4]) for each in found])

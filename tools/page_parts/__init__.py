@@ -5,6 +5,7 @@ server      who is let in, and the files of the page (site/)
 questions   what a question may hold
 answers     each question's commands, and what they printed, taken apart
 listing     what a test is: names, code, condition
+slips       what looks like a slip of the pen in a test
 shelf       the tests of litmus/ with their witnesses
 bringing    C, and texts of herd's, made into tests by tools/from-c and tools/from-herd
 faults      refusals, in the words of docs/errors.md

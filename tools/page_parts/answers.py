@@ -8,15 +8,13 @@ import re
 from page_parts import bringing, faults
 from page_parts.calls import SECONDS, Late
 from page_parts.faults import Fault
-from page_parts.listing import BLANKS, cells, listed
+from page_parts.listing import faulty_cell, listed
 from page_parts.programs import REFERENCE
 from page_parts.questions import BREAKS, EVENTS, HARTS, ONWARD, ROWS, too_long
 
 HEAD = "ztso-schedule 1\n"
 # what `find` says where it has no schedule
 NOT_FOUND = re.compile(r"ztso: (all|cut at) ([0-9]+) states(?: seen, none shows it)?")
-# the assembler's own refusals of a cell: its name, its operands, its numbers
-OF_CELLS = (2, 3, 4)
 
 
 def printed(calls, command, asked, *options, schedule=None, typed=""):
@@ -57,7 +55,7 @@ def test(calls, asked):
         return listed(shown(calls, asked), asked["text"])
     except Fault as fault:
         if fault.said["name"] == "BadInstr":
-            fault.said["cell"] = faulty_cell(calls, asked["text"], fault.said["place"]["line"])
+            fault.said["cell"] = faulty_cell(lambda cell: calls.ztso("asm", typed=cell)[2], asked["text"], fault.said["place"]["line"])
         raise
 
 
@@ -71,16 +69,6 @@ def shown(calls, asked):
     if status:
         raise faults.of_line(err)
     return out
-
-
-def faulty_cell(calls, text, line):
-    """The first cell of a row that the assembler refuses for its own sake, and what it says."""
-    for hart, cell in enumerate(cells(text, line)):
-        _, _, err = calls.ztso("asm", typed=cell)
-        fault = faults.of_line(err).said if err else {}
-        if fault.get("number") in OF_CELLS:
-            return {"hart": hart, "text": cell.strip(BLANKS), "words": fault["words"][:1]}
-    return None
 
 
 def view(calls, asked):

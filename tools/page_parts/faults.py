@@ -1,4 +1,4 @@
-"""Refusals of the program, in the words of docs/errors.md."""
+"""Refusals of the program, in the words of docs/errors.md and errors-of-queues.md."""
 
 import re
 
@@ -6,7 +6,7 @@ from page_parts import ROOT
 
 
 def sections_of(page):
-    """The sections of docs/errors.md: by number or heading the name, and the paragraphs without examples."""
+    """The sections of a page of errors: by number or heading the name, and the paragraphs without examples."""
     sections = {}
     for heading, body in re.findall(r"^### (.*)\n((?:(?!##).*\n)*)", page, re.MULTILINE):
         prose = re.sub(r"```.*?```", "", body, flags=re.DOTALL)
@@ -16,7 +16,7 @@ def sections_of(page):
     return sections
 
 
-SECTIONS = sections_of((ROOT / "docs/errors.md").read_text())
+SECTIONS = {key: section for name in ("errors", "errors-of-queues") for key, section in sections_of((ROOT / f"docs/{name}.md").read_text()).items()}
 
 
 class Fault(Exception):

@@ -40,7 +40,7 @@ def write(out, wasm):
 def known():
     version = (ROOT / "VERSION").read_text().strip()
     return shelf.shelf() | {
-        "limits": questions.LIMITS, "program": f"ztso {version} in WebAssembly", "reference": False,
+        "limits": questions.LIMITS, "program": f"ztso {version} in WebAssembly", "unproved": "",
         "can": {"threads": False, "find": True, "memory": True, "herd": False, "c": []}, "sections": faults.SECTIONS}
 
 

@@ -1,17 +1,22 @@
 """What a test is, as the command `show` prints it (docs/formats.md). Three things that it doesn't print are read off
-the text: the question, the cells of a row that is refused, and which registers open as an address."""
+the text: the question, the cells of a row that is refused, and which registers open, as an address or as 0."""
 
 import re
 
-from page_parts.faults import Fault
+from page_parts.faults import Fault, of_line
 from page_parts.questions import CELLS
+from page_parts.slips import slips
 
+# the assembler's own refusals of a cell: its name, its operands, its numbers; and those of labels, which are of a hart's code
+OF_CELLS, OF_LABELS = (2, 3, 4), (5, 6)
+# the row above a table's cells
+HARTS = re.compile(r"^[ \t]*P0[ \t]*[|;]", re.MULTILINE)
 # what separates words of a text
 BLANKS = " \t\r\n"
 COMMENT = re.compile(r"\(\*(.*?)(?:\*\)|\Z)", re.DOTALL)
 OPENING = re.compile(r"\n[ \t]*\{([^}]*)\}")
-# an item of the opening part that gives a name's address to a register
-POINTER = re.compile(r"\s*0*([0-9]{1,2})\s*:\s*([a-z0-9]+)\s*=\s*([A-Za-z_]\w*)\s*", re.ASCII)
+# an item of the opening part that gives a number, or a name's address, to a register
+OPENED = re.compile(r"\s*0*([0-9]{1,2})\s*:\s*([a-z0-9]+)\s*=\s*(-?\w+)\s*", re.ASCII)
 ABI = ("zero", "ra", "sp", "gp", "tp", "t0", "t1", "t2", "s0", "s1", *(f"a{n}" for n in range(8)),
        *(f"s{n}" for n in range(2, 12)), *(f"t{n}" for n in range(3, 7)))
 REGISTERS = {name: number for number, abi in enumerate(ABI) for name in (abi, f"x{number}")} | {"fp": 8}
@@ -25,13 +30,16 @@ def listed(shown, text):
     for line in shown.splitlines():
         kind, _, rest = line.partition(" ")
         if kind == "hart":
-            harts.append({"rows": [], "labels": {}, "pointers": {}})
+            harts.append({"rows": [], "labels": {}, "pointers": {}, "opens": {}})
         elif kind == "label":
             hart, pc, _, name = rest.split(" ")
             harts[int(hart)]["labels"].setdefault(int(pc), []).append(name)
         elif kind == "code":
             hart, row = row_of(*rest.split(" ", 4))
             harts[hart]["rows"].append(row)
+        elif kind == "reg":
+            hart, register, value = map(int, rest.split(" "))
+            harts[hart]["opens"][register] = value
         elif kind == "location":
             address, _, name = rest.split(" ")
             locations[name] = int(address)
@@ -41,9 +49,9 @@ def listed(shown, text):
             said[kind] = rest
     if sum(len(hart["rows"]) for hart in harts) > CELLS:
         raise Fault("TooLong", [f"The page shows at most {CELLS} instructions; the commands take this test."])
-    add_pointers(harts, locations, text)
+    add_opened(harts, locations, text)
     return {"title": said["test"], "question": question(text), "kind": re.match("~?[a-z]+", said["condition"])[0],
-            "condition": said["condition"], "lefts": lefts, "harts": harts,
+            "condition": said["condition"], "lefts": lefts, "harts": harts, "slips": slips(harts, lefts, locations),
             "locations": [{"name": name, "address": address} for name, address in locations.items()]}
 
 
@@ -60,13 +68,16 @@ def place_of(left, locations):
     return ["register", *map(int, register.groups())] if register else ["word", locations[left]]
 
 
-def add_pointers(harts, locations, text):
-    """The registers that open as a location's address, each with the location's name."""
+def add_opened(harts, locations, text):
+    """The registers that open as a location's address, each with the location's name, and those that open as 0."""
     opening = OPENING.search(without_comments(text))
     for item in opening[1].split(";") if opening else []:
-        shape = POINTER.fullmatch(item)
-        if shape and shape[2] in REGISTERS and shape[3] in locations and int(shape[1]) < len(harts):
-            harts[int(shape[1])]["pointers"][REGISTERS[shape[2]]] = shape[3]
+        shape = OPENED.fullmatch(item)
+        if shape and shape[2] in REGISTERS and int(shape[1]) < len(harts):
+            hart, register = harts[int(shape[1])], REGISTERS[shape[2]]
+            hart["opens"].setdefault(register, 0)
+            if shape[3] in locations:
+                hart["pointers"][register] = shape[3]
 
 
 def question(text):
@@ -82,6 +93,31 @@ def cells(text, line):
     begin = sum(len(one) + 1 for one in text.split("\n")[:line - 1])
     row = without_comments(text)[begin:].partition("\n")[0]
     return row.partition(";")[0].split("|")
+
+
+def faulty_cell(refused, text, line):
+    """The first cell of a row that the assembler refuses, for its own sake or for its label in the hart's code, and what it
+    says; `refused` has its line."""
+    row = cells(text, line)
+    code, at = codes(text, line, len(row))
+    for numbers, texts, place in ((OF_CELLS, row, {}), (OF_LABELS, code, {"line": at})):
+        for hart, one in enumerate(texts):
+            err = refused(one)
+            fault = of_line(err).said if err else {}
+            if fault.get("number") in numbers and place in ({}, fault["place"]):
+                return {"hart": hart, "text": row[hart].strip(BLANKS), "words": fault["words"][:1]}
+    return None
+
+
+def codes(text, line, count):
+    """Each hart's code as assembly, a line for each line below the harts' names, and which of them begins on a line of the text.
+    It is blank for what is no row with so many cells."""
+    bare = without_comments(text)
+    head = HARTS.search(bare)
+    begin = sum(len(one) + 1 for one in text.split("\n")[:line - 1])
+    above = bare[head.end():begin].count("\n") if head else 0
+    rows = [one.partition(";")[0].split("|") if ";" in one else [] for one in bare[head.end():].split("\n")[1:]] if head else []
+    return ["\n".join(row[hart] if len(row) == count else "" for row in rows) for hart in range(count)], above
 
 
 def without_comments(text):

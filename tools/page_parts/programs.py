@@ -9,11 +9,10 @@ from dataclasses import dataclass
 from pathlib import Path
 
 import bring_parts
-from bring_parts import REFERENCE
+from bring_parts import REFERENCE, provenance
 from page_parts import ROOT
 
-# what rustc builds of the sources
-STOCK = ROOT / "stock/out/ztso"
+SAID_OF_REFERENCE = "the second implementation, of which nothing is proved"
 SMALL = "RISCV SMALL\n{ }\n P0 ;\n nop ;\nexists (x=0)\n"
 # commands and options that not every program has, each with words that it takes
 PROBES = {"threads": ["threads", "test.litmus", "--turns", "1"], "find": ["find", "test.litmus", "--states", "1"],
@@ -33,8 +32,12 @@ class Program:
 
     def named(self):
         """How the page names it."""
-        name = str(self.path.relative_to(ROOT)) if self.path.is_relative_to(ROOT) else self.path.name
-        return f"{name}, which rustc built and of which nothing is proved" if self.path == STOCK else name
+        return str(self.path.relative_to(ROOT)) if self.path.is_relative_to(ROOT) else self.path.name
+
+    def unproved(self):
+        """What the page says of it if nothing is proved of it, or nothing."""
+        said = SAID_OF_REFERENCE if self.is_reference() else provenance.SAID.get(provenance.kind_of(self.path))
+        return f"The program {self.named()}: {said}." if said else ""
 
     def is_reference(self):
         return self.path == REFERENCE

@@ -132,7 +132,7 @@ class Server(ThreadingHTTPServer):
                                           if name in program.can}
         self.shelf = shelf.shelf() | {
             "limits": questions.LIMITS,
-            "program": program.named(), "reference": program.is_reference(),
+            "program": program.named(), "unproved": program.unproved(),
             "can": {name: name in program.can for name in ("threads", "find", "memory")}
             | {"herd": True, "c": bringing.installed()}}
         # how many questions of a kind have a child at a time; the others wait. What may take a minute holds up no step

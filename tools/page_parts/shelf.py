@@ -4,8 +4,14 @@ import re
 
 from page_parts import ROOT
 from page_parts.listing import question
+from witnesses import witnesses
 
 SHELF = ROOT / "litmus"
+
+
+def tokens(schedule):
+    """The tokens of a schedule's text, without its first line."""
+    return schedule.partition("\n")[2].strip()
 
 
 def shelf():
@@ -18,9 +24,7 @@ def shelf():
     # the plain test of a family comes before its variants
     for path in sorted(SHELF.glob("*/*.litmus"), key=lambda path: (path.parent.name, path.stem)):
         text = path.read_text()
-        witnesses = [(file.stem, file.read_text().partition("\n")[2].strip())
-                     for file in sorted(path.with_suffix("").glob("*.schedule"))]
         tests.append({"family": path.parent.name, "name": path.stem, "title": text.split()[1], "text": text,
-                      "question": question(text), "witnesses": witnesses,
+                      "question": question(text), "witnesses": [(outcome, tokens(schedule)) for outcome, schedule in sorted(witnesses(path).items())],
                       "excluded": excluded.get(f"{path.parent.name}/{path.name}", "")})
     return {"tests": tests, "sources": sources}

@@ -7,6 +7,7 @@ import programs
 import words
 from draws import event_of, runs_of
 from machine import MEMORY, Machine, is_finished, word_at
+from shrinking import part_of
 
 # the functions as docs/functions.md lists them
 FUNCTIONS = {"lamport_try_send": """
@@ -243,27 +244,6 @@ class Callers:
             counts.update(returned)
         counts["unfinished"] += not is_finished(pair[0])
 
-    def shortened(self, events, owed):
-        """A part of these events that owes this first, and doesn't without any one of them. docs/looking.md has the
-        order in which pieces are tried."""
-        size = len(events) // 2
-        while size > 1:
-            events = self.without_pieces(events, size, owed)
-            size //= 2
-        while (left := self.without_pieces(events, 1, owed)) != events:
-            events = left
-        return events
-
-    def without_pieces(self, events, size, owed):
-        at = 0
-        while at < len(events):
-            left = events[:at] + events[at + size:]
-            if self.first_owed(left) == owed:
-                events = left
-            else:
-                at += size
-        return events
-
 
 def lines(callers, runs, counts):
     """What is told of runs that owe nothing, and whether a call returned."""
@@ -284,6 +264,6 @@ def trial(callers, runs, drawing):
     for numbers in runs_of(harts, runs, *drawing):
         events = [event_of(k, harts) for k in numbers]
         if owed := callers.first_owed(events):
-            return None, False, (callers.shortened(events, owed), owed)
+            return None, False, (part_of(events, lambda left: callers.first_owed(left) == owed), owed)  # pylint: disable=cell-var-from-loop
         callers.counted(events, counts)
     return *lines(callers, runs, counts), None

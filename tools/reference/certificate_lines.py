@@ -1,4 +1,4 @@
-"""Certificates of queues as docs/formats.md has their texts: what a text says, or its first fault with its line."""
+"""Certificates of queues as docs/queue-texts.md has their texts: what a text says, or its first fault with its line."""
 
 import re
 import sys
@@ -11,7 +11,8 @@ HEAD, LINE, PLACE, LIMIT, UNFINISHED = 45, 46, 47, 48, 49
 QUEUES, SLOTS, FIELDS, POSITIONS, HARTS, OWN, STATES, VARIABLES, SPLITS = 16, 65_536, 16, 64, 64, 64, 16_384, 64, 1024
 NAMES = ("queue", "field", "tagged", "hart", "own", "open", "state", "most", "reg", "word", "share", "filled", "split", "leaf", "to")
 KNOWN = ("reg", "word", "share", "filled")
-TELLS = ("zero", "number")
+# how a tag tells, and how many numbers follow the word
+TELLS = {"zero": 0, "number": 0, "bits": 3}
 ROUND = 2**32
 
 sys.setrecursionlimit(10_000)
@@ -113,8 +114,8 @@ class Reader:
 
     @staticmethod
     def with_tags(*given):
-        need(len(given) == 9 and given[7] in TELLS)
-        return [*map(number, given[:7]), given[7], count(given[8])]
+        need(len(given) >= 9 and given[7] in TELLS and len(given) == 9 + TELLS[given[7]])
+        return [*map(number, given[:7]), (given[7], *map(number, given[8:-1])), count(given[-1])]
 
     def hart(self, before):
         self.take(("hart",), lambda: None, lambda found: before < HARTS)
@@ -144,11 +145,13 @@ class Reader:
         def made(place, word):
             least, most = (1, 32) if name == "reg" else (0, len(self.own))
             need(least <= number(place) < most)
-            if not word.startswith(("@", "~")):
+            if not word.startswith(("@", "~", "^", "&")):
                 return number(place), form(word, len(self.most))
-            queue, colon, rest = word[1:].partition(":")
-            need(colon and number(queue) < len(self.queues))
-            return number(place), (word[0], number(queue), *form(rest, len(self.most)))
+            which, colon, rest = word[1:].partition(":")
+            if word[0] == "&":
+                return number(place), ("&", number(which), number(rest))
+            need(colon and number(which) < (33 if word[0] == "^" else len(self.queues)))
+            return number(place), (word[0], number(which), *form(rest, len(self.most)))
         return made
 
     def share(self, queue, own, owned):

@@ -226,6 +226,20 @@ class SignedFor(NamedTuple):
     form: Form
 
 
+class EndsAs(NamedTuple):
+    """A number of so many bits that ends in as many zeros as a form, and is 0 where all these bits of the form are."""
+
+    bits: int
+    form: Form
+
+
+class HasBits(NamedTuple):
+    """A word of which the bits under a mask are these."""
+
+    mask: int
+    bits: int
+
+
 ANY = None
 
 
@@ -289,7 +303,7 @@ def index(q, party):
 
 
 def value_by(t, v):
-    return ANY if v is ANY else v._replace(form=t(v.form))
+    return v if v is ANY or isinstance(v, HasBits) else v._replace(form=t(v.form))
 
 
 def share_by(t, s):
@@ -331,6 +345,10 @@ def is_within_plain(queues, v, w):
         return is_same(M32, v.form, w.form)
     if isinstance(v, (IndexFor, SignedFor)) and type(v) is type(w):
         return v.queue == w.queue and is_same(queue_at(queues, v.queue).modulus, v.form, w.form)
+    if isinstance(v, EndsAs) and isinstance(w, EndsAs):
+        return v.bits == w.bits <= 32 and is_same(1 << v.bits, v.form, w.form)
+    if isinstance(v, HasBits) and isinstance(w, HasBits):
+        return v.mask & w.mask == w.mask and v.bits & w.mask == w.bits
     return False
 
 
@@ -389,6 +407,10 @@ def is_nothing(b):
     return False if b.low > 0 else True if b.high == 0 else None
 
 
+def bounds_by(bits, nothing):
+    return None if nothing is None else Bounds(0, 0) if nothing else Bounds(1, (1 << bits) - 1)
+
+
 def negated(answer):
     return None if answer is None else not answer
 
@@ -409,6 +431,31 @@ def sum_of(v, w):
     return Linear(plus(v.form, w.form)) if isinstance(v, Linear) and isinstance(w, Linear) else ANY
 
 
+def xor_of(v, w):
+    """Two numbers agree in their lowest bits where their `xor` is 0 in these, and where their difference is."""
+    return EndsAs(32, plus(v.form, times(M32 - 1, w.form))) if isinstance(v, Linear) and isinstance(w, Linear) else ANY
+
+
+def of_bits(mask, bits):
+    """A number is a word of which all bits are known."""
+    return Linear(number(bits)) if mask == M32 - 1 else HasBits(mask, bits)
+
+
+def bits_of(v):
+    """What bits are known of a value, where it is a word."""
+    if isinstance(v, HasBits):
+        return v
+    if not isinstance(v, Linear):
+        return None
+    n = as_number(v)
+    return HasBits(0, 0) if n is None else HasBits(M32 - 1, n)
+
+
+def or_of(v, w):
+    a, b = bits_of(v), bits_of(w)
+    return ANY if a is None or b is None else of_bits(a.mask & b.mask | a.bits | b.bits, a.bits | b.bits)
+
+
 def turned(v, mask):
     if not isinstance(v, Linear):
         return just(ANY)
@@ -423,7 +470,7 @@ class Rest(NamedTuple):
 
 
 def rest_of(queues, v):
-    if v is ANY:
+    if v is ANY or isinstance(v, (EndsAs, HasBits)):
         return None
     if isinstance(v, Linear):
         return Rest(M32, v.form)
@@ -454,7 +501,14 @@ def of_rest(r):
 
 
 def bounds(ranges, v):
+    if isinstance(v, EndsAs) and 1 <= v.bits <= 32:
+        return bounds_by(v.bits, is_nothing(bounds_of(1 << v.bits, ranges, v.form)))
     return bounds_of(M32, ranges, v.form) if isinstance(v, Linear) else None
+
+
+def is_zero(ranges, v, n):
+    """Whether a value is this number, where that is 0."""
+    return is_nothing(bounds(ranges, v)) if n == 0 else None
 
 
 def agrees(ranges, n, f, g):
@@ -464,6 +518,8 @@ def agrees(ranges, n, f, g):
 def shifted_left(queues, v, amount):
     if isinstance(v, Linear):
         return just(Linear(times(1 << amount, v.form)))
+    if isinstance(v, HasBits):
+        return just(of_bits((v.mask << amount) % M32 | (1 << amount) - 1, (v.bits << amount) % M32))
     return result_by(lambda f: times(1 << amount, f), of_rest(rest_of(queues, v)))
 
 
@@ -514,6 +570,22 @@ def masked_by(queues, ranges, r, mask, otherwise):
     return otherwise if mask is None else masked(queues, ranges, r, mask)
 
 
+def kept_bits(m, b, mask, otherwise):
+    """Bits that a mask keeps of known ones, and 0 beside it. Low bits of which none is known are the other."""
+    return otherwise if mask + 1 == 1 << mask.bit_count() and m & mask == 0 else just(of_bits(m | mask ^ M32 - 1, b & mask))
+
+
+def ending_in(v, mask, otherwise):
+    if isinstance(v, HasBits):
+        return kept_bits(*v, mask, otherwise)
+    count = mask.bit_count()
+    return just(EndsAs(count, v.form)) if isinstance(v, EndsAs) and mask + 1 == 1 << count and count <= v.bits else otherwise
+
+
+def ending_by(v, mask, otherwise):
+    return otherwise if mask is None else ending_in(v, mask, otherwise)
+
+
 def signed(n):
     return n - M32 if n >= 1 << 31 else n
 
@@ -531,9 +603,11 @@ def immediate_part(queues, ranges, op, v, n):
     if op == "addi":
         return of_rest(rests_added(rest_of(queues, v), Rest(M32, number(n % M32))))
     if op == "andi":
-        return masked(queues, ranges, rest_of(queues, v), n % M32)
+        return ending_in(v, n % M32, masked(queues, ranges, rest_of(queues, v), n % M32))
     if op == "xori":
         return turned(v, n % M32)
+    if op == "ori":
+        return just(or_of(v, Linear(number(n % M32))))
     if op == "slti":
         return set_less(bounds(ranges, v), n)
     if op == "sltiu":
@@ -551,6 +625,8 @@ def without(n, f):
 
 
 def shifted_back(queues, ranges, v, amount):
+    if isinstance(v, HasBits):
+        return just(of_bits(v.mask >> amount | M32 - (1 << 32 - amount), v.bits >> amount))
     if not isinstance(v, Linear):
         return just(ANY)
     f, b = v.form, bounds_of(M32, ranges, v.form)
@@ -581,8 +657,13 @@ def register_part(queues, ranges, op, v, w):
         return flag_of(is_below_signed(bounds(ranges, v), bounds(ranges, w)))
     if op == "sltu":
         return flag_of(is_below(bounds(ranges, v), bounds(ranges, w)))
+    if op == "xor":
+        return just(xor_of(v, w))
+    if op == "or":
+        return just(or_of(v, w))
     if op == "and":
-        return masked_by(queues, ranges, rest_of(queues, v), as_number(w), masked_by(queues, ranges, rest_of(queues, w), as_number(v), just(ANY)))
+        either = masked_by(queues, ranges, rest_of(queues, v), as_number(w), masked_by(queues, ranges, rest_of(queues, w), as_number(v), just(ANY)))
+        return ending_by(v, as_number(w), ending_by(w, as_number(v), either))
     return just(ANY)
 
 
@@ -615,7 +696,22 @@ def is_equal_word(queues, ranges, i, v, w):
     return both_agree(ranges, q.modulus, standing(queues, ranges, i, v), standing(queues, ranges, i, w)) if q.scale >= 1 else None
 
 
+def sign_or(v, n, otherwise):
+    """A word is negative where its highest bit is 1: whether it is below a number that is 0, or the other."""
+    return bool(v.bits & 1 << 31) if isinstance(v, HasBits) and n == 0 and v.mask & 1 << 31 else otherwise
+
+
+def is_less(ranges, v, w):
+    return sign_or(v, as_number(w), is_below_signed(bounds(ranges, v), bounds(ranges, w)))
+
+
 def is_equal(queues, ranges, v, w):
+    if isinstance(v, HasBits) or isinstance(w, HasBits) and not isinstance(v, EndsAs):
+        return None
+    if isinstance(v, EndsAs):
+        return is_zero(ranges, v, as_number(w))
+    if isinstance(v, Linear) and isinstance(w, EndsAs):
+        return is_zero(ranges, w, as_number(v))
     if isinstance(v, IndexFor):
         return is_equal_word(queues, ranges, v.queue, v, w)
     if isinstance(v, SignedFor) and isinstance(w, SignedFor) and queue_at(queues, v.queue).index_width == queue_at(queues, w.queue).index_width:
@@ -631,9 +727,9 @@ def branch_part(queues, ranges, op, v, w):
     if op == "bne":
         return negated(is_equal(queues, ranges, v, w))
     if op == "blt":
-        return is_below_signed(bounds(ranges, v), bounds(ranges, w))
+        return is_less(ranges, v, w)
     if op == "bge":
-        return negated(is_below_signed(bounds(ranges, v), bounds(ranges, w)))
+        return negated(is_less(ranges, v, w))
     if op == "bltu":
         return is_below(bounds(ranges, v), bounds(ranges, w))
     return negated(is_below(bounds(ranges, v), bounds(ranges, w)))
@@ -826,7 +922,7 @@ class Steps:
         return anywhere(bounds(k.ranges, self.address_value(k, n, offset)))
 
     def storable(self, v):
-        return ANY if isinstance(v, (IndexFor, SignedFor)) and v.queue >= len(self.queues) else v
+        return ANY if isinstance(v, (IndexFor, SignedFor)) and v.queue >= len(self.queues) or isinstance(v, EndsAs) else v
 
     def immediate_result(self, k, op, v, n):
         return just(self.storable(v)) if is_copy(op, n) else of_immediate(self.queues, k.ranges, op, v, n)
@@ -1189,6 +1285,8 @@ def is_value(queues, numbers, v, x):
         return True
     if isinstance(v, Linear):
         return x == form_value(v.form, numbers) % M32
+    if isinstance(v, (EndsAs, HasBits)):
+        return False
     q = queue_at(queues, v.queue)
     word = q.index_word(form_value(v.form, numbers))
     return x == (word if isinstance(v, IndexFor) else signed_word(q.index_width, word))

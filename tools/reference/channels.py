@@ -36,8 +36,8 @@ def lists(text):
 def tables(kind):
     """The page's lines for the sender and those of the ring's own for the receiver, if any, by their places."""
     section = PAGE.read_text().split(f"## {RINGS[kind].heading}\n")[1].split("\n## ")[0]
-    tables = [re.findall(r"^\| ([0-9A-F]{2}) \| `([^`]*)`", part, re.MULTILINE) for part in section.split("\n\n")]
-    sender, *own = (dict(lines) for lines in tables if lines)
+    blocks = [part.split("```")[0].splitlines() for part in section.split("```asm\n")[1:]]
+    sender, *own = ({line[:2]: " ".join(line[2:].partition("#")[0].split()) for line in lines} for lines in blocks)
     return sender, own[0] if own else {}
 
 

@@ -83,6 +83,15 @@ def rows(kind):
     return [line.split("\t")[1:] for line in lines if line.split("\t")[0] == kind]
 
 
+def file_of(words):
+    """The first of a command's words that is neither an option nor the value of one, or None."""
+    name, *rest = words
+    valued = {option.name for option in OPTIONS if option.value and name in option.commands}
+    while rest and rest[0].startswith("--"):
+        rest = rest[2 if rest[0] in valued else 1:]
+    return rest[0] if rest else None
+
+
 COMMANDS = [Command(*row) for row in rows("command")]
 OPTIONS = [Option.of(*row) for row in rows("option")]
 STATUSES = rows("status")

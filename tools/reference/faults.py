@@ -49,7 +49,7 @@ def read_failed():
 
 
 def ended(main):
-    """The exit status of a command's main; a reader of its output that leaves is no fault."""
+    """The exit status of a command's main. A reader of its output that leaves is no fault, and whoever stops it is told in a line."""
     try:
         try:
             return main()
@@ -58,3 +58,6 @@ def ended(main):
     except BrokenPipeError:
         os.dup2(os.open(os.devnull, os.O_WRONLY), sys.stdout.fileno())
         return 128 + signal.SIGPIPE
+    except KeyboardInterrupt:
+        print(f"\r{os.path.basename(sys.argv[0])}: stopped", file=sys.stderr)
+        return 128 + signal.SIGINT

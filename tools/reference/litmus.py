@@ -1,4 +1,4 @@
-"""Litmus texts, read by docs/formats.md: the test, or the first fault with its line.
+"""Litmus texts, read by docs/litmus-texts.md: the test, or the first fault with its line.
 
 Comments become blanks in place, so a position of the text is one of the file. A fault has the line of
 what is faulty: an item of init, a row, a word of the condition. Where something joins lines (a comment,

@@ -6,11 +6,13 @@ import certificates
 import tags
 from draws import event_of, runs_of
 from machine import Machine
+from shrinking import part_of
 
 LOADS, STORES = {"load": 4, "load2": 2, "load1": 1}, {"store": 4, "store2": 2, "store1": 1}
 MOST = 2**64 - 1
 
-Breach = namedtuple("Breach", "hart pc address width value owned")
+# `described` says if the hart might make the store, were every slot its own
+Breach = namedtuple("Breach", "hart pc address width value owned described")
 
 
 class Counts:
@@ -26,6 +28,15 @@ class Counts:
     def position(self, own, byte):
         """The first position from this one on in whose slot the byte lies."""
         return own + ((byte - self.queue.slots) // self.queue.width - own) % self.queue.size
+
+    def may_store(self, *store):
+        """Whether a hart may store that: the hart, the address, the width and the value."""
+        return self.allows(self.owned(store[0]), *store)
+
+    def is_described(self, *store):
+        """Whether it might if it owned every slot, from its own position on."""
+        hart = store[0]
+        return hart in self.own and self.allows((self.own[hart], self.end_from(hart, self.own[hart] + self.queue.size)), *store)
 
 
 class IndexCounts(Counts):
@@ -54,9 +65,11 @@ class IndexCounts(Counts):
 
     def owned(self, hart):
         """The first position that a hart owns, and the first after it that it doesn't; of a third hart nothing."""
-        if hart not in self.own:
-            return None
-        return self.own[hart], self.known[hart] + (self.queue.capacity if hart == self.queue.sender else 0)
+        return (self.own[hart], self.end_from(hart, self.known[hart])) if hart in self.own else None
+
+    def end_from(self, hart, known):
+        """The first position that a party doesn't own that knows of so many of the other's."""
+        return known + (self.queue.capacity if hart == self.queue.sender else 0)
 
     def loaded(self, hart, address, width, value):
         if hart in self.own and (address, width) == (self.other_index(hart), self.queue.index_width):
@@ -65,8 +78,8 @@ class IndexCounts(Counts):
     def is_index(self, hart, address, width):
         return hart in self.own and (address, width) == (self.index(hart), self.queue.index_width)
 
-    def may_store(self, hart, address, width, value):
-        owned = self.owned(hart)
+    def allows(self, owned, hart, address, width, value):
+        """Whether a hart that owns these positions may store that."""
         if self.is_index(hart, address, width):
             count = self.least(owned[0], value)
             if self.word(count) == value and count <= owned[1]:
@@ -95,6 +108,10 @@ class TagCounts(Counts):
     def owned(self, hart):
         return (self.own[hart], self.end[hart]) if hart in self.own else None
 
+    def end_from(self, hart, known):
+        """The first position that a party doesn't own that knows of so many of the other's."""
+        return known + (self.queue.size if hart == self.queue.sender else 0)
+
     def is_tag(self, hart, address, width):
         is_whole = width == self.queue.tag_width and (address - self.queue.slots) % self.queue.width == self.queue.tag_offset
         return hart in self.own and is_whole and self.is_slot_byte(address)
@@ -105,8 +122,8 @@ class TagCounts(Counts):
             if tags.tells_by(self.queue.codec, tags.party_in(self.queue, hart), position, value):
                 self.end[hart] = max(self.end[hart], position + 1)
 
-    def may_store(self, hart, address, width, value):
-        owned = self.owned(hart)
+    def allows(self, owned, hart, address, width, value):
+        """Whether a hart that owns these positions may store that."""
         if self.is_tag(hart, address, width) and self.position(owned[0], address) == owned[0] < owned[1]:
             party = tags.party_in(self.queue, hart)
             handed = owned[0] + (0 if party == certificates.SENDER else self.queue.size)
@@ -167,34 +184,14 @@ class Runs:
         else:
             (address, value), width, is_free = numbers, STORES[name], False
         if not is_free and not counts.may_store(hart, address, width, value):
-            return Breach(hart, state[0][hart][0], address, width, value, counts.owned(hart))
+            return Breach(hart, state[0][hart][0], address, width, value, counts.owned(hart), counts.is_described(hart, address, width, value))
         counts.stored(hart, address, width, value)
         return None
 
-    def breaks(self, events, hart):
+    def breaks(self, events, shown):
+        """Whether a run shows this breach: the same hart's first one, which both are described or neither is."""
         breach, _ = self.judged(events)
-        return breach is not None and breach.hart == hart
-
-    def shortened(self, events, hart):
-        """A part of these events that this hart breaks the protocol in first, and doesn't without any one of them. docs/looking.md
-        has the order in which pieces are tried."""
-        size = len(events) // 2
-        while size > 1:
-            events = self.without_pieces(events, size, hart)
-            size //= 2
-        while (left := self.without_pieces(events, 1, hart)) != events:
-            events = left
-        return events
-
-    def without_pieces(self, events, size, hart):
-        at = 0
-        while at < len(events):
-            left = events[:at] + events[at + size:]
-            if self.breaks(left, hart):
-                events = left
-            else:
-                at += size
-        return events
+        return breach is not None and (breach.hart, breach.described) == (shown.hart, shown.described)
 
 
 def trial(runs, number, drawing):
@@ -205,7 +202,7 @@ def trial(runs, number, drawing):
         events = [event_of(k, runs.harts) for k in numbers]
         breach, counts = runs.judged(events)
         if breach:
-            events = runs.shortened(events, breach.hart)
+            events = part_of(events, lambda left: runs.breaks(left, breach))  # pylint: disable=cell-var-from-loop
             return (events, runs.judged(events)[0]), None
         published += counts.own[runs.queue.sender] - runs.start
         taken += counts.own[runs.queue.receiver] - runs.start

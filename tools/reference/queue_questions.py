@@ -1,5 +1,5 @@
-"""What may be asked of an accepted certificate besides the protocol (docs/queues.md): whether a queue's sender writes bytes of its records, whether
-a hart is never stopped, and which bytes it writes. By the definitions of crates/records_written/specs/Marks.antt and of crates/hart_safety/specs.
+"""What may be asked of an accepted certificate besides the protocol (docs/progress.md): whether a queue's sender writes bytes of its records, whether
+a hart is never stopped, and which bytes it writes. By the definitions of crates/records_written/specs and of crates/hart_safety/specs.
 """
 
 import re
@@ -28,9 +28,15 @@ def names_bytes(text):
 
 
 def bytes_named(text, width):
-    """The offsets of the bytes that it names of a record of this width."""
+    """The bytes that it names of a record of this width, as ranges of offsets in order."""
     ranges = [(0, width)] if text == EVERY_BYTE else ranges_named(text)
-    return [at for at in range(width) if any(first <= at <= last for first, last in ranges)]
+    return joined((first, min(last, width - 1)) for first, last in ranges if first < width)
+
+
+def without(ranges, first, last):
+    """The same without the bytes of a range."""
+    parts = [part for low, high in ranges for part in ((low, min(high, first - 1)), (max(low, last + 1), high))]
+    return [[low, high] for low, high in parts if low <= high]
 
 
 def joined(ranges):
@@ -86,44 +92,58 @@ class Sender:
                 certificates.offset_at(self.queue, place.form.constant), width)
 
     @staticmethod
-    def after(marks, does):
-        """The bytes that are written after it, each as its position and its offset, of those that were before."""
+    def after(marked, does, byte):
+        """The positions from the count on of which this byte is written after it, of those of which it was before; None is all."""
         kind, *numbers = does or ("nothing",)
-        if kind == "fills":
-            position, offset, width = numbers
-            return marks | {(position, offset + at) for at in range(width)}
+        if kind == "some":
+            return set()
+        if marked is None or kind == "nothing":
+            return marked
         if kind == "publishes":
-            return {(position - numbers[0], at) for position, at in marks if position >= numbers[0]}
-        return set() if kind == "some" else marks
+            return {position - numbers[0] for position in marked if position >= numbers[0]}
+        position, offset, width = numbers
+        return marked | {position} if offset <= byte < offset + width else marked
 
-    def marks(self, mask):
-        """The most that may be said to be written at each state: all at first, and less until each leaf leads into what it leaves."""
-        fills = [does[1] for leaves in self.leaves for does, _ in leaves if does and does[0] == "fills"]
-        every = {(position, at) for position in range(max(fills, default=-1) + 1) for at in mask}
-        found = [set() if n == self.part.first else set(every) for n in range(len(self.leaves))]
+    def marked(self, byte):
+        """At each state the positions of which this byte is surely written: all at first, and less until each leaf leads into what it leaves."""
+        found = [set() if n == self.part.first else None for n in range(len(self.leaves))]
         changed = True
         while changed:
             changed = False
             for n, leaves in enumerate(self.leaves):
                 for does, targets in leaves:
-                    left = self.after(found[n], does)
+                    left = self.after(found[n], does, byte)
                     for to in targets:
-                        if not found[to] <= left:
-                            found[to] &= left
+                        if left is not None and (found[to] is None or not found[to] <= left):
+                            found[to] = left if found[to] is None else found[to] & left
                             changed = True
         return found
 
+    def bytes_apart(self, mask):
+        """The lowest bytes of the mask's parts that no store's end parts further: what holds of one holds of its part."""
+        fills = [does[2:] for leaves in self.leaves for does, _ in leaves if does and does[0] == "fills"]
+        ends = {end for offset, width in fills for end in (offset, offset + width)}
+        return sorted({first for first, _ in mask} | {end for end in ends if any(first <= end <= last for first, last in mask)})
+
+    @staticmethod
+    def open_position(leaves, marked):
+        """The first position that these leaves may publish and that isn't marked; None where all of them are."""
+        if marked is None:
+            return None
+        handed = [does[1] for does, _ in leaves if does and does[0] in ("publishes", "some")]
+        position = next(position for position in range(len(marked) + 1) if position not in marked)
+        return position if None in handed or any(position < count for count in handed) else None
+
     def unwritten(self, mask):
-        """The first state that may publish a record of which a byte isn't shown to be written, with that byte; or None."""
-        marks = self.marks(mask)
+        """The first state that may publish a record of which a byte isn't surely written, with the lowest such byte of the first such position;
+        or None."""
+        marks = [(byte, self.marked(byte)) for byte in self.bytes_apart(mask)]
         for n, leaves in enumerate(self.leaves):
-            handed = max((does[1] or 0 for does, _ in leaves if does and does[0] in ("publishes", "some")), default=0)
-            for position in range(handed):
-                for at in mask:
-                    if (position, at) not in marks[n]:
-                        return n, at
-        nobody_knows = (n for n, leaves in enumerate(self.leaves) if any(does == ("some", None) for does, _ in leaves))
-        return next(((n, mask[0]) for n in nobody_knows), None)
+            found = [(self.open_position(leaves, marked[n]), byte) for byte, marked in marks]
+            found = [each for each in found if each[0] is not None]
+            if found:
+                return n, min(found)[1]
+        return None
 
 
 # ---- harts

@@ -1,16 +1,21 @@
-"""What a certificate shows of a litmus text's queues, or drawn runs where it shows nothing, in lines (docs/formats.md): the command `queue`."""
+"""What a certificate shows of a litmus text's queues, or drawn runs where it shows nothing, in lines (docs/queue-answers.md): the command `queue`."""
 
 import certificate_lines
 import certificates
 import ownership
 import programs
+import progress
 import queue_questions
 import schedules
 import sent
 import tags
 import words
 
-KEPT, READS_NOT_SHOWN, NOT_SHOWN, BROKEN, ASKED_NOT_SHOWN = 0, 6, 7, 8, 9
+# what stands before the number and the form of a value that is no form
+MARKED = {"@": certificates.IndexFor, "~": certificates.SignedFor, "^": certificates.EndsAs}
+KEPT, READS_NOT_SHOWN, NOT_SHOWN, BROKEN, ASKED_NOT_SHOWN, PROGRESS_NOT_SHOWN, OTHER_PROTOCOL = 0, 6, 7, 8, 9, 10, 11
+# of a run that breaks the protocol, by whether its store is described
+BREAKS = {True: ("broken", BROKEN), False: ("does not keep the protocol described", OTHER_PROTOCOL)}
 REGISTERS = 32
 EVERY_RUN = "promised: in every legal run, of any length and schedule, with store buffers of any size, the"
 PROMISE_END = ", so records arrive in order, each once, with all that was written before"
@@ -18,7 +23,10 @@ READS = "not promised: that what is loaded from a slot is a record that the hart
 REST = "what the code does with it, what memory outside of the queue holds"
 RECORDS = {False: f"not promised: that a record was freshly or wholly written, {REST}",
            True: f"not promised: that other bytes of a record are freshly written, {REST}"}
-PROGRESS = "not promised: that anything is ever sent or received"
+PROGRESS = {False: "not promised: that anything is ever sent or received", True: "not promised: that a hart is ever run, or doesn't end or stop, or that a store ever lands"}
+# of a sender and of a receiver: how it goes on, what it finds, and what isn't shown
+MOVES = {True: ("publishes", "no slot free", ("slots free", "slot free"), "looks for a free slot"),
+         False: ("takes", "no record", ("records", "record"), "looks for a record")}
 STORES = "likely: it may store to a slot that the hart doesn't own, to another hart's words, or another count to its index"
 LIKELY = {0x23: STORES, 0x2F: STORES,
           0x03: "likely: it may load a part of the other party's index, or leads to a state that isn't listed",
@@ -43,11 +51,18 @@ def form_of(found):
 
 
 def value_of(found):
-    """A form, or after a mark the word of a queue that stands for one, or what a signed load leaves of it."""
+    """A form; after a mark the word of a queue that stands for one, what a signed load leaves of it, or so many bits that end as one does; or the bits of
+    a word under a mask."""
     if len(found) == 2:
         return certificates.Linear(form_of(found))
-    mark, queue, *form = found
-    return (certificates.IndexFor if mark == "@" else certificates.SignedFor)(queue, form_of(form))
+    mark, number, *form = found
+    if mark == "&":
+        return certificates.HasBits(number, *form)
+    return MARKED[mark](number, form_of(form))
+
+
+def codec_of(name, *numbers):
+    return tags.Bits(*numbers) if numbers else name
 
 
 def cases_of(found):
@@ -84,7 +99,7 @@ def read(text):
     return certificates.QueueCertificate(
         tuple(certificates.OpenedQueue(certificates.Queue(*numbers[:13]), numbers[13], tuple(sent.Field(*field) for field in fields))
               for numbers, fields in queues),
-        tuple(tags.OpenedTagged(tags.TaggedQueue(*found[:8]), found[8]) for found in tagged),
+        tuple(tags.OpenedTagged(tags.TaggedQueue(*found[:7], codec_of(*found[7])), found[8]) for found in tagged),
         tuple(certificates.HartPart(tuple(own), first, tuple(numbers), tuple(state(own, *each) for each in states))
               for own, (first, numbers), states in harts))
 
@@ -124,7 +139,10 @@ def form_text(form):
 def value_text(value):
     if isinstance(value, certificates.Linear):
         return form_text(value.form)
-    return f"{'@' if isinstance(value, certificates.IndexFor) else '~'}{value.queue}:{form_text(value.form)}"
+    if isinstance(value, certificates.HasBits):
+        return f"&{value.mask}:{value.bits}"
+    mark = next(mark for mark, kind in MARKED.items() if isinstance(value, kind))
+    return f"{mark}{value[0]}:{form_text(value.form)}"
 
 
 def known_lines(listed):
@@ -146,9 +164,12 @@ def known_lines(listed):
 
 def tag_text(queue):
     """Where in its slot a tag lies, and how it tells."""
-    tells = {tags.ZERO: "0 where it is free and any other number where it is full",
-             tags.NUMBER: f"k where it is free for position k and k + 1 where it is full of it, modulo {certificates.M32}"}
-    return f"{'byte' if queue.tag_width == 1 else f'{queue.tag_width} bytes'} at {queue.tag_offset} of each slot, {tells[queue.codec]}"
+    if isinstance(queue.codec, tags.Bits):
+        tells = "free where its bits under {} are {} and full where they are {}".format(*queue.codec)
+    else:
+        tells = {tags.ZERO: "0 where it is free and any other number where it is full",
+                 tags.NUMBER: f"k where it is free for position k and k + 1 where it is full of it, modulo {certificates.M32}"}[queue.codec]
+    return f"{'byte' if queue.tag_width == 1 else f'{queue.tag_width} bytes'} at {queue.tag_offset} of each slot, {tells}"
 
 
 class Judge:
@@ -206,10 +227,12 @@ class Judge:
                 return f"not shown: queue {index} has slots without a byte"
             if not self.has_tags(index) and not queue.capacity:
                 return f"not shown: queue {index} has no slot that may be in use"
-            if not any(stores for _, _, stores, _ in self.accesses(index)):
-                return f"not shown: no instruction stores to a slot of queue {index}"
-            if not any(loads for _, _, _, loads in self.accesses(index)):
-                return f"not shown: no instruction loads from a slot of queue {index}"
+            if max(queue.sender, queue.receiver) >= len(self.opening.harts):
+                return f"not shown: queue {index} has a party that is no hart of the text"
+            if not any(stores for hart, _, stores, _ in self.accesses(index) if hart == queue.sender):
+                return f"not shown: no instruction of hart {queue.sender} stores to a slot of queue {index}"
+            if not any(loads for hart, _, _, loads in self.accesses(index) if hart == queue.receiver):
+                return f"not shown: no instruction of hart {queue.receiver} loads from a slot of queue {index}"
         return None
 
     def unread(self):
@@ -218,7 +241,7 @@ class Judge:
             for hart in (queue.sender, queue.receiver):
                 state = self.first_unowned(index, hart)
                 if state is not None:
-                    return f"kept in every run, but reads not shown: {self.state_place(hart, state)}, of queue {index}"
+                    return f"kept, but reads not shown: {self.state_place(hart, state)}, of queue {index}"
         return None
 
     # ---- lines
@@ -274,10 +297,10 @@ class Judge:
         mask = queue_questions.bytes_named(text, queue.width)
         if not mask:
             return f"queue {index}: its records have none of these bytes", False
-        named, is_one = queue_questions.bytes_text(queue_questions.joined((at, at) for at in mask))
+        named, is_one = queue_questions.bytes_text(mask)
         written = f"{named} of each record {'is' if is_one else 'are'} written"
         # what publishes a record writes its tag
-        rest = [at for at in mask if not (self.has_tags(index) and tags.is_tag_byte(queue, at))]
+        rest = queue_questions.without(mask, queue.tag_offset, queue.tag_offset + queue.tag_width - 1) if self.has_tags(index) else mask
         unwritten = queue_questions.Sender(self.opening, self.listed, index).unwritten(rest)
         if unwritten is None:
             return f"queue {index}: {written} after the record before in its slot was published", True
@@ -303,20 +326,52 @@ class Judge:
         else:
             yield f"hart {number}: writes nothing", True
 
+    # ---- whether queues go on, in lines
+
+    def party(self, index, sends, hart, other, found):
+        """The lines of a party, by what is found of it."""
+        front, (moves, none, few, looking) = f"queue {index}:", MOVES[sends]
+        if isinstance(found, (progress.GoesOn, progress.Within)):
+            owned, bound = (0, found.most + 1) if isinstance(found, progress.Within) else (found.owned, found.pace + found.sight + 2)
+            finds = f"at most {owned} {few[owned == 1]}" if owned else none
+            yield f"{front} hart {hart} {moves}, or looks and finds {finds}, within {bound} of its instructions, whatever hart {other} does"
+            return
+        missed = f"finds {none}" if isinstance(found, progress.NoPace) else looking
+        yield f"{front} not shown that hart {hart} {moves}, or {missed}: {self.pc_place(hart, found.state)}"
+        yield from (f"known: {line}" for line in known_lines(self.listed.harts[hart].states[found.state]))
+
+    def going(self, index):
+        """The lines of whether a queue goes on, and whether that is shown."""
+        queue = self.opened[index].queue
+        parties = ((True, queue.sender, queue.receiver), (False, queue.receiver, queue.sender))
+        progress_of, number = (progress.told_progress_of, index - self.with_indices) if self.has_tags(index) else (progress.progress_of, index)
+        found = [progress_of(self.opening, self.listed, hart, number) for _, hart, _ in parties]
+        lines = [line for party, each in zip(parties, found) for line in self.party(index, *party, each)]
+        if not all(isinstance(each, (progress.GoesOn, progress.Within)) for each in found):
+            return lines, False
+        if self.has_tags(index):
+            return [*lines, f"queue {index}: whenever no store to a tag is pending and both harts run on, more is published or taken"], True
+        slots, records = (each.owned for each in found)
+        if slots + records < queue.capacity:
+            return [*lines, f"queue {index}: whenever both indices have landed and both harts run on, more is published or taken"], True
+        return [*lines, f"queue {index}: hart {queue.sender} may wait for {slots + 1} free slots and hart {queue.receiver} for {records + 1} records, "
+                        f"of {queue.capacity}"], False
+
     # ---- drawn runs
 
     def broken(self, index, events, breach, capacity):
-        """The lines of a run that breaks a queue's protocol, of which the schedule is the last."""
+        """The lines of a run that breaks a queue's protocol, of which the schedule is the last, and the exit status."""
         if breach.owned is None:
             owned = "and is neither party"
         elif breach.owned[0] < breach.owned[1]:
             owned = f"and owned positions {breach.owned[0]} to {breach.owned[1] - 1}"
         else:
             owned = "and owned no position"
-        return [f"broken: {self.place(breach.hart, breach.pc)}",
+        verdict, status = BREAKS[breach.described]
+        return [f"{verdict}: {self.place(breach.hart, breach.pc)}",
                 f"queue {index}: it stored {breach.value} to the {breach.width} bytes at {breach.address}, {owned}", *self.form(index),
                 f"{FIT} {OF[self.has_tags(index)]}",
-                f"shown by this schedule, whose last event it is, with --buffer {capacity}:", *schedules.written(events).splitlines()]
+                f"shown by this schedule, whose last event it is, with --buffer {capacity}:", *schedules.written(events).splitlines()], status
 
     def tried(self, flaw, capacity, number, drawing):
         """What drawn runs show where the certificate has this flaw."""
@@ -324,27 +379,34 @@ class Judge:
         for index, (queue, start, *_) in enumerate(self.opened):
             shown, moved = ownership.trial(ownership.Runs(self.test, capacity, queue, start), number, drawing)
             if shown:
-                return self.broken(index, *shown, capacity), BROKEN
+                return self.broken(index, *shown, capacity)
             lines.append(f"queue {index}: kept in {number} drawn runs of {drawing[1]} events, in which {moved[0]} positions were published and"
                          f" {moved[1]} taken")
         return [*flaw, *lines, "nothing is claimed"], NOT_SHOWN
 
-    def kept(self, written, harts):
-        """The lines, and the exit status, where the protocol is kept: of these bytes of records, if any, and of the harts, if they are asked about."""
+    def kept(self, written, harts, asks_progress):
+        """The lines, and the exit status, where the protocol is kept: of these bytes of records, if any, of the harts and of whether the queues go
+        on, if they are asked about."""
+        going = [self.going(index) for index in range(len(self.opened)) if asks_progress]
+        goes = all(shown for _, shown in going)
         records = [self.records(index, written) for index in range(len(self.opened))] if written is not None else []
         told = [*records, *(line for number in range(len(self.opening.harts)) if harts for line in self.hart(number))]
-        lines = [*self.described(), *(line for line, _ in told)]
-        limits = [RECORDS[bool(records) and all(shown for _, shown in records)], PROGRESS]
+        lines = [*self.described(), *(line for each, _ in going for line in each), *(line for line, _ in told)]
+        limits = [RECORDS[bool(records) and all(shown for _, shown in records)], PROGRESS[asks_progress and goes]]
         if unread := self.unread():
             return [unread, *lines, self.protocol(), READS, *limits], READS_NOT_SHOWN
-        if all(shown for _, shown in told):
-            return ["kept in every run", *lines, self.protocol() + PROMISE_END, *limits], KEPT
-        return ["kept in every run, but not all that was asked is shown", *lines, self.protocol() + PROMISE_END, *limits], ASKED_NOT_SHOWN
+        if not goes:
+            first, status = "kept in every run, but not shown to go on", PROGRESS_NOT_SHOWN
+        elif not all(shown for _, shown in told):
+            first, status = "kept, but not all that was asked is shown", ASKED_NOT_SHOWN
+        else:
+            first, status = f"kept in every run{', and goes on while its harts run' if asks_progress else ''}", KEPT
+        return [first, *lines, self.protocol() + PROMISE_END, *limits], status
 
-    def answer(self, capacity, number, drawing, written=None, harts=False):
+    def answer(self, capacity, number, drawing, written=None, harts=False, asks_progress=True):
         """The lines, and the exit status."""
         if flaw := self.flaw():
             return self.tried(flaw, capacity, number, drawing) if self.may_draw else ([*flaw, "nothing is claimed"], NOT_SHOWN)
         if unused := self.unused():
             return [unused, "nothing is claimed"], NOT_SHOWN
-        return self.kept(written, harts)
+        return self.kept(written, harts, asks_progress)

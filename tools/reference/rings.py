@@ -7,6 +7,7 @@ import words
 from draws import event_of, runs_of
 from faults import Fault
 from machine import Machine
+from shrinking import part_of
 
 MEMORY_ENTRIES = {"load": "loaded", "store": "stored", "amo": "exchanged"}
 
@@ -75,46 +76,16 @@ class Rings:
         self.lists, self.slots, self.place = lists, slots, place
 
     def judged(self, events):
-        """The judge after these events, the first breach or None, and how many events led to it."""
+        """The judge after these events, and the first breach or None."""
         judge, state = Judge(self.lists, self.slots, self.place), self.machine.opening
-        for number, event in enumerate(events, 1):
+        for event in events:
             outcome, entry, state = self.machine.step(state, event)
             if entry and (breach := judge.breach(outcome)):
-                return judge, breach, number
-        return judge, None, len(events)
-
-    def with_entries(self, events):
-        """The events that add an entry."""
-        state, own = self.machine.opening, []
-        for event in events:
-            _, entry, state = self.machine.step(state, event)
-            own += [event] if entry else []
-        return own
+                return judge, breach
+        return judge, None
 
     def is_unclean(self, events):
         return self.judged(events)[1] is not None
-
-    def shrunk(self, events):
-        """A part of an unclean run's events that is still unclean, and from which no event can be left out."""
-        events = self.with_entries(events[:self.judged(events)[2]])
-        size = len(events) // 2
-        while size > 1:
-            events = self.without_pieces(events, size)
-            size //= 2
-        while (left := self.without_pieces(events, 1)) != events:
-            events = left
-        return events
-
-    def without_pieces(self, events, size):
-        """The events without each piece of this size that the breach doesn't need, the first one first."""
-        at = 0
-        while at < len(events):
-            left = events[:at] + events[at + size:]
-            if self.is_unclean(left):
-                events = left
-            else:
-                at += size
-        return events
 
 
 def drawn(rings, runs, drawing):
@@ -129,9 +100,9 @@ def trial(rings, runs, drawing):
     their breach."""
     most, closed = [0] * len(rings.lists), [0] * len(rings.lists)
     for events in drawn(rings, runs, drawing):
-        judge, breach, _ = rings.judged(events)
+        judge, breach = rings.judged(events)
         if breach:
-            events = rings.shrunk(events)
+            events = part_of(events, rings.is_unclean)
             return None, (events, rings.judged(events)[1])
         most = list(map(max, most, judge.taken))
         closed = [count + is_closed for count, is_closed in zip(closed, judge.closed)]

@@ -4,6 +4,29 @@ has the order in which they are tried."""
 from machine import is_finished, outcome
 
 
+def part_of(events, is_wanted):
+    """A part of wanted events that is still wanted, and from which no event can be left out."""
+    size = len(events) // 2
+    while size > 1:
+        events = without_pieces(events, size, is_wanted)
+        size //= 2
+    while (left := without_pieces(events, 1, is_wanted)) != events:
+        events = left
+    return events
+
+
+def without_pieces(events, size, is_wanted):
+    """The events without each piece of this size that they needn't have, the first one first."""
+    at = 0
+    while at < len(events):
+        left = events[:at] + events[at + size:]
+        if is_wanted(left):
+            events = left
+        else:
+            at += size
+    return events
+
+
 class Runs:
     """A test's runs by their events."""
 
@@ -30,17 +53,6 @@ class Runs:
         state = self.state_after(events)
         return outcome(self.test, state) if is_finished(state) else None
 
-    def without_pieces(self, events, size, end):
-        """The events without each piece of this size that the outcome doesn't need, the first one first."""
-        at = 0
-        while at < len(events):
-            left = events[:at] + events[at + size:]
-            if self.end(left) == end:
-                events = left
-            else:
-                at += size
-        return events
-
 
 def shrunk(test, machine, events):
     """The events that are left, or None where the run isn't finished."""
@@ -48,11 +60,4 @@ def shrunk(test, machine, events):
     end = runs.end(events)
     if end is None:
         return None
-    events = runs.with_entries(events)
-    size = len(events) // 2
-    while size > 1:
-        events = runs.without_pieces(events, size, end)
-        size //= 2
-    while (left := runs.without_pieces(events, 1, end)) != events:
-        events = left
-    return events
+    return part_of(runs.with_entries(events), lambda left: runs.end(left) == end)

@@ -14,6 +14,15 @@ ZERO, NUMBER = "zero", "number"
 WORD = 4
 
 
+class Bits(NamedTuple):
+    """The bits of a tag under a mask are these in a free slot and in a full one."""
+
+    mask: int
+    free: int
+    full: int
+
+
+
 class TaggedQueue(NamedTuple):
     """Of each slot of `width` bytes the `tag_width` bytes from `tag_offset` on are its tag, which tells as `codec` says."""
 
@@ -24,7 +33,7 @@ class TaggedQueue(NamedTuple):
     width: int
     tag_offset: int
     tag_width: int
-    codec: str
+    codec: object  # ZERO, NUMBER or Bits
 
 
 class OpenedTagged(NamedTuple):
@@ -44,7 +53,13 @@ def position_number(m, party, k, v):
     return v == (k if party == certificates.SENDER else k + 1) % m
 
 
+def bits_under(bits, party, v):
+    return v & bits.mask == (bits.free if party == certificates.SENDER else bits.full)
+
+
 def tells_by(codec, party, k, v):
+    if isinstance(codec, Bits):
+        return bits_under(codec, party, v)
     return zero_is_free(party, v) if codec == ZERO else position_number(certificates.M32, party, k, v)
 
 
@@ -68,14 +83,16 @@ def tag_of(q, k):
 
 def tag_flaws(q):
     """What `is_tagged` asks, in its order, each with what is wrong where it isn't so."""
-    number = q.codec == NUMBER
+    number, bits = q.codec == NUMBER, q.codec if isinstance(q.codec, Bits) else None
     return ((q.sender != q.receiver, "one hart as its sender and its receiver"),
             (q.size >= 1, "no slot"),
             (q.tag_width >= 1, "a tag without a byte"),
             (q.tag_width <= WORD, "a tag of more than 4 bytes"),
             (q.tag_offset + q.tag_width <= q.width, "a tag that reaches past its slot"),
             (not number or q.tag_width == WORD, "numbers in a tag that isn't a word"),
-            (not number or q.size % certificates.M32 != 1, "numbers that are the same for free and for full slots"))
+            (not number or q.size % certificates.M32 != 1, "numbers that are the same for free and for full slots"),
+            (not bits or bits.mask < 256 ** q.tag_width, "a mask with bits that its tag doesn't have"),
+            (not bits or bits.free != bits.full, "bits that are the same for free and for full slots"))
 
 
 def is_tagged(q):
@@ -121,8 +138,38 @@ def further(own, n):
     return certificates.plus(own, certificates.number(n))
 
 
-def just_further(own, n):
-    return certificates.just(certificates.Linear(further(own, n)))
+class NumberOf(NamedTuple):
+    """What a tag satisfies that is this form, of a whole word."""
+
+    form: object  # a form of certificates.py
+
+
+NOTHING, SOMETHING = "it is 0", "it isn't 0"
+
+
+def told_by(codec, party, position):
+    """What a tag satisfies that tells the party that it has the position that a form is: NOTHING, SOMETHING, a NumberOf, or the bits of a HasBits."""
+    sends = party == certificates.SENDER
+    if isinstance(codec, Bits):
+        return certificates.HasBits(codec.mask, codec.free if sends else codec.full)
+    if codec == ZERO:
+        return NOTHING if sends else SOMETHING
+    return NumberOf(position if sends else further(position, 1))
+
+
+def back_to(q, party):
+    return 0 if party == certificates.SENDER else certificates.M32 - q.size % certificates.M32
+
+
+# the bits that an unsigned load leaves 0
+ABOVE = {"lbu": 0xFFFFFF00, "lhu": 0xFFFF0000}
+
+
+def extended(op, v):
+    """The word that a load makes of the bytes that it loads."""
+    width = certificates.LOADS[op]
+    v %= 256 ** width
+    return v if op in ABOVE or op == "lw" else certificates.signed_word(width, v)
 
 
 def some_up_to(n):
@@ -130,18 +177,26 @@ def some_up_to(n):
     return certificates.Result(certificates.monus(n, 1), certificates.Linear(certificates.Form(1, (1,))))
 
 
+def value_told(op, told):
+    """What a load leaves of such a tag."""
+    if told == NOTHING:
+        return certificates.just(certificates.Linear(certificates.number(0)))
+    if told == SOMETHING:
+        return some_up_to(certificates.most_loaded(op))
+    if isinstance(told, NumberOf):
+        return certificates.just(certificates.Linear(told.form))
+    return certificates.just(certificates.of_bits(extended(op, told.mask) | ABOVE.get(op, 0), extended(op, told.bits)))
+
+
 def told_value(codec, party, op, own, j):
     """What the party loads that has the position j further."""
-    if codec == NUMBER:
-        return just_further(own, j if party == certificates.SENDER else j + 1)
-    return certificates.just(certificates.Linear(certificates.number(0))) if party == certificates.SENDER else some_up_to(certificates.most_loaded(op))
+    return value_told(op, told_by(codec, party, further(own, j)))
 
 
 def other_value(q, party, op, own, j):
     """What it loads where the other still has the slot."""
-    if q.codec == ZERO:
-        return told_value(ZERO, certificates.other(party), op, own, j)
-    return just_further(own, j + 1 + certificates.monus(certificates.M32, q.size % certificates.M32) if party == certificates.SENDER else j)
+    other = certificates.other(party)
+    return value_told(op, told_by(q.codec, other, further(own, j + back_to(q, other))))
 
 
 def is_positive(width, b):
@@ -152,12 +207,25 @@ def is_number(n, v, g):
     return isinstance(v, certificates.Linear) and certificates.is_same(n, v.form, g)
 
 
+def are_these(known, mask, bits):
+    return known is not None and known.mask & mask == mask and known.bits & mask == bits
+
+
+def makes(ranges, width, told, v):
+    """Whether a stored value makes a tag that tells so."""
+    if told == NOTHING:
+        return is_number(256 ** width, v, certificates.number(0))
+    if told == SOMETHING:
+        return is_positive(width, certificates.bounds(ranges, v))
+    if isinstance(told, NumberOf):
+        return is_number(certificates.M32, v, told.form)
+    return are_these(certificates.bits_of(v), *told)
+
+
 def hands_over(ranges, q, party, own, v):
-    if q.codec == NUMBER:
-        return is_number(certificates.M32, v, further(own, 1 if party == certificates.SENDER else q.size))
-    if party == certificates.SENDER:
-        return is_positive(q.tag_width, certificates.bounds(ranges, v))
-    return is_number(256 ** q.tag_width, v, certificates.number(0))
+    """The sender hands over its own position, and the receiver the slot's next one."""
+    gap = 0 if party == certificates.SENDER else q.size
+    return makes(ranges, q.tag_width, told_by(q.codec, certificates.other(party), further(own, gap)), v)
 
 
 def handed(s):

@@ -6,6 +6,8 @@ import shutil
 import subprocess
 from pathlib import Path
 
+from sections import sections
+
 from . import HERE, ROOT, Wrong
 
 # in the order in which they name each other
@@ -29,34 +31,39 @@ def install():
         raise Wrong(f"{' '.join(PACKAGES)} can't be installed: {error}") from error
 
 
-def edited(sources, edit):
-    """The sources, by name, after the edits of a file that has the form of crates/*/must-fail/*.edit."""
+def faults():
+    """The planted faults: the edits of each, by its name."""
+    return dict(sections((HERE / "faults.edits").read_text()))
+
+
+def edited(sources, fault):
+    """The sources, by name, after the edits of a fault."""
     sources = dict(sources)
-    for part in re.split("^file: ", edit.read_text(), flags=re.MULTILINE)[1:]:
+    for part in re.split("^file: ", faults()[fault], flags=re.MULTILINE)[1:]:
         name, _, changes = part.partition("\n")
         for old, new in re.findall("^old: (.*)\nnew: (.*)$", changes, re.MULTILINE):
             if sources[name].count(old) != 1:
-                raise Wrong(f"{edit.name}: `{old}` doesn't stand exactly once in {name}")
+                raise Wrong(f"{fault}: `{old}` doesn't stand exactly once in {name}")
             sources[name] = sources[name].replace(old, new)
     return sources
 
 
-def built(edit=None, is_traced=False):
-    """The bench, built anew where a source has changed since; with the edits of a file where one is given, and with
+def built(fault=None, is_traced=False):
+    """The bench, built anew where a source has changed since; with a fault where one is named, and with
     `+trace` where that is asked for."""
     if shutil.which("verilator") is None:
         raise Wrong("no verilator: --install gets it by apt-get")
-    name = edit.stem if edit else TRACED if is_traced else PLAIN
+    name = fault or (TRACED if is_traced else PLAIN)
     folder = OUT / name
     texts = {source: (HERE / "rtl" / source).read_text() for source in SOURCES}
-    if edit:
-        texts = edited(texts, edit)
+    if fault:
+        texts = edited(texts, fault)
     bench = folder / "bench"
     if bench.exists() and all((folder / "rtl" / source).exists() and (folder / "rtl" / source).read_text() == text
                               for source, text in texts.items()):
         return bench
     shutil.rmtree(folder, ignore_errors=True)
-    if edit and (OUT / PLAIN).exists():
+    if fault and (OUT / PLAIN).exists():
         # the runtime of Verilator is compiled there already
         shutil.copytree(OUT / PLAIN, folder)
         bench.unlink(missing_ok=True)

@@ -1,6 +1,6 @@
 /* A sender that finds the queue full drops the oldest record: both harts write one index.
    queue: head=q.sent,tail=q.taken,slots=q.word,size=8
-   answer: hart 0 at line 17 */
+   answer: another protocol: hart 0 at line 17 */
 #include <stdatomic.h>
 
 #define SLOTS 8

@@ -1,6 +1,6 @@
 /* The number of a full slot is that of a slot which is free for the next round: the receiver waits for ever, and the sender overwrites.
    tagged: slots=q,size=4,width=12,tells=number
-   answer: hart 0 at line 20 */
+   answer: another protocol: hart 0 at line 20 */
 #include <stdatomic.h>
 
 #define SLOTS 4

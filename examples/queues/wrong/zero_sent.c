@@ -1,6 +1,6 @@
 /* A record is 0 as a free slot is: the receiver waits at it for ever, and the sender overwrites it.
    tagged: slots=q,size=8
-   answer: hart 0 at line 14 */
+   answer: another protocol: hart 0 at line 14 */
 #include <stdatomic.h>
 
 #define SLOTS 8

@@ -2,8 +2,8 @@
 // it; the list of events does the same for the keyboard.
 
 import { ask, waiting } from "./ask.js";
-import { by, el } from "./dom.js";
-import { rowsOf } from "./rows.js";
+import { NARROW, by, el } from "./dom.js";
+import { isWide, rowsOf } from "./rows.js";
 import { about } from "./schedules.js";
 import { known, state } from "./state.js";
 import { entriesOf, told } from "./words.js";
@@ -11,7 +11,7 @@ import { entriesOf, told } from "./words.js";
 const HINT = "Click an instruction to execute it. A store then waits in its hart's buffer, until you let it land.";
 
 // fingers need rows of 24 pixels
-const NARROW = matchMedia("(max-width: 860px), (pointer: coarse)"), LEAST = 24;
+const LEAST = 24;
 // the picture's own margin, and the bar's room
 const MARGIN = 24;
 
@@ -53,6 +53,16 @@ new ResizeObserver(async () => {
   if (shown) veil(box);
 }).observe(by("chart"));
 
+// a picture that is too wide is whole on a narrow window, and elsewhere as large as it is read, until the button says another
+let isWhole = null;
+const showsWhole = () => isWhole ?? NARROW.matches;
+
+export async function fit() {
+  isWhole = !showsWhole();
+  await put(by("chart"), shown.key, shown.answer);
+  veil(by("chart"));
+}
+
 // whether a part of the picture is out of sight on the right
 function showGoesOn() {
   const box = by("chart"), goesOn = box.scrollWidth - box.clientWidth - box.scrollLeft > MARGIN;
@@ -61,8 +71,9 @@ function showGoesOn() {
 }
 
 async function put(box, key, answer) {
-  const room = box.clientWidth;
-  const { rows, pitch, scale } = rowsOf(answer, NARROW.matches ? LEAST : 0, room), top = rows[0]?.top ?? 0, end = rows.length ? rows.at(-1).top + pitch : 0;
+  const room = box.clientWidth, least = NARROW.matches ? LEAST : 0, wide = isWide(answer, least, room);
+  const { rows, pitch, scale } = rowsOf(answer, least, room, wide && showsWhole());
+  const top = rows[0]?.top ?? 0, end = rows.length ? rows.at(-1).top + pitch : 0;
   const cover = el("div", { class: "veil" }), bar = el("div", { class: "bar" }), area = el("div", { class: "rows" });
   Object.assign(area.style, { top: `${top}px`, height: `${end - top}px` });
   bar.style.height = `${pitch}px`;
@@ -75,6 +86,8 @@ async function put(box, key, answer) {
   if (answer.svg === undefined) drawn.style.lineHeight = `${pitch}px`;
   else drawn.style.width = `${drawn.naturalWidth * scale}px`;
   for (const id of ["save-picture", "save-image"]) by(id).hidden = answer.svg === undefined;
+  by("fit").hidden = !wide;
+  by("fit").setAttribute("aria-pressed", String(showsWhole()));
   shown = { key, answer, room, svg: answer.svg, rows, end, cover, entries: entriesOf(answer.outcomes) };
   box.replaceChildren(el("div", { class: "picture" }, drawn, cover, bar, area));
   showGoesOn();

@@ -2,6 +2,9 @@
 
 export const by = id => document.getElementById(id);
 
+// a window for a thumb, in which sections stand below one another
+export const NARROW = matchMedia("(max-width: 860px), (pointer: coarse)");
+
 const SVG = ["svg", "rect"];
 
 export function el(tag, attributes = {}, ...children) {

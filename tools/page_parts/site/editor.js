@@ -41,7 +41,7 @@ export async function take(text, { events = null, place = null } = {}) {
   if (!events && before && isOther(before, known.test)) startAnew();
   by("fault").replaceChildren();
   showQuestion(known.test.question);
-  showLone();
+  showSlips();
   showWitnesses();
   document.title = `${known.test.title} - ztso`;
   if (text !== shown) renew(text);
@@ -79,7 +79,7 @@ function showFault({ line, number: refusal, name, words, place, cell }) {
       cell ? el("code", {}, cell.text) : ""),
     ...ofOthers(cell).map(text => el("p", {}, ...prose(text))),
     ...(cell ? cell.words : words.length ? words : [line]).map(text => el("p", {}, ...prose(text))));
-  by("lone").replaceChildren();
+  by("slips").replaceChildren();
   showQuestion("");
   number(place.line);
   if (place.line && document.activeElement !== by("text")) by("text").scrollTop = (place.line - 5) * LINE;
@@ -100,14 +100,8 @@ export function refuse(words) {
 
 export const forgetRefused = () => by("refused").replaceChildren();
 
-// locations that only one of several harts names, which may be a slip of the pen. The shelf's are meant
-function showLone() {
-  const { harts } = known.test, namers = new Map();
-  harts.forEach(({ pointers }, hart) => {
-    for (const name of Object.values(pointers)) namers.set(name, (namers.get(name) ?? new Set()).add(hart));
-  });
-  const lone = [...namers].filter(([, of]) => of.size === 1).map(([name, [hart]]) => `\`${name}\` (P${hart})`);
-  const isMeant = harts.length === 1 || onShelf(state.text) || !lone.length;
-  by("lone").replaceChildren(...isMeant ? []
-    : prose(`Only one hart names ${lone.join(" and ")}. To share a location, both harts name it.`));
+// what may be a slip of the pen. The shelf's are meant
+function showSlips() {
+  const said = onShelf(state.text) ? [] : known.test.slips;
+  by("slips").replaceChildren(...said.map(text => el("p", {}, ...prose(text))));
 }

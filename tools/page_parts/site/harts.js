@@ -1,6 +1,7 @@
 // A card for each hart: its code, registers and store buffer. An event that it can do is a button on what does it.
 
 import { el, prose } from "./dom.js";
+import { notesOf } from "./notes.js";
 import { known, state } from "./state.js";
 import { idle, labelsAt, locationAt, nameOf, reason, rowAt, said, short, told } from "./words.js";
 
@@ -28,11 +29,13 @@ function card(hart, number, before) {
 }
 
 function code(hart, number, current) {
-  const { rows } = known.test.harts[number], end = 4 * rows.length;
+  const { rows } = known.test.harts[number], end = 4 * rows.length, notes = notesOf(state.text, number, rows);
   return el("ol", { class: "code" },
-    ...rows.flatMap(row => [...labels(number, row.pc), line(row, hart, number, row === current)]),
+    ...rows.flatMap((row, at) => [...labels(number, row.pc), ...noted(notes[at]), line(row, hart, number, row === current)]),
     ...labels(number, end));
 }
+
+const noted = note => note ? [el("li", { class: "note" }, el("span", { class: "cell", title: note }, note))] : [];
 
 const labels = (number, pc) =>
   labelsAt(number, pc).map(name => el("li", { class: "label" }, el("span", {}, `${short(name)}:`)));

@@ -2,8 +2,8 @@
 // computes a step. This module gives each control what it does, and begins.
 
 import { damaged, isStopped, trouble, waiting } from "./ask.js";
-import { placeOf, showChart } from "./chart.js";
-import { by, menu, onPress } from "./dom.js";
+import { fit, placeOf, showChart } from "./chart.js";
+import { NARROW, by, menu, onPress } from "./dom.js";
 import { drawRuns, stepRow } from "./draws.js";
 import { forgetRefused, take } from "./editor.js";
 import { compileAnew, forgetSource, openFiles } from "./files.js";
@@ -73,7 +73,7 @@ function onButtons() {
     "to-end": () => go(state.events.length), "to-break": toBreak, shrink, copy: copySchedule,
     paste: () => showPasting(by("pasting").hidden), load, link: copyLink,
     "save-schedule": saveSchedule, "save-test": saveTest, "save-picture": savePicture, "save-image": saveImage,
-    find, threads,
+    find, threads, fit,
     open: () => by("file").click(), keys: () => by("help").showModal(), signs: () => by("legend").showModal() };
   for (const [id, does] of Object.entries(presses)) onPress(id, hand(does), () => sayWhy(whyNot(id)));
   menu("saving");
@@ -156,8 +156,9 @@ function onTyping() {
 async function begin() {
   const answer = await shelf();
   Object.assign(known, { tests: answer.tests, sources: answer.sources, limits: answer.limits, can: answer.can });
-  by("program").textContent = answer.reference ? ", run by the reference, of which nothing is proved"
-    : `, run by ${answer.program}`;
+  by("program").textContent = `, run by ${answer.program}`;
+  by("built").textContent = answer.unproved;
+  by("built").hidden = !answer.unproved;
   by("open").title = `Open ${WORDS.opens}, or a test with its schedule; or drop them anywhere (o)`;
   document.body.dataset.drops = `Drop ${WORDS.opens}`;
   by("find").hidden = by("find-key").hidden = !known.can.find;
@@ -186,7 +187,10 @@ async function fromLink() {
   const link = location.hash;
   if (!isLink(link)) return false;
   history.replaceState(null, "", location.pathname);
-  return loadLink(link);
+  const isThere = await loadLink(link);
+  // who was sent a run sees its picture first
+  if (isThere && state.events.length && NARROW.matches) by("run").scrollIntoView();
+  return isThere;
 }
 
 onEvents();

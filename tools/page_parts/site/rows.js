@@ -1,6 +1,6 @@
 // Where the rows of a picture stand, and the place in the schedule that each leads to. A row's number is that of what
 // happened: an event that did nothing has none. Where rows must be higher than the program draws them, the picture is
-// stretched; where it is a little wider than its room, it is made smaller.
+// stretched; where it is a little wider than its room, or shown as a whole, it is made smaller.
 
 import { idle } from "./words.js";
 
@@ -32,15 +32,20 @@ function ofSvg(svg) {
 
 const widthOf = svg => Number(/<svg [^>]*\bwidth='(\d+)'/.exec(svg)?.[1] ?? 0);
 
-function scaleOf(svg, pitch, least, room) {
+// as large as it is read; it may be wider than its room
+function readable(svg, pitch, least, room) {
   if (least > pitch || svg === undefined) return Math.max(1, least / pitch);
   const fits = room / widthOf(svg);
   return fits < 1 && fits >= SMALLEST ? fits : 1;
 }
 
-export function rowsOf({ svg, text, outcomes }, least, room) {
+// whether it is, so that another scale shows more of it
+export const isWide = ({ svg }, least, room) => svg !== undefined && widthOf(svg) * readable(svg, SVG.pitch, least, room) > room;
+
+export function rowsOf({ svg, text, outcomes }, least, room, isWhole) {
   const places = outcomes.flatMap((outcome, at) => idle(outcome) ? [] : [at + 1]);
-  const [found, { pitch }] = svg === undefined ? [ofText(text), TEXT] : [ofSvg(svg), SVG], scale = scaleOf(svg, pitch, least, room);
+  const [found, { pitch }] = svg === undefined ? [ofText(text), TEXT] : [ofSvg(svg), SVG];
+  const scale = isWhole ? room / widthOf(svg) : readable(svg, pitch, least, room);
   const rows = found.map(([number, top]) => ({ place: places[number - 1], top: top * scale })).filter(row => row.place);
   return { rows, pitch: pitch * scale, scale };
 }

@@ -3,11 +3,11 @@
 
 import { Failed, Fault, ofLine, ofStop } from "./faults.js";
 import { limits } from "./known.js";
-import { cells, linesOf, listed, parted, trimmed } from "./listing.js";
+import { cells, codes, linesOf, listed, parted, trimmed } from "./listing.js";
 import { counted, HEAD } from "./schedules.js";
 
-// the assembler's own refusals of a cell: its name, its operands, its numbers
-const OF_CELLS = [2, 3, 4];
+// the assembler's own refusals of a cell: its name, its operands, its numbers; and those of labels, which are of a hart's code
+const OF_CELLS = [2, 3, 4], OF_LABELS = [5, 6];
 // what `find` says where it has no schedule
 const NOT_FOUND = /^ztso: (all|cut at) ([0-9]+) states(?: seen, none shows it)?$/;
 
@@ -48,11 +48,16 @@ function test(ztso, asked) {
   }
 }
 
-// the first cell of a row that the assembler refuses for its own sake, and what it says
+// the first cell of a row that the assembler refuses, for its own sake or for its label in the hart's code, and what it says
 function faultyCell(ztso, text, line) {
-  for (const [hart, cell] of cells(text, line).entries()) {
-    const { err } = ztso(["asm"], {}, cell), said = err ? ofLine(err).said : {};
-    if (OF_CELLS.includes(said.number)) return { hart, text: trimmed(cell), words: said.words.slice(0, 1) };
+  const row = cells(text, line), { code, at } = codes(text, line, row.length);
+  for (const [numbers, texts, place] of [[OF_CELLS, row], [OF_LABELS, code, at]]) {
+    for (const [hart, one] of texts.entries()) {
+      const { err } = ztso(["asm"], {}, one), said = err ? ofLine(err).said : {};
+      if (numbers.includes(said.number) && (place === undefined || place === said.place.line)) {
+        return { hart, text: trimmed(row[hart]), words: said.words.slice(0, 1) };
+      }
+    }
   }
   return null;
 }

@@ -1,1 +1,0 @@
-"""What reads, writes and runs case files."""

@@ -1,0 +1,42 @@
+/* The card looks at the wrong bit, that of the longest frames, and takes descriptors that aren't its own.
+   tagged: slots=ring,size=8,width=8,tag=ring[0].control,tells=bit:0x80000000
+   answer: not shown: hart 1 at line 36 */
+#include <stdatomic.h>
+
+#define DESCRIPTORS 8
+#define OWN 0x80000000u
+#define LONG 0x00008000u
+
+struct descriptor {
+  unsigned buffer;
+  _Atomic unsigned control;
+} ring[DESCRIPTORS];
+unsigned put, get;
+struct frame {
+  unsigned buffer, length;
+} volatile given, taken;
+
+static int transmit(unsigned buffer, unsigned length) {
+  struct descriptor *d = &ring[put];
+  if (atomic_load_explicit(&d->control, memory_order_acquire) & OWN)
+    return 0;
+  d->buffer = buffer;
+  atomic_store_explicit(&d->control, OWN | length, memory_order_release);
+  put = (put + 1) % DESCRIPTORS;
+  return 1;
+}
+
+static int fetch(volatile struct frame *frame) {
+  struct descriptor *d = &ring[get];
+  unsigned control = atomic_load_explicit(&d->control, memory_order_acquire);
+  if (!(control & LONG))
+    return 0;
+  frame->length = control & ~OWN;
+  frame->buffer = d->buffer;
+  atomic_store_explicit(&d->control, 0, memory_order_release);
+  get = (get + 1) % DESCRIPTORS;
+  return 1;
+}
+
+void P0(void) { for (;;) while (!transmit(given.buffer, given.length)) {} }
+void P1(void) { for (;;) fetch(&taken); }

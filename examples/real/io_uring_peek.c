@@ -1,0 +1,30 @@
+/* liburing's completion queue, an entry at a time: io_uring_cq_ready and io_uring_cqe_seen. The kernel's half is ours.
+   package: liburing-dev
+   queue: head=tail,tail=head,slots=entry,size=8
+   flags: -Ishims/posix -Ishims -isystem out/usr/include
+   answer: gcc 0, clang 0 */
+#include <liburing.h>
+
+static unsigned head, tail, flags;
+static struct io_uring_cqe entry[8];
+static struct io_uring ring = {.cq = {.khead = &head, .ktail = &tail, .kflags = &flags, .cqes = entry, .ring_mask = 7, .ring_entries = 8}};
+volatile int got;
+
+void P0(void) {
+  for (unsigned n = 0;; n++) {
+    while (n - io_uring_smp_load_acquire(&head) >= 8) {}
+    entry[n % 8].user_data = n;
+    entry[n % 8].res = n;
+    entry[n % 8].flags = 0;
+    io_uring_smp_store_release(&tail, n + 1);
+  }
+}
+
+void P1(void) {
+  for (;;)
+    if (io_uring_cq_ready(&ring)) {
+      struct io_uring_cqe *one = &ring.cq.cqes[*ring.cq.khead & ring.cq.ring_mask];
+      got = one->res;
+      io_uring_cqe_seen(&ring, one);
+    }
+}

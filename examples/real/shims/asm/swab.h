@@ -1,0 +1,1 @@
+/* No instruction of its own swaps bytes. */

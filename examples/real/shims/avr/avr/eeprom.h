@@ -1,0 +1,1 @@
+/* The drivers use none of it. */

@@ -1,0 +1,1 @@
+#include <rte_memory.h>

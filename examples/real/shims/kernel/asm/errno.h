@@ -1,0 +1,2 @@
+/* The C library's numbers. */
+#include <errno.h>

@@ -1,1 +1,0 @@
-"""What tests/bringing and tests/bringing-with-compilers try."""

@@ -1,4 +1,0 @@
-int x[1 << 26] = { 1 };
-int P0(int i) { return x[i]; }
-// init 0:i=1
-// exists (0:a0=0)

@@ -1,0 +1,153 @@
+"""How tools/queue words an answer: places by their names, counts in short, one line for a line of the source, the tools' own code, the verdict's end, and
+the fences that stand between records and indices."""
+
+import os
+import pty
+import re
+import subprocess
+import tempfile
+from pathlib import Path
+
+from bring_parts import ROOT, TOOLS, compilers, memory, queue_asked, queue_fences, queue_hints, queue_types, queue_words, texts
+from bring_parts.fields import Part
+from bring_trials import counting
+
+from queues import Judge
+
+NAMES = {(12, 4): "q.head", (16, 4): "q.tail", (23, 1): "rx_buf[15]"}
+# lines of `ztso queue`, and what is printed in their place
+WORDED = [
+    ("queue 0: count n is the word 0 + 1 * ((n + 0) mod 16), and it opens at 0", "queue 0: count n is the word n mod 16, and it opens at 0"),
+    ("queue 0: count n is the word 0 + 1 * ((n + 0) mod 4294967296), and it opens at 3", "queue 0: count n is the word n mod 2^32, and it opens at 3"),
+    ("queue 1: count n is the word 12 + 4 * ((n + 2) mod 6), and it opens at 0", "queue 1: count n is the word 12 + 4 * ((n + 2) mod 6), and it opens at 0"),
+    ("queue 0: count n is the word 0 + 1 * ((n + 65535) mod 65536), and it opens at 0", "queue 0: count n is the word (n - 1) mod 2^16, and it opens at 0"),
+    ("queue 0: count n is the word 8 + 1 * ((n + 0) mod 6), and it opens at 0", "queue 0: count n is the word 8 + (n mod 6), and it opens at 0"),
+    ("queue 0: it stored 7 to the 1 bytes at 23, and owned no position", "queue 0: it stored 7 to rx_buf[15], the byte at 23, and owned no position"),
+    ("queue 0: it stored 7 to the 4 bytes at 40, and is neither party", "queue 0: it stored 7 to the 4 bytes at 40, and is neither party"),
+    ("queue 0: it stored 7 to the 1 bytes at 24, and owned no position", "queue 0: it stored 7 to the byte at 24, and owned no position"),
+    ("queue 0: its head is the 4 bytes at 12, its tail those at 16", "queue 0: its head is q.head, the 4 bytes at 12, its tail q.tail, those at 16"),
+    ("queue 0: its head is the 1 bytes at 4, its tail those at 5", "queue 0: its head is the byte at 4, its tail that at 5"),
+    ("queue 0: it has 16 slots of 1 bytes from 8 on, of which 15 may be in use", "queue 0: it has 16 slots of 1 byte from 8 on, of which 15 may be in use"),
+    ("queue 0: it has 1 slots of 4 bytes from 8 on", "queue 0: it has 1 slot of 4 bytes from 8 on"),
+    ("queue 0: the 1 bytes from 0 on of each record are 3 + 1 * j, with j from 0 to 3", "queue 0: the byte from 0 on of each record is 3 + 1 * j, with j from 0 to 3"),
+    ("hart 0: never stopped", "hart 0: never stopped"),
+]
+# accesses of two harts, by the notes of their instructions, and what is left of the lines
+ACCESS = "queue 0: {} by hart {} at pc {}, sw x5,0(x6)"
+NOTES = [["9: q = r"] * 4 + ["", "", "12: q = s"], ["20: r = q"] * 2]
+JOINED = [
+    ([("stored to", 0, 0), ("stored to", 0, 4), ("stored to", 0, 12)], ["stored to by hart 0 at pc 0, sw x5,0(x6), and by 2 more of the same line, up to pc 12"]),
+    ([("stored to", 0, 0), ("loaded from", 0, 4), ("stored to", 0, 24)], [0, 1, 2]),
+    ([("stored to", 0, 16), ("stored to", 0, 20)], [0, 1]),
+    ([("loaded from", 1, 0), ("loaded from", 1, 4)], ["loaded from by hart 1 at pc 0, sw x5,0(x6), and at pc 4"]),
+    ([("loaded from", 2, 0), ("loaded from", 0, 400)], [0, 1]),
+]
+# a hart's code that calls the tools' memcpy from two lines, by its notes and instructions, and the lines for places in it
+COPY = f"{compilers.SUPPORT.name}:61"
+CALLER = (["9: a = b", "9: a = b", "11: c = d", COPY, COPY], [("addi", 5, 0, 1), ("jal", 1, 8), ("jal", 1, 4), ("lb", 5, 6, 0), ("sb", 5, 6, 0)])
+SOURCES = [(0, ["    P0 9: a = b"]), (16, ["    in memcpy, which is code of these tools and not of yours: called by", "    P0 9: a = b", "    P0 11: c = d"]),
+           (400, [])]
+# what a text's comment says, and how the verdict ends
+HEAD = "RISCV ring\n(* tools/from-{} *)\n{{"
+GCC, CLANG = "riscv64-unknown-elf-gcc (12.2.0-14+deb12u1) 12.2.0\n   -O2 -g", "Debian clang version 14.0.6\n   -O2"
+ENDS = [
+    (["a/ring.c"], f"c ring.c --compiler gcc\n   {GCC}", True, "as gcc 12.2 -O2 compiles ring.c"),
+    (["p.cpp", "c.rs"], f"object p.cpp c.rs --compiler clang\n   {CLANG}\n   rustc 1.63.0 --target riscv32ia.json -C opt-level=2", True,
+     "as clang 14.0 -O2 and rustc 1.63 -C opt-level=2 compile p.cpp and c.rs"),
+    (["ring.c"], f"c ring.c --compiler clang --fences none\n   {CLANG}", True, "as clang 14.0 -O2 compiles ring.c, without its fences"),
+    (["b.litmus"], f"c ring.c --compiler gcc\n   {GCC}", False, "in b.litmus, by its comment as gcc 12.2 -O2 compiles ring.c"),
+    (["b.litmus"], "herd of another tool", False, "in b.litmus"),
+]
+# edits of examples/queues/running_indices.litmus, what is said of its fences then, and whether there are all: a fence fewer, one that orders too little, an
+# exchange that orders by itself, and an AMO on the way that does
+SENDS, LOOKS, TAKES = "fence iorw,ow # 16", "fence iorw,iorw # 23", "fence iorw,ow # 26"
+WITHOUT = "hart 0 stores a record and then moves its index with no fence, .aq or .rl between: pc 56, sw x11,8(x14), and pc "
+FENCES = [
+    ({}, "hart 0 fence iorw,ow (pc 64); hart 1 fence iorw,iorw (pc 32), fence iorw,ow (pc 64)", True),
+    ({"P0": "addi x0,x0,0"}, WITHOUT, False),
+    ({"P0": "fence r,rw"}, WITHOUT, False),
+    ({"P0": "fence w,r"}, WITHOUT, False),
+    ({"P0": "fence w,w"}, "hart 0 fence w,w (pc 64)", True),
+    ({"P0": "fence.tso"}, "hart 0 fence.tso (pc 64)", True),
+    ({"P0": "addi x0,x0,0", "swap": ".rl"}, "hart 0 .rl of amoswap.w.rl ", True),
+    ({"P0": "addi x0,x0,0", "swap": ".aq"}, WITHOUT, False),
+]
+EXAMPLES, RING = ROOT / "examples/queues", "head=q_put,tail=q_get,slots=q_slot,size=4"
+# the types of records, as bytes of members; whether more isn't known; and what is asked of their sender by default
+MEMBERS = (("time", 0, 4), ("kind", 4, 1), ("code", 6, 2), ("data", 8, 4))
+WRITTEN = [(MEMBERS, True, "0-4,6-11"), (MEMBERS, False, None), ((*MEMBERS, ("flag", 5, 1)), True, "all"), ((("[0]", 0, 4), ("[1]", 4, 4), ("[2]", 8, 4)), True, "all")]
+
+
+def edited(text, edit):
+    """The text of running_indices.litmus with the first hart's fence, and its exchange, changed."""
+    lines = text.split("\n")
+    for at, line in enumerate(lines):
+        first, bar, second = line.partition("|")
+        if "P0" in edit and first.strip().startswith("fence iorw,ow"):
+            first = f" {edit['P0']} "
+        if "swap" in edit and first.strip().startswith("amoswap.w "):
+            first = first.replace("amoswap.w ", f"amoswap.w{edit['swap']} ")
+        lines[at] = first + bar + second
+    return "\n".join(lines)
+
+
+def fences(count, folder, program):
+    """The fences between records and indices, by the certificate of the unchanged text, which is that of each changed one too."""
+    certificate, text = Path(folder, "a.certificate"), (EXAMPLES / "running_indices.litmus").read_text()
+    counting.run("certify", EXAMPLES / "running_indices.litmus", "--queue", RING, "-o", certificate, "--program", program)
+    for edit, wanted, are_ordered in FENCES:
+        changed = texts.read(edited(text, edit), "changed").test
+        lines, ordered = queue_fences.of_answer(Judge(changed, certificate.read_text()), True)
+        said = "\n".join(lines)
+        count.told(f"the fences with {edit}", wanted in said and ordered == are_ordered and (queue_fences.ALONE in said) != are_ordered, said)
+
+
+def at_terminal(program, variables):
+    """What a terminal is shown of an answer."""
+    shows, takes = pty.openpty()
+    with subprocess.Popen([TOOLS / "queue", EXAMPLES / "running_indices.litmus", "--queue", RING, "--program", program], stdin=subprocess.DEVNULL, stdout=takes,
+                          stderr=subprocess.DEVNULL, env={**os.environ, "TERM": "xterm", **variables}) as process:
+        os.close(takes)
+        told = b""
+        try:
+            while part := os.read(shows, 4096):
+                told += part
+        except OSError:
+            pass  # the terminal's end
+        process.wait()
+    os.close(shows)
+    return told.decode()
+
+
+def types_of(members, is_whole):
+    """Slots of structs of 12 bytes with these members."""
+    dot = "" if members[0][0].startswith("[") else "."
+    parts = [Part(12 * at + begin, size, f"slot[{at}]{dot}{name}") for at in range(4) for name, begin, size in members]
+    return queue_types.Types(memory.Memory([0] * 20, [memory.Placed(12, 48, "slot", parts, is_whole=is_whole)]))
+
+
+def part(count, program):
+    for line, wanted in WORDED:
+        came = queue_words.worded(line, lambda place, width: NAMES.get((place, width)))
+        count.told(f"the words of {line}", came == wanted, came)
+    for accesses, wanted in JOINED:
+        lines = [ACCESS.format(*access) for access in accesses]
+        came, wanted = list(queue_words.joined(lines, NOTES)), [lines[each] if isinstance(each, int) else f"queue 0: {each}" for each in wanted]
+        count.told(f"the lines of {accesses}", came == wanted, str(came))
+    for pc, wanted in SOURCES:
+        notes, code = CALLER
+        came = queue_words.source_lines(0, pc, [notes + [""] * 200], code)
+        count.told(f"the source of pc {pc}", came == wanted, str(came))
+    for files, comment, is_source, wanted in ENDS:
+        came = queue_asked.where(files, HEAD.format(comment), is_source)
+        count.told(f"how the verdict on {files} ends", came == wanted, came)
+    queues = queue_hints.queues_of("queue 0 1 4 8 4 12 4 12 4 0 1 0 4294967296 0\n")
+    for members, is_whole, wanted in WRITTEN:
+        came = queue_types.written_by_types(queues, types_of(members, is_whole))
+        count.told(f"what is asked of records of {members}", came == wanted, str(came))
+    with tempfile.TemporaryDirectory() as folder:
+        fences(count, folder, program)
+    for variables, has_colour in (({}, True), ({"NO_COLOR": "1"}, False), ({"TERM": "dumb"}, False)):
+        told = at_terminal(program, variables)
+        wanted = r"\x1b\[1;32mkept in every run, .*\x1b\[0m\r\npromised: " if has_colour else r"kept in every run, [^\x1b]*\r\npromised: [^\x1b]*"
+        count.told(f"the verdict at a terminal with {variables}", re.match(wanted, told) is not None, told)

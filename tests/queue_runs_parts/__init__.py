@@ -1,1 +1,0 @@
-"""The parts of tests/queue-runs: texts with their certificates, and walks through drawn runs of them."""

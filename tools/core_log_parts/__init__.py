@@ -1,1 +1,0 @@
-"""The parts of tools/core-log-to-record, which ask the program what a test's opening is."""
