@@ -15,7 +15,7 @@ use std::mem;
 pub enum Node {
     /// Two cases follow: this variable is at most this number, or more.
     Split(u32, u64),
-    /// One case, which hands over so many positions.
+    /// One case, which hands over a form's number of positions.
     Leaf(Form),
     /// Where the leaf above it leads.
     To(Arrow),

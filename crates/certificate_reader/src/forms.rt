@@ -59,7 +59,7 @@ fn factors_of(alloc: Global, variables: usize, text: Option<&[u8]>) -> Result<Ve
     Ok(factors)
 }
 
-/// The form that a text says of so many variables.
+/// The form of this number of variables that a text says.
 #[tactic(auto, unfolding(crate::specs::FormTexts::form_of))]
 pub fn form(alloc: Global, variables: usize, text: &[u8]) -> Result<Form, LineError>
     ensures { GivesUpToMemory refusal_of (λ form. form) result (form_of variables text.now) }
@@ -152,7 +152,7 @@ fn bits(text: &[u8]) -> Result<KnownValue, LineError>
     Ok(has_bits(mask, bits))
 }
 
-/// The value that a text says of so many queues and variables.
+/// The value that a text says, where there are these numbers of queues and of variables.
 #[tactic(auto, unfolding(crate::specs::FormTexts::known_value_in))]
 pub fn value(
     alloc: Global,

@@ -64,7 +64,7 @@ pub fn ranges(alloc: Global, text: &[u8]) -> Result<Vec<Option<u64>>, LineError>
     Ok(ranges)
 }
 
-/// The forms of so many variables that the words say.
+/// The forms, of this number of variables, that the words say.
 #[tactic(auto, unfolding(crate::specs::Lists::forms_in, texts::specs::Formats::each))]
 pub fn forms(alloc: Global, variables: usize, text: &[u8]) -> Result<Vec<Form>, LineError>
     ensures { GivesUpToMemory refusal_of (λ forms. forms.items) result (forms_in variables (tokens text.now)) }

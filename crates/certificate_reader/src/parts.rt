@@ -132,7 +132,7 @@ pub fn set_share(
     Ok(())
 }
 
-/// Of so many registers or words nothing is known.
+/// Of this number of registers or words nothing is known.
 pub fn unknown(alloc: Global, count: usize) -> Result<Vec<KnownValue>, AllocError>
     ensures { IfOk result (λ values. values.items ≡ replicate count any) }
 {
@@ -143,7 +143,7 @@ pub fn unknown(alloc: Global, count: usize) -> Result<Vec<KnownValue>, AllocErro
     Ok(values)
 }
 
-/// Of so many queues the hart has no share.
+/// Of this number of queues the hart has no share.
 pub fn no_shares(alloc: Global, count: usize) -> Result<Vec<Share>, AllocError>
     ensures { IfOk result (λ shares. shares.items ≡ replicate count no_share) }
 {

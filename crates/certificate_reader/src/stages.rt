@@ -50,9 +50,9 @@ pub enum Stage {
     State,
     /// What is known in the state.
     Known,
-    /// A split, after which so many cases are wanted.
+    /// A split, after which this number of cases is wanted.
     Split(usize),
-    /// A leaf or where it leads, after which so many cases are wanted.
+    /// A leaf or where it leads, after which this number of cases is wanted.
     Leaf(usize),
 }
 

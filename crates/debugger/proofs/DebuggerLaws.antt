@@ -74,7 +74,7 @@ pub undone_of : (xs : List Source) (given : List Source) (left undone : ℕ) →
     → undone ≡ scheduled (take (length given - left) (drop left given)) → undone ≡ scheduled (drop left xs)
 undone_of xs given left undone same is = grind (arith, take_all, length-drop)
 
--- and the schedule's place has at least so many before it
+-- and the schedule's place has at least this number before it
 pub undone_within : (w : DebuggerState) (left undone : ℕ) → IsWellFormed w → undone ≡ scheduled (drop left w.sources) → undone ≤ w.place
 undone_within w left undone kept is = omega (arith, is, scheduled-split left w.sources, kept.place)
 

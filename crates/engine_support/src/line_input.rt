@@ -26,7 +26,7 @@ fn len_through(bytes: &[u8]) -> usize
     bytes.len()
 }
 
-/// The first of these bytes, at most so many.
+/// The first of these bytes, at most `most`.
 #[tactic(auto, using(std::proofs::lemmas::List::take_min))]
 fn front_of(bytes: &[u8], most: usize) -> &[u8]
     ensures { result.now ≡ take most bytes.now }

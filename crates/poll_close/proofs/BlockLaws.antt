@@ -46,7 +46,7 @@ pub record Changes (m : BlockInvariant) (k : SenderBlock) (n : Count m) (after :
   pub order : m.CounterInvariant k (record n { receiver = after })
   pub stores : AreNext (m.receiver_stores k) (m.taken n.receiver) (m.taken after) stored
 
--- a store landed: memory is new, and so many of the sender's have landed, and of the receiver's
+-- a store landed: memory is new, and these are the numbers of the sender's and of the receiver's that have landed
 pub record Lands (m : BlockInvariant) (k : SenderBlock) (n : Count m) (new : ℕ → ℕ) (gone freed : ℕ) : Type 0 where
   pub after : m.Landed
   pub order : m.CounterInvariant k (record n { landed = after })

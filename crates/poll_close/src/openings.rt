@@ -157,7 +157,7 @@ fn fits_at(place: BlockPlace, count: usize, words: &[u32], m: usize) -> bool
         && words.len() <= m
 }
 
-/// Whether a channel of these programs over these lists at a place, with rings of at least so many slots, fits a memory of `m`
+/// Whether a channel of these programs over these lists at a place, with rings of at least `least` slots, fits a memory of `m`
 /// words that opens with these, and if not why.
 fn judge_at(
     _sender: &[u32],

@@ -46,7 +46,7 @@ module _ (q : Queue) (is : IsQueue q) (p : Party) (c : QueueCounts) where
             ∙ ap (λ k. with_known p k c) (least-near q is (known p c) sees.there sees.from (near sees.there tells sees.room sees.upto)),
       )
 
-  -- a store to the own index of the word of the own count and d more, where so many are owned
+  -- a store to the own index of the word of the own count and d more, where d are owned
   pub moves : (w : Write) (d : ℕ) → w.addr ≡ index q p → w.width ≡ q.index_width → w.value ≡ index_word q (count p c + d) → d < q.modulus
       → count p c + d ≤ end q p c → MovesOn q p c w × (moved q p (count p c) w ≡ count p c + d)
   moves w d place width word near_by owned =

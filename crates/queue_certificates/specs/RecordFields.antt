@@ -3,7 +3,7 @@ use Rattle.std.specs.Prelude.{ℕ, ◌≡◌, ◌+◌, ◌*◌, ◌≤◌}
 use Rattle.slot_queue.specs.Queues.{Queue, slot_of}
 use Rattle.certified_runs.specs.Views.{View, number_seen}
 
--- the number of so many bytes from `at` on is one of low, low + step .. low + step * count
+-- the number of `width` bytes from `at` on is one of low, low + step .. low + step * count
 pub record Field : Type 0 where
   pub at : ℕ
   pub width : ℕ

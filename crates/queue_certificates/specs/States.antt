@@ -20,7 +20,7 @@ pub data KnownValue : Type 0 where
   ends_as : (bits : ℕ) (f : Form) → KnownValue
   has_bits : (mask bits : ℕ) → KnownValue
 
--- of a queue of which the hart is a party: its own count, and how many positions it owns, exactly so many
+-- of a queue of which the hart is a party: its own count, and the exact number of positions that it owns
 pub record Share : Type 0 where
   pub own : Form
   pub owned : Form

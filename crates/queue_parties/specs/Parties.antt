@@ -46,7 +46,7 @@ abbrev pub with_known : Party → (n : ℕ) → QueueCounts → QueueCounts
 with_known the_sender n c = record c { known_taken = n }
 with_known the_receiver n c = record c { known_published = n }
 
--- Neither party knows of more than there is, and neither has moved past what it knows, where so many positions may be in use at once
+-- Neither party knows of more than there is, and neither has moved past what it knows, where at most `capacity` positions may be in use at once
 pub record IsWindow (capacity : ℕ) (c : QueueCounts) : Type 0 where
   pub known_published : c.known_published ≤ c.published
   pub published : c.published ≤ c.known_taken + capacity

@@ -15,7 +15,7 @@ slot_from slots width size k = slots + width * (k % size)
 abbrev pub IsPrefix : List ℕ → List ℕ → Type 0
 IsPrefix xs ys = (rest : List ℕ) × (ys ≡ xs ++ rest)
 
--- a number for each of so many positions from k on
+-- a number for each position from k on, for `number` of them
 unfoldable pub numbers_from : (ℕ → ℕ) → (k number : ℕ) → List ℕ
 numbers_from R k zero = []
 numbers_from R k (suc number) = R k ∷ numbers_from R (k + 1) number

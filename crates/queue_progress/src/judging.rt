@@ -71,7 +71,7 @@ fn progress_with(
     }
 }
 
-/// What is found where a party owns at most so many positions while it waits.
+/// What is found where a party owns at most `owned` positions while it waits.
 fn progress_owning(alloc: Global, graph: &[Node], owned: u64) -> Result<Progress, Lack>
     ensures { IfOk result (λ progress. progress ≡ progress_owning graph.now owned) }
 {

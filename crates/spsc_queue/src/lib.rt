@@ -107,7 +107,7 @@ pub fn tables_mean()
 ///   or the slot holds 0), all words that are available are taken, except just those that the sender's pending stores hold back: of
 ///   Lamport's the pending heads count, of FastForward's the pending words.
 /// - `linearization_of_full`: where a sender that has read its head looks for room and sees none (the tail is the next
-///   offset, or the slot holds a word), just so many words are stored and not taken as the queue holds, less the slots that the
+///   offset, or the slot holds a word), as many words are stored and not taken as the queue holds, less the slots that the
 ///   receiver's pending stores hold back: of Lamport's the pending tails count, of FastForward's the pending zeros.
 /// - `availability_of_words`: where a receiver looks for a word, it sees one if at an earlier point more words were available than it has
 ///   taken, without those that pending stores held back there. So what has landed is found.

@@ -34,7 +34,7 @@ abbrev pub noted_after : AnyQueue → RunNotes → Outcome → RunNotes
 noted_after q notes (outcome.Did e) = noted_more q notes e
 noted_after q notes nothing_done = notes
 
--- what is noted after so many events is so small
+-- how large what is noted after i events may be
 pub record AreNotesWithin (i : ℕ) (notes : RunNotes) : Type 0 where
   pub counts : AreCountsWithin (2 ^ 64 - 1 + STEP * i) (2 ^ 64 - 1 + STEP * i) notes.counts
   pub place : notes.place ≤ i

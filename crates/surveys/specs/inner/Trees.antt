@@ -14,7 +14,7 @@ four_numbers key =
 abbrev pub node_at : (nodes : List (List ℕ)) → (number : ℕ) → List ℕ
 node_at nodes number = four_numbers (slice_index_or nodes number (replicate 2 0))
 
--- the words below these numbers, if there are so many levels of nodes below them
+-- the words below these numbers, where this is how many levels of nodes are below them
 abbrev pub words_below : (nodes : List (List ℕ)) → (levels : ℕ) → (numbers : List ℕ) → List ℕ
 words_below nodes zero numbers = numbers
 words_below nodes (suc levels) numbers = words_below nodes levels (flat_map (node_at nodes) numbers)
