@@ -83,7 +83,7 @@ pub fn signed_for(i: u32, form: Form) -> KnownValue
     }
 }
 
-/// A number of this many bits that ends in as many zeros as the form, and is 0 where all these bits of the form are.
+/// A number of `bits` bits that ends in as many zeros as the form, and is 0 where all these bits of the form are.
 pub fn ends_as(bits: u32, form: Form) -> KnownValue
     ensures { result ≡ ends_as bits form }
 {

@@ -16,7 +16,7 @@ use Rattle.queue_certificates.specs.Forms.{Form, number, first_variable, plus, t
 use Rattle.queue_certificates.specs.Forms.{remainder_word, Bounds, bounds_of}
 use Rattle.queue_certificates.specs.States.{KnownValue, any, linear, index_for, signed_for, ends_as, has_bits, value_by, scaled}
 
--- a value over one variable more, the first, which is at most so much
+-- a value over one variable more, the first, which is at most `most`
 pub record Result : Type 0 where
   pub most : ℕ
   pub value : KnownValue

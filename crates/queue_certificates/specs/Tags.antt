@@ -120,7 +120,7 @@ told_by codec.Number the_receiver f = number_of (plus f (number 1))
 told_by (codec.Bit mask free full) the_sender f = bits_are mask free
 told_by (codec.Bit mask free full) the_receiver f = bits_are mask full
 
--- the position, so much further than the own count, and the other party's own position of that slot, which are alike modulo 2 ^ 32
+-- a position ahead of the own count, and the other party's own position of that slot, which are alike modulo 2 ^ 32
 abbrev pub back_to : TaggedQueue → Party → ℕ
 back_to q the_sender = 0
 back_to q the_receiver = 2 ^ 32 - q.size % 2 ^ 32
@@ -143,7 +143,7 @@ value_told op something = some_up_to (most_loaded op)
 value_told op (number_of f) = just (linear f)
 value_told op (bits_are mask bits) = just (of_bits (bit_or (extended op mask) (bits_above op)) (extended op bits))
 
--- what a party loads where the tag tells it of the position so much further, and where it tells the other party
+-- what a party loads where the tag tells it of the position this far ahead of its own count, and where it tells the other party
 abbrev pub told_value : Codec → Party → LoadOp → (own : Form) → (position : ℕ) → Result
 told_value c p op own j = value_told op (told_by c p (plus own (number j)))
 
@@ -204,8 +204,8 @@ loads_rest tagged queues N k t (Some (Amo op rd rs1 rs2 aq rl)) =
     reads_rest k.ranges (tagged t) (share_at k (N + t)) (operand queues k rs1) (exchanged queues k rs1) 4
 loads_rest tagged queues N k t other = true
 
--- ---- where there are queues with tags beside N with indices: a load by a party of the tag of the position so much further than its own
--- count, and a store by it
+-- ---- where there are queues with tags beside N with indices: a load by a party of the tag of a position ahead of its own count,
+-- and a store by it
 
 module _ (tagged : ℕ → TaggedQueue) (N : ℕ) where
   abbrev pub tag_by : KnownState → Option Party → (place : KnownValue) → (width t : ℕ) → Option ℕ

@@ -19,7 +19,7 @@ use Rattle.spsc_queue.proofs.Growing.{word_ahead, length-firsts}
 use Rattle.spsc_queue.proofs.Points.{At}
 
 -- word j lies in its slot since a point of the run: no other hart had a store pending over it there, and since then nobody has written there.
--- No hart at all had one, or the last store of the sender's was that of word j, before which as many were made as make j words available
+-- No hart had one there, or the sender's last store was that of word j, and its stores before that one make j words available
 pub record Kept (k : Kind) (r : RingBuffer) (L : ℕ → ℕ) (o : OpeningValue) (b : ℕ) (now : List Entry) (j : ℕ) : Type 0 where
   pub front : List Entry
   pub back : List Entry
@@ -42,7 +42,7 @@ pub record Stored (k : Kind) (r : RingBuffer) (L : ℕ → ℕ) (o : OpeningValu
   pub alone : k ≡ lamport → (y : ℕ) → r.slots ≤ y → y < r.slots + 4 * r.size → IsOnlyWriter r.sender y now
   pub words : (j : ℕ) → s.taken ≤ j → j < s.stored → Kept k r L o b now j
 
--- and the sender made this number of publishing stores, and the receiver this number of freeing ones, with b and d that they had made before
+-- and the sender's publishing stores, less b made before, are as the available words say; the receiver's freeing ones, less d, as the taken words
 pub record Content (k : Kind) (r : RingBuffer) (L : ℕ → ℕ) (o : OpeningValue) (b d : ℕ) (now : List Entry) (s : ProtocolState) : Type 0 where
   pub contents : Stored k r L o b now s
   pub open contents use *

@@ -92,7 +92,7 @@ asked-of r n m c (asked u) h = (h.1, h.0)
 asked-of r n m c (holding u w) h = (h.1, h.0)
 asked-of r n m c (cleared u) h = (h.1, h.0)
 
--- as many are published and taken as the state says, and each party reads in its index its place
+-- as many are published and taken as the state says, and each party reads its place in its index
 pub record Agrees (r : RingBuffer) (o : OpeningValue) (es : List Entry) (s : ProtocolState) (c : QueueCounts) : Type 0 where
   pub published : c.published ≡ r.start + s.stored
   pub taken : c.taken ≡ r.start + s.taken
