@@ -129,7 +129,7 @@ class Reader:
 
     def __init__(self, path, lines):
         self.path, self.lines, self.at = path, lines, 0
-        self.found = []
+        self.found = {}
 
     def refused(self, why):
         return FormError(f"{self.path}:{self.at}: {why}")
@@ -145,10 +145,10 @@ class Reader:
         return line
 
     def cases(self):
-        found, case = self.found, None
+        case = None
         while (line := self.next_line()) is not None:
             if line.startswith("== "):
-                case = self.opened(line[3:], found)
+                case = self.opened(line[3:])
             elif case and line and not line.startswith("#"):
                 self.take(case, line)
             elif line.startswith("#"):
@@ -160,7 +160,7 @@ class Reader:
                 case.end = self.at
                 while not self.lines[case.end - 1]:
                     case.end -= 1
-        for case in found:
+        for case in self.found.values():
             self.at = case.line
             if case.words is None:
                 raise self.refused(f"{case.name} has no line `$ ztso ..`")
@@ -170,15 +170,15 @@ class Reader:
                 raise self.refused(f"{case.name} has no text that is typed, or no pipe for the answers")
             if case.wiped is not None and (case.typed not in (None, "in-two-pieces") or case.needs_shell()):
                 raise self.refused(f"{case.name} has another way of running than with standard error at a terminal")
-        return found
+        return list(self.found.values())
 
-    def opened(self, name, before):
+    def opened(self, name):
         if not NAME.fullmatch(name):
             raise self.refused("a case's name has no blank and no slash")
-        if any(case.name == name for case in before):
+        if name in self.found:
             raise self.refused(f"a second case {name}")
-        before.append(Case(name, None, path=self.path, line=self.at))
-        return before[-1]
+        self.found[name] = Case(name, None, path=self.path, line=self.at)
+        return self.found[name]
 
     def take(self, case, line):
         """Takes a line that isn't a case's first, and the text behind it where it opens one."""
@@ -219,8 +219,8 @@ class Reader:
     def take_like(self, case, rest):
         """Takes the line that makes a case of one above: the same, with another line in its file."""
         form = LIKE.fullmatch(rest)
-        base = next((base for base in self.found[:-1] if form and base.name == form[1]), None)
-        if base is None or not base.is_plain() or substance(case) != substance(Case(case.name, None)):
+        base = self.found.get(form[1]) if form else None
+        if base is None or base is case or not base.is_plain() or substance(case) != substance(Case(case.name, None)):
             raise self.refused("a case is `like NAME, with line N: TEXT`, where NAME above has one file and no stream")
         (name, pieces), = base.files.items()
         lines, number = lines_in(pieces), int(form[2])

@@ -81,29 +81,40 @@ class Place:
 
 
 def part(count, program):
+    """In a checkout, and what the two places have in common."""
     with workplace(program) as (folder, alone):
         prefix, top = folder / "prefix", checkout(folder / "checkout", alone)
-        install("--prefix", prefix, "--program", alone)
-        (folder / "bad.litmus").write_text("no test\n")
-        share = prefix / "share/ztso"
-        places = [
-            Place("installed", prefix / "bin/ztso", share, prefix / "bin/ztso-explain", manual_of(prefix),
-                  said_of(program)),
-            Place("in a checkout", top / "ztso", top, top / "tools/explain", f"man {top}/docs/ztso.1")]
-        for place in places:
-            in_a_pipe(count, place, folder)
-            after_bad_words(count, place, folder)
-            after_faults(count, place, folder)
-            nothing_added(count, place, folder, alone)
-            drawn(count, place, folder, alone)
-            slips(count, place, folder, alone)
-            faulty_places(count, place, folder)
+        places = [installed_at(prefix, program, alone), Place("in a checkout", top / "ztso", top, top / "tools/explain", f"man {top}/docs/ztso.1")]
+        added(count, places[1], folder, alone)
         short_names(count, places, prefix, top)
         which(count, places, alone, folder)
         by_rustc(count, checkout(folder / "by-rustc", alone), folder)
         if is_binary(program):
-            progress(count, places[0], share)
-            prompt(count, places[0], share)
+            progress(count, places[0], places[0].pages)
+            prompt(count, places[0], places[0].pages)
+
+
+def installed(count, program):
+    """Where it is installed."""
+    with workplace(program) as (folder, alone):
+        added(count, installed_at(folder / "prefix", program, alone), folder, alone)
+
+
+def installed_at(prefix, program, alone):
+    install("--prefix", prefix, "--program", alone)
+    return Place("installed", prefix / "bin/ztso", prefix / "share/ztso", prefix / "bin/ztso-explain", manual_of(prefix), said_of(program))
+
+
+def added(count, place, folder, alone):
+    """What the wrapper adds at this place, at a terminal and elsewhere."""
+    (folder / "bad.litmus").write_text("no test\n")
+    in_a_pipe(count, place, folder)
+    after_bad_words(count, place, folder)
+    after_faults(count, place, folder)
+    nothing_added(count, place, folder, alone)
+    drawn(count, place, folder, alone)
+    slips(count, place, folder, alone)
+    faulty_places(count, place, folder)
 
 
 def manual_of(prefix):
