@@ -8,7 +8,7 @@ FILE = TOP / "scripts/costs.tsv"
 KINDS = ("proof", "tests", "mutants")
 # by how much a crate's proof may become slower, and how many seconds it must be at least
 SLOWER, SECONDS = 1.2, 10
-# from so many crates on their middle ratio is that of two machines, and not of what became slower
+# from this many crates on their middle ratio is that of two machines, and not of what became slower
 MACHINES = 10
 
 
@@ -44,7 +44,7 @@ class Costs:
         return self.proof(name) + max((self.chain(other, among) for other in above), default=0)
 
     def length(self, names, lanes):
-        """How long the proofs of these crates take side by side, on so many processors as there are lanes."""
+        """How long the proofs of these crates take side by side, on as many processors as there are lanes."""
         ends, free, left = {}, [0.0] * lanes, set(names)
         while left:
             ready = [name for name in left if not any(low in left for low in self.crates.uses[name])]

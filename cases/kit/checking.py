@@ -11,7 +11,7 @@ KINDS = ("short", "all")
 BUILD = "build"
 # the processor seconds of a short run at most, with room for a fifth more
 MOST, ROOM = 300, 1.2
-# a part is slower only if it takes so many seconds more, and so many parts were tried: their middle ratio is that of two machines
+# a part is slower only if it takes this many seconds more, and at least this many parts were tried: their middle ratio is that of two machines
 SECONDS, MACHINES = 3, 6
 
 

@@ -38,7 +38,7 @@ def visible_lines(text):
 
 
 def moved(head, above):
-    """The head of a part of a difference, as it is where so many lines stand above."""
+    """The head of a part of a difference, as it is where this many lines stand above."""
     def numbers(span):
         line, comma, count = span[1:].partition(",")
         return f"{span[0]}{int(line) + above}{comma}{count}"

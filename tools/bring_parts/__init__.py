@@ -24,7 +24,7 @@ from . import provenance  # noqa: E402
 
 # what the program reads of a text at most
 MOST = 1 << 20
-# so many names are named in place of one that isn't there, if so much of them is the same
+# this many names are named in place of one that isn't there, if this much of them is the same
 NEAREST, LIKE = 3, 0.6
 
 

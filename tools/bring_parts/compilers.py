@@ -175,7 +175,7 @@ def binutil(name):
 
 
 def limited(file_bytes):
-    """A command may write so much, and no more, and no image of its memory where it crashes."""
+    """A command may write `file_bytes` bytes, and no more, and no image of its memory where it crashes."""
     resource.setrlimit(resource.RLIMIT_FSIZE, (file_bytes, file_bytes))
     resource.setrlimit(resource.RLIMIT_CORE, (0, 0))
 

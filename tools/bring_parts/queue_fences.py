@@ -18,7 +18,7 @@ ORDERS = (("sender", STORES, MOVES, WRITE, WRITE), ("receiver", LOOKS, LOADS, RE
 ALONE = "the order of the record and its index rests on Ztso alone"
 # the verdict where a fence is asked for and isn't there
 LACKING = "kept, but without the fences that are required"
-# so many fences are named
+# this many fences are named
 SHOWN = 4
 
 

@@ -17,7 +17,7 @@ PROMISED = re.compile(r"(?:not )?promised: |nothing is claimed$")
 SHOWN = "shown by this schedule"
 POWERS = {1 << 16: "2^16", 1 << 32: "2^32"}
 NOTE_OF_SUPPORT = re.compile(rf"{re.escape(compilers.SUPPORT.name)}:([0-9]+)")
-# of so many calls of a function of the support code the lines are named
+# of this many calls of a function of the support code the lines are named
 CALLS = 3
 
 

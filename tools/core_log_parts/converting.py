@@ -65,7 +65,7 @@ def made_of_runs(runs, test, asked):
 
 
 def parts_of(text, count):
-    """A log's text in about so many parts, each of whole runs: where each begins, and its first line's number."""
+    """A log's text in about `count` parts, each of whole runs: where each begins, and its first line's number."""
     begins = [shape.start() for shape in BEGIN.finditer(text)][1:]
     wanted = [len(text) * number // count for number in range(1, count)]
     cuts = sorted({next((begin for begin in begins[len(begins) * number // count:] if begin >= goal), len(text))

@@ -111,7 +111,7 @@ def faulty_cell(refused, text, line):
 
 def codes(text, line, count):
     """Each hart's code as assembly, a line for each line below the harts' names, and which of them begins on a line of the text.
-    It is blank for what is no row with so many cells."""
+    It is blank for what is no row with this many cells."""
     bare = without_comments(text)
     head = HARTS.search(bare)
     begin = sum(len(one) + 1 for one in text.split("\n")[:line - 1])

@@ -27,7 +27,7 @@ HEADERS = {
     "X-Content-Type-Options": "nosniff", "Referrer-Policy": "no-referrer", "Cache-Control": "no-store",
     "Cross-Origin-Resource-Policy": "same-origin", "Cross-Origin-Opener-Policy": "same-origin"}
 JSON = "application/json"
-# no length that is let in has so many
+# no length that is let in has this many digits
 DIGITS = 18
 
 

@@ -3,7 +3,7 @@
 import { ask } from "./ask.js";
 import { known, state } from "./state.js";
 
-// the harts that stop where all take turns for so many events, each with the number of its stop
+// the harts that stop where all take turns for `length` events, each with the number of its stop
 export async function stops(length) {
   const turns = known.test.harts.flatMap((_, hart) => [`a${hart}`, `l${hart}`]);
   const tokens = Array.from({ length }, (_, at) => turns[at % turns.length]).join(" ");

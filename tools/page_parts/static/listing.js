@@ -113,7 +113,7 @@ export function cells(text, line) {
 }
 
 // each hart's code as assembly, a line for each line below the harts' names, and which of them begins on a line of the text. It
-// is blank for what is no row with so many cells
+// is blank for what is no row with this many cells
 export function codes(text, line, count) {
   const bare = withoutComments(text), head = HARTS.exec(bare), end = head ? head.index + head[0].length : bare.length;
   const begin = text.split("\n").slice(0, line - 1).reduce((sum, one) => sum + one.length + 1, 0);
