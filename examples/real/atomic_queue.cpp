@@ -4,7 +4,7 @@
 // tagged: slots=room.queue.elements_,size=8
 // flags: -DNDEBUG -std=c++17 -U__UINT32_TYPE__ -D__UINT32_TYPE__=unsigned -Ishims/threads -isystem out/usr/include
 // clang: -fstandalone-debug
-// answer: gcc 10, clang 10
+// answer: gcc 0, clang 0
 #include <atomic_queue/atomic_queue.h>
 
 [[clang::no_destroy]] static union Room {

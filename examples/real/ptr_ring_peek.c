@@ -2,7 +2,7 @@
    package: linux-headers-6.12.117+deb12-common
    tagged: slots=slot,size=8
    flags: -D__KERNEL__ -Ishims/kernel -isystem out/usr/src/linux-headers-6.12.117+deb12-common/include
-   answer: gcc 10, clang 10 */
+   answer: gcc 0, clang 0 */
 #include <linux/ptr_ring.h>
 
 static void *slot[8];
