@@ -245,7 +245,8 @@ on_file_and_certificate options found = do
   file ← file_in (codes "file") options
   certificate ← file_in (codes "certificate") options
   written ← bytes_if_given (options (codes "written"))
-  Some (record (two_inputs command capacity file certificate) { written = written })
+  read ← bytes_if_given (options (codes "read"))
+  Some (record (two_inputs command capacity file certificate) { written = written; read = read })
 
 abbrev pub on_schedule_and_standard : Found → Option Command → Option Wanted
 on_schedule_and_standard options found = do

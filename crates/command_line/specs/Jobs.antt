@@ -11,7 +11,8 @@ pub data Input : Type 0 where
   Standard : Input
   File : (path : List ℕ) → Input
 
--- a command, the buffers of its machine, its inputs in the order in which they are read, and the bytes that are asked about, if any are
+-- A command, the buffers of its machine, its inputs in the order in which they are read, and the bytes of records that are asked about, if any
+-- are: those that are to be written, and those that are to be read
 pub record Wanted : Type 0 where
   pub command : Command
   pub capacity : Capacity
@@ -20,11 +21,12 @@ pub record Wanted : Type 0 where
   pub third : Option Input
   pub fourth : Option Input
   pub written : Option (List ℕ)
+  pub read : Option (List ℕ)
 
 module _ (command : Command) (capacity : Capacity) where
   abbrev pub wanted_of : (first : Input) → (second third fourth : Option Input) → Wanted
   wanted_of first second third fourth =
-      record { command = command; capacity = capacity; first = first; second = second; third = third; fourth = fourth; written = None }
+      record { command = command; capacity = capacity; first = first; second = second; third = third; fourth = fourth; written = None; read = None }
 
   abbrev pub one_input : Input → Wanted
   one_input first = wanted_of first None None None
@@ -52,4 +54,5 @@ wanted_by job = record {
   third = option_map input_by job.third;
   fourth = option_map input_by job.fourth;
   written = option_map (λ bytes. bytes.now) job.written;
+  read = option_map (λ bytes. bytes.now) job.read;
 }

@@ -118,6 +118,7 @@ pub const COMMANDS: [Row; 18] = [
             JOBS,
             Required("certificate"),
             Optional("written"),
+            Optional("read"),
             Flag("harts"),
             Flag("safety"),
         ],

@@ -166,4 +166,6 @@ pub struct Job<'a> {
     /// Which bytes of each record the sender of a queue is to write, as [`record_bytes::is_bytes`] takes them; `None` where none is asked
     /// about.
     pub written: Option<&'a str>,
+    /// The same of those that its receiver is to read.
+    pub read: Option<&'a str>,
 }

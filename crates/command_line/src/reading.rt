@@ -125,6 +125,7 @@ fn on_standard<'a>(options: &ArgMatches<'a>, command: Option<Command>) -> Option
         third: None,
         fourth: None,
         written: None,
+        read: None,
     })
 }
 
@@ -142,6 +143,7 @@ fn on_file<'a>(options: &ArgMatches<'a>, command: Option<Command>) -> Option<Job
         third: None,
         fourth: None,
         written: None,
+        read: None,
     })
 }
 
@@ -160,6 +162,7 @@ fn on_file_and_schedule<'a>(options: &ArgMatches<'a>, command: Option<Command>) 
         third: None,
         fourth: None,
         written: None,
+        read: None,
     })
 }
 
@@ -177,6 +180,7 @@ fn on_file_and_standard<'a>(options: &ArgMatches<'a>, command: Option<Command>) 
         third: None,
         fourth: None,
         written: None,
+        read: None,
     })
 }
 
@@ -191,6 +195,7 @@ fn on_file_and_certificate<'a>(
     let file = word_in(options, "file")?;
     let certificate = word_in(options, "certificate")?;
     let written = bytes_if_given(word_in(options, "written"))?;
+    let read = bytes_if_given(word_in(options, "read"))?;
     Some(Job {
         command,
         capacity,
@@ -199,6 +204,7 @@ fn on_file_and_certificate<'a>(
         third: None,
         fourth: None,
         written,
+        read,
     })
 }
 
@@ -219,6 +225,7 @@ fn on_schedule_and_standard<'a>(
         third: None,
         fourth: None,
         written: None,
+        read: None,
     })
 }
 
@@ -241,6 +248,7 @@ fn on_programs_and_standard<'a>(
         third: Some(Input::Standard),
         fourth: None,
         written: None,
+        read: None,
     })
 }
 
@@ -275,6 +283,7 @@ fn on_own_channel<'a>(options: &ArgMatches<'a>) -> Option<Job<'a>>
         third: Some(Input::File(schedule)),
         fourth: Some(Input::Standard),
         written: None,
+        read: None,
     })
 }
 
