@@ -59,9 +59,10 @@ ENDS = [
     (["b.litmus"], "herd of another tool", False, "in b.litmus"),
 ]
 # edits of examples/queues/running_indices.litmus, what is said of its fences then, and whether there are all: a fence fewer, one that orders too little, an
-# exchange that orders by itself, and an AMO on the way that does
-SENDS, LOOKS, TAKES = "fence iorw,ow # 16", "fence iorw,iorw # 23", "fence iorw,ow # 26"
+# exchange that orders by itself, and an AMO on the way that does; and for the receiver fences that order just enough, or one kind of access too few
 WITHOUT = "hart 0 stores a record and then moves its index with no fence, .aq or .rl between: pc 56, sw x11,8(x14), and pc "
+NO_LOOK = "hart 1 looks at the other's index and then loads a record with no fence, .aq or .rl between: "
+NO_TAKE = "hart 1 loads a record and then moves its index with no fence, .aq or .rl between: "
 FENCES = [
     ({}, "hart 0 fence iorw,ow (pc 64); hart 1 fence iorw,iorw (pc 32), fence iorw,ow (pc 64)", True),
     ({"P0": "addi x0,x0,0"}, WITHOUT, False),
@@ -71,6 +72,10 @@ FENCES = [
     ({"P0": "fence.tso"}, "hart 0 fence.tso (pc 64)", True),
     ({"P0": "addi x0,x0,0", "swap": ".rl"}, "hart 0 .rl of amoswap.w.rl ", True),
     ({"P0": "addi x0,x0,0", "swap": ".aq"}, WITHOUT, False),
+    ({"looks": "fence r,r"}, "hart 1 fence r,r (pc 32), fence iorw,ow (pc 64)", True),
+    ({"looks": "fence r,w"}, NO_LOOK, False), ({"looks": "fence w,r"}, NO_LOOK, False),
+    ({"takes": "fence r,w"}, "hart 1 fence iorw,iorw (pc 32), fence r,w (pc 64)", True),
+    ({"takes": "fence r,r"}, NO_TAKE, False), ({"takes": "fence w,w"}, NO_TAKE, False),
 ]
 EXAMPLES, RING = ROOT / "examples/queues", "head=q_put,tail=q_get,slots=q_slot,size=4"
 # the types of records, as bytes of members; whether more isn't known; and what is asked of their sender by default
@@ -79,7 +84,7 @@ WRITTEN = [(MEMBERS, True, "0-4,6-11"), (MEMBERS, False, None), ((*MEMBERS, ("fl
 
 
 def edited(text, edit):
-    """The text of running_indices.litmus with the first hart's fence, and its exchange, changed."""
+    """The text of running_indices.litmus with the first hart's fence, its exchange, and the second one's fences, changed."""
     lines = text.split("\n")
     for at, line in enumerate(lines):
         first, bar, second = line.partition("|")
@@ -87,6 +92,9 @@ def edited(text, edit):
             first = f" {edit['P0']} "
         if "swap" in edit and first.strip().startswith("amoswap.w "):
             first = first.replace("amoswap.w ", f"amoswap.w{edit['swap']} ")
+        for key, fence in (("looks", "fence iorw,iorw"), ("takes", "fence iorw,ow")):
+            if key in edit and second.strip().startswith(fence):
+                second = f" {edit[key]} ;"
         lines[at] = first + bar + second
     return "\n".join(lines)
 
