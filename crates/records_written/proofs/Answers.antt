@@ -1,16 +1,16 @@
 -- There is at most one answer: all is sure, or one byte is the first that isn't.
-use Rattle.std.proofs.Common.{ℕ, ◌≡◌, ◌<◌, ◌⊎◌, arith, inl, inr, Bool, true, false, List, [], length, get_or, refl, subst, sym, ◌∙◌}
+use Rattle.std.proofs.Common.{ℕ, ◌≡◌, ◌<◌, arith, inl, inr, Bool, true, false, List, [], length, get_or, refl, subst, sym, ◌∙◌}
 use Rattle.std.proofs.lemmas.Bool.{cases_lt}
 use Rattle.std.proofs.lemmas.List.{get_or_past}
-use Rattle.records_written.specs.SenderLeaves.{SenderLeaf, may_publish}
-use Rattle.records_written.specs.Sure.{IsSurelyWritten, IsSure, IsFirstUnsure}
+use Rattle.records_written.specs.PartyLeaves.{PartyLeaf, may_hand_on}
+use Rattle.records_written.specs.Sure.{IsSurelyDone, IsSure, IsFirstUnsure}
 
-module _ (graph : List (List SenderLeaf)) (first : ℕ) (mask : ℕ → Bool) where
+module _ (graph : List (List PartyLeaf)) (first : ℕ) (mask : ℕ → Bool) where
   pub not-both : (n b : ℕ) → IsSure graph first mask → IsFirstUnsure graph first mask n b → ⊥
-  not-both n b all u = u.unsure (all n u.position u.published b u.asked)
+  not-both n b all u = u.unsure (all n u.position u.handed b u.asked)
 
   state-not-before : (n b m a : ℕ) → IsFirstUnsure graph first mask n b → IsFirstUnsure graph first mask m a → n < m → ⊥
-  state-not-before n b m a u v less = u.unsure (v.states n less u.position u.published b u.asked)
+  state-not-before n b m a u v less = u.unsure (v.states n less u.position u.handed b u.asked)
 
   pub same-state : (n b m a : ℕ) → IsFirstUnsure graph first mask n b → IsFirstUnsure graph first mask m a → n ≡ m
   same-state n b m a u v = elim (cases_lt n m) [
@@ -34,7 +34,7 @@ module _ (graph : List (List SenderLeaf)) (first : ℕ) (mask : ℕ → Bool) wh
   ]
 
   byte-not-before : (n b a : ℕ) → IsFirstUnsure graph first mask n b → IsFirstUnsure graph first mask n a → b < a → ⊥
-  byte-not-before n b a u v less = u.unsure (subst (λ (d : ℕ). IsSurelyWritten graph first n d b) (sym (same-position n b a u v))
+  byte-not-before n b a u v less = u.unsure (subst (λ (d : ℕ). IsSurelyDone graph first n d b) (sym (same-position n b a u v))
       (v.bytes b less u.asked))
 
   same-byte-at : (n b a : ℕ) → IsFirstUnsure graph first mask n b → IsFirstUnsure graph first mask n a → b ≡ a
@@ -50,8 +50,8 @@ module _ (graph : List (List SenderLeaf)) (first : ℕ) (mask : ℕ → Bool) wh
   pub listed : (n b : ℕ) → IsFirstUnsure graph first mask n b → n < length graph
   listed n b u = elim (cases_lt n (length graph)) [
     | inl less ↦ less
-    | inr past ↦ absurd (let none : may_publish (get_or graph n []) u.position ≡ false = rw (get_or_past graph n [] past) refl in
-        let some : may_publish (get_or graph n []) u.position ≡ true = u.published in
+    | inr past ↦ absurd (let none : may_hand_on (get_or graph n []) u.position ≡ false = rw (get_or_past graph n [] past) refl in
+        let some : may_hand_on (get_or graph n []) u.position ≡ true = u.handed in
         cc)
   ]
 
@@ -60,17 +60,17 @@ module _ (graph : List (List SenderLeaf)) (first : ℕ) (mask : ℕ → Bool) wh
 
 -- ---- of another test with the same bytes
 
-module _ (graph : List (List SenderLeaf)) (first : ℕ) (f g : ℕ → Bool) (same : (b : ℕ) → f b ≡ g b) where
+module _ (graph : List (List PartyLeaf)) (first : ℕ) (f g : ℕ → Bool) (same : (b : ℕ) → f b ≡ g b) where
   pub sure-same : IsSure graph first f → IsSure graph first g
-  sure-same all = λ n d published b asked. all n d published b (same b ∙ asked)
+  sure-same all = λ n d handed b asked. all n d handed b (same b ∙ asked)
 
   pub first-same : (n b : ℕ) → IsFirstUnsure graph first f n b → IsFirstUnsure graph first g n b
   first-same n b u = record {
     position = u.position;
-    published = u.published;
+    handed = u.handed;
     asked = sym (same b) ∙ u.asked;
     unsure = u.unsure;
     bytes = λ a less asked. u.bytes a less (same a ∙ asked);
     positions = λ d less a asked. u.positions d less a (same a ∙ asked);
-    states = λ m less d published a asked. u.states m less d published a (same a ∙ asked);
+    states = λ m less d handed a asked. u.states m less d handed a (same a ∙ asked);
   }

@@ -1,5 +1,5 @@
--- What an entry of a queue's sender leads to from a state of the certificate: what a leaf of the state does, and a next state in which no
--- more is marked than is written after it.
+-- What an entry of a queue's party leads to from a state of the certificate: what a leaf of the state does, and a next state in which no
+-- more is marked than is done after it.
 use Rattle.std.proofs.Common.{ℕ, ◌<◌, ◌≤◌, ◌≡◌, ◌||◌, not, if◌then◌else◌, Bool, true, false, Option, Some, None, List, [], ◌∷◌}
 use Rattle.std.proofs.Common.{length, map, get_or, sym, ◌∙◌, ap, refl, subst}
 use Rattle.std.specs.List.{slice_get, list_all, list_any}
@@ -16,86 +16,128 @@ use Rattle.step_machine.specs.History.{HartOpeningValue, OpeningValue}
 use Rattle.step_machine.specs.Access.{Access, access_of}
 use Rattle.step_machine.specs.Paths.{number_read}
 use Rattle.slot_queue.specs.Queues.{slot_of}
-use Rattle.queue_parties.specs.Parties.{the_sender}
-use Rattle.slot_queue.specs.Ownership.{party_of, after_access}
+use Rattle.queue_parties.specs.Parties.{Party, the_sender, the_receiver}
+use Rattle.slot_queue.specs.Ownership.{after_access}
+use Rattle.slots_that_tell.specs.Slots.{tagged_slot}
+use Rattle.queue_layouts.specs.Tagged.{slots_of}
 use Rattle.queue_certificates.specs.OwnedRuns.{View, AllCounts, view_then, Acts, kept_beside}
 use Rattle.queue_certificates.specs.Forms.{Form}
 use Rattle.queue_certificates.specs.States.{KnownState, MeansAt}
 use Rattle.queue_certificates.specs.Steps.{follow, instruction_at}
 use Rattle.queue_certificates.specs.Cases.{Arrow, Cases, leaf, split, with_low, with_high, may_exceed, each_leaf}
-use Rattle.queue_certificates.specs.Certificates.{QueueCertificate, queue_at, part_of, own_of, state_at, tagged_at}
+use Rattle.queue_certificates.specs.Certificates.{QueueCertificate, queue_at, fields_at, part_of, own_of, state_at, tagged_at}
 use Rattle.queue_certificates.specs.Certificates.{HasFields, MeetsFields, SharesTold, MeansAll, told_beside, no_hart, nowhere, next_states}
 use Rattle.queue_certificates.specs.Certificates.{all_lead, accepts}
+use Rattle.queue_certificates.specs.Fields.{next_received}
 use Rattle.queue_certificates.specs.Effects.{effect_of, value_stored}
 use Rattle.queue_certificates.specs.TagEffects.{tag_effect_of}
 use Rattle.queue_certificates.specs.declared.effect.Effect.{Effect}
 use Rattle.queue_certificates.proofs.Steps.{untold}
 use Rattle.queue_certificates.proofs.Accesses.{hart-party}
-use Rattle.queue_certificates.proofs.Accepted.{fine, past, OfHart, accepted-opens}
+use Rattle.queue_certificates.proofs.Accepted.{fine, fine-tagged, past, OfHart, accepted-opens}
 use Rattle.queue_certificates.proofs.Leaves.{followed, Led, among-leads, leaf-goes}
 use Rattle.queue_certificates.proofs.Effects.{Sends, does-sends}
 use Rattle.queue_certificates.proofs.Sends.{state-does}
-use Rattle.records_written.specs.Senders.{IsListed, sender_in, size_in, slot_in, published_of, effect_in}
-use Rattle.records_written.specs.declared.senders.QueueNumber.{QueueNumber}
-use Rattle.records_written.specs.declared.senders.QueueNumber.TheVariants.{Indexed, Tagged}
-use Rattle.records_written.specs.SenderLeaves.{SenderLeaf, written_after, may_hand, may_publish}
+use Rattle.records_written.specs.Parties.{IsListed, hart_in, sender_in, receiver_in, count_of, effect_in}
+use Rattle.records_written.specs.Receipts.{receipt_of, tag_receipt_of}
+use Rattle.records_written.specs.declared.parties.QueueNumber.{QueueNumber}
+use Rattle.records_written.specs.declared.parties.QueueNumber.TheVariants.{Indexed, Tagged}
+use Rattle.records_written.specs.PartyLeaves.{PartyLeaf, marked_after, may_hand, may_hand_on}
 use Rattle.records_written.specs.Sure.{Marks, keeps}
-use Rattle.records_written.specs.Marks.{sent_by, sent_in, sender_graph}
+use Rattle.records_written.specs.Marks.{leaf_by, leaves_in, graph_of}
+use Rattle.records_written.proofs.Acted.{ActsBy, indexed_then, tagged_then, sends-act}
+use Rattle.records_written.proofs.ReceivedIndices.{receipt-comes}
+use Rattle.records_written.proofs.ReceivedTags.{tag-receipt-comes}
 
--- the counts after an access of hart h
-abbrev pub indexed_then : QueueCertificate → (h : ℕ) → Access → AllCounts → AllCounts
-indexed_then c h y cs = λ j. after_access (queue_at c j) (party_of (queue_at c j) h) y (cs j)
+-- ---- what an instruction comes to at a leaf
 
-abbrev pub tagged_then : QueueCertificate → (h : ℕ) → Access → AllCounts → AllCounts
-tagged_then c h y us = (kept_beside (told_beside c)).next h y us
+module _ (M : ℕ) (o : OpeningValue) (c : QueueCertificate) (ok : accepts o c ≡ true) where
+  -- of the sender: by what queue_certificates says of it
+  sender-acts : (w : QueueNumber) → IsListed c w → (x : HartOpeningValue) → OfHart M o c ok (sender_in c w) x → (s : HartState) (m : View)
+      (cs us : AllCounts) (e : Entry) → Acts M o (length c.queues) (queue_at c) (HasFields c) (MeetsFields c) (sender_in c w) s m cs e
+      → (kept_beside (told_beside c)).Knows (sender_in c w) us m → s.code ≡ x.code → length s.registers ≡ length x.registers
+      → (k : KnownState) (d : Form) (xs : List ℕ) (ts : List KnownState)
+      → MeansAt (queue_at c) (length c.queues) (own_of c (sender_in c w)) (sender_in c w) xs k s m cs → SharesTold c (sender_in c w) xs k us
+      → next_states c (sender_in c w) x.code k d ≡ Some ts → (f : Effect) → effect_in c w the_sender k d (instruction_at x.code k.pc) ≡ Some f
+      → ActsBy c w the_sender cs us f (access_of e) (advanced s (number_read e))
+  sender-acts (Indexed i) less x of s m cs us e acts knows code size k d xs ts means told may f effect =
+      let h : ℕ = (queue_at c i).sender in
+      let found = followed c (queue_at c i).sender x.code k d ts may in
+      sends-act (queue_at c i).size (slot_of (queue_at c i)) (cs i).published
+      (count_of (Indexed i) the_sender (indexed_then c (queue_at c i).sender (access_of e) cs) (tagged_then c (queue_at c i).sender (access_of e) us))
+      f (access_of e) (advanced s (number_read e))
+      (subst (λ n. Sends (queue_at c i).size (slot_of (queue_at c i)) (cs i).published n f (access_of e) (advanced s (number_read e)))
+      (ap (λ r. (after_access (queue_at c i) r (access_of e) (cs i)).published)
+      (sym (hart-party (queue_at c i) (accepted-opens M o c ok i less).0 (queue_at c i).sender the_sender refl)))
+      (does-sends (queue_at c i) (cs i) k.ranges (value_stored (queue_at c) k (instruction_at s.code k.pc)) m f (access_of e) (advanced s (number_read e))
+      (state-does M o (queue_at c) (length c.queues) (own_of c) (length c.harts) i less xs k s m cs e
+      (untold M o (length c.queues) (queue_at c) (HasFields c) (MeetsFields c) h s m cs e acts)
+      (subst (λ n. 32 ≤ n) (sym size) of.registers) (fine M o c ok) means (past M o c ok) d f found.0
+      (ap (λ ws. follow (queue_at c) (length c.queues) (own_of c) (length c.harts) h k d (instruction_at ws k.pc)) code ∙ found.1)
+      (ap (λ ws. effect_of (queue_at c) (length c.queues) i k d (instruction_at ws k.pc)) code ∙ effect))))
+  sender-acts (Tagged t) less x of s m cs us e acts knows code size k d xs ts means told may f effect =
+      let its : (Option Instr → Effect) =
+      tag_effect_of (tagged_at c) (length c.tagged) (queue_at c) (length c.queues) (tagged_at c t).sender t k in
+      let goes = leaf-goes M o c ok (tagged_at c t).sender x of s m cs us e acts knows code size k d xs ts means told may in
+      subst (λ g. ActsBy c (Tagged t) the_sender cs us g (access_of e) (advanced s (number_read e)))
+      (ap (λ n. its (instruction_at s.code n)) means.pc ∙ ap (λ ws. its (instruction_at ws k.pc)) code
+      ∙ (let same : its (instruction_at x.code k.pc) ≡ f = cc in same))
+      (sends-act (tagged_at c t).size (tagged_slot (slots_of (tagged_at c t))) (us t).published
+      (count_of (Tagged t) the_sender (indexed_then c (tagged_at c t).sender (access_of e) cs) (tagged_then c (tagged_at c t).sender (access_of e) us))
+      (its (instruction_at s.code s.pc)) (access_of e) (advanced s (number_read e)) (goes.sends t less refl))
 
--- what the sender of queue w sends by an access, where its instruction has this effect
-abbrev pub SendsBy : QueueCertificate → (w : QueueNumber) → (cs us : AllCounts) → Effect → Access → HartState → Type 0
-SendsBy c w cs us f y z = Sends (size_in c w) (slot_in c w) (published_of w cs us)
-    (published_of w (indexed_then c (sender_in c w) y cs) (tagged_then c (sender_in c w) y us)) f y z
+  receiver-acts : (w : QueueNumber) → IsListed c w → (x : HartOpeningValue) → OfHart M o c ok (receiver_in c w) x → (s : HartState) (m : View)
+      (cs us : AllCounts) (e : Entry) → Acts M o (length c.queues) (queue_at c) (HasFields c) (MeetsFields c) (receiver_in c w) s m cs e
+      → s.code ≡ x.code → length s.registers ≡ length x.registers → (k : KnownState) (d : Form) (xs : List ℕ) (ts : List KnownState)
+      → MeansAt (queue_at c) (length c.queues) (own_of c (receiver_in c w)) (receiver_in c w) xs k s m cs → SharesTold c (receiver_in c w) xs k us
+      → next_states c (receiver_in c w) x.code k d ≡ Some ts → (f : Effect)
+      → effect_in c w the_receiver k d (instruction_at x.code k.pc) ≡ Some f
+      → ActsBy c w the_receiver cs us f (access_of e) (advanced s (number_read e))
+  receiver-acts (Indexed i) less x of s m cs us e acts code size k d xs ts means told may f effect =
+      let h : ℕ = (queue_at c i).receiver in
+      let found = followed c (queue_at c i).receiver x.code k d ts may in
+      receipt-comes M o c i less xs k s m cs us e (untold M o (length c.queues) (queue_at c) (HasFields c) (MeetsFields c) h s m cs e acts)
+      (subst (λ n. 32 ≤ n) (sym size) of.registers) (fine M o c ok) means (past M o c ok) d f found.0
+      (ap (λ ws. follow (queue_at c) (length c.queues) (own_of c) (length c.harts) h k d (instruction_at ws k.pc)) code ∙ found.1)
+      (ap (λ ws. receipt_of c i k d (instruction_at ws k.pc)) code ∙ effect)
+  receiver-acts (Tagged t) less x of s m cs us e acts code size k d xs ts means told may f effect =
+      let h : ℕ = (tagged_at c t).receiver in
+      let found = followed c (tagged_at c t).receiver x.code k d ts may in
+      let next : (List ℕ → Option (List KnownState)) = λ ws. next_received (queue_at c) (fields_at c) (length c.queues) h k (instruction_at ws k.pc)
+      (follow (queue_at c) (length c.queues) (own_of c) (length c.harts) h k d (instruction_at ws k.pc)) in
+      subst (λ g. ActsBy c (Tagged t) the_receiver cs us g (access_of e) (advanced s (number_read e)))
+      (ap (λ ws. tag_receipt_of c t k (instruction_at ws k.pc)) code ∙ (let same : tag_receipt_of c t k (instruction_at x.code k.pc) ≡ f = cc in same))
+      (tag-receipt-comes M o c t less xs k s m cs us e (untold M o (length c.queues) (queue_at c) (HasFields c) (MeetsFields c) h s m cs e acts)
+      (subst (λ n. 32 ≤ n) (sym size) of.registers) (fine M o c ok) means (fine-tagged M o c ok) told d (next s.code) found.0 ts
+      (ap (λ ws. follow (queue_at c) (length c.queues) (own_of c) (length c.harts) h k d (instruction_at ws k.pc)) code ∙ found.1)
+      (ap (λ ws. next_states c h ws k d) code ∙ may))
 
-leaf-sends : (M : ℕ) (o : OpeningValue) (c : QueueCertificate) (ok : accepts o c ≡ true) (w : QueueNumber) → IsListed c w → (x : HartOpeningValue)
-    → OfHart M o c ok (sender_in c w) x → (s : HartState) (m : View) (cs us : AllCounts) (e : Entry)
-    → Acts M o (length c.queues) (queue_at c) (HasFields c) (MeetsFields c) (sender_in c w) s m cs e
-    → (kept_beside (told_beside c)).Knows (sender_in c w) us m → s.code ≡ x.code → length s.registers ≡ length x.registers
-    → (k : KnownState) (d : Form) (xs : List ℕ) (ts : List KnownState)
-    → MeansAt (queue_at c) (length c.queues) (own_of c (sender_in c w)) (sender_in c w) xs k s m cs → SharesTold c (sender_in c w) xs k us
-    → next_states c (sender_in c w) x.code k d ≡ Some ts → (f : Effect) → effect_in c w k d (instruction_at x.code k.pc) ≡ Some f
-    → SendsBy c w cs us f (access_of e) (advanced s (number_read e))
-leaf-sends M o c ok (Indexed i) less x of s m cs us e acts knows code size k d xs ts means told may f effect =
-    let h : ℕ = (queue_at c i).sender in
-    let found = followed c (queue_at c i).sender x.code k d ts may in
-    subst (λ n. Sends (queue_at c i).size (slot_of (queue_at c i)) (cs i).published n f (access_of e) (advanced s (number_read e)))
-    (ap (λ r. (after_access (queue_at c i) r (access_of e) (cs i)).published)
-    (sym (hart-party (queue_at c i) (accepted-opens M o c ok i less).0 (queue_at c i).sender the_sender refl)))
-    (does-sends (queue_at c i) (cs i) k.ranges (value_stored (queue_at c) k (instruction_at s.code k.pc)) m f (access_of e) (advanced s (number_read e))
-    (state-does M o (queue_at c) (length c.queues) (own_of c) (length c.harts) i less xs k s m cs e
-    (untold M o (length c.queues) (queue_at c) (HasFields c) (MeetsFields c) h s m cs e acts)
-    (subst (λ n. 32 ≤ n) (sym size) of.registers) (fine M o c ok) means (past M o c ok) d f found.0
-    (ap (λ ws. follow (queue_at c) (length c.queues) (own_of c) (length c.harts) h k d (instruction_at ws k.pc)) code ∙ found.1)
-    (ap (λ ws. effect_of (queue_at c) (length c.queues) i k d (instruction_at ws k.pc)) code ∙ effect)))
-leaf-sends M o c ok (Tagged t) less x of s m cs us e acts knows code size k d xs ts means told may f effect =
-    let its : (Option Instr → Effect) =
-    tag_effect_of (tagged_at c) (length c.tagged) (queue_at c) (length c.queues) (tagged_at c t).sender t k in
-    let goes = leaf-goes M o c ok (tagged_at c t).sender x of s m cs us e acts knows code size k d xs ts means told may in
-    subst (λ g. SendsBy c (Tagged t) cs us g (access_of e) (advanced s (number_read e)))
-    (ap (λ n. its (instruction_at s.code n)) means.pc ∙ ap (λ ws. its (instruction_at ws k.pc)) code
-    ∙ (let same : its (instruction_at x.code k.pc) ≡ f = cc in same)) (goes.sends t less refl)
+  leaf-acts : (w : QueueNumber) (p : Party) → IsListed c w → (x : HartOpeningValue) → OfHart M o c ok (hart_in c w p) x → (s : HartState) (m : View)
+      (cs us : AllCounts) (e : Entry) → Acts M o (length c.queues) (queue_at c) (HasFields c) (MeetsFields c) (hart_in c w p) s m cs e
+      → (kept_beside (told_beside c)).Knows (hart_in c w p) us m → s.code ≡ x.code → length s.registers ≡ length x.registers
+      → (k : KnownState) (d : Form) (xs : List ℕ) (ts : List KnownState)
+      → MeansAt (queue_at c) (length c.queues) (own_of c (hart_in c w p)) (hart_in c w p) xs k s m cs → SharesTold c (hart_in c w p) xs k us
+      → next_states c (hart_in c w p) x.code k d ≡ Some ts → (f : Effect) → effect_in c w p k d (instruction_at x.code k.pc) ≡ Some f
+      → ActsBy c w p cs us f (access_of e) (advanced s (number_read e))
+  leaf-acts w the_sender less x of s m cs us e acts knows code size k d xs ts means told may f effect =
+      sender-acts w less x of s m cs us e acts knows code size k d xs ts means told may f effect
+  leaf-acts w the_receiver less x of s m cs us e acts knows code size k d xs ts means told may f effect =
+      receiver-acts w less x of s m cs us e acts code size k d xs ts means told may f effect
 
 -- ---- what is so of all that a state's leaves do is so of each
 
-each-sent : (P : SenderLeaf → Bool) (f : KnownState → Form → List Arrow → SenderLeaf) (k : KnownState) (t : Cases)
-    → list_all P (sent_in f k t) ≡ true → each_leaf (λ k d arrows. P (f k d arrows)) k t ≡ true
-each-sent P f k (leaf d arrows) ok = (and_parts (P (f k d arrows)) true ok).0
-each-sent P f k (split j v low high) ok =
-    let both = and_parts (list_all P (sent_in f (with_low k j v) low))
-    (list_all P (if may_exceed v (get_or k.ranges j (Some 0)) then sent_in f (with_high k j v) high else []))
-    (sym (list_all-append P (sent_in f (with_low k j v) low) _) ∙ ok) in
-    rw (each-sent P f (with_low k j v) low both.0)
-    (above (may_exceed v (get_or k.ranges j (Some 0))) both.1 (each-sent P f (with_high k j v) high))
+each-leaf : (P : PartyLeaf → Bool) (f : KnownState → Form → List Arrow → PartyLeaf) (k : KnownState) (t : Cases)
+    → list_all P (leaves_in f k t) ≡ true → each_leaf (λ k d arrows. P (f k d arrows)) k t ≡ true
+each-leaf P f k (leaf d arrows) ok = (and_parts (P (f k d arrows)) true ok).0
+each-leaf P f k (split j v low high) ok =
+    let both = and_parts (list_all P (leaves_in f (with_low k j v) low))
+    (list_all P (if may_exceed v (get_or k.ranges j (Some 0)) then leaves_in f (with_high k j v) high else []))
+    (sym (list_all-append P (leaves_in f (with_low k j v) low) _) ∙ ok) in
+    rw (each-leaf P f (with_low k j v) low both.0)
+    (above (may_exceed v (get_or k.ranges j (Some 0))) both.1 (each-leaf P f (with_high k j v) high))
   where
-    above : (t : Bool) → list_all P (if t then sent_in f (with_high k j v) high else []) ≡ true
-        → (list_all P (sent_in f (with_high k j v) high) ≡ true → each_leaf (λ k d arrows. P (f k d arrows)) (with_high k j v) high ≡ true)
+    above : (t : Bool) → list_all P (if t then leaves_in f (with_high k j v) high else []) ≡ true
+        → (list_all P (leaves_in f (with_high k j v) high) ≡ true → each_leaf (λ k d arrows. P (f k d arrows)) (with_high k j v) high ≡ true)
         → (not t || each_leaf (λ k d arrows. P (f k d arrows)) (with_high k j v) high) ≡ true
     above true ok higher = higher ok
     above false ok higher = refl
@@ -106,50 +148,50 @@ none-passes p (x ∷ xs) none =
     let both = or_parts (p x) (list_any p xs) none in
     and_from (not (p x)) (list_all (λ x. not (p x)) xs) (not_from_false (p x) both.0) (none-passes p xs both.1)
 
-module _ (M : ℕ) (o : OpeningValue) (c : QueueCertificate) (ok : accepts o c ≡ true) (w : QueueNumber) (less : IsListed c w) where
+module _ (M : ℕ) (o : OpeningValue) (c : QueueCertificate) (ok : accepts o c ≡ true) (w : QueueNumber) (p : Party) (less : IsListed c w) where
   abbrev h : ℕ
-  h = sender_in c w
+  h = hart_in c w p
 
   abbrev states : ℕ
-  states = length (part_of c (sender_in c w)).states
+  states = length (part_of c (hart_in c w p)).states
 
-  -- what the sender does at the leaves of state n
-  abbrev pub leaves : ℕ → List SenderLeaf
-  leaves n = get_or (sender_graph o c w) n []
+  -- what the party does at the leaves of state n
+  abbrev pub leaves : ℕ → List PartyLeaf
+  leaves n = get_or (graph_of o c w p) n []
 
   -- what is so of all of them is so of each leaf of the certificate
-  pub leaves-pass : (x : HartOpeningValue) → slice_get o.harts (sender_in c w) ≡ Some x → (n : ℕ) → n < states → (P : SenderLeaf → Bool)
+  pub leaves-pass : (x : HartOpeningValue) → slice_get o.harts (hart_in c w p) ≡ Some x → (n : ℕ) → n < states → (P : PartyLeaf → Bool)
       → list_all P (leaves n) ≡ true
-      → each_leaf (λ k d arrows. P (sent_by c w x.code k d arrows)) (state_at c h n).known (state_at c h n).cases ≡ true
+      → each_leaf (λ k d arrows. P (leaf_by c w p x.code k d arrows)) (state_at c h n).known (state_at c h n).cases ≡ true
   leaves-pass x is n listed P all =
-      each-sent P (sent_by c w x.code) (state_at c h n).known (state_at c h n).cases
-      (subst (λ (y : HartOpeningValue). list_all P (sent_in (sent_by c w y.code) (state_at c h n).known (state_at c h n).cases) ≡ true)
+      each-leaf P (leaf_by c w p x.code) (state_at c h n).known (state_at c h n).cases
+      (subst (λ (y : HartOpeningValue). list_all P (leaves_in (leaf_by c w p y.code) (state_at c h n).known (state_at c h n).cases) ≡ true)
       (get_or_from_slice_get o.harts h x no_hart is)
       (ap (λ ys. list_all P ys)
-      (sym (get_or-map (λ t. sent_in (sent_by c w (get_or o.harts h no_hart).code) t.known t.cases)
+      (sym (get_or-map (λ t. leaves_in (leaf_by c w p (get_or o.harts h no_hart).code) t.known t.cases)
       (part_of c h).states n nowhere [] listed))
       ∙ all))
 
   -- a leaf of state n, by its effect and its targets
-  abbrev pub IsLeafOf : (n : ℕ) → SenderLeaf → Type 0
-  IsLeafOf n s = (P : SenderLeaf → Bool) → list_all P (leaves n) ≡ true → P s ≡ true
+  abbrev pub IsLeafOf : (n : ℕ) → PartyLeaf → Type 0
+  IsLeafOf n s = (P : PartyLeaf → Bool) → list_all P (leaves n) ≡ true → P s ≡ true
 
-  -- it publishes what the state may
-  pub hands : (n : ℕ) (s : SenderLeaf) → IsLeafOf n s → (d : ℕ) → may_hand d s.effect ≡ true → may_publish (leaves n) d ≡ true
-  hands n s of d may = by (may_publish (leaves n) d) refl
+  -- it hands on what the state may
+  pub hands : (n : ℕ) (s : PartyLeaf) → IsLeafOf n s → (d : ℕ) → may_hand d s.effect ≡ true → may_hand_on (leaves n) d ≡ true
+  hands n s of d may = by (may_hand_on (leaves n) d) refl
     where
-      by : (t : Bool) → may_publish (leaves n) d ≡ t → may_publish (leaves n) d ≡ true
+      by : (t : Bool) → may_hand_on (leaves n) d ≡ t → may_hand_on (leaves n) d ≡ true
       by true so = so
       by false none = absurd (let unless : not (may_hand d s.effect) ≡ true =
           of (λ s. not (may_hand d s.effect)) (none-passes (λ s. may_hand d s.effect) (leaves n) none) in
           cc)
 
-  -- a state of the sender's in which no more is marked than after the leaf, whatever marks its leaves keep
-  pub record Found (n : ℕ) (s : SenderLeaf) (z : HartState) (m : View) (cs us : AllCounts) : Type 0 where
+  -- a state of the party's in which no more is marked than after the leaf, whatever marks its leaves keep
+  pub record Found (n : ℕ) (s : PartyLeaf) (z : HartState) (m : View) (cs us : AllCounts) : Type 0 where
     pub state : ℕ
     pub listed : state < states
     pub means : MeansAll c h (state_at c h state).known z m cs us
-    pub keeps : (f : Marks) (d b : ℕ) → list_all (keeps f n d b) (leaves n) ≡ true → f state d b ≡ true → written_after s.effect (f n) d b ≡ true
+    pub keeps : (f : Marks) (d b : ℕ) → list_all (keeps f n d b) (leaves n) ≡ true → f state d b ≡ true → marked_after s.effect (f n) d b ≡ true
 
   found-led : (n : ℕ) (effect : Option Effect) (arrows : List Arrow) (z : HartState) (m : View) (cs us : AllCounts)
       → IsLeafOf n (record { effect = effect; targets = map (λ a. a.to) arrows }) → Led c h arrows z m cs us
@@ -159,28 +201,28 @@ module _ (M : ℕ) (o : OpeningValue) (c : QueueCertificate) (ok : accepts o c �
     listed = found.listed;
     means = found.means;
     keeps = λ f d b kept marked.
-        (let passes : (not (f found.state d b) || written_after effect (f n) d b) ≡ true =
-        found.passes (λ bs. list_all (λ to. not (f to d b) || written_after effect (f n) d b) (map (λ a. a.to) bs))
-        (λ to. not (f to d b) || written_after effect (f n) d b) (λ a bs both. and_parts _ _ both) (of (keeps f n d b) kept) in
+        (let passes : (not (f found.state d b) || marked_after effect (f n) d b) ≡ true =
+        found.passes (λ bs. list_all (λ to. not (f to d b) || marked_after effect (f n) d b) (map (λ a. a.to) bs))
+        (λ to. not (f to d b) || marked_after effect (f n) d b) (λ a bs both. and_parts _ _ both) (of (keeps f n d b) kept) in
         rw marked at passes);
   }
 
   -- what an entry comes to from a leaf of state n
   pub record Leads (n : ℕ) (m : View) (cs us : AllCounts) (y : Access) (z : HartState) : Type 0 where
-    pub does : SenderLeaf
+    pub does : PartyLeaf
     pub leaf : IsLeafOf n does
-    pub sends : (f : Effect) → does.effect ≡ Some f → SendsBy c w cs us f y z
+    pub acts : (f : Effect) → does.effect ≡ Some f → ActsBy c w p cs us f y z
     pub next : z.status ≡ status.Running
-        → Found n does z (view_then y m) (indexed_then c (sender_in c w) y cs) (tagged_then c (sender_in c w) y us)
+        → Found n does z (view_then y m) (indexed_then c (hart_in c w p) y cs) (tagged_then c (hart_in c w p) y us)
 
-  pub leads : (x : HartOpeningValue) → OfHart M o c ok (sender_in c w) x → (s : HartState) (m : View) (cs us : AllCounts) (e : Entry)
-      → Acts M o (length c.queues) (queue_at c) (HasFields c) (MeetsFields c) (sender_in c w) s m cs e
-      → (kept_beside (told_beside c)).Knows (sender_in c w) us m → s.code ≡ x.code → length s.registers ≡ length x.registers
+  pub leads : (x : HartOpeningValue) → OfHart M o c ok (hart_in c w p) x → (s : HartState) (m : View) (cs us : AllCounts) (e : Entry)
+      → Acts M o (length c.queues) (queue_at c) (HasFields c) (MeetsFields c) (hart_in c w p) s m cs e
+      → (kept_beside (told_beside c)).Knows (hart_in c w p) us m → s.code ≡ x.code → length s.registers ≡ length x.registers
       → (n : ℕ) (k : KnownState) (d : Form) (arrows : List Arrow) (xs : List ℕ)
-      → all_lead c (sender_in c w) (next_states c (sender_in c w) x.code k d) arrows ≡ true
-      → IsLeafOf n (sent_by c w x.code k d arrows)
-      → MeansAt (queue_at c) (length c.queues) (own_of c (sender_in c w)) (sender_in c w) xs k s m cs
-      → SharesTold c (sender_in c w) xs k us → Leads n m cs us (access_of e) (advanced s (number_read e))
+      → all_lead c (hart_in c w p) (next_states c (hart_in c w p) x.code k d) arrows ≡ true
+      → IsLeafOf n (leaf_by c w p x.code k d arrows)
+      → MeansAt (queue_at c) (length c.queues) (own_of c (hart_in c w p)) (hart_in c w p) xs k s m cs
+      → SharesTold c (hart_in c w p) xs k us → Leads n m cs us (access_of e) (advanced s (number_read e))
   leads x of s m cs us e acts knows code size n k d arrows xs closed among means told = by (next_states c h x.code k d) refl closed
     where
       by : (ts : Option (List KnownState)) → next_states c h x.code k d ≡ ts → all_lead c h ts arrows ≡ true
@@ -189,10 +231,10 @@ module _ (M : ℕ) (o : OpeningValue) (c : QueueCertificate) (ok : accepts o c �
       by (Some ts) may closed =
           let goes = leaf-goes M o c ok h x of s m cs us e acts knows code size k d xs ts means told may in
           record {
-            does = sent_by c w x.code k d arrows;
+            does = leaf_by c w p x.code k d arrows;
             leaf = among;
-            sends = λ f effect. leaf-sends M o c ok w less x of s m cs us e acts knows code size k d xs ts means told may f effect;
-            next = λ runs. found-led n (effect_in c w k d (instruction_at x.code k.pc)) arrows (advanced s (number_read e)) (view_then (access_of e) m)
+            acts = λ f effect. leaf-acts M o c ok w p less x of s m cs us e acts knows code size k d xs ts means told may f effect;
+            next = λ runs. found-led n (effect_in c w p k d (instruction_at x.code k.pc)) arrows (advanced s (number_read e)) (view_then (access_of e) m)
                 (indexed_then c h (access_of e) cs) (tagged_then c h (access_of e) us) among
                 (among-leads c h xs ts arrows (advanced s (number_read e)) (view_then (access_of e) m)
                 (indexed_then c h (access_of e) cs) (tagged_then c h (access_of e) us) closed (goes.next runs));

@@ -1,24 +1,31 @@
--- Two texts held against the definitions by hand: of three slots that are published by one store; and the same with one slot left as it
--- was, which keeps the protocol of ownership, and of which that slot's first byte is the first that isn't shown to be written.
+-- Texts held against the definitions by hand: of three slots that are published by one store; the same with one slot left as it was, which
+-- keeps the protocol of ownership, and of which that slot's first byte is the first that isn't shown to be written; and one whose receiver
+-- reads each record.
 use Rattle.std.proofs.Common.{ℕ, zero, suc, ◌≡◌, ◌<◌, ◌+◌, ◌*◌, ◌^◌, ◌&&◌, ◌||◌, not, Bool, true, false, Some, List, [], ◌∷◌, ◌++◌, length, get_or}
-use Rattle.std.proofs.Common.{refl, ap, arith, lit<, length-append}
+use Rattle.std.proofs.Common.{refl, sym, ap, subst, arith, lit<, length-append, ◌≤◌}
 use Rattle.std.specs.Prelude.{nat_lt, min}
 use Rattle.std.specs.List.{list_all}
 use Rattle.std.proofs.lemmas.Bool.Decides.{nat_tests}
 use Rattle.rv_decode.specs.Meaning.{meaning}
-use Rattle.step_machine.specs.History.{OpeningValue}
+use Rattle.step_machine.specs.History.{OpeningValue, history_of}
+use Rattle.step_machine.specs.Legal.{WellFormed}
+use Rattle.queue_parties.specs.Parties.{the_sender, the_receiver}
 use Rattle.slot_queue.specs.Queues.{Queue}
 use Rattle.queue_certificates.specs.Forms.{number}
 use Rattle.queue_certificates.specs.States.{KnownValue, any, linear}
 use Rattle.queue_certificates.specs.Cases.{leaf}
 use Rattle.queue_certificates.specs.Certificates.{ListedState, QueueCertificate, accepts}
-use Rattle.queue_certificates.proofs.OneSlotQueue.{certificate}
-use Rattle.records_written.specs.declared.senders.QueueNumber.TheVariants.{Indexed}
-use Rattle.records_written.specs.SenderLeaves.{SenderLeaf}
-use Rattle.records_written.specs.Sure.{Marks, keeps, AreKept, IsSurelyWritten, IsSureAt, IsSure, IsFirstUnsure}
-use Rattle.records_written.specs.Marks.{sender_graph}
-use Rattle.records_written.specs.Senders.{published_after}
+use Rattle.queue_certificates.proofs.OneSlotQueue.{text, certificate}
+use Rattle.records_written.specs.declared.parties.QueueNumber.TheVariants.{Indexed}
+use Rattle.records_written.specs.PartyLeaves.{PartyLeaf}
+use Rattle.records_written.specs.Sure.{Marks, keeps, AreKept, IsSurelyDone, IsSureAt, IsSure, IsFirstUnsure}
+use Rattle.records_written.specs.Marks.{graph_of}
+use Rattle.records_written.specs.Parties.{published_after, taken_after, owned_end_after, slot_in}
+use Rattle.records_written.specs.Read.{IsRead}
 use Rattle.records_written.specs.Written.{IsWritten}
+use Rattle.records_written.proofs.Runs.{each_read}
+use Rattle.step_machine.specs.Access.{access_of}
+use Rattle.certified_runs.specs.Views.{LoadsByte}
 use Rattle.step_machine.specs.declared.events.Entry.{Entry}
 use Rattle.step_machine.specs.declared.events.Entry.TheVariants as entry
 use Rattle.queue_certificates.specs.declared.effect.Effect.TheVariants.{Leaves, Fills, Publishes}
@@ -86,19 +93,19 @@ all_filled_accepted : accepts all_filled five ≡ true
 unfolding meaning told_by_store
 all_filled_accepted = refl
 
-abbrev fills : (position to : ℕ) → List SenderLeaf
+abbrev fills : (position to : ℕ) → List PartyLeaf
 fills position to = record { effect = Some (Fills position 0 4); targets = to ∷ [] } ∷ []
 
-abbrev leaves : (to : ℕ) → List SenderLeaf
+abbrev leaves : (to : ℕ) → List PartyLeaf
 leaves to = record { effect = Some Leaves; targets = to ∷ [] } ∷ []
 
-abbrev publishes : (n to : ℕ) → List SenderLeaf
+abbrev publishes : (n to : ℕ) → List PartyLeaf
 publishes n to = record { effect = Some (Publishes n); targets = to ∷ [] } ∷ []
 
-abbrev all_graph : List (List SenderLeaf)
+abbrev all_graph : List (List PartyLeaf)
 all_graph = fills 0 1 ∷ fills 1 2 ∷ fills 2 3 ∷ leaves 4 ∷ publishes 3 5 ∷ leaves 6 ∷ []
 
-all_filled_sends : sender_graph all_filled five (Indexed 0) ≡ all_graph
+all_filled_sends : graph_of all_filled five (Indexed 0) the_sender ≡ all_graph
 unfolding meaning told_by_store
 all_filled_sends = refl
 
@@ -123,14 +130,14 @@ filled_kept = record { opens = λ d b. grind (arith, nat_tests); leads = leads }
     leads (suc (suc (suc (suc (suc (suc n)))))) d b = refl
 
 all_filled_written : IsSure all_graph 0 word
-all_filled_written zero d published b asked = absurd (no-position d published)
-all_filled_written (suc zero) d published b asked = absurd (no-position d published)
-all_filled_written (suc (suc zero)) d published b asked = absurd (no-position d published)
-all_filled_written (suc (suc (suc zero))) d published b asked = absurd (no-position d published)
-all_filled_written (suc (suc (suc (suc zero)))) d published b asked =
-    record { marks = filled_in; kept = filled_kept; marked = grind (arith, nat_tests, published, asked) }
-all_filled_written (suc (suc (suc (suc (suc zero))))) d published b asked = absurd (no-position d published)
-all_filled_written (suc (suc (suc (suc (suc (suc n)))))) d published b asked = absurd (cc)
+all_filled_written zero d handed b asked = absurd (no-position d handed)
+all_filled_written (suc zero) d handed b asked = absurd (no-position d handed)
+all_filled_written (suc (suc zero)) d handed b asked = absurd (no-position d handed)
+all_filled_written (suc (suc (suc zero))) d handed b asked = absurd (no-position d handed)
+all_filled_written (suc (suc (suc (suc zero)))) d handed b asked =
+    record { marks = filled_in; kept = filled_kept; marked = grind (arith, nat_tests, handed, asked) }
+all_filled_written (suc (suc (suc (suc (suc zero))))) d handed b asked = absurd (no-position d handed)
+all_filled_written (suc (suc (suc (suc (suc (suc n)))))) d handed b asked = absurd (cc)
 
 -- the same without the store at pc 4
 abbrev two_filled : OpeningValue
@@ -144,10 +151,10 @@ two_filled_accepted : accepts two_filled four ≡ true
 unfolding meaning told_by_store
 two_filled_accepted = refl
 
-abbrev two_graph : List (List SenderLeaf)
+abbrev two_graph : List (List PartyLeaf)
 two_graph = fills 0 1 ∷ fills 2 2 ∷ leaves 3 ∷ publishes 3 4 ∷ leaves 5 ∷ []
 
-two_filled_sends : sender_graph two_filled four (Indexed 0) ≡ two_graph
+two_filled_sends : graph_of two_filled four (Indexed 0) the_sender ≡ two_graph
 unfolding meaning told_by_store
 two_filled_sends = refl
 
@@ -167,7 +174,7 @@ first_kept = record { opens = λ d b. grind (arith, nat_tests); leads = leads }
     leads (suc (suc (suc (suc (suc n))))) d b = refl
 
 -- it isn't written on the way to the store of the head
-left_out : IsSurelyWritten two_graph 0 3 1 0 → ⊥
+left_out : IsSurelyDone two_graph 0 3 1 0 → ⊥
 left_out is =
     let none : is.marks 0 1 0 ≡ false = is.kept.opens 1 0 in
     let second : ((not (is.marks 1 1 0) || is.marks 0 1 0) && true) && true ≡ true = is.kept.leads 0 1 0 in
@@ -179,7 +186,7 @@ left_out is =
 two_filled_unwritten : IsFirstUnsure two_graph 0 word 3 0
 two_filled_unwritten = record {
   position = 1;
-  published = refl;
+  handed = refl;
   asked = refl;
   unsure = left_out;
   bytes = λ a less asked. absurd (omega (arith, less));
@@ -188,10 +195,10 @@ two_filled_unwritten = record {
 }
   where
     states : (m : ℕ) → m < 3 → IsSureAt two_graph 0 word m
-    states zero less d published a asked = absurd (no-position d published)
-    states (suc zero) less d published a asked = absurd (no-position d published)
-    states (suc (suc zero)) less d published a asked = absurd (no-position d published)
-    states (suc (suc (suc n))) less d published a asked = absurd (omega (arith, less))
+    states zero less d handed a asked = absurd (no-position d handed)
+    states (suc zero) less d handed a asked = absurd (no-position d handed)
+    states (suc (suc zero)) less d handed a asked = absurd (no-position d handed)
+    states (suc (suc (suc n))) less d handed a asked = absurd (omega (arith, less))
 
 -- ---- when a byte was written: after the record before in its slot was published
 
@@ -217,3 +224,86 @@ written_before is = by is.before is.is is.after
     by (e ∷ es) same after =
         absurd (let long : 1 ≡ length ((e ∷ es) ++ is.writes ∷ is.since) = ap (λ (fs : List Entry). length fs) same in
         omega (arith, long, length-append (e ∷ es) (is.writes ∷ is.since)))
+
+-- ---- a receiver that reads each record, of one slot: it looks until it owns the slot, loads it, and stores its index
+
+one_slot_accepted : accepts text certificate ≡ true
+unfolding meaning told_by_store
+one_slot_accepted = refl
+
+abbrev reading_graph : List (List PartyLeaf)
+reading_graph = leaves 1 ∷ leaves 2 ∷ (leaves 0 ++ leaves 3) ∷ fills 0 4 ∷ leaves 5 ∷ publishes 1 6 ∷ leaves 0 ∷ []
+
+one_slot_receives : graph_of text certificate (Indexed 0) the_receiver ≡ reading_graph
+unfolding meaning told_by_store
+one_slot_receives = refl
+
+-- between the load and the store of the index
+abbrev read_in : Marks
+read_in n d b = nat_lt 3 n && nat_lt n 6 && nat_lt d 1 && nat_lt b 4
+
+reading_kept : AreKept reading_graph 0 read_in
+reading_kept = record { opens = λ d b. grind (arith, nat_tests); leads = leads }
+  where
+    leads : (n d b : ℕ) → list_all (keeps read_in n d b) (get_or reading_graph n []) ≡ true
+    leads zero d b = grind (arith, nat_tests)
+    leads (suc zero) d b = grind (arith, nat_tests)
+    leads (suc (suc zero)) d b = grind (arith, nat_tests)
+    leads (suc (suc (suc zero))) d b = grind (arith, nat_tests)
+    leads (suc (suc (suc (suc zero)))) d b = grind (arith, nat_tests)
+    leads (suc (suc (suc (suc (suc zero))))) d b = grind (arith, nat_tests)
+    leads (suc (suc (suc (suc (suc (suc zero)))))) d b = grind (arith, nat_tests)
+    leads (suc (suc (suc (suc (suc (suc (suc n))))))) d b = refl
+
+one_slot_read : IsSure reading_graph 0 word
+one_slot_read zero d handed b asked = absurd (no-position d handed)
+one_slot_read (suc zero) d handed b asked = absurd (no-position d handed)
+one_slot_read (suc (suc zero)) d handed b asked = absurd (let less : d < 0 = grind (arith, nat_tests, handed) in omega (arith, less))
+one_slot_read (suc (suc (suc zero))) d handed b asked = absurd (no-position d handed)
+one_slot_read (suc (suc (suc (suc zero)))) d handed b asked = absurd (no-position d handed)
+one_slot_read (suc (suc (suc (suc (suc zero))))) d handed b asked =
+    record { marks = read_in; kept = reading_kept; marked = grind (arith, nat_tests, handed, asked) }
+one_slot_read (suc (suc (suc (suc (suc (suc zero)))))) d handed b asked = absurd (no-position d handed)
+one_slot_read (suc (suc (suc (suc (suc (suc (suc n))))))) d handed b asked = absurd (cc)
+
+-- so in every run each of the word's bytes is read before its slot is handed back
+every_record_read : (B M : ℕ) (es : List Entry) (e : Entry) → WellFormed B M (history_of text (es ++ e ∷ [])) → (k : ℕ)
+    → taken_after certificate (Indexed 0) es ≤ k → k < taken_after certificate (Indexed 0) (es ++ e ∷ []) → (b : ℕ) → word b ≡ true
+    → IsRead certificate (Indexed 0) es k (slot_in certificate (Indexed 0) k + b)
+every_record_read B M = each_read B M text certificate one_slot_accepted (Indexed 0) (lit< tt) word
+    (subst (λ (graph : List (List PartyLeaf)). IsSure graph 0 word) (sym one_slot_receives) one_slot_read)
+
+-- ---- when a byte was read: once the receiver has learned that it owns the position
+
+abbrev look : (n : ℕ) → Entry
+look n = entry.Load 1 0 4 n
+
+abbrev load_slot : Entry
+load_slot = entry.Load 1 8 4 7
+
+-- the look tells of position 0
+read_owned : IsRead certificate (Indexed 0) (look 1 ∷ load_slot ∷ []) 0 8
+read_owned = record {
+  before = look 1 ∷ [];
+  reads = load_slot;
+  since = [];
+  is = refl;
+  receiver = refl;
+  byte = (omega arith, omega arith);
+  from = omega arith;
+  owned = lit< tt;
+}
+
+-- a load that comes before it doesn't count
+read_early : IsRead certificate (Indexed 0) (load_slot ∷ look 1 ∷ []) 0 8 → ⊥
+read_early is = by is.before is.is is.owned
+  where
+    by : (before : List Entry) → load_slot ∷ look 1 ∷ [] ≡ before ++ is.reads ∷ is.since → 0 < owned_end_after certificate (Indexed 0) before → ⊥
+    by [] same owned = let none : 0 < 0 = owned in omega (arith, none)
+    by (e ∷ []) same owned =
+        let there : look 1 ≡ is.reads = cc in
+        let byte : (0 ≤ 8) × (8 < 0 + 4) = subst (λ (e : Entry). LoadsByte (access_of e) 8) (sym there) is.byte in
+        omega (arith, byte.1)
+    by (e ∷ f ∷ es) same owned =
+        let long : 2 ≡ length ((e ∷ f ∷ es) ++ is.reads ∷ is.since) = ap (λ (fs : List Entry). length fs) same in
+        omega (arith, long, length-append (e ∷ f ∷ es) (is.reads ∷ is.since))

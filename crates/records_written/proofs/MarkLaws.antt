@@ -3,8 +3,7 @@ use Rattle.std.proofs.Common.{ℕ, zero, suc, ◌≡◌, ◌<◌, ◌≤◌, ◌
 use Rattle.std.proofs.Common.{List, [], ◌∷◌, ◌++◌, ◌+◌, length, take, get_or, refl, sym, ap, subst}
 use Rattle.std.proofs.Common.{◌∙◌, arith, inl, inr}
 use Rattle.std.specs.Prelude.{nat_lt, min, set}
-use Rattle.std.specs.List.{list_all}
-use Rattle.std.proofs.lemmas.Bool.{and_parts, and_from, and_right, or_cases, or_from, or_left, or_right, cases_lt, eqb-true, ltb-true, lt-ltb}
+use Rattle.std.proofs.lemmas.Bool.{and_from, or_cases, or_from, or_left, or_right, cases_lt, eqb-true, ltb-true, lt-ltb}
 use Rattle.std.proofs.lemmas.Bool.Decides.{nat_tests}
 use Rattle.std.proofs.lemmas.List.{get_or-set_same, get_or-set_other, get_or_past, take_all}
 use Rattle.std.proofs.lemmas.List.Folds.{list_any_at, list_any_more}
@@ -14,9 +13,9 @@ use Rattle.record_bytes.specs.declared.ranges.ByteRange.{ByteRange}
 use Rattle.record_bytes.specs.Ranges.{has_byte}
 use Rattle.records_written.specs.declared.marking.Mark.{Mark}
 use Rattle.records_written.specs.declared.finding.Open.{Open}
-use Rattle.records_written.specs.SenderLeaves.{SenderLeaf, may_publish}
+use Rattle.records_written.specs.PartyLeaves.{PartyLeaf, may_hand_on}
 use Rattle.records_written.specs.MarkLists.{is_mark, has_mark, marks_byte, marks_of, is_left, lower_of, lower, IsLowest}
-use Rattle.records_written.specs.MarkLists.{is_open, IsLowestOpen, IsBound, IsEnd, IsFirstOpen}
+use Rattle.records_written.specs.MarkLists.{is_open, IsLowestOpen, IsEnd, IsFirstOpen}
 
 abbrev pub no_mark : Mark
 no_mark = record { position = 0; bytes = record { first = 0; last = 0 } }
@@ -167,15 +166,15 @@ lowest-open mask own asked lacking position of asks found is = by found is
         here false apart = absurd (let no : has_mark lacking is.0.0 x ≡ false = other is.0.0 x apart in
             let yes : has_mark lacking is.0.0 x ≡ true = is.0.1 in cc)
 
-abbrev pub no_sent : SenderLeaf
+abbrev pub no_sent : PartyLeaf
 no_sent = record { effect = None; targets = [] }
 
 -- of the positions before an end, the first that lacks a byte is the first of those that these leaves may publish
-pub open-within : (mask : List ByteRange) (own : ℕ → ℕ → Bool) (leaves : List SenderLeaf) (end : ℕ) (found : Option Open) → IsEnd leaves own end
-    → IsFirstOpen mask own (λ d. d < end) found → IsFirstOpen mask own (λ d. may_publish leaves d ≡ true) found
-open-within mask own leaves end None (inl bound) none = λ d published b.
-    none d (ltb-true d end (sym (bound d) ∙ published)) b
-open-within mask own leaves end None (inr (any, (e, less, unmarked))) none = λ d published b.
+pub open-within : (mask : List ByteRange) (own : ℕ → ℕ → Bool) (leaves : List PartyLeaf) (end : ℕ) (found : Option Open) → IsEnd leaves own end
+    → IsFirstOpen mask own (λ d. d < end) found → IsFirstOpen mask own (λ d. may_hand_on leaves d ≡ true) found
+open-within mask own leaves end None (inl bound) none = λ d handed b.
+    none d (ltb-true d end (sym (bound d) ∙ handed)) b
+open-within mask own leaves end None (inr (any, (e, less, unmarked))) none = λ d handed b.
     (let free : (has_byte mask b && not (own e b)) ≡ false = none e less b in
     let asked : has_byte mask b ≡ false = and-not (has_byte mask b) (own e b) (unmarked b) free in
     rw asked refl)

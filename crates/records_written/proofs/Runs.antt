@@ -1,6 +1,7 @@
--- In every run all is written that surely is in the state in which the sender is: by induction over the run's entries.
+-- In every run all is done that surely is in the state in which a party is: by induction over the run's entries. The sender writes, and the
+-- receiver reads.
 use Rattle.std.proofs.Common.{ℕ, ◌+◌, ◌-◌, ◌<◌, ◌≤◌, ◌≡◌, ◌==◌, ◌&&◌, inl, inr, Bool, true, false}
-use Rattle.std.proofs.Common.{Option, Some, None, List, [], ◌∷◌, ◌++◌, length, get_or, refl, sym, ◌∙◌, ap, subst, arith, append-nil, append_assoc}
+use Rattle.std.proofs.Common.{Option, Some, None, List, [], ◌∷◌, ◌++◌, length, refl, sym, ◌∙◌, ap, subst, arith, append-nil, append_assoc}
 use Rattle.std.specs.Prelude.{nat_lt, nat_le, option_map}
 use Rattle.std.specs.List.{slice_get}
 use Rattle.std.proofs.lemmas.Bool.{and_parts, or_cases, eqb-true, ltb-true, leb-true, lt-ltb}
@@ -9,7 +10,7 @@ use Rattle.hart.specs.Steps.{advanced}
 use Rattle.hart.specs.declared.status.Status.TheVariants as status
 use Rattle.step_machine.specs.declared.events.Entry.{Entry}
 use Rattle.step_machine.specs.History.{HartOpeningValue, OpeningValue, history_of}
-use Rattle.step_machine.specs.Access.{access_of}
+use Rattle.step_machine.specs.Access.{Access, access_of}
 use Rattle.step_machine.specs.Entries.{hart_of, is_land, is_own, read_byte}
 use Rattle.step_machine.specs.Paths.{number_read, opens_as, state_of}
 use Rattle.step_machine.specs.Legal.{WellFormed}
@@ -17,35 +18,44 @@ use Rattle.step_machine.proofs.Follows.{state_after}
 use Rattle.step_machine.proofs.OwnRuns.{kept-front}
 use Rattle.store_buffers.proofs.OwnEntries.{same_state, next_state, own_parts}
 use Rattle.slot_queue.specs.Ownership.{counts_after}
-use Rattle.queue_parties.specs.Parties.{the_sender, all_at}
+use Rattle.queue_parties.specs.Parties.{Party, the_sender, the_receiver, all_at}
+use Rattle.slots_that_tell.specs.Laws.{counts}
+use Rattle.queue_layouts.specs.Tagged.{slots_of}
 use Rattle.queue_certificates.specs.OwnedRuns.{View, AllCounts, view_then, IsSameFor, kept_beside}
 use Rattle.queue_certificates.proofs.Every as every
 use Rattle.queue_certificates.specs.States.{KnownState}
-use Rattle.queue_certificates.specs.Steps.{instruction_at}
-use Rattle.queue_certificates.specs.Certificates.{QueueCertificate, queue_at, start_at, part_of, own_of, state_at, tagged_at, told_beside}
+use Rattle.queue_certificates.specs.Certificates.{QueueCertificate, queue_at, start_at, part_of, own_of, state_at, tagged_at}
+use Rattle.queue_certificates.specs.Certificates.{tagged_start, told_beside}
 use Rattle.queue_certificates.specs.Certificates.{IsKeptByte, MeansAll, next_states, all_lead, accepts}
 use Rattle.queue_certificates.specs.Filled.{most_published}
 use Rattle.queue_certificates.specs.declared.effect.Effect.{Effect}
 use Rattle.queue_certificates.specs.declared.effect.Effect.TheVariants.{Leaves, Fills, Publishes, PublishesSome}
 use Rattle.queue_certificates.proofs.States.{means-frame}
-use Rattle.queue_certificates.proofs.Effects.{IsSent, Sends}
 use Rattle.queue_certificates.proofs.TagShares.{told-frame, told-opens}
 use Rattle.queue_certificates.proofs.Accepted.{fine-tagged, of-hart, opens-means}
 use Rattle.queue_certificates.proofs.AtLeaf.{at-leaf}
 use Rattle.queue_certificates.proofs.EveryRun.{sets}
-use Rattle.records_written.specs.declared.senders.QueueNumber.{QueueNumber}
-use Rattle.records_written.specs.declared.senders.QueueNumber.TheVariants.{Indexed, Tagged}
-use Rattle.records_written.specs.Senders.{IsListed, sender_in, size_in, slot_in, published_of, published_after, effect_in}
+use Rattle.records_written.specs.declared.parties.QueueNumber.{QueueNumber}
+use Rattle.records_written.specs.declared.parties.QueueNumber.TheVariants.{Indexed, Tagged}
+use Rattle.records_written.specs.Parties.{IsListed, hart_in, slot_in, count_of, count_after, published_after, taken_after}
 use Rattle.records_written.specs.Written.{IsWritten}
-use Rattle.records_written.specs.SenderLeaves.{SenderLeaf, is_filled, written_after, may_hand, may_publish}
-use Rattle.records_written.specs.Sure.{Marks, keeps, IsSurelyWritten}
-use Rattle.records_written.specs.Marks.{sent_by, sender_graph, first_of, IsShownWritten}
-use Rattle.records_written.proofs.Leading.{indexed_then, tagged_then, leaves-pass, hands, Leads, leads}
+use Rattle.records_written.specs.Read.{IsRead}
+use Rattle.records_written.specs.PartyLeaves.{is_filled, marked_after, may_hand}
+use Rattle.records_written.specs.Sure.{IsSurelyDone}
+use Rattle.records_written.specs.Marks.{leaf_by, graph_of, first_of, IsShown, IsShownWritten, IsShownRead}
+use Rattle.records_written.proofs.Acted.{DoesByte, IsActed, Acted, indexed_then, tagged_then}
+use Rattle.records_written.proofs.Leading.{leaves-pass, hands, Leads, leads}
 
--- ---- a byte that is written stays so
+-- ---- a byte that is done stays so
 
-later : (c : QueueCertificate) (w : QueueNumber) (es : List Entry) (e : Entry) (k x : ℕ) → IsWritten c w es k x → IsWritten c w (es ++ e ∷ []) k x
-later c w es e k x is = record {
+-- the sender wrote the byte at x of the slot of position k, or the receiver read it
+abbrev WasDone : QueueCertificate → QueueNumber → Party → List Entry → (k x : ℕ) → Type 0
+WasDone c w the_sender es k x = IsWritten c w es k x
+WasDone c w the_receiver es k x = IsRead c w es k x
+
+later : (c : QueueCertificate) (w : QueueNumber) (p : Party) (es : List Entry) (e : Entry) (k x : ℕ) → WasDone c w p es k x
+    → WasDone c w p (es ++ e ∷ []) k x
+later c w the_sender es e k x is = record {
   before = is.before;
   writes = is.writes;
   since = is.since ++ e ∷ [];
@@ -54,56 +64,85 @@ later c w es e k x is = record {
   byte = is.byte;
   after = is.after;
 }
+later c w the_receiver es e k x is = record {
+  before = is.before;
+  reads = is.reads;
+  since = is.since ++ e ∷ [];
+  is = ap (λ fs. fs ++ e ∷ []) is.is ∙ append_assoc is.before (is.reads ∷ is.since) (e ∷ []);
+  receiver = is.receiver;
+  byte = is.byte;
+  from = is.from;
+  owned = is.owned;
+}
 
-module _ (c : QueueCertificate) (w : QueueNumber) where
+-- what an access of the party's does after these entries
+abbrev DoesNow : QueueCertificate → QueueNumber → Party → List Entry → Access → (j b : ℕ) → Type 0
+DoesNow c w p es y j b = DoesByte c w p (λ i. counts_after (queue_at c i) (all_at (start_at c i)) es)
+    (λ t. counts (slots_of (tagged_at c t)) (all_at (tagged_start c t)) es) y j b
+
+done-now : (c : QueueCertificate) (w : QueueNumber) (p : Party) (es : List Entry) (e : Entry) → hart_of e ≡ hart_in c w p → (j b : ℕ)
+    → DoesNow c w p es (access_of e) j b → WasDone c w p (es ++ e ∷ []) (count_after c w p es + j) (slot_in c w (count_after c w p es + j) + b)
+done-now c w the_sender es e mine j b does = record {
+  before = es;
+  writes = e;
+  since = [];
+  is = refl;
+  sender = mine;
+  byte = does.1;
+  after = omega (arith, does.0);
+}
+done-now c w the_receiver es e mine j b does = record {
+  before = es;
+  reads = e;
+  since = [];
+  is = refl;
+  receiver = mine;
+  byte = does.1;
+  from = omega arith;
+  owned = does.0;
+}
+
+module _ (c : QueueCertificate) (w : QueueNumber) (p : Party) where
   -- the byte of position k's slot at an offset is
-  abbrev IsWrittenAt : List Entry → (k b : ℕ) → Type 0
-  IsWrittenAt es k b = IsWritten c w es k (slot_in c w k + b)
+  abbrev IsDoneAt : List Entry → (k b : ℕ) → Type 0
+  IsDoneAt es k b = WasDone c w p es k (slot_in c w k + b)
 
   -- what f marks is so after these entries
-  abbrev AreWritten : (f : ℕ → ℕ → Bool) → List Entry → Type 0
-  AreWritten f es = (d b : ℕ) → f d b ≡ true → IsWrittenAt es (published_after c w es + d) b
+  abbrev AreDone : (f : ℕ → ℕ → Bool) → List Entry → Type 0
+  AreDone f es = (d b : ℕ) → f d b ≡ true → IsDoneAt es (count_after c w p es + d) b
 
-  -- the same position is d further than the count, after an entry that publishes
-  written-on : (es : List Entry) (e : Entry) (p d b : ℕ) → published_after c w (es ++ e ∷ []) + d ≡ p → IsWrittenAt es p b
-      → IsWrittenAt (es ++ e ∷ []) (published_after c w (es ++ e ∷ []) + d) b
-  written-on es e p d b same is = subst (λ k. IsWrittenAt (es ++ e ∷ []) k b) (sym same) (later c w es e p (slot_in c w p + b) is)
+  -- the same position is d further than the count, after an entry that hands on
+  done-on : (es : List Entry) (e : Entry) (k d b : ℕ) → count_after c w p (es ++ e ∷ []) + d ≡ k → IsDoneAt es k b
+      → IsDoneAt (es ++ e ∷ []) (count_after c w p (es ++ e ∷ []) + d) b
+  done-on es e k d b same is = subst (λ k. IsDoneAt (es ++ e ∷ []) k b) (sym same) (later c w p es e k (slot_in c w k + b) is)
 
-  -- after an entry of the sender's whose effect is done, its marks are so
-  marks-after : (es : List Entry) (e : Entry) (was : ℕ → ℕ → Bool) (f : Effect) → hart_of e ≡ sender_in c w → AreWritten was es
-      → IsSent (size_in c w) (slot_in c w) (published_after c w es) (published_after c w (es ++ e ∷ [])) f (access_of e) → (d b : ℕ)
-      → written_after (Some f) was d b ≡ true → IsWrittenAt (es ++ e ∷ []) (published_after c w (es ++ e ∷ []) + d) b
-  marks-after es e was Leaves mine so to d b marked = written-on es e (published_after c w es + d) d b (omega (arith, to)) (so d b marked)
+  -- after an entry of the party's whose effect is done, its marks are so
+  marks-after : (es : List Entry) (e : Entry) (was : ℕ → ℕ → Bool) (f : Effect) → hart_of e ≡ hart_in c w p → AreDone was es
+      → IsActed (DoesNow c w p es (access_of e)) (count_after c w p es) (count_after c w p (es ++ e ∷ [])) f → (d b : ℕ)
+      → marked_after (Some f) was d b ≡ true → IsDoneAt (es ++ e ∷ []) (count_after c w p (es ++ e ∷ []) + d) b
+  marks-after es e was Leaves mine so to d b marked = done-on es e (count_after c w p es + d) d b (omega (arith, to)) (so d b marked)
   marks-after es e was (Publishes m) mine so to d b marked =
-      written-on es e (published_after c w es + (d + m)) d b (omega (arith, to)) (so (d + m) b marked)
+      done-on es e (count_after c w p es + (d + m)) d b (omega (arith, to)) (so (d + m) b marked)
   marks-after es e was (PublishesSome m) mine so to d b marked = absurd (cc)
-  marks-after es e was (Fills j offset width) mine so sent d b marked =
+  marks-after es e was (Fills j offset width) mine so acted d b marked =
       elim (or_cases (is_filled j offset width d b) (was d b) marked) [
-        | inr old ↦ written-on es e (published_after c w es + d) d b (omega (arith, sent.0)) (so d b old)
+        | inr old ↦ done-on es e (count_after c w p es + d) d b (omega (arith, acted.0)) (so d b old)
         | inl new ↦ (
             let front : ((j == d) && nat_le offset b) ≡ true = (and_parts _ _ new).0 in
             let at : j ≡ d = eqb-true j d (and_parts (j == d) (nat_le offset b) front).0 in
             let low : offset ≤ b = leb-true offset b (and_parts (j == d) (nat_le offset b) front).1 in
             let high : b < offset + width = ltb-true b (offset + width) (and_parts ((j == d) && nat_le offset b) (nat_lt b (offset + width)) new).1 in
-            subst (λ k. IsWrittenAt (es ++ e ∷ []) k b)
-            (let same : published_after c w es + j ≡ published_after c w (es ++ e ∷ []) + d = omega (arith, sent.0, at) in same)
-            (record {
-              before = es;
-              writes = e;
-              since = [];
-              is = refl;
-              sender = mine;
-              byte = sent.2 b low high;
-              after = omega (arith, sent.1);
-            }))
+            subst (λ k. IsDoneAt (es ++ e ∷ []) k b)
+            (let same : count_after c w p es + j ≡ count_after c w p (es ++ e ∷ []) + d = omega (arith, acted.0, at) in same)
+            (done-now c w p es e mine j b (acted.1 b low high)))
       ]
 
   -- the same, where the effect may not be known
-  marks-then : (es : List Entry) (e : Entry) (was : ℕ → ℕ → Bool) (f : Option Effect) → hart_of e ≡ sender_in c w → AreWritten was es
-      → ((g : Effect) → f ≡ Some g → IsSent (size_in c w) (slot_in c w) (published_after c w es) (published_after c w (es ++ e ∷ [])) g (access_of e))
-      → (d b : ℕ) → written_after f was d b ≡ true → IsWrittenAt (es ++ e ∷ []) (published_after c w (es ++ e ∷ []) + d) b
-  marks-then es e was None mine so sent d b marked = absurd (cc)
-  marks-then es e was (Some f) mine so sent d b marked = marks-after es e was f mine so (sent f refl) d b marked
+  marks-then : (es : List Entry) (e : Entry) (was : ℕ → ℕ → Bool) (f : Option Effect) → hart_of e ≡ hart_in c w p → AreDone was es
+      → ((g : Effect) → f ≡ Some g → IsActed (DoesNow c w p es (access_of e)) (count_after c w p es) (count_after c w p (es ++ e ∷ [])) g)
+      → (d b : ℕ) → marked_after f was d b ≡ true → IsDoneAt (es ++ e ∷ []) (count_after c w p (es ++ e ∷ []) + d) b
+  marks-then es e was None mine so acted d b marked = absurd (cc)
+  marks-then es e was (Some f) mine so acted d b marked = marks-after es e was f mine so (acted f refl) d b marked
 
 module _ (B M : ℕ) (o : OpeningValue) (c : QueueCertificate) (ok : accepts o c ≡ true) where
   -- what hart h reads at each byte
@@ -129,36 +168,36 @@ module _ (B M : ℕ) (o : OpeningValue) (c : QueueCertificate) (ok : accepts o c
   )
 
   module _ (done : List Entry) (e : Entry) (run : WellFormed B M (history_of o (done ++ e ∷ []))) (holds : every.Holds (sets B M o c ok) done) where
-    -- another hart's entry, and a landing, publish nothing
-    count-left : (w : QueueNumber) → IsListed c w → is_own (sender_in c w) e ≡ false → published_after c w (done ++ e ∷ []) ≡ published_after c w done
-    count-left (Indexed i) less off = (every.counts_left (sets B M o c ok) done e run holds (queue_at c i).sender off i less).count the_sender refl
-    count-left (Tagged t) less off = (every.beside_left (sets B M o c ok) done e run holds (tagged_at c t).sender off t less).count the_sender refl
+    -- another hart's entry, and a landing, hand nothing on
+    count-left : (w : QueueNumber) (p : Party) → IsListed c w → is_own (hart_in c w p) e ≡ false → count_after c w p (done ++ e ∷ []) ≡ count_after c w p done
+    count-left (Indexed i) p less off = (every.counts_left (sets B M o c ok) done e run holds (hart_in c (Indexed i) p) off i less).count p refl
+    count-left (Tagged t) p less off = (every.beside_left (sets B M o c ok) done e run holds (hart_in c (Tagged t) p) off t less).count p refl
 
-    -- and the sender's own what its access does
-    count-acted : (w : QueueNumber) → IsListed c w → hart_of e ≡ sender_in c w
-        → published_of w (indexed_then c (sender_in c w) (access_of e) (Counted done)) (tagged_then c (sender_in c w) (access_of e) (Told done))
-        ≡ published_after c w (done ++ e ∷ [])
-    count-acted (Indexed i) less mine =
-        sym ((every.counts_acted (sets B M o c ok) done e run holds (queue_at c i).sender mine i).count the_sender refl)
-    count-acted (Tagged t) less mine =
-        sym ((every.beside_acted (sets B M o c ok) done e run holds (tagged_at c t).sender mine t less).count the_sender refl)
+    -- and the party's own what its access does
+    count-acted : (w : QueueNumber) (p : Party) → IsListed c w → hart_of e ≡ hart_in c w p
+        → count_of w p (indexed_then c (hart_in c w p) (access_of e) (Counted done)) (tagged_then c (hart_in c w p) (access_of e) (Told done))
+        ≡ count_after c w p (done ++ e ∷ [])
+    count-acted (Indexed i) p less mine =
+        sym ((every.counts_acted (sets B M o c ok) done e run holds (hart_in c (Indexed i) p) mine i).count p refl)
+    count-acted (Tagged t) p less mine =
+        sym ((every.beside_acted (sets B M o c ok) done e run holds (hart_in c (Tagged t) p) mine t less).count p refl)
 
-  module _ (w : QueueNumber) (less : IsListed c w) (mask : ℕ → Bool) (shown : IsShownWritten o c w mask) where
+  module _ (w : QueueNumber) (p : Party) (less : IsListed c w) (mask : ℕ → Bool) (shown : IsShown o c w p mask) where
     abbrev h : ℕ
-    h = sender_in c w
+    h = hart_in c w p
 
-    -- a byte is surely written, in state n
+    -- a byte is surely done, in state n
     abbrev IsSurely : (n d b : ℕ) → Type 0
-    IsSurely n d b = IsSurelyWritten (sender_graph o c w) (first_of c w) n d b
+    IsSurely n d b = IsSurelyDone (graph_of o c w p) (first_of c w p) n d b
 
-    -- a listed state of the sender's, where all is written that surely is
+    -- a listed state of the party's, where all is done that surely is
     record IsMarked (done : List Entry) (s : HartState) : Type 0 where
       state : ℕ
       listed : state < length (part_of c h).states
       means : MeansAll c h (state_at c h state).known s (Sees h done) (Counted done) (Told done)
-      written : (d b : ℕ) → IsSurely state d b → IsWrittenAt c w done (published_after c w done + d) b
+      all_done : (d b : ℕ) → IsSurely state d b → IsDoneAt c w p done (count_after c w p done + d) b
 
-    -- a sender that runs is in such a state
+    -- a party that runs is in such a state
     abbrev StaysMarked : List Entry → Type 0
     StaysMarked done = (s : HartState) → state_of M (history_of o done) h ≡ Some s → s.status ≡ status.Running → IsMarked done s
 
@@ -166,13 +205,13 @@ module _ (B M : ℕ) (o : OpeningValue) (c : QueueCertificate) (ok : accepts o c
       holds : every.Holds (sets B M o c ok) done
       holds = every.holds (sets B M o c ok) done (kept-front B M o done (e ∷ []) run)
 
-      -- an entry of the sender's, from its state and the marks of it
+      -- an entry of the party's, from its state and the marks of it
       record Stepped : Type 0 where
         state : HartState
         at : state_of M (history_of o done) h ≡ Some state
         from : ℕ
-        written : (d b : ℕ) → IsSurely from d b → IsWrittenAt c w done (published_after c w done + d) b
-        leading : Leads M o c ok w less from (Sees h done) (Counted done) (Told done) (access_of e) (advanced state (number_read e))
+        all_done : (d b : ℕ) → IsSurely from d b → IsDoneAt c w p done (count_after c w p done + d) b
+        leading : Leads M o c ok w p less from (Sees h done) (Counted done) (Told done) (access_of e) (advanced state (number_read e))
 
       stepped : hart_of e ≡ h → is_land e ≡ false → Stepped
       stepped mine act =
@@ -185,20 +224,21 @@ module _ (B M : ℕ) (o : OpeningValue) (c : QueueCertificate) (ok : accepts o c
             state = k.0;
             at = k.1;
             from = m.state;
-            written = m.written;
-            leading = leads M o c ok w less a.opens of k.0 (Sees h done) (Counted done) (Told done) e a
+            all_done = m.all_done;
+            leading = leads M o c ok w p less a.opens of k.0 (Sees h done) (Counted done) (Told done) e a
                 (every.knows_beside (sets B M o c ok) done holds h) a.code a.size m.state leaf.known leaf.handed leaf.arrows leaf.numbers
                 (leaf.passes (λ k d arrows. all_lead c h (next_states c h a.opens.code k d) arrows) (of.closed m.state m.listed))
-                (λ P all. leaf.passes (λ k d arrows. P (sent_by c w a.opens.code k d arrows)) (leaves-pass M o c ok w less a.opens a.is m.state m.listed P all))
+                (λ P all. leaf.passes (λ k d arrows. P (leaf_by c w p a.opens.code k d arrows))
+                (leaves-pass M o c ok w p less a.opens a.is m.state m.listed P all))
                 leaf.means (leaf.told (Told done) m.means.2);
           }
 
-      -- what it sends, by the counts of the run
-      sends : (mine : hart_of e ≡ h) (act : is_land e ≡ false) (f : Effect) → (stepped mine act).leading.does.effect ≡ Some f
-          → Sends (size_in c w) (slot_in c w) (published_after c w done) (published_after c w (done ++ e ∷ [])) f (access_of e)
+      -- what it does, by the counts of the run
+      acts : (mine : hart_of e ≡ h) (act : is_land e ≡ false) (f : Effect) → (stepped mine act).leading.does.effect ≡ Some f
+          → Acted (DoesNow c w p done (access_of e)) (count_after c w p done) (count_after c w p (done ++ e ∷ [])) f
           (advanced (stepped mine act).state (number_read e))
-      sends mine act f is = subst (λ n. Sends (size_in c w) (slot_in c w) (published_after c w done) n f (access_of e)
-          (advanced (stepped mine act).state (number_read e))) (count-acted done e run holds w less mine) ((stepped mine act).leading.sends f is)
+      acts mine act f is = subst (λ n. Acted (DoesNow c w p done (access_of e)) (count_after c w p done) n f
+          (advanced (stepped mine act).state (number_read e))) (count-acted done e run holds w p less mine) ((stepped mine act).leading.acts f is)
 
       marked-next : StaysMarked (done ++ e ∷ [])
       marked-next z at runs = by (is_own h e) refl
@@ -206,7 +246,7 @@ module _ (B M : ℕ) (o : OpeningValue) (c : QueueCertificate) (ok : accepts o c
           by : (b : Bool) → is_own h e ≡ b → IsMarked (done ++ e ∷ []) z
           by false off =
               let m = marked z (same_state M o done e h off z at) runs in
-              let kept : published_after c w (done ++ e ∷ []) ≡ published_after c w done = count-left done e run holds w less off in
+              let kept : count_after c w p (done ++ e ∷ []) ≡ count_after c w p done = count-left done e run holds w p less off in
               record {
                 state = m.state;
                 listed = m.listed;
@@ -214,7 +254,7 @@ module _ (B M : ℕ) (o : OpeningValue) (c : QueueCertificate) (ok : accepts o c
                     (Told done) (Told (done ++ e ∷ [])) m.means
                     (λ x kept. every.view_other (sets B M o c ok) done e run holds h x (inl kept) off)
                     (every.counts_left (sets B M o c ok) done e run holds h off) (every.beside_left (sets B M o c ok) done e run holds h off);
-                written = λ d b is. written-on c w done e (published_after c w done + d) d b (omega (arith, kept)) (m.written d b is);
+                all_done = λ d b is. done-on c w p done e (count_after c w p done + d) d b (omega (arith, kept)) (m.all_done d b is);
               }
           by true on =
               let parts = own_parts h e on in
@@ -233,32 +273,32 @@ module _ (B M : ℕ) (o : OpeningValue) (c : QueueCertificate) (ok : accepts o c
                     (λ x kept. every.view_acted (sets B M o c ok) done e run holds h x parts.0 parts.1)
                     (λ j short. every.counts_acted (sets B M o c ok) done e run holds h parts.0 j)
                     (every.beside_acted (sets B M o c ok) done e run holds h parts.0));
-                written = λ d b is. marks-then c w done e (is.marks st.from) st.leading.does.effect parts.0
-                    (λ j a marked. st.written j a (record { marks = is.marks; kept = is.kept; marked = marked }))
-                    (λ f does. (sends parts.0 parts.1 f does).done running) d b (found.keeps is.marks d b (is.kept.leads st.from d b) is.marked);
+                all_done = λ d b is. marks-then c w p done e (is.marks st.from) st.leading.does.effect parts.0
+                    (λ j a marked. st.all_done j a (record { marks = is.marks; kept = is.kept; marked = marked }))
+                    (λ f does. (acts parts.0 parts.1 f does).done running) d b (found.keeps is.marks d b (is.kept.leads st.from d b) is.marked);
               }
 
-      -- what it publishes was written
-      written-there : (k : ℕ) → published_after c w done ≤ k → k < published_after c w (done ++ e ∷ []) → (b : ℕ) → mask b ≡ true → IsWrittenAt c w done k b
-      written-there k from past b asked = by (is_own h e) refl
+      -- what it hands on was done
+      done-there : (k : ℕ) → count_after c w p done ≤ k → k < count_after c w p (done ++ e ∷ []) → (b : ℕ) → mask b ≡ true → IsDoneAt c w p done k b
+      done-there k from past b asked = by (is_own h e) refl
         where
           handed : (f : Option Effect)
-              → ((g : Effect) → f ≡ Some g → published_after c w (done ++ e ∷ []) ≤ published_after c w done + most_published g)
-              → may_hand (k - published_after c w done) f ≡ true
+              → ((g : Effect) → f ≡ Some g → count_after c w p (done ++ e ∷ []) ≤ count_after c w p done + most_published g)
+              → may_hand (k - count_after c w p done) f ≡ true
           handed None upto = refl
           handed (Some f) upto = lt-ltb _ _ (omega (arith, upto f refl, from, past))
 
-          by : (t : Bool) → is_own h e ≡ t → IsWrittenAt c w done k b
-          by false off = absurd (let same : published_after c w (done ++ e ∷ []) ≡ published_after c w done = count-left done e run holds w less off in
+          by : (t : Bool) → is_own h e ≡ t → IsDoneAt c w p done k b
+          by false off = absurd (let same : count_after c w p (done ++ e ∷ []) ≡ count_after c w p done = count-left done e run holds w p less off in
               omega (arith, same, from, past))
           by true on =
               let parts = own_parts h e on in
               let st = stepped parts.0 parts.1 in
-              subst (λ p. IsWrittenAt c w done p b)
-              (let at : published_after c w done + (k - published_after c w done) ≡ k = omega (arith, from) in at)
-              (st.written (k - published_after c w done) b (shown st.from (k - published_after c w done)
-              (hands M o c ok w less st.from st.leading.does st.leading.leaf (k - published_after c w done)
-              (handed st.leading.does.effect (λ f is. (sends parts.0 parts.1 f is).upto))) b asked))
+              subst (λ n. IsDoneAt c w p done n b)
+              (let at : count_after c w p done + (k - count_after c w p done) ≡ k = omega (arith, from) in at)
+              (st.all_done (k - count_after c w p done) b (shown st.from (k - count_after c w p done)
+              (hands M o c ok w p less st.from st.leading.does st.leading.leaf (k - count_after c w p done)
+              (handed st.leading.does.effect (λ f is. (acts parts.0 parts.1 f is).upto))) b asked))
 
     first : StaysMarked []
     first s at runs = opened (slice_get o.harts h) refl at
@@ -276,8 +316,8 @@ module _ (B M : ℕ) (o : OpeningValue) (c : QueueCertificate) (ok : accepts o c
                 opens-means M o c ok h x (state_at c h (part_of c h).first).known (part_of c h).numbers of.opens,
                 told-opens c h (state_at c h (part_of c h).first).known (part_of c h).numbers (fine-tagged M o c ok) of.told,
               );
-              written = λ d b is. absurd (let none : is.marks (first_of c w) d b ≡ false = is.kept.opens d b in
-                  let some : is.marks (first_of c w) d b ≡ true = is.marked in
+              all_done = λ d b is. absurd (let none : is.marks (first_of c w p) d b ≡ false = is.kept.opens d b in
+                  let some : is.marks (first_of c w p) d b ≡ true = is.marked in
                   cc);
             })
 
@@ -288,7 +328,19 @@ module _ (B M : ℕ) (o : OpeningValue) (c : QueueCertificate) (ok : accepts o c
         let whole_run : WellFormed B M (history_of o ((done ++ e ∷ []) ++ rest)) = subst (λ es. WellFormed B M (history_of o es)) (sym all) run in
         subst StaysMarked all (from (done ++ e ∷ []) rest whole_run (marked-next done e (kept-front B M o (done ++ e ∷ []) rest whole_run) w))
 
-    -- EVERY record, in every run, is written before it is published
-    pub each_written : (es : List Entry) (e : Entry) → WellFormed B M (history_of o (es ++ e ∷ [])) → (k : ℕ)
-        → published_after c w es ≤ k → k < published_after c w (es ++ e ∷ []) → (b : ℕ) → mask b ≡ true → IsWritten c w es k (slot_in c w k + b)
-    each_written es e run = written-there es e run (from [] es (kept-front B M o es (e ∷ []) run) first)
+    -- EVERY record, in every run, is done before it is handed on
+    each-done : (es : List Entry) (e : Entry) → WellFormed B M (history_of o (es ++ e ∷ [])) → (k : ℕ)
+        → count_after c w p es ≤ k → k < count_after c w p (es ++ e ∷ []) → (b : ℕ) → mask b ≡ true → IsDoneAt c w p es k b
+    each-done es e run = done-there es e run (from [] es (kept-front B M o es (e ∷ []) run) first)
+
+  -- ---- of each party
+
+  pub each_written : (w : QueueNumber) → IsListed c w → (mask : ℕ → Bool) → IsShownWritten o c w mask → (es : List Entry) (e : Entry)
+      → WellFormed B M (history_of o (es ++ e ∷ [])) → (k : ℕ) → published_after c w es ≤ k → k < published_after c w (es ++ e ∷ [])
+      → (b : ℕ) → mask b ≡ true → IsWritten c w es k (slot_in c w k + b)
+  each_written w less mask shown = each-done w the_sender less mask shown
+
+  pub each_read : (w : QueueNumber) → IsListed c w → (mask : ℕ → Bool) → IsShownRead o c w mask → (es : List Entry) (e : Entry)
+      → WellFormed B M (history_of o (es ++ e ∷ [])) → (k : ℕ) → taken_after c w es ≤ k → k < taken_after c w (es ++ e ∷ [])
+      → (b : ℕ) → mask b ≡ true → IsRead c w es k (slot_in c w k + b)
+  each_read w less mask shown = each-done w the_receiver less mask shown

@@ -1,6 +1,8 @@
-pub mod Senders
+pub mod Receipts
+pub mod Parties
 pub mod Written
-pub mod SenderLeaves
+pub mod Read
+pub mod PartyLeaves
 pub mod Sure
 pub mod MarkLists
 pub mod Marks

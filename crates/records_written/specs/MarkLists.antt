@@ -6,8 +6,8 @@ use Rattle.record_bytes.specs.declared.ranges.ByteRange.{ByteRange}
 use Rattle.record_bytes.specs.Ranges.{range_has, has_byte}
 use Rattle.records_written.specs.declared.marking.Mark.{Mark}
 use Rattle.records_written.specs.declared.finding.Open.{Open}
-use Rattle.records_written.specs.declared.finding.Unwritten.{Unwritten}
-use Rattle.records_written.specs.SenderLeaves.{SenderLeaf, written_after, may_publish}
+use Rattle.records_written.specs.declared.finding.Missing.{Missing}
+use Rattle.records_written.specs.PartyLeaves.{PartyLeaf, marked_after, may_hand_on}
 use Rattle.records_written.specs.Sure.{Marks, AreKept}
 
 abbrev pub is_mark : Mark → (d b : ℕ) → Bool
@@ -25,19 +25,19 @@ abbrev pub marks_of : List (Option (List Mark)) → Marks
 marks_of all n d b = marks_byte (get_or all n (Some [])) d b
 
 -- they mark all that any marks do that the leaves keep
-abbrev pub AreMost : (graph : List (List SenderLeaf)) → (first : ℕ) → List (Option (List Mark)) → Type 0
+abbrev pub AreMost : (graph : List (List PartyLeaf)) → (first : ℕ) → List (Option (List Mark)) → Type 0
 AreMost graph first all =
     (f : Marks) → AreKept graph first f → (n d b : ℕ) → n < length graph → f n d b ≡ true → marks_of all n d b ≡ true
 
 -- ---- what a leaf takes away
 
--- state m isn't among these, or `written` says so
-abbrev pub is_left : List ℕ → (written : Bool) → (m : ℕ) → Bool
-is_left targets written m = list_all (λ to. not (to == m) || written) targets
+-- state m isn't among these, or `done` says so
+abbrev pub is_left : List ℕ → (done : Bool) → (m : ℕ) → Bool
+is_left targets done m = list_all (λ to. not (to == m) || done) targets
 
 -- where leaves of a state that is marked so lead to state m
-abbrev pub are_left : List SenderLeaf → (own : ℕ → ℕ → Bool) → (m d b : ℕ) → Bool
-are_left leaves own m d b = list_all (λ s. is_left s.targets (written_after s.effect own d b) m) leaves
+abbrev pub are_left : List PartyLeaf → (own : ℕ → ℕ → Bool) → (m d b : ℕ) → Bool
+are_left leaves own m d b = list_all (λ s. is_left s.targets (marked_after s.effect own d b) m) leaves
 
 -- ---- what isn't marked
 
@@ -68,21 +68,21 @@ IsFirstOpen mask own isPast None = (d : ℕ) → isPast d → (b : ℕ) → is_o
 IsFirstOpen mask own isPast (Some o) = isPast o.position × (is_open mask own o.position o.byte ≡ true)
     × ((a : ℕ) → a < o.byte → is_open mask own o.position a ≡ false) × ((d : ℕ) → d < o.position → (a : ℕ) → is_open mask own d a ≡ false)
 
--- how many positions these leaves may publish: any number, or fewer than this
-abbrev pub IsBound : List SenderLeaf → Option ℕ → Type 0
-IsBound leaves None = (d : ℕ) → may_publish leaves d ≡ true
-IsBound leaves (Some n) = (d : ℕ) → may_publish leaves d ≡ nat_lt d n
+-- how many positions these leaves may hand on: any number, or fewer than this
+abbrev pub IsBound : List PartyLeaf → Option ℕ → Type 0
+IsBound leaves None = (d : ℕ) → may_hand_on leaves d ≡ true
+IsBound leaves (Some n) = (d : ℕ) → may_hand_on leaves d ≡ nat_lt d n
 
--- all positions that they may publish come before this number, or any position may be published, and one that comes before has no mark
-abbrev pub IsEnd : List SenderLeaf → (ℕ → ℕ → Bool) → ℕ → Type 0
+-- all positions that they may hand on come before this number, or any position may be handed on, and one that comes before has no mark
+abbrev pub IsEnd : List PartyLeaf → (ℕ → ℕ → Bool) → ℕ → Type 0
 IsEnd leaves own end = IsBound leaves (Some end) ⊎ (IsBound leaves None × ((e : ℕ) × (e < end) × ((b : ℕ) → own e b ≡ false)))
 
--- a byte of the mask that isn't marked in state n, of a position that it may publish: the first
-abbrev pub IsOpenAt : (graph : List (List SenderLeaf)) → List ByteRange → Marks → (n : ℕ) → Option Open → Type 0
-IsOpenAt graph mask f n = IsFirstOpen mask (f n) (λ d. may_publish (get_or graph n []) d ≡ true)
+-- a byte of the mask that isn't marked in state n, of a position that it may hand on: the first
+abbrev pub IsOpenAt : (graph : List (List PartyLeaf)) → List ByteRange → Marks → (n : ℕ) → Option Open → Type 0
+IsOpenAt graph mask f n = IsFirstOpen mask (f n) (λ d. may_hand_on (get_or graph n []) d ≡ true)
 
 -- of the states before state `states`
-abbrev pub IsFirstOf : (graph : List (List SenderLeaf)) → List ByteRange → Marks → (states : ℕ) → Option Unwritten → Type 0
+abbrev pub IsFirstOf : (graph : List (List PartyLeaf)) → List ByteRange → Marks → (states : ℕ) → Option Missing → Type 0
 IsFirstOf graph mask f states None = (n : ℕ) → n < states → IsOpenAt graph mask f n None
 IsFirstOf graph mask f states (Some u) = (u.state < states) × ((n : ℕ) → n < u.state → IsOpenAt graph mask f n None)
     × ((position : ℕ) × IsOpenAt graph mask f u.state (Some (record { position = position; byte = u.byte })))

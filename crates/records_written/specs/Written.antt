@@ -5,8 +5,8 @@ use Rattle.step_machine.specs.Access.{access_of}
 use Rattle.step_machine.specs.Entries.{hart_of}
 use Rattle.queue_certificates.specs.Effects.{WritesByte}
 use Rattle.queue_certificates.specs.Certificates.{QueueCertificate}
-use Rattle.records_written.specs.Senders.{sender_in, size_in, published_after}
-use Rattle.records_written.specs.declared.senders.QueueNumber.{QueueNumber}
+use Rattle.records_written.specs.Parties.{sender_in, size_in, published_after}
+use Rattle.records_written.specs.declared.parties.QueueNumber.{QueueNumber}
 
 -- In these entries of a run the sender of queue w wrote the byte at x after it had published position k - size, whose slot is that of
 -- position k. Where there is no such position, at any time

@@ -1,32 +1,34 @@
-//! The first byte of records that isn't shown to be written.
+//! The first byte of records that isn't shown to be written, or read.
 
 ghost use Rattle.std.specs.Prelude.{ℕ, ◌≡◌, ◌==◌, ◌&&◌, ◌<◌, IfOk, IfSome, MatchOption, length, true, false};
 ghost use Rattle.record_bytes.specs.Ranges.{has_byte};
 ghost use Rattle.queue_certificates.specs.Certificates.{part_of};
-ghost use Rattle.records_written.specs.Senders.{sender_in};
-ghost use Rattle.records_written.specs.Marks.{IsShownWritten, IsFirstUnwritten};
-ghost use Rattle.records_written.specs.SenderLeaves.{may_publish};
+ghost use Rattle.queue_layouts.specs.Sides.{the_party};
+ghost use Rattle.records_written.specs.Parties.{hart_in, sender_in, receiver_in};
+ghost use Rattle.records_written.specs.Marks.{IsShown, IsFirstMissing, IsShownWritten, IsFirstUnwritten, IsShownRead, IsFirstUnread};
+ghost use Rattle.records_written.specs.PartyLeaves.{may_hand_on};
 ghost use Rattle.records_written.specs.Sure.{IsSure, IsFirstUnsure};
 ghost use Rattle.records_written.specs.MarkLists.{has_mark, marks_of, IsBound, IsEnd, IsFirstOf, IsFirstOpen, IsLowestOpen};
 
 use crate::keeping::are_kept;
-use crate::leaves::{StateLeaves, sender_graph};
+use crate::leaves::{StateLeaves, graph_of};
 use crate::marking::{Mark, StateMarks, end_of, lowest, minus};
+use crate::parties::{QueueNumber, first_state};
 use crate::searching::{marks_at, most_marks};
-use crate::senders::{QueueNumber, first_state};
 use known_values::Lack;
 use known_values::lack::sum;
 use queue_checker::QueueCertificate;
 use queue_checker::effects::most_published;
 use queue_checker::sites::small;
+use queue_layouts::Party;
 use record_bytes::ByteRange;
 use std::alloc::{AllocError, Global};
 use step_machine::Opening;
 
-/// The first byte of the mask that isn't shown to be written, in the records of a queue: at the sender's state of this number, which
-/// publishes.
+/// The first byte of the mask that isn't shown to be written, or read, in the records of a queue: at the party's state of this number,
+/// which publishes, or takes.
 #[derive(Clone, Copy)]
-pub struct Unwritten {
+pub struct Missing {
     pub state: u32,
     pub byte: u64,
 }
@@ -95,8 +97,8 @@ fn first_open(
     Ok(None)
 }
 
-/// How many positions a state's leaves may publish; `None`, if any number.
-fn published_by(state: &StateLeaves) -> Option<u64>
+/// How many positions a state's leaves may hand on; `None`, if any number.
+fn handed_by(state: &StateLeaves) -> Option<u64>
     ensures { IsBound state.now result }
 {
     let mut most = 0;
@@ -109,12 +111,12 @@ fn published_by(state: &StateLeaves) -> Option<u64>
     Some(most)
 }
 
-/// The end of the positions that are asked about at a state: of those that it may publish, or one past all that have a mark.
+/// The end of the positions that are asked about at a state: of those that it may hand on, or one past all that have a mark.
 fn end_at(own: &[Mark], state: &StateLeaves) -> Result<u64, Lack>
     ensures { IfOk result (IsEnd state.now (has_mark own.now)) }
 {
-    match published_by(state) {
-        Some(published) => Ok(published),
+    match handed_by(state) {
+        Some(handed) => Ok(handed),
         None => sum(end_of(own)?, 1),
     }
 }
@@ -126,7 +128,7 @@ fn open_in(
     own: &[Mark],
     state: &StateLeaves,
 ) -> Result<Option<Open>, Lack>
-    ensures { IfOk result (IsFirstOpen mask.now (has_mark own.now) (λ d. may_publish state.now d ≡ true)) }
+    ensures { IfOk result (IsFirstOpen mask.now (has_mark own.now) (λ d. may_hand_on state.now d ≡ true)) }
 {
     let end = end_at(own, state)?;
     let open = first_open(alloc, mask, own, end)?;
@@ -141,7 +143,7 @@ fn open_at(
     state: &StateLeaves,
     n: u32,
 ) -> Result<Option<Open>, Lack>
-    ensures { IfOk result (IsFirstOpen mask.now (marks_of all.now n) (λ d. may_publish state.now d ≡ true)) }
+    ensures { IfOk result (IsFirstOpen mask.now (marks_of all.now n) (λ d. may_hand_on state.now d ≡ true)) }
 {
     match marks_at(alloc, all, n)? {
         None => Ok(None),
@@ -156,13 +158,13 @@ fn first_unmarked(
     states: u32,
     all: &[Option<StateMarks>],
     mask: &[ByteRange],
-) -> Result<Option<Unwritten>, Lack>
+) -> Result<Option<Missing>, Lack>
     requires { states ≡ length graph.now }
     ensures { IfOk result (IsFirstOf graph.now mask.now (marks_of all.now) states) }
 {
     for n in 0..states {
         if let Some(open) = open_at(alloc, all, mask, &graph[n as usize], n)? {
-            return Ok(Some(Unwritten {
+            return Ok(Some(Missing {
                 state: n,
                 byte: open.byte,
             }));
@@ -171,14 +173,14 @@ fn first_unmarked(
     Ok(None)
 }
 
-/// The first byte of the mask that isn't surely written, of the leaves of a sender that opens in state `first`.
+/// The first byte of the mask that isn't surely done, of the leaves of a party that opens in state `first`.
 pub(crate) fn first_unsure(
     alloc: Global,
     graph: &[StateLeaves],
     states: u32,
     first: u32,
     mask: &[ByteRange],
-) -> Result<Option<Unwritten>, Lack>
+) -> Result<Option<Missing>, Lack>
     requires { states ≡ length graph.now }
     ensures { IfOk result (λ r. MatchOption r (IsSure graph.now first (has_byte mask.now))
         (λ u. IsFirstUnsure graph.now first (has_byte mask.now) u.state u.byte)) }
@@ -194,6 +196,31 @@ pub(crate) fn first_unsure(
     first_unmarked(alloc, graph, states, &all, mask)
 }
 
+/// Which byte of the mask a party isn't shown to write, or read, in each record, before it hands that on.
+fn first_missing(
+    alloc: Global,
+    opening: &Opening,
+    certificate: &QueueCertificate,
+    queue: QueueNumber,
+    party: Party,
+    mask: &[ByteRange],
+) -> Result<Option<Missing>, Lack>
+    ensures exact { IfOk result (λ missing. MatchOption missing (IsShown opening.now certificate.now queue (the_party party) (has_byte mask.now))
+        (IsFirstMissing opening.now certificate.now queue (the_party party) (has_byte mask.now))) }
+    ensures within { IfOk result (λ missing. IfSome missing (λ u. u.state < length (part_of certificate.now (hart_in certificate.now queue (the_party
+        party))).states)) }
+{
+    let graph = graph_of(alloc, opening, certificate, queue, party)?;
+    let states = small(graph.len())?;
+    first_unsure(
+        alloc,
+        &graph,
+        states,
+        first_state(certificate, queue, party),
+        mask,
+    )
+}
+
 /// Which byte of the mask a queue's sender isn't shown to write in each record, before it publishes it. None: it is shown of all. Otherwise
 /// the first: of the states that may publish a position with a byte that isn't surely written there, in their order, then of the
 /// positions, then of the bytes. A sender that writes it in a way that marks don't express is named too.
@@ -203,12 +230,26 @@ pub fn first_unwritten(
     certificate: &QueueCertificate,
     queue: QueueNumber,
     mask: &[ByteRange],
-) -> Result<Option<Unwritten>, Lack>
+) -> Result<Option<Missing>, Lack>
     ensures exact { IfOk result (λ unwritten. MatchOption unwritten (IsShownWritten opening.now certificate.now queue (has_byte mask.now))
         (IsFirstUnwritten opening.now certificate.now queue (has_byte mask.now))) }
     ensures within { IfOk result (λ unwritten. IfSome unwritten (λ u. u.state < length (part_of certificate.now (sender_in certificate.now queue)).states)) }
 {
-    let graph = sender_graph(alloc, opening, certificate, queue)?;
-    let states = small(graph.len())?;
-    first_unsure(alloc, &graph, states, first_state(certificate, queue), mask)
+    first_missing(alloc, opening, certificate, queue, Party::Sender, mask)
+}
+
+/// Which byte of the mask a queue's receiver isn't shown to read in each record, before it hands its slot back: the first, in the same order.
+/// A receiver that reads it only before it learns that it owns the record is named too.
+pub fn first_unread(
+    alloc: Global,
+    opening: &Opening,
+    certificate: &QueueCertificate,
+    queue: QueueNumber,
+    mask: &[ByteRange],
+) -> Result<Option<Missing>, Lack>
+    ensures exact { IfOk result (λ unread. MatchOption unread (IsShownRead opening.now certificate.now queue (has_byte mask.now))
+        (IsFirstUnread opening.now certificate.now queue (has_byte mask.now))) }
+    ensures within { IfOk result (λ unread. IfSome unread (λ u. u.state < length (part_of certificate.now (receiver_in certificate.now queue)).states)) }
+{
+    first_missing(alloc, opening, certificate, queue, Party::Receiver, mask)
 }

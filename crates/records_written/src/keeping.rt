@@ -1,8 +1,8 @@
-//! Whether the leaves of a sender's states keep marks.
+//! Whether the leaves of a party's states keep marks.
 
 ghost use Rattle.std.specs.Prelude.{ℕ, ◌≡◌, ◌||◌, not, IfOk, true, false, length};
 ghost use Rattle.std.specs.List.{list_all};
-ghost use Rattle.records_written.specs.SenderLeaves.{written_after};
+ghost use Rattle.records_written.specs.PartyLeaves.{marked_after};
 ghost use Rattle.records_written.specs.Sure.{keeps, AreKept};
 ghost use Rattle.records_written.specs.MarkLists.{marks_byte, marks_of};
 
@@ -58,7 +58,7 @@ fn leaf_keeps(
     leaf: &Leaf,
 ) -> Result<bool, Lack>
     ensures { IfOk result (λ k. k ≡ true → (d b : ℕ)
-        → list_all (λ to. not (marks_of all.now to d b) || written_after leaf.now.effect (marks_byte own.now) d b) leaf.now.targets ≡ true) }
+        → list_all (λ to. not (marks_of all.now to d b) || marked_after leaf.now.effect (marks_byte own.now) d b) leaf.now.targets ≡ true) }
 {
     let left = left_after(alloc, own, leaf.effect)?;
     targets_keep(alloc, all, &left, &leaf.targets)
@@ -72,7 +72,7 @@ fn leaves_keep(
     leaves: &[Leaf],
 ) -> Result<bool, Lack>
     ensures { IfOk result (λ k. k ≡ true → (d b : ℕ) → list_all (λ s. list_all (λ to. not (marks_of all.now to d b)
-        || written_after s.effect (marks_byte own.now) d b) s.targets) leaves.now ≡ true) }
+        || marked_after s.effect (marks_byte own.now) d b) s.targets) leaves.now ≡ true) }
 {
     let mut all_keep = true;
     for leaf in leaves {
@@ -95,7 +95,7 @@ fn state_keeps(
     leaves_keep(alloc, all, &own, &state.leaves)
 }
 
-/// Whether nothing is marked where the sender opens.
+/// Whether nothing is marked where the party opens.
 fn opens_unmarked(all: &[Option<StateMarks>], first: u32) -> bool
     ensures { result ≡ true → (d b : ℕ) → marks_of all.now first d b ≡ false }
 {
@@ -106,7 +106,7 @@ fn opens_unmarked(all: &[Option<StateMarks>], first: u32) -> bool
     }
 }
 
-/// Whether all leaves keep these marks, and nothing is marked where the sender opens.
+/// Whether all leaves keep these marks, and nothing is marked where the party opens.
 pub(crate) fn are_kept(
     alloc: Global,
     graph: &[StateLeaves],

@@ -1,11 +1,12 @@
-//! What a sender does at each of its states: the leaves of the state's cases, with their effects.
+//! What a party does at each of its states: the leaves of the state's cases, with their effects.
 
 ghost use Rattle.std.specs.Prelude.{◌≡◌, ◌++◌, IfOk, OnOk, map};
 ghost use Rattle.queue_checker.specs.Flaws.{hart_at};
-ghost use Rattle.records_written.specs.Senders.{sender_in};
-ghost use Rattle.records_written.specs.Marks.{sent_by, sent_in, sender_graph};
+ghost use Rattle.queue_layouts.specs.Sides.{the_party};
+ghost use Rattle.records_written.specs.Parties.{hart_in};
+ghost use Rattle.records_written.specs.Marks.{leaf_by, leaves_in, graph_of};
 
-use crate::senders::{QueueNumber, effect_in, sender_in};
+use crate::parties::{QueueNumber, effect_in, hart_in};
 use known_values::{Form, Lack};
 use queue_certificates::Effect;
 use queue_checker::leaves::{goes_beyond, with_high, with_low};
@@ -13,11 +14,12 @@ use queue_checker::owning::code_of;
 use queue_checker::sites::listed_states;
 use queue_checker::steps::instruction_at;
 use queue_checker::{Arrow, CaseNode, Cases, KnownState, ListedState, QueueCertificate};
+use queue_layouts::Party;
 use std::alloc::Global;
 use std::marker::Model;
 use step_machine::Opening;
 
-/// A leaf: its effect, or none where it isn't known how many positions it publishes, and the states to which it leads.
+/// A leaf: its effect, or none where it isn't known how many positions it hands on, and the states to which it leads.
 #[derive(Drop)]
 pub(crate) struct Leaf {
     pub(crate) effect: Option<Effect>,
@@ -25,9 +27,9 @@ pub(crate) struct Leaf {
 }
 
 impl Model for Leaf {
-    ghost use Rattle.records_written.specs.SenderLeaves.{SenderLeaf};
+    ghost use Rattle.records_written.specs.PartyLeaves.{PartyLeaf};
 
-    ghost Value = { SenderLeaf };
+    ghost Value = { PartyLeaf };
 
     ghost view = { λ s. record { effect = s.effect; targets = s.targets.items } };
 }
@@ -40,9 +42,9 @@ pub(crate) struct StateLeaves {
 
 impl Model for StateLeaves {
     ghost use Rattle.std.specs.Prelude.{List};
-    ghost use Rattle.records_written.specs.SenderLeaves.{SenderLeaf};
+    ghost use Rattle.records_written.specs.PartyLeaves.{PartyLeaf};
 
-    ghost Value = { List SenderLeaf };
+    ghost Value = { List PartyLeaf };
 
     ghost view = { λ s. s.leaves.items };
 }
@@ -58,15 +60,16 @@ fn leaf_of(
     alloc: Global,
     certificate: &QueueCertificate,
     queue: QueueNumber,
+    party: Party,
     code: &[u32],
     state: &KnownState,
     handed: &Form,
     arrows: &[Arrow],
 ) -> Result<Leaf, Lack>
-    ensures { IfOk result (λ leaf. leaf ≡ sent_by certificate.now queue code.now state.now handed.now arrows.now) }
+    ensures { IfOk result (λ leaf. leaf ≡ leaf_by certificate.now queue (the_party party) code.now state.now handed.now arrows.now) }
 {
     let instruction = instruction_at(code, state.pc);
-    let effect = effect_in(alloc, certificate, queue, state, handed, instruction)?;
+    let effect = effect_in(alloc, certificate, queue, party, state, handed, instruction)?;
     let targets = targets_of(alloc, arrows)?;
     Ok(Leaf { effect, targets })
 }
@@ -76,25 +79,36 @@ fn push_leaves(
     alloc: Global,
     certificate: &QueueCertificate,
     queue: QueueNumber,
+    party: Party,
     code: &[u32],
     state: &KnownState,
     cases: &Cases,
     leaves: &mut Vec<Leaf>,
 ) -> Result<(), Lack>
-    ensures { IfOk result (λ _. leaves.new.items ≡ leaves.old.items ++ sent_in (sent_by certificate.now queue code.now) state.now cases.now) }
+    ensures { IfOk result (λ _. leaves.new.items ≡ leaves.old.items
+        ++ leaves_in (leaf_by certificate.now queue (the_party party) code.now) state.now cases.now) }
 {
     match &cases.node {
         CaseNode::Leaf(handed, arrows) => {
-            let leaf = leaf_of(alloc, certificate, queue, code, state, handed, arrows)?;
+            let leaf = leaf_of(
+                alloc,
+                certificate,
+                queue,
+                party,
+                code,
+                state,
+                handed,
+                arrows,
+            )?;
             leaves.push(leaf)?;
             Ok(())
         }
         CaseNode::Split(variable, most, low, high) => {
             let below = with_low(alloc, state, *variable, *most)?;
-            push_leaves(alloc, certificate, queue, code, &below, low, leaves)?;
+            push_leaves(alloc, certificate, queue, party, code, &below, low, leaves)?;
             if goes_beyond(state, *variable, *most) {
                 let above = with_high(alloc, state, *variable, *most)?;
-                push_leaves(alloc, certificate, queue, code, &above, high, leaves)
+                push_leaves(alloc, certificate, queue, party, code, &above, high, leaves)
             } else {
                 Ok(())
             }
@@ -106,16 +120,18 @@ fn leaves_of(
     alloc: Global,
     certificate: &QueueCertificate,
     queue: QueueNumber,
+    party: Party,
     code: &[u32],
     listed: &ListedState,
 ) -> Result<StateLeaves, Lack>
-    ensures { IfOk result (λ state. state ≡ sent_in (sent_by certificate.now queue code.now) listed.now.known listed.now.cases) }
+    ensures { IfOk result (λ state. state ≡ leaves_in (leaf_by certificate.now queue (the_party party) code.now) listed.now.known listed.now.cases) }
 {
     let mut leaves = Vec::new(alloc);
     push_leaves(
         alloc,
         certificate,
         queue,
+        party,
         code,
         &listed.known,
         &listed.cases,
@@ -128,32 +144,35 @@ fn graph_by(
     alloc: Global,
     certificate: &QueueCertificate,
     queue: QueueNumber,
+    party: Party,
     code: &[u32],
     states: &[ListedState],
 ) -> Result<Vec<StateLeaves>, Lack>
-    ensures { IfOk result (λ graph. graph.items ≡ map (λ t. sent_in (sent_by certificate.now queue code.now) t.known t.cases) states.now) }
+    ensures { IfOk result (λ graph. graph.items ≡ map (λ t. leaves_in (leaf_by certificate.now queue (the_party party) code.now) t.known t.cases) states.now) }
 {
     let mut graph = Vec::new(alloc);
     for listed in states {
-        graph.push(leaves_of(alloc, certificate, queue, code, listed)?)?;
+        graph.push(leaves_of(alloc, certificate, queue, party, code, listed)?)?;
     }
     Ok(graph)
 }
 
-/// The leaves of each state of the queue's sender.
-pub(crate) fn sender_graph(
+/// The leaves of each state of a queue's party.
+pub(crate) fn graph_of(
     alloc: Global,
     opening: &Opening,
     certificate: &QueueCertificate,
     queue: QueueNumber,
+    party: Party,
 ) -> Result<Vec<StateLeaves>, Lack>
-    ensures { IfOk result (λ graph. graph.items ≡ sender_graph opening.now certificate.now queue) }
+    ensures { IfOk result (λ graph. graph.items ≡ graph_of opening.now certificate.now queue (the_party party)) }
 {
-    let hart = sender_in(certificate, queue);
+    let hart = hart_in(certificate, queue, party);
     graph_by(
         alloc,
         certificate,
         queue,
+        party,
         code_of(opening, hart),
         listed_states(certificate, hart),
     )

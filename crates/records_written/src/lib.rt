@@ -1,15 +1,18 @@
-//! Certificates that show that records are written: whether the sender of a queue stores each byte of a record before it publishes it.
+//! Certificates that show that records are written and read: whether the sender of a queue stores each byte of a record before it publishes
+//! it, and whether the receiver loads each before it hands the record's slot back.
 //!
-//! The protocol of ownership says which slots a sender may write, not that it writes them: a text that publishes slots as it found
-//! them keeps it. Marks say, for each state of the sender in a certificate of `queue_certificates`, which bytes of the slots ahead of its
-//! count it has written since these slots were last published; each leaf of a state has to keep them. What any such marks mark is surely
-//! written there.
+//! The protocol of ownership says which slots a party may write or read, not that it does: a text that publishes slots as it found them
+//! keeps it, and so does one that drops records. Marks say, for each state of a party in a certificate of `queue_certificates`, which bytes
+//! of the slots ahead of its count are done: those that the sender has written since these slots were last published, or that the receiver
+//! has read while it owned them. Each leaf of a state has to keep them. What any such marks mark is surely done there. Both parties have one
+//! search for marks and one proof over runs; what differs is what an instruction does (`effect_in`).
 //!
 //! The contracts: where each byte of a mask is surely written of each position that a state of an accepted certificate may publish, then
 //! in any run it was written since the record before in its slot, of a queue with indices as of one with tags
-//! ([`laws_of_written_records`]); and [`first_unwritten`] computes whether that is so, or the first byte of which it isn't. A
-//! [`Lack`](known_values::Lack) decides nothing. This crate reads no text, runs no machine, and says neither what a record holds nor that a
-//! byte isn't written.
+//! ([`laws_of_written_records`]); and where each is surely read of each position that may be handed back, then in any run it was read while
+//! the receiver owned the position ([`laws_of_read_records`]). [`first_unwritten`] and [`first_unread`] compute whether that is so, or the
+//! first byte of which it isn't. A [`Lack`](known_values::Lack) decides nothing. This crate reads no text, runs no machine, and says neither
+//! what a record holds nor that a byte isn't written, or isn't read.
 //!
 //! Called by `certifying`.
 
@@ -19,22 +22,24 @@ mod finding;
 mod keeping;
 mod leaves;
 mod marking;
+mod parties;
+mod receipts;
 mod searching;
-mod senders;
 
 ghost use Rattle.std.specs.Prelude.{ℕ, ◌≡◌, ◌+◌, ◌<◌, ◌≤◌, Bool, List, [], ◌∷◌, ◌++◌, true};
 ghost use Rattle.step_machine.specs.declared.events.Entry.{Entry};
 ghost use Rattle.step_machine.specs.History.{OpeningValue, history_of};
 ghost use Rattle.step_machine.specs.Legal.{WellFormed};
 ghost use Rattle.queue_certificates.specs.Certificates.{QueueCertificate, accepts};
-ghost use Rattle.records_written.specs.declared.finding.Unwritten.{Unwritten};
-ghost use Rattle.records_written.specs.declared.senders.QueueNumber.{QueueNumber};
-ghost use Rattle.records_written.specs.Senders.{IsListed, published_after, slot_in};
-ghost use Rattle.records_written.specs.Marks.{IsShownWritten, IsFirstUnwritten};
+ghost use Rattle.records_written.specs.declared.finding.Missing.{Missing};
+ghost use Rattle.records_written.specs.declared.parties.QueueNumber.{QueueNumber};
+ghost use Rattle.records_written.specs.Parties.{IsListed, published_after, slot_in, taken_after};
+ghost use Rattle.records_written.specs.Marks.{IsShownWritten, IsFirstUnwritten, IsShownRead, IsFirstUnread};
+ghost use Rattle.records_written.specs.Read.{IsRead};
 ghost use Rattle.records_written.specs.Written.{IsWritten};
 
-pub use finding::{Unwritten, first_unwritten};
-pub use senders::QueueNumber;
+pub use finding::{Missing, first_unread, first_unwritten};
+pub use parties::QueueNumber;
 
 /// Laws of what is shown of the sender of a queue, and of the bytes of a mask. It does nothing.
 ///
@@ -48,8 +53,26 @@ pub fn laws_of_written_records()
         → (mask : ℕ → Bool) → IsShownWritten o c w mask → (es : List Entry) (e : Entry)
         → WellFormed B M (history_of o (es ++ e ∷ [])) → (k : ℕ) → published_after c w es ≤ k → k < published_after c w (es ++ e ∷ [])
         → (b : ℕ) → mask b ≡ true → IsWritten c w es k (slot_in c w k + b) }
-    ensures either { (o : OpeningValue) (c : QueueCertificate) (w : QueueNumber) (mask : ℕ → Bool) (u : Unwritten) → IsShownWritten o c w mask
+    ensures either { (o : OpeningValue) (c : QueueCertificate) (w : QueueNumber) (mask : ℕ → Bool) (u : Missing) → IsShownWritten o c w mask
         → IsFirstUnwritten o c w mask u → ⊥ }
-    ensures one { (o : OpeningValue) (c : QueueCertificate) (w : QueueNumber) (mask : ℕ → Bool) (u v : Unwritten) → IsFirstUnwritten o c w mask u
+    ensures one { (o : OpeningValue) (c : QueueCertificate) (w : QueueNumber) (mask : ℕ → Bool) (u v : Missing) → IsFirstUnwritten o c w mask u
         → IsFirstUnwritten o c w mask v → (u.state ≡ v.state) × (u.byte ≡ v.byte) }
+{}
+
+/// Laws of what is shown of the receiver of a queue, and of the bytes of a mask. It does nothing.
+///
+/// - `read`: where a certificate is accepted for an opening, and they are shown to be read, in every legal run from it, of any length and
+///   with store buffers of any size: where the receiver hands a position back, by its index or by the position's tag, it has read each byte
+///   of the mask in that position's slot, at a time at which it had learned that it owned the position.
+/// - `either`: where a byte is the first that isn't shown to be read, they aren't shown to be.
+/// - `one`: at most one byte at one state is the first.
+pub fn laws_of_read_records()
+    ensures read { (B M : ℕ) (o : OpeningValue) (c : QueueCertificate) → accepts o c ≡ true → (w : QueueNumber) → IsListed c w
+        → (mask : ℕ → Bool) → IsShownRead o c w mask → (es : List Entry) (e : Entry)
+        → WellFormed B M (history_of o (es ++ e ∷ [])) → (k : ℕ) → taken_after c w es ≤ k → k < taken_after c w (es ++ e ∷ [])
+        → (b : ℕ) → mask b ≡ true → IsRead c w es k (slot_in c w k + b) }
+    ensures either { (o : OpeningValue) (c : QueueCertificate) (w : QueueNumber) (mask : ℕ → Bool) (u : Missing) → IsShownRead o c w mask
+        → IsFirstUnread o c w mask u → ⊥ }
+    ensures one { (o : OpeningValue) (c : QueueCertificate) (w : QueueNumber) (mask : ℕ → Bool) (u v : Missing) → IsFirstUnread o c w mask u
+        → IsFirstUnread o c w mask v → (u.state ≡ v.state) × (u.byte ≡ v.byte) }
 {}

@@ -1,9 +1,9 @@
-//! Bytes of slots that are written, at a state of the sender.
+//! Bytes of slots that are written, at a state of the sender, or read, at one of the receiver.
 
 ghost use Rattle.std.specs.Prelude.{ℕ, ◌≡◌, ◌+◌, ◌==◌, ◌&&◌, ◌||◌, not, IfOk, OnOk, MatchOption, true, false, Some, []};
 ghost use Rattle.record_bytes.specs.Naming.{part_has};
 ghost use Rattle.record_bytes.specs.Ranges.{has_byte};
-ghost use Rattle.records_written.specs.SenderLeaves.{is_filled, written_after};
+ghost use Rattle.records_written.specs.PartyLeaves.{is_filled, marked_after};
 ghost use Rattle.records_written.specs.MarkLists.{is_mark, has_mark, marks_byte, lower, IsLowest};
 
 use known_values::Lack;
@@ -13,7 +13,7 @@ use record_bytes::{ByteRange, part_after, part_before};
 use std::alloc::{AllocError, Global};
 use std::marker::Model;
 
-/// Bytes of the slot of the position that is `position` further than the sender's count.
+/// Bytes of the slot of the position that is `position` further than the party's count.
 #[derive(Clone, Copy)]
 pub(crate) struct Mark {
     pub(crate) position: u64,
@@ -149,7 +149,7 @@ pub(crate) fn narrowed(
     Ok(Some(kept))
 }
 
-/// Marks after a store to `width` bytes of a position's slot.
+/// Marks after an access of `width` bytes of a position's slot.
 fn with_filled(
     alloc: Global,
     marks: &[Mark],
@@ -175,15 +175,15 @@ fn with_filled(
     Ok(left)
 }
 
-/// Marks after `published` positions were published.
-fn moved_on(alloc: Global, marks: &[Mark], published: u64) -> Result<Vec<Mark>, AllocError>
-    ensures { IfOk result (λ left. (d b : ℕ) → has_mark left.items d b ≡ has_mark marks.now (d + published) b) }
+/// Marks after `handed` positions were handed on.
+fn moved_on(alloc: Global, marks: &[Mark], handed: u64) -> Result<Vec<Mark>, AllocError>
+    ensures { IfOk result (λ left. (d b : ℕ) → has_mark left.items d b ≡ has_mark marks.now (d + handed) b) }
 {
     let mut left = Vec::new(alloc);
     for mark in marks {
-        if mark.position >= published {
+        if mark.position >= handed {
             left.push(Mark {
-                position: mark.position - published,
+                position: mark.position - handed,
                 bytes: mark.bytes,
             })?;
         }
@@ -193,7 +193,7 @@ fn moved_on(alloc: Global, marks: &[Mark], published: u64) -> Result<Vec<Mark>, 
 
 /// The marks that are so after an effect.
 fn after_effect(alloc: Global, marks: &[Mark], effect: Effect) -> Result<Vec<Mark>, Lack>
-    ensures { IfOk result (λ left. (d b : ℕ) → has_mark left.items d b ≡ written_after (Some effect) (has_mark marks.now) d b) }
+    ensures { IfOk result (λ left. (d b : ℕ) → has_mark left.items d b ≡ marked_after (Some effect) (has_mark marks.now) d b) }
 {
     match effect {
         Effect::Leaves => {
@@ -205,8 +205,8 @@ fn after_effect(alloc: Global, marks: &[Mark], effect: Effect) -> Result<Vec<Mar
             offset,
             width,
         } => with_filled(alloc, marks, position, offset, width),
-        Effect::Publishes(published) => {
-            let left = moved_on(alloc, marks, published)?;
+        Effect::Publishes(handed) => {
+            let left = moved_on(alloc, marks, handed)?;
             Ok(left)
         }
         Effect::PublishesSome(_) => Ok(Vec::new(alloc)),
@@ -219,7 +219,7 @@ pub(crate) fn left_after(
     own: &Option<StateMarks>,
     effect: Option<Effect>,
 ) -> Result<Option<StateMarks>, Lack>
-    ensures { IfOk result (λ left. (d b : ℕ) → marks_byte left d b ≡ written_after effect (marks_byte own.now) d b) }
+    ensures { IfOk result (λ left. (d b : ℕ) → marks_byte left d b ≡ marked_after effect (marks_byte own.now) d b) }
 {
     match effect {
         None | Some(Effect::PublishesSome(_)) => Ok(Some(unmarked(alloc))),

@@ -1,8 +1,8 @@
-//! The most marks that the states of a sender can have: all of them at first, and then without those that a leaf doesn't keep, until
+//! The most marks that the states of a party can have: all of them at first, and then without those that a leaf doesn't keep, until
 //! nothing changes.
 
 ghost use Rattle.std.specs.Prelude.{ℕ, ◌≡◌, ◌==◌, ◌&&◌, ◌||◌, ◌<◌, not, IfOk, OnOk, MatchOption, length, get_or, set, Some, [], true};
-ghost use Rattle.records_written.specs.SenderLeaves.{written_after};
+ghost use Rattle.records_written.specs.PartyLeaves.{marked_after};
 ghost use Rattle.records_written.specs.MarkLists.{has_mark, marks_byte, marks_of, is_left, are_left, AreMost};
 
 use crate::leaves::{Leaf, StateLeaves};
@@ -57,7 +57,7 @@ pub(crate) fn left_of(
     }
 }
 
-/// What is marked at first in a state: all, or nothing where the sender opens.
+/// What is marked at first in a state: all, or nothing where the party opens.
 fn opening_marks(alloc: Global, n: u32, first: u32) -> Option<StateMarks>
     ensures { (d b : ℕ) → marks_byte result d b ≡ not (n == first) }
 {
@@ -145,7 +145,7 @@ impl Search {
         leaf: &Leaf,
     ) -> Result<(), Lack>
         ensures { OnOk result ((m d b : ℕ) → marks_of self.new.marks.items m d b ≡ (marks_of self.old.marks.items m d b
-            && is_left leaf.now.targets (written_after leaf.now.effect (marks_byte own.now) d b) m)) }
+            && is_left leaf.now.targets (marked_after leaf.now.effect (marks_byte own.now) d b) m)) }
     {
         match left_after(alloc, own, leaf.effect)? {
             None => Ok(()),
@@ -195,7 +195,7 @@ impl Search {
     }
 }
 
-/// The most marks that states with these leaves can have, if the sender opens in state `first`.
+/// The most marks that states with these leaves can have, if the party opens in state `first`.
 pub(crate) fn most_marks(
     alloc: Global,
     graph: &[StateLeaves],

@@ -1,4 +1,4 @@
-use Rattle.std.proofs.Common.{ℕ, ◌≡◌, ◌<◌, None}
+use Rattle.std.proofs.Common.{ℕ, ◌<◌, None}
 use Rattle.records_written.specs.MarkLists.{marks_of, IsOpenAt}
 use Rattle.records_written.proofs.finding.first_unmarked.Given as goal
 

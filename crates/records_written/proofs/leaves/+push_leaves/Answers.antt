@@ -3,24 +3,26 @@ use Rattle.queue_certificates.specs.Forms.{Form}
 use Rattle.queue_certificates.specs.States.{KnownState}
 use Rattle.queue_certificates.specs.Cases.{Arrow, Cases, split, with_low, with_high, may_exceed}
 use Rattle.queue_checker.specs.Trees.{tree_of}
-use Rattle.records_written.specs.SenderLeaves.{SenderLeaf}
-use Rattle.records_written.specs.Marks.{sent_by, sent_in}
+use Rattle.queue_layouts.specs.Sides.{the_party}
+use Rattle.records_written.specs.PartyLeaves.{PartyLeaf}
+use Rattle.records_written.specs.Marks.{leaf_by, leaves_in}
 use Rattle.records_written.proofs.leaves.+push_leaves.Goals as goal
 
 -- the leaves by two cases, of which the higher one may be
-high_sent : (f : KnownState → Form → List Arrow → SenderLeaf) (k : KnownState) (cases : Cases) (j v : ℕ) (low high : Cases)
-    (a w : KnownState) (x y : Cases) (d : Bool) (before middle : List SenderLeaf) → cases ≡ split j v low high → middle ≡ before ++ sent_in f w y
+high_leaves : (f : KnownState → Form → List Arrow → PartyLeaf) (k : KnownState) (cases : Cases) (j v : ℕ) (low high : Cases)
+    (a w : KnownState) (x y : Cases) (d : Bool) (before middle : List PartyLeaf) → cases ≡ split j v low high → middle ≡ before ++ leaves_in f w y
     → w ≡ with_low k j v → y ≡ low → d ≡ may_exceed v (get_or k.ranges j (Some 0)) → d ≡ true → a ≡ with_high k j v → x ≡ high
-    → middle ++ sent_in f a x ≡ before ++ sent_in f k cases
-high_sent f k cases j v low high a w x y d before middle is_split is_middle is_w is_y is_d d_true is_a is_x =
+    → middle ++ leaves_in f a x ≡ before ++ leaves_in f k cases
+high_leaves f k cases j v low high a w x y d before middle is_split is_middle is_w is_y is_d d_true is_a is_x =
     let exceeds : may_exceed v (get_or k.ranges j (Some 0)) ≡ true = sym is_d ∙ d_true in
-    rw (is_split, is_middle, is_w, is_y, is_a, is_x, exceeds) (append_assoc before (sent_in f (with_low k j v) low) (sent_in f (with_high k j v) high))
+    rw (is_split, is_middle, is_w, is_y, is_a, is_x, exceeds) (append_assoc before (leaves_in f (with_low k j v) low) (leaves_in f (with_high k j v) high))
 
 pub returns-then-goes_beyond : goal.returns-then-goes_beyond
 returns-then-goes_beyond t c =
-    let e = high_sent (sent_by c.args.certificate.now c.args.queue c.args.code.now) c.args.state.now c.args.cases.now c.in-Split.variable c.in-Split.most
-    c.in-Split.low.value c.in-Split.high.value c.in_ok-above-in-Split.above c.in_ok-below-in-Split.below c.deref-then-goes_beyond.result.now
-    c.deref-in-Split.result.now c.goes_beyond.result c.args.leaves.now.items c.push_leaves.new.leaves.items (sym c.cases.view_is ∙ ap tree_of c.in-Split.is)
+    let e = high_leaves (leaf_by c.args.certificate.now c.args.queue (the_party c.args.party) c.args.code.now) c.args.state.now c.args.cases.now
+    c.in-Split.variable c.in-Split.most c.in-Split.low.value c.in-Split.high.value c.in_ok-above-in-Split.above c.in_ok-below-in-Split.below
+    c.deref-then-goes_beyond.result.now c.deref-in-Split.result.now c.goes_beyond.result c.args.leaves.now.items
+    c.push_leaves.new.leaves.items (sym c.cases.view_is ∙ ap tree_of c.in-Split.is)
     c.in_ok-push_leaves-in-Split.ensures c.in_ok-below-in-Split.ensures c.deref-in-Split.ensures c.goes_beyond.ensures c.if-goes_beyond.true
     c.in_ok-above-in-Split.ensures c.deref-then-goes_beyond.ensures in
     rw e at c.push_leaves-then-goes_beyond.ensures

@@ -1,4 +1,4 @@
-use Rattle.std.proofs.Common.{ℕ, ◌≡◌, true, take, length}
+use Rattle.std.proofs.Common.{ℕ, ◌≡◌, true, take}
 use Rattle.records_written.specs.MarkLists.{has_mark}
 use Rattle.records_written.proofs.marking.are_same.Given as goal
 

@@ -1,4 +1,4 @@
-use Rattle.std.proofs.Common.{◌+◌, List, Option, ℕ, arith, take, get_or, subst, sym}
+use Rattle.std.proofs.Common.{◌+◌, List, Option, ℕ, take, get_or, subst, sym}
 use Rattle.std.proofs.lemmas.List.{take_all}
 use Rattle.std.proofs.lemmas.List.Folds.{list_any_more}
 use Rattle.records_written.specs.declared.marking.Mark.{Mark}

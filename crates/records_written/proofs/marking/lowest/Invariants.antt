@@ -1,4 +1,4 @@
-use Rattle.std.proofs.Common.{◌≡◌, take}
+use Rattle.std.proofs.Common.{take}
 use Rattle.records_written.specs.MarkLists.{IsLowest}
 use Rattle.records_written.proofs.marking.lowest.Given as goal
 

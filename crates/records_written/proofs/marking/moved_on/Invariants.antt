@@ -3,4 +3,4 @@ use Rattle.records_written.specs.MarkLists.{has_mark}
 use Rattle.records_written.proofs.marking.moved_on.Given as goal
 
 abbrev pub invariant-loop-mark : goal.invariant-loop-mark
-invariant-loop-mark l = (d b : ℕ) → has_mark l.left.items d b ≡ has_mark (take l.mark-index l.marks) (d + l.published) b
+invariant-loop-mark l = (d b : ℕ) → has_mark l.left.items d b ≡ has_mark (take l.mark-index l.marks) (d + l.handed) b

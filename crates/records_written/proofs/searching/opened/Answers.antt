@@ -1,4 +1,4 @@
-use Rattle.std.proofs.Common.{◌≡◌, ◌+◌, length, arith}
+use Rattle.std.proofs.Common.{arith}
 use Rattle.std.proofs.lemmas.Grind.{common_steps}
 use Rattle.records_written.proofs.MarkLaws.{opened-more}
 use Rattle.records_written.proofs.searching.opened.Goals as goal

@@ -1,6 +1,6 @@
 use Rattle.std.proofs.Common.{arith}
 use Rattle.std.proofs.lemmas.List.Folds.{list_all_more}
-use Rattle.records_written.specs.SenderLeaves.{written_after}
+use Rattle.records_written.specs.PartyLeaves.{marked_after}
 use Rattle.records_written.specs.MarkLists.{is_left, marks_byte}
 use Rattle.records_written.proofs.searching.Search.follow_leaves.Goals as goal
 
@@ -10,6 +10,6 @@ loop-leaf-preserved c = λ m d b. grind (
   c.in_ok-follow_leaf.ensures m d b,
   c.loop-leaf.invariant m d b,
   c.leaf-item.is,
-  list_all_more (λ s. is_left s.targets (written_after s.effect (marks_byte c.args.own.now) d b) m) c.args.leaves.now c.loop-leaf.leaf-index
+  list_all_more (λ s. is_left s.targets (marked_after s.effect (marks_byte c.args.own.now) d b) m) c.args.leaves.now c.loop-leaf.leaf-index
       c.leaf-item.result c.loop-leaf-test.true,
 )

@@ -1,4 +1,4 @@
-use Rattle.std.proofs.Common.{ℕ, ◌≡◌}
+use Rattle.std.proofs.Common.{ℕ}
 use Rattle.records_written.specs.MarkLists.{AreMost}
 use Rattle.records_written.proofs.searching.Search.settle.Given as goal
 

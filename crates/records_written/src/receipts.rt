@@ -1,0 +1,179 @@
+//! What an instruction of a queue's receiver does to its slots and its count.
+
+ghost use Rattle.std.specs.Prelude.{◌≡◌, IfOk};
+ghost use Rattle.queue_certificates.specs.Effects.{published_by, filled_by};
+ghost use Rattle.records_written.specs.Receipts.{owned_bytes, moves_tail, receipt_of, is_own_tag, owned_of, tag_receipt_of};
+
+use known_values::queues::queue_in;
+use known_values::ranges::most;
+use known_values::{Form, Known, KnownValue, Lack, Queue};
+use queue_certificates::Effect;
+use queue_checker::loads::last_own_index;
+use queue_checker::places::{offset_at, position_at};
+use queue_checker::sites::small;
+use queue_checker::slots::is_owned;
+use queue_checker::states::{share_after, share_in};
+use queue_checker::tagged_queues::{bare, tagged_in};
+use queue_checker::targets::{Target, load_target, store_target};
+use queue_checker::{KnownState, QueueCertificate, Share, TaggedQueue};
+use rv_decode::Instr;
+use std::alloc::Global;
+
+/// The bytes at a value, where they are shown to be of the slot of an owned position.
+fn owned_at(
+    alloc: Global,
+    ranges: &[Option<u64>],
+    queue: Queue,
+    share: &Share,
+    place: &KnownValue,
+    width: u64,
+) -> Result<Effect, Lack>
+    ensures { IfOk result (λ effect. effect ≡ filled_by ranges.now queue share.now place.now width) }
+{
+    let owned = is_owned(alloc, ranges, queue, share, place, width)?;
+    match &place.known {
+        Known::Linear(form) => {
+            if owned {
+                Ok(Effect::Fills {
+                    position: position_at(queue, share.own.constant, form.constant)?,
+                    offset: offset_at(queue, form.constant),
+                    width,
+                })
+            } else {
+                Ok(Effect::Leaves)
+            }
+        }
+        Known::Any => Ok(Effect::Leaves),
+        Known::IndexFor(_, _) => Ok(Effect::Leaves),
+        Known::SignedFor(_, _) => Ok(Effect::Leaves),
+        Known::EndsAs(_, _) => Ok(Effect::Leaves),
+        Known::HasBits(_, _) => Ok(Effect::Leaves),
+    }
+}
+
+/// The bytes that an instruction accesses, if it accesses any.
+fn owned_bytes(
+    alloc: Global,
+    ranges: &[Option<u64>],
+    queue: Queue,
+    share: &Share,
+    target: Option<Target>,
+) -> Result<Effect, Lack>
+    ensures { IfOk result (λ effect. effect ≡ owned_bytes ranges.now queue share.now target) }
+{
+    match target {
+        None => Ok(Effect::Leaves),
+        Some(target) => owned_at(alloc, ranges, queue, share, &target.place, target.width),
+    }
+}
+
+/// Whether a store is of the receiver's own index of the queue, whole.
+fn moves_tail(certificate: &QueueCertificate, i: u32, target: Option<Target>) -> Result<bool, Lack>
+    ensures { IfOk result (λ moves. moves ≡ moves_tail certificate.now i target) }
+{
+    match target {
+        None => Ok(false),
+        Some(target) => {
+            let hart = queue_in(&certificate.queues, i).receiver;
+            match last_own_index(certificate, hart, target.bounds, target.width)? {
+                None => Ok(false),
+                Some(n) => Ok(n == i),
+            }
+        }
+    }
+}
+
+/// Positions are handed back, as many as a form is; nothing, where no bound is known of their number.
+fn handed_back(handed: &Form, bound: Option<u64>) -> Option<Effect>
+    ensures { result ≡ published_by handed.now bound }
+{
+    match bound {
+        None => None,
+        Some(n) => {
+            if n == handed.constant {
+                Some(Effect::Publishes(n))
+            } else {
+                Some(Effect::PublishesSome(n))
+            }
+        }
+    }
+}
+
+/// The effect of an instruction of the receiver's; none where it isn't known how many positions it hands back.
+pub(crate) fn receipt_of(
+    alloc: Global,
+    certificate: &QueueCertificate,
+    i: u32,
+    state: &KnownState,
+    handed: &Form,
+    instruction: Option<Instr>,
+) -> Result<Option<Effect>, Lack>
+    ensures { IfOk result (λ effect. effect ≡ receipt_of certificate.now i state.now handed.now instruction) }
+{
+    let stored = store_target(alloc, certificate, state, instruction)?;
+    if moves_tail(certificate, i, stored)? {
+        Ok(handed_back(handed, most(&state.ranges, handed)?))
+    } else {
+        let queue = queue_in(&certificate.queues, i);
+        let share = share_in(alloc, &state.shares, i as usize)?;
+        let loaded = load_target(alloc, certificate, state, instruction)?;
+        let effect = owned_bytes(alloc, &state.ranges, queue, &share, loaded)?;
+        Ok(Some(effect))
+    }
+}
+
+/// Whether bytes are the tag of the receiver's own position, whole.
+fn is_own_tag(queue: TaggedQueue, bytes: Effect) -> bool
+    ensures { result ≡ is_own_tag queue bytes }
+{
+    match bytes {
+        Effect::Fills {
+            position,
+            offset,
+            width,
+        } => {
+            position == 0
+                && offset == u64::from(queue.tag_offset)
+                && width == u64::from(queue.tag_width)
+        }
+        Effect::Leaves => false,
+        Effect::Publishes(_) => false,
+        Effect::PublishesSome(_) => false,
+    }
+}
+
+/// The bytes that an instruction accesses of owned slots of queue `t` with tags.
+fn owned_of(
+    alloc: Global,
+    certificate: &QueueCertificate,
+    t: u32,
+    state: &KnownState,
+    target: Option<Target>,
+) -> Result<Effect, Lack>
+    ensures { IfOk result (λ effect. effect ≡ owned_of certificate.now t state.now target) }
+{
+    let slots = bare(tagged_in(&certificate.tagged, t));
+    let count = small(certificate.queues.len())?;
+    let share = share_after(alloc, &state.shares, count, t)?;
+    owned_bytes(alloc, &state.ranges, slots, &share, target)
+}
+
+/// The effect of an instruction of the receiver of queue `t` with tags.
+pub(crate) fn tag_receipt_of(
+    alloc: Global,
+    certificate: &QueueCertificate,
+    t: u32,
+    state: &KnownState,
+    instruction: Option<Instr>,
+) -> Result<Effect, Lack>
+    ensures { IfOk result (λ effect. effect ≡ tag_receipt_of certificate.now t state.now instruction) }
+{
+    let stored = store_target(alloc, certificate, state, instruction)?;
+    let bytes = owned_of(alloc, certificate, t, state, stored)?;
+    if is_own_tag(tagged_in(&certificate.tagged, t), bytes) {
+        Ok(Effect::Publishes(1))
+    } else {
+        let loaded = load_target(alloc, certificate, state, instruction)?;
+        owned_of(alloc, certificate, t, state, loaded)
+    }
+}
