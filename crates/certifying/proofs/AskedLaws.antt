@@ -21,8 +21,8 @@ use Rattle.record_bytes.proofs.OffsetLaws.{some-offset}
 use Rattle.record_bytes.proofs.RangeLaws.{has-below}
 use Rattle.record_bytes.specs.Ranges.{byte_ranges}
 use Rattle.records_written.specs.Marks.{IsShownWritten}
-use Rattle.records_written.specs.declared.senders.QueueNumber.{QueueNumber}
-use Rattle.records_written.specs.Senders.{IsListed, published_after, slot_in}
+use Rattle.records_written.specs.declared.parties.QueueNumber.{QueueNumber}
+use Rattle.records_written.specs.Parties.{IsListed, published_after, slot_in}
 use Rattle.records_written.specs.Written.{IsWritten}
 use Rattle.hart_safety.specs.Regions.{IsInNone}
 use Rattle.hart_safety.specs.Writes.{first_unbounded, regions_written}

@@ -26,7 +26,7 @@ use Rattle.ownership_runs.specs.declared.violations.Violation.{Violation}
 use Rattle.ownership_runs.specs.Protocols.{Keeps}
 use Rattle.ownership_runs.specs.Violations.{first_ownership_violation}
 use Rattle.record_bytes.specs.Naming.{names_byte}
-use Rattle.records_written.specs.Senders.{published_after, slot_in}
+use Rattle.records_written.specs.Parties.{published_after, slot_in}
 use Rattle.records_written.specs.Written.{IsWritten}
 use Rattle.hart_safety.specs.Regions.{IsInNone}
 use Rattle.hart_safety.specs.Stops.{first_stop}

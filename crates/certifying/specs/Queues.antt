@@ -6,8 +6,8 @@ use Rattle.queue_layouts.specs.declared.AnyQueue.{AnyQueue}
 use Rattle.queue_layouts.specs.declared.AnyQueue.TheVariants.{Indexed, Tagged}
 use Rattle.queue_certificates.specs.Certificates.{QueueCertificate, queue_at, start_at, tagged_at, tagged_start}
 use Rattle.queue_certificates.specs.Tags.{bare}
-use Rattle.records_written.specs.declared.senders.QueueNumber.{QueueNumber}
-use Rattle.records_written.specs.declared.senders.QueueNumber.TheVariants as number
+use Rattle.records_written.specs.declared.parties.QueueNumber.{QueueNumber}
+use Rattle.records_written.specs.declared.parties.QueueNumber.TheVariants as number
 use Rattle.queue_checker.specs.Accesses.{slot_accesses, tagged_accesses}
 use Rattle.queue_checker.specs.declared.accesses.SlotAccess.{SlotAccess}
 

@@ -6,7 +6,7 @@ use Rattle.queue_certificates.specs.Certificates.{QueueCertificate}
 use Rattle.record_bytes.specs.declared.ranges.ByteRange.{ByteRange}
 use Rattle.record_bytes.specs.Naming.{names_byte, offsets_below}
 use Rattle.record_bytes.specs.Ranges.{byte_ranges, has_byte}
-use Rattle.records_written.specs.declared.finding.Unwritten.{Unwritten}
+use Rattle.records_written.specs.declared.finding.Missing.{Missing}
 use Rattle.records_written.specs.Marks.{IsShownWritten, IsFirstUnwritten}
 use Rattle.engine_support.specs.OpeningTexts.{numbered}
 use Rattle.certifying.specs.ByteTexts.{bytes_text, is_one_byte}
@@ -68,7 +68,7 @@ shown_end = codes " after the record before in its slot was published" ++ 10 ∷
 unfoldable pub unshown_front : (i : ℕ) → List ℕ
 unshown_front i = codes "queue " ++ decimal i ++ codes ": not shown that "
 
-abbrev pub unwritten_end : OpeningValue → QueueCertificate → (i : ℕ) → Unwritten → List ℕ
+abbrev pub unwritten_end : OpeningValue → QueueCertificate → (i : ℕ) → Missing → List ℕ
 unwritten_end o c i unwritten = codes ": byte " ++ decimal unwritten.byte ++ codes ", hart " ++ decimal (slots_at c i).sender ++ codes ", "
     ++ pc_place o c (slots_at c i).sender unwritten.state ++ 10 ∷ []
 

@@ -7,7 +7,7 @@ ghost use Rattle.engine_support.specs.OpeningTexts.{numbered};
 ghost use Rattle.record_bytes.specs.declared.ranges.ByteRange.{ByteRange};
 ghost use Rattle.record_bytes.specs.Ranges.{has_byte};
 ghost use Rattle.records_written.specs.Marks.{IsShownWritten, IsFirstUnwritten};
-ghost use Rattle.records_written.specs.declared.finding.Unwritten.{Unwritten};
+ghost use Rattle.records_written.specs.declared.finding.Missing.{Missing};
 ghost use Rattle.certifying.specs.Descriptions.{queue_front};
 ghost use Rattle.certifying.specs.Queues.{number_in, queue_count};
 ghost use Rattle.certifying.specs.Records.{AreFoundFor, AreFoundFrom, IsFound, asked_ranges, is_rest, is_shown, none_line, of_each, record_line};
@@ -19,7 +19,7 @@ use crate::unread::push_pc_place;
 use known_values::Lack;
 use queue_checker::QueueCertificate;
 use record_bytes::{ByteRange, ranges_in, ranges_without};
-use records_written::{Unwritten, first_unwritten};
+use records_written::{Missing, first_unwritten};
 use std::alloc::{AllocError, Global};
 use step_machine::Opening;
 
@@ -31,7 +31,7 @@ pub enum Records {
     /// The sender writes each of them, in each record.
     Shown,
     /// This isn't shown.
-    NotShown(Unwritten),
+    NotShown(Missing),
 }
 
 /// The bytes that are asked of a queue's records.
@@ -66,7 +66,7 @@ fn first_of_rest(
     certificate: &QueueCertificate,
     index: u32,
     ranges: &[ByteRange],
-) -> Result<Option<Unwritten>, Lack>
+) -> Result<Option<Missing>, Lack>
     ensures { IfOk result (λ r. MatchOption r
         (IsShownWritten opening.now certificate.now (number_in certificate.now index) (is_rest certificate.now index ranges.now))
         (IsFirstUnwritten opening.now certificate.now (number_in certificate.now index) (is_rest certificate.now index ranges.now))) }
@@ -209,11 +209,11 @@ fn push_unwritten(
     opening: &Opening,
     certificate: &QueueCertificate,
     index: u32,
-    unwritten: Unwritten,
+    unwritten: Missing,
 ) -> Result<(), AllocError>
     ensures { OnOk result (string_bytes out.new ≡ string_bytes out.old ++ unwritten_end opening.now certificate.now index unwritten) }
 {
-    let Unwritten { state, byte } = unwritten;
+    let Missing { state, byte } = unwritten;
     let hart = slots_at(certificate, index).sender;
     write!(out, ": byte {byte}, hart {hart}, ")?;
     push_pc_place(out, opening, certificate, hart, state)?;
