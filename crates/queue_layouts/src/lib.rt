@@ -4,7 +4,7 @@
 //! [`TaggedQueue`], whose slots tell whose they are, `specs/Tagged.antt` has the record of `slots_that_tell`. [`party_among`] computes which [`Party`] a
 //! hart is. What decides of a run and what decides of a program have one type of queue and of party. This crate decides neither.
 //!
-//! Called by `known_values`, `queue_checker`, `certificate_reader`, `ownership_runs` and `certifying`.
+//! Called by `known_values`, `queue_checker`, `certificate_reader`, `records_written`, `ownership_runs` and `certifying`.
 
 #![tactic(auto)]
 
