@@ -1,6 +1,6 @@
 -- What is made of all leaves of a hart: what each keeps is kept, and what is so of it in the end is so at the leaf where the hart is.
-use Rattle.std.proofs.Common.{ℕ, zero, suc, ◌+◌, ◌<◌, inl, inr, if◌then◌else◌, Bool, true, false, Some}
-use Rattle.std.proofs.Common.{List, length, get_or, subst, arith}
+use Rattle.std.proofs.Common.{ℕ, zero, suc, ◌+◌, ◌<◌, inl, inr, if◌then◌else◌, Bool, true, false, Some, List, length, get_or, subst, arith, ◌≡◌, refl, sym}
+use Rattle.std.proofs.Common.{◌∙◌}
 use Rattle.std.proofs.lemmas.Bool.{cases_lt, cases_eq}
 use Rattle.hart.specs.State.{HartState}
 use Rattle.queue_certificates.specs.OwnedRuns.{View, AllCounts}
@@ -10,6 +10,15 @@ use Rattle.queue_certificates.specs.Certificates.{QueueCertificate, queue_at, ow
 use Rattle.queue_certificates.proofs.Forms.{less_at}
 use Rattle.queue_certificates.proofs.States.{means-low, means-high, exceeds}
 use Rattle.hart_safety.specs.Leaves.{over_leaves, over_states, over_hart}
+
+-- the leaves of a state by two cases, of which the higher one may be
+pub leaves_high : {A : Type 0} (f : ℕ → KnownState → A → A) (n : ℕ) (k : KnownState) (cases : Cases) (j v : ℕ) (low high : Cases) (a w : KnownState)
+    (x y : Cases) (d : Bool) (from one : A)
+    → cases ≡ split j v low high → one ≡ over_leaves f n w y from → w ≡ with_low k j v → y ≡ low → d ≡ may_exceed v (get_or k.ranges j (Some 0))
+    → d ≡ true → a ≡ with_high k j v → x ≡ high → over_leaves f n a x one ≡ over_leaves f n k cases from
+leaves_high f n k cases j v low high a w x y d from one is_split is_one is_w is_y is_d d_true is_a is_x =
+    let exceeds : may_exceed v (get_or k.ranges j (Some 0)) ≡ true = sym is_d ∙ d_true in
+    rw (is_split, is_one, is_w, is_y, is_a, is_x, exceeds) refl
 
 module _ {A : Type 0} (f : ℕ → KnownState → A → A) (Q : A → Type 0) where
   -- ---- what each leaf keeps

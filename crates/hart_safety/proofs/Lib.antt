@@ -1,7 +1,7 @@
-mod Splits
 mod AtLeaves
 mod Going
 mod Stopping
+mod Following
 mod Outside
 mod Writing
 mod InOrder

@@ -4,6 +4,7 @@ use Rattle.rv_decode.specs.Meaning.{meaning}
 use Rattle.queue_certificates.proofs.OneSlotQueue.{text, certificate}
 use Rattle.hart_safety.specs.declared.regions.Region.{Region}
 use Rattle.hart_safety.specs.Stops.{first_stop}
+use Rattle.hart_safety.specs.Ends.{first_end}
 use Rattle.hart_safety.specs.Writes.{regions_written, first_unbounded}
 use Rattle.queue_certificates.specs.Tags.{told_by_store}
 
@@ -27,6 +28,15 @@ sender_stops = refl
 receiver_stops : first_stop 2 text certificate 1 ≡ Some 3
 unfolding meaning told_by_store
 receiver_stops = refl
+
+-- both go round for ever
+sender_runs_on : first_end text certificate 0 ≡ None
+unfolding meaning told_by_store
+sender_runs_on = refl
+
+receiver_runs_on : first_end text certificate 1 ≡ None
+unfolding meaning told_by_store
+receiver_runs_on = refl
 
 -- the sender writes its head and the slot, and the receiver its tail
 sender_writes : regions_written text certificate 0 ≡ bytes 0 3 ∷ bytes 8 11 ∷ []

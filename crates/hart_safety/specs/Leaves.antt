@@ -1,8 +1,14 @@
 -- The leaves of a hart's states, one after the other: what is known where an instruction is executed.
-use Rattle.std.specs.Prelude.{ℕ, zero, suc, if◌then◌else◌, Some, length, get_or}
+use Rattle.std.specs.Prelude.{ℕ, zero, suc, if◌then◌else◌, Bool, Option, Some, List, length, get_or}
+use Rattle.queue_certificates.specs.Forms.{Form}
 use Rattle.queue_certificates.specs.States.{KnownState}
-use Rattle.queue_certificates.specs.Cases.{Cases, leaf, split, with_low, with_high, may_exceed}
+use Rattle.queue_certificates.specs.Cases.{Arrow, Cases, leaf, split, with_low, with_high, may_exceed, each_leaf}
 use Rattle.queue_certificates.specs.Certificates.{QueueCertificate, part_of, state_at}
+use Rattle.queue_checker.specs.Flaws.{first_below, unless}
+
+-- hart h's first state with a leaf of which f isn't so
+abbrev pub first_failing : (f : KnownState → Form → List Arrow → Bool) → QueueCertificate → (h : ℕ) → Option ℕ
+first_failing f c h = first_below (length (part_of c h).states) (λ n. unless (each_leaf f (state_at c h n).known (state_at c h n).cases) n)
 
 -- f makes of a what it does at each leaf, by the number of its state, which is n here
 abbrev pub over_leaves : {A : Type 0} → (ℕ → KnownState → A → A) → (n : ℕ) → KnownState → Cases → A → A

@@ -1,4 +1,5 @@
 pub mod Leaves
 pub mod Stops
+pub mod Ends
 pub mod Regions
 pub mod Writes

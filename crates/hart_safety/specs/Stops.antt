@@ -8,11 +8,11 @@ use Rattle.queue_certificates.specs.Forms.{number, is_same}
 use Rattle.queue_certificates.specs.States.{KnownValue, any, linear, index_for, signed_for, ends_as, has_bits, KnownState, plain}
 use Rattle.queue_certificates.specs.Results.{as_number}
 use Rattle.queue_certificates.specs.Steps.{instruction_at, operand}
-use Rattle.queue_certificates.specs.Cases.{each_leaf}
-use Rattle.queue_certificates.specs.Certificates.{QueueCertificate, queue_at, part_of, state_at}
+use Rattle.queue_certificates.specs.Certificates.{QueueCertificate, queue_at}
 use Rattle.queue_checker.specs.declared.targets.Target.{Target}
-use Rattle.queue_checker.specs.Flaws.{hart_at, first_below, unless}
+use Rattle.queue_checker.specs.Flaws.{hart_at}
 use Rattle.queue_checker.specs.Operands.{accessed_in, exchanged_in}
+use Rattle.hart_safety.specs.Leaves.{first_failing}
 
 -- it is a multiple of the width, whatever the variables are. The widths divide 2 ^ 32
 abbrev pub is_aligned : KnownValue → (width : ℕ) → Bool
@@ -60,10 +60,6 @@ goes_on M c k (Some other) = true
 abbrev pub goes_on_at : (M : ℕ) → QueueCertificate → (code : List ℕ) → KnownState → Bool
 goes_on_at M c code k = (k.pc == 4 * length code) || goes_on M c k (instruction_at code k.pc)
 
--- at each leaf of hart h's state n
-abbrev pub state_goes_on : (M : ℕ) → OpeningValue → QueueCertificate → (h n : ℕ) → Bool
-state_goes_on M o c h n = each_leaf (λ k d arrows. goes_on_at M c (hart_at o h).code k) (state_at c h n).known (state_at c h n).cases
-
 -- hart h's first state whose instruction isn't shown to go on, with M words of memory
 abbrev pub first_stop : (M : ℕ) → OpeningValue → QueueCertificate → (h : ℕ) → Option ℕ
-first_stop M o c h = first_below (length (part_of c h).states) (λ n. unless (state_goes_on M o c h n) n)
+first_stop M o c h = first_failing (λ k d arrows. goes_on_at M c (hart_at o h).code k) c h

@@ -1,10 +1,13 @@
-//! Whether a hart surely goes on from where a certificate lists it.
+//! Whether a hart surely goes on from where a certificate lists it, and doesn't end there.
 
-ghost use Rattle.std.specs.Prelude.{◌≡◌, ◌<◌, IfOk, length, None};
+ghost use Rattle.std.specs.Prelude.{◌≡◌, ◌<◌, IfOk, length};
 ghost use Rattle.queue_certificates.specs.Certificates.{queue_at, part_of, state_at};
-ghost use Rattle.queue_checker.specs.Flaws.{hart_at, first_of, first_below, unless};
+ghost use Rattle.queue_certificates.specs.Cases.{each_leaf};
+ghost use Rattle.queue_checker.specs.Flaws.{hart_at, first_of, unless};
+ghost use Rattle.hart_safety.specs.Leaves.{first_failing};
 ghost use Rattle.hart_safety.specs.Stops.{is_aligned, is_within_memory, may_be_target, jumps_to_target, is_known_call, call_in};
-ghost use Rattle.hart_safety.specs.Stops.{goes_on, goes_on_at, state_goes_on, first_stop};
+ghost use Rattle.hart_safety.specs.Stops.{goes_on, goes_on_at, first_stop};
+ghost use Rattle.hart_safety.specs.Ends.{is_no_exit, makes_no_exit, runs_on_at, first_end};
 
 use known_values::forms::{is_same, number};
 use known_values::lack::product;
@@ -146,16 +149,59 @@ fn goes_on_at(
     }
 }
 
+/// State `n`, if it has a leaf of which it isn't so; `first` is the first such state before it.
+fn failing_at<C: LeafCheck>(
+    alloc: Global,
+    check: &C,
+    certificate: &QueueCertificate,
+    hart: u32,
+    first: Option<u32>,
+    n: u32,
+) -> Result<Option<u32>, Lack>
+    requires { n < length (part_of certificate.now hart).states }
+    ensures { IfOk result (λ state. state ≡ first_of first
+        (unless (each_leaf (C.holds check.now) (state_at certificate.now hart n).known (state_at certificate.now hart n).cases) n)) }
+{
+    match first {
+        Some(state) => Ok(Some(state)),
+        None => {
+            let listed = &listed_states(certificate, hart)[n as usize];
+            if each_leaf(alloc, check, &listed.known, &listed.cases)? {
+                Ok(None)
+            } else {
+                Ok(Some(n))
+            }
+        }
+    }
+}
+
+/// The hart's first state with a leaf of which something isn't so.
+fn first_failing<C: LeafCheck>(
+    alloc: Global,
+    check: &C,
+    certificate: &QueueCertificate,
+    hart: u32,
+) -> Result<Option<u32>, Lack>
+    ensures { IfOk result (λ state. state ≡ first_failing (C.holds check.now) certificate.now hart) }
+{
+    let mut first = None;
+    for n in 0..small(listed_states(certificate, hart).len())? {
+        first = failing_at(alloc, check, certificate, hart, first, n)?;
+    }
+    Ok(first)
+}
+
 /// Asks of a leaf whether its instruction goes on.
 #[derive(Clone, Copy)]
 struct Going<'a> {
     words: u64,
+    opening: &'a Opening,
     certificate: &'a QueueCertificate,
-    code: &'a [u32],
+    hart: u32,
 }
 
 impl LeafCheck for Going<'_> {
-    ghost holds = { λ g k d arrows. goes_on_at g.words g.certificate.now g.code.now k };
+    ghost holds = { λ g k d arrows. goes_on_at g.words g.certificate.now (hart_at g.opening.now g.hart).code k };
 
     fn holds(
         &self,
@@ -164,38 +210,8 @@ impl LeafCheck for Going<'_> {
         _handed: &Form,
         _arrows: &[Arrow],
     ) -> Result<bool, Lack> {
-        goes_on_at(alloc, self.words, self.certificate, self.code, state)
-    }
-}
-
-/// The first state that isn't shown to go on, where `first` is the first one before state `n`.
-fn stop_at(
-    alloc: Global,
-    words: u64,
-    opening: &Opening,
-    certificate: &QueueCertificate,
-    hart: u32,
-    first: Option<u32>,
-    n: u32,
-) -> Result<Option<u32>, Lack>
-    requires { n < length (part_of certificate.now hart).states }
-    ensures { IfOk result (λ stop. stop ≡ first_of first (unless (state_goes_on words opening.now certificate.now hart n) n)) }
-{
-    match first {
-        Some(stop) => Ok(Some(stop)),
-        None => {
-            let listed = &listed_states(certificate, hart)[n as usize];
-            let going = Going {
-                words,
-                certificate,
-                code: code_of(opening, hart),
-            };
-            if each_leaf(alloc, &going, &listed.known, &listed.cases)? {
-                Ok(None)
-            } else {
-                Ok(Some(n))
-            }
-        }
+        let code = code_of(self.opening, self.hart);
+        goes_on_at(alloc, self.words, self.certificate, code, state)
     }
 }
 
@@ -209,9 +225,80 @@ pub fn first_stop(
 ) -> Result<Option<u32>, Lack>
     ensures { IfOk result (λ state. state ≡ first_stop words opening.now certificate.now hart) }
 {
-    let mut first = None;
-    for n in 0..small(listed_states(certificate, hart).len())? {
-        first = stop_at(alloc, words, opening, certificate, hart, first, n)?;
+    let going = Going {
+        words,
+        opening,
+        certificate,
+        hart,
+    };
+    first_failing(alloc, &going, certificate, hart)
+}
+
+fn is_no_exit(number: Option<u32>) -> bool
+    ensures { result ≡ is_no_exit number }
+{
+    match number {
+        None => false,
+        Some(n) => n != 93,
     }
-    Ok(first)
+}
+
+/// Whether the instruction surely makes no exit call.
+fn makes_no_exit(
+    alloc: Global,
+    certificate: &QueueCertificate,
+    state: &KnownState,
+    instruction: Option<Instr>,
+) -> Result<bool, Lack>
+    ensures { IfOk result (λ none. none ≡ makes_no_exit certificate.now state.now instruction) }
+{
+    match instruction {
+        Some(Instr::Ecall) => Ok(is_no_exit(call_in(alloc, certificate, state)?)),
+        _ => Ok(true),
+    }
+}
+
+/// Asks of a leaf whether the hart surely runs on.
+#[derive(Clone, Copy)]
+struct Running<'a> {
+    opening: &'a Opening,
+    certificate: &'a QueueCertificate,
+    hart: u32,
+}
+
+impl LeafCheck for Running<'_> {
+    ghost holds = { λ r k d arrows. runs_on_at r.certificate.now (hart_at r.opening.now r.hart).code k };
+
+    fn holds(
+        &self,
+        alloc: Global,
+        state: &KnownState,
+        _handed: &Form,
+        _arrows: &[Arrow],
+    ) -> Result<bool, Lack> {
+        let code = code_of(self.opening, self.hart);
+        if u64::from(state.pc) == product(4, code.len() as u64)? {
+            Ok(false)
+        } else {
+            let instruction = instruction_at(code, state.pc);
+            makes_no_exit(alloc, self.certificate, state, instruction)
+        }
+    }
+}
+
+/// The hart's first state where it may end: just past its code, or at what may be the exit call.
+pub fn first_end(
+    alloc: Global,
+    opening: &Opening,
+    certificate: &QueueCertificate,
+    hart: u32,
+) -> Result<Option<u32>, Lack>
+    ensures { IfOk result (λ state. state ≡ first_end opening.now certificate.now hart) }
+{
+    let running = Running {
+        opening,
+        certificate,
+        hart,
+    };
+    first_failing(alloc, &running, certificate, hart)
 }

@@ -1,9 +1,15 @@
-use Rattle.hart_safety.proofs.Safety.{not_stopped, spares_outside}
+use Rattle.hart_safety.proofs.Safety.{not_stopped, runs_or_ended, runs, spares_outside}
 use Rattle.hart_safety.proofs.InOrder.{regions_in_order}
 use Rattle.hart_safety.proofs.laws_of_hart_safety.Goals as goal
 
 pub returns-clause-never_stopped : goal.returns-clause-never_stopped
 returns-clause-never_stopped c = not_stopped
+
+pub returns-clause-runs_or_ended : goal.returns-clause-runs_or_ended
+returns-clause-runs_or_ended c B M o certificate ok h known none = runs_or_ended B M o certificate ok h none known
+
+pub returns-clause-runs : goal.returns-clause-runs
+returns-clause-runs c B M o certificate ok h known none never = runs B M o certificate ok h none never known
 
 pub returns-clause-written_within : goal.returns-clause-written_within
 returns-clause-written_within c = spares_outside

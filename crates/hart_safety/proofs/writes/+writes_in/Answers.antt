@@ -1,7 +1,7 @@
 use Rattle.std.proofs.Common.{sym, ap, ◌∙◌}
 use Rattle.queue_checker.specs.Trees.{tree_of}
 use Rattle.hart_safety.specs.Writes.{writes_at}
-use Rattle.hart_safety.proofs.Splits.{leaves_high}
+use Rattle.hart_safety.proofs.AtLeaves.{leaves_high}
 use Rattle.hart_safety.proofs.writes.+writes_in.Goals as goal
 
 pub returns-then-goes_beyond : goal.returns-then-goes_beyond
