@@ -1,11 +1,13 @@
-"""How soon a party of a queue goes on, as an accepted certificate shows it. By the same names what crates/queue_progress/specs
-defines, computed in other ways: a state gets its bound when all to which it leads have theirs, and of the numbers of positions that a party
-may own while it waits only those are tried at which its graph changes.
+"""How soon a party of a queue goes on, as an accepted certificate shows it, and where a hart may end. By the same names what
+crates/queue_progress/specs and crates/hart_safety/specs/Ends.antt define, computed in other ways: a state gets its bound when all to which it
+leads have theirs, and of the numbers of positions that a party may own while it waits only those are tried at which its graph changes.
 """
 
 from typing import NamedTuple
 
 import certificates
+
+EXIT_CALL = 93
 
 
 class Stay(NamedTuple):
@@ -210,3 +212,17 @@ def told_progress_of(opening, c, h, t):
     graph = told_graph(opening, c, h, t)
     most = longest(looks_away, graph)
     return NoPace(on_cycle(looks_away, graph)) if most is None else Within(most)
+
+
+def first_end(opening, c, h):
+    """Hart h's first state where it may end: just past its code, or at what may be the exit call."""
+    code, queues = opening.harts[h][0], certificates.steps_of(c, h).queues
+
+    def may_end(k):
+        if k.pc == 4 * len(code):
+            return True
+        instruction = certificates.instruction_at(code, k.pc)
+        number = certificates.as_number(certificates.plain(queues, k.ranges, certificates.get_or(k.registers, 17, certificates.ANY)))
+        return instruction is not None and instruction[0] == "ecall" and number in (None, EXIT_CALL)
+    return next((n for n, listed in enumerate(certificates.part_of(c, h).states)
+                 if any(may_end(k) for k, _ in certificates.leaves(listed.known, listed.cases))), None)
