@@ -1,6 +1,6 @@
 -- Instructions of a kind: no more in a row than the graph of the hart has stays of that kind.
-use Rattle.std.proofs.Common.{ℕ, ◌<◌, ◌≤◌, ◌≡◌, ◌||◌, ◌⊎◌, not, inl, inr, if◌then◌else◌, Bool, true, false}
-use Rattle.std.proofs.Common.{Option, Some, List, [], ◌∷◌, ◌++◌, take, length, map, get_or, refl, sym, ◌∙◌, ap, subst}
+use Rattle.std.proofs.Common.{ℕ, ◌<◌, ◌≤◌, ◌≡◌, ◌||◌, ◌⊎◌, not, inl, inr, if◌then◌else◌, Bool, true, false, Option, Some, List, [], ◌∷◌, ◌++◌, take, length}
+use Rattle.std.proofs.Common.{map, get_or, refl, sym, ◌∙◌, ap, subst, append_assoc}
 use Rattle.std.specs.List.{list_all}
 use Rattle.std.proofs.lemmas.Bool.{and_parts, or_cases, not-true}
 use Rattle.std.proofs.lemmas.List.{get_or-map, length-map}
@@ -19,6 +19,15 @@ use Rattle.queue_progress.specs.Stays.{targets}
 use Rattle.queue_progress.specs.Rows.{executed, EachAfter}
 use Rattle.queue_progress.specs.Shown.{at_leaves}
 use Rattle.queue_progress.proofs.Rows.{Bounds, Executes, GoesFirst, row_bounded}
+
+-- what the leaves of a state do by two cases, of which the higher one may be
+pub high_stays : {A : Type 0} (f : KnownState → Form → List Arrow → List A) (k : KnownState) (cases : Cases) (j v : ℕ) (low high : Cases)
+    (a w : KnownState) (x y : Cases) (d : Bool) (before middle : List A) → cases ≡ split j v low high → middle ≡ before ++ at_leaves f w y
+    → w ≡ with_low k j v → y ≡ low → d ≡ may_exceed v (get_or k.ranges j (Some 0)) → d ≡ true → a ≡ with_high k j v → x ≡ high
+    → middle ++ at_leaves f a x ≡ before ++ at_leaves f k cases
+high_stays f k cases j v low high a w x y d before middle is_split is_middle is_w is_y is_d d_true is_a is_x =
+    let exceeds : may_exceed v (get_or k.ranges j (Some 0)) ≡ true = sym is_d ∙ d_true in
+    rw (is_split, is_middle, is_w, is_y, is_a, is_x, exceeds) (append_assoc before (at_leaves f (with_low k j v) low) (at_leaves f (with_high k j v) high))
 
 -- what is so of all that leaves do is so at each
 at-each : {A : Type 0} (P : A → Bool) (f : KnownState → Form → List Arrow → List A) (k : KnownState) (t : Cases)
@@ -89,7 +98,7 @@ module _ (B M : ℕ) (o : OpeningValue) (c : QueueCertificate) (ok : accepts o c
       leads = λ r k d arrows said. other-stay r k d arrows (moves k d) refl said;
     }
 
-    -- where no entry at a leaf of another kind is so, as many are so in a row at most
+    -- where no entry at a leaf of another kind is so, at most N are so in a row
     pub bounded : (Is : List Entry → Entry → Type 0)
         → ((xs : List ℕ) (k : KnownState) (d : Form) (s : HartState) (done : List Entry) (e : Entry) → Executes B M o c ok h xs k d s done e
         → Otherwise kind k d → Is done e → ⊥)

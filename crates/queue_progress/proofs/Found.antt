@@ -1,8 +1,7 @@
 -- What is found of a party is so: the numbers bound its rows.
-use Rattle.std.proofs.Common.{◌&&◌, ℕ, zero, suc, ◌+◌, ◌≡◌, not, Bool, true, false, Option, None, Some, List, length, refl, ◌∙◌, subst}
+use Rattle.std.proofs.Common.{◌&&◌, ℕ, ◌+◌, ◌≡◌, Bool, true, Option, None, Some, List, length, refl, subst}
 use Rattle.step_machine.specs.History.{OpeningValue}
 use Rattle.queue_certificates.specs.Certificates.{QueueCertificate, queue_at}
-use Rattle.queue_checker.specs.Flaws.{first_of, unless}
 use Rattle.queue_progress.specs.declared.pace.Pace.{Pace}
 use Rattle.queue_progress.specs.declared.pace.Progress.TheVariants.{GoesOn}
 use Rattle.queue_progress.specs.Graphs.{Stay, may_own_more, looks_away, are_within}
@@ -12,20 +11,10 @@ use Rattle.queue_progress.specs.Progress.{least_owned, progress_with, progress_o
 use Rattle.queue_progress.specs.Shown.{graph_of, keeps_going}
 use Rattle.queue_progress.specs.declared.pace.ToldProgress.TheVariants.{Within}
 use Rattle.queue_progress.specs.Told.{told_graph, told_within, told_progress_by, told_progress_of}
-use Rattle.queue_progress.proofs.Halving.{first_passing}
-
-pub found-passes : (p : ℕ → Bool) (n r : ℕ) → first_passing p n ≡ Some r → p r ≡ true
-found-passes p zero r is = absurd (cc)
-found-passes p (suc n) r is = by (first_passing p n) refl (p n) refl is (found-passes p n r)
-  where
-    by : (x : Option ℕ) → first_passing p n ≡ x → (t : Bool) → p n ≡ t → first_of x (unless (not t) n) ≡ Some r
-        → (first_passing p n ≡ Some r → p r ≡ true) → p r ≡ true
-    by (Some a) before t that is earlier = earlier (before ∙ is)
-    by None before true that is earlier = let same : n ≡ r = cc in subst (λ m. p m ≡ true) same that
-    by None before false that is earlier = absurd (cc)
+use Rattle.queue_progress.proofs.Halving.{found-passes}
 
 bounds-all : (kind : Stay → Bool) (graph : List (List Stay)) (r : ℕ) → longest kind graph ≡ Some r → are_within kind graph r ≡ true
-bounds-all kind graph r is = found-passes (are_within kind graph) (length graph + 1) r is
+bounds-all kind graph r is = (found-passes (are_within kind graph) (length graph + 1) r is).1
 
 record IsOwning (graph : List (List Stay)) (K : ℕ) (g : Pace) : Type 0 where
   owned : K ≡ g.owned

@@ -1,26 +1,41 @@
 -- The least number of positions of which rows have a bound: if they have one for some number, then for each greater one.
 use Rattle.std.proofs.Common.{ℕ, zero, suc, ◌+◌, ◌<◌, ◌≤◌, ◌≡◌, ◌||◌, not, inl, inr, Bool, true, false, Option, None, Some, List, [], ◌∷◌, length, map}
-use Rattle.std.proofs.Common.{refl, sym, ◌∙◌, ap, arith}
+use Rattle.std.proofs.Common.{refl, sym, ◌∙◌, ap, subst, arith}
 use Rattle.std.specs.Option.{is_some}
 use Rattle.std.specs.List.{list_all}
 use Rattle.std.specs.Prelude.{nat_le}
-use Rattle.std.proofs.lemmas.Bool.{and_parts, cases_eq, leb-true, le-leb}
+use Rattle.std.proofs.lemmas.Bool.{and_parts, cases_eq, leb-true, le-leb, not-false}
 use Rattle.std.proofs.lemmas.List.{length-map}
 use Rattle.queue_certificates.specs.Forms.{fits_in}
 use Rattle.queue_certificates.specs.Steps.{all_below}
+use Rattle.queue_certificates.proofs.States.{at-below}
 use Rattle.queue_checker.specs.Flaws.{first_of, first_below, unless}
+use Rattle.queue_checker.proofs.FlawLaws.{IsSame, same-unless, same-below}
 use Rattle.queue_progress.specs.Graphs.{Stay, may_own_more, is_in, leads_into, within, are_within}
 use Rattle.queue_progress.specs.Longest.{longest}
 use Rattle.queue_progress.specs.Progress.{is_bounded}
+use Rattle.queue_progress.proofs.Numbers.{all-from}
 
--- ---- the first number that passes
+-- ---- what is found at the first number at which something isn't so, and the first that passes
+
+pub found-below : (so : ℕ → Bool) (n r : ℕ) → first_below n (λ m. unless (so m) m) ≡ Some r → (r < n) × (so r ≡ false)
+found-below so zero r is = absurd (cc)
+found-below so (suc n) r is = by (first_below n (λ m. unless (so m) m)) refl (so n) refl is (found-below so n r)
+  where
+    by : (x : Option ℕ) → first_below n (λ m. unless (so m) m) ≡ x → (t : Bool) → so n ≡ t → first_of x (unless t n) ≡ Some r
+        → (first_below n (λ m. unless (so m) m) ≡ Some r → (r < n) × (so r ≡ false)) → (r < suc n) × (so r ≡ false)
+    by (Some a) before t here is earlier = let w = earlier (before ∙ is) in (omega (arith, w.0), w.1)
+    by None before false here is earlier = let same : n ≡ r = cc in subst (λ m. (m < suc n) × (so m ≡ false)) same (omega arith, here)
+    by None before true here is earlier = absurd (cc)
 
 abbrev pub first_passing : (p : ℕ → Bool) → ℕ → Option ℕ
 first_passing p n = first_below n (λ m. unless (not (p m)) m)
 
+none-is : (p : ℕ → Bool) (n : ℕ) → IsSame (all_below n (λ m. not (p m))) (first_passing p n)
+none-is p n = same-below n (λ m. not (p m)) (λ m. unless (not (p m)) m) (λ m. same-unless (not (p m)) m)
+
 pub none-passes : (p : ℕ → Bool) (n : ℕ) → ((m : ℕ) → m < n → p m ≡ false) → first_passing p n ≡ None
-none-passes p zero none = refl
-none-passes p (suc n) none = rw (none-passes p n (λ m less. none m (omega (arith, less))), none n (omega arith)) refl
+none-passes p n none = (none-is p n).holds (all-from n (λ m. not (p m)) (λ m less. ap not (none m less)))
 
 pub first-passes : (p : ℕ → Bool) (n r : ℕ) → r < n → p r ≡ true → ((m : ℕ) → m < r → p m ≡ false) → first_passing p n ≡ Some r
 first-passes p zero r less is none = absurd (omega (arith, less))
@@ -30,34 +45,15 @@ first-passes p (suc n) r less is none = elim (cases_eq r n) [
 ]
 
 pub some-passes : (p : ℕ → Bool) (n r : ℕ) → r < n → p r ≡ true → is_some (first_passing p n) ≡ true
-some-passes p zero r less is = absurd (omega (arith, less))
-some-passes p (suc n) r less is = elim (cases_eq r n) [
-  | inl at ↦ rw (sym (ap p at) ∙ is) (last (first_passing p n))
-  | inr apart ↦ earlier (first_passing p n) (some-passes p n r (omega (arith, less, apart)) is)
-]
+some-passes p n r less is = by (first_passing p n) refl
   where
-    last : (x : Option ℕ) → is_some (first_of x (Some n)) ≡ true
-    last None = refl
-    last (Some a) = refl
+    by : (x : Option ℕ) → first_passing p n ≡ x → is_some x ≡ true
+    by (Some a) found = refl
+    by None found = absurd (let yes : not (p r) ≡ true = at-below n (λ m. not (p m)) ((none-is p n).empty found) r less in
+        let no : not (p r) ≡ false = ap not is in cc)
 
-    earlier : (x : Option ℕ) → is_some x ≡ true → is_some (first_of x (unless (not (p n)) n)) ≡ true
-    earlier None some = absurd (cc)
-    earlier (Some a) some = refl
-
-record Passes (p : ℕ → Bool) (n : ℕ) : Type 0 where
-  at : ℕ
-  less : at < n
-  is : p at ≡ true
-
-passing : (p : ℕ → Bool) (n : ℕ) → is_some (first_passing p n) ≡ true → Passes p n
-passing p zero some = absurd (cc)
-passing p (suc n) some = by (first_passing p n) refl (p n) refl (passing p n)
-  where
-    by : (x : Option ℕ) → first_passing p n ≡ x → (t : Bool) → p n ≡ t → (is_some (first_passing p n) ≡ true → Passes p n) → Passes p (suc n)
-    by (Some a) is t that before = let w = before (ap is_some is) in record { at = w.at; less = (let low = w.less in omega (arith, low)); is = w.is }
-    by None is true that before = record { at = n; less = omega arith; is = that }
-    by None is false that before = absurd (let no : is_some (first_of (first_passing p n) (unless (not (p n)) n)) ≡ false = rw (is, that) refl in
-        let yes : is_some (first_of (first_passing p n) (unless (not (p n)) n)) ≡ true = some in cc)
+pub found-passes : (p : ℕ → Bool) (n r : ℕ) → first_passing p n ≡ Some r → (r < n) × (p r ≡ true)
+found-passes p n r found = let w = found-below (λ m. not (p m)) n r found in (w.0, not-false (p r) w.1)
 
 pub within-length : (kind : Stay → Bool) (graph : List (List Stay)) (r : ℕ) → length (within kind graph r) ≡ length graph
 within-length kind graph zero = length-map graph (λ (stays : List Stay). false)
@@ -68,10 +64,6 @@ within-length kind graph (suc r) = length-map graph (leads_into kind (within kin
 implied : {A : Type 0} (f g : A → Bool) (xs : List A) → ((x : A) → f x ≡ true → g x ≡ true) → list_all f xs ≡ true → list_all g xs ≡ true
 implied f g [] so all = refl
 implied f g (x ∷ xs) so all = let both = and_parts (f x) (list_all f xs) all in rw (so x both.0) (implied f g xs so both.1)
-
-all-implied : (n : ℕ) (f g : ℕ → Bool) → ((m : ℕ) → f m ≡ true → g m ≡ true) → all_below n f ≡ true → all_below n g ≡ true
-all-implied zero f g so all = refl
-all-implied (suc n) f g so all = let both = and_parts (f n) (all_below n f) all in rw (so n both.0) (all-implied n f g so both.1)
 
 module _ (kind less : Stay → Bool) (fewer : (s : Stay) → kind s ≡ false → less s ≡ false) where
   Covers : List Bool → List Bool → Type 0
@@ -101,9 +93,13 @@ module _ (kind less : Stay → Bool) (fewer : (s : Stay) → kind s ≡ false �
   within-more graph (suc r) n ok = row-leads (within kind graph r) (within less graph r) (within-more graph r) graph n ok
 
   longest-more : (graph : List (List Stay)) → is_some (longest kind graph) ≡ true → is_some (longest less graph) ≡ true
-  longest-more graph some = let w = passing (are_within kind graph) (length graph + 1) some in
-      some-passes (are_within less graph) (length graph + 1) w.at w.less
-      (all-implied (length graph) (is_in (within kind graph w.at)) (is_in (within less graph w.at)) (within-more graph w.at) w.is)
+  longest-more graph some = by (longest kind graph) refl some
+    where
+      by : (x : Option ℕ) → longest kind graph ≡ x → is_some x ≡ true → is_some (longest less graph) ≡ true
+      by None found some = absurd (cc)
+      by (Some r) found some = let w = found-passes (are_within kind graph) (length graph + 1) r found in
+          some-passes (are_within less graph) (length graph + 1) r w.0 (all-from (length graph) (is_in (within less graph r))
+          (λ n low. within-more graph r n (at-below (length graph) (is_in (within kind graph r)) w.1 n low)))
 
 owns-fewer : (K J : ℕ) → K ≤ J → (s : Stay) → may_own_more K s ≡ false → may_own_more J s ≡ false
 owns-fewer K J low s few = by s.owned few

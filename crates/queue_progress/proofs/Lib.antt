@@ -8,7 +8,6 @@ mod Going
 mod Standing
 mod Arriving
 mod Halving
-mod Splits
 mod Found
 mod Outside
 mod LittleTexts

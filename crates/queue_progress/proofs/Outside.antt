@@ -1,12 +1,12 @@
 -- Where no number bounds all rows, a walk stays outside of the states from which rows are no longer than there are states.
-use Rattle.std.proofs.Common.{ℕ, zero, suc, ◌+◌, ◌-◌, ◌≡◌, ◌&&◌, not, if◌then◌else◌, Bool, true, false, Option, None, Some, List, [], ◌∷◌, length, get_or}
+use Rattle.std.proofs.Common.{ℕ, zero, suc, ◌+◌, ◌-◌, ◌≡◌, not, if◌then◌else◌, Bool, true, false, Option, None, Some, List, [], ◌∷◌, length, get_or}
 use Rattle.std.proofs.Common.{refl, ◌∙◌, ap, subst, arith}
 use Rattle.std.specs.Option.{is_some}
 use Rattle.std.specs.List.{find}
 use Rattle.step_machine.specs.History.{OpeningValue}
 use Rattle.queue_certificates.specs.Certificates.{QueueCertificate, queue_at}
 use Rattle.queue_certificates.specs.Steps.{all_below}
-use Rattle.queue_checker.specs.Flaws.{first_of, first_below, unless}
+use Rattle.queue_checker.specs.Flaws.{first_of, unless}
 use Rattle.queue_progress.specs.declared.pace.Progress.TheVariants.{NoPace, NoLook}
 use Rattle.queue_progress.specs.Graphs.{Stay, may_own_more, looks_away, is_in, within, are_within}
 use Rattle.queue_progress.specs.Longest.{longest, first_outside, first_step, state_or, walked, on_cycle}
@@ -14,8 +14,8 @@ use Rattle.queue_progress.specs.Progress.{is_bounded, least_owned, progress_with
 use Rattle.queue_progress.specs.Shown.{graph_of}
 use Rattle.queue_progress.specs.declared.pace.ToldProgress.TheVariants.{Endless}
 use Rattle.queue_progress.specs.Told.{told_graph, told_progress_by, told_progress_of}
-use Rattle.queue_progress.proofs.Halving.{within-length, some-passes}
-use Rattle.queue_progress.proofs.Found.{found-passes}
+use Rattle.queue_checker.proofs.FlawLaws.{same-unless, same-below}
+use Rattle.queue_progress.proofs.Halving.{within-length, found-below, some-passes, found-passes}
 
 -- what is found isn't one of these
 abbrev IsOutside : List Bool → Option ℕ → Type 0
@@ -56,34 +56,13 @@ walked-outside kind graph states n (suc steps) out =
     (step-outside kind states (get_or graph (walked kind graph states n steps) [])) (walked-outside kind graph states n steps out)
 
 -- the first one outside, if not all are inside
-module _ (states : List Bool) where
-  abbrev found : ℕ → Option ℕ
-  found n = first_below n (λ m. unless (is_in states m) m)
-
-  found-outside : (n : ℕ) → IsOutside states (found n)
-  found-outside zero = tt
-  found-outside (suc n) = either-outside states (found n) (unless (is_in states n) n) (found-outside n) (by (is_in states n) refl)
-    where
-      by : (t : Bool) → is_in states n ≡ t → IsOutside states (unless t n)
-      by true is = tt
-      by false is = is
-
-  none-outside : (n : ℕ) → found n ≡ None → all_below n (is_in states) ≡ true
-  none-outside zero none = refl
-  none-outside (suc n) none = by (found n) refl (is_in states n) refl none (none-outside n)
-    where
-      by : (x : Option ℕ) → found n ≡ x → (t : Bool) → is_in states n ≡ t → first_of x (unless t n) ≡ None
-          → (found n ≡ None → all_below n (is_in states) ≡ true) → (is_in states n && all_below n (is_in states)) ≡ true
-      by (Some a) before t here none rest = absurd (cc)
-      by None before false here none rest = absurd (cc)
-      by None before true here none rest = rw (here, rest before) refl
-
-  first-outside : all_below (length states) (is_in states) ≡ false → is_in states (state_or (first_outside states) 0) ≡ false
-  first-outside some = by (found (length states)) refl (found-outside (length states))
-    where
-      by : (x : Option ℕ) → found (length states) ≡ x → IsOutside states x → is_in states (state_or x 0) ≡ false
-      by (Some n) is out = out
-      by None is out = absurd (let all : all_below (length states) (is_in states) ≡ true = none-outside (length states) is in cc)
+first-outside : (states : List Bool) → all_below (length states) (is_in states) ≡ false → is_in states (state_or (first_outside states) 0) ≡ false
+first-outside states some = by (first_outside states) refl
+  where
+    by : (x : Option ℕ) → first_outside states ≡ x → is_in states (state_or x 0) ≡ false
+    by (Some n) found = (found-below (is_in states) (length states) n found).1
+    by None found = absurd (let all : all_below (length states) (is_in states) ≡ true = (same-below (length states) (is_in states)
+        (λ n. unless (is_in states n) n) (λ n. same-unless (is_in states n) n)).empty found in cc)
 
 pub cycle-outside : (kind : Stay → Bool) (graph : List (List Stay)) → longest kind graph ≡ None
     → is_in (within kind graph (length graph)) (on_cycle kind graph) ≡ false
@@ -98,10 +77,6 @@ cycle-outside kind graph none = walked-outside kind graph (within kind graph (le
         let so : is_some (longest kind graph) ≡ true = some-passes (are_within kind graph) (length graph + 1) (length graph) (omega arith) is in
         let not-so : is_some (longest kind graph) ≡ false = ap is_some none in cc)
 
-nothing-there : (x : Option ℕ) → is_some x ≡ false → x ≡ None
-nothing-there None is = refl
-nothing-there (Some n) is = absurd (cc)
-
 module _ (o : OpeningValue) (c : QueueCertificate) (h i : ℕ) where
   abbrev graph : List (List Stay)
   graph = graph_of o c h i
@@ -110,13 +85,13 @@ module _ (o : OpeningValue) (c : QueueCertificate) (h i : ℕ) where
   last = (queue_at c i).capacity - 1
 
   unbounded : least_owned (graph_of o c h i) (queue_at c i).capacity ≡ None → longest (may_own_more last) (graph_of o c h i) ≡ None
-  unbounded none = by (is_bounded (graph_of o c h i) last) refl
+  unbounded none = by (longest (may_own_more last) (graph_of o c h i)) refl
     where
-      by : (t : Bool) → is_bounded (graph_of o c h i) last ≡ t → longest (may_own_more last) (graph_of o c h i) ≡ None
-      by false is = nothing-there (longest (may_own_more last) (graph_of o c h i)) is
-      by true is = absurd (
+      by : (x : Option ℕ) → longest (may_own_more last) (graph_of o c h i) ≡ x → x ≡ None
+      by None found = refl
+      by (Some N) found = absurd (
           let so : is_some (least_owned (graph_of o c h i) (queue_at c i).capacity) ≡ true =
-          some-passes (is_bounded (graph_of o c h i)) (last + 1) last (omega arith) is in
+          some-passes (is_bounded (graph_of o c h i)) (last + 1) last (omega arith) (ap is_some found) in
           let not-so : is_some (least_owned (graph_of o c h i) (queue_at c i).capacity) ≡ false = ap is_some none in cc)
 
   module _ (n : ℕ) where
@@ -134,7 +109,7 @@ module _ (o : OpeningValue) (c : QueueCertificate) (h i : ℕ) where
         by None at is = let same : on_cycle (may_own_more last) (graph_of o c h i) ≡ n = cc in
             subst (λ m. is_in (within (may_own_more last) (graph_of o c h i) (length (graph_of o c h i))) m ≡ false) same
             (cycle-outside (may_own_more last) (graph_of o c h i) (unbounded at))
-        by (Some K) at is = absurd (owning K (found-passes (is_bounded (graph_of o c h i)) (last + 1) K at)
+        by (Some K) at is = absurd (owning K (found-passes (is_bounded (graph_of o c h i)) (last + 1) K at).1
             (longest (may_own_more K) (graph_of o c h i)) (longest looks_away (graph_of o c h i)) refl is)
 
     pub no_look : progress_of o c h i ≡ NoLook n → is_in (within looks_away graph (length graph)) n ≡ false

@@ -1,5 +1,5 @@
--- What ranks say of rows: from a state as many stays of the kind follow on one another at most as its rank says, and a state without a rank is
--- one from which there is no bound. No rank is greater than the number of states.
+-- A state's rank is the most stays of the kind that may follow on one another from there; from a state without a rank there is no bound. No rank
+-- is greater than the number of states.
 use Rattle.std.proofs.Common.{ℕ, zero, suc, ◌+◌, ◌<◌, ◌≤◌, ◌≡◌, ◌&&◌, ◌||◌, ◌⊎◌, not, inl, inr, if◌then◌else◌, Bool, true, false}
 use Rattle.std.proofs.Common.{Option, None, Some, List, [], ◌∷◌, length, map, get_or, refl, sym, ◌∙◌, ap, subst, arith}
 use Rattle.std.specs.Prelude.{nat_le}

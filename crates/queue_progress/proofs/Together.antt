@@ -279,7 +279,7 @@ module _ (B M : ℕ) (o : OpeningValue) (c : QueueCertificate) (ok : accepts o c
         more-than : (a b z : ℕ) → a ≤ b → a ≤ b + z
         more-than a b z low = omega (arith, low)
 
-    -- of as many queues as m it owns no more
+    -- of at most m queues it owns no more
     turns : (m : ℕ) (es row : List Entry) → lack g.owned es ≤ m → WellFormed B M (history_of o (es ++ row))
         → EachAfter h (IsHartStuck c h g.owned) es row → executed h row ≤ g.pace + m * (g.sight + 1)
     turns zero es row few run each = idle 0 es row run each (none-lacking (length c.queues) (has_more c h g.owned es) few)

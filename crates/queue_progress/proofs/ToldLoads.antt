@@ -1,5 +1,5 @@
--- A load after which a party may own its position, where it didn't surely own one: it is of that position's tag. And where it is told, the
--- first of both states that may follow says what is so.
+-- A load after which two states may follow, where the party owned no position for sure and owns one in the first of them: it is a load of the
+-- tag of that position.
 use Rattle.std.proofs.Common.{ℕ, ℤ, suc, zero, ◌+◌, ◌<◌, ◌≤◌, ◌≡◌, ◌⊎◌, inl, inr, if◌then◌else◌, Bool, true, false}
 use Rattle.std.proofs.Common.{Option, Some, None, List, [], ◌∷◌, length, get_or, refl, sym, ◌∙◌, ap, subst, arith}
 use Rattle.std.specs.Prelude.{nat_lt, map, set}

@@ -26,8 +26,8 @@ is_in states n = get_or states n true
 abbrev pub leads_into : (kind : Stay → Bool) → List Bool → List Stay → Bool
 leads_into kind states stays = list_all (λ s. not (kind s) || list_all (is_in states) s.to) stays
 
--- The states from which at most r stays in a row are of this kind: each one leads to states from which at most r - 1 are. An
--- instruction after which the hart is in no state, as one that ends or stops it, counts as none; so r is at least 1.
+-- The states from which at most r stays in a row are of this kind: their stays of this kind lead to states from which at most r - 1 are. With 0
+-- there is none, not even a state without such stays.
 abbrev pub within : (kind : Stay → Bool) → List (List Stay) → (r : ℕ) → List Bool
 within kind graph zero = map (λ stays. false) graph
 within kind graph (suc r) = map (leads_into kind (within kind graph r)) graph

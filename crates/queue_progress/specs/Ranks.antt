@@ -1,7 +1,10 @@
 -- Of each state how many stays of a kind may follow on one another from there, where there is a bound: a rank is one more than the greatest
 -- of those to which they lead.
-use Rattle.std.specs.Prelude.{ℕ, ◌≡◌, ◌+◌, ◌==◌, ◌&&◌, nat_le, if◌then◌else◌, Bool, true, false, Option, None, Some, List, [], ◌∷◌, map, set, get_or}
+use Rattle.std.specs.Prelude.{ℕ, ◌≡◌, ◌+◌, ◌==◌, ◌&&◌, nat_le, if◌then◌else◌, Bool, true, false, Option, None, Some, List, [], ◌∷◌, map, set, get_or, zero}
+use Rattle.std.specs.Prelude.{suc, ◌++◌}
 use Rattle.queue_progress.specs.Graphs.{Stay}
+use Rattle.std.specs.List.{flat_map}
+use Rattle.queue_progress.specs.declared.order.Visit.{Visit}
 
 -- the greater of two; none, if there is no one of them
 abbrev pub farther : Option ℕ → Option ℕ → Option ℕ
@@ -52,3 +55,21 @@ are_ranks_of kind ranks (r ∷ rs) (stays ∷ graph) = is_same_rank r (rank_of k
 abbrev pub ranks_set : (kind : Stay → Bool) → List (List Stay) → List (Option ℕ) → List ℕ → List (Option ℕ)
 ranks_set kind graph ranks [] = ranks
 ranks_set kind graph ranks (n ∷ ns) = ranks_set kind graph (set ranks n (rank_of kind ranks (get_or graph n []))) ns
+
+-- ---- the order in which they are set: a walk, depth first, makes the last of the visits that it plans
+
+-- to come to state n
+abbrev pub visit_of : (n : ℕ) → Visit
+visit_of n = record { state = n; leaves = false }
+
+abbrev pub visits_below : (n : ℕ) → List Visit
+visits_below zero = []
+visits_below (suc n) = visits_below n ++ visit_of n ∷ []
+
+-- to come to each state to which these stays of the kind lead
+abbrev pub visits_along : (kind : Stay → Bool) → List Stay → List Visit
+visits_along kind stays = flat_map (λ s. if kind s then map visit_of s.to else []) stays
+
+-- to leave state n, where these are its stays, but to come to all those first
+abbrev pub visits_at : (kind : Stay → Bool) → (n : ℕ) → List Stay → List Visit
+visits_at kind n stays = record { state = n; leaves = true } ∷ visits_along kind stays

@@ -10,7 +10,7 @@ use queue_checker::leaves::{goes_beyond, with_high, with_low};
 use queue_checker::{Arrow, CaseNode, Cases, KnownState, ListedState};
 use std::alloc::Global;
 
-/// What is told of a leaf; `stays` is its definition, and computes it.
+/// The stays of a leaf, none or one; `stays` defines them.
 pub(crate) trait LeafStays {
     ghost use Rattle.std.specs.Prelude.{◌≡◌, ◌++◌, List, IfOk};
     ghost use Rattle.queue_certificates.specs.Forms.{Form as FormOf};
@@ -20,8 +20,7 @@ pub(crate) trait LeafStays {
 
     ghost stays: { Self → StateOf → FormOf → List ArrowOf → List StayOf };
 
-    /// Adds what a leaf does if it leaves what is asked of it: where `state` is known, the instruction hands over `handed` positions, and
-    /// goes on along `arrows`.
+    /// Adds those of a leaf at which `state` is known, whose instruction hands over `handed` positions and goes on along `arrows`.
     fn push(
         &self,
         alloc: Global,
@@ -33,7 +32,7 @@ pub(crate) trait LeafStays {
         ensures { IfOk result (λ _. out.new.items ≡ out.old.items ++ stays self.now state.now handed.now arrows.now) };
 }
 
-/// The same of all leaves of a state, by its cases.
+/// Adds those of each leaf of a state that may be, by its cases.
 fn push_leaves<S: LeafStays>(
     alloc: Global,
     leaf: &S,
@@ -66,7 +65,7 @@ fn node_of<S: LeafStays>(alloc: Global, leaf: &S, listed: &ListedState) -> Resul
     Ok(Node { stays })
 }
 
-/// Of each state what its leaves do.
+/// Of each state the stays of its leaves.
 pub(crate) fn graph_by<S: LeafStays>(
     alloc: Global,
     leaf: &S,

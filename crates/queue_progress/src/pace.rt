@@ -25,8 +25,8 @@ pub enum Progress {
 /// What is found of a party of a queue with tags.
 #[derive(Clone, Copy, PartialEq, Eq, Debug)]
 pub enum ToldProgress {
-    /// Of this many and one more of its instructions in a row one moves its position, or is a load of that position's tag by which it
-    /// isn't told that the slot is its own.
+    /// N: of any N + 1 of its instructions in a row one moves its position, or is a load of that position's tag by which it isn't told that
+    /// the slot is its own.
     Within(u64),
     /// A state on a cycle of instructions that do neither.
     Endless(u32),

@@ -1,6 +1,6 @@
 //! Ranks of states: how many stays of a kind may follow on one another from each on.
 
-ghost use Rattle.std.specs.Prelude.{◌≡◌, None, Some, IfOk, map, set, get_or, []};
+ghost use Rattle.std.specs.Prelude.{◌≡◌, Some, IfOk, set, get_or, []};
 ghost use Rattle.queue_progress.specs.Longest.{is_kind};
 ghost use Rattle.queue_progress.specs.Ranks.{farther, greatest, farthest, led_to, rank_of, AreRanks, is_same_rank, are_ranks_of, ranks_set};
 
@@ -160,24 +160,13 @@ fn set_ranks(
     Ok(())
 }
 
-fn no_ranks(alloc: Global, graph: &[Node]) -> Result<Vec<Option<u64>>, Lack>
-    ensures { IfOk result (λ none. none.items ≡ map (λ stays. None) graph.now) }
-{
-    let mut none = Vec::new(alloc);
-    for node in graph {
-        let _its = node;
-        none.push(None)?;
-    }
-    Ok(none)
-}
-
 /// Each state's rank: in an order in which a state comes after those to which it leads all have theirs after one turn.
 #[tactic(auto, using(crate::proofs::Ranked::ranks_are))]
 pub(crate) fn ranks_of(alloc: Global, kind: Kind, graph: &[Node]) -> Result<Vec<Option<u64>>, Lack>
     ensures { IfOk result (λ ranks. AreRanks (is_kind kind) graph.now ranks.items) }
 {
     let order = order_of(alloc, kind, graph)?;
-    let mut ranks = no_ranks(alloc, graph)?;
+    let mut ranks: Vec<Option<u64>> = vec![in alloc; None; graph.len()]?;
     for turn in 0..graph.len() {
         let _turn = turn;
         set_ranks(kind, graph, &mut ranks, &order)?;

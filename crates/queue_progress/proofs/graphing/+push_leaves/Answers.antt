@@ -1,6 +1,6 @@
 use Rattle.std.proofs.Common.{sym, ap, ◌∙◌}
 use Rattle.queue_checker.specs.Trees.{tree_of}
-use Rattle.queue_progress.proofs.Splits.{high_stays}
+use Rattle.queue_progress.proofs.Bounded.{high_stays}
 use Rattle.queue_progress.proofs.graphing.+push_leaves.Goals as goal
 
 pub returns-then-goes_beyond : goal.returns-then-goes_beyond
