@@ -1,102 +1,174 @@
--- From every run on something more is published or taken: all lands, and then the one party and the other execute enough instructions alone.
-use Rattle.std.proofs.Common.{ℕ, ◌+◌, ◌<◌, ◌≤◌, ◌≡◌, ◌≢◌, List, [], ◌++◌, length, true, refl, sym, ◌∙◌, ap, subst, arith, append_assoc}
+-- From every run on something more is published or taken, or a hart has ended: all lands, and then the one party and the other execute enough
+-- instructions alone.
+use Rattle.std.proofs.Common.{ℕ, suc, ◌+◌, ◌<◌, ◌≤◌, ◌≡◌, ◌≢◌, inl, inr, List, [], ◌++◌, length, true, sym, ◌∙◌, ap, subst, arith, append_assoc}
+use Rattle.std.specs.Prelude.{All, option_map, Some, false}
+use Rattle.std.proofs.lemmas.List.Elements.{All-nil}
+use Rattle.memory.specs.declared.writes.Write.{Write}
+use Rattle.hart.specs.State.{HartState}
+use Rattle.hart.specs.declared.status.Status.TheVariants as status
 use Rattle.step_machine.specs.declared.events.Entry.{Entry}
 use Rattle.step_machine.specs.History.{OpeningValue, history_of}
 use Rattle.step_machine.specs.Entries.{pending}
 use Rattle.step_machine.specs.Legal.{WellFormed}
+use Rattle.step_machine.proofs.OwnRuns.{kept-front}
 use Rattle.queue_parties.specs.Parties.{Party, the_sender, the_receiver, all_at}
-use Rattle.queue_parties.proofs.Parties.{counts-append}
 use Rattle.slot_queue.specs.Queues.{index_word}
-use Rattle.slot_queue.specs.Ownership.{hart, counts_next}
+use Rattle.slot_queue.specs.Ownership.{hart}
 use Rattle.slot_queue.specs.Laws.{moved_on}
 use Rattle.slot_queue.proofs.Sides.{Side}
 use Rattle.slot_queue.proofs.Runs.{sides-of, memory_at}
-use Rattle.queue_certificates.specs.Certificates.{QueueCertificate, queue_at, start_at, accepts}
-use Rattle.queue_certificates.proofs.Accepted.{fine}
+use Rattle.slots_that_tell.specs.Slots.{is_tag}
+use Rattle.slots_that_tell.specs.Telling.{teller_hart}
+use Rattle.queue_certificates.specs.Certificates.{QueueCertificate, queue_at, tagged_at, start_at, accepts}
+use Rattle.queue_certificates.proofs.TagShares.{tagged-fine}
+use Rattle.queue_certificates.proofs.Accepted.{fine, fine-tagged}
 use Rattle.queue_certificates.proofs.EveryRun.{accepted_runs}
 use Rattle.queue_progress.specs.declared.pace.Pace.{Pace}
-use Rattle.queue_progress.specs.Rows.{executed, counts_at, all_moved, Lasts, Arrives, HaveLanded}
+use Rattle.queue_progress.specs.Rows.{executed, counts_at, HaveLanded}
 use Rattle.queue_progress.specs.Shown.{keeps_going}
-use Rattle.queue_progress.proofs.Alone.{Alone, executed-append, still-empty, landing, acting-on}
+use Rattle.queue_progress.specs.Told.{slots_at, teller_at, told_counts_at, told_within}
+use Rattle.queue_progress.specs.Rows.{Lasts, RunsOrEnds, HasEnded, Comes, MovesOn, MovesOnOrEnds, moved_at, Arrives, ArrivesOrEnds}
+use Rattle.queue_progress.specs.Told.{told_moved_at, ToldArrives, ToldArrivesOrEnds}
+use Rattle.queue_progress.proofs.Moved.{all-grow}
+use Rattle.queue_progress.proofs.Alone.{executed-append, before, still-empty, landing, acting-on}
 use Rattle.queue_progress.proofs.Standing.{grown, stands}
+use Rattle.queue_progress.proofs.ToldStanding.{told_stands}
+use Rattle.queue_progress.proofs.ToldStanding as told
 
-module _ (B M : ℕ) (o : OpeningValue) (c : QueueCertificate) (ok : accepts o c ≡ true) (i : ℕ) (less : i < length c.queues) where
-  -- where nothing is pending of either party, memory has the counts
-  landed : (es : List Entry) → WellFormed B M (history_of o es) → ((p : Party) → pending (hart (queue_at c i) p) es ≡ [])
-      → HaveLanded (queue_at c i) o es (counts_at c i es)
-  landed es run none p = side.word
-      ∙ ap (index_word (queue_at c i))
-      (ap (moved_on (queue_at c i) p (memory_at (queue_at c i) (all_at (start_at c i)) [] es p)) (sym (none p))
-      ∙ side.count_is)
-    where
-      side : Side (queue_at c i) o es (counts_at c i es) p (memory_at (queue_at c i) (all_at (start_at c i)) [] es p)
-      side = sides-of B (queue_at c i) (all_at (start_at c i)) o [] es (accepted_runs B M o c ok es run i less) p
+-- ---- of harts g and h, where `moved` grows, and is more after n instructions of the one and m of the other once both have nothing pending
 
-  pub arrives : (s r : Pace) → s.owned + r.owned < (queue_at c i).capacity → keeps_going o c (queue_at c i).sender i s ≡ true
-      → keeps_going o c (queue_at c i).receiver i r ≡ true → 1 ≤ B → Lasts B M o (queue_at c i).sender → Lasts B M o (queue_at c i).receiver
-      → (es : List Entry) → WellFormed B M (history_of o es) → Arrives B M o c i es
-  arrives its theirs room sends receives some sender_lasts receiver_lasts es run = record {
-    later = first.entries ++ (second.entries ++ row);
-    run = subst (λ xs. WellFormed B M (history_of o xs)) whole row_run;
-    more = subst (λ xs. all_moved (counts_at c i es) < all_moved (counts_at c i xs)) whole (omega (arith, upto, further));
-  }
-    where
-      s : ℕ
-      s = (queue_at c i).sender
+module _ (B M : ℕ) (o : OpeningValue) (g h : ℕ) (apart : g ≢ h) (moved : List Entry → ℕ) (grows : (es fs : List Entry) → moved es ≤ moved (es ++ fs))
+    (n m : ℕ) (stood : (es row : List Entry) → WellFormed B M (history_of o (es ++ row)) → pending g es ≡ [] → pending h es ≡ []
+    → n ≤ executed g row → m ≤ executed h row → moved es < moved (es ++ row)) (some : 1 ≤ B) where
+  module _ (one_runs : RunsOrEnds B M o g) (other_runs : RunsOrEnds B M o h) where
+    abbrev OnFrom : List Entry → List Entry → Type 0
+    OnFrom start = MovesOnOrEnds M o g h moved start
 
-      r : ℕ
-      r = (queue_at c i).receiver
+    -- where nothing is pending, and no less has moved than at the start
+    from-empty : (start es : List Entry) → WellFormed B M (history_of o es) → moved start ≤ moved es → pending g es ≡ [] → pending h es ≡ []
+        → Comes B M o (OnFrom start) es
+    from-empty start es run upto empty also = elim (acting-on B M o g one_runs some n es run empty) [
+      | inr ends ↦ record { later = ends.later; run = ends.run; so = inr (inl ends.so) }
+      | inl one ↦ elim (acting-on B M o h other_runs some m (es ++ one.entries) one.run
+          (still-empty B M o g h es one.entries one.run one.mine apart also)) [
+            | inr ends ↦ before B M o (OnFrom start) es one.entries (record { later = ends.later; run = ends.run; so = inr (inr ends.so) })
+            | inl two ↦ (
+                let row_run : WellFormed B M (history_of o (es ++ (one.entries ++ two.entries))) =
+                subst (λ xs. WellFormed B M (history_of o xs)) (append_assoc es one.entries two.entries) two.run in
+                let sum : executed g (one.entries ++ two.entries) ≡ executed g one.entries + executed g two.entries =
+                executed-append g one.entries two.entries in
+                let other_sum : executed h (one.entries ++ two.entries) ≡ executed h one.entries + executed h two.entries =
+                executed-append h one.entries two.entries in
+                let more : moved es < moved (es ++ (one.entries ++ two.entries)) =
+                stood es (one.entries ++ two.entries) row_run empty also (omega (arith, sum, one.many)) (omega (arith, other_sum, two.many)) in
+                record { later = one.entries ++ two.entries; run = row_run; so = inl (omega (arith, upto, more)) })
+          ]
+    ]
 
-      apart : s ≢ r
-      apart = (fine M o c ok i less).0.parties
+    pub moving-on : (es : List Entry) → WellFormed B M (history_of o es) → Comes B M o (MovesOnOrEnds M o g h moved es) es
+    moving-on es run =
+        let first = landing B M o g one_runs some es run in
+        let second = landing B M o h other_runs some (es ++ first.entries) first.run in
+        let one : moved es ≤ moved (es ++ first.entries) = grows es first.entries in
+        let two : moved (es ++ first.entries) ≤ moved ((es ++ first.entries) ++ second.entries) = grows (es ++ first.entries) second.entries in
+        before B M o (OnFrom es) es first.entries (before B M o (OnFrom es) (es ++ first.entries) second.entries
+        (from-empty es ((es ++ first.entries) ++ second.entries) second.run (omega (arith, one, two))
+        (still-empty B M o h g (es ++ first.entries) second.entries second.run second.mine (λ same. apart (sym same)) first.empty) second.empty))
 
-      first : Alone B M o (queue_at c i).sender 0 es
-      first = landing B M o s sender_lasts some (pending s es) es run refl
+  -- harts that run in every run have ended in none
+  module _ (one_lasts : Lasts B M o g) (other_lasts : Lasts B M o h) where
+    running : (k : ℕ) → Lasts B M o k → RunsOrEnds B M o k
+    running k lasts es run = let at = lasts es run in (at.0, at.1, inl at.2)
 
-      es1 : List Entry
-      es1 = es ++ first.entries
+    not-ended : (k : ℕ) → Lasts B M o k → (es : List Entry) → WellFormed B M (history_of o es) → HasEnded M o k es → ⊥
+    not-ended k lasts es run ended = let at = lasts es run in
+        let no : Some status.Running ≡ Some status.Ended = ap (λ x. Some x) (sym at.2)
+        ∙ sym (ap (λ z. option_map (λ (s : HartState). s.status) z) at.1) ∙ ended in absurd (cc)
 
-      second : Alone B M o (queue_at c i).receiver 0 (es ++ first.entries)
-      second = landing B M o r receiver_lasts some (pending r es1) es1 first.run refl
+    pub moving : (es : List Entry) → WellFormed B M (history_of o es) → Comes B M o (MovesOn moved es) es
+    moving es run = let w = moving-on (running g one_lasts) (running h other_lasts) es run in
+        record { later = w.later; run = w.run; so = by w.later w.run w.so }
+      where
+        by : (later : List Entry) → WellFormed B M (history_of o (es ++ later)) → MovesOnOrEnds M o g h moved es (es ++ later)
+            → MovesOn moved es (es ++ later)
+        by later on (inl more) = more
+        by later on (inr (inl ended)) = absurd (not-ended g one_lasts (es ++ later) on ended)
+        by later on (inr (inr ended)) = absurd (not-ended h other_lasts (es ++ later) on ended)
 
-      es2 : List Entry
-      es2 = es1 ++ second.entries
+module _ (B M : ℕ) (o : OpeningValue) (c : QueueCertificate) (ok : accepts o c ≡ true) where
+  -- ---- a queue with indices
 
-      empty : (p : Party) → pending (hart (queue_at c i) p) ((es ++ first.entries) ++ second.entries) ≡ []
-      empty the_sender = still-empty B M o r s es1 second.entries second.run second.mine (λ same. apart (sym same)) first.empty
-      empty the_receiver = second.empty
+  module _ (i : ℕ) (less : i < length c.queues) where
+    -- where nothing is pending of either party, memory has the counts
+    landed : (es : List Entry) → WellFormed B M (history_of o es) → ((p : Party) → pending (hart (queue_at c i) p) es ≡ [])
+        → HaveLanded (queue_at c i) o es (counts_at c i es)
+    landed es run none p = side.word
+        ∙ ap (index_word (queue_at c i))
+        (ap (moved_on (queue_at c i) p (memory_at (queue_at c i) (all_at (start_at c i)) [] es p)) (sym (none p))
+        ∙ side.count_is)
+      where
+        side : Side (queue_at c i) o es (counts_at c i es) p (memory_at (queue_at c i) (all_at (start_at c i)) [] es p)
+        side = sides-of B (queue_at c i) (all_at (start_at c i)) o [] es (accepted_runs B M o c ok es run i less) p
 
-      one : Alone B M o (queue_at c i).sender (its.pace + its.sight + 2) ((es ++ first.entries) ++ second.entries)
-      one = acting-on B M o s sender_lasts some (its.pace + its.sight + 2) es2 second.run (empty the_sender)
+    parties-apart : (queue_at c i).sender ≢ (queue_at c i).receiver
+    parties-apart = (fine M o c ok i less).0.parties
 
-      two : Alone B M o (queue_at c i).receiver (theirs.pace + theirs.sight + 2) (((es ++ first.entries) ++ second.entries) ++ one.entries)
-      two = acting-on B M o r receiver_lasts some (theirs.pace + theirs.sight + 2) (es2 ++ one.entries) one.run
-          (still-empty B M o s r es2 one.entries one.run one.mine apart second.empty)
+    moves-grow : (es fs : List Entry) → moved_at c i es ≤ moved_at c i (es ++ fs)
+    moves-grow es fs = all-grow (counts_at c i es) (counts_at c i (es ++ fs)) (grown B M o c ok i less es fs)
 
-      row : List Entry
-      row = one.entries ++ two.entries
+    module _ (its theirs : Pace) (room : its.owned + theirs.owned < (queue_at c i).capacity)
+        (sends : keeps_going o c (queue_at c i).sender i its ≡ true) (receives : keeps_going o c (queue_at c i).receiver i theirs ≡ true) where
+      stood : (es row : List Entry) → WellFormed B M (history_of o (es ++ row)) → pending (queue_at c i).sender es ≡ []
+          → pending (queue_at c i).receiver es ≡ [] → its.pace + its.sight + 2 ≤ executed (queue_at c i).sender row
+          → theirs.pace + theirs.sight + 2 ≤ executed (queue_at c i).receiver row → moved_at c i es < moved_at c i (es ++ row)
+      stood es row run empty also = stands B M o c ok i less its theirs room sends receives es row run
+          (landed es (kept-front B M o es row run) by)
+        where
+          by : (p : Party) → pending (hart (queue_at c i) p) es ≡ []
+          by the_sender = empty
+          by the_receiver = also
 
-      row_run : WellFormed B M (history_of o (((es ++ first.entries) ++ second.entries) ++ (one.entries ++ two.entries)))
-      row_run = subst (λ xs. WellFormed B M (history_of o xs)) (append_assoc es2 one.entries two.entries) two.run
+      pub arrives : 1 ≤ B → Lasts B M o (queue_at c i).sender → Lasts B M o (queue_at c i).receiver → (es : List Entry) → WellFormed B M (history_of o es)
+          → Arrives B M o c i es
+      arrives = moving B M o (queue_at c i).sender (queue_at c i).receiver parties-apart (moved_at c i) moves-grow
+          (its.pace + its.sight + 2) (theirs.pace + theirs.sight + 2) stood
 
-      whole : es2 ++ row ≡ es ++ (first.entries ++ (second.entries ++ row))
-      whole = append_assoc es1 second.entries row ∙ append_assoc es first.entries (second.entries ++ row)
+      pub arrives_or_ends : 1 ≤ B → RunsOrEnds B M o (queue_at c i).sender → RunsOrEnds B M o (queue_at c i).receiver → (es : List Entry)
+          → WellFormed B M (history_of o es) → ArrivesOrEnds B M o c i es
+      arrives_or_ends = moving-on B M o (queue_at c i).sender (queue_at c i).receiver parties-apart (moved_at c i) moves-grow
+          (its.pace + its.sight + 2) (theirs.pace + theirs.sight + 2) stood
 
-      enough : its.pace + its.sight + 2 ≤ executed s row
-      enough = let sum : executed s row ≡ executed s one.entries + executed s two.entries = executed-append s one.entries two.entries in
-          omega (arith, sum, one.many)
+  -- ---- a queue with tags
 
-      also : theirs.pace + theirs.sight + 2 ≤ executed r row
-      also = let sum : executed r row ≡ executed r one.entries + executed r two.entries = executed-append r one.entries two.entries in
-          omega (arith, sum, two.many)
+  module _ (t : ℕ) (less : t < length c.tagged) where
+    tellers-apart : teller_at c t the_sender ≢ teller_at c t the_receiver
+    tellers-apart = (tagged-fine (tagged_at c t) (fine-tagged M o c ok t less)).parties
 
-      further : all_moved (counts_at c i es2) < all_moved (counts_at c i (es2 ++ row))
-      further = stands B M o c ok i less its theirs room sends receives es2 row row_run (landed es2 second.run empty) enough also
+    told-grow : (es fs : List Entry) → told_moved_at c t es ≤ told_moved_at c t (es ++ fs)
+    told-grow es fs = all-grow (told_counts_at c t es) (told_counts_at c t (es ++ fs)) (told.grown B M o c ok t less es fs)
 
-      grown-on : (xs ys : List Entry) → all_moved (counts_at c i xs) ≤ all_moved (counts_at c i (xs ++ ys))
-      grown-on xs ys = subst (λ d. all_moved (counts_at c i xs) ≤ all_moved d) (sym (counts-append (counts_next (queue_at c i)) (all_at (start_at c i)) xs ys))
-          (grown (queue_at c i) (counts_at c i xs) ys)
+    module _ (S R : ℕ) (sends : told_within o c (teller_at c t the_sender) t S ≡ true)
+        (receives : told_within o c (teller_at c t the_receiver) t R ≡ true) where
+      told-stood : (es row : List Entry) → WellFormed B M (history_of o (es ++ row)) → pending (teller_at c t the_sender) es ≡ []
+          → pending (teller_at c t the_receiver) es ≡ [] → suc S ≤ executed (teller_at c t the_sender) row
+          → suc R ≤ executed (teller_at c t the_receiver) row → told_moved_at c t es < told_moved_at c t (es ++ row)
+      told-stood es row run empty also enough other = told_stands B M o c ok t less S R sends receives es row run by
+          (omega (arith, enough)) (omega (arith, other))
+        where
+          off : (ws : List Write) → ws ≡ [] → All (λ w. is_tag (slots_at c t) w.addr w.width ≡ false) ws
+          off ws none = subst (All (λ w. is_tag (slots_at c t) w.addr w.width ≡ false)) (sym none)
+              (All-nil (λ (w : Write). is_tag (slots_at c t) w.addr w.width ≡ false))
 
-      upto : all_moved (counts_at c i es) ≤ all_moved (counts_at c i es2)
-      upto = let a : all_moved (counts_at c i es) ≤ all_moved (counts_at c i es1) = grown-on es first.entries in
-          let b : all_moved (counts_at c i es1) ≤ all_moved (counts_at c i es2) = grown-on es1 second.entries in omega (arith, a, b)
+          by : (p : Party) → All (λ w. is_tag (slots_at c t) w.addr w.width ≡ false) (pending (teller_hart (slots_at c t) p) es)
+          by the_sender = off (pending (teller_at c t the_sender) es) empty
+          by the_receiver = off (pending (teller_at c t the_receiver) es) also
+
+      pub told_arrives : 1 ≤ B → Lasts B M o (teller_at c t the_sender) → Lasts B M o (teller_at c t the_receiver) → (es : List Entry)
+          → WellFormed B M (history_of o es) → ToldArrives B M o c t es
+      told_arrives = moving B M o (teller_at c t the_sender) (teller_at c t the_receiver) tellers-apart (told_moved_at c t) told-grow
+          (suc S) (suc R) told-stood
+
+      pub told_arrives_or_ends : 1 ≤ B → RunsOrEnds B M o (teller_at c t the_sender) → RunsOrEnds B M o (teller_at c t the_receiver) → (es : List Entry)
+          → WellFormed B M (history_of o es) → ToldArrivesOrEnds B M o c t es
+      told_arrives_or_ends = moving-on B M o (teller_at c t the_sender) (teller_at c t the_receiver) tellers-apart (told_moved_at c t) told-grow
+          (suc S) (suc R) told-stood

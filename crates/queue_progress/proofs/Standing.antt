@@ -1,8 +1,8 @@
 -- While both indices have landed, no run stands still for long: the looks of both parties are exact as long as nothing moves, and both can't find
 -- that they have to wait.
-use Rattle.std.proofs.Common.{ℕ, ◌+◌, ◌<◌, ◌≤◌, ◌≡◌, ◌≢◌, ◌==◌, ◌&&◌, ◌⊎◌, inl, inr, if◌then◌else◌, Bool, true, false, Some}
-use Rattle.std.proofs.Common.{List, [], ◌∷◌, ◌++◌, length, refl, sym, ◌∙◌, ap, subst, arith, append_assoc, append-nil}
-use Rattle.std.proofs.lemmas.Bool.{eq-eqb, cases_eq, cases_lt}
+use Rattle.std.proofs.Common.{ℕ, ◌+◌, ◌<◌, ◌≤◌, ◌≡◌, ◌==◌, ◌&&◌, ◌⊎◌, inl, inr, if◌then◌else◌, true, Some}
+use Rattle.std.proofs.Common.{List, [], ◌∷◌, ◌++◌, length, sym, ◌∙◌, ap, subst, arith, append_assoc, append-nil}
+use Rattle.std.proofs.lemmas.Bool.{eq-eqb, cases_lt}
 use Rattle.step_machine.specs.declared.events.Entry.{Entry}
 use Rattle.step_machine.specs.History.{OpeningValue, history_of}
 use Rattle.step_machine.specs.Access.{Access, nothing, load, store, exchange, fence, land, access_of}
@@ -13,7 +13,7 @@ use Rattle.step_machine.proofs.OwnRuns.{kept-front}
 use Rattle.store_buffers.proofs.OwnEntries.{own_parts}
 use Rattle.memory.specs.Writes.{write}
 use Rattle.queue_parties.specs.Parties.{Party, the_sender, the_receiver, other, QueueCounts, count, known, with_known, all_at, counts_from}
-use Rattle.queue_parties.proofs.Parties.{counts-append, harts-apart, known-set, twice}
+use Rattle.queue_parties.proofs.Parties.{Grows, counts-append, harts-apart, known-set, twice}
 use Rattle.slot_queue.specs.Queues.{Queue, index_word, least}
 use Rattle.slot_queue.specs.Ownership.{hart, index, end, after_load, after_access, counts_next, moved}
 use Rattle.slot_queue.specs.Laws.{FollowsOwnership}
@@ -21,25 +21,29 @@ use Rattle.slot_queue.proofs.Codes.{least-near}
 use Rattle.slot_queue.proofs.Sides.{Side, moved_on-more}
 use Rattle.slot_queue.proofs.Looks.{allowance, allowances, end-is, reads-other, found, Bounds, bounds}
 use Rattle.slot_queue.proofs.Runs.{sides-of, memory_at, memory-last}
-use Rattle.slot_queue.proofs.Owned.{grows-entry, grows-after}
+use Rattle.slot_queue.proofs.Owned.{grows-after}
 use Rattle.queue_certificates.specs.Certificates.{QueueCertificate, queue_at, start_at, accepts}
 use Rattle.queue_certificates.proofs.Accesses.{hart-party}
 use Rattle.queue_certificates.proofs.Accepted.{fine}
 use Rattle.queue_certificates.proofs.EveryRun.{accepted_runs}
 use Rattle.queue_progress.specs.declared.pace.Pace.{Pace}
-use Rattle.queue_progress.specs.Rows.{executed, counts_at, LooksBy, IsStuckStep, EachOwn, all_moved, HaveLanded}
+use Rattle.queue_progress.specs.Rows.{executed, counts_at, LooksBy, IsStuckStep, EachOwn, EachAfter, all_moved, HaveLanded}
 use Rattle.queue_progress.specs.Shown.{keeps_going}
-use Rattle.queue_progress.proofs.Moved.{all-grow, all-further, same-part}
+use Rattle.queue_progress.proofs.Moved.{same-part, turn}
 use Rattle.queue_progress.proofs.Going.{looks?, counted-known, going}
-
-pub grown : (q : Queue) (c : QueueCounts) (es : List Entry) → all_moved c ≤ all_moved (counts_from (counts_next q) c es)
-grown q c es = all-grow c (counts_from (counts_next q) c es) (grows-after q c es)
-
--- ---- what isn't stuck in a row
 
 module _ (B M : ℕ) (o : OpeningValue) (c : QueueCertificate) (ok : accepts o c ≡ true) (i : ℕ) (less : i < length c.queues) where
   abbrev q : Queue
   q = queue_at c i
+
+  abbrev cnt : List Entry → QueueCounts
+  cnt es = counts_at c i es
+
+  onward : (es fs : List Entry) → cnt (es ++ fs) ≡ counts_from (counts_next q) (cnt es) fs
+  onward es fs = counts-append (counts_next q) (all_at (start_at c i)) es fs
+
+  pub grown : (es fs : List Entry) → Grows (counts_at c i es) (counts_at c i (es ++ fs))
+  grown es fs = subst (Grows (cnt es)) (sym (onward es fs)) (grows-after q (cnt es) fs)
 
   module _ (p : Party) (b : Pace) where
     abbrev K : ℕ
@@ -47,40 +51,6 @@ module _ (B M : ℕ) (o : OpeningValue) (c : QueueCertificate) (ok : accepts o c
 
     abbrev h : ℕ
     h = hart (queue_at c i) p
-
-    abbrev g : ℕ
-    g = hart (queue_at c i) (other p)
-
-    record Found (d : QueueCounts) (row : List Entry) : Type 0 where
-      front : List Entry
-      it : Entry
-      back : List Entry
-      all : row ≡ front ++ it ∷ back
-      mine : is_own h it ≡ true
-      how : (count p (counts_next q (counts_from (counts_next q) d front) it) ≢ count p (counts_from (counts_next q) d front))
-          ⊎ (LooksBy q p (access_of it)
-          × (end q p (counts_next q (counts_from (counts_next q) d front) it) ≤ count p (counts_from (counts_next q) d front) + K))
-
-    find : (row : List Entry) (d : QueueCounts) → EachOwn q p (IsStuckStep q p K) d row ⊎ Found d row
-    find [] d = inl tt
-    find (e ∷ row) d = by (is_own h e) refl (cases_eq (count p (counts_next q d e)) (count p d)) (looks? q (fine M o c ok i less).0 p (access_of e))
-        (cases_lt (count p d + K) (end q p (counts_next q d e))) (find row (counts_next q d e))
-      where
-        further : (is_own h e ≡ true → IsStuckStep q p K d e) → EachOwn q p (IsStuckStep q p K) (counts_next q d e) row ⊎ Found (counts_next q d e) row
-            → EachOwn q p (IsStuckStep q p K) d (e ∷ row) ⊎ Found d (e ∷ row)
-        further stuck (inl rest) = inl (stuck, rest)
-        further stuck (inr f) = inr (record { front = e ∷ f.front; it = f.it; back = f.back; all = ap (λ es. e ∷ es) f.all; mine = f.mine; how = f.how })
-
-        by : (b : Bool) → is_own h e ≡ b → (count p (counts_next q d e) ≡ count p d) ⊎ (count p (counts_next q d e) ≢ count p d)
-            → LooksBy q p (access_of e) ⊎ (LooksBy q p (access_of e) → ⊥)
-            → (count p d + K < end q p (counts_next q d e)) ⊎ (end q p (counts_next q d e) ≤ count p d + K)
-            → EachOwn q p (IsStuckStep q p K) (counts_next q d e) row ⊎ Found (counts_next q d e) row
-            → EachOwn q p (IsStuckStep q p K) d (e ∷ row) ⊎ Found d (e ∷ row)
-        by false off same look more rest = further (λ on. absurd (let no-way : false ≡ true = sym off ∙ on in cc)) rest
-        by true on (inr moves) look more rest = inr (record { front = []; it = e; back = row; all = refl; mine = on; how = inl moves })
-        by true on (inl stays) (inr unseen) more rest = further (λ own. record { stays = stays; finds = λ look. absurd (unseen look) }) rest
-        by true on (inl stays) (inl look) (inl more) rest = further (λ own. record { stays = stays; finds = λ look. more }) rest
-        by true on (inl stays) (inl look) (inr few) rest = inr (record { front = []; it = e; back = row; all = refl; mine = on; how = inr (look, few) })
 
     -- ---- a look finds what there is, where the other's count in memory is the true one
 
@@ -152,81 +122,52 @@ module _ (B M : ℕ) (o : OpeningValue) (c : QueueCertificate) (ok : accepts o c
 
     -- ---- a row in which the party executes enough instructions: more is published or taken, or it has to wait
 
-    module _ (goes : keeps_going o c (hart (queue_at c i) p) i b ≡ true) where
-      turn : (es row : List Entry) → WellFormed B M (history_of o (es ++ row)) → in-memory es (other p) ≡ count (other p) (counts_at c i es)
-          → b.pace + b.sight + 2 ≤ executed (hart (queue_at c i) p) row
-          → (all_moved (counts_at c i es) < all_moved (counts_at c i (es ++ row)))
-          ⊎ (count (other p) (counts_at c i es) + allowance q p ≤ count p (counts_at c i es) + K)
-      turn es row run there enough = by (find row (counts_at c i es))
-        where
-          whole : counts_from (counts_next q) (counts_at c i es) row ≡ counts_at c i (es ++ row)
-          whole = sym (counts-append (counts_next q) (all_at (start_at c i)) es row)
+    abbrev IsStuck : List Entry → Entry → Type 0
+    IsStuck es e = IsStuckStep q p K (cnt es) e
 
-          by : EachOwn q p (IsStuckStep q p K) (counts_at c i es) row ⊎ Found (counts_at c i es) row
-              → (all_moved (counts_at c i es) < all_moved (counts_at c i (es ++ row)))
-              ⊎ (count (other p) (counts_at c i es) + allowance q p ≤ count p (counts_at c i es) + K)
-          by (inl stuck) = absurd (
-              let few : executed h row ≤ b.pace + b.sight + 1 =
-              going B M o c ok i p less b goes es row run stuck in
-              omega (arith, few, enough))
-          by (inr f) = after f.how
-            where
-              d : QueueCounts
-              d = counts_from (counts_next q) (counts_at c i es) f.front
+    -- it looks, and finds that it owns no more
+    abbrev FindsFew : List Entry → Entry → Type 0
+    FindsFew es e = LooksBy q p (access_of e) × (end q p (counts_next q (cnt es) e) ≤ count p (cnt es) + K)
 
-              next : QueueCounts
-              next = counts_next q d f.it
+    stuck? : (es : List Entry) (e : Entry) → is_own h e ≡ true → count p (cnt (es ++ e ∷ [])) ≡ count p (cnt es) → IsStuck es e ⊎ FindsFew es e
+    stuck? es e on stays = by (looks? q (fine M o c ok i less).0 p (access_of e)) (cases_lt (count p (cnt es) + K) (end q p (counts_next q (cnt es) e)))
+      where
+        still : count p (counts_next q (cnt es) e) ≡ count p (cnt es)
+        still = ap (count p) (sym (onward es (e ∷ []))) ∙ stays
 
-              to-end : counts_from (counts_next q) next f.back ≡ counts_at c i (es ++ row)
-              to-end = sym (counts-append (counts_next q) (counts_at c i es) f.front (f.it ∷ f.back))
-                  ∙ ap (counts_from (counts_next q) (counts_at c i es)) (sym f.all) ∙ whole
+        by : LooksBy q p (access_of e) ⊎ (LooksBy q p (access_of e) → ⊥)
+            → (count p (cnt es) + K < end q p (counts_next q (cnt es) e)) ⊎ (end q p (counts_next q (cnt es) e) ≤ count p (cnt es) + K)
+            → IsStuck es e ⊎ FindsFew es e
+        by (inr unseen) more = inl (record { stays = still; finds = λ look. absurd (unseen look) })
+        by (inl look) (inl more) = inl (record { stays = still; finds = λ look. more })
+        by (inl look) (inr few) = inr (look, few)
 
-              upto : all_moved (counts_at c i es) ≤ all_moved d
-              upto = grown q (counts_at c i es) f.front
+    -- while nothing moves the look is exact
+    why : (es front : List Entry) (e : Entry) → WellFormed B M (history_of o ((es ++ front) ++ e ∷ [])) → in-memory es (other p) ≡ count (other p) (cnt es)
+        → all_moved (cnt (es ++ front)) ≤ all_moved (cnt es) → is_own h e ≡ true → FindsFew (es ++ front) e
+        → count (other p) (cnt (es ++ front)) + allowance q p ≤ count p (cnt (es ++ front)) + K
+    why es front e run there same on few =
+        let low : in-memory es (other p) ≤ in-memory (es ++ front) (other p) = further-on es front in
+        let high : in-memory (es ++ front) (other p) ≤ count (other p) (cnt (es ++ front)) =
+        no-more (es ++ front) (kept-front B M o (es ++ front) (e ∷ []) run) in
+        let stays : count (other p) (cnt (es ++ front)) ≡ count (other p) (cnt es) =
+        same-part (cnt es) (cnt (es ++ front)) (grown es front) (other p) same in
+        subst (λ n. n + allowance q p ≤ count p (cnt (es ++ front)) + K) (fresh (es ++ front) e run (omega (arith, low, high, stays, there)) on few.0)
+        (subst (λ n. n ≤ count p (cnt (es ++ front)) + K) (end-is q p (counts_next q (cnt (es ++ front)) e)) few.1)
 
-              past : all_moved next ≤ all_moved (counts_at c i (es ++ row))
-              past = subst (λ x. all_moved next ≤ all_moved x) to-end (grown q next f.back)
+    own-each : (row es : List Entry) → EachAfter h IsStuck es row → EachOwn q p (IsStuckStep q p K) (cnt es) row
+    own-each [] es each = tt
+    own-each (e ∷ row) es each = (
+      each.0,
+      subst (λ d. EachOwn q p (IsStuckStep q p K) d row) (onward es (e ∷ [])) (own-each row (es ++ e ∷ []) each.1),
+    )
 
-              at-front : d ≡ counts_at c i (es ++ f.front)
-              at-front = sym (counts-append (counts_next q) (all_at (start_at c i)) es f.front)
-
-              one-run : WellFormed B M (history_of o ((es ++ f.front) ++ f.it ∷ []))
-              one-run = kept-front B M o ((es ++ f.front) ++ f.it ∷ []) f.back
-                  (subst (λ xs. WellFormed B M (history_of o xs))
-                  (ap (λ xs. es ++ xs) f.all ∙ sym (append_assoc es f.front (f.it ∷ f.back)) ∙ sym (append_assoc (es ++ f.front) (f.it ∷ []) f.back)) run)
-
-              after : (count p next ≢ count p d) ⊎ (LooksBy q p (access_of f.it) × (end q p next ≤ count p d + K))
-                  → (all_moved (counts_at c i es) < all_moved (counts_at c i (es ++ row)))
-                  ⊎ (count (other p) (counts_at c i es) + allowance q p ≤ count p (counts_at c i es) + K)
-              after (inl moves) = inl (let further : all_moved d < all_moved next = all-further d next (grows-entry q d f.it) p moves in
-                  omega (arith, upto, further, past))
-              after (inr looked) = at-es (cases_lt (all_moved (counts_at c i es)) (all_moved d))
-                where
-                  nexts : all_moved d ≤ all_moved next
-                  nexts = grown q d (f.it ∷ [])
-
-                  front-run : WellFormed B M (history_of o (es ++ f.front))
-                  front-run = kept-front B M o (es ++ f.front) (f.it ∷ []) one-run
-
-                  at-es : (all_moved (counts_at c i es) < all_moved d) ⊎ (all_moved d ≤ all_moved (counts_at c i es))
-                      → (all_moved (counts_at c i es) < all_moved (counts_at c i (es ++ row)))
-                      ⊎ (count (other p) (counts_at c i es) + allowance q p ≤ count p (counts_at c i es) + K)
-                  at-es (inl more) = inl (omega (arith, more, nexts, past))
-                  at-es (inr same) =
-                      let mine-same : count p d ≡ count p (counts_at c i es) =
-                      same-part (counts_at c i es) d (grows-after q (counts_at c i es) f.front) p same in
-                      let other-same : count (other p) d ≡ count (other p) (counts_at c i es) =
-                      same-part (counts_at c i es) d (grows-after q (counts_at c i es) f.front) (other p) same in
-                      let low : in-memory es (other p) ≤ in-memory (es ++ f.front) (other p) = further-on es f.front in
-                      let high : in-memory (es ++ f.front) (other p) ≤ count (other p) (counts_at c i (es ++ f.front)) = no-more (es ++ f.front) front-run in
-                      let at-end : count (other p) (counts_at c i (es ++ f.front)) ≡ count (other p) d = ap (count (other p)) (sym at-front) in
-                      let true-there : in-memory (es ++ f.front) (other p) ≡ count (other p) (counts_at c i (es ++ f.front)) =
-                      omega (arith, low, high, at-end, other-same, there) in
-                      let exact : known p next ≡ count (other p) d =
-                      ap (λ x. known p (counts_next q x f.it)) at-front ∙ fresh (es ++ f.front) f.it one-run true-there f.mine looked.0 ∙ at-end in
-                      let waits : count (other p) d + allowance q p ≤ count p d + K =
-                      subst (λ n. n + allowance q p ≤ count p d + K) exact (subst (λ n. n ≤ count p d + K) (end-is q p next) looked.1) in
-                      inr (omega (arith, waits, mine-same, other-same))
+    goes-or-waits : keeps_going o c (hart (queue_at c i) p) i b ≡ true → (es row : List Entry) → WellFormed B M (history_of o (es ++ row))
+        → in-memory es (other p) ≡ count (other p) (counts_at c i es) → b.pace + b.sight + 1 < executed (hart (queue_at c i) p) row
+        → (all_moved (cnt es) < all_moved (cnt (es ++ row))) ⊎ (count (other p) (cnt es) + allowance q p ≤ count p (cnt es) + K)
+    goes-or-waits goes = turn B M o h p (counts_at c i) grown IsStuck FindsFew stuck? (λ es. in-memory es (other p) ≡ count (other p) (cnt es))
+        (λ mine theirs. theirs + allowance q p ≤ mine + K) why (b.pace + b.sight + 1)
+        (λ es row run each. going B M o c ok i p less b goes es row run (own-each row es each))
 
   -- ---- both parties
 
@@ -264,8 +205,8 @@ module _ (B M : ℕ) (o : OpeningValue) (c : QueueCertificate) (ok : accepts o c
         → s.pace + s.sight + 2 ≤ executed (queue_at c i).sender row → r.pace + r.sight + 2 ≤ executed (queue_at c i).receiver row
         → all_moved (counts_at c i es) < all_moved (counts_at c i (es ++ row))
     stands es row run landed enough also = by
-        (turn the_sender s sends es row run (true-in-memory es front landed the_receiver) enough)
-        (turn the_receiver r receives es row run (true-in-memory es front landed the_sender) also)
+        (goes-or-waits the_sender s sends es row run (true-in-memory es front landed the_receiver) (omega (arith, enough)))
+        (goes-or-waits the_receiver r receives es row run (true-in-memory es front landed the_sender) (omega (arith, also)))
       where
         front : WellFormed B M (history_of o es)
         front = kept-front B M o es row run

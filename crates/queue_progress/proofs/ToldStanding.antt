@@ -4,7 +4,7 @@ use Rattle.std.proofs.Common.{ℕ, ◌+◌, ◌<◌, ◌≤◌, ◌≡◌, ◌�
 use Rattle.std.proofs.Common.{List, [], ◌∷◌, ◌++◌, length, refl, sym, ◌∙◌, ap, subst, arith, append_assoc, append-nil}
 use Rattle.std.specs.Prelude.{All}
 use Rattle.std.proofs.lemmas.List.Elements.{All-nil, All-cons, All-append, All-drop, All-head, All-tail}
-use Rattle.std.proofs.lemmas.Bool.{cases_eq, cases_lt, eqb-true}
+use Rattle.std.proofs.lemmas.Bool.{cases_eq, eqb-true}
 use Rattle.memory.specs.declared.writes.Write.{Write}
 use Rattle.step_machine.specs.declared.events.Entry.{Entry}
 use Rattle.step_machine.specs.History.{OpeningValue, history_of}
@@ -26,9 +26,9 @@ use Rattle.queue_certificates.specs.Certificates.{QueueCertificate, tagged_at, t
 use Rattle.queue_certificates.proofs.TagShares.{tagged-fine, teller-is}
 use Rattle.queue_certificates.proofs.Accepted.{fine-tagged}
 use Rattle.queue_certificates.proofs.EveryRun.{accepted_telling}
-use Rattle.queue_progress.specs.Rows.{executed, EachAfter, all_moved}
+use Rattle.queue_progress.specs.Rows.{executed, all_moved}
 use Rattle.queue_progress.specs.Told.{slots_at, teller_at, told_counts_at, HasToWait, IsToldStuck, TagsHaveLanded, told_within}
-use Rattle.queue_progress.proofs.Moved.{all-grow, all-further, same-part}
+use Rattle.queue_progress.proofs.Moved.{all-grow, same-part, turn}
 use Rattle.queue_progress.proofs.ToldGoing.{told_going}
 
 -- no store among these is one of a tag
@@ -65,7 +65,7 @@ module _ (B M : ℕ) (o : OpeningValue) (c : QueueCertificate) (ok : accepts o c
   onward : (es fs : List Entry) → cnt (es ++ fs) ≡ counts_from (after_entry q) (cnt es) fs
   onward es fs = counts-append (after_entry q) (all_at (tagged_start c t)) es fs
 
-  grown : (es fs : List Entry) → Grows (told_counts_at c t es) (told_counts_at c t (es ++ fs))
+  pub grown : (es fs : List Entry) → Grows (told_counts_at c t es) (told_counts_at c t (es ++ fs))
   grown es fs = subst (Grows (cnt es)) (sym (onward es fs)) (grows-after q (cnt es) fs)
 
   -- ---- a party's stores to tags move its count
@@ -125,57 +125,9 @@ module _ (B M : ℕ) (o : OpeningValue) (c : QueueCertificate) (ok : accepts o c
       (λ p. off-then p es e (kept-front B M o es (e ∷ row) run)
       (same-part (cnt es) (cnt (es ++ e ∷ [])) (grown es (e ∷ [])) p (omega (arith, same, rest))) (landed p)))
 
-  -- ---- what isn't stuck in a row
+  -- ---- a row in which the party executes enough instructions
 
   module _ (p : Party) where
-    record Found (done row : List Entry) : Type 0 where
-      front : List Entry
-      it : Entry
-      back : List Entry
-      all : row ≡ front ++ it ∷ back
-      mine : is_own (teller_at c t p) it ≡ true
-      how : (count p (cnt ((done ++ front) ++ it ∷ [])) ≢ count p (cnt (done ++ front))) ⊎ HasToWait q p (cnt (done ++ front)) (access_of it)
-
-    find : (row done : List Entry) → EachAfter (teller_at c t p) (IsToldStuck c t p) done row ⊎ Found done row
-    find [] done = inl tt
-    find (e ∷ row) done = by (is_own (teller_at c t p) e) refl (cases_eq (count p (cnt (done ++ e ∷ []))) (count p (cnt done)))
-        (waits? q p (cnt done) (access_of e)) (find row (done ++ e ∷ []))
-      where
-        further : (is_own (teller_at c t p) e ≡ true → IsToldStuck c t p done e)
-            → EachAfter (teller_at c t p) (IsToldStuck c t p) (done ++ e ∷ []) row ⊎ Found (done ++ e ∷ []) row
-            → EachAfter (teller_at c t p) (IsToldStuck c t p) done (e ∷ row) ⊎ Found done (e ∷ row)
-        further stuck (inl rest) = inl (stuck, rest)
-        further stuck (inr f) = inr (record {
-          front = e ∷ f.front;
-          it = f.it;
-          back = f.back;
-          all = ap (λ es. e ∷ es) f.all;
-          mine = f.mine;
-          how = subst (λ es. (count p (cnt (es ++ f.it ∷ [])) ≢ count p (cnt es)) ⊎ HasToWait q p (cnt es) (access_of f.it))
-              (append_assoc done (e ∷ []) f.front) f.how;
-        })
-
-        found : is_own (teller_at c t p) e ≡ true
-            → (count p (cnt (done ++ e ∷ [])) ≢ count p (cnt done)) ⊎ HasToWait q p (cnt done) (access_of e) → Found done (e ∷ row)
-        found on how = record {
-          front = [];
-          it = e;
-          back = row;
-          all = refl;
-          mine = on;
-          how = subst (λ es. (count p (cnt (es ++ e ∷ [])) ≢ count p (cnt es)) ⊎ HasToWait q p (cnt es) (access_of e)) (sym (append-nil done)) how;
-        }
-
-        by : (b : Bool) → is_own (teller_at c t p) e ≡ b
-            → (count p (cnt (done ++ e ∷ [])) ≡ count p (cnt done)) ⊎ (count p (cnt (done ++ e ∷ [])) ≢ count p (cnt done))
-            → HasToWait q p (cnt done) (access_of e) ⊎ (HasToWait q p (cnt done) (access_of e) → ⊥)
-            → EachAfter (teller_at c t p) (IsToldStuck c t p) (done ++ e ∷ []) row ⊎ Found (done ++ e ∷ []) row
-            → EachAfter (teller_at c t p) (IsToldStuck c t p) done (e ∷ row) ⊎ Found done (e ∷ row)
-        by false off same waits rest = further (λ on. absurd (let no : false ≡ true = sym off ∙ on in cc)) rest
-        by true on (inr moves) waits rest = inr (found on (inl moves))
-        by true on (inl stays) (inl waits) rest = inr (found on (inr waits))
-        by true on (inl stays) (inr goes) rest = further (λ own. record { stays = stays; goes = goes }) rest
-
     -- it has to wait only where there is no position for it, as long as nothing is pending
     no-position : (es : List Entry) (e : Entry) → WellFormed B M (history_of o (es ++ e ∷ [])) → TagsHaveLanded q es → hart_of e ≡ teller_at c t p
         → (y : Access) → access_of e ≡ y → HasToWait q p (cnt es) y → count (other p) (cnt es) + gap q (other p) ≤ count p (cnt es)
@@ -187,51 +139,21 @@ module _ (B M : ℕ) (o : OpeningValue) (c : QueueCertificate) (ok : accepts o c
         omega (arith, l.1, there)
     no-position es e run landed mine y does waits = absurd waits
 
-    turn : (N : ℕ) → told_within o c (teller_at c t p) t N ≡ true → (es row : List Entry) → WellFormed B M (history_of o (es ++ row))
+    stuck? : (es : List Entry) (e : Entry) → is_own (teller_at c t p) e ≡ true → count p (cnt (es ++ e ∷ [])) ≡ count p (cnt es)
+        → IsToldStuck c t p es e ⊎ HasToWait q p (cnt es) (access_of e)
+    stuck? es e on stays = elim (waits? q p (cnt es) (access_of e)) [
+      | inl waits ↦ inr waits
+      | inr goes ↦ inl (record { stays = stays; goes = goes })
+    ]
+
+    goes-or-waits : (N : ℕ) → told_within o c (teller_at c t p) t N ≡ true → (es row : List Entry) → WellFormed B M (history_of o (es ++ row))
         → TagsHaveLanded q es → N < executed (teller_at c t p) row
         → (all_moved (cnt es) < all_moved (cnt (es ++ row))) ⊎ (count (other p) (cnt es) + gap q (other p) ≤ count p (cnt es))
-    turn N shown es row run landed enough = by (find row es)
-      where
-        by : EachAfter (teller_at c t p) (IsToldStuck c t p) es row ⊎ Found es row
-            → (all_moved (cnt es) < all_moved (cnt (es ++ row))) ⊎ (count (other p) (cnt es) + gap q (other p) ≤ count p (cnt es))
-        by (inl stuck) = absurd (let few : executed (teller_at c t p) row ≤ N = told_going B M o c ok t p less N shown es row run stuck in
-            omega (arith, few, enough))
-        by (inr f) = at f.how (cases_lt (all_moved (cnt es)) (all_moved (cnt (es ++ f.front))))
-          where
-            whole : ((es ++ f.front) ++ f.it ∷ []) ++ f.back ≡ es ++ row
-            whole = append_assoc (es ++ f.front) (f.it ∷ []) f.back ∙ append_assoc es f.front (f.it ∷ f.back) ∙ ap (λ fs. es ++ fs) (sym f.all)
-
-            one-run : WellFormed B M (history_of o ((es ++ f.front) ++ f.it ∷ []))
-            one-run = kept-front B M o ((es ++ f.front) ++ f.it ∷ []) f.back (subst (λ fs. WellFormed B M (history_of o fs)) (sym whole) run)
-
-            front-run : WellFormed B M (history_of o (es ++ f.front))
-            front-run = kept-front B M o (es ++ f.front) (f.it ∷ []) one-run
-
-            upto : all_moved (cnt es) ≤ all_moved (cnt (es ++ f.front))
-            upto = all-grow (cnt es) (cnt (es ++ f.front)) (grown es f.front)
-
-            nexts : all_moved (cnt (es ++ f.front)) ≤ all_moved (cnt ((es ++ f.front) ++ f.it ∷ []))
-            nexts = all-grow (cnt (es ++ f.front)) (cnt ((es ++ f.front) ++ f.it ∷ [])) (grown (es ++ f.front) (f.it ∷ []))
-
-            past : all_moved (cnt ((es ++ f.front) ++ f.it ∷ [])) ≤ all_moved (cnt (es ++ row))
-            past = subst (λ fs. all_moved (cnt ((es ++ f.front) ++ f.it ∷ [])) ≤ all_moved (cnt fs)) whole
-                (all-grow (cnt ((es ++ f.front) ++ f.it ∷ [])) (cnt (((es ++ f.front) ++ f.it ∷ []) ++ f.back)) (grown ((es ++ f.front) ++ f.it ∷ []) f.back))
-
-            at : (count p (cnt ((es ++ f.front) ++ f.it ∷ [])) ≢ count p (cnt (es ++ f.front))) ⊎ HasToWait q p (cnt (es ++ f.front)) (access_of f.it)
-                → (all_moved (cnt es) < all_moved (cnt (es ++ f.front))) ⊎ (all_moved (cnt (es ++ f.front)) ≤ all_moved (cnt es))
-                → (all_moved (cnt es) < all_moved (cnt (es ++ row))) ⊎ (count (other p) (cnt es) + gap q (other p) ≤ count p (cnt es))
-            at how (inl more) = inl (omega (arith, more, nexts, past))
-            at (inl moves) (inr same) = inl (let further : all_moved (cnt (es ++ f.front)) < all_moved (cnt ((es ++ f.front) ++ f.it ∷ [])) =
-                all-further (cnt (es ++ f.front)) (cnt ((es ++ f.front) ++ f.it ∷ [])) (grown (es ++ f.front) (f.it ∷ [])) p moves in
-                omega (arith, upto, further, past))
-            at (inr waits) (inr same) = inr (
-                let none : count (other p) (cnt (es ++ f.front)) + gap q (other p) ≤ count p (cnt (es ++ f.front)) =
-                no-position (es ++ f.front) f.it one-run (still-landed f.front es front-run same landed) (own_parts (teller_at c t p) f.it f.mine).0
-                (access_of f.it) refl waits in
-                let mine : count p (cnt (es ++ f.front)) ≡ count p (cnt es) = same-part (cnt es) (cnt (es ++ f.front)) (grown es f.front) p same in
-                let theirs : count (other p) (cnt (es ++ f.front)) ≡ count (other p) (cnt es) =
-                same-part (cnt es) (cnt (es ++ f.front)) (grown es f.front) (other p) same in
-                omega (arith, none, mine, theirs))
+    goes-or-waits N shown = turn B M o (teller_at c t p) p (told_counts_at c t) grown (IsToldStuck c t p) (λ es e. HasToWait q p (cnt es) (access_of e)) stuck?
+        (TagsHaveLanded q) (λ mine theirs. theirs + gap q (other p) ≤ mine)
+        (λ es front e run landed same on waits. no-position (es ++ front) e run
+        (still-landed front es (kept-front B M o (es ++ front) (e ∷ []) run) same landed) (own_parts (teller_at c t p) e on).0 (access_of e) refl waits)
+        N (told_going B M o c ok t p less N shown)
 
   -- ---- both parties
 
@@ -240,7 +162,7 @@ module _ (B M : ℕ) (o : OpeningValue) (c : QueueCertificate) (ok : accepts o c
       → S < executed (teller_at c t the_sender) row → R < executed (teller_at c t the_receiver) row
       → all_moved (told_counts_at c t es) < all_moved (told_counts_at c t (es ++ row))
   told_stands S R sends receives es row run landed enough also =
-      by (turn the_sender S sends es row run landed enough) (turn the_receiver R receives es row run landed also)
+      by (goes-or-waits the_sender S sends es row run landed enough) (goes-or-waits the_receiver R receives es row run landed also)
     where
       by : (all_moved (cnt es) < all_moved (cnt (es ++ row))) ⊎ (count the_receiver (cnt es) + q.size ≤ count the_sender (cnt es))
           → (all_moved (cnt es) < all_moved (cnt (es ++ row))) ⊎ (count the_sender (cnt es) + 0 ≤ count the_receiver (cnt es))

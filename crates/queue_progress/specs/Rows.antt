@@ -1,18 +1,18 @@
 -- What a run shows of a party of a queue with indices: instructions in a row that don't get it further.
-use Rattle.std.specs.Prelude.{ℕ, ◌≡◌, ◌+◌, ◌<◌, ◌++◌, if◌then◌else◌, true, Some, List, [], ◌∷◌}
-use Rattle.hart.specs.State.{HartState}
-use Rattle.hart.specs.declared.status.Status.TheVariants as status
+use Rattle.std.specs.Prelude.{ℕ, ◌≡◌, ◌+◌, ◌<◌, ◌++◌, if◌then◌else◌, true, List, [], ◌∷◌, ◌⊎◌, Some}
 use Rattle.step_machine.specs.declared.events.Entry.{Entry}
 use Rattle.step_machine.specs.Access.{Access, load, exchange, access_of}
 use Rattle.step_machine.specs.Entries.{is_own}
 use Rattle.step_machine.specs.History.{OpeningValue, history_of}
-use Rattle.step_machine.specs.Legal.{WellFormed}
-use Rattle.step_machine.specs.Paths.{state_of}
 use Rattle.store_buffers.specs.StoreBuffers.{memory_number}
 use Rattle.queue_parties.specs.Parties.{Party, other, QueueCounts, count, all_at, KeepsEach}
 use Rattle.slot_queue.specs.Queues.{Queue, index_word}
 use Rattle.slot_queue.specs.Ownership.{hart, index, end, counts_next, counts_after}
 use Rattle.queue_certificates.specs.Certificates.{QueueCertificate, queue_at, start_at}
+use Rattle.hart.specs.State.{HartState}
+use Rattle.hart.specs.declared.status.Status.TheVariants as status
+use Rattle.step_machine.specs.Legal.{WellFormed}
+use Rattle.step_machine.specs.Paths.{state_of, IsStatus}
 
 -- how many instructions hart h executes
 abbrev pub executed : (h : ℕ) → List Entry → ℕ
@@ -65,13 +65,42 @@ all_moved c = c.published + c.taken
 abbrev pub HaveLanded : Queue → OpeningValue → List Entry → QueueCounts → Type 0
 HaveLanded q o es c = (p : Party) → memory_number o es (index q p) q.index_width ≡ index_word q (count p c)
 
+-- ---- from a run on
+
 -- the hart is there and runs, in every run
 abbrev pub Lasts : (B M : ℕ) → OpeningValue → (h : ℕ) → Type 0
 Lasts B M o h = (es : List Entry) → WellFormed B M (history_of o es) → (s : HartState) × (state_of M (history_of o es) h ≡ Some s)
     × (s.status ≡ status.Running)
 
--- after these entries of a run others may follow, and in the end one position more of queue i was published or taken
-pub record Arrives (B M : ℕ) (o : OpeningValue) (c : QueueCertificate) (i : ℕ) (es : List Entry) : Type 0 where
+-- it is there, and runs or has ended
+abbrev pub RunsOrEnds : (B M : ℕ) → OpeningValue → (h : ℕ) → Type 0
+RunsOrEnds B M o h = (es : List Entry) → WellFormed B M (history_of o es) → (s : HartState) × (state_of M (history_of o es) h ≡ Some s)
+    × ((s.status ≡ status.Running) ⊎ (s.status ≡ status.Ended))
+
+abbrev pub HasEnded : (M : ℕ) → OpeningValue → (h : ℕ) → List Entry → Type 0
+HasEnded M o h es = IsStatus M (history_of o es) h status.Ended
+
+-- after these entries of a run others may follow, and then it is so
+pub record Comes (B M : ℕ) (o : OpeningValue) (IsSo : List Entry → Type 0) (es : List Entry) : Type 0 where
   pub later : List Entry
   pub run : WellFormed B M (history_of o (es ++ later))
-  pub more : all_moved (counts_at c i es) < all_moved (counts_at c i (es ++ later))
+  pub so : IsSo (es ++ later)
+
+-- more has moved than after these entries
+abbrev pub MovesOn : (moved : List Entry → ℕ) → (es : List Entry) → List Entry → Type 0
+MovesOn moved es fs = moved es < moved fs
+
+-- or one of two harts has ended
+abbrev pub MovesOnOrEnds : (M : ℕ) → OpeningValue → (g h : ℕ) → (moved : List Entry → ℕ) → (es : List Entry) → List Entry → Type 0
+MovesOnOrEnds M o g h moved es fs = MovesOn moved es fs ⊎ (HasEnded M o g fs ⊎ HasEnded M o h fs)
+
+-- of queue i
+abbrev pub moved_at : QueueCertificate → (i : ℕ) → List Entry → ℕ
+moved_at c i es = all_moved (counts_at c i es)
+
+-- after these entries of a run others may follow, and in the end one position more was published or taken
+abbrev pub Arrives : (B M : ℕ) → OpeningValue → QueueCertificate → (i : ℕ) → List Entry → Type 0
+Arrives B M o c i es = Comes B M o (MovesOn (moved_at c i) es) es
+
+abbrev pub ArrivesOrEnds : (B M : ℕ) → OpeningValue → QueueCertificate → (i : ℕ) → List Entry → Type 0
+ArrivesOrEnds B M o c i es = Comes B M o (MovesOnOrEnds M o (queue_at c i).sender (queue_at c i).receiver (moved_at c i) es) es

@@ -6,7 +6,7 @@ use Rattle.step_machine.specs.declared.events.Entry.{Entry}
 use Rattle.step_machine.specs.Access.{Access, load, access_of}
 use Rattle.step_machine.specs.Entries.{pending}
 use Rattle.step_machine.specs.History.{OpeningValue}
-use Rattle.queue_parties.specs.Parties.{Party, QueueCounts, count, all_at}
+use Rattle.queue_parties.specs.Parties.{Party, the_sender, the_receiver, QueueCounts, count, all_at}
 use Rattle.slots_that_tell.specs.Slots.{Slots, tag_of, is_tag}
 use Rattle.slots_that_tell.specs.Telling.{teller_hart}
 use Rattle.slots_that_tell.specs.Laws.{counts}
@@ -22,6 +22,7 @@ use Rattle.queue_progress.specs.Graphs.{Stay, looks_away, are_within}
 use Rattle.queue_progress.specs.Longest.{longest, on_cycle}
 use Rattle.queue_progress.specs.Stays.{code_of, moves, targets}
 use Rattle.queue_progress.specs.Shown.{at_leaves}
+use Rattle.queue_progress.specs.Rows.{all_moved, Comes, MovesOn, MovesOnOrEnds}
 
 -- ---- runs
 
@@ -48,6 +49,15 @@ pub record IsToldStuck (c : QueueCertificate) (t : ℕ) (p : Party) (es : List E
 -- no store to a tag is pending, of either party
 abbrev pub TagsHaveLanded : Slots → List Entry → Type 0
 TagsHaveLanded q es = (p : Party) → All (λ w. is_tag q w.addr w.width ≡ false) (pending (teller_hart q p) es)
+
+abbrev pub told_moved_at : QueueCertificate → (t : ℕ) → List Entry → ℕ
+told_moved_at c t es = all_moved (told_counts_at c t es)
+
+abbrev pub ToldArrives : (B M : ℕ) → OpeningValue → QueueCertificate → (t : ℕ) → List Entry → Type 0
+ToldArrives B M o c t es = Comes B M o (MovesOn (told_moved_at c t) es) es
+
+abbrev pub ToldArrivesOrEnds : (B M : ℕ) → OpeningValue → QueueCertificate → (t : ℕ) → List Entry → Type 0
+ToldArrivesOrEnds B M o c t es = Comes B M o (MovesOnOrEnds M o (teller_at c t the_sender) (teller_at c t the_receiver) (told_moved_at c t) es) es
 
 -- ---- what its states show
 

@@ -29,7 +29,7 @@ ghost use Rattle.slot_queue.specs.Ownership.{hart};
 ghost use Rattle.queue_certificates.specs.Certificates.{QueueCertificate, queue_at, accepts};
 ghost use Rattle.queue_progress.specs.declared.pace.Pace.{Pace as PaceOf};
 ghost use Rattle.queue_progress.specs.Rows.{executed, counts_at, all_moved, IsIdleStep, IsBlindStep, IsStuckStep, EachOwn, EachAfter};
-ghost use Rattle.queue_progress.specs.Rows.{HaveLanded, Lasts, Arrives};
+ghost use Rattle.queue_progress.specs.Rows.{HaveLanded, Lasts, RunsOrEnds, Arrives, ArrivesOrEnds};
 ghost use Rattle.queue_progress.specs.declared.pace.Progress.TheVariants.{GoesOn, NoPace, NoLook};
 ghost use Rattle.queue_progress.specs.Progress.{progress_of, hart_progress_of};
 ghost use Rattle.queue_progress.specs.Harts.{sides, hart_keeps_going, IsHartStuck};
@@ -37,7 +37,7 @@ ghost use Rattle.queue_progress.specs.Graphs.{is_in, within, may_own_more, looks
 ghost use Rattle.queue_progress.specs.Shown.{graph_of, keeps_pace, keeps_looking, keeps_going};
 ghost use Rattle.queue_progress.specs.declared.pace.ToldProgress.TheVariants.{Within, Endless};
 ghost use Rattle.queue_progress.specs.Told.{slots_at, teller_at, told_counts_at, IsToldStuck, TagsHaveLanded};
-ghost use Rattle.queue_progress.specs.Told.{told_graph, told_within, told_progress_of};
+ghost use Rattle.queue_progress.specs.Told.{told_graph, told_within, told_progress_of, ToldArrives, ToldArrivesOrEnds};
 
 pub use judging::{hart_progress_of, progress_of};
 pub use pace::{Pace, Progress, ToldProgress};
@@ -68,6 +68,9 @@ pub use told::told_progress_of;
 ///   its N + 1 instructions, in any order and beside other harts, one position more is published or taken.
 /// - `arrives`: if both harts run in every run, too, and a store buffer has room for a store: from every run on there are entries after
 ///   which more was published or taken. So no run comes to a standstill.
+/// - `arrives_or_ends`: if each of them runs or has ended in every run: entries after which more was published or taken, or one of the
+///   two has ended.
+/// - `told_arrives`, `told_arrives_or_ends`: the same of a queue with tags, both parties of which have a bound.
 pub fn laws_of_queue_progress()
     ensures shown { (o : OpeningValue) (c : QueueCertificate) (h i : ℕ) (g : PaceOf) → progress_of o c h i ≡ GoesOn g → keeps_going o c h i g ≡ true }
     ensures no_pace { (o : OpeningValue) (c : QueueCertificate) (h i n : ℕ) → progress_of o c h i ≡ NoPace n
@@ -109,4 +112,16 @@ pub fn laws_of_queue_progress()
         → s.owned + r.owned < (queue_at c i).capacity → keeps_going o c (queue_at c i).sender i s ≡ true
         → keeps_going o c (queue_at c i).receiver i r ≡ true → 1 ≤ B → Lasts B M o (queue_at c i).sender → Lasts B M o (queue_at c i).receiver
         → (es : List Entry) → WellFormed B M (history_of o es) → Arrives B M o c i es }
+    ensures arrives_or_ends { (B M : ℕ) (o : OpeningValue) (c : QueueCertificate) → accepts o c ≡ true → (i : ℕ) → i < length c.queues → (s r : PaceOf)
+        → s.owned + r.owned < (queue_at c i).capacity → keeps_going o c (queue_at c i).sender i s ≡ true
+        → keeps_going o c (queue_at c i).receiver i r ≡ true → 1 ≤ B → RunsOrEnds B M o (queue_at c i).sender
+        → RunsOrEnds B M o (queue_at c i).receiver → (es : List Entry) → WellFormed B M (history_of o es) → ArrivesOrEnds B M o c i es }
+    ensures told_arrives { (B M : ℕ) (o : OpeningValue) (c : QueueCertificate) → accepts o c ≡ true → (t : ℕ) → t < length c.tagged → (S R : ℕ)
+        → told_within o c (teller_at c t the_sender) t S ≡ true → told_within o c (teller_at c t the_receiver) t R ≡ true → 1 ≤ B
+        → Lasts B M o (teller_at c t the_sender) → Lasts B M o (teller_at c t the_receiver) → (es : List Entry) → WellFormed B M (history_of o es)
+        → ToldArrives B M o c t es }
+    ensures told_arrives_or_ends { (B M : ℕ) (o : OpeningValue) (c : QueueCertificate) → accepts o c ≡ true → (t : ℕ) → t < length c.tagged
+        → (S R : ℕ) → told_within o c (teller_at c t the_sender) t S ≡ true → told_within o c (teller_at c t the_receiver) t R ≡ true → 1 ≤ B
+        → RunsOrEnds B M o (teller_at c t the_sender) → RunsOrEnds B M o (teller_at c t the_receiver) → (es : List Entry)
+        → WellFormed B M (history_of o es) → ToldArrivesOrEnds B M o c t es }
 {}

@@ -4,7 +4,7 @@ use Rattle.queue_progress.proofs.Pacing.{pace, looking}
 use Rattle.queue_progress.proofs.Going.{going}
 use Rattle.queue_progress.proofs.Together.{hart_going}
 use Rattle.queue_progress.proofs.Standing.{stands}
-use Rattle.queue_progress.proofs.Arriving.{arrives}
+use Rattle.queue_progress.proofs.Arriving.{arrives, arrives_or_ends, told_arrives, told_arrives_or_ends}
 use Rattle.queue_progress.proofs.ToldGoing.{told_going}
 use Rattle.queue_progress.proofs.ToldStanding.{told_stands}
 use Rattle.queue_progress.proofs.laws_of_queue_progress.Goals as goal
@@ -50,3 +50,12 @@ returns-clause-told_going c B M o certificate ok t p less = told_going B M o cer
 
 pub returns-clause-told_stands : goal.returns-clause-told_stands
 returns-clause-told_stands c B M o certificate ok t less = told_stands B M o certificate ok t less
+
+pub returns-clause-arrives_or_ends : goal.returns-clause-arrives_or_ends
+returns-clause-arrives_or_ends c B M o certificate ok i less = arrives_or_ends B M o certificate ok i less
+
+pub returns-clause-told_arrives : goal.returns-clause-told_arrives
+returns-clause-told_arrives c B M o certificate ok t less = told_arrives B M o certificate ok t less
+
+pub returns-clause-told_arrives_or_ends : goal.returns-clause-told_arrives_or_ends
+returns-clause-told_arrives_or_ends c B M o certificate ok t less = told_arrives_or_ends B M o certificate ok t less
