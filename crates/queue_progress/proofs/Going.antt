@@ -1,7 +1,7 @@
 -- A row of instructions that are stuck is short: until the first look they are blind, and after it they are idle.
-use Rattle.std.proofs.Common.{ℕ, ◌+◌, ◌<◌, ◌≤◌, ◌≡◌, ◌≢◌, ◌==◌, ◌&&◌, ◌⊎◌, inl, inr, if◌then◌else◌, Bool, true, false, Some}
-use Rattle.std.proofs.Common.{List, [], ◌∷◌, ◌++◌, length, refl, sym, ◌∙◌, ap, subst, arith, append_assoc}
-use Rattle.std.proofs.lemmas.Bool.{and_parts, eqb-true, cases_eq}
+use Rattle.std.proofs.Common.{ℕ, ◌+◌, ◌<◌, ◌≤◌, ◌≡◌, ◌≢◌, ◌==◌, ◌&&◌, ◌⊎◌, inl, inr, if◌then◌else◌, Bool, true, false, Some, List, [], ◌∷◌, ◌++◌, length}
+use Rattle.std.proofs.Common.{refl, sym, ◌∙◌, ap, subst, arith, append_assoc}
+use Rattle.std.proofs.lemmas.Bool.{and_parts, eqb-true, cases_eq, not-false}
 use Rattle.step_machine.specs.declared.events.Entry.{Entry}
 use Rattle.step_machine.specs.History.{OpeningValue, history_of}
 use Rattle.step_machine.specs.Access.{Access, nothing, load, store, exchange, fence, land, access_of}
@@ -21,10 +21,15 @@ use Rattle.queue_certificates.specs.Certificates.{QueueCertificate, queue_at, st
 use Rattle.queue_certificates.proofs.Accesses.{hart-party}
 use Rattle.queue_certificates.proofs.Accepted.{fine}
 use Rattle.queue_progress.specs.declared.pace.Pace.{Pace}
-use Rattle.queue_progress.specs.Rows.{executed, counts_at, IsIdleStep, LooksBy, IsBlindStep, IsStuckStep, EachOwn}
+use Rattle.queue_progress.specs.Rows.{executed, counts_at, IsIdleStep, LooksBy, IsBlindStep, IsStuckStep, EachOwn, EachAfter}
 use Rattle.queue_progress.specs.Shown.{keeps_pace, keeps_looking, keeps_going}
-use Rattle.queue_progress.proofs.Pacing.{pace, looking}
 use Rattle.queue_progress.proofs.Alone.{executed-append}
+use Rattle.queue_certificates.specs.Forms.{fits_in}
+use Rattle.queue_certificates.specs.Steps.{instruction_at}
+use Rattle.queue_progress.specs.Graphs.{may_own_more, looks_away}
+use Rattle.queue_progress.specs.Stays.{code_of, moves, most_owned, looks}
+use Rattle.queue_progress.proofs.Leaves.{moves-on, owns-few, looks-so}
+use Rattle.queue_progress.proofs.Bounded.{uncut, bounded}
 
 module _ (q : Queue) (is : IsQueue q) (p : Party) where
   abbrev h : ℕ
@@ -167,6 +172,42 @@ module _ (B M : ℕ) (o : OpeningValue) (c : QueueCertificate) (ok : accepts o c
   abbrev g : ℕ
   g = hart (queue_at c i) p
 
+  -- ---- idle instructions, and blind ones: no more in a row than the party's graph has
+
+  each-after : (Is : QueueCounts → Entry → Type 0) (row done : List Entry) → EachOwn (queue_at c i) p Is (counts_at c i done) row
+      → EachAfter g (λ es e. Is (counts_at c i es) e) done row
+  each-after Is [] done each = tt
+  each-after Is (e ∷ row) done each = (
+    each.0,
+    each-after Is row (done ++ e ∷ [])
+        (subst (λ d. EachOwn (queue_at c i) p Is d row) (sym (counts-append (counts_next (queue_at c i)) (all_at (start_at c i)) done (e ∷ []))) each.1),
+  )
+
+  pub pace : (K N : ℕ) → keeps_pace o c g i K N ≡ true → (es row : List Entry) → WellFormed B M (history_of o (es ++ row))
+      → EachOwn (queue_at c i) p (IsIdleStep (queue_at c i) p K) (counts_at c i es) row → executed g row ≤ N
+  pace K N shown es row run each = bounded B M o c ok g (moves c g (code_of o g) i) (most_owned i)
+      (λ k. looks c g i k (instruction_at (code_of o g) k.pc)) uncut (may_own_more K) (λ done e. IsIdleStep (queue_at c i) p K (counts_at c i done) e)
+      (λ xs k d s done e at other idle. elim other [
+        | inl goes ↦ moves-on B M o c ok g i less p refl xs k d s done e at goes idle.stays
+        | inr few ↦ (let no : end (queue_at c i) p (counts_at c i done) ≤ count p (counts_at c i done) + K =
+            owns-few B M o c ok g i less p refl xs k d s done e at K (not-false (fits_in (most_owned i k) (Some K)) few.1) in
+            let owns : count p (counts_at c i done) + K < end (queue_at c i) p (counts_at c i done) = idle.owns in omega (arith, no, owns))
+      ])
+      (λ xs k d s done e at none idle. absurd (cc)) N shown es row run (each-after (IsIdleStep (queue_at c i) p K) row es each)
+
+  pub looking : (L : ℕ) → keeps_looking o c g i L ≡ true → (es row : List Entry) → WellFormed B M (history_of o (es ++ row))
+      → EachOwn (queue_at c i) p (IsBlindStep (queue_at c i) p) (counts_at c i es) row → executed g row ≤ L
+  looking L shown es row run each = bounded B M o c ok g (moves c g (code_of o g) i) (most_owned i)
+      (λ k. looks c g i k (instruction_at (code_of o g) k.pc)) uncut looks_away (λ done e. IsBlindStep (queue_at c i) p (counts_at c i done) e)
+      (λ xs k d s done e at other blind. elim other [
+        | inl goes ↦ moves-on B M o c ok g i less p refl xs k d s done e at goes blind.stays
+        | inr sees ↦ blind.unseen (looks-so B M o c ok g i less p refl xs k d s done e at
+            (not-false (looks c g i k (instruction_at (code_of o g) k.pc)) sees.1))
+      ])
+      (λ xs k d s done e at none blind. absurd (cc)) L shown es row run (each-after (IsBlindStep (queue_at c i) p) row es each)
+
+  -- ---- stuck ones
+
   pub going : (b : Pace) → keeps_going o c g i b ≡ true → (es row : List Entry) → WellFormed B M (history_of o (es ++ row))
       → EachOwn (queue_at c i) p (IsStuckStep (queue_at c i) p b.owned) (counts_at c i es) row → executed g row ≤ b.pace + b.sight + 1
   going b shown es row run each = by (split (queue_at c i) (fine M o c ok i less).0 p b.owned row (counts_at c i es) each)
@@ -177,7 +218,7 @@ module _ (B M : ℕ) (o : OpeningValue) (c : QueueCertificate) (ok : accepts o c
       by : EachOwn (queue_at c i) p (IsBlindStep (queue_at c i) p) (counts_at c i es) row
           ⊎ Split (queue_at c i) (fine M o c ok i less).0 p b.owned (counts_at c i es) row
           → executed g row ≤ b.pace + b.sight + 1
-      by (inl blind) = let few : executed g row ≤ b.sight = looking B M o c ok i p less b.sight both.1 es row run blind in omega (arith, few)
+      by (inl blind) = let few : executed g row ≤ b.sight = looking b.sight both.1 es row run blind in omega (arith, few)
       by (inr s) =
           let begun : List Entry = es ++ (s.front ++ s.look ∷ []) in
           let all : (es ++ (s.front ++ s.look ∷ [])) ++ s.back ≡ es ++ row =
@@ -190,8 +231,8 @@ module _ (B M : ℕ) (o : OpeningValue) (c : QueueCertificate) (ok : accepts o c
           (ap (λ fs. es ++ fs) s.all ∙ sym (append_assoc es s.front (s.look ∷ s.back))) run) in
           let same : counts_from (counts_next (queue_at c i)) (counts_at c i es) (s.front ++ s.look ∷ []) ≡ counts_at c i (es ++ (s.front ++ s.look ∷ [])) =
           sym (counts-append (counts_next (queue_at c i)) (all_at (start_at c i)) es (s.front ++ s.look ∷ [])) in
-          let before : executed g s.front ≤ b.sight = looking B M o c ok i p less b.sight both.1 es s.front front_run s.blind in
-          let after : executed g s.back ≤ b.pace = pace B M o c ok i p less b.owned b.pace both.0 (es ++ (s.front ++ s.look ∷ [])) s.back whole
+          let before : executed g s.front ≤ b.sight = looking b.sight both.1 es s.front front_run s.blind in
+          let after : executed g s.back ≤ b.pace = pace b.owned b.pace both.0 (es ++ (s.front ++ s.look ∷ [])) s.back whole
           (subst (λ d. EachOwn (queue_at c i) p (IsIdleStep (queue_at c i) p b.owned) d s.back) same
           (idle-row (queue_at c i) (fine M o c ok i less).0 p b.owned s.back
           (counts_from (counts_next (queue_at c i)) (counts_at c i es) (s.front ++ s.look ∷ [])) s.more s.stuck)) in

@@ -22,7 +22,7 @@ use Rattle.queue_progress.specs.Rows.{counts_at}
 use Rattle.queue_progress.specs.Harts.{is_side, moves_some, lesser, fewest_owned, surely_owns, looks_at_need, looks_where_needed}
 use Rattle.queue_progress.specs.Harts.{owns_more, has_more, has_more_of_all, LeavesCounts}
 use Rattle.queue_progress.specs.Harts.{IsHartBlind}
-use Rattle.queue_progress.proofs.Facts.{moves-on, owns-few, owns-many, looks-so}
+use Rattle.queue_progress.proofs.Leaves.{moves-on, owns-few, owns-many, looks-so}
 use Rattle.queue_progress.proofs.Numbers.{all-from, Some-below, some-below}
 use Rattle.queue_progress.proofs.Rows.{Executes}
 

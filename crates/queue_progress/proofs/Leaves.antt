@@ -1,6 +1,6 @@
--- What a leaf says of its instruction is so: that it moves the count, owns no more, or loads the other's index. Unless it stops the hart.
-use Rattle.std.proofs.Common.{ℕ, ◌+◌, ◌-◌, ◌<◌, ◌≤◌, ◌≡◌, ◌==◌, inl, inr, true, Option, Some, List, [], ◌∷◌, length}
-use Rattle.std.proofs.Common.{sym, ◌∙◌, ap, subst, arith}
+-- What a leaf says of its instruction is so: that it moves the count, owns no more, or loads the other's index. Unless it stops the hart. So an entry of
+-- a run does what the leaf of its instruction says.
+use Rattle.std.proofs.Common.{ℕ, ◌+◌, ◌-◌, ◌<◌, ◌≤◌, ◌≡◌, ◌==◌, inl, inr, true, Option, Some, List, [], ◌∷◌, length, sym, ◌∙◌, ap, subst, arith, refl}
 use Rattle.std.specs.Prelude.{nat_lt}
 use Rattle.std.proofs.lemmas.Bool.{and_parts, eqb-true, ltb-true}
 use Rattle.hart.specs.State.{HartState}
@@ -15,20 +15,23 @@ use Rattle.step_machine.specs.Access.{load, access_of}
 use Rattle.step_machine.specs.Paths.{number_read}
 use Rattle.queue_parties.specs.Parties.{Party, other, count}
 use Rattle.slot_queue.specs.Queues.{Queue, IsQueue, TellsFull}
-use Rattle.slot_queue.specs.Ownership.{hart, party_of, index, end}
-use Rattle.queue_certificates.specs.OwnedRuns.{View, AllCounts, Acts}
-use Rattle.queue_certificates.specs.Forms.{form_value, plus, minus, lifted, is_same, Bounds, fits_in}
+use Rattle.slot_queue.specs.Ownership.{hart, party_of, index, end, after_access, counts_next}
+use Rattle.queue_certificates.specs.OwnedRuns.{View, AllCounts, Acts, view_then}
+use Rattle.queue_certificates.specs.Forms.{form_value, plus, minus, lifted, is_same, Bounds, fits_in, Form}
 use Rattle.queue_certificates.specs.States.{Share, KnownState, MeansAt}
 use Rattle.queue_certificates.specs.Steps.{share_at, addresses, is_look, is_one, is_whole, instruction_at}
-use Rattle.queue_certificates.specs.Certificates.{QueueCertificate, queue_at, own_of, SharesTold}
+use Rattle.queue_certificates.specs.Certificates.{QueueCertificate, queue_at, own_of, SharesTold, HasFields, MeetsFields, accepts}
 use Rattle.queue_certificates.proofs.Forms.{same-exactly, value-plus, value-lifted}
 use Rattle.queue_certificates.proofs.Bounds.{value-below, fits-below}
-use Rattle.queue_certificates.proofs.Steps.{nobody_told, nothing_sent}
+use Rattle.queue_certificates.proofs.Steps.{nobody_told, nothing_sent, untold}
 use Rattle.queue_certificates.proofs.Steps as steps
 use Rattle.queue_certificates.proofs.Accesses.{hart-party}
 use Rattle.queue_certificates.proofs.NextAccess.{Makes, next-access}
 use Rattle.queue_certificates.proofs.Leaves.{IsAmongAll}
-use Rattle.queue_progress.specs.Stays.{is_further, all_further, most_owned, looks}
+use Rattle.queue_progress.specs.Stays.{is_further, all_further, most_owned, looks, code_of, moves, follow_further}
+use Rattle.queue_certificates.proofs.Accepted.{fine}
+use Rattle.queue_progress.specs.Rows.{counts_at, LooksBy}
+use Rattle.queue_progress.proofs.Rows.{Executes, Sees, Then, ThenTold}
 
 further-value : (s t : Share) (y : ℕ) (xs : List ℕ) → is_further s t ≡ true → form_value s.own xs < form_value t.own (y ∷ xs)
 further-value s t y xs ok =
@@ -103,3 +106,44 @@ module _ (c : QueueCertificate) (h i : ℕ) (less : i < length c.queues) (p : Pa
               ok at.0 at.1)
         ]
         by j made ok = absurd (cc)
+
+-- ---- an entry of a run
+
+module _ (B M : ℕ) (o : OpeningValue) (c : QueueCertificate) (ok : accepts o c ≡ true) (h i : ℕ) (less : i < length c.queues) (p : Party)
+    (mine : h ≡ hart (queue_at c i) p) (xs : List ℕ) (k : KnownState) (d : Form) (s : HartState) (done : List Entry) (e : Entry)
+    (at : Executes B M o c ok h xs k d s done e) where
+  -- an instruction that moves the count, and runs on, is none that leaves it
+  pub moves-on : moves c h (code_of o h) i k d ≡ true → count p (counts_next (queue_at c i) (counts_at c i done) e) ≡ count p (counts_at c i done) → ⊥
+  moves-on goes stays =
+      let on : form_value (share_at k i).own xs < count p (after_access (queue_at c i) (party_of (queue_at c i) h) (access_of e) (counts_at c i done)) =
+      moved c h i
+      (count p (after_access (queue_at c i) (party_of (queue_at c i) h) (access_of e) (counts_at c i done)))
+      (share_at k i) xs at.following (advanced s (number_read e)) (view_then (access_of e) (Sees B M o c ok h done))
+      (Then B M o c ok h done e) (ThenTold B M o c ok h done e) (λ k y means told. (means.shares i less p mine).own)
+      (subst (λ ts. follow_further i (share_at k i) ts ≡ true) at.follow goes) at.among in
+      let own : count p (counts_at c i done) ≡ form_value (share_at k i).own xs = (at.means.shares i less p mine).own in
+      let same : count p (after_access (queue_at c i) (party_of (queue_at c i) h) (access_of e) (counts_at c i done)) ≡ count p (counts_at c i done) =
+      ap (λ g. count p (after_access (queue_at c i) (party_of (queue_at c i) g) (access_of e) (counts_at c i done))) (sym at.acts.mine) ∙ stays in
+      omega (arith, on, own, same)
+
+  pub owns-few : (K : ℕ) → fits_in (most_owned i k) (Some K) ≡ true → end (queue_at c i) p (counts_at c i done) ≤ count p (counts_at c i done) + K
+  owns-few K few = owned c h i less p mine K xs k s (Sees B M o c ok h done) (λ j. counts_at c j done) at.means few
+
+  pub owns-many : (K : ℕ) → nat_lt K (share_at k i).owned.constant ≡ true → count p (counts_at c i done) + K < end (queue_at c i) p (counts_at c i done)
+  owns-many K many =
+      let share = at.means.shares i less p mine in
+      let more : K < (share_at k i).owned.constant = ltb-true K (share_at k i).owned.constant many in
+      let all : (share_at k i).owned.constant ≤ form_value (share_at k i).owned xs = omega arith in
+      upto (end (queue_at c i) p (counts_at c i done)) (count p (counts_at c i done)) (form_value (share_at k i).own xs) (form_value (share_at k i).owned xs)
+      (share_at k i).owned.constant share.own share.upto all more
+    where
+      upto : (n m a b z : ℕ) → m ≡ a → n ≡ a + b → z ≤ b → K < z → m + K < n
+      upto n m a b z own end low more = omega (arith, own, end, low, more)
+
+  pub looks-so : looks c h i k (instruction_at (code_of o h) k.pc) ≡ true → LooksBy (queue_at c i) p (access_of e)
+  looks-so sees = subst (LooksBy (queue_at c i) p) (sym (seen c h i less p mine M o xs k s (Sees B M o c ok h done)
+      (λ j. counts_at c j done) e
+      (untold M o (length c.queues) (queue_at c) (HasFields c) (MeetsFields c) h s (Sees B M o c ok h done)
+      (λ j. counts_at c j done) e
+      at.acts) at.wide (fine M o c ok) at.means (subst (λ ws. looks c h i k (instruction_at ws k.pc) ≡ true) at.code sees) at.runs))
+      (refl, refl)

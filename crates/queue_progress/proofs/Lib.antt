@@ -1,8 +1,6 @@
 mod Leaves
 mod Rows
-mod Facts
 mod Bounded
-mod Pacing
 mod Alone
 mod Going
 mod Standing

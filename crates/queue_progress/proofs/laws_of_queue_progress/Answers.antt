@@ -1,7 +1,6 @@
 use Rattle.queue_progress.proofs.Found.{shown, hart_shown, told_shown}
 use Rattle.queue_progress.proofs.Outside.{no_pace, no_look, told_no_pace}
-use Rattle.queue_progress.proofs.Pacing.{pace, looking}
-use Rattle.queue_progress.proofs.Going.{going}
+use Rattle.queue_progress.proofs.Going.{pace, looking, going}
 use Rattle.queue_progress.proofs.Together.{hart_going}
 use Rattle.queue_progress.proofs.Standing.{stands}
 use Rattle.queue_progress.proofs.Arriving.{arrives, arrives_or_ends, told_arrives, told_arrives_or_ends}
