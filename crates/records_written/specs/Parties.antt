@@ -1,4 +1,4 @@
--- The parties of a certificate's queues of both kinds: how far each has come, what it owns, and what an instruction of its does.
+-- The parties of a certificate's queues of both kinds: how far each has come, what it owns, and what its instructions do.
 use Rattle.std.specs.Prelude.{ℕ, ◌<◌, Option, Some, List, length}
 use Rattle.rv_decode.specs.declared.instruction.Instr.{Instr}
 use Rattle.step_machine.specs.declared.events.Entry.{Entry}
