@@ -15,6 +15,7 @@ WORD = re.compile(r"\w+")
 PATH = re.compile(r"\bRattle\.(\w+\.specs(?:\.\w+)+)")
 DECLARED = re.compile(r"^\s*(?:pub(?:\([^)]*\))?\s+)?(?:const\s+)?(?:unsafe\s+)?(?:struct|enum|union|trait|type|const|static|fn|macro_rules!)\s+(\w+)", re.M)
 IMPORT = re.compile(r"^[ \t]*(?:pub(?:\([^)]*\))?\s+)?(?:ghost )?use ([^;{]+)(?:\{([^}]*)\})?[^;]*;", re.M)
+REMARK = re.compile(r"^[ \t]*--.*\n", re.M)
 MODULE = re.compile(r"^[ \t]*(?:pub(?:\([^)]*\))?\s+)?mod \w+;", re.M)
 
 
@@ -59,11 +60,16 @@ def items(name, text):
         yield Item(names, f"{name} {' '.join(piece.split())} {' '.join(brought)}")
 
 
+def without_remarks(text):
+    """A definition's or a lemma's text without the lines that are a comment."""
+    return REMARK.sub("", text)
+
+
 def stated(crate, files):
-    """The pieces of what a crate states."""
+    """The pieces of what a crate states, comments aside."""
     for name, path in files(crate / "specs"):
         at = name.removesuffix(path.suffix).replace("/", ".")
-        yield Item(frozenset((f"{crate.name}.specs.{at}",)), f"{crate.name} {name} {path.read_text()}")
+        yield Item(frozenset((f"{crate.name}.specs.{at}",)), f"{crate.name} {name} {without_remarks(path.read_text())}")
     for name, path in files(crate / "src", ".rt"):
         yield from items(f"{crate.name} {name}", path.read_text())
 

@@ -1,23 +1,21 @@
 """The checksum of all that the checks of a crate's mutants read.
 
-Of the crate itself these are its sources, comments aside, and its line of crates.txt, of the crates below what its sources
+Comments aside, these are of the crate itself its sources and its line of crates.txt, of the crates below what its sources
 cite of their specs/ and of the text of their src/ outside of functions' bodies (`cited`). A body below is no part of a check
 here, which cites its contract, and neither are the lemmas of proofs/ below: they are proved, so no lemma makes a wrong
 body right.
 """
 
 import hashlib
-import re
 import shutil
 import subprocess
 
 from crates import SOURCES, TOP
 
-from .cited import cited, stated
+from .cited import cited, stated, without_remarks
 from .functions import bare
 
 DIGITS = 16
-REMARK = re.compile(r"^[ \t]*--.*\n", re.MULTILINE)
 
 
 def kit():
@@ -45,7 +43,7 @@ def files(folder, suffix=""):
 def uncommented(path):
     """A source without its comments: of a definition or a lemma, without the lines that are one."""
     text = path.read_text()
-    return " ".join(bare(text).split()) if path.suffix == ".rt" else REMARK.sub("", text)
+    return " ".join(bare(text).split()) if path.suffix == ".rt" else without_remarks(text)
 
 
 def read_by(name, crates, logic, top=TOP):

@@ -197,10 +197,11 @@ class Sums(House):
         self.assertTrue(self.changed("low/src/lib.rt", "number + 1", "1 + number", "low"))
         self.assertTrue(self.changed("low/proofs/next/Answers.antt", "refl", "omega", "low"))
 
-    def test_a_comment_of_its_own_does_not_count(self):
+    def test_a_comment_does_not_count(self):
+        for of in ("low", "high"):
+            self.write("low/specs/Rows.antt", "-- a row\nrow n = n\n")
+            self.assertFalse(self.changed("low/specs/Rows.antt", "-- a row", "-- each row", of))
         self.assertFalse(self.changed("low/src/lib.rt", "/// The next row", "/// One row further", "low"))
-        self.write("low/specs/Rows.antt", "-- a row\nrow n = n\n")
-        self.assertFalse(self.changed("low/specs/Rows.antt", "-- a row", "-- each row", "low"))
 
     def test_its_line_of_crates_txt_counts(self):
         before = self.of()
