@@ -1,6 +1,6 @@
 -- Texts held against the definitions by hand: of three slots that are published by one store; the same with one slot left as it was, which
 -- keeps the protocol of ownership, and of which that slot's first byte is the first that isn't shown to be written; and one whose receiver
--- reads each record.
+-- reads each record. And when an entry wrote a byte, or read it.
 use Rattle.std.proofs.Common.{ℕ, zero, suc, ◌≡◌, ◌<◌, ◌+◌, ◌*◌, ◌^◌, ◌&&◌, ◌||◌, not, Bool, true, false, Some, List, [], ◌∷◌, ◌++◌, length, get_or}
 use Rattle.std.proofs.Common.{refl, sym, ap, subst, arith, lit<, length-append, ◌≤◌}
 use Rattle.std.specs.Prelude.{nat_lt, min}
@@ -16,7 +16,8 @@ use Rattle.queue_certificates.specs.States.{KnownValue, any, linear}
 use Rattle.queue_certificates.specs.Cases.{leaf}
 use Rattle.queue_certificates.specs.Certificates.{ListedState, QueueCertificate, accepts}
 use Rattle.queue_certificates.proofs.OneSlotQueue.{text, certificate}
-use Rattle.records_written.specs.declared.parties.QueueNumber.TheVariants.{Indexed}
+use Rattle.queue_layouts.specs.declared.tagged.Codec.TheVariants as codec
+use Rattle.records_written.specs.declared.parties.QueueNumber.TheVariants.{Indexed, Tagged}
 use Rattle.records_written.specs.PartyLeaves.{PartyLeaf}
 use Rattle.records_written.specs.Sure.{Marks, keeps, AreKept, IsSurelyDone, IsSureAt, IsSure, IsFirstUnsure}
 use Rattle.records_written.specs.Marks.{graph_of}
@@ -307,3 +308,42 @@ read_early is = by is.before is.is is.owned
     by (e ∷ f ∷ es) same owned =
         let long : 2 ≡ length ((e ∷ f ∷ es) ++ is.reads ∷ is.since) = ap (λ (fs : List Entry). length fs) same in
         omega (arith, long, length-append (e ∷ f ∷ es) (is.reads ∷ is.since))
+
+-- ---- of a queue with tags: by a load of the tag the receiver learns that it owns the position, and reads only later
+
+abbrev one_tag : QueueCertificate
+one_tag = record {
+  queues = [];
+  tagged = (record {
+    queue = record { sender = 0; receiver = 1; slots = 0; size = 1; width = 8; tag_offset = 0; tag_width = 4; codec = codec.Zero };
+    start = 0;
+  }) ∷ [];
+  harts = [];
+}
+
+abbrev load_tag : Entry
+load_tag = entry.Load 1 0 4 5
+
+abbrev load_rest : Entry
+load_rest = entry.Load 1 4 4 7
+
+rest_read : IsRead one_tag (Tagged 0) (load_tag ∷ load_rest ∷ []) 0 4
+rest_read = record {
+  before = load_tag ∷ [];
+  reads = load_rest;
+  since = [];
+  is = refl;
+  receiver = refl;
+  byte = (omega arith, omega arith);
+  from = omega arith;
+  owned = lit< tt;
+}
+
+tag_not_read : IsRead one_tag (Tagged 0) (load_tag ∷ []) 0 0 → ⊥
+tag_not_read is = by is.before is.is is.owned
+  where
+    by : (before : List Entry) → load_tag ∷ [] ≡ before ++ is.reads ∷ is.since → 0 < owned_end_after one_tag (Tagged 0) before → ⊥
+    by [] same owned = let none : 0 < 0 = owned in omega (arith, none)
+    by (e ∷ es) same owned =
+        let long : 1 ≡ length ((e ∷ es) ++ is.reads ∷ is.since) = ap (λ (fs : List Entry). length fs) same in
+        omega (arith, long, length-append (e ∷ es) (is.reads ∷ is.since))
