@@ -42,7 +42,7 @@ use Rattle.records_written.specs.Written.{IsWritten}
 use Rattle.records_written.specs.Read.{IsRead}
 use Rattle.records_written.specs.PartyLeaves.{is_filled, marked_after, may_hand}
 use Rattle.records_written.specs.Sure.{IsSurelyDone}
-use Rattle.records_written.specs.Marks.{leaf_by, graph_of, first_of, IsShown, IsShownWritten, IsShownRead}
+use Rattle.records_written.specs.Marks.{leaf_by, graph_of, first_of, IsShownDone, IsShownWritten, IsShownRead}
 use Rattle.records_written.proofs.Acted.{DoesByte, IsActed, Acted, indexed_then, tagged_then}
 use Rattle.records_written.proofs.Leading.{leaves-pass, hands, Leads, leads}
 
@@ -182,7 +182,7 @@ module _ (B M : ℕ) (o : OpeningValue) (c : QueueCertificate) (ok : accepts o c
     count-acted (Tagged t) p less mine =
         sym ((every.beside_acted (sets B M o c ok) done e run holds (hart_in c (Tagged t) p) mine t less).count p refl)
 
-  module _ (w : QueueNumber) (p : Party) (less : IsListed c w) (mask : ℕ → Bool) (shown : IsShown o c w p mask) where
+  module _ (w : QueueNumber) (p : Party) (less : IsListed c w) (mask : ℕ → Bool) (shown : IsShownDone o c w p mask) where
     abbrev h : ℕ
     h = hart_in c w p
 

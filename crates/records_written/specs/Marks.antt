@@ -33,8 +33,8 @@ abbrev pub first_of : QueueCertificate → QueueNumber → Party → ℕ
 first_of c w p = (part_of c (hart_in c w p)).first
 
 -- each byte of the mask is surely done where a record may be handed on
-abbrev pub IsShown : OpeningValue → QueueCertificate → QueueNumber → Party → (mask : ℕ → Bool) → Type 0
-IsShown o c w p mask = IsSure (graph_of o c w p) (first_of c w p) mask
+abbrev pub IsShownDone : OpeningValue → QueueCertificate → QueueNumber → Party → (mask : ℕ → Bool) → Type 0
+IsShownDone o c w p mask = IsSure (graph_of o c w p) (first_of c w p) mask
 
 -- this byte isn't, at this state, and is the first
 abbrev pub IsFirstMissing : OpeningValue → QueueCertificate → QueueNumber → Party → (mask : ℕ → Bool) → Missing → Type 0
@@ -43,7 +43,7 @@ IsFirstMissing o c w p mask m = IsFirstUnsure (graph_of o c w p) (first_of c w p
 -- ---- of the sender: written, before it is published
 
 abbrev pub IsShownWritten : OpeningValue → QueueCertificate → QueueNumber → (mask : ℕ → Bool) → Type 0
-IsShownWritten o c w mask = IsShown o c w the_sender mask
+IsShownWritten o c w mask = IsShownDone o c w the_sender mask
 
 abbrev pub IsFirstUnwritten : OpeningValue → QueueCertificate → QueueNumber → (mask : ℕ → Bool) → Missing → Type 0
 IsFirstUnwritten o c w mask m = IsFirstMissing o c w the_sender mask m
@@ -51,7 +51,7 @@ IsFirstUnwritten o c w mask m = IsFirstMissing o c w the_sender mask m
 -- ---- of the receiver: read, before it is handed back
 
 abbrev pub IsShownRead : OpeningValue → QueueCertificate → QueueNumber → (mask : ℕ → Bool) → Type 0
-IsShownRead o c w mask = IsShown o c w the_receiver mask
+IsShownRead o c w mask = IsShownDone o c w the_receiver mask
 
 abbrev pub IsFirstUnread : OpeningValue → QueueCertificate → QueueNumber → (mask : ℕ → Bool) → Missing → Type 0
 IsFirstUnread o c w mask m = IsFirstMissing o c w the_receiver mask m

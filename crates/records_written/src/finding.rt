@@ -5,7 +5,7 @@ ghost use Rattle.record_bytes.specs.Ranges.{has_byte};
 ghost use Rattle.queue_certificates.specs.Certificates.{part_of};
 ghost use Rattle.queue_layouts.specs.Sides.{the_party};
 ghost use Rattle.records_written.specs.Parties.{hart_in, sender_in, receiver_in};
-ghost use Rattle.records_written.specs.Marks.{IsShown, IsFirstMissing, IsShownWritten, IsFirstUnwritten, IsShownRead, IsFirstUnread};
+ghost use Rattle.records_written.specs.Marks.{IsShownDone, IsFirstMissing, IsShownWritten, IsFirstUnwritten, IsShownRead, IsFirstUnread};
 ghost use Rattle.records_written.specs.PartyLeaves.{may_hand_on};
 ghost use Rattle.records_written.specs.Sure.{IsSure, IsFirstUnsure};
 ghost use Rattle.records_written.specs.MarkLists.{has_mark, marks_of, IsBound, IsEnd, IsFirstOf, IsFirstOpen, IsLowestOpen};
@@ -205,7 +205,7 @@ fn first_missing(
     party: Party,
     mask: &[ByteRange],
 ) -> Result<Option<Missing>, Lack>
-    ensures exact { IfOk result (λ missing. MatchOption missing (IsShown opening.now certificate.now queue (the_party party) (has_byte mask.now))
+    ensures exact { IfOk result (λ missing. MatchOption missing (IsShownDone opening.now certificate.now queue (the_party party) (has_byte mask.now))
         (IsFirstMissing opening.now certificate.now queue (the_party party) (has_byte mask.now))) }
     ensures within { IfOk result (λ missing. IfSome missing (λ u. u.state < length (part_of certificate.now (hart_in certificate.now queue (the_party
         party))).states)) }
