@@ -3,6 +3,7 @@ crates/queue_progress/specs and crates/hart_safety/specs/Ends.antt define, compu
 leads have theirs, and of the numbers of positions that a party may own while it waits only those are tried at which its graph changes.
 """
 
+import itertools
 from typing import NamedTuple
 
 import certificates
@@ -96,26 +97,18 @@ def sides(c, h):
     return [i for i, each in enumerate(c.queues) if h in (each.queue.sender, each.queue.receiver)]
 
 
-def looks_where_needed(steps, mine, limit, k, instruction):
-    """Whether the hart looks at a queue where it may own at most `limit` positions of one: at one of which it surely owns no more, or, if it may of
-    one alone, at that."""
-    may = [i for i in mine if share_at(k, i).owned.constant <= limit]
-
-    def needed(i):
-        most = most_owned(i, k)
-        return most is not None and most <= limit or not set(may) - {i}
-    return not may or any(needed(i) and looks(steps, i, k, instruction) for i in mine)
-
-
-def hart_graph(opening, c, h, limit):
-    """For all queues of the hart together, where it waits if it owns at most `limit` positions of one."""
+def hart_graph(opening, c, h, limit, lacks):
+    """For all queues of the hart together, where it owns at most `limit` positions of each of those that it lacks, and more of the others: a stay
+    looks if it can't be one where that is so, or looks at one that the hart lacks."""
     code, steps, mine = opening.harts[h][0], certificates.steps_of(c, h), sides(c, h)
 
     def leaf(k, handed):
         if any(moves(c, h, code, i, k, handed) for i in mine):
             return None
-        owned = [most for most in (most_owned(i, k) for i in mine) if most is not None]
-        return min(owned, default=None), looks_where_needed(steps, mine, limit, k, certificates.instruction_at(code, k.pc))
+        most = {i: most_owned(i, k) for i in mine}
+        sees = any(share_at(k, i).owned.constant > limit or looks(steps, i, k, certificates.instruction_at(code, k.pc)) for i in lacks)
+        return (min((each for each in most.values() if each is not None), default=None),
+                sees or any(most[i] is not None and most[i] <= limit for i in mine if i not in lacks))
     return graph_by(c, h, leaf)
 
 
@@ -182,11 +175,23 @@ def progress_of(opening, c, h, i):
 
 
 def hart_progress_of(opening, c, h):
-    """Of hart h, for all queues of which it is a party together."""
-    graph = hart_graph(opening, c, h, 0)
-    capacity = min((c.queues[i].queue.capacity for i in sides(c, h)), default=0)
+    """Of hart h, for all queues of which it is a party together: its sight is that of the worst of the sets of queues that it may lack."""
+    graph, mine = hart_graph(opening, c, h, 0, ()), sides(c, h)
+    capacity = min((c.queues[i].queue.capacity for i in mine), default=0)
     owned = least_owned(graph, capacity)
-    return no_pace(graph, capacity) if owned is None else progress_owning(hart_graph(opening, c, h, owned), owned)
+    if owned is None:
+        return no_pace(graph, capacity)
+    sight = 0
+    # sets without a queue come before those with it, from the last queue on
+    for taken in itertools.product((False, True), repeat=len(mine)):
+        lacks = [i for i, is_in in zip(reversed(mine), taken) if is_in]
+        if lacks:
+            its = hart_graph(opening, c, h, owned, lacks)
+            most = longest(looks_away, its)
+            if most is None:
+                return NoLook(on_cycle(looks_away, its))
+            sight = max(sight, most)
+    return GoesOn(owned, longest(may_own_more(owned), graph), sight)
 
 
 def learns(c, h, code, i, k, handed):

@@ -1,19 +1,25 @@
 -- What is found of a party is so: the numbers bound its rows.
-use Rattle.std.proofs.Common.{◌&&◌, ℕ, ◌+◌, ◌≡◌, Bool, true, Option, None, Some, List, length, refl, subst}
+use Rattle.std.proofs.Common.{◌&&◌, ℕ, zero, suc, ◌+◌, ◌<◌, ◌≤◌, ◌≡◌, if◌then◌else◌, Bool, true, false, Option, None, Some, List, [], ◌∷◌, length}
+use Rattle.std.proofs.Common.{refl, sym, subst, arith}
+use Rattle.std.specs.Prelude.{nat_le}
+use Rattle.std.proofs.lemmas.Bool.{leb-true, leb-false, le-leb}
+use Rattle.queue_certificates.specs.Forms.{fits_in}
 use Rattle.step_machine.specs.History.{OpeningValue}
 use Rattle.queue_certificates.specs.Certificates.{QueueCertificate, queue_at}
 use Rattle.queue_progress.specs.declared.pace.Pace.{Pace}
 use Rattle.queue_progress.specs.declared.pace.Progress.TheVariants.{GoesOn}
 use Rattle.queue_progress.specs.Graphs.{Stay, may_own_more, looks_away, are_within}
 use Rattle.queue_progress.specs.Longest.{longest, state_or}
-use Rattle.queue_progress.specs.Harts.{least_capacity, hart_graph, hart_keeps_going}
-use Rattle.queue_progress.specs.Progress.{least_owned, progress_with, progress_owning, progress_by, progress_of, hart_progress_by, hart_progress_of}
+use Rattle.queue_progress.specs.Harts.{is_side, least_capacity, hart_graph, each_lacking, hart_keeps_going}
+use Rattle.queue_progress.specs.Progress.{least_owned, progress_with, progress_owning, progress_by, progress_of, worse, hart_sight}
+use Rattle.queue_progress.specs.Progress.{hart_progress_with, hart_progress_owning, hart_progress_by, hart_progress_of}
 use Rattle.queue_progress.specs.Shown.{graph_of, keeps_going}
-use Rattle.queue_progress.specs.declared.pace.ToldProgress.TheVariants.{Within}
-use Rattle.queue_progress.specs.Told.{told_graph, told_within, told_progress_by, told_progress_of}
+use Rattle.queue_progress.specs.declared.pace.ToldProgress.{ToldProgress}
+use Rattle.queue_progress.specs.declared.pace.ToldProgress.TheVariants.{Within, Endless}
+use Rattle.queue_progress.specs.Told.{told_graph, told_within, told_progress_by, told_progress_in, told_progress_of}
 use Rattle.queue_progress.proofs.Halving.{found-passes}
 
-bounds-all : (kind : Stay → Bool) (graph : List (List Stay)) (r : ℕ) → longest kind graph ≡ Some r → are_within kind graph r ≡ true
+pub bounds-all : (kind : Stay → Bool) (graph : List (List Stay)) (r : ℕ) → longest kind graph ≡ Some r → are_within kind graph r ≡ true
 bounds-all kind graph r is = (found-passes (are_within kind graph) (length graph + 1) r is).1
 
 record IsOwning (graph : List (List Stay)) (K : ℕ) (g : Pace) : Type 0 where
@@ -41,14 +47,64 @@ shown o c h i g is = by (least_owned (graph_of o c h i) (queue_at c i).capacity)
     by None is = absurd (cc)
     by (Some K) is = (owning-shown (graph_of o c h i) K g is).keeps
 
+module _ (o : OpeningValue) (c : QueueCertificate) (h K : ℕ) where
+  abbrev sees : (L : ℕ) → (lacks : List ℕ) → Bool
+  sees L lacks = fits_in (longest looks_away (hart_graph o c h K lacks)) (Some L)
+
+  abbrev IsBelow : ToldProgress → (L : ℕ) → Type 0
+  IsBelow (Within N) L = N ≤ L
+  IsBelow (Endless n) L = ⊥
+
+  both-below : (a b : ToldProgress) (L : ℕ) → IsBelow (worse a b) L → IsBelow a L × IsBelow b L
+  both-below (Within a) (Within b) L low = by (nat_le a b) refl low
+    where
+      by : (t : Bool) → nat_le a b ≡ t → (if t then b else a) ≤ L → (a ≤ L) × (b ≤ L)
+      by true is low = let less : a ≤ b = leb-true a b is in (omega (arith, less, low), low)
+      by false is low = let more : b < a = leb-false a b is in (low, omega (arith, more, low))
+  both-below (Within a) (Endless n) L low = absurd low
+  both-below (Endless n) b L low = absurd low
+
+  below-sees : (lacks : List ℕ) (L : ℕ) → IsBelow (told_progress_in (hart_graph o c h K lacks)) L → sees L lacks ≡ true
+  below-sees lacks L low = by (longest looks_away (hart_graph o c h K lacks)) low
+    where
+      by : (most : Option ℕ) → IsBelow (told_progress_by (hart_graph o c h K lacks) most) L → fits_in most (Some L) ≡ true
+      by None low = absurd low
+      by (Some N) low = le-leb N L low
+
+  sight-sees : (n : ℕ) (lacks : List ℕ) (L : ℕ) → IsBelow (hart_sight o c h K n lacks) L → each_lacking c h n lacks (sees L) ≡ true
+  sight-sees zero [] L low = refl
+  sight-sees zero (i ∷ lacks) L low = below-sees (i ∷ lacks) L low
+  sight-sees (suc n) lacks L low = by (is_side c h n) low (sight-sees n lacks L) (sight-sees n (n ∷ lacks) L)
+    where
+      by : (t : Bool) → IsBelow (if t then worse (hart_sight o c h K n lacks) (hart_sight o c h K n (n ∷ lacks)) else hart_sight o c h K n lacks) L
+          → (IsBelow (hart_sight o c h K n lacks) L → each_lacking c h n lacks (sees L) ≡ true)
+          → (IsBelow (hart_sight o c h K n (n ∷ lacks)) L → each_lacking c h n (n ∷ lacks) (sees L) ≡ true)
+          → (each_lacking c h n lacks (sees L) && (if t then each_lacking c h n (n ∷ lacks) (sees L) else true)) ≡ true
+      by true low without with =
+          let each = both-below (hart_sight o c h K n lacks) (hart_sight o c h K n (n ∷ lacks)) L low in
+          rw (without each.0, with each.1) refl
+      by false low without with = rw (without low) refl
+
+  hart-owning-shown : (g : Pace) → hart_progress_owning o c h K ≡ GoesOn g → hart_keeps_going o c h g ≡ true
+  hart-owning-shown g is = by (longest (may_own_more K) (hart_graph o c h K [])) refl (hart_sight o c h K (length c.queues) []) refl is
+    where
+      by : (pace : Option ℕ) → longest (may_own_more K) (hart_graph o c h K []) ≡ pace → (sight : ToldProgress)
+          → hart_sight o c h K (length c.queues) [] ≡ sight → hart_progress_with (hart_graph o c h K []) K pace sight ≡ GoesOn g
+          → hart_keeps_going o c h g ≡ true
+      by None p sight s is = absurd (cc)
+      by (Some N) p (Endless n) s is = absurd (cc)
+      by (Some N) p (Within L) s is =
+          let same : record { owned = K; pace = N; sight = L } ≡ g = cc in
+          let low : IsBelow (hart_sight o c h K (length c.queues) []) L = subst (λ t. IsBelow t L) (sym s) (omega arith) in
+          subst (λ f. hart_keeps_going o c h f ≡ true) same
+          (rw (bounds-all (may_own_more K) (hart_graph o c h K []) N p, sight-sees (length c.queues) [] L low) refl)
+
 pub hart_shown : (o : OpeningValue) (c : QueueCertificate) (h : ℕ) (g : Pace) → hart_progress_of o c h ≡ GoesOn g → hart_keeps_going o c h g ≡ true
-hart_shown o c h g is = by (least_owned (hart_graph o c h 0) (state_or (least_capacity c h (length c.queues)) 0)) is
+hart_shown o c h g is = by (least_owned (hart_graph o c h 0 []) (state_or (least_capacity c h (length c.queues)) 0)) is
   where
     by : (owned : Option ℕ) → hart_progress_by o c h (state_or (least_capacity c h (length c.queues)) 0) owned ≡ GoesOn g → hart_keeps_going o c h g ≡ true
     by None is = absurd (cc)
-    by (Some K) is = let w = owning-shown (hart_graph o c h K) K g is in
-        subst (λ J. (are_within (may_own_more g.owned) (hart_graph o c h J) g.pace && are_within looks_away
-        (hart_graph o c h J) g.sight) ≡ true) w.owned w.keeps
+    by (Some K) is = hart-owning-shown o c h K g is
 
 pub told_shown : (o : OpeningValue) (c : QueueCertificate) (h t N : ℕ) → told_progress_of o c h t ≡ Within N → told_within o c h t N ≡ true
 told_shown o c h t N is = by (longest looks_away (told_graph o c h t)) refl is

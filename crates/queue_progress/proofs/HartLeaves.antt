@@ -1,9 +1,9 @@
 -- What a leaf says of all queues of its hart together, an entry of a run does.
-use Rattle.std.proofs.Common.{ℕ, zero, suc, ◌+◌, ◌<◌, ◌≤◌, ◌≡◌, ◌==◌, ◌&&◌, ◌||◌, ◌⊎◌, not, inl, inr, if◌then◌else◌, Bool, true, false}
-use Rattle.std.proofs.Common.{Option, Some, None, List, length, refl, sym, ◌∙◌, ap, subst, arith}
+use Rattle.std.proofs.Common.{ℕ, zero, suc, ◌+◌, ◌<◌, ◌≤◌, ◌≡◌, ◌&&◌, ◌⊎◌, not, inl, inr, if◌then◌else◌, Bool, true, false}
+use Rattle.std.proofs.Common.{Option, Some, None, List, length, refl, sym, ◌∙◌, ap, arith}
 use Rattle.std.specs.Prelude.{nat_lt, nat_le}
 use Rattle.std.specs.Option.{is_some}
-use Rattle.std.proofs.lemmas.Bool.{and_parts, or_cases, eqb-true, ltb-true, lt-ltb}
+use Rattle.std.proofs.lemmas.Bool.{and_parts, or_cases, ltb-true, lt-ltb}
 use Rattle.hart.specs.State.{HartState}
 use Rattle.step_machine.specs.declared.events.Entry.{Entry}
 use Rattle.step_machine.specs.History.{OpeningValue}
@@ -11,19 +11,17 @@ use Rattle.queue_parties.specs.Parties.{Party, count}
 use Rattle.slot_queue.specs.Ownership.{hart, party_of, end}
 use Rattle.queue_certificates.specs.Forms.{Form, fits_in}
 use Rattle.queue_certificates.specs.States.{KnownState}
-use Rattle.queue_certificates.specs.Steps.{is_just, share_at, instruction_at}
+use Rattle.queue_certificates.specs.Steps.{share_at, instruction_at}
 use Rattle.queue_certificates.specs.Certificates.{QueueCertificate, queue_at, accepts}
-use Rattle.queue_certificates.proofs.States.{at-below}
 use Rattle.queue_certificates.proofs.Accesses.{party-hart}
 use Rattle.queue_certificates.proofs.Accepted.{fine}
-use Rattle.queue_checker.specs.Accesses.{any_below}
 use Rattle.queue_progress.specs.Stays.{code_of, moves, most_owned, looks}
 use Rattle.queue_progress.specs.Rows.{counts_at}
-use Rattle.queue_progress.specs.Harts.{is_side, moves_some, lesser, fewest_owned, surely_owns, looks_at_need, looks_where_needed}
-use Rattle.queue_progress.specs.Harts.{owns_more, has_more, has_more_of_all, LeavesCounts}
+use Rattle.queue_progress.specs.Harts.{is_side, moves_some, lesser, fewest_owned, is_among, differs_at, differs}
+use Rattle.queue_progress.specs.Harts.{owns_more, has_more, LeavesCounts}
 use Rattle.queue_progress.specs.Harts.{IsHartBlind}
 use Rattle.queue_progress.proofs.Leaves.{moves-on, owns-few, owns-many, looks-so}
-use Rattle.queue_progress.proofs.Numbers.{all-from, Some-below, some-below}
+use Rattle.queue_progress.proofs.Numbers.{Some-below, some-below}
 use Rattle.queue_progress.proofs.Rows.{Executes}
 
 module _ (B M : ℕ) (o : OpeningValue) (c : QueueCertificate) (ok : accepts o c ≡ true) (h : ℕ) where
@@ -93,46 +91,31 @@ module _ (B M : ℕ) (o : OpeningValue) (c : QueueCertificate) (ok : accepts o c
             | inr there ↦ rest there
           ]
 
-      -- what it surely owns it does
-      surely-more : (but : Option ℕ) → surely_owns c h K but k ≡ true → (i : ℕ) → i < length c.queues → is_just but i ≡ false → has_more c h K done i ≡ true
-      surely-more but sure i less off = elim (side? i less) [
-        | inr none ↦ none done K
-        | inl side ↦ more-is i side done ∙ lt-ltb (count side.party (counts_at c i done) + K) (end (queue_at c i) side.party (counts_at c i done))
-            (owns-many B M o c ok h i less side.party side.mine xs k d s done e at K
-            (third (is_just but i) (is_side c h i) (nat_lt K (share_at k i).owned.constant) off (ap is_some side.is)
-            (at-below (length c.queues) (λ j. is_just but j || not (is_side c h j) || nat_lt K (share_at k j).owned.constant) sure i less)))
-      ]
+      pub not-blind : (lacks : List ℕ) → differs c h K lacks k (instruction_at (code_of o h) k.pc) ≡ true → IsHartBlind c h K lacks done e → ⊥
+      not-blind lacks apart blind = by (is_among lacks w.at) (blind.waits w.at w.less) both.1
         where
-          third : (a b t : Bool) → a ≡ false → b ≡ true → (a || not b || t) ≡ true → t ≡ true
-          third false true t off on ok = ok
-          third true b t off on ok = absurd (cc)
-          third false false t off on ok = absurd (cc)
+          w : Some-below (length c.queues) (λ i. is_side c h i && differs_at c h K i (is_among lacks i) k (instruction_at (code_of o h) k.pc))
+          w = some-below (length c.queues) (λ i. is_side c h i && differs_at c h K i (is_among lacks i) k (instruction_at (code_of o h) k.pc)) apart
 
-      pub not-blind : looks_where_needed c h K k (instruction_at (code_of o h) k.pc) ≡ true → IsHartBlind c h K done e → ⊥
-      not-blind sees blind = elim (or_cases (surely_owns c h K None k)
-          (any_below (length c.queues) (λ i. looks_at_need c h K i k (instruction_at (code_of o h) k.pc))) sees) [
-            | inl sure ↦ all-more (λ i less. surely-more None sure i less refl)
-            | inr some ↦ at-need (some-below (length c.queues) (λ i. looks_at_need c h K i k (instruction_at (code_of o h) k.pc)) some)
+          both : (is_side c h w.at ≡ true) × (differs_at c h K w.at (is_among lacks w.at) k (instruction_at (code_of o h) k.pc) ≡ true)
+          both = and_parts (is_side c h w.at) (differs_at c h K w.at (is_among lacks w.at) k (instruction_at (code_of o h) k.pc)) w.is
+
+          side : IsSide w.at
+          side = side-of w.at w.less both.0
+
+          -- of a queue of which it owns more
+          owned-more : nat_lt K (share_at k w.at).owned.constant ≡ true → has_more c h K done w.at ≡ true
+          owned-more many = more-is w.at side done
+              ∙ lt-ltb (count side.party (counts_at c w.at done) + K) (end (queue_at c w.at) side.party (counts_at c w.at done))
+              (owns-many B M o c ok h w.at w.less side.party side.mine xs k d s done e at K many)
+
+          seen-more : looks c h w.at k (instruction_at (code_of o h) k.pc) ≡ true → has_more c h K done w.at ≡ true
+          seen-more sees =
+              blind.unseen w.at w.less side.party side.mine (looks-so B M o c ok h w.at w.less side.party side.mine xs k d s done e at sees)
+
+          by : (t : Bool) → has_more c h K done w.at ≡ not t → differs_at c h K w.at t k (instruction_at (code_of o h) k.pc) ≡ true → ⊥
+          by true without other = elim (or_cases (nat_lt K (share_at k w.at).owned.constant) (looks c h w.at k (instruction_at (code_of o h) k.pc)) other) [
+            | inl many ↦ (let so : has_more c h K done w.at ≡ true = owned-more many in absurd (cc))
+            | inr sees ↦ (let so : has_more c h K done w.at ≡ true = seen-more sees in absurd (cc))
           ]
-        where
-          all-more : ((i : ℕ) → i < length c.queues → has_more c h K done i ≡ true) → ⊥
-          all-more each = let so : has_more_of_all c h K done ≡ true = all-from (length c.queues) (has_more c h K done) each in
-              let no : has_more_of_all c h K done ≡ false = blind.waits in absurd (cc)
-
-          at-need : Some-below (length c.queues) (λ i. looks_at_need c h K i k (instruction_at (code_of o h) k.pc)) → ⊥
-          at-need w =
-              let both = and_parts (is_side c h w.at && looks c h w.at k (instruction_at (code_of o h) k.pc))
-              (fits_in (most_owned w.at k) (Some K) || surely_owns c h K (Some w.at) k) w.is in
-              let first = and_parts (is_side c h w.at) (looks c h w.at k (instruction_at (code_of o h) k.pc)) both.0 in
-              let side = side-of w.at w.less first.0 in
-              let here : has_more c h K done w.at ≡ true = blind.unseen w.at w.less side.party side.mine
-              (looks-so B M o c ok h w.at w.less side.party side.mine xs k d s done e at first.1) in
-              elim (or_cases (fits_in (most_owned w.at k) (Some K)) (surely_owns c h K (Some w.at) k) both.1) [
-                | inl few ↦ few-more w.at w.less side few here
-                | inr sure ↦ all-more (λ i less. other i less here sure (w.at == i) refl)
-              ]
-            where
-              other : (i : ℕ) → i < length c.queues → has_more c h K done w.at ≡ true → surely_owns c h K (Some w.at) k ≡ true
-                  → (t : Bool) → (w.at == i) ≡ t → has_more c h K done i ≡ true
-              other i less here sure true same = subst (λ j. has_more c h K done j ≡ true) (eqb-true w.at i same) here
-              other i less here sure false apart = surely-more (Some w.at) sure i less apart
+          by false with few = few-more w.at w.less side few with

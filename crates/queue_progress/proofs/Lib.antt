@@ -1,3 +1,4 @@
+mod Lacked
 mod Leaves
 mod Rows
 mod Bounded

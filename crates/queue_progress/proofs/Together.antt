@@ -1,11 +1,11 @@
 -- A hart of several queues: a row of its instructions that are stuck is short. It is idle where the hart owns more of each queue; else blind up to
 -- a load of the index of one of which it owns no more, and after that it owns more of one queue more.
 use Rattle.std.proofs.Common.{ℕ, zero, suc, ◌+◌, ◌*◌, ◌<◌, ◌≤◌, ◌≡◌, ◌⊎◌, inl, inr, if◌then◌else◌, Bool, true, false}
-use Rattle.std.proofs.Common.{Some, List, [], ◌∷◌, ◌++◌, length, refl, sym, ◌∙◌, ap, subst, arith, append_assoc, append-nil}
+use Rattle.std.proofs.Common.{Option, None, Some, not, List, [], ◌∷◌, ◌++◌, length, refl, sym, ◌∙◌, ap, subst, arith, append_assoc, append-nil}
 use Rattle.std.specs.Prelude.{nat_lt}
 use Rattle.std.specs.Option.{is_some}
 use Rattle.std.proofs.Math.Nat.{suc-mul}
-use Rattle.std.proofs.lemmas.Bool.{and_parts, not-false, cases_eq}
+use Rattle.std.proofs.lemmas.Bool.{and_parts, not-false, cases_eq, leb-true}
 use Rattle.step_machine.specs.declared.events.Entry.{Entry}
 use Rattle.step_machine.specs.History.{OpeningValue, history_of}
 use Rattle.step_machine.specs.Access.{access_of}
@@ -28,14 +28,17 @@ use Rattle.queue_certificates.proofs.Accesses.{hart-party, same-party}
 use Rattle.queue_certificates.proofs.Accepted.{fine}
 use Rattle.queue_progress.specs.declared.pace.Pace.{Pace}
 use Rattle.queue_progress.specs.Graphs.{may_own_more, looks_away, are_within}
+use Rattle.queue_progress.specs.Longest.{longest}
 use Rattle.queue_progress.specs.Stays.{code_of}
 use Rattle.queue_progress.specs.Rows.{executed, counts_at, LooksBy, EachAfter}
-use Rattle.queue_progress.specs.Harts.{is_side, sides, moves_some, fewest_owned, looks_where_needed, hart_graph}
+use Rattle.queue_progress.specs.Harts.{is_side, sides, moves_some, fewest_owned, is_among, differs, hart_graph, each_lacking}
 use Rattle.queue_progress.specs.Harts.{hart_keeps_going, owns_more, has_more, has_more_of_all, LeavesCounts, HasMoreWhereItLooks}
 use Rattle.queue_progress.specs.Harts.{IsHartIdle, IsHartBlind, IsHartStuck}
 use Rattle.queue_progress.proofs.Alone.{executed-append}
 use Rattle.queue_progress.proofs.Bounded.{uncut, bounded}
 use Rattle.queue_progress.proofs.Going.{looks?, end-of, known-kept}
+use Rattle.queue_progress.proofs.Found.{bounds-all}
+use Rattle.queue_progress.proofs.Lacked.{lacking-list, among-list, some-lacking, each-at, turned}
 use Rattle.queue_progress.proofs.Numbers.{all-from, lacking, none-lacking, fewer-lacking, less-lacking}
 use Rattle.queue_progress.proofs.HartLeaves as leaves
 
@@ -153,57 +156,54 @@ module _ (B M : ℕ) (o : OpeningValue) (c : QueueCertificate) (ok : accepts o c
           | inr apart ↦ rest i (omega (arith, less, apart))
         ])
 
+    -- it lacks just these queues
+    abbrev Waits : (lacks : List ℕ) → List Entry → Type 0
+    Waits lacks es = (i : ℕ) → i < length c.queues → has_more c h K es i ≡ not (is_among lacks i)
+
     -- what it lacks it lacks until such a look
-    still-lacks : (done : List Entry) (e : Entry) → (is_own h e ≡ true → LeavesCounts c h done e × HasMoreWhereItLooks c h K done e)
-        → has_more_of_all c h K done ≡ false → has_more_of_all c h K (done ++ e ∷ []) ≡ false
-    still-lacks done e spares lacks = by (has_more_of_all c h K (done ++ e ∷ [])) refl
+    still-waits : (lacks : List ℕ) (done : List Entry) (e : Entry) → (is_own h e ≡ true → IsHartStuck c h K done e)
+        → (is_own h e ≡ true → HasMoreWhereItLooks c h K done e) → Waits lacks done → Waits lacks (done ++ e ∷ [])
+    still-waits lacks done e stuck spares waits i less = by (is_own h e) refl ∙ waits i less
       where
-        own : (i : ℕ) (less : i < length c.queues) → IsSide i → is_own h e ≡ true → has_more c h K done i ≡ false
-            → has_more c h K (done ++ e ∷ []) i ≡ false
-        own i less side on without = unseen-more i less side done e on (spares on).0 (λ look. (
-            let so : has_more c h K done i ≡ true = (spares on).1 i less side.party side.mine look in absurd (cc))) ∙ without
+        own : is_own h e ≡ true → IsSide i → has_more c h K (done ++ e ∷ []) i ≡ has_more c h K done i
+        own on side = elim (looks? (queue_at c i) (fine M o c ok i less).0 side.party (access_of e)) [
+          | inl look ↦ (stuck on).finds i less side.party side.mine look ∙ sym (spares on i less side.party side.mine look)
+          | inr off ↦ unseen-more i less side done e on (stuck on).stays off
+        ]
 
-        back : (i : ℕ) → i < length c.queues → has_more c h K (done ++ e ∷ []) i ≡ true → (t : Bool) → has_more c h K done i ≡ t → t ≡ true
-        back i less so true is = refl
-        back i less so false is = before (is_own h e) refl
-          where
-            before : (t : Bool) → is_own h e ≡ t → false ≡ true
-            before false off = sym is ∙ sym (left-more i less done e off) ∙ so
-            before true on = elim (side? i less) [
-              | inr none ↦ sym is ∙ none done K
-              | inl side ↦ sym (own i less side on is) ∙ so
-            ]
-
-        by : (t : Bool) → has_more_of_all c h K (done ++ e ∷ []) ≡ t → t ≡ false
-        by false is = refl
-        by true is = sym (all-from (length c.queues) (has_more c h K done)
-            (λ i less. back i less (at-below (length c.queues) (has_more c h K (done ++ e ∷ [])) is i less) (has_more c h K done i) refl)) ∙ lacks
+        by : (t : Bool) → is_own h e ≡ t → has_more c h K (done ++ e ∷ []) i ≡ has_more c h K done i
+        by false off = left-more i less done e off
+        by true on = elim (side? i less) [
+          | inr none ↦ none (done ++ e ∷ []) K ∙ sym (none done K)
+          | inl side ↦ own on side
+        ]
 
     abbrev lack : List Entry → ℕ
     lack es = lacking (length c.queues) (has_more c h K es)
 
     -- a row up to its first such look
-    record Split (done row : List Entry) : Type 0 where
+    record Split (lacks : List ℕ) (done row : List Entry) : Type 0 where
       front : List Entry
       look : Entry
       rest : List Entry
       all : row ≡ front ++ look ∷ rest
-      blind : EachAfter h (IsHartBlind c h K) done front
+      blind : EachAfter h (IsHartBlind c h K lacks) done front
       mine : is_own h look ≡ true
       fewer : lack ((done ++ front) ++ look ∷ []) < lack done
       stuck : EachAfter h (IsHartStuck c h K) ((done ++ front) ++ look ∷ []) rest
 
-    split : (row done : List Entry) → has_more_of_all c h K done ≡ false → EachAfter h (IsHartStuck c h K) done row
-        → EachAfter h (IsHartBlind c h K) done row ⊎ Split done row
-    split [] done lacks each = inl tt
-    split (e ∷ row) done lacks each = by (is_own h e) refl (needed? (length c.queues) (omega arith) done e) (λ still. split row (done ++ e ∷ []) still each.1)
+    split : (lacks : List ℕ) (row done : List Entry) → Waits lacks done → EachAfter h (IsHartStuck c h K) done row
+        → EachAfter h (IsHartBlind c h K lacks) done row ⊎ Split lacks done row
+    split lacks [] done waits each = inl tt
+    split lacks (e ∷ row) done waits each =
+        by (is_own h e) refl (needed? (length c.queues) (omega arith) done e) (λ still. split lacks row (done ++ e ∷ []) still each.1)
       where
         kept : (i : ℕ) → i < length c.queues → has_more c h K done i ≡ true → has_more c h K (done ++ e ∷ []) i ≡ true
         kept i less = kept-more i less done e each.0
 
-        further : (is_own h e ≡ true → IsHartBlind c h K done e)
-            → EachAfter h (IsHartBlind c h K) (done ++ e ∷ []) row ⊎ Split (done ++ e ∷ []) row
-            → EachAfter h (IsHartBlind c h K) done (e ∷ row) ⊎ Split done (e ∷ row)
+        further : (is_own h e ≡ true → IsHartBlind c h K lacks done e)
+            → EachAfter h (IsHartBlind c h K lacks) (done ++ e ∷ []) row ⊎ Split lacks (done ++ e ∷ []) row
+            → EachAfter h (IsHartBlind c h K lacks) done (e ∷ row) ⊎ Split lacks done (e ∷ row)
         further here (inl blind) = inl (here, blind)
         further here (inr s) = inr (record {
           front = e ∷ s.front;
@@ -219,7 +219,7 @@ module _ (B M : ℕ) (o : OpeningValue) (c : QueueCertificate) (ok : accepts o c
           stuck = subst (λ es. EachAfter h (IsHartStuck c h K) (es ++ s.look ∷ []) s.rest) (append_assoc done (e ∷ []) s.front) s.stuck;
         })
 
-        first : is_own h e ≡ true → Needed done e → Split done (e ∷ row)
+        first : is_own h e ≡ true → Needed done e → Split lacks done (e ∷ row)
         first on now = record {
           front = [];
           look = e;
@@ -234,25 +234,27 @@ module _ (B M : ℕ) (o : OpeningValue) (c : QueueCertificate) (ok : accepts o c
         }
 
         by : (t : Bool) → is_own h e ≡ t → Needed done e ⊎ ((i : ℕ) → i < length c.queues → Spares done e i)
-            → (has_more_of_all c h K (done ++ e ∷ []) ≡ false → EachAfter h (IsHartBlind c h K) (done ++ e ∷ []) row ⊎ Split (done ++ e ∷ []) row)
-            → EachAfter h (IsHartBlind c h K) done (e ∷ row) ⊎ Split done (e ∷ row)
+            → (Waits lacks (done ++ e ∷ []) → EachAfter h (IsHartBlind c h K lacks) (done ++ e ∷ []) row ⊎ Split lacks (done ++ e ∷ []) row)
+            → EachAfter h (IsHartBlind c h K lacks) done (e ∷ row) ⊎ Split lacks done (e ∷ row)
         by false off needed after = further (λ on. absurd (let no : false ≡ true = sym off ∙ on in cc))
-            (after (still-lacks done e (λ on. absurd (let no : false ≡ true = sym off ∙ on in cc)) lacks))
+            (after (still-waits lacks done e each.0 (λ on. absurd (let no : false ≡ true = sym off ∙ on in cc)) waits))
         by true on (inl now) after = inr (first on now)
-        by true on (inr spares) after = further (λ own. record { stays = (each.0 on).stays; waits = lacks; unseen = spares })
-            (after (still-lacks done e (λ own. ((each.0 on).stays, spares)) lacks))
+        by true on (inr spares) after = further (λ own. record { stays = (each.0 on).stays; waits = waits; unseen = spares })
+            (after (still-waits lacks done e each.0 (λ own. spares) waits))
 
   -- ---- the law
 
   module _ (g : Pace) (shown : hart_keeps_going o c h g ≡ true) where
-    both : (are_within (may_own_more g.owned) (hart_graph o c h g.owned) g.pace ≡ true) × (are_within looks_away (hart_graph o c h g.owned) g.sight ≡ true)
-    both = and_parts (are_within (may_own_more g.owned) (hart_graph o c h g.owned) g.pace)
-        (are_within looks_away (hart_graph o c h g.owned) g.sight) shown
+    abbrev sees : (lacks : List ℕ) → Bool
+    sees lacks = fits_in (longest looks_away (hart_graph o c h g.owned lacks)) (Some g.sight)
+
+    both : (are_within (may_own_more g.owned) (hart_graph o c h g.owned []) g.pace ≡ true) × (each_lacking c h (length c.queues) [] sees ≡ true)
+    both = and_parts (are_within (may_own_more g.owned) (hart_graph o c h g.owned []) g.pace) (each_lacking c h (length c.queues) [] sees) shown
 
     hart-pace : (es row : List Entry) → WellFormed B M (history_of o (es ++ row)) → EachAfter h (IsHartIdle c h g.owned) es row
         → executed h row ≤ g.pace
     hart-pace = bounded B M o c ok h (moves_some c h (code_of o h)) (fewest_owned c h (length c.queues))
-        (λ k. looks_where_needed c h g.owned k (instruction_at (code_of o h) k.pc)) uncut (may_own_more g.owned) (IsHartIdle c h g.owned)
+        (λ k. differs c h g.owned [] k (instruction_at (code_of o h) k.pc)) uncut (may_own_more g.owned) (IsHartIdle c h g.owned)
         (λ xs k d s done e at other idle. elim other [
           | inl goes ↦ leaves.moves-none B M o c ok h g.owned xs k d s done e at goes idle.stays
           | inr few ↦ leaves.fewest-more B M o c ok h g.owned xs k d s done e at (length c.queues) (omega arith)
@@ -261,16 +263,44 @@ module _ (B M : ℕ) (o : OpeningValue) (c : QueueCertificate) (ok : accepts o c
         ])
         (λ xs k d s done e at none idle. absurd (cc)) g.pace both.0
 
-    hart-looking : (es row : List Entry) → WellFormed B M (history_of o (es ++ row)) → EachAfter h (IsHartBlind c h g.owned) es row
-        → executed h row ≤ g.sight
-    hart-looking = bounded B M o c ok h (moves_some c h (code_of o h)) (fewest_owned c h (length c.queues))
-        (λ k. looks_where_needed c h g.owned k (instruction_at (code_of o h) k.pc)) uncut looks_away (IsHartBlind c h g.owned)
-        (λ xs k d s done e at other blind. elim other [
-          | inl goes ↦ leaves.moves-none B M o c ok h g.owned xs k d s done e at goes blind.stays
-          | inr sees ↦ leaves.not-blind B M o c ok h g.owned xs k d s done e at
-              (not-false (looks_where_needed c h g.owned k (instruction_at (code_of o h) k.pc)) sees.1) blind
+    module _ (lacks : List ℕ) where
+      looking-within : (N : ℕ) → are_within looks_away (hart_graph o c h g.owned lacks) N ≡ true → (es row : List Entry)
+          → WellFormed B M (history_of o (es ++ row)) → EachAfter h (IsHartBlind c h g.owned lacks) es row → executed h row ≤ N
+      looking-within = bounded B M o c ok h (moves_some c h (code_of o h)) (fewest_owned c h (length c.queues))
+          (λ k. differs c h g.owned lacks k (instruction_at (code_of o h) k.pc)) uncut looks_away (IsHartBlind c h g.owned lacks)
+          (λ xs k d s done e at other blind. elim other [
+            | inl goes ↦ leaves.moves-none B M o c ok h g.owned xs k d s done e at goes blind.stays
+            | inr sees ↦ leaves.not-blind B M o c ok h g.owned xs k d s done e at lacks
+                (not-false (differs c h g.owned lacks k (instruction_at (code_of o h) k.pc)) sees.1) blind
+          ])
+          (λ xs k d s done e at none blind. absurd (cc))
+
+      hart-looking : sees lacks ≡ true → (es row : List Entry) → WellFormed B M (history_of o (es ++ row))
+          → EachAfter h (IsHartBlind c h g.owned lacks) es row → executed h row ≤ g.sight
+      hart-looking so es row run each = by (longest looks_away (hart_graph o c h g.owned lacks)) refl so
+        where
+          by : (most : Option ℕ) → longest looks_away (hart_graph o c h g.owned lacks) ≡ most → fits_in most (Some g.sight) ≡ true → executed h row ≤ g.sight
+          by None is so = absurd (cc)
+          by (Some N) is so =
+              let low : N ≤ g.sight = leb-true N g.sight so in
+              let few : executed h row ≤ N = looking-within N (bounds-all looks_away (hart_graph o c h g.owned lacks) N is) es row run each in
+              omega (arith, low, few)
+
+    -- the queues that it lacks after these entries
+    abbrev lacked : List Entry → List ℕ
+    lacked es = lacking-list (length c.queues) (has_more c h g.owned es) []
+
+    lacked-waits : (es : List Entry) → Waits g.owned (lacked es) es
+    lacked-waits es i less = turned (is_among (lacked es) i) (has_more c h g.owned es i)
+        (among-list (length c.queues) (has_more c h g.owned es) [] (λ j low. refl) i less)
+
+    lacked-sees : (es : List Entry) → has_more_of_all c h g.owned es ≡ false → sees (lacked es) ≡ true
+    lacked-sees es lacks = each-at c h (length c.queues) (has_more c h g.owned es) [] sees
+        (λ i less without. elim (side? i less) [
+          | inl side ↦ ap is_some side.is
+          | inr none ↦ absurd (let so : has_more c h g.owned es i ≡ true = none es g.owned in cc)
         ])
-        (λ xs k d s done e at none blind. absurd (cc)) g.sight both.1
+        both.1 (some-lacking (length c.queues) (has_more c h g.owned es) [] lacks)
 
     idle : (m : ℕ) (es row : List Entry) → WellFormed B M (history_of o (es ++ row)) → EachAfter h (IsHartStuck c h g.owned) es row
         → has_more_of_all c h g.owned es ≡ true → executed h row ≤ g.pace + m * (g.sight + 1)
@@ -291,17 +321,18 @@ module _ (B M : ℕ) (o : OpeningValue) (c : QueueCertificate) (ok : accepts o c
         short : (a l p z y : ℕ) → y ≡ z + (l + 1) → a ≤ l → a ≤ p + y
         short a l p z y product low = omega (arith, product, low)
 
-        after : Split g.owned es row → ((es row : List Entry) → lack g.owned es ≤ m → WellFormed B M (history_of o (es ++ row))
+        after : (lacks : List ℕ) → sees lacks ≡ true → Split g.owned lacks es row
+            → ((es row : List Entry) → lack g.owned es ≤ m → WellFormed B M (history_of o (es ++ row))
             → EachAfter h (IsHartStuck c h g.owned) es row → executed h row ≤ g.pace + m * (g.sight + 1))
             → executed h row ≤ g.pace + suc m * (g.sight + 1)
-        after s later =
+        after lacks so s later =
             let all : ((es ++ s.front) ++ s.look ∷ []) ++ s.rest ≡ es ++ row = append_assoc (es ++ s.front) (s.look ∷ []) s.rest
             ∙ append_assoc es s.front (s.look ∷ s.rest) ∙ ap (λ fs. es ++ fs) (sym s.all) in
             let whole : WellFormed B M (history_of o (((es ++ s.front) ++ s.look ∷ []) ++ s.rest)) =
             subst (λ fs. WellFormed B M (history_of o fs)) (sym all) run in
             let front_run : WellFormed B M (history_of o (es ++ s.front)) = kept-front B M o (es ++ s.front) (s.look ∷ s.rest)
             (subst (λ fs. WellFormed B M (history_of o fs)) (append_assoc (es ++ s.front) (s.look ∷ []) s.rest) whole) in
-            let before : executed h s.front ≤ g.sight = hart-looking es s.front front_run s.blind in
+            let before : executed h s.front ≤ g.sight = hart-looking lacks so es s.front front_run s.blind in
             let less : lack g.owned ((es ++ s.front) ++ s.look ∷ []) < lack g.owned es = s.fewer in
             let rest : executed h s.rest ≤ g.pace + m * (g.sight + 1) =
             later ((es ++ s.front) ++ s.look ∷ []) s.rest (omega (arith, less, few)) whole s.stuck in
@@ -315,10 +346,10 @@ module _ (B M : ℕ) (o : OpeningValue) (c : QueueCertificate) (ok : accepts o c
             → EachAfter h (IsHartStuck c h g.owned) es row → executed h row ≤ g.pace + m * (g.sight + 1))
             → executed h row ≤ g.pace + suc m * (g.sight + 1)
         by true all later = idle (suc m) es row run each all
-        by false lacks later = elim (split g.owned row es lacks each) [
+        by false lacks later = elim (split g.owned (lacked es) row es (lacked-waits es) each) [
           | inl blind ↦ short (executed h row) g.sight g.pace (m * (g.sight + 1)) (suc m * (g.sight + 1)) (suc-mul m (g.sight + 1))
-              (hart-looking es row run blind)
-          | inr s ↦ after s later
+              (hart-looking (lacked es) (lacked-sees es lacks) es row run blind)
+          | inr s ↦ after (lacked es) (lacked-sees es lacks) s later
         ]
 
     -- it lacks no more queues than it has

@@ -1,6 +1,7 @@
 -- A hart that is a party of several queues with indices: what its instructions do for all of them together.
-use Rattle.std.specs.Prelude.{ℕ, zero, suc, ◌≡◌, ◌+◌, ◌<◌, ◌++◌, ◌&&◌, ◌||◌, not, nat_le, nat_lt, if◌then◌else◌, Bool, true, false}
+use Rattle.std.specs.Prelude.{ℕ, zero, suc, ◌≡◌, ◌==◌, ◌+◌, ◌<◌, ◌++◌, ◌&&◌, ◌||◌, not, nat_le, nat_lt, if◌then◌else◌, Bool, true, false}
 use Rattle.std.specs.Prelude.{Option, None, Some, List, [], ◌∷◌, map, length}
+use Rattle.std.specs.List.{list_any}
 use Rattle.std.specs.Option.{is_some}
 use Rattle.rv_decode.specs.declared.instruction.Instr.{Instr}
 use Rattle.step_machine.specs.declared.events.Entry.{Entry}
@@ -11,12 +12,13 @@ use Rattle.slot_queue.specs.Queues.{Queue}
 use Rattle.slot_queue.specs.Ownership.{hart, party_of, counts_next, end}
 use Rattle.queue_certificates.specs.Forms.{Form, fits_in}
 use Rattle.queue_certificates.specs.States.{KnownState}
-use Rattle.queue_certificates.specs.Steps.{all_below, is_just, share_at, instruction_at}
+use Rattle.queue_certificates.specs.Steps.{all_below, share_at, instruction_at}
 use Rattle.queue_certificates.specs.Cases.{Arrow}
 use Rattle.queue_certificates.specs.Certificates.{QueueCertificate, queue_at, part_of}
 use Rattle.queue_checker.specs.Accesses.{any_below}
 use Rattle.queue_progress.specs.declared.pace.Pace.{Pace}
 use Rattle.queue_progress.specs.Graphs.{Stay, may_own_more, looks_away, are_within}
+use Rattle.queue_progress.specs.Longest.{longest}
 use Rattle.queue_progress.specs.Stays.{code_of, moves, most_owned, looks, targets}
 use Rattle.queue_progress.specs.Shown.{at_leaves}
 use Rattle.queue_progress.specs.Rows.{counts_at, LooksBy}
@@ -50,34 +52,43 @@ abbrev pub least_capacity : QueueCertificate → (h n : ℕ) → Option ℕ
 least_capacity c h zero = None
 least_capacity c h (suc n) = lesser (if is_side c h n then Some (queue_at c n).capacity else None) (least_capacity c h n)
 
--- it surely owns more than K positions of each of its queues, or of each but one
-abbrev pub surely_owns : QueueCertificate → (h K : ℕ) → (but : Option ℕ) → KnownState → Bool
-surely_owns c h K but k = all_below (length c.queues) (λ i. is_just but i || not (is_side c h i) || nat_lt K (share_at k i).owned.constant)
+-- ---- where it lacks some of its queues: it owns at most K positions of just these
 
--- it looks at a queue of which it surely owns at most K positions, or alone of all its queues may
-abbrev pub looks_at_need : QueueCertificate → (h K i : ℕ) → KnownState → Option Instr → Bool
-looks_at_need c h K i k instruction = is_side c h i && looks c h i k instruction
-    && (fits_in (most_owned i k) (Some K) || surely_owns c h K (Some i) k)
+abbrev pub is_among : List ℕ → (i : ℕ) → Bool
+is_among lacks i = list_any (λ j. j == i) lacks
 
--- and where it may own at most K positions of a queue, it looks at one of those
-abbrev pub looks_where_needed : QueueCertificate → (h K : ℕ) → KnownState → Option Instr → Bool
-looks_where_needed c h K k instruction = surely_owns c h K None k || any_below (length c.queues) (λ i. looks_at_need c h K i k instruction)
+-- of queue i it surely owns more, or it looks at it, if it lacks it; if it doesn't, it surely owns no more
+abbrev pub differs_at : QueueCertificate → (h K i : ℕ) → (lacks : Bool) → KnownState → Option Instr → Bool
+differs_at c h K i true k instruction = nat_lt K (share_at k i).owned.constant || looks c h i k instruction
+differs_at c h K i false k instruction = fits_in (most_owned i k) (Some K)
 
-abbrev pub hart_stays_at : QueueCertificate → (h K : ℕ) → (code : List ℕ) → KnownState → Form → List Arrow → List Stay
-hart_stays_at c h K code k d arrows = if moves_some c h code k d then [] else record {
+-- so of a queue: then it doesn't lack just these, or looks at one of them
+abbrev pub differs : QueueCertificate → (h K : ℕ) → (lacks : List ℕ) → KnownState → Option Instr → Bool
+differs c h K lacks k instruction =
+    any_below (length c.queues) (λ i. is_side c h i && differs_at c h K i (is_among lacks i) k instruction)
+
+abbrev pub hart_stays_at : QueueCertificate → (h K : ℕ) → (lacks : List ℕ) → (code : List ℕ) → KnownState → Form → List Arrow → List Stay
+hart_stays_at c h K lacks code k d arrows = if moves_some c h code k d then [] else record {
   owned = fewest_owned c h (length c.queues) k;
-  looks = looks_where_needed c h K k (instruction_at code k.pc);
+  looks = differs c h K lacks k (instruction_at code k.pc);
   to = targets arrows;
 } ∷ []
 
-abbrev pub hart_graph : OpeningValue → QueueCertificate → (h K : ℕ) → List (List Stay)
-hart_graph o c h K = map (λ t. at_leaves (hart_stays_at c h K (code_of o h)) t.known t.cases) (part_of c h).states
+abbrev pub hart_graph : OpeningValue → QueueCertificate → (h K : ℕ) → (lacks : List ℕ) → List (List Stay)
+hart_graph o c h K lacks = map (λ t. at_leaves (hart_stays_at c h K lacks (code_of o h)) t.known t.cases) (part_of c h).states
 
--- At most `pace` of its instructions in a row move none of its counts while it owns more than K positions of each of its queues; and at most
--- `sight` while it owns at most K of one, and loads the other's index of none of which it does
+-- where it lacks these, and some of the first n of its queues; it is never asked about none
+abbrev pub each_lacking : QueueCertificate → (h n : ℕ) → (lacks : List ℕ) → (Is : List ℕ → Bool) → Bool
+each_lacking c h zero [] Is = true
+each_lacking c h zero (i ∷ lacks) Is = Is (i ∷ lacks)
+each_lacking c h (suc n) lacks Is =
+    each_lacking c h n lacks Is && (if is_side c h n then each_lacking c h n (n ∷ lacks) Is else true)
+
+-- At most `pace` of its instructions in a row move none of its counts while it owns more than K positions of each of its queues. And whichever
+-- of its queues it lacks, at most `sight` do so and look at none of those
 abbrev pub hart_keeps_going : OpeningValue → QueueCertificate → (h : ℕ) → Pace → Bool
-hart_keeps_going o c h g = are_within (may_own_more g.owned) (hart_graph o c h g.owned) g.pace
-    && are_within looks_away (hart_graph o c h g.owned) g.sight
+hart_keeps_going o c h g = are_within (may_own_more g.owned) (hart_graph o c h g.owned []) g.pace
+    && each_lacking c h (length c.queues) [] (λ lacks. fits_in (longest looks_away (hart_graph o c h g.owned lacks)) (Some g.sight))
 
 -- ---- an entry of the hart's, by those before it
 
@@ -106,9 +117,9 @@ pub record IsHartIdle (c : QueueCertificate) (h K : ℕ) (es : List Entry) (e : 
   pub stays : LeavesCounts c h es e
   pub owns : has_more_of_all c h K es ≡ true
 
-pub record IsHartBlind (c : QueueCertificate) (h K : ℕ) (es : List Entry) (e : Entry) : Type 0 where
+pub record IsHartBlind (c : QueueCertificate) (h K : ℕ) (lacks : List ℕ) (es : List Entry) (e : Entry) : Type 0 where
   pub stays : LeavesCounts c h es e
-  pub waits : has_more_of_all c h K es ≡ false
+  pub waits : (i : ℕ) → i < length c.queues → has_more c h K es i ≡ not (is_among lacks i)
   pub unseen : HasMoreWhereItLooks c h K es e
 
 pub record IsHartStuck (c : QueueCertificate) (h K : ℕ) (es : List Entry) (e : Entry) : Type 0 where

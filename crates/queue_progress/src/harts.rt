@@ -1,14 +1,15 @@
 //! What an instruction of a hart does for all queues of which the hart is a party, as its leaf says.
 
-ghost use Rattle.std.specs.Prelude.{◌≡◌, ◌||◌, not, nat_lt, if◌then◌else◌, None, IfOk, length};
-ghost use Rattle.queue_certificates.specs.Steps.{is_just, share_at, instruction_at};
+ghost use Rattle.std.specs.Prelude.{◌≡◌, nat_lt, if◌then◌else◌, None, IfOk, length};
+ghost use Rattle.queue_certificates.specs.Steps.{share_at, instruction_at};
 ghost use Rattle.queue_progress.specs.Stays.{most_owned};
-ghost use Rattle.queue_progress.specs.Harts.{is_side, moves_some, lesser, fewest_owned, least_capacity, surely_owns, looks_at_need};
-ghost use Rattle.queue_progress.specs.Harts.{looks_where_needed, hart_graph};
+ghost use Rattle.queue_progress.specs.Harts.{is_side, sides, moves_some, lesser, fewest_owned, least_capacity, is_among, differs_at, differs};
+ghost use Rattle.queue_progress.specs.Harts.{hart_graph};
 
 use crate::graphing::{LeafStays, graph_by};
 use crate::graphs::{Node, Stay};
 use crate::stays::{follow_further, looks, most_owned, targets};
+use known_values::lack::sum;
 use known_values::queues::queue_in;
 use known_values::ranges::fits_in;
 use known_values::{Form, Lack};
@@ -21,16 +22,17 @@ use queue_checker::{Arrow, KnownState, QueueCertificate, Share};
 use std::alloc::Global;
 use step_machine::Opening;
 
-/// A hart with its code, and how many positions of a queue it may own while it waits.
+/// A hart with its code, how many positions of a queue it may own while it waits, and the queues of which it owns no more.
 #[derive(Clone, Copy)]
 struct Waiting<'a> {
     certificate: &'a QueueCertificate,
     code: &'a [u32],
     hart: u32,
     owned: u64,
+    lacks: &'a [u32],
 }
 
-fn is_side(certificate: &QueueCertificate, hart: u32, i: u32) -> bool
+pub(crate) fn is_side(certificate: &QueueCertificate, hart: u32, i: u32) -> bool
     ensures { result ≡ is_side certificate.now hart i }
 {
     let queue = queue_in(&certificate.queues, i);
@@ -107,6 +109,23 @@ fn fewest_owned(
     Ok(fewest)
 }
 
+fn one_if(is: bool) -> u64
+    ensures { result ≡ (if is then 1 else 0) }
+{
+    if is { 1 } else { 0 }
+}
+
+/// Of how many queues with indices a hart is a party.
+pub fn sides(certificate: &QueueCertificate, hart: u32) -> Result<u64, Lack>
+    ensures { IfOk result (λ n. n ≡ sides certificate.now hart (length certificate.now.queues)) }
+{
+    let mut count = 0;
+    for i in 0..small(certificate.queues.len())? {
+        count = sum(one_if(is_side(certificate, hart, i)), count)?;
+    }
+    Ok(count)
+}
+
 /// The least capacity of its queues.
 pub(crate) fn least_capacity(certificate: &QueueCertificate, hart: u32) -> Result<Option<u64>, Lack>
     ensures { IfOk result (λ capacity. capacity ≡ least_capacity certificate.now hart (length certificate.now.queues)) }
@@ -124,13 +143,10 @@ pub(crate) fn least_capacity(certificate: &QueueCertificate, hart: u32) -> Resul
     Ok(least)
 }
 
-fn is_just(one: Option<u32>, i: u32) -> bool
-    ensures { result ≡ is_just one i }
+fn is_among(lacks: &[u32], i: u32) -> bool
+    ensures { result ≡ is_among lacks.now i }
 {
-    match one {
-        None => false,
-        Some(n) => n == i,
-    }
+    lacks.iter().any(|j| *j == i)
 }
 
 fn surely_owns_more(owned: u64, share: &Share) -> bool
@@ -139,81 +155,47 @@ fn surely_owns_more(owned: u64, share: &Share) -> bool
     owned < share.owned.constant
 }
 
-/// Whether it surely owns more positions of queue `i`, or is no party of it, or that is the one that doesn't count.
-fn owns_of(
+/// Whether it surely owns more positions of queue `i`, or looks at it, if it lacks it; if it doesn't, whether it surely owns no more.
+fn differs_at(
     alloc: Global,
     waiting: &Waiting<'_>,
-    but: Option<u32>,
     state: &KnownState,
     i: u32,
+    lacks: bool,
 ) -> Result<bool, Lack>
-    ensures { IfOk result (λ owns. owns ≡ (is_just but i || not (is_side waiting.now.certificate.now waiting.now.hart i)
-        || nat_lt waiting.now.owned (share_at state.now i).owned.constant)) }
+    ensures { IfOk result (λ apart. apart ≡ differs_at waiting.now.certificate.now waiting.now.hart waiting.now.owned i lacks state.now
+        (instruction_at waiting.now.code.now state.now.pc)) }
 {
-    let share = share_in(alloc, &state.shares, i as usize)?;
-    let aside = is_just(but, i);
-    let side = is_side(waiting.certificate, waiting.hart, i);
-    let more = surely_owns_more(waiting.owned, &share);
-    Ok(aside || !side || more)
-}
-
-/// Whether it surely owns more positions of each of its queues, or of each but one.
-fn surely_owns(
-    alloc: Global,
-    waiting: &Waiting<'_>,
-    but: Option<u32>,
-    state: &KnownState,
-) -> Result<bool, Lack>
-    ensures { IfOk result (λ owns. owns ≡ surely_owns waiting.now.certificate.now waiting.now.hart waiting.now.owned but state.now) }
-{
-    let certificate = waiting.certificate;
-    let mut all = true;
-    for i in 0..small(certificate.queues.len())? {
-        all = owns_of(alloc, waiting, but, state, i)? && all;
+    if lacks {
+        let share = share_in(alloc, &state.shares, i as usize)?;
+        let instruction = instruction_at(waiting.code, state.pc);
+        let (certificate, hart) = (waiting.certificate, waiting.hart);
+        let sees = looks(alloc, certificate, hart, i, state, instruction)?;
+        Ok(surely_owns_more(waiting.owned, &share) || sees)
+    } else {
+        Ok(fits_in(most_owned(alloc, i, state)?, Some(waiting.owned)))
     }
-    Ok(all)
 }
 
-/// Whether it looks at a queue of which it surely owns no more, or alone of all its queues may.
-fn looks_at_need(
-    alloc: Global,
-    waiting: &Waiting<'_>,
-    state: &KnownState,
-    i: u32,
-) -> Result<bool, Lack>
-    ensures { IfOk result (λ needs. needs ≡ looks_at_need waiting.now.certificate.now waiting.now.hart waiting.now.owned i state.now
-        (instruction_at waiting.now.code.now state.now.pc)) }
-{
-    let (certificate, hart) = (waiting.certificate, waiting.hart);
-    let instruction = instruction_at(waiting.code, state.pc);
-    let sees = looks(alloc, certificate, hart, i, state, instruction)?;
-    let few = fits_in(most_owned(alloc, i, state)?, Some(waiting.owned));
-    let alone = surely_owns(alloc, waiting, Some(i), state)?;
-    Ok(is_side(certificate, hart, i) && sees && (few || alone))
-}
-
-/// Whether it looks at a queue where it may own no more of one.
-fn looks_where_needed(
-    alloc: Global,
-    waiting: &Waiting<'_>,
-    state: &KnownState,
-) -> Result<bool, Lack>
-    ensures { IfOk result (λ looks. looks ≡ looks_where_needed waiting.now.certificate.now waiting.now.hart waiting.now.owned state.now
+/// Whether that is so of a queue: then it doesn't lack just these, or looks at one of them.
+fn differs(alloc: Global, waiting: &Waiting<'_>, state: &KnownState) -> Result<bool, Lack>
+    ensures { IfOk result (λ apart. apart ≡ differs waiting.now.certificate.now waiting.now.hart waiting.now.owned waiting.now.lacks.now state.now
         (instruction_at waiting.now.code.now state.now.pc)) }
 {
     let certificate = waiting.certificate;
-    let sure = surely_owns(alloc, waiting, None, state)?;
     let mut some = false;
     for i in 0..small(certificate.queues.len())? {
-        some = looks_at_need(alloc, waiting, state, i)? || some;
+        let lacks = is_among(waiting.lacks, i);
+        let apart = differs_at(alloc, waiting, state, i, lacks)?;
+        some = (is_side(certificate, waiting.hart, i) && apart) || some;
     }
-    Ok(sure || some)
+    Ok(some)
 }
 
 impl LeafStays for Waiting<'_> {
     ghost use Rattle.queue_progress.specs.Harts.{hart_stays_at as stays_of};
 
-    ghost stays = { λ w. stays_of w.certificate.now w.hart w.owned w.code.now };
+    ghost stays = { λ w. stays_of w.certificate.now w.hart w.owned w.lacks.now w.code.now };
 
     fn push(
         &self,
@@ -226,7 +208,7 @@ impl LeafStays for Waiting<'_> {
         if !moves_some(alloc, self, state, handed)? {
             out.push(Stay {
                 owned: fewest_owned(alloc, self.certificate, self.hart, state)?,
-                looks: looks_where_needed(alloc, self, state)?,
+                looks: differs(alloc, self, state)?,
                 to: targets(alloc, arrows)?,
             })?;
         }
@@ -234,21 +216,23 @@ impl LeafStays for Waiting<'_> {
     }
 }
 
-/// The graph of a hart for all its queues together.
+/// The graph of a hart for all its queues together, where it lacks these.
 pub(crate) fn hart_graph(
     alloc: Global,
     opening: &Opening,
     certificate: &QueueCertificate,
     hart: u32,
     owned: u64,
+    lacks: &[u32],
 ) -> Result<Vec<Node>, Lack>
-    ensures { IfOk result (λ graph. graph.items ≡ hart_graph opening.now certificate.now hart owned) }
+    ensures { IfOk result (λ graph. graph.items ≡ hart_graph opening.now certificate.now hart owned lacks.now) }
 {
     let waiting = Waiting {
         certificate,
         code: code_of(opening, hart),
         hart,
         owned,
+        lacks,
     };
     graph_by(alloc, &waiting, listed_states(certificate, hart))
 }

@@ -39,6 +39,7 @@ ghost use Rattle.queue_progress.specs.declared.pace.ToldProgress.TheVariants.{Wi
 ghost use Rattle.queue_progress.specs.Told.{slots_at, teller_at, told_counts_at, IsToldStuck, TagsHaveLanded};
 ghost use Rattle.queue_progress.specs.Told.{told_graph, told_within, told_progress_of, ToldArrives, ToldArrivesOrEnds};
 
+pub use harts::sides;
 pub use judging::{hart_progress_of, progress_of};
 pub use pace::{Pace, Progress, ToldProgress};
 pub use told::told_progress_of;

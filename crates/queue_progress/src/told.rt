@@ -166,7 +166,7 @@ fn told_graph(
     graph_by(alloc, &teller, listed_states(certificate, hart))
 }
 
-fn told_progress_in(alloc: Global, graph: &[Node]) -> Result<ToldProgress, Lack>
+pub(crate) fn told_progress_in(alloc: Global, graph: &[Node]) -> Result<ToldProgress, Lack>
     ensures { IfOk result (λ progress. progress ≡ told_progress_in graph.now) }
 {
     match rounds_of(alloc, Kind::Blind, graph)?.longest {
