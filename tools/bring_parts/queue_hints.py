@@ -33,6 +33,8 @@ QUEUE = re.compile(r"^(queue|tagged) (.*)$", re.MULTILINE)
 UNWRITTEN = re.compile(r"^queue [0-9]+: not shown that bytes? .* written: ", re.MULTILINE)
 # a party that isn't shown to go on, the indices that each moves and looks at, and what keeps a compiler from dropping a look
 STUCK = re.compile(r"^queue ([0-9]+): not shown that hart ([0-9]+) (publishes|takes), or (finds|looks) ", re.MULTILINE)
+# one that goes on in all its queues together
+TOGETHER = re.compile(r"^queue [0-9]+: hart ([0-9]+) moves on in this or another of its queues, ", re.MULTILINE)
 INDICES = {"publishes": ("head", "tail"), "takes": ("tail", "head")}
 VOLATILE = "declare it volatile or atomic"
 # to which length longer runs are proposed, how many of them, and to how many counts an index is thought to turn in one
@@ -43,6 +45,11 @@ def queues_of(certificate):
     """The queues of a certificate's text."""
     kinds = {"queue": lambda words: Queue(*map(int, words)), "tagged": tags.of_words}
     return [kinds[kind](words.split()) for kind, words in QUEUE.findall(certificate)]
+
+
+def queues_with(hart, certificate):
+    """The numbers of the queues of which a hart is a party."""
+    return [str(at) for at, queue in enumerate(queues_of(certificate)) if hart in (queue.sender, queue.receiver)]
 
 
 def states_of(certificate, hart):
@@ -188,9 +195,9 @@ def looks_of(number, hart, text, certificate):
 def of_party(number, hart, moves, missed, text, certificate):
     """A line for a party that isn't shown to go on, by its code, or None."""
     own, other = INDICES[moves]
-    of_hart = [str(at) for at, queue in enumerate(queues_of(certificate)) if hart in (queue.sender, queue.receiver)]
+    of_hart = queues_with(hart, certificate)
     if len(of_hart) > 1:
-        return f"hart {hart} is a party of queues {listed(of_hart)}, and each is asked by itself: where it may wait for another, ask with --safety"
+        return f"hart {hart} is a party of queues {listed(of_hart)}: where it may wait for another, ask with --safety"
     if not states_of(certificate, hart)[1]:
         return f"no instruction of hart {hart} moves {own} of queue {number}: if the compiler dropped the store, {VOLATILE}"
     if missed == "finds":
@@ -201,7 +208,14 @@ def of_party(number, hart, moves, missed, text, certificate):
     return f"hart {hart} looks at {other} of queue {number} only at pc {' and '.join(map(str, pcs))}, and waits without a look: {VOLATILE}"
 
 
+def of_several(hart, certificate):
+    """A line for a party of several queues, which goes on in them together or has to wait for one."""
+    return (f"hart {hart} is a party of queues {listed(queues_with(hart, certificate))}, and whether all harts wait for one another isn't decided: "
+            "--safety asks for the protocol alone")
+
+
 def of_stuck(answer, text, certificate):
     """Lines for the parties of an answer that aren't shown to go on, where their code says why. `text` is the litmus text."""
     found = [of_party(int(number), int(hart), moves, missed, text, certificate) for number, hart, moves, missed in STUCK.findall(answer)]
+    found += [of_several(int(hart), certificate) for hart in TOGETHER.findall(answer)]
     yield from dict.fromkeys(line for line in found if line)

@@ -1,5 +1,6 @@
 -- What is shown of whether queues go on, where the certificate is accepted.
-use Rattle.std.proofs.Common.{arith, ◌≡◌, ℕ, ◌+◌, ◌<◌, ◌≤◌, Bool, true, false, List, ◌++◌, length, refl}
+use Rattle.std.proofs.Common.{arith, ◌≡◌, ℕ, ◌+◌, ◌*◌, ◌<◌, ◌≤◌, Bool, true, false, List, ◌++◌, length, refl}
+use Rattle.std.specs.Prelude.{Option, None, Some, if◌then◌else◌}
 use Rattle.std.proofs.lemmas.Bool.{and_parts, ltb-true}
 use Rattle.step_machine.specs.declared.events.Entry.{Entry}
 use Rattle.step_machine.specs.History.{OpeningValue, history_of}
@@ -16,11 +17,16 @@ use Rattle.queue_progress.specs.declared.pace.Progress.TheVariants.{GoesOn, NoPa
 use Rattle.queue_progress.specs.declared.pace.ToldProgress.{ToldProgress}
 use Rattle.queue_progress.specs.declared.pace.ToldProgress.TheVariants.{Within, Endless}
 use Rattle.queue_progress.specs.Rows.{EachAfter, EachOwn, HaveLanded, IsStuckStep, all_moved, counts_at, executed}
-use Rattle.queue_progress.specs.Progress.{progress_of}
+use Rattle.queue_progress.specs.Harts.{IsHartStuck, hart_keeps_going, sides}
+use Rattle.queue_progress.specs.Progress.{hart_progress_of, progress_of}
 use Rattle.queue_progress.specs.Shown.{keeps_going}
 use Rattle.queue_progress.specs.Told.{IsToldStuck, TagsHaveLanded, slots_at, teller_at, told_counts_at, told_progress_of, told_within}
 use Rattle.certifying.specs.Going.{all_going, is_going, is_moving, is_told_going, is_within}
-use Rattle.certifying.specs.Kept.{KeepsGoing, PartyGoesOn, ProgressHolds, QueueGoesOn, QueueMoves, TellerGoesOn, TellersGoOn, TellersMove}
+use Rattle.certifying.specs.Kept.{HartGoesOn, KeepsGoing, PartyGoesOn, ProgressHolds, QueueGoesOn, QueueMoves, TellerGoesOn, TellersGoOn, TellersMove}
+use Rattle.certifying.specs.Together.{are_several, bound_of, pace_of, pace_together, party_by, party_progress}
+use Rattle.certifying.specs.declared.together.Bound.{Bound}
+use Rattle.certifying.specs.declared.together.PartyProgress.{PartyProgress}
+use Rattle.certifying.specs.declared.together.PartyProgress.TheVariants as party
 
 -- what queue_progress promises of an accepted certificate
 pub record GoingLaws : Type 0 where
@@ -34,6 +40,11 @@ pub record GoingLaws : Type 0 where
       → keeps_going o c (queue_at c i).receiver i r ≡ true → (es row : List Entry) → WellFormed B M (history_of o (es ++ row))
       → HaveLanded (queue_at c i) o es (counts_at c i es) → s.pace + s.sight + 2 ≤ executed (queue_at c i).sender row
       → r.pace + r.sight + 2 ≤ executed (queue_at c i).receiver row → all_moved (counts_at c i es) < all_moved (counts_at c i (es ++ row))
+  pub hart_shown : (o : OpeningValue) (c : QueueCertificate) (h : ℕ) (pace : Pace) → hart_progress_of o c h ≡ GoesOn pace
+      → hart_keeps_going o c h pace ≡ true
+  pub hart_going : (B M : ℕ) (o : OpeningValue) (c : QueueCertificate) → accepts o c ≡ true → (h : ℕ) (pace : Pace)
+      → hart_keeps_going o c h pace ≡ true → (es row : List Entry) → WellFormed B M (history_of o (es ++ row))
+      → EachAfter h (IsHartStuck c h pace.owned) es row → executed h row ≤ pace.pace + sides c h (length c.queues) * (pace.sight + 1)
   pub told_shown : (o : OpeningValue) (c : QueueCertificate) (h t N : ℕ) → told_progress_of o c h t ≡ Within N → told_within o c h t N ≡ true
   pub told_going : (B M : ℕ) (o : OpeningValue) (c : QueueCertificate) → accepts o c ≡ true → (t : ℕ) (p : Party) → t < length c.tagged
       → (N : ℕ) → told_within o c (teller_at c t p) t N ≡ true → (es row : List Entry) → WellFormed B M (history_of o (es ++ row))
@@ -43,30 +54,57 @@ pub record GoingLaws : Type 0 where
       → WellFormed B M (history_of o (es ++ row)) → TagsHaveLanded (slots_at c t) es → s < executed (teller_at c t the_sender) row
       → r < executed (teller_at c t the_receiver) row → all_moved (told_counts_at c t es) < all_moved (told_counts_at c t (es ++ row))
 
--- both parties go on, and wait for few enough positions
-record AreMoving (q : Queue) (sender receiver : Progress) : Type 0 where
-  sends : Pace
-  receives : Pace
-  sender_is : sender ≡ GoesOn sends
-  receiver_is : receiver ≡ GoesOn receives
+-- both parties go on by this queue's numbers, and wait for few enough positions
+record AreMoving (q : Queue) (sender receiver : PartyProgress) : Type 0 where
+  sends : Bound
+  receives : Bound
+  sender_is : sender ≡ party.Alone sends
+  receiver_is : receiver ≡ party.Alone receives
   few : sends.owned + receives.owned < q.capacity
 
-moving : (q : Queue) (sender receiver : Progress) → is_moving q sender receiver ≡ true → AreMoving q sender receiver
-moving q (GoesOn s) (GoesOn r) is =
+moving : (q : Queue) (sender receiver : PartyProgress) → is_moving q sender receiver ≡ true → AreMoving q sender receiver
+moving q (party.Alone s) (party.Alone r) is =
     record { sends = s; receives = r; sender_is = refl; receiver_is = refl; few = ltb-true (s.owned + r.owned) q.capacity is }
-moving q (GoesOn s) (NoPace n) is = absurd (cc)
-moving q (GoesOn s) (NoLook n) is = absurd (cc)
-moving q (NoPace n) r is = absurd (cc)
-moving q (NoLook n) r is = absurd (cc)
+moving q (party.Alone s) (party.Together r) is = absurd (cc)
+moving q (party.Alone s) (party.NoPace n) is = absurd (cc)
+moving q (party.Alone s) (party.NoLook n) is = absurd (cc)
+moving q (party.Together s) r is = absurd (cc)
+moving q (party.NoPace n) r is = absurd (cc)
+moving q (party.NoLook n) r is = absurd (cc)
+
+-- a party that goes on in this queue has a pace there
+record HasPace (found : Progress) (bound : Bound) : Type 0 where
+  pace : Pace
+  is : found ≡ GoesOn pace
+  owns : pace.owned ≡ bound.owned
+
+alone : (c : QueueCertificate) (h : ℕ) (found : Progress) (together : Option Pace) (bound : Bound) → party_by c h found together ≡ party.Alone bound
+    → HasPace found bound
+alone c h (GoesOn g) together bound is =
+    let same : party.Alone (record { owned = g.owned; within = bound_of g }) ≡ party.Alone bound = is in
+    record { pace = g; is = refl; owns = cc }
+alone c h (NoPace n) None bound is = absurd (cc)
+alone c h (NoPace n) (Some g) bound is = absurd (cc)
+alone c h (NoLook n) None bound is = absurd (cc)
+alone c h (NoLook n) (Some g) bound is = absurd (cc)
+
+paced : (found : Progress) (pace : Pace) → pace_of found ≡ Some pace → found ≡ GoesOn pace
+paced (GoesOn g) pace is = cc
+paced (NoPace n) pace is = absurd (cc)
+paced (NoLook n) pace is = absurd (cc)
+
+chosen : {A : Type 0} (several : Bool) (found : Option A) (x : A) → (if several then found else None) ≡ Some x → found ≡ Some x
+chosen true found x is = is
+chosen false found x is = absurd (cc)
 
 some-within : (progress : ToldProgress) → is_within progress ≡ true → (N : ℕ) × (progress ≡ Within N)
 some-within (Within N) is = (N, refl)
 some-within (Endless n) is = absurd (cc)
 
 module _ (o : OpeningValue) (c : QueueCertificate) (laws : GoingLaws) (accepted : accepts o c ≡ true) where
-  party : (i : ℕ) → i < length c.queues → (p : Party) (pace : Pace) → progress_of o c (hart (queue_at c i) p) i ≡ GoesOn pace
+  party_goes : (i : ℕ) → i < length c.queues → (p : Party) (pace : Pace) → progress_of o c (hart (queue_at c i) p) i ≡ GoesOn pace
       → PartyGoesOn o c i p pace
-  party i less p pace found B M es row formed stuck =
+  party_goes i less p pace found B M es row formed stuck =
       let most : executed (hart (queue_at c i) p) row ≤ pace.pace + pace.sight + 1 =
       laws.going B M o c accepted i p less pace (laws.shown o c (hart (queue_at c i) p) i pace found) es row formed stuck in
       omega (arith, most)
@@ -75,6 +113,19 @@ module _ (o : OpeningValue) (c : QueueCertificate) (laws : GoingLaws) (accepted 
       → progress_of o c (queue_at c i).receiver i ≡ GoesOn r → s.owned + r.owned < (queue_at c i).capacity → QueueMoves o c i s r
   both i less s r sender receiver few B M es row formed landed enough also = laws.stands B M o c accepted i less s r few
       (laws.shown o c (queue_at c i).sender i s sender) (laws.shown o c (queue_at c i).receiver i r receiver) es row formed landed enough also
+
+  hart_together : (h : ℕ) (pace : Pace) → pace_together o c h ≡ Some pace → HartGoesOn o c h pace
+  unfolding pace_together
+  hart_together h pace found B M es row formed stuck =
+      let several = are_several (sides c h (length c.queues)) in
+      let goes : hart_progress_of o c h ≡ GoesOn pace = paced (hart_progress_of o c h) pace (chosen several (pace_of (hart_progress_of o c h)) pace found) in
+      let most : executed h row ≤ pace.pace + sides c h (length c.queues) * (pace.sight + 1) =
+      laws.hart_going B M o c accepted h pace (laws.hart_shown o c h pace goes) es row formed stuck in
+      omega (arith, most)
+
+  alone_in : (h i : ℕ) (bound : Bound) → party_progress o c h i ≡ party.Alone bound → HasPace (progress_of o c h i) bound
+  unfolding party_progress
+  alone_in h i bound is = alone c h (progress_of o c h i) (pace_together o c h) bound is
 
   teller : (t : ℕ) → t < length c.tagged → (p : Party) (N : ℕ) → told_progress_of o c (teller_at c t p) t ≡ Within N → TellerGoesOn o c t p N
   teller t less p N found B M es row formed stuck =
@@ -89,21 +140,24 @@ module _ (o : OpeningValue) (c : QueueCertificate) (laws : GoingLaws) (accepted 
       (omega (arith, enough)) (omega (arith, also))
 
   pub progress-holds : (asked : Bool) → ProgressHolds asked o c
-  progress-holds true = (party, both, (teller, tellers))
+  progress-holds true = (party_goes, both, hart_together, (teller, tellers))
   progress-holds false = tt
 
   queue-goes : (i : ℕ) → i < length c.queues → is_going o c i ≡ true → QueueGoesOn o c i
   unfolding is_going
   queue-goes i less is =
-      let m = moving (queue_at c i) (progress_of o c (queue_at c i).sender i) (progress_of o c (queue_at c i).receiver i) is in
+      let m = moving (queue_at c i) (party_progress o c (queue_at c i).sender i) (party_progress o c (queue_at c i).receiver i) is in
+      let s = alone_in (queue_at c i).sender i m.sends m.sender_is in
+      let r = alone_in (queue_at c i).receiver i m.receives m.receiver_is in
+      let few : s.pace.owned + r.pace.owned < (queue_at c i).capacity = omega (arith, s.owns, r.owns, m.few) in
       record {
-        sends = m.sends;
-        receives = m.receives;
-        sender_found = m.sender_is;
-        receiver_found = m.receiver_is;
-        sender_goes = party i less the_sender m.sends m.sender_is;
-        receiver_goes = party i less the_receiver m.receives m.receiver_is;
-        moves = both i less m.sends m.receives m.sender_is m.receiver_is m.few;
+        sends = s.pace;
+        receives = r.pace;
+        sender_found = s.is;
+        receiver_found = r.is;
+        sender_goes = party_goes i less the_sender s.pace s.is;
+        receiver_goes = party_goes i less the_receiver r.pace r.is;
+        moves = both i less s.pace r.pace s.is r.is few;
       }
 
   -- both parties of a queue with tags go on

@@ -7,15 +7,15 @@ use Rattle.queue_certificates.specs.Certificates.{QueueCertificate, queue_at, ta
 use Rattle.queue_certificates.specs.Steps.{all_below}
 use Rattle.queue_checker.specs.declared.flaws.Flaw.TheVariants.{State}
 use Rattle.certificate_reader.specs.Known.{known_at}
-use Rattle.queue_progress.specs.declared.pace.Pace.{Pace}
-use Rattle.queue_progress.specs.declared.pace.Progress.{Progress}
-use Rattle.queue_progress.specs.declared.pace.Progress.TheVariants.{GoesOn, NoPace, NoLook}
 use Rattle.queue_progress.specs.declared.pace.ToldProgress.{ToldProgress}
 use Rattle.queue_progress.specs.declared.pace.ToldProgress.TheVariants.{Within, Endless}
-use Rattle.queue_progress.specs.Progress.{progress_of}
 use Rattle.queue_progress.specs.Told.{told_progress_of}
 use Rattle.engine_support.specs.OpeningTexts.{numbered}
+use Rattle.certifying.specs.Together.{party_progress, party_told, together_line}
 use Rattle.certifying.specs.Unread.{pc_place}
+use Rattle.certifying.specs.declared.together.Bound.{Bound}
+use Rattle.certifying.specs.declared.together.PartyProgress.{PartyProgress}
+use Rattle.certifying.specs.declared.together.PartyProgress.TheVariants.{Alone, Together, NoPace, NoLook}
 
 -- ---- of one party of queue i, hart h: whether it sends, and its other party
 
@@ -42,12 +42,8 @@ few_text sends n = if n == 0 then none_text sends else if n == 1 then one_text s
 unfoldable pub within_end : (n other : ℕ) → List ℕ
 within_end n other = codes ", within " ++ (decimal n ++ (codes " of its instructions, whatever hart " ++ (decimal other ++ (codes " does" ++ 10 ∷ []))))
 
--- of this number of its instructions in a row one does
-abbrev pub bound_of : Pace → ℕ
-bound_of pace = pace.pace + pace.sight + 2
-
-abbrev pub moves_line : (sends : Bool) → (i h other : ℕ) → Pace → List ℕ
-moves_line sends i h other pace = moves_front sends i h ++ few_text sends pace.owned ++ within_end (bound_of pace) other
+abbrev pub moves_line : (sends : Bool) → (i h other : ℕ) → Bound → List ℕ
+moves_line sends i h other bound = moves_front sends i h ++ few_text sends bound.owned ++ within_end bound.within other
 
 unfoldable pub idle_front : (sends : Bool) → (i h : ℕ) → List ℕ
 idle_front true i h = codes "queue " ++ (decimal i ++ (codes ": not shown that hart " ++ (decimal h ++ codes " publishes, or finds no slot free: ")))
@@ -61,8 +57,9 @@ blind_front false i h = codes "queue " ++ (decimal i ++ (codes ": not shown that
 abbrev pub cycle_end : OpeningValue → QueueCertificate → (h n : ℕ) → List ℕ
 cycle_end o c h n = pc_place o c h n ++ 10 ∷ known_at c (State h n)
 
-abbrev pub party_lines : OpeningValue → QueueCertificate → (sends : Bool) → (i h other : ℕ) → Progress → List ℕ
-party_lines o c sends i h other (GoesOn pace) = moves_line sends i h other pace
+abbrev pub party_lines : OpeningValue → QueueCertificate → (sends : Bool) → (i h other : ℕ) → PartyProgress → List ℕ
+party_lines o c sends i h other (Alone bound) = moves_line sends i h other bound
+party_lines o c sends i h other (Together bound) = together_line i h bound
 party_lines o c sends i h other (NoPace n) = idle_front sends i h ++ cycle_end o c h n
 party_lines o c sends i h other (NoLook n) = blind_front sends i h ++ cycle_end o c h n
 
@@ -82,32 +79,38 @@ waiting_end receiver records capacity =
 abbrev pub waiting_line : (i : ℕ) → Queue → (slots records : ℕ) → List ℕ
 waiting_line i q slots records = waiting_front i q.sender slots ++ waiting_end q.receiver records q.capacity
 
+-- of parties that go on, at least one of them only in all its queues together
+unfoldable pub elsewhere_line : (i : ℕ) → List ℕ
+elsewhere_line i = codes "queue "
+    ++ (decimal i ++ (codes ": not shown that more is published or taken: its harts may move on elsewhere, or wait for one another" ++ 10 ∷ []))
+
 -- while they wait they own fewer positions together than it has
-abbrev pub is_moving : Queue → Progress → Progress → Bool
-is_moving q (GoesOn s) (GoesOn r) = nat_lt (s.owned + r.owned) q.capacity
+abbrev pub is_moving : Queue → (sender receiver : PartyProgress) → Bool
+is_moving q (Alone s) (Alone r) = nat_lt (s.owned + r.owned) q.capacity
 is_moving q s r = false
 
-abbrev pub both_line : (i : ℕ) → Queue → Progress → Progress → List ℕ
-both_line i q (GoesOn s) (GoesOn r) =
-    if nat_lt (s.owned + r.owned) q.capacity then moving_line i else waiting_line i q (s.owned + 1) (r.owned + 1)
-both_line i q s r = []
+abbrev pub goes_on : PartyProgress → Bool
+goes_on (Alone bound) = true
+goes_on (Together bound) = true
+goes_on other = false
 
-abbrev pub progress_lines : OpeningValue → QueueCertificate → (i : ℕ) → Queue → Progress → Progress → List ℕ
+abbrev pub both_line : (i : ℕ) → Queue → (sender receiver : PartyProgress) → List ℕ
+both_line i q (Alone s) (Alone r) =
+    if nat_lt (s.owned + r.owned) q.capacity then moving_line i else waiting_line i q (s.owned + 1) (r.owned + 1)
+both_line i q s r = if goes_on s && goes_on r then elsewhere_line i else []
+
+abbrev pub progress_lines : OpeningValue → QueueCertificate → (i : ℕ) → Queue → (sender receiver : PartyProgress) → List ℕ
 progress_lines o c i q s r = party_lines o c true i q.sender q.receiver s ++ party_lines o c false i q.receiver q.sender r ++ both_line i q s r
 
 -- ---- of a queue with indices
 
 unfoldable pub going_lines : OpeningValue → QueueCertificate → (i : ℕ) → List ℕ
-going_lines o c i = progress_lines o c i (queue_at c i) (progress_of o c (queue_at c i).sender i) (progress_of o c (queue_at c i).receiver i)
+going_lines o c i = progress_lines o c i (queue_at c i) (party_progress o c (queue_at c i).sender i) (party_progress o c (queue_at c i).receiver i)
 
 unfoldable pub is_going : OpeningValue → QueueCertificate → (i : ℕ) → Bool
-is_going o c i = is_moving (queue_at c i) (progress_of o c (queue_at c i).sender i) (progress_of o c (queue_at c i).receiver i)
+is_going o c i = is_moving (queue_at c i) (party_progress o c (queue_at c i).sender i) (party_progress o c (queue_at c i).receiver i)
 
--- ---- of a queue with tags, whose parties wait for one slot at a time
-
-abbrev pub told_lines : OpeningValue → QueueCertificate → (sends : Bool) → (i h other : ℕ) → ToldProgress → List ℕ
-told_lines o c sends i h other (Within N) = moves_front sends i h ++ none_text sends ++ within_end (N + 1) other
-told_lines o c sends i h other (Endless n) = idle_front sends i h ++ cycle_end o c h n
+-- ---- of a queue with tags
 
 unfoldable pub told_moving_line : (i : ℕ) → List ℕ
 told_moving_line i =
@@ -122,8 +125,8 @@ told_both_line i true = told_moving_line i
 told_both_line i false = []
 
 abbrev pub told_progress_lines : OpeningValue → QueueCertificate → (i sender receiver : ℕ) → ToldProgress → ToldProgress → List ℕ
-told_progress_lines o c i sender receiver s r = told_lines o c true i sender receiver s ++ told_lines o c false i receiver sender r
-    ++ told_both_line i (is_within s && is_within r)
+told_progress_lines o c i sender receiver s r = party_lines o c true i sender receiver (party_told s)
+    ++ party_lines o c false i receiver sender (party_told r) ++ told_both_line i (is_within s && is_within r)
 
 -- of queue t of those with tags, which are numbered on after the others
 unfoldable pub told_going_lines : OpeningValue → QueueCertificate → (t : ℕ) → List ℕ

@@ -33,6 +33,7 @@ use Rattle.hart_safety.specs.Stops.{first_stop}
 use Rattle.hart_safety.specs.Writes.{first_unbounded, regions_written}
 use Rattle.queue_progress.specs.declared.pace.Pace.{Pace}
 use Rattle.queue_progress.specs.declared.pace.Progress.TheVariants.{GoesOn}
+use Rattle.queue_progress.specs.Harts.{IsHartStuck}
 use Rattle.queue_progress.specs.Rows.{EachAfter, EachOwn, HaveLanded, IsStuckStep, all_moved, counts_at, executed}
 use Rattle.queue_progress.specs.declared.pace.ToldProgress.TheVariants.{Within}
 use Rattle.queue_progress.specs.Progress.{progress_of}
@@ -41,11 +42,11 @@ use Rattle.engine_support.specs.declared.fault.Refusal.{Refusal}
 use Rattle.engine_support.specs.Inputs.{Reads}
 use Rattle.engine_support.specs.Tests.{tests}
 use Rattle.certifying.specs.Answers.{kept_answer, undecided}
-use Rattle.certifying.specs.Going.{bound_of}
 use Rattle.certifying.specs.Questions.{Questions}
 use Rattle.certifying.specs.Inputs.{certificates}
 use Rattle.certifying.specs.Queues.{any_queue, any_start, is_tag_byte, number_in, queue_count, slots_at}
 use Rattle.certifying.specs.Records.{AreFoundFor}
+use Rattle.certifying.specs.Together.{bound_of, bound_together, pace_together}
 use Rattle.certifying.specs.declared.records.Records.{Records}
 use Rattle.certifying.specs.declared.records.Records.TheVariants.{NoBytes, Shown}
 use Rattle.certifying.specs.declared.judgement.Judgement.{Judgement}
@@ -125,6 +126,14 @@ pub record QueueGoesOn (o : OpeningValue) (c : QueueCertificate) (i : ℕ) : Typ
   pub receiver_goes : PartyGoesOn o c i the_receiver receives
   pub moves : QueueMoves o c i sends receives
 
+-- ---- whether a hart goes on in its queues with indices together
+
+-- in each run, of `bound_together c h pace` instructions in a row of hart h one moves one of its indices, or is a load of the other's index of a
+-- queue of which it finds that it owns at most `pace.owned` positions
+abbrev pub HartGoesOn : OpeningValue → QueueCertificate → (h : ℕ) → Pace → Type 0
+HartGoesOn o c h pace = (B M : ℕ) (es row : List Entry) → WellFormed B M (history_of o (es ++ row)) → EachAfter h (IsHartStuck c h pace.owned) es row
+    → executed h row < bound_together c h pace
+
 -- ---- whether a queue with tags goes on
 
 -- in each run, of N + 1 instructions in a row of party p of queue t one stores its tag, or is a load of its position's tag by which it isn't
@@ -186,12 +195,14 @@ TellersHold o c = ((t : ℕ) → t < length c.tagged → (p : Party) (N : ℕ) �
     × ((t : ℕ) → t < length c.tagged → (s r : ℕ) → told_progress_of o c (tagged_at c t).sender t ≡ Within s
     → told_progress_of o c (tagged_at c t).receiver t ≡ Within r → TellersMove o c t s r)
 
--- each party with a pace, and both together where, while they wait, they own fewer positions than the queue has
+-- each party with a pace, both together where, while they wait, they own fewer positions than the queue has, and each hart with a pace for all its
+-- queues
 abbrev pub ProgressHolds : (progress : Bool) → OpeningValue → QueueCertificate → Type 0
 ProgressHolds true o c = ((i : ℕ) → i < length c.queues → (p : Party) (pace : Pace) → progress_of o c (hart (queue_at c i) p) i ≡ GoesOn pace
     → PartyGoesOn o c i p pace)
     × ((i : ℕ) → i < length c.queues → (s r : Pace) → progress_of o c (queue_at c i).sender i ≡ GoesOn s
     → progress_of o c (queue_at c i).receiver i ≡ GoesOn r → s.owned + r.owned < (queue_at c i).capacity → QueueMoves o c i s r)
+    × ((h : ℕ) (pace : Pace) → pace_together o c h ≡ Some pace → HartGoesOn o c h pace)
     × TellersHold o c
 ProgressHolds false o c = Unit {0}
 

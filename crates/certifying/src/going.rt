@@ -5,14 +5,15 @@ ghost use Rattle.std.specs.String.{string_bytes};
 ghost use Rattle.queue_certificates.specs.Certificates.{queue_at, tagged_at};
 ghost use Rattle.queue_certificates.specs.Steps.{all_below};
 ghost use Rattle.engine_support.specs.OpeningTexts.{numbered};
-ghost use Rattle.queue_progress.specs.Progress.{progress_of};
 ghost use Rattle.queue_progress.specs.Told.{told_progress_of};
-ghost use Rattle.certifying.specs.Going.{all_going, all_going_lines, blind_front, both_line, bound_of, cycle_end, few_text, going_lines, idle_front};
-ghost use Rattle.certifying.specs.Going.{is_going, is_moving, many_text, moves_front, moves_line, moving_line, none_text, one_text, party_lines};
-ghost use Rattle.certifying.specs.Going.{is_told_going, is_within, progress_lines, told_both_line, told_going_lines, told_lines, told_moving_line};
-ghost use Rattle.certifying.specs.Going.{told_progress_lines, waiting_end, waiting_front, waiting_line, within_end};
+ghost use Rattle.certifying.specs.Going.{all_going, all_going_lines, blind_front, both_line, cycle_end, elsewhere_line, few_text, goes_on};
+ghost use Rattle.certifying.specs.Going.{going_lines, idle_front, is_going, is_moving, is_told_going, is_within, many_text, moves_front, moves_line};
+ghost use Rattle.certifying.specs.Going.{moving_line, none_text, one_text, party_lines, progress_lines, told_both_line, told_going_lines};
+ghost use Rattle.certifying.specs.Going.{told_moving_line, told_progress_lines, waiting_end, waiting_front, waiting_line, within_end};
+ghost use Rattle.certifying.specs.Together.{party_progress, party_told, together_line};
 
 use crate::queues::{number_of, number_of_tagged};
+use crate::together::{Bound, PartyProgress, party_progress, party_told, push_together};
 use crate::unread::push_pc_place;
 use certificate_reader::push_known_at;
 use known_values::lack::sum;
@@ -21,7 +22,7 @@ use known_values::{Lack, Queue};
 use queue_checker::tagged_queues::tagged_in;
 use queue_checker::{Flaw, QueueCertificate};
 use queue_layouts::TaggedQueue;
-use queue_progress::{Pace, Progress, ToldProgress, progress_of, told_progress_of};
+use queue_progress::{ToldProgress, told_progress_of};
 use std::alloc::{AllocError, Global};
 use step_machine::Opening;
 
@@ -94,27 +95,19 @@ fn push_within(out: &mut String, number: u64, other: u32) -> Result<(), AllocErr
     )
 }
 
-/// Of how many of a party's instructions in a row one moves its index, or finds few positions.
-fn bound_of(pace: Pace) -> Result<u64, Lack>
-    ensures { IfOk result (λ bound. bound ≡ bound_of pace) }
-{
-    sum(sum(pace.pace, pace.sight)?, 2)
-}
-
 fn push_moves(
     out: &mut String,
     sends: bool,
     index: u32,
     hart: u32,
     other: u32,
-    pace: Pace,
-) -> Result<(), Lack>
-    ensures { OnOk result (string_bytes out.new ≡ string_bytes out.old ++ moves_line sends index hart other pace) }
+    bound: Bound,
+) -> Result<(), AllocError>
+    ensures { OnOk result (string_bytes out.new ≡ string_bytes out.old ++ moves_line sends index hart other bound) }
 {
     push_moves_front(out, sends, index, hart)?;
-    push_few(out, sends, pace.owned)?;
-    push_within(out, bound_of(pace)?, other)?;
-    Ok(())
+    push_few(out, sends, bound.owned)?;
+    push_within(out, bound.within, other)
 }
 
 #[tactic(auto, unfolding(crate::specs::Going::idle_front))]
@@ -175,19 +168,20 @@ fn push_party(
     index: u32,
     hart: u32,
     other: u32,
-    progress: Progress,
-) -> Result<(), Lack>
+    progress: PartyProgress,
+) -> Result<(), AllocError>
     ensures { OnOk result (string_bytes out.new ≡ string_bytes out.old ++ party_lines opening.now certificate.now sends index hart other progress) }
 {
     match progress {
-        Progress::GoesOn(pace) => push_moves(out, sends, index, hart, other, pace),
-        Progress::NoPace(state) => {
+        PartyProgress::Alone(bound) => push_moves(out, sends, index, hart, other, bound),
+        PartyProgress::Together(bound) => push_together(out, index, hart, bound),
+        PartyProgress::NoPace(state) => {
             push_idle_front(out, sends, index, hart)?;
-            Ok(push_cycle(out, opening, certificate, hart, state)?)
+            push_cycle(out, opening, certificate, hart, state)
         }
-        Progress::NoLook(state) => {
+        PartyProgress::NoLook(state) => {
             push_blind_front(out, sends, index, hart)?;
-            Ok(push_cycle(out, opening, certificate, hart, state)?)
+            push_cycle(out, opening, certificate, hart, state)
         }
     }
 }
@@ -244,15 +238,37 @@ fn push_waiting(
     push_waiting_end(out, queue.receiver, records, queue.capacity)
 }
 
-/// Whether both go on, and while they wait own fewer positions together than the queue has.
-fn is_moving(queue: Queue, sender: Progress, receiver: Progress) -> Result<bool, Lack>
+#[tactic(auto, unfolding(crate::specs::Going::elsewhere_line))]
+fn push_elsewhere(out: &mut String, index: u32) -> Result<(), AllocError>
+    ensures { OnOk result (string_bytes out.new ≡ string_bytes out.old ++ elsewhere_line index) }
+{
+    writeln!(
+        out,
+        "queue {index}: not shown that more is published or taken: its harts may move on elsewhere, or wait for one another"
+    )
+}
+
+/// Whether both go on in this queue, and while they wait own fewer positions together than it has.
+fn is_moving(queue: Queue, sender: PartyProgress, receiver: PartyProgress) -> Result<bool, Lack>
     ensures { IfOk result (λ moving. moving ≡ is_moving queue sender receiver) }
 {
     match (sender, receiver) {
-        (Progress::GoesOn(sends), Progress::GoesOn(receives)) => {
+        (PartyProgress::Alone(sends), PartyProgress::Alone(receives)) => {
             Ok(sum(sends.owned, receives.owned)? < u64::from(queue.capacity))
         }
         _ => Ok(false),
+    }
+}
+
+/// Whether it goes on, in this queue or in all its queues together.
+fn goes_on(progress: PartyProgress) -> bool
+    ensures { result ≡ goes_on progress }
+{
+    match progress {
+        PartyProgress::Alone(_) => true,
+        PartyProgress::Together(_) => true,
+        PartyProgress::NoPace(_) => false,
+        PartyProgress::NoLook(_) => false,
     }
 }
 
@@ -260,13 +276,13 @@ fn push_both(
     out: &mut String,
     index: u32,
     queue: Queue,
-    sender: Progress,
-    receiver: Progress,
+    sender: PartyProgress,
+    receiver: PartyProgress,
 ) -> Result<(), Lack>
     ensures { OnOk result (string_bytes out.new ≡ string_bytes out.old ++ both_line index queue sender receiver) }
 {
     match (sender, receiver) {
-        (Progress::GoesOn(sends), Progress::GoesOn(receives)) => {
+        (PartyProgress::Alone(sends), PartyProgress::Alone(receives)) => {
             if sum(sends.owned, receives.owned)? < u64::from(queue.capacity) {
                 push_moving(out, index)?;
             } else {
@@ -280,7 +296,12 @@ fn push_both(
             }
             Ok(())
         }
-        _ => Ok(()),
+        _ => {
+            if goes_on(sender) && goes_on(receiver) {
+                push_elsewhere(out, index)?;
+            }
+            Ok(())
+        }
     }
 }
 
@@ -290,8 +311,8 @@ fn push_progress(
     certificate: &QueueCertificate,
     index: u32,
     queue: Queue,
-    sends: Progress,
-    receives: Progress,
+    sends: PartyProgress,
+    receives: PartyProgress,
 ) -> Result<(), Lack>
     ensures { OnOk result (string_bytes out.new ≡ string_bytes out.old
         ++ progress_lines opening.now certificate.now index queue sends receives) }
@@ -337,8 +358,8 @@ fn push_queue(
     ensures going { IfOk result (λ going. going ≡ is_going opening.now certificate.now index) }
 {
     let queue = queue_in(&certificate.queues, index);
-    let sends = progress_of(alloc, opening, certificate, queue.sender, index)?;
-    let receives = progress_of(alloc, opening, certificate, queue.receiver, index)?;
+    let sends = party_progress(alloc, opening, certificate, queue.sender, index)?;
+    let receives = party_progress(alloc, opening, certificate, queue.receiver, index)?;
     push_progress(out, opening, certificate, index, queue, sends, receives)?;
     is_moving(queue, sends, receives)
 }
@@ -364,33 +385,6 @@ fn push_indexed(
 }
 
 // ---- of a queue with tags
-
-/// The lines of a party.
-fn push_told(
-    out: &mut String,
-    opening: &Opening,
-    certificate: &QueueCertificate,
-    sends: bool,
-    index: u32,
-    hart: u32,
-    other: u32,
-    progress: ToldProgress,
-) -> Result<(), Lack>
-    ensures { OnOk result (string_bytes out.new ≡ string_bytes out.old ++ told_lines opening.now certificate.now sends index hart other progress) }
-{
-    match progress {
-        ToldProgress::Within(most) => {
-            push_moves_front(out, sends, index, hart)?;
-            push_none(out, sends)?;
-            push_within(out, sum(most, 1)?, other)?;
-            Ok(())
-        }
-        ToldProgress::Endless(state) => {
-            push_idle_front(out, sends, index, hart)?;
-            Ok(push_cycle(out, opening, certificate, hart, state)?)
-        }
-    }
-}
 
 #[tactic(auto, unfolding(crate::specs::Going::told_moving_line))]
 fn push_told_moving(out: &mut String, index: u32) -> Result<(), AllocError>
@@ -434,7 +428,7 @@ fn push_told_progress(
     ensures { OnOk result (string_bytes out.new ≡ string_bytes out.old
         ++ told_progress_lines opening.now certificate.now index sender receiver sends receives) }
 {
-    push_told(
+    push_party(
         out,
         opening,
         certificate,
@@ -442,9 +436,9 @@ fn push_told_progress(
         index,
         sender,
         receiver,
-        sends,
+        party_told(sends)?,
     )?;
-    push_told(
+    push_party(
         out,
         opening,
         certificate,
@@ -452,7 +446,7 @@ fn push_told_progress(
         index,
         receiver,
         sender,
-        receives,
+        party_told(receives)?,
     )?;
     Ok(push_told_both(out, index, is_within(sends) && is_within(receives))?)
 }

@@ -28,9 +28,11 @@ use records_written::laws_of_written_records;
 ///   run the sender of each queue has written each of these bytes, except those of a tag, of each record that it publishes, since the
 ///   record before in that slot was published; and if the harts were asked about, none is ever stopped on a machine of this memory, and
 ///   each writes only bytes of its regions. Where not all of that is shown, or not the reads, the same holds of each queue and of each hart
-///   whose line says that it is shown. Where its answer is that the protocol is broken, some legal run of the text doesn't keep that of
-///   some queue, first by a store that is described; and where it is that the protocol described isn't kept, by one that isn't, which the
-///   protocol doesn't have then (`ownership_runs::laws_of_violations`, clause `foreign`).
+///   whose line says that it is shown; and where a line says that a hart moves on in one of several queues, or has to wait for one, of as
+///   many of its instructions in a row one moves one of its indices, or is such a load of the other's index of one of its queues. Where its
+///   answer is that the protocol is broken, some legal run of the text doesn't keep that of some queue, first by a store that is described;
+///   and where it is that the protocol described isn't kept, by one that isn't, which the protocol doesn't have then
+///   (`ownership_runs::laws_of_violations`, clause `foreign`).
 /// - `one`: two answers to one input by the same drawn runs have one judgement, and are one text unless it has a schedule; or they are
 ///   refusals of one number, except that a check may be given up where a number in it passes 2^64 - 1. Where bytes of records are asked
 ///   about, two may differ in what is found of the records. Of a refused litmus text it isn't said on which line its first fault stands.

@@ -25,6 +25,7 @@ pub mod not_shown;
 pub mod questions;
 pub mod queues;
 pub mod records;
+pub mod together;
 pub mod trials;
 pub mod unread;
 pub mod unused;

@@ -2,7 +2,7 @@
    queue: head=full.sent,tail=full.taken,slots=full.word,size=2
    queue: head=free.sent,tail=free.taken,slots=free.word,size=2,sender=1,receiver=0
    answer: kept in every run, but not shown to go on
-   named: not shown that hart 0 publishes, or finds no slot free */
+   named: not shown that more is published or taken */
 #include <stdatomic.h>
 
 #define SLOTS 2
