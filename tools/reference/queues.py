@@ -17,6 +17,8 @@ KEPT, READS_NOT_SHOWN, NOT_SHOWN, BROKEN, ASKED_NOT_SHOWN, PROGRESS_NOT_SHOWN, O
 # of a run that breaks the protocol, by whether its store is described
 BREAKS = {True: ("broken", BROKEN), False: ("does not keep the protocol described", OTHER_PROTOCOL)}
 REGISTERS = 32
+# of how many queues a hart may be a party for a line about all of them together
+MOST_QUEUES = 6
 EVERY_RUN = "promised: in every legal run, of any length and schedule, with store buffers of any size, the"
 PROMISE_END = ", so records arrive in order, each once, with all that was written before"
 READS = "not promised: that what is loaded from a slot is a record that the hart owns"
@@ -340,15 +342,29 @@ class Judge:
         yield f"{front} not shown that hart {hart} {moves}, or {missed}: {self.pc_place(hart, found.state)}"
         yield from (f"known: {line}" for line in known_lines(self.listed.harts[hart].states[found.state]))
 
+    def together(self, index, hart):
+        """The line of a party that goes on in all its queues with indices together, if it has several and that is shown; or None."""
+        queues = progress.sides(self.listed, hart)
+        found = progress.hart_progress_of(self.opening, self.listed, hart) if 1 < len(queues) <= MOST_QUEUES else None
+        if not isinstance(found, progress.GoesOn):
+            return None
+        finds = {0: "that it has to wait for it", 1: "at most 1 slot free, or 1 record"}.get(
+            found.owned, f"at most {found.owned} slots free, or {found.owned} records")
+        return (f"queue {index}: hart {hart} moves on in this or another of its queues, or looks at one and finds {finds}, "
+                f"within {found.pace + len(queues) * (found.sight + 1) + 1} of its instructions, whatever others do")
+
     def going(self, index):
         """The lines of whether a queue goes on, and whether that is shown."""
         queue = self.opened[index].queue
         parties = ((True, queue.sender, queue.receiver), (False, queue.receiver, queue.sender))
         progress_of, number = (progress.told_progress_of, index - self.with_indices) if self.has_tags(index) else (progress.progress_of, index)
         found = [progress_of(self.opening, self.listed, hart, number) for _, hart, _ in parties]
-        lines = [line for party, each in zip(parties, found) for line in self.party(index, *party, each)]
-        if not all(isinstance(each, (progress.GoesOn, progress.Within)) for each in found):
-            return lines, False
+        goes = [isinstance(each, (progress.GoesOn, progress.Within)) for each in found]
+        together = [None if alone or self.has_tags(index) else self.together(index, hart) for alone, (_, hart, _) in zip(goes, parties)]
+        lines = [line for party, each, among in zip(parties, found, together) for line in ([among] if among else self.party(index, *party, each))]
+        if not all(goes):
+            stands = f"queue {index}: not shown that more is published or taken: its harts may move on elsewhere, or wait for one another"
+            return [*lines, *([stands] if all(alone or among for alone, among in zip(goes, together)) else [])], False
         if self.has_tags(index):
             return [*lines, f"queue {index}: whenever no store to a tag is pending and both harts run on, more is published or taken"], True
         slots, records = (each.owned for each in found)
