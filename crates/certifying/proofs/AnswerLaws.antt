@@ -1,5 +1,5 @@
 -- What answers a litmus text and a certificate is one answer, and what it promises holds.
-use Rattle.std.proofs.Common.{arith, ◌≡◌, ◌⊎◌, ◌&&◌, ℕ, ◌+◌, ◌<◌, ◌↔◌, Bool, true, false, List, length, Result, Ok, Err, refl, sym, ap, ◌∙◌, subst, inl, inr}
+use Rattle.std.proofs.Common.{arith, ◌≡◌, ◌&&◌, ℕ, ◌+◌, ◌<◌, ◌↔◌, Bool, true, false, List, length, Result, Ok, Err, refl, sym, ap, ◌∙◌, subst}
 use Rattle.std.specs.Prelude.{Option, Some, None}
 use Rattle.std.specs.List.{list_all}
 use Rattle.std.proofs.lemmas.Bool.{and_parts}
@@ -9,6 +9,7 @@ use Rattle.step_machine.specs.History.{OpeningValue}
 use Rattle.step_machine.specs.declared.events.Entry.{Entry}
 use Rattle.step_machine.specs.History.{history_of}
 use Rattle.step_machine.specs.Legal.{WellFormed}
+use Rattle.step_machine.proofs.Happening.{no_hart}
 use Rattle.queue_parties.specs.Parties.{Party, all_at, the_sender, the_receiver}
 use Rattle.certified_runs.specs.TwoParties.{EachIs}
 use Rattle.slots_that_tell.specs.Telling.{teller_hart}
@@ -30,7 +31,7 @@ use Rattle.certifying.specs.Questions.{Questions}
 use Rattle.certifying.specs.Going.{all_going, all_going_lines}
 use Rattle.certifying.specs.Harts.{harts_lines, harts_safe}
 use Rattle.certifying.specs.Inputs.{SaysCertificate, certificate_of, certificates}
-use Rattle.certifying.specs.Kept.{AreSameAnswers, AreJudged, AreQueueAnswers, DifferInRecords, IsPromised, KeepsProtocol, KeepsTags, LoadsOwnedSlots}
+use Rattle.certifying.specs.Kept.{AreSameAnswers, AreJudged, AreQueueAnswers, IsPromised, KeepsProtocol, KeepsTags, LoadsOwnedSlots}
 use Rattle.certifying.specs.Kept.{LinesHold, LoadsTagsOrOwned, ReceivesFields}
 use Rattle.certifying.specs.Queues.{queue_count, slots_by, tagged_number}
 use Rattle.certifying.specs.Records.{AreFoundFor, is_shown}
@@ -41,8 +42,8 @@ use Rattle.certifying.specs.declared.judgement.Judgement.{Judgement}
 use Rattle.certifying.specs.declared.judgement.Judgement.TheVariants as judgement
 use Rattle.certifying.specs.declared.unread.Unread.{Unread}
 use Rattle.certifying.specs.declared.unused.Unused.{Unused}
-use Rattle.certifying.proofs.AskedLaws.{AskedLaws, harts-hold, keeps-harts, records-hold, writes}
-use Rattle.certifying.proofs.DrawnLaws.{DrawnLaws, SomeSlots, breaks, no_first, none-below, one-trial, sized, unmapped}
+use Rattle.certifying.proofs.AskedLaws.{AskedLaws, FirstLaws, harts-hold, keeps-harts, one-for, records-hold, writes}
+use Rattle.certifying.proofs.DrawnLaws.{DrawnLaws, SomeSlots, breaks, no_first, none-below, one-trial, sized}
 use Rattle.certifying.proofs.GoingLaws.{GoingLaws, keeps-going, progress-holds}
 use Rattle.certifying.proofs.Numbers.{is_indexed, is_tagged}
 
@@ -61,56 +62,37 @@ one_certificate = is_one SaysCertificate certificate_of said_once read_as
 alike : (a b judged : List ℕ × Judgement) → a ≡ judged → b ≡ judged → AreSameAnswers a b
 alike a b judged is other = let same : a ≡ b = is ∙ sym other in (ap (λ (x : List ℕ × Judgement). x.1) same, λ shows. ap (λ (x : List ℕ × Judgement). x.0) same)
 
--- two answers where the certificate is accepted: one answer, unless records are asked about
-module _ (M : ℕ) (asked : Questions) (o : OpeningValue) (c : QueueCertificate) where
-  one_kept : (written : Option (List ℕ)) → asked.written ≡ written → (a b : List ℕ × Judgement) → IsKeptAnswer M asked o c a
-      → IsKeptAnswer M asked o c b → AreSameAnswers a b ⊎ DifferInRecords M asked a b
-  one_kept None asks a b is other =
-      let none = λ (found : List Records) (are : AreFoundFor o c asked.written found). subst (λ (w : Option (List ℕ)). AreFoundFor o c w found) asks are in
-      let same : is.found ≡ other.found = none is.found is.are_found ∙ sym (none other.found other.are_found) in
-      inl (alike a b (kept_answer M asked o c other.found) (is.answer_is ∙ ap (kept_answer M asked o c) same) other.answer_is)
-  one_kept (Some bytes) asks a b is other = inr (record {
-    bytes = bytes;
-    asks = asks;
-    opening = o;
-    listed = c;
-    found = is.found;
-    others = other.found;
-    are_found = subst (λ (w : Option (List ℕ)). AreFoundFor o c w is.found) asks is.are_found;
-    also_found = subst (λ (w : Option (List ℕ)). AreFoundFor o c w other.found) asks other.are_found;
-    one_is = is.answer_is;
-    other_is = other.answer_is;
-  })
+module _ (laws : DrawnLaws) (firsts : FirstLaws) (d : DrawnRuns) (asked : Questions) (o : OpeningValue) (c : QueueCertificate) where
+  one_use : (u : Option Unused) (a b : List ℕ × Judgement) → IsUseAnswer d.M asked o c u a → IsUseAnswer d.M asked o c u b → AreSameAnswers a b
+  one_use None a b is other =
+      let same = one-for firsts o c asked.written is.found other.found is.are_found other.are_found in
+      alike a b (kept_answer d.M asked o c other.found) (is.answer_is ∙ ap (kept_answer d.M asked o c) same) other.answer_is
+  one_use (Some unused) a b is other = alike a b _ is other
 
-  one_use : (u : Option Unused) (a b : List ℕ × Judgement) → IsUseAnswer M asked o c u a → IsUseAnswer M asked o c u b
-      → AreSameAnswers a b ⊎ DifferInRecords M asked a b
-  one_use None a b is other = one_kept asked.written refl a b is other
-  one_use (Some unused) a b is other = inl (alike a b _ is other)
-
-module _ (laws : DrawnLaws) (d : DrawnRuns) (asked : Questions) (o : OpeningValue) (c : QueueCertificate) where
   one_flaw : (f : Flaw) → first_flaw o c ≡ Some f → (of_queue : Bool) → is_of_queue f ≡ of_queue → (a b : List ℕ × Judgement)
       → IsFlawAnswer d o c f of_queue a → IsFlawAnswer d o c f of_queue b → AreSameAnswers a b
   one_flaw f first true queue a b is other = alike a b _ is other
   one_flaw f first false none a b is other = one-trial d o c laws (sized o c f first none) f a b is other
 
   one_by : (f : Option Flaw) → first_flaw o c ≡ f → (a b : List ℕ × Judgement) → IsAnswerTo d asked o c f a → IsAnswerTo d asked o c f b
-      → AreSameAnswers a b ⊎ DifferInRecords d.M asked a b
-  one_by None first a b is other = one_use d.M asked o c (first_unused o c) a b is other
-  one_by (Some f) first a b is other = inl (one_flaw f first (is_of_queue f) refl a b is other)
+      → AreSameAnswers a b
+  one_by None first a b is other = one_use (first_unused o c) a b is other
+  one_by (Some f) first a b is other = one_flaw f first (is_of_queue f) refl a b is other
 
   one_judged : (a b : Result (List ℕ × Judgement) Refusal) → IsCertificateAnswer d asked o c a → IsCertificateAnswer d asked o c b
-      → AreQueueAnswers d.M asked a b
+      → AreQueueAnswers a b
   one_judged (Ok a) (Ok b) is other = one_by (first_flaw o c) refl a b is other
   one_judged (Ok a) (Err s) is other = other
   one_judged (Err r) (Ok b) is other = is
   one_judged (Err r) (Err s) is other = ap (λ (x : Refusal). x.number) (is ∙ sym other)
 
-pub one_queue_answer : (laws : DrawnLaws) (d : DrawnRuns) (asked : Questions) (file certificate : List ℕ) (a b : Result (List ℕ × Judgement) Refusal)
-    → IsQueueAnswer d asked (Some file) (Some certificate) a → IsQueueAnswer d asked (Some file) (Some certificate) b → AreQueueAnswers d.M asked a b
-one_queue_answer laws d asked file certificate =
-    alike_after tests (λ r s. r.number ≡ s.number) one_litmus_text (AreQueueAnswers d.M asked) (λ r s e. e) file _
-    (λ (q : LitmusTest). alike_after certificates (λ r s. r ≡ s) one_certificate (AreQueueAnswers d.M asked)
-    (λ r s e. ap (λ (x : Refusal). x.number) e) certificate (IsCertificateAnswer d asked q.opening) (λ c. one_judged laws d asked q.opening c))
+pub one_queue_answer : (laws : DrawnLaws) (firsts : FirstLaws) (d : DrawnRuns) (asked : Questions) (file certificate : List ℕ)
+    (a b : Result (List ℕ × Judgement) Refusal) → IsQueueAnswer d asked (Some file) (Some certificate) a
+    → IsQueueAnswer d asked (Some file) (Some certificate) b → AreQueueAnswers a b
+one_queue_answer laws firsts d asked file certificate =
+    alike_after tests (λ r s. r.number ≡ s.number) one_litmus_text AreQueueAnswers (λ r s e. e) file _
+    (λ (q : LitmusTest). alike_after certificates (λ r s. r ≡ s) one_certificate AreQueueAnswers
+    (λ r s e. ap (λ (x : Refusal). x.number) e) certificate (IsCertificateAnswer d asked q.opening) (λ c. one_judged laws firsts d asked q.opening c))
 
 -- ---- what is promised
 
@@ -140,7 +122,7 @@ module _ (laws : Laws) (o : OpeningValue) (c : QueueCertificate) where
 
   none_unread : first_unread o c ≡ None → (i : ℕ) → i < queue_count c → AreRead i (tagged_number c i)
   none_unread none i less = let both = no_first _ _ (none-below (unread_of o c) (queue_count c) i none less) in
-      (unmapped _ _ both.0, unmapped _ _ both.1)
+      (no_hart _ _ both.0, no_hart _ _ both.1)
 
   all_read : first_unread o c ≡ None → (i : ℕ) → i < length c.queues → (p : Party) → accepts_loads o c i (hart (queue_at c i) p) ≡ true
   all_read none i less p = at p

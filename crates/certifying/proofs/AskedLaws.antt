@@ -1,6 +1,6 @@
 -- What is shown of records and of harts, where the certificate is accepted.
 use Rattle.std.proofs.Common.{arith, ◌≡◌, ◌≢◌, ◌⊎◌, inl, inr, ℕ, zero, suc, ◌+◌, ◌<◌, ◌≤◌, Bool, true, false, not, List, [], ◌∷◌, ◌++◌, length}
-use Rattle.std.proofs.Common.{Some, None, refl, ap, subst}
+use Rattle.std.proofs.Common.{Some, None, refl, sym, ap, ap₂, ◌∙◌, subst}
 use Rattle.std.specs.Prelude.{Option, get_or, is_some, nat_lt}
 use Rattle.std.specs.List.{list_all}
 use Rattle.std.proofs.lemmas.Bool.{and_parts, lt-ltb}
@@ -20,7 +20,9 @@ use Rattle.record_bytes.specs.Naming.{names_byte}
 use Rattle.record_bytes.proofs.OffsetLaws.{some-offset}
 use Rattle.record_bytes.proofs.RangeLaws.{has-below}
 use Rattle.record_bytes.specs.Ranges.{byte_ranges}
-use Rattle.records_written.specs.Marks.{IsShownWritten}
+use Rattle.record_bytes.specs.declared.ranges.ByteRange.{ByteRange}
+use Rattle.records_written.specs.Marks.{IsFirstUnwritten, IsShownWritten}
+use Rattle.records_written.specs.declared.finding.Missing.{Missing}
 use Rattle.records_written.specs.declared.parties.QueueNumber.{QueueNumber}
 use Rattle.records_written.specs.Parties.{IsListed, published_after, slot_in}
 use Rattle.records_written.specs.Written.{IsWritten}
@@ -47,7 +49,43 @@ pub record AskedLaws : Type 0 where
       → WellFormed B M (history_of o (es ++ e ∷ [])) → is_land e ≡ false → first_unbounded o c (hart_of e) ≡ None → (x : ℕ)
       → IsInNone x (regions_written o c (hart_of e)) → LeavesByteBy x (access_of e)
 
+-- what they promise of the first byte that isn't shown to be written
+pub record FirstLaws : Type 0 where
+  pub either : (o : OpeningValue) (c : QueueCertificate) (w : QueueNumber) (mask : ℕ → Bool) (u : Missing) → IsShownWritten o c w mask
+      → IsFirstUnwritten o c w mask u → ⊥
+  pub one : (o : OpeningValue) (c : QueueCertificate) (w : QueueNumber) (mask : ℕ → Bool) (u v : Missing) → IsFirstUnwritten o c w mask u
+      → IsFirstUnwritten o c w mask v → (u.state ≡ v.state) × (u.byte ≡ v.byte)
+
 -- ---- records
+
+-- one thing is found of them
+module _ (laws : FirstLaws) (o : OpeningValue) (c : QueueCertificate) where
+  one-found : (i : ℕ) (ranges : List ByteRange) (r s : Records) → IsFound o c i ranges r → IsFound o c i ranges s → r ≡ s
+  one-found i ranges NoBytes NoBytes is also = refl
+  one-found i ranges NoBytes Shown is also = absurd (also.0 is)
+  one-found i ranges NoBytes (NotShown v) is also = absurd (also.0 is)
+  one-found i ranges Shown NoBytes is also = absurd (is.0 also)
+  one-found i ranges Shown Shown is also = refl
+  one-found i ranges Shown (NotShown v) is also = absurd (laws.either o c (number_in c i) (is_rest c i ranges) v is.1 also.1)
+  one-found i ranges (NotShown u) NoBytes is also = absurd (is.0 also)
+  one-found i ranges (NotShown u) Shown is also = absurd (laws.either o c (number_in c i) (is_rest c i ranges) u also.1 is.1)
+  one-found i ranges (NotShown u) (NotShown v) is also =
+      let same = laws.one o c (number_in c i) (is_rest c i ranges) u v is.1 also.1 in
+      ap₂ (λ (n b : ℕ). NotShown (record { state = n; byte = b })) same.0 same.1
+
+  one-from : (bytes : List ℕ) (i : ℕ) (found others : List Records) → AreFoundFrom o c bytes i found → AreFoundFrom o c bytes i others
+      → length found ≡ length others → found ≡ others
+  one-from bytes i [] [] are also same = refl
+  one-from bytes i [] (s ∷ others) are also same = absurd (omega (arith, same))
+  one-from bytes i (r ∷ found) [] are also same = absurd (omega (arith, same))
+  one-from bytes i (r ∷ found) (s ∷ others) are also same =
+      ap₂ (λ (x : Records) (xs : List Records). x ∷ xs) (one-found i (asked_ranges c bytes i) r s are.0 also.0)
+      (one-from bytes (i + 1) found others are.1 also.1 (omega (arith, same)))
+
+  pub one-for : (written : Option (List ℕ)) (found others : List Records) → AreFoundFor o c written found → AreFoundFor o c written others
+      → found ≡ others
+  one-for None found others are also = are ∙ sym also
+  one-for (Some bytes) found others are also = one-from bytes 0 found others are.1 also.1 (are.0 ∙ sym also.0)
 
 listed-below : (found : List Records) (i : ℕ) → get_or found i NoBytes ≡ Shown → i < length found
 listed-below [] i shown = absurd (cc)

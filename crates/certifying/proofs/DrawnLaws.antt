@@ -8,6 +8,7 @@ use Rattle.std.proofs.lemmas.List.{length-append}
 use Rattle.step_machine.specs.declared.events.Event.{Event}
 use Rattle.step_machine.specs.History.{OpeningValue, history_of, at_opening}
 use Rattle.step_machine.specs.Legal.{WellFormed}
+use Rattle.step_machine.proofs.Happening.{no_hart}
 use Rattle.step_machine.proofs.Running.{kept-at_opening, kept-run, opening_kept}
 use Rattle.queue_parties.specs.Parties.{QueueCounts, all_at}
 use Rattle.queue_layouts.specs.declared.AnyQueue.{AnyQueue}
@@ -47,10 +48,6 @@ pub record DrawnLaws : Type 0 where
 pub no_first : {A : Type 0} (a b : Option A) → first_of a b ≡ None → (a ≡ None) × (b ≡ None)
 no_first None b e = (refl, e)
 no_first (Some x) b e = (cc, cc)
-
-pub unmapped : {A C : Type 0} (f : A → C) (a : Option A) → option_map f a ≡ None → a ≡ None
-unmapped f None e = refl
-unmapped f (Some x) e = cc
 
 holds-unless : {A : Type 0} (b : Bool) (a : A) → unless b a ≡ None → b ≡ true
 holds-unless true a e = refl
@@ -106,7 +103,7 @@ module _ (o : OpeningValue) (c : QueueCertificate) where
   -- the second conjunct of `is_tagged`
   some-tagged-slot : (i t : ℕ) → flaw_of_tagged o c t ≡ None → HasSlot (queue_by c i (Some t))
   some-tagged-slot i t none =
-      let tag = no_first _ _ (unmapped _ (tagged_flaw o c t) none) in
+      let tag = no_first _ _ (no_hart _ (tagged_flaw o c t) none) in
       let harts_and_slots = no_first _ _ (no_first _ _ (no_first _ _ (no_first _ _ (no_first _ _ tag.0).0).0).0).0 in
       leb-true 1 (tagged_at c t).size (holds-unless _ _ harts_and_slots.1)
 

@@ -45,7 +45,6 @@ use Rattle.certifying.specs.Answers.{kept_answer, undecided}
 use Rattle.certifying.specs.Questions.{Questions}
 use Rattle.certifying.specs.Inputs.{certificates}
 use Rattle.certifying.specs.Queues.{any_queue, any_start, is_tag_byte, number_in, queue_count, slots_at}
-use Rattle.certifying.specs.Records.{AreFoundFor}
 use Rattle.certifying.specs.Together.{bound_of, bound_together, pace_together}
 use Rattle.certifying.specs.declared.records.Records.{Records}
 use Rattle.certifying.specs.declared.records.Records.TheVariants.{NoBytes, Shown}
@@ -250,20 +249,6 @@ IsPromised M asked (text, NotShown) o c = Unit {0}
 IsPromised M asked (text, Broken) o c = BreaksProtocol true o c
 IsPromised M asked (text, OtherProtocol) o c = BreaksProtocol false o c
 
--- Bytes of records are asked about, and the two are answers to one opening and one certificate that differ at most by what is found of the
--- records.
-pub record DifferInRecords (M : ℕ) (asked : Questions) (a b : List ℕ × Judgement) : Type 0 where
-  pub bytes : List ℕ
-  pub asks : asked.written ≡ Some bytes
-  pub opening : OpeningValue
-  pub listed : QueueCertificate
-  pub found : List Records
-  pub others : List Records
-  pub are_found : AreFoundFor opening listed (Some bytes) found
-  pub also_found : AreFoundFor opening listed (Some bytes) others
-  pub one_is : a ≡ kept_answer M asked opening listed found
-  pub other_is : b ≡ kept_answer M asked opening listed others
-
 -- an answer of this judgement shows a schedule
 abbrev pub HasSchedule : Judgement → Type 0
 HasSchedule judgement = (judgement ≡ Broken) ⊎ (judgement ≡ OtherProtocol)
@@ -272,9 +257,9 @@ HasSchedule judgement = (judgement ≡ Broken) ⊎ (judgement ≡ OtherProtocol)
 abbrev pub AreSameAnswers : (a b : List ℕ × Judgement) → Type 0
 AreSameAnswers a b = (a.1 ≡ b.1) × ((HasSchedule a.1 → ⊥) → a.0 ≡ b.0)
 
--- Two answers are alike, or differ in what is found of records, or are refusals of one number, except that a check may be given up undecided.
-abbrev pub AreQueueAnswers : (M : ℕ) → Questions → Result (List ℕ × Judgement) Refusal → Result (List ℕ × Judgement) Refusal → Type 0
-AreQueueAnswers M asked (Ok a) (Ok b) = AreSameAnswers a b ⊎ DifferInRecords M asked a b
-AreQueueAnswers M asked (Ok a) (Err s) = s ≡ undecided
-AreQueueAnswers M asked (Err r) (Ok b) = r ≡ undecided
-AreQueueAnswers M asked (Err r) (Err s) = r.number ≡ s.number
+-- Two answers are alike, or are refusals of one number, except that a check may be given up undecided.
+abbrev pub AreQueueAnswers : Result (List ℕ × Judgement) Refusal → Result (List ℕ × Judgement) Refusal → Type 0
+AreQueueAnswers (Ok a) (Ok b) = AreSameAnswers a b
+AreQueueAnswers (Ok a) (Err s) = s ≡ undecided
+AreQueueAnswers (Err r) (Ok b) = r ≡ undecided
+AreQueueAnswers (Err r) (Err s) = r.number ≡ s.number

@@ -34,14 +34,14 @@ use records_written::laws_of_written_records;
 ///   and where it is that the protocol described isn't kept, by one that isn't, which the protocol doesn't have then
 ///   (`ownership_runs::laws_of_violations`, clause `foreign`).
 /// - `one`: two answers to one input by the same drawn runs have one judgement, and are one text unless it has a schedule; or they are
-///   refusals of one number, except that a check may be given up where a number in it passes 2^64 - 1. Where bytes of records are asked
-///   about, two may differ in what is found of the records. Of a refused litmus text it isn't said on which line its first fault stands.
+///   refusals of one number, except that a check may be given up where a number in it passes 2^64 - 1. Of a refused litmus text it isn't said
+///   on which line its first fault stands.
 pub fn laws_of_answers()
     ensures promised { (d : DrawnRuns) (asked : Questions) (file certificate : Option (List ℕ)) (text : List ℕ) (judgement : Judgement)
         → IsQueueAnswer d asked file certificate (Ok (text, judgement)) → AreJudged file certificate (IsPromised d.M asked (text, judgement)) }
     ensures one { (d : DrawnRuns) (asked : Questions) (file certificate : List ℕ) (a b : Result (List ℕ × Judgement) Refusal)
         → IsQueueAnswer d asked (Some file) (Some certificate) a → IsQueueAnswer d asked (Some file) (Some certificate) b
-        → AreQueueAnswers d.M asked a b }
+        → AreQueueAnswers a b }
 {
     laws_of_flaws();
     laws_of_written_records();

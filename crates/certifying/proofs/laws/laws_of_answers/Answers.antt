@@ -30,5 +30,5 @@ returns-clause-promised c = answers.promised (record {
 })
 
 pub returns-clause-one : goal.returns-clause-one
-returns-clause-one c =
-    answers.one_queue_answer (record { none = c.laws_of_violations.ensures.none; apart = c.laws_of_judged_runs.ensures.apart })
+returns-clause-one c = answers.one_queue_answer (record { none = c.laws_of_violations.ensures.none; apart = c.laws_of_judged_runs.ensures.apart })
+    (record { either = c.laws_of_written_records.ensures.either; one = c.laws_of_written_records.ensures.one })
