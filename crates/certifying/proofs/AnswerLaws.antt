@@ -1,7 +1,6 @@
 -- What answers a litmus text and a certificate is one answer, and what it promises holds.
 use Rattle.std.proofs.Common.{arith, ◌≡◌, ◌&&◌, ℕ, ◌+◌, ◌<◌, ◌↔◌, Bool, true, false, List, length, Result, Ok, Err, refl, sym, ap, ◌∙◌, subst}
 use Rattle.std.specs.Prelude.{Option, Some, None}
-use Rattle.std.specs.List.{list_all}
 use Rattle.std.proofs.lemmas.Bool.{and_parts}
 use Rattle.texts.specs.Results.{map_err}
 use Rattle.litmus.specs.LitmusTests.{LitmusTest}
@@ -25,8 +24,8 @@ use Rattle.engine_support.specs.declared.fault.Refusal.{Refusal}
 use Rattle.engine_support.specs.Inputs.After.{read}
 use Rattle.engine_support.specs.Tests.{tests}
 use Rattle.engine_support.proofs.InputLaws.{IsOne, alike_after, is_one, one_litmus_text}
-use Rattle.certifying.specs.Answers.{IsAnswerTo, IsCertificateAnswer, IsFlawAnswer, IsKeptAnswer, IsQueueAnswer, IsTrialAnswer, IsUseAnswer, is_of_queue}
-use Rattle.certifying.specs.Answers.{judged_reads, kept_answer, kept_judgement}
+use Rattle.certifying.specs.Answers.{IsAnswerTo, IsCertificateAnswer, IsFlawAnswer, IsQueueAnswer, IsTrialAnswer, IsUseAnswer, is_of_queue}
+use Rattle.certifying.specs.Answers.{all_shown, judged_reads, kept_answer, kept_judgement}
 use Rattle.certifying.specs.Questions.{Questions}
 use Rattle.certifying.specs.Going.{all_going, all_going_lines}
 use Rattle.certifying.specs.Harts.{harts_lines, harts_safe}
@@ -34,18 +33,19 @@ use Rattle.certifying.specs.Inputs.{SaysCertificate, certificate_of, certificate
 use Rattle.certifying.specs.Kept.{AreSameAnswers, AreJudged, AreQueueAnswers, IsPromised, KeepsProtocol, KeepsTags, LoadsOwnedSlots}
 use Rattle.certifying.specs.Kept.{LinesHold, LoadsTagsOrOwned, ReceivesFields}
 use Rattle.certifying.specs.Queues.{queue_count, slots_by, tagged_number}
-use Rattle.certifying.specs.Records.{AreFoundFor, is_shown}
-use Rattle.certifying.specs.declared.records.Records.{Records}
+use Rattle.certifying.specs.Records.{AreFound, are_read, are_written}
+use Rattle.certifying.specs.declared.records.QueueRecords.{QueueRecords}
 use Rattle.certifying.specs.Unread.{first_unread, unowned_by, unread_of}
 use Rattle.certifying.specs.Unused.{first_unused}
 use Rattle.certifying.specs.declared.judgement.Judgement.{Judgement}
 use Rattle.certifying.specs.declared.judgement.Judgement.TheVariants as judgement
 use Rattle.certifying.specs.declared.unread.Unread.{Unread}
 use Rattle.certifying.specs.declared.unused.Unused.{Unused}
-use Rattle.certifying.proofs.AskedLaws.{AskedLaws, FirstLaws, harts-hold, keeps-harts, one-for, records-hold, writes}
 use Rattle.certifying.proofs.DrawnLaws.{DrawnLaws, SomeSlots, breaks, no_first, none-below, one-trial, sized}
 use Rattle.certifying.proofs.GoingLaws.{GoingLaws, keeps-going, progress-holds}
+use Rattle.certifying.proofs.HartLaws.{HartLaws, harts-hold, keeps-harts}
 use Rattle.certifying.proofs.Numbers.{is_indexed, is_tagged}
+use Rattle.certifying.proofs.RecordLaws.{FirstLaws, RecordLaws, keeps-records, one-in, records-hold}
 
 -- ---- one answer
 
@@ -65,7 +65,7 @@ alike a b judged is other = let same : a ≡ b = is ∙ sym other in (ap (λ (x 
 module _ (laws : DrawnLaws) (firsts : FirstLaws) (d : DrawnRuns) (asked : Questions) (o : OpeningValue) (c : QueueCertificate) where
   one_use : (u : Option Unused) (a b : List ℕ × Judgement) → IsUseAnswer d.M asked o c u a → IsUseAnswer d.M asked o c u b → AreSameAnswers a b
   one_use None a b is other =
-      let same = one-for firsts o c asked.written is.found other.found is.are_found other.are_found in
+      let same = one-in firsts o c asked is.found other.found is.are_found other.are_found in
       alike a b (kept_answer d.M asked o c other.found) (is.answer_is ∙ ap (kept_answer d.M asked o c) same) other.answer_is
   one_use (Some unused) a b is other = alike a b _ is other
 
@@ -112,7 +112,8 @@ pub record Laws : Type 0 where
       → EachIs (telling (slots_of (tagged_at c t))) (teller_hart (slots_of (tagged_at c t)) p) (LoadsRestOwned (slots_of (tagged_at c t)) p)
       (all_at (tagged_start c t)) es
   pub going : GoingLaws
-  pub asked : AskedLaws
+  pub records : RecordLaws
+  pub harts : HartLaws
   pub drawn : DrawnLaws
 
 module _ (laws : Laws) (o : OpeningValue) (c : QueueCertificate) where
@@ -161,32 +162,33 @@ module _ (laws : Laws) (o : OpeningValue) (c : QueueCertificate) where
   receives none = laws.sent o c ((laws.no_flaw o c).0 none)
 
   module _ (M : ℕ) (asked : Questions) where
-    lines_hold : first_flaw o c ≡ None → (found : List Records) → AreFoundFor o c asked.written found → (answer : List ℕ × Judgement)
+    lines_hold : first_flaw o c ≡ None → (found : List QueueRecords) → AreFound o c asked found → (answer : List ℕ × Judgement)
         → answer ≡ kept_answer M asked o c found → LinesHold M asked o c answer
     lines_hold none found are answer is =
         let accepted = (laws.no_flaw o c).0 none in record {
           found = found;
           answer_is = is;
           progress = progress-holds o c laws.going accepted asked.progress;
-          records = records-hold o c laws.asked accepted asked.written found are;
-          harts = harts-hold o c laws.asked accepted M asked.harts;
+          records = records-hold o c laws.records accepted asked found are;
+          harts = harts-hold o c laws.harts accepted M asked.harts;
         }
 
-    promised_all : first_flaw o c ≡ None → first_unread o c ≡ None → (found : List Records) → AreFoundFor o c asked.written found → (text : List ℕ)
+    promised_all : first_flaw o c ≡ None → first_unread o c ≡ None → (found : List QueueRecords) → AreFound o c asked found → (text : List ℕ)
         → (goes : Bool) → all_going o c asked.progress ≡ goes
-        → (all : Bool) → (list_all is_shown found && harts_safe M o c asked.harts) ≡ all → LinesHold M asked o c (text, kept_judgement goes all)
+        → (all : Bool) → all_shown found (harts_safe M o c asked.harts) ≡ all → LinesHold M asked o c (text, kept_judgement goes all)
         → IsPromised M asked (text, kept_judgement goes all) o c
     promised_all none owned found are text true goes true shown hold =
         let accepted = (laws.no_flaw o c).0 none in
-        let both = and_parts _ _ shown in (
+        let both = and_parts (are_written found && are_read found) (harts_safe M o c asked.harts) shown in
+        let records = and_parts (are_written found) (are_read found) both.0 in (
           keeps none,
           keeps_tags none,
           receives none,
           loads none owned,
           loads_tags none owned,
           keeps-going o c laws.going accepted asked.progress goes,
-          writes o c laws.asked accepted asked.written found are both.0,
-          keeps-harts o c laws.asked accepted M asked.harts both.1,
+          keeps-records o c laws.records accepted asked found are records.0 records.1,
+          keeps-harts o c laws.harts accepted M asked.harts both.1,
         )
     promised_all none owned found are text true goes false shown hold = (
       keeps none,
@@ -201,14 +203,14 @@ module _ (laws : Laws) (o : OpeningValue) (c : QueueCertificate) where
         (keeps none, keeps_tags none, receives none, loads none owned, loads_tags none owned, hold)
 
     -- what is answered, where the first load that isn't shown is this
-    abbrev answered : List Records → Option Unread → List ℕ × Judgement
+    abbrev answered : List QueueRecords → Option Unread → List ℕ × Judgement
     answered found u = judged_reads o c asked (all_going_lines o c asked.progress) found (harts_lines M o c asked.harts)
         (all_going o c asked.progress) (harts_safe M o c asked.harts) u
 
-    promised_reads : first_flaw o c ≡ None → (found : List Records) → AreFoundFor o c asked.written found → (u : Option Unread) → first_unread o c ≡ u
+    promised_reads : first_flaw o c ≡ None → (found : List QueueRecords) → AreFound o c asked found → (u : Option Unread) → first_unread o c ≡ u
         → LinesHold M asked o c (answered found u) → IsPromised M asked (answered found u) o c
     promised_reads none found are None e hold = promised_all none e found are _ (all_going o c asked.progress) refl
-        (list_all is_shown found && harts_safe M o c asked.harts) refl hold
+        (all_shown found (harts_safe M o c asked.harts)) refl hold
     promised_reads none found are (Some unread) e hold = (keeps none, keeps_tags none, receives none, hold)
 
     promised_use : first_flaw o c ≡ None → (u : Option Unused) → (answer : List ℕ × Judgement) → IsUseAnswer M asked o c u answer

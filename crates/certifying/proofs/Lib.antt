@@ -1,6 +1,7 @@
 mod AnswerLaws
-mod AskedLaws
 mod Certificates
 mod DrawnLaws
 mod GoingLaws
+mod HartLaws
 mod Numbers
+mod RecordLaws

@@ -1,6 +1,5 @@
 -- The command `queue`: whether a certificate shows that every run of a litmus text keeps the protocol of its queues, and what is promised then.
 use Rattle.std.specs.Prelude.{ℕ, ◌≡◌, ◌==◌, ◌&&◌, Bool, true, false, List, [], ◌∷◌, ◌++◌, length, codes, Option, Some, None, is_some, Result, Ok, Err}
-use Rattle.std.specs.List.{list_all}
 use Rattle.step_machine.specs.History.{OpeningValue}
 use Rattle.step_machine.specs.declared.events.Event.{Event}
 use Rattle.queue_certificates.specs.Certificates.{QueueCertificate}
@@ -28,13 +27,13 @@ use Rattle.certifying.specs.Harts.{harts_lines, harts_safe}
 use Rattle.certifying.specs.Inputs.{certificates}
 use Rattle.certifying.specs.NotShown.{flaw_line, likely_line}
 use Rattle.certifying.specs.Queues.{queue_count}
-use Rattle.certifying.specs.Records.{AreFoundFor, is_shown, record_lines}
+use Rattle.certifying.specs.Records.{AreFound, are_read, are_written, record_lines}
 use Rattle.certifying.specs.Trials.{IsFirstBroken, QueuesKeep}
 use Rattle.certifying.specs.Unread.{first_unread, unread_line}
 use Rattle.certifying.specs.Unused.{first_unused, unused_line}
 use Rattle.certifying.specs.declared.judgement.Judgement.{Judgement}
 use Rattle.certifying.specs.declared.judgement.Judgement.TheVariants.{Kept, ReadsNotShown, ProgressNotShown, AskedNotShown, NotShown, Broken, OtherProtocol}
-use Rattle.certifying.specs.declared.records.Records.{Records}
+use Rattle.certifying.specs.declared.records.QueueRecords.{QueueRecords}
 use Rattle.certifying.specs.declared.unread.Unread.{Unread}
 use Rattle.certifying.specs.declared.unused.Unused.{Unused}
 
@@ -60,7 +59,7 @@ abbrev pub protocol_text : QueueCertificate → List ℕ
 protocol_text c = every_run_text ++ kept_protocols (length c.queues == 0) (length c.tagged == 0)
 
 unfoldable pub promise_end : List ℕ
-promise_end = codes ", so records arrive in order, each once, with all that was written before" ++ 10 ∷ []
+promise_end = codes ", so positions arrive in order, each once, with all that was written before" ++ 10 ∷ []
 
 abbrev pub promise_line : QueueCertificate → List ℕ
 promise_line c = protocol_text c ++ promise_end
@@ -71,59 +70,56 @@ protocol_line c = protocol_text c ++ 10 ∷ []
 unfoldable pub reads_line : List ℕ
 reads_line = codes "not promised: that what is loaded from a slot is a record that the hart owns" ++ 10 ∷ []
 
-unfoldable pub records_line : List ℕ
-records_line = codes "not promised: that a record was freshly or wholly written, what the code does with it, what memory outside of the queue holds"
-    ++ 10 ∷ []
-
 unfoldable pub progress_line : List ℕ
 progress_line = codes "not promised: that anything is ever sent or received" ++ 10 ∷ []
 
 unfoldable pub running_line : List ℕ
 running_line = codes "not promised: that a hart is ever run, or doesn't end or stop, or that a store ever lands" ++ 10 ∷ []
 
-unfoldable pub other_bytes_line : List ℕ
-other_bytes_line =
-    codes "not promised: that other bytes of a record are freshly written, what the code does with it, what memory outside of the queue holds"
-    ++ 10 ∷ []
+-- where bytes of records are shown to be read, or not
+unfoldable pub limit_of_reading : (read : Bool) → List ℕ
+limit_of_reading true = codes "not promised: that other bytes of a record are read, "
+limit_of_reading false = codes "not promised: that a record's bytes are read, "
 
--- where bytes of records are shown to be written, or not
-abbrev pub limit_of_records : (written : Bool) → List ℕ
-limit_of_records true = other_bytes_line
-limit_of_records false = records_line
+-- and where they are shown to be written, or not
+abbrev pub limit_of_writing : (written : Bool) → List ℕ
+limit_of_writing true = codes "that other bytes of a record are freshly written"
+limit_of_writing false = codes "that a record was freshly or wholly written"
+
+unfoldable pub rest_of_limits : List ℕ
+rest_of_limits = codes ", what the code does with it, what memory outside of the queue holds" ++ 10 ∷ []
+
+abbrev pub limit_of_records : (written read : Bool) → List ℕ
+limit_of_records written read = limit_of_reading read ++ limit_of_writing written ++ rest_of_limits
 
 -- where queues are shown to go on, or not
 abbrev pub limit_of_progress : (goes : Bool) → List ℕ
 limit_of_progress true = running_line
 limit_of_progress false = progress_line
 
-abbrev pub limit_lines : (written goes : Bool) → List ℕ
-limit_lines written goes = limit_of_records written ++ limit_of_progress goes
-
 abbrev pub nothing_line : List ℕ
 nothing_line = codes "nothing is claimed" ++ 10 ∷ []
 
 -- ---- all of it
 
--- bytes of records were asked about, and are shown to be written
-abbrev pub records_shown : Questions → List Records → Bool
-records_shown asked found = is_some asked.written && list_all is_shown found
-
--- the lines about what is asked: whether the queues go on, what is found of records, and the lines of the harts
-abbrev pub asked_lines : OpeningValue → QueueCertificate → Questions → (going : List ℕ) → List Records → (harts : List ℕ) → List ℕ
-asked_lines o c asked going found harts = going ++ record_lines o c asked.written found ++ harts
+-- the lines of the queues, and about what is asked: whether they go on, what is found of records, and the lines of the harts
+abbrev pub asked_lines : OpeningValue → QueueCertificate → Questions → (going : List ℕ) → List QueueRecords → (harts : List ℕ) → List ℕ
+asked_lines o c asked going found harts = all_queue_lines o c ++ going ++ record_lines o c asked found ++ harts
 
 -- what isn't promised, where the queues are shown to go on, if that is asked, or not
-abbrev pub limits_of : Questions → List Records → (goes : Bool) → List ℕ
-limits_of asked found goes = limit_lines (records_shown asked found) (asked.progress && goes)
+abbrev pub limits_of : Questions → List QueueRecords → (goes : Bool) → List ℕ
+limits_of asked found goes = limit_of_records (is_some asked.written && are_written found) (is_some asked.read && are_read found)
+    ++ limit_of_progress (asked.progress && goes)
 
 -- where all else that is asked is shown, or not
-abbrev pub kept_text : OpeningValue → QueueCertificate → Questions → (going : List ℕ) → List Records → (harts : List ℕ) → (goes all : Bool) → List ℕ
-kept_text o c asked going found harts goes all = kept_line asked.progress goes all ++ all_queue_lines o c ++ asked_lines o c asked going found harts
+abbrev pub kept_text : OpeningValue → QueueCertificate → Questions → (going : List ℕ) → List QueueRecords → (harts : List ℕ) → (goes all : Bool)
+    → List ℕ
+kept_text o c asked going found harts goes all = kept_line asked.progress goes all ++ asked_lines o c asked going found harts
     ++ promise_line c ++ limits_of asked found goes
 
-abbrev pub unread_text : OpeningValue → QueueCertificate → Questions → (going : List ℕ) → List Records → (harts : List ℕ) → (goes : Bool) → Unread
-    → List ℕ
-unread_text o c asked going found harts goes unread = unread_line o c unread ++ all_queue_lines o c ++ asked_lines o c asked going found harts
+abbrev pub unread_text : OpeningValue → QueueCertificate → Questions → (going : List ℕ) → List QueueRecords → (harts : List ℕ) → (goes : Bool)
+    → Unread → List ℕ
+unread_text o c asked going found harts goes unread = unread_line o c unread ++ asked_lines o c asked going found harts
     ++ protocol_line c ++ reads_line ++ limits_of asked found goes
 
 abbrev pub unused_text : Unused → List ℕ
@@ -132,6 +128,10 @@ unused_text unused = unused_line unused ++ nothing_line
 abbrev pub flaw_text : OpeningValue → QueueCertificate → Flaw → List ℕ
 flaw_text o c flaw = flaw_line o c flaw ++ likely_line o c flaw ++ nothing_line
 
+-- all is shown that was asked besides whether the queues go on
+abbrev pub all_shown : List QueueRecords → (safe : Bool) → Bool
+all_shown found safe = (are_written found && are_read found) && safe
+
 abbrev pub kept_judgement : (goes all : Bool) → Judgement
 kept_judgement false all = ProgressNotShown
 kept_judgement true false = AskedNotShown
@@ -139,20 +139,20 @@ kept_judgement true true = Kept
 
 -- where the protocol is shown of queues that are used, with the lines of whether they go on and of the harts, what is found of records, and
 -- whether these are shown
-abbrev pub judged_reads : OpeningValue → QueueCertificate → Questions → (going : List ℕ) → List Records → (harts : List ℕ) → (goes safe : Bool)
-    → Option Unread → List ℕ × Judgement
+abbrev pub judged_reads : OpeningValue → QueueCertificate → Questions → (going : List ℕ) → List QueueRecords → (harts : List ℕ)
+    → (goes safe : Bool) → Option Unread → List ℕ × Judgement
 judged_reads o c asked going found harts goes safe None =
-    (kept_text o c asked going found harts goes (list_all is_shown found && safe), kept_judgement goes (list_all is_shown found && safe))
+    (kept_text o c asked going found harts goes (all_shown found safe), kept_judgement goes (all_shown found safe))
 judged_reads o c asked going found harts goes safe (Some unread) = (unread_text o c asked going found harts goes unread, ReadsNotShown)
 
 -- the same with M words of memory, by what is found of records
-abbrev pub kept_answer : (M : ℕ) → Questions → OpeningValue → QueueCertificate → List Records → List ℕ × Judgement
+abbrev pub kept_answer : (M : ℕ) → Questions → OpeningValue → QueueCertificate → List QueueRecords → List ℕ × Judgement
 kept_answer M asked o c found = judged_reads o c asked (all_going_lines o c asked.progress) found (harts_lines M o c asked.harts)
     (all_going o c asked.progress) (harts_safe M o c asked.harts) (first_unread o c)
 
 pub record IsKeptAnswer (M : ℕ) (asked : Questions) (o : OpeningValue) (c : QueueCertificate) (answer : List ℕ × Judgement) : Type 0 where
-  pub found : List Records
-  pub are_found : AreFoundFor o c asked.written found
+  pub found : List QueueRecords
+  pub are_found : AreFound o c asked found
   pub answer_is : answer ≡ kept_answer M asked o c found
 
 abbrev pub IsUseAnswer : (M : ℕ) → Questions → OpeningValue → QueueCertificate → Option Unused → List ℕ × Judgement → Type 0

@@ -1,5 +1,5 @@
 -- What a `kept` means, of every legal run from where a litmus text opens, and what a `broken` means, of one.
-use Rattle.std.specs.Prelude.{ℕ, ◌≡◌, ◌⊎◌, ◌+◌, ◌<◌, ◌≤◌, Bool, true, false, List, [], ◌∷◌, ◌++◌, length, get_or, Option, None, Some}
+use Rattle.std.specs.Prelude.{ℕ, ◌≡◌, ◌⊎◌, ◌+◌, ◌<◌, ◌≤◌, Bool, true, false, List, [], ◌∷◌, ◌++◌, length, map, get_or, Option, None, Some}
 use Rattle.std.specs.Prelude.{Result, Ok, Err}
 use Rattle.hart.specs.State.{HartState}
 use Rattle.hart.specs.declared.status.Stop.{Stop}
@@ -26,8 +26,10 @@ use Rattle.ownership_runs.specs.declared.violations.Violation.{Violation}
 use Rattle.ownership_runs.specs.Protocols.{Keeps}
 use Rattle.ownership_runs.specs.Violations.{first_ownership_violation}
 use Rattle.record_bytes.specs.Naming.{names_byte}
-use Rattle.records_written.specs.Parties.{published_after, slot_in}
+use Rattle.records_written.specs.Parties.{count_after, slot_in}
+use Rattle.records_written.specs.Read.{IsRead}
 use Rattle.records_written.specs.Written.{IsWritten}
+use Rattle.records_written.specs.declared.parties.QueueNumber.{QueueNumber}
 use Rattle.hart_safety.specs.Regions.{IsInNone}
 use Rattle.hart_safety.specs.Stops.{first_stop}
 use Rattle.hart_safety.specs.Writes.{first_unbounded, regions_written}
@@ -45,7 +47,9 @@ use Rattle.certifying.specs.Answers.{kept_answer, undecided}
 use Rattle.certifying.specs.Questions.{Questions}
 use Rattle.certifying.specs.Inputs.{certificates}
 use Rattle.certifying.specs.Queues.{any_queue, any_start, is_tag_byte, number_in, queue_count, slots_at}
+use Rattle.certifying.specs.Records.{doer}
 use Rattle.certifying.specs.Together.{bound_of, bound_together, pace_together}
+use Rattle.certifying.specs.declared.records.QueueRecords.{QueueRecords}
 use Rattle.certifying.specs.declared.records.Records.{Records}
 use Rattle.certifying.specs.declared.records.Records.TheVariants.{NoBytes, Shown}
 use Rattle.certifying.specs.declared.judgement.Judgement.{Judgement}
@@ -81,13 +85,19 @@ LoadsTagsOrOwned o c = (B M : ℕ) (es : List Entry) → WellFormed B M (history
 
 -- ---- what is asked, of one queue and of one hart
 
+-- the sender has written the byte at x of position k, or the receiver has read it
+abbrev pub IsDone : (writes : Bool) → QueueCertificate → QueueNumber → List Entry → (k x : ℕ) → Type 0
+IsDone true c w es k x = IsWritten c w es k x
+IsDone false c w es k x = IsRead c w es k x
+
 -- Of the bytes that a text names: the records of queue i have some of them; and in each run, where its sender publishes a position, it has
--- written each of them, except those of a tag, in that position's slot since the record before in that slot was published
-abbrev pub WritesRecordsOf : (bytes : List ℕ) → OpeningValue → QueueCertificate → (i : ℕ) → Type 0
-WritesRecordsOf bytes o c i = ((b : ℕ) × (b < (slots_at c i).width) × (names_byte bytes b ≡ true))
+-- written each of them, except those of a tag, in that position's slot since the record before in that slot was published; or where its receiver
+-- hands a position back, it has read each of them, except those of a tag, in that position's slot while it owned the position, as it had learned
+abbrev pub DoesRecordsOf : (writes : Bool) → (bytes : List ℕ) → OpeningValue → QueueCertificate → (i : ℕ) → Type 0
+DoesRecordsOf writes bytes o c i = ((b : ℕ) × (b < (slots_at c i).width) × (names_byte bytes b ≡ true))
     × ((B M : ℕ) (es : List Entry) (e : Entry) → WellFormed B M (history_of o (es ++ e ∷ [])) → (k : ℕ)
-    → published_after c (number_in c i) es ≤ k → k < published_after c (number_in c i) (es ++ e ∷ []) → (b : ℕ) → b < (slots_at c i).width
-    → names_byte bytes b ≡ true → is_tag_byte c i b ≡ false → IsWritten c (number_in c i) es k (slot_in c (number_in c i) k + b))
+    → count_after c (number_in c i) (doer writes) es ≤ k → k < count_after c (number_in c i) (doer writes) (es ++ e ∷ []) → (b : ℕ)
+    → b < (slots_at c i).width → names_byte bytes b ≡ true → is_tag_byte c i b ≡ false → IsDone writes c (number_in c i) es k (slot_in c (number_in c i) k + b))
 
 -- in each run with M words of memory hart h is never stopped
 abbrev pub NeverStops : (M : ℕ) → OpeningValue → (h : ℕ) → Type 0
@@ -166,9 +176,12 @@ KeepsGoing true o c = ((i : ℕ) → i < length c.queues → QueueGoesOn o c i) 
 KeepsGoing false o c = Unit {0}
 
 -- each queue's records, if they are asked about
-abbrev pub WritesRecords : (written : Option (List ℕ)) → OpeningValue → QueueCertificate → Type 0
-WritesRecords None o c = Unit {0}
-WritesRecords (Some bytes) o c = (i : ℕ) → i < queue_count c → WritesRecordsOf bytes o c i
+abbrev pub DoesRecords : (writes : Bool) → (asked : Option (List ℕ)) → OpeningValue → QueueCertificate → Type 0
+DoesRecords writes None o c = Unit {0}
+DoesRecords writes (Some bytes) o c = (i : ℕ) → i < queue_count c → DoesRecordsOf writes bytes o c i
+
+abbrev pub KeepsRecords : Questions → OpeningValue → QueueCertificate → Type 0
+KeepsRecords asked o c = DoesRecords true asked.written o c × DoesRecords false asked.read o c
 
 -- each hart, if they are asked about
 abbrev pub KeepsHarts : (M : ℕ) → (harts : Bool) → OpeningValue → QueueCertificate → Type 0
@@ -177,10 +190,14 @@ KeepsHarts M false o c = Unit {0}
 
 -- ---- of those whose line says that it is shown, whatever the judgement
 
--- each queue of which the records are found to be written
-abbrev pub RecordsHold : (written : Option (List ℕ)) → OpeningValue → QueueCertificate → List Records → Type 0
-RecordsHold None o c found = Unit {0}
-RecordsHold (Some bytes) o c found = (i : ℕ) → get_or found i NoBytes ≡ Shown → WritesRecordsOf bytes o c i
+-- each queue of which the records are found to be written, or to be read
+abbrev pub FoundHold : (writes : Bool) → (asked : Option (List ℕ)) → OpeningValue → QueueCertificate → List Records → Type 0
+FoundHold writes None o c found = Unit {0}
+FoundHold writes (Some bytes) o c found = (i : ℕ) → get_or found i NoBytes ≡ Shown → DoesRecordsOf writes bytes o c i
+
+abbrev pub RecordsHold : Questions → OpeningValue → QueueCertificate → List QueueRecords → Type 0
+RecordsHold asked o c found =
+    FoundHold true asked.written o c (map (λ both. both.written) found) × FoundHold false asked.read o c (map (λ both. both.read) found)
 
 -- each hart without a state that may stop it, and each without a store that may go anywhere
 abbrev pub HartsHold : (M : ℕ) → (harts : Bool) → OpeningValue → QueueCertificate → Type 0
@@ -207,10 +224,10 @@ ProgressHolds false o c = Unit {0}
 
 -- The answer has the lines of the queues' progress, of these records and of the harts, and what they say is shown is so.
 pub record LinesHold (M : ℕ) (asked : Questions) (o : OpeningValue) (c : QueueCertificate) (answer : List ℕ × Judgement) : Type 0 where
-  pub found : List Records
+  pub found : List QueueRecords
   pub answer_is : answer ≡ kept_answer M asked o c found
   pub progress : ProgressHolds asked.progress o c
-  pub records : RecordsHold asked.written o c found
+  pub records : RecordsHold asked o c found
   pub harts : HartsHold M asked.harts o c
 
 -- a legal run breaks that of a queue of either kind, first by this violation: a store that is described, or one that isn't
@@ -238,7 +255,7 @@ pub record AreJudged (file certificate : Option (List ℕ)) (Holds : OpeningValu
 -- what is promised by this text and judgement, with M words of memory
 abbrev pub IsPromised : (M : ℕ) → Questions → List ℕ × Judgement → OpeningValue → QueueCertificate → Type 0
 IsPromised M asked (text, Kept) o c = KeepsProtocol o c × KeepsTags o c × ReceivesFields o c × LoadsOwnedSlots o c × LoadsTagsOrOwned o c
-    × KeepsGoing asked.progress o c × WritesRecords asked.written o c × KeepsHarts M asked.harts o c
+    × KeepsGoing asked.progress o c × KeepsRecords asked o c × KeepsHarts M asked.harts o c
 IsPromised M asked (text, AskedNotShown) o c = KeepsProtocol o c × KeepsTags o c × ReceivesFields o c × LoadsOwnedSlots o c
     × LoadsTagsOrOwned o c × KeepsGoing asked.progress o c × LinesHold M asked o c (text, AskedNotShown)
 IsPromised M asked (text, ProgressNotShown) o c = KeepsProtocol o c × KeepsTags o c × ReceivesFields o c × LoadsOwnedSlots o c

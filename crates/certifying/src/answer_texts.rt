@@ -4,10 +4,9 @@ ghost use Rattle.std.specs.Prelude.{◌≡◌, ◌++◌, IfOk, OnOk, true};
 ghost use Rattle.std.specs.String.{string_bytes};
 ghost use Rattle.engine_support.specs.OpeningTexts.{numbered};
 ghost use Rattle.certificate_reader.specs.Known.{known_at};
-ghost use Rattle.certifying.specs.Answers.{asked_lines, every_run_text, flaw_text, kept_line, kept_protocols, kept_text, limit_lines};
-ghost use Rattle.certifying.specs.Answers.{limit_of_progress, limit_of_records, limits_of, nothing_line, running_line};
-ghost use Rattle.certifying.specs.Answers.{other_bytes_line, progress_line, promise_end, protocol_line, protocol_text, reads_line, records_line, records_shown};
-ghost use Rattle.certifying.specs.Answers.{unread_text, unused_text};
+ghost use Rattle.certifying.specs.Answers.{asked_lines, every_run_text, flaw_text, kept_line, kept_protocols, kept_text, limit_of_progress};
+ghost use Rattle.certifying.specs.Answers.{limit_of_reading, limit_of_records, limit_of_writing, limits_of, nothing_line, progress_line, promise_end};
+ghost use Rattle.certifying.specs.Answers.{protocol_line, protocol_text, reads_line, rest_of_limits, running_line, unread_text, unused_text};
 ghost use Rattle.certifying.specs.Questions.{questions_by};
 ghost use Rattle.certifying.specs.Broken.{runs_line};
 ghost use Rattle.certifying.specs.NotShown.{flaw_line, likely_line};
@@ -16,7 +15,7 @@ use crate::breaking::push_runs;
 use crate::descriptions::push_queues;
 use crate::not_shown::{push_flaw, push_likely};
 use crate::questions::Questions;
-use crate::records::{Records, are_shown, push_records};
+use crate::records::{QueueRecords, are_read, are_written, push_records};
 use crate::unread::{Unread, push_unread};
 use crate::unused::{Unused, push_unused};
 use certificate_reader::push_known_at;
@@ -26,17 +25,6 @@ use ownership_runs::Moved;
 use queue_checker::{Flaw, QueueCertificate};
 use std::alloc::{AllocError, Global};
 use step_machine::Opening;
-
-/// What isn't promised of records.
-#[tactic(auto, unfolding(crate::specs::Answers::records_line))]
-fn push_no_record(out: &mut String) -> Result<(), AllocError>
-    ensures { OnOk result (string_bytes out.new ≡ string_bytes out.old ++ records_line) }
-{
-    writeln!(
-        out,
-        "not promised: that a record was freshly or wholly written, what the code does with it, what memory outside of the queue holds"
-    )
-}
 
 #[tactic(auto, unfolding(crate::specs::Answers::progress_line))]
 fn push_progress(out: &mut String) -> Result<(), AllocError>
@@ -66,56 +54,62 @@ fn push_limit_of_progress(out: &mut String, goes: bool) -> Result<(), AllocError
     }
 }
 
-/// What isn't promised of records where bytes of them are shown to be written.
-#[tactic(auto, unfolding(crate::specs::Answers::other_bytes_line))]
-fn push_other_bytes(out: &mut String) -> Result<(), AllocError>
-    ensures { OnOk result (string_bytes out.new ≡ string_bytes out.old ++ other_bytes_line) }
+#[tactic(auto, unfolding(crate::specs::Answers::limit_of_reading))]
+fn push_limit_of_reading(out: &mut String, read: bool) -> Result<(), AllocError>
+    ensures { OnOk result (string_bytes out.new ≡ string_bytes out.old ++ limit_of_reading read) }
 {
-    writeln!(
-        out,
-        "not promised: that other bytes of a record are freshly written, what the code does with it, what memory outside of the queue holds"
-    )
-}
-
-/// What isn't promised of records, where bytes of them are shown to be written or not.
-fn push_limit_of_records(out: &mut String, written: bool) -> Result<(), AllocError>
-    ensures { OnOk result (string_bytes out.new ≡ string_bytes out.old ++ limit_of_records written) }
-{
-    if written {
-        push_other_bytes(out)
+    if read {
+        out.push_str("not promised: that other bytes of a record are read, ")
     } else {
-        push_no_record(out)
+        out.push_str("not promised: that a record's bytes are read, ")
     }
 }
 
-/// The same, and of progress.
-fn push_limits(out: &mut String, written: bool, goes: bool) -> Result<(), AllocError>
-    ensures { OnOk result (string_bytes out.new ≡ string_bytes out.old ++ limit_lines written goes) }
+fn push_limit_of_writing(out: &mut String, written: bool) -> Result<(), AllocError>
+    ensures { OnOk result (string_bytes out.new ≡ string_bytes out.old ++ limit_of_writing written) }
 {
-    push_limit_of_records(out, written)?;
-    push_limit_of_progress(out, goes)
+    if written {
+        out.push_str("that other bytes of a record are freshly written")
+    } else {
+        out.push_str("that a record was freshly or wholly written")
+    }
 }
 
-/// Whether bytes of records were asked about, and are shown to be written.
-fn are_records_shown(asked: Questions<'_>, found: &[Records]) -> bool
-    ensures { result ≡ records_shown (questions_by asked.entry) found.now }
+#[tactic(auto, unfolding(crate::specs::Answers::rest_of_limits))]
+fn push_rest_of_limits(out: &mut String) -> Result<(), AllocError>
+    ensures { OnOk result (string_bytes out.new ≡ string_bytes out.old ++ rest_of_limits) }
 {
-    asked.written.is_some() && are_shown(found)
+    writeln!(
+        out,
+        ", what the code does with it, what memory outside of the queue holds"
+    )
+}
+
+/// What isn't promised of records, where bytes of them are shown to be written, and to be read, or not.
+fn push_limit_of_records(out: &mut String, written: bool, read: bool) -> Result<(), AllocError>
+    ensures { OnOk result (string_bytes out.new ≡ string_bytes out.old ++ limit_of_records written read) }
+{
+    push_limit_of_reading(out, read)?;
+    push_limit_of_writing(out, written)?;
+    push_rest_of_limits(out)
 }
 
 /// What isn't promised, where the queues are shown to go on, if that is asked, or not.
 fn push_limits_of(
     out: &mut String,
     asked: Questions<'_>,
-    found: &[Records],
+    found: &[QueueRecords],
     goes: bool,
 ) -> Result<(), AllocError>
     ensures { OnOk result (string_bytes out.new ≡ string_bytes out.old ++ limits_of (questions_by asked.entry) found.now goes) }
 {
-    push_limits(out, are_records_shown(asked, found), asked.progress && goes)
+    let written = asked.written.is_some() && are_written(found);
+    let read = asked.read.is_some() && are_read(found);
+    push_limit_of_records(out, written, read)?;
+    push_limit_of_progress(out, asked.progress && goes)
 }
 
-/// The lines about what is asked.
+/// The lines of the queues, and about what is asked.
 fn push_asked(
     alloc: Global,
     out: &mut String,
@@ -123,14 +117,15 @@ fn push_asked(
     certificate: &QueueCertificate,
     asked: Questions<'_>,
     going: &str,
-    found: &[Records],
+    found: &[QueueRecords],
     harts: &str,
 ) -> Result<(), Lack>
     ensures { OnOk result (string_bytes out.new ≡ string_bytes out.old ++ asked_lines opening.now certificate.now (questions_by asked.entry) going.now
         found.now harts.now) }
 {
+    push_queues(alloc, out, opening, certificate)?;
     out.push_str(going)?;
-    push_records(alloc, out, opening, certificate, asked.written, found)?;
+    push_records(alloc, out, opening, certificate, asked, found)?;
     out.push_str(harts)?;
     Ok(())
 }
@@ -197,7 +192,7 @@ fn push_promise_end(out: &mut String) -> Result<(), AllocError>
 {
     writeln!(
         out,
-        ", so records arrive in order, each once, with all that was written before"
+        ", so positions arrive in order, each once, with all that was written before"
     )
 }
 
@@ -209,7 +204,7 @@ pub fn kept_text(
     certificate: &QueueCertificate,
     asked: Questions<'_>,
     going: &str,
-    found: &[Records],
+    found: &[QueueRecords],
     harts: &str,
     goes: bool,
     all: bool,
@@ -219,7 +214,6 @@ pub fn kept_text(
 {
     let mut out = String::new(alloc);
     push_kept(&mut out, asked.progress, goes, all)?;
-    push_queues(alloc, &mut out, opening, certificate)?;
     push_asked(
         alloc,
         &mut out,
@@ -260,7 +254,7 @@ pub fn unread_text(
     certificate: &QueueCertificate,
     asked: Questions<'_>,
     going: &str,
-    found: &[Records],
+    found: &[QueueRecords],
     harts: &str,
     goes: bool,
     unread: Unread,
@@ -270,7 +264,6 @@ pub fn unread_text(
 {
     let mut out = String::new(alloc);
     push_unread(&mut out, opening, certificate, unread)?;
-    push_queues(alloc, &mut out, opening, certificate)?;
     push_asked(
         alloc,
         &mut out,

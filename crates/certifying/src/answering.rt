@@ -19,7 +19,6 @@ ghost use Rattle.certifying.specs.Answers.{fault_of, is_of_queue, judged_reads, 
 ghost use Rattle.certifying.specs.Questions.{questions_by};
 ghost use Rattle.certifying.specs.Broken.{runs_line};
 ghost use Rattle.certifying.specs.NotShown.{flaw_line, likely_line};
-ghost use Rattle.certifying.specs.Answers.{limit_lines, progress_line, promise_end, protocol_line, protocol_text, reads_line, records_line};
 ghost use Rattle.certifying.specs.Answers.{unread_text, unused_text};
 ghost use Rattle.certifying.specs.Unread.{first_unread};
 ghost use Rattle.certifying.specs.Unused.{first_unused};
@@ -31,7 +30,7 @@ use crate::harts::{HartsTold, harts_told};
 use crate::input::read_certificate;
 use crate::judgement::Judgement;
 use crate::questions::Questions;
-use crate::records::{Records, are_shown, found_for};
+use crate::records::{QueueRecords, are_read, are_written, found_in};
 use crate::trials::{Trial, trial_of};
 use crate::unread::first_unread;
 use crate::unused::first_unused;
@@ -82,7 +81,7 @@ fn judged_reads(
     certificate: &QueueCertificate,
     asked: Questions<'_>,
     going: &str,
-    found: &[Records],
+    found: &[QueueRecords],
     told: &HartsTold,
     goes: bool,
 ) -> Result<(String, Judgement), Lack>
@@ -92,7 +91,7 @@ fn judged_reads(
     let harts = told.lines.as_str();
     match first_unread(alloc, opening, certificate)? {
         None => {
-            let all = are_shown(found) && told.safe;
+            let all = are_written(found) && are_read(found) && told.safe;
             let text = kept_text(
                 alloc,
                 opening,
@@ -135,7 +134,7 @@ fn judged_asked(
 {
     let mut going = String::new(alloc);
     let goes = push_going(alloc, &mut going, opening, certificate, asked.progress)?;
-    let found = found_for(alloc, opening, certificate, asked.written)?;
+    let found = found_in(alloc, opening, certificate, asked)?;
     let told = harts_told(alloc, opening, certificate, words, asked.harts)?;
     judged_reads(
         alloc,

@@ -13,7 +13,7 @@ use ownership_runs::laws::{laws_of_judged_runs, laws_of_violations};
 use queue_certificates::laws_of_queue_certificates;
 use queue_checker::flaws::laws_of_flaws;
 use queue_progress::laws_of_queue_progress;
-use records_written::laws_of_written_records;
+use records_written::{laws_of_read_records, laws_of_written_records};
 
 /// What the command promises. It does nothing.
 ///
@@ -26,13 +26,14 @@ use records_written::laws_of_written_records;
 ///   finds as few positions as the line says; and if no store to an index of a queue is pending, more is published or taken once each of
 ///   its parties has executed that many. Where all else that was asked is shown too, and bytes of records were asked about, in each such
 ///   run the sender of each queue has written each of these bytes, except those of a tag, of each record that it publishes, since the
-///   record before in that slot was published; and if the harts were asked about, none is ever stopped on a machine of this memory, and
-///   each writes only bytes of its regions. Where not all of that is shown, or not the reads, the same holds of each queue and of each hart
-///   whose line says that it is shown; and where a line says that a hart moves on in one of several queues, or has to wait for one, of as
-///   many of its instructions in a row one moves one of its indices, or is such a load of the other's index of one of its queues. Where its
-///   answer is that the protocol is broken, some legal run of the text doesn't keep that of some queue, first by a store that is described;
-///   and where it is that the protocol described isn't kept, by one that isn't, which the protocol doesn't have then
-///   (`ownership_runs::laws_of_violations`, clause `foreign`).
+///   record before in that slot was published, and its receiver has read each of those that are asked of it, except those of a tag, of each
+///   record that it hands back, while it owned that record, as it had learned; and if the harts were asked about, none is ever stopped on a
+///   machine of this memory, and each writes only bytes of its regions. Where not all of that is shown, or not the reads, the same holds of
+///   each queue and of each hart whose line says that it is shown; and where a line says that a hart moves on in one of several queues, or
+///   has to wait for one, of as many of its instructions in a row one moves one of its indices, or is such a load of the other's index of
+///   one of its queues. Where its answer is that the protocol is broken, some legal run of the text doesn't keep that of some queue, first
+///   by a store that is described; and where it is that the protocol described isn't kept, by one that isn't, which the protocol doesn't
+///   have then (`ownership_runs::laws_of_violations`, clause `foreign`).
 /// - `one`: two answers to one input by the same drawn runs have one judgement, and are one text unless it has a schedule; or they are
 ///   refusals of one number, except that a check may be given up where a number in it passes 2^64 - 1. Of a refused litmus text it isn't said
 ///   on which line its first fault stands.
@@ -45,6 +46,7 @@ pub fn laws_of_answers()
 {
     laws_of_flaws();
     laws_of_written_records();
+    laws_of_read_records();
     laws_of_hart_safety();
     laws_of_queue_progress();
     laws_of_queue_certificates();

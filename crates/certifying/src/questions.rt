@@ -7,6 +7,8 @@ pub struct Questions<'a> {
     pub progress: bool,
     /// Which bytes of each record its sender is to write, as [`record_bytes::is_bytes`] takes them; `None` where that isn't asked.
     pub written: Option<&'a str>,
+    /// The same of those that its receiver is to read.
+    pub read: Option<&'a str>,
     /// Whether it is asked if each hart is never stopped, and which bytes it writes.
     pub harts: bool,
 }

@@ -1,37 +1,48 @@
-//! Whether the senders of queues write bytes of their records.
+//! Whether the senders of queues write bytes of their records, and the receivers read them.
 
 ghost use Rattle.std.specs.Prelude.{ℕ, ◌≡◌, ◌++◌, IfOk, OnOk, MatchOption, length, option_map};
-ghost use Rattle.std.specs.List.{list_all};
 ghost use Rattle.std.specs.String.{string_bytes};
 ghost use Rattle.engine_support.specs.OpeningTexts.{numbered};
 ghost use Rattle.record_bytes.specs.declared.ranges.ByteRange.{ByteRange};
 ghost use Rattle.record_bytes.specs.Ranges.{has_byte};
-ghost use Rattle.records_written.specs.Marks.{IsShownWritten, IsFirstUnwritten};
+ghost use Rattle.records_written.specs.Marks.{IsFirstMissing, IsShownDone};
 ghost use Rattle.records_written.specs.declared.finding.Missing.{Missing};
 ghost use Rattle.certifying.specs.Descriptions.{queue_front};
+ghost use Rattle.certifying.specs.Questions.{questions_by};
 ghost use Rattle.certifying.specs.Queues.{number_in, queue_count};
-ghost use Rattle.certifying.specs.Records.{AreFoundFor, AreFoundFrom, IsFound, asked_ranges, is_rest, is_shown, none_line, of_each, record_line};
-ghost use Rattle.certifying.specs.Records.{record_lines, shown_end, unshown_front, unwritten_end, written_text};
+ghost use Rattle.certifying.specs.Records.{AreFoundFrom, IsFound, IsFoundFor, are_read, are_written, asked_line, asked_ranges, both_lines, doer};
+ghost use Rattle.certifying.specs.Records.{doing_hart, done_text, is_rest, is_shown, missing_end, none_line, of_each, record_line, record_lines};
+ghost use Rattle.certifying.specs.Records.{shown_end, unshown_front};
 
 use crate::byte_texts::{is_one_byte, push_bytes};
+use crate::questions::Questions;
 use crate::queues::{number_in, number_of, queue_count, slots_at, tag_range};
 use crate::unread::push_pc_place;
 use known_values::Lack;
 use queue_checker::QueueCertificate;
 use record_bytes::{ByteRange, ranges_in, ranges_without};
-use records_written::{Missing, first_unwritten};
+use records_written::{Missing, QueueNumber, first_unread, first_unwritten};
 use std::alloc::{AllocError, Global};
 use step_machine::Opening;
 
-/// What is found of the bytes that are asked of a queue's records.
+/// What is found of the bytes of a queue's records that a party is to write, or to read.
 #[derive(Clone, Copy)]
 pub enum Records {
+    /// None are asked about.
+    Unasked,
     /// The records have none of these bytes.
     NoBytes,
-    /// The sender writes each of them, in each record.
+    /// The party does it with each of them, in each record.
     Shown,
     /// This isn't shown.
     NotShown(Missing),
+}
+
+/// What is found of a queue's records: of the bytes that its sender is to write, and of those that its receiver is to read.
+#[derive(Clone, Copy)]
+pub struct QueueRecords {
+    pub written: Records,
+    pub read: Records,
 }
 
 /// The bytes that are asked of a queue's records.
@@ -47,7 +58,7 @@ fn asked_ranges(
     ranges_in(alloc, bytes, u64::from(width))
 }
 
-/// Those of these bytes that the sender writes before it publishes the record: all but a tag's.
+/// Those of these bytes that aren't a tag's.
 fn rest_of(
     alloc: Global,
     certificate: &QueueCertificate,
@@ -59,21 +70,41 @@ fn rest_of(
     ranges_without(alloc, ranges, tag_range(certificate, index))
 }
 
-/// Whether the sender is shown to write the rest of these bytes, and else the first that it isn't.
+/// Whether a party is shown to write these bytes, or to read them, and else the first of which it isn't.
+fn first_missing(
+    alloc: Global,
+    opening: &Opening,
+    certificate: &QueueCertificate,
+    writes: bool,
+    queue: QueueNumber,
+    bytes: &[ByteRange],
+) -> Result<Option<Missing>, Lack>
+    ensures { IfOk result (λ r. MatchOption r (IsShownDone opening.now certificate.now queue (doer writes) (has_byte bytes.now))
+        (IsFirstMissing opening.now certificate.now queue (doer writes) (has_byte bytes.now))) }
+{
+    if writes {
+        first_unwritten(alloc, opening, certificate, queue, bytes)
+    } else {
+        first_unread(alloc, opening, certificate, queue, bytes)
+    }
+}
+
+/// The same of the rest of these bytes.
 fn first_of_rest(
     alloc: Global,
     opening: &Opening,
     certificate: &QueueCertificate,
+    writes: bool,
     index: u32,
     ranges: &[ByteRange],
 ) -> Result<Option<Missing>, Lack>
     ensures { IfOk result (λ r. MatchOption r
-        (IsShownWritten opening.now certificate.now (number_in certificate.now index) (is_rest certificate.now index ranges.now))
-        (IsFirstUnwritten opening.now certificate.now (number_in certificate.now index) (is_rest certificate.now index ranges.now))) }
+        (IsShownDone opening.now certificate.now (number_in certificate.now index) (doer writes) (is_rest certificate.now index ranges.now))
+        (IsFirstMissing opening.now certificate.now (number_in certificate.now index) (doer writes) (is_rest certificate.now index ranges.now))) }
 {
     let rest = rest_of(alloc, certificate, index, ranges)?;
     let queue = number_in(certificate, index);
-    first_unwritten(alloc, opening, certificate, queue, &rest)
+    first_missing(alloc, opening, certificate, writes, queue, &rest)
 }
 
 /// What is found of these bytes.
@@ -81,17 +112,18 @@ fn found_of(
     alloc: Global,
     opening: &Opening,
     certificate: &QueueCertificate,
+    writes: bool,
     index: u32,
     ranges: &[ByteRange],
 ) -> Result<Records, Lack>
-    ensures { IfOk result (IsFound opening.now certificate.now index ranges.now) }
+    ensures { IfOk result (IsFound opening.now certificate.now writes index ranges.now) }
 {
     if ranges.is_empty() {
         return Ok(Records::NoBytes);
     }
-    match first_of_rest(alloc, opening, certificate, index, ranges)? {
+    match first_of_rest(alloc, opening, certificate, writes, index, ranges)? {
         None => Ok(Records::Shown),
-        Some(unwritten) => Ok(Records::NotShown(unwritten)),
+        Some(missing) => Ok(Records::NotShown(missing)),
     }
 }
 
@@ -100,81 +132,96 @@ fn found_at(
     alloc: Global,
     opening: &Opening,
     certificate: &QueueCertificate,
+    writes: bool,
     bytes: &str,
     index: u32,
 ) -> Result<Records, Lack>
-    ensures { IfOk result (IsFound opening.now certificate.now index (asked_ranges certificate.now bytes.now index)) }
+    ensures { IfOk result (IsFound opening.now certificate.now writes index (asked_ranges certificate.now bytes.now index)) }
 {
     let ranges = asked_ranges(alloc, certificate, bytes, index)?;
-    found_of(alloc, opening, certificate, index, &ranges)
+    found_of(alloc, opening, certificate, writes, index, &ranges)
 }
 
-fn found_in(
+/// The same, if they are asked about.
+fn found_for(
     alloc: Global,
     opening: &Opening,
     certificate: &QueueCertificate,
-    bytes: &str,
-) -> Result<Vec<Records>, Lack>
+    writes: bool,
+    asked: Option<&str>,
+    index: u32,
+) -> Result<Records, Lack>
+    ensures { IfOk result (IsFoundFor opening.now certificate.now writes (option_map (λ bytes. bytes.now) asked.entry) index) }
+{
+    match asked {
+        None => Ok(Records::Unasked),
+        Some(bytes) => found_at(alloc, opening, certificate, writes, bytes, index),
+    }
+}
+
+/// What is found of the bytes that are asked of each queue's records.
+pub fn found_in(
+    alloc: Global,
+    opening: &Opening,
+    certificate: &QueueCertificate,
+    asked: Questions<'_>,
+) -> Result<Vec<QueueRecords>, Lack>
     ensures count { IfOk result (λ found. length found.items ≡ queue_count certificate.now) }
-    ensures found { IfOk result (λ found. AreFoundFrom opening.now certificate.now bytes.now 0 found.items) }
+    ensures found { IfOk result (λ found. AreFoundFrom opening.now certificate.now (questions_by asked.entry) 0 found.items) }
 {
     let mut found = Vec::new(alloc);
     for index in 0..queue_count(certificate)? {
-        found.push(found_at(alloc, opening, certificate, bytes, index)?)?;
+        let written = found_for(alloc, opening, certificate, true, asked.written, index)?;
+        let read = found_for(alloc, opening, certificate, false, asked.read, index)?;
+        found.push(QueueRecords { written, read })?;
     }
     Ok(found)
 }
 
-/// What is found of the bytes that are asked of each queue's records; nothing where none is asked.
-pub fn found_for(
-    alloc: Global,
-    opening: &Opening,
-    certificate: &QueueCertificate,
-    written: Option<&str>,
-) -> Result<Vec<Records>, Lack>
-    ensures { IfOk result (λ found. AreFoundFor opening.now certificate.now (option_map (λ bytes. bytes.now) written.entry) found.items) }
-{
-    match written {
-        None => Ok(Vec::new(alloc)),
-        Some(bytes) => found_in(alloc, opening, certificate, bytes),
-    }
-}
-
-/// Whether it is shown that the bytes are written.
+/// Whether what is asked of them is shown.
 fn is_shown(records: Records) -> bool
     ensures { result ≡ is_shown records }
 {
     match records {
+        Records::Unasked => true,
         Records::NoBytes => false,
         Records::Shown => true,
         Records::NotShown(_) => false,
     }
 }
 
-/// Whether that is shown of all.
-pub fn are_shown(found: &[Records]) -> bool
-    ensures { result ≡ list_all is_shown found.now }
+/// Whether each queue's bytes are shown to be written, if that is asked.
+pub fn are_written(found: &[QueueRecords]) -> bool
+    ensures { result ≡ are_written found.now }
 {
-    found.iter().all(|records| is_shown(*records))
+    found.iter().all(|both| is_shown(both.written))
+}
+
+/// Whether each queue's bytes are shown to be read, if that is asked.
+pub fn are_read(found: &[QueueRecords]) -> bool
+    ensures { result ≡ are_read found.now }
+{
+    found.iter().all(|both| is_shown(both.read))
 }
 
 // ---- lines
 
-fn push_of_each(out: &mut String, one: bool) -> Result<(), AllocError>
-    ensures { OnOk result (string_bytes out.new ≡ string_bytes out.old ++ of_each one) }
+fn push_of_each(out: &mut String, writes: bool, one: bool) -> Result<(), AllocError>
+    ensures { OnOk result (string_bytes out.new ≡ string_bytes out.old ++ of_each writes one) }
 {
-    if one {
-        out.push_str(" of each record is written")
-    } else {
-        out.push_str(" of each record are written")
+    match (writes, one) {
+        (true, true) => out.push_str(" of each record is written"),
+        (true, false) => out.push_str(" of each record are written"),
+        (false, true) => out.push_str(" of each record is read"),
+        (false, false) => out.push_str(" of each record are read"),
     }
 }
 
-fn push_written(out: &mut String, ranges: &[ByteRange]) -> Result<(), AllocError>
-    ensures { OnOk result (string_bytes out.new ≡ string_bytes out.old ++ written_text ranges.now) }
+fn push_done(out: &mut String, writes: bool, ranges: &[ByteRange]) -> Result<(), AllocError>
+    ensures { OnOk result (string_bytes out.new ≡ string_bytes out.old ++ done_text writes ranges.now) }
 {
     push_bytes(out, ranges)?;
-    push_of_each(out, is_one_byte(ranges))
+    push_of_each(out, writes, is_one_byte(ranges))
 }
 
 #[tactic(auto, unfolding(crate::specs::Records::none_line))]
@@ -191,10 +238,14 @@ fn push_front(out: &mut String, index: u32) -> Result<(), AllocError>
 }
 
 #[tactic(auto, unfolding(crate::specs::Records::shown_end))]
-fn push_shown_end(out: &mut String) -> Result<(), AllocError>
-    ensures { OnOk result (string_bytes out.new ≡ string_bytes out.old ++ shown_end) }
+fn push_shown_end(out: &mut String, writes: bool) -> Result<(), AllocError>
+    ensures { OnOk result (string_bytes out.new ≡ string_bytes out.old ++ shown_end writes) }
 {
-    writeln!(out, " after the record before in its slot was published")
+    if writes {
+        writeln!(out, " after the record before in its slot was published")
+    } else {
+        writeln!(out, " before its slot is handed back")
+    }
 }
 
 #[tactic(auto, unfolding(crate::specs::Records::unshown_front))]
@@ -204,17 +255,24 @@ fn push_unshown_front(out: &mut String, index: u32) -> Result<(), AllocError>
     write!(out, "queue {index}: not shown that ")
 }
 
-fn push_unwritten(
+/// The hart that is to write a queue's records, or to read them.
+fn doing_hart(certificate: &QueueCertificate, writes: bool, index: u32) -> u32
+    ensures { result ≡ doing_hart certificate.now writes index }
+{
+    let slots = slots_at(certificate, index);
+    if writes { slots.sender } else { slots.receiver }
+}
+
+fn push_missing(
     out: &mut String,
     opening: &Opening,
     certificate: &QueueCertificate,
-    index: u32,
-    unwritten: Missing,
+    hart: u32,
+    missing: Missing,
 ) -> Result<(), AllocError>
-    ensures { OnOk result (string_bytes out.new ≡ string_bytes out.old ++ unwritten_end opening.now certificate.now index unwritten) }
+    ensures { OnOk result (string_bytes out.new ≡ string_bytes out.old ++ missing_end opening.now certificate.now hart missing) }
 {
-    let Missing { state, byte } = unwritten;
-    let hart = slots_at(certificate, index).sender;
+    let Missing { state, byte } = missing;
     write!(out, ": byte {byte}, hart {hart}, ")?;
     push_pc_place(out, opening, certificate, hart, state)?;
     writeln!(out, "")
@@ -225,60 +283,105 @@ fn push_record(
     out: &mut String,
     opening: &Opening,
     certificate: &QueueCertificate,
+    writes: bool,
     index: u32,
     ranges: &[ByteRange],
     records: Records,
 ) -> Result<(), AllocError>
-    ensures { OnOk result (string_bytes out.new ≡ string_bytes out.old ++ record_line opening.now certificate.now index ranges.now records) }
+    ensures { OnOk result (string_bytes out.new ≡ string_bytes out.old
+        ++ record_line opening.now certificate.now writes index ranges.now records) }
 {
     match records {
+        Records::Unasked => Ok(()),
         Records::NoBytes => push_none(out, index),
         Records::Shown => {
             push_front(out, index)?;
-            push_written(out, ranges)?;
-            push_shown_end(out)
+            push_done(out, writes, ranges)?;
+            push_shown_end(out, writes)
         }
-        Records::NotShown(unwritten) => {
+        Records::NotShown(missing) => {
             push_unshown_front(out, index)?;
-            push_written(out, ranges)?;
-            push_unwritten(out, opening, certificate, index, unwritten)
+            push_done(out, writes, ranges)?;
+            let hart = doing_hart(certificate, writes, index);
+            push_missing(out, opening, certificate, hart, missing)
         }
     }
 }
 
-fn push_found(
+/// The same, if that is asked.
+fn push_asked(
     alloc: Global,
     out: &mut String,
     opening: &Opening,
     certificate: &QueueCertificate,
-    bytes: &str,
-    found: &[Records],
-) -> Result<(), Lack>
+    writes: bool,
+    asked: Option<&str>,
+    index: u32,
+    records: Records,
+) -> Result<(), AllocError>
     ensures { OnOk result (string_bytes out.new ≡ string_bytes out.old
-        ++ numbered (λ i. record_line opening.now certificate.now i (asked_ranges certificate.now bytes.now i)) 0 found.now) }
+        ++ asked_line opening.now certificate.now writes (option_map (λ bytes. bytes.now) asked.entry) index records) }
 {
-    for (place, records) in found.iter().enumerate() {
-        let index = number_of(place)?;
-        let ranges = asked_ranges(alloc, certificate, bytes, index)?;
-        push_record(out, opening, certificate, index, &ranges, *records)?;
+    match asked {
+        None => Ok(()),
+        Some(bytes) => {
+            let ranges = asked_ranges(alloc, certificate, bytes, index)?;
+            push_record(out, opening, certificate, writes, index, &ranges, records)
+        }
     }
-    Ok(())
 }
 
-/// The lines of what is found of records, if that is asked.
+/// The lines of a queue.
+fn push_both(
+    alloc: Global,
+    out: &mut String,
+    opening: &Opening,
+    certificate: &QueueCertificate,
+    asked: Questions<'_>,
+    index: u32,
+    both: QueueRecords,
+) -> Result<(), AllocError>
+    ensures { OnOk result (string_bytes out.new ≡ string_bytes out.old
+        ++ both_lines opening.now certificate.now (questions_by asked.entry) index both) }
+{
+    let QueueRecords { written, read } = both;
+    push_asked(
+        alloc,
+        out,
+        opening,
+        certificate,
+        true,
+        asked.written,
+        index,
+        written,
+    )?;
+    push_asked(
+        alloc,
+        out,
+        opening,
+        certificate,
+        false,
+        asked.read,
+        index,
+        read,
+    )
+}
+
+/// The lines of what is found of records.
 pub fn push_records(
     alloc: Global,
     out: &mut String,
     opening: &Opening,
     certificate: &QueueCertificate,
-    written: Option<&str>,
-    found: &[Records],
+    asked: Questions<'_>,
+    found: &[QueueRecords],
 ) -> Result<(), Lack>
     ensures { OnOk result (string_bytes out.new ≡ string_bytes out.old
-        ++ record_lines opening.now certificate.now (option_map (λ bytes. bytes.now) written.entry) found.now) }
+        ++ record_lines opening.now certificate.now (questions_by asked.entry) found.now) }
 {
-    match written {
-        None => Ok(()),
-        Some(bytes) => push_found(alloc, out, opening, certificate, bytes, found),
+    for (place, both) in found.iter().enumerate() {
+        let index = number_of(place)?;
+        push_both(alloc, out, opening, certificate, asked, index, *both)?;
     }
+    Ok(())
 }

@@ -1,5 +1,5 @@
 -- What each command that a command line can ask for does.
-use Rattle.std.specs.Prelude.{ℕ, ◌≡◌, ◌*◌, ◌⊎◌, max, not, Bool, true, false, List, [], ◌∷◌, Option, Result, Ok, Err}
+use Rattle.std.specs.Prelude.{ℕ, ◌≡◌, ◌*◌, ◌⊎◌, max, not, Bool, true, false, List, [], ◌∷◌, Option, None, Result, Ok, Err}
 use Rattle.std.specs.Io.KnownBytes.{Appends}
 use Rattle.rand_core.specs.Stream.{Stream}
 use Rattle.rand_core.specs.Steps.{stream_of, steps_u32}
@@ -104,7 +104,7 @@ queue_of called = record {
 
 -- what is asked of a certificate besides the protocol
 abbrev pub queue_asked : (written : Option (List ℕ)) → (harts safety : Bool) → Questions
-queue_asked written harts safety = record { progress = not safety; written = written; harts = harts }
+queue_asked written harts safety = record { progress = not safety; written = written; read = None; harts = harts }
 
 -- in which form `show` tells a test
 abbrev pub form_of : (steps : Bool) → Form

@@ -450,6 +450,7 @@ where
             Questions {
                 progress: !safety,
                 written,
+                read: None,
                 harts,
             },
             &mut streams.first,

@@ -21,8 +21,11 @@ returns-clause-promised c = answers.promised (record {
     told_going = c.laws_of_queue_progress.ensures.told_going;
     told_stands = c.laws_of_queue_progress.ensures.told_stands;
   };
-  asked = record {
+  records = record {
     written = λ B M o listed accepted. c.laws_of_written_records.ensures.shown B M o listed accepted;
+    read = λ B M o listed accepted. c.laws_of_read_records.ensures.read B M o listed accepted;
+  };
+  harts = record {
     never_stopped = c.laws_of_hart_safety.ensures.never_stopped;
     written_within = c.laws_of_hart_safety.ensures.written_within;
   };
@@ -31,4 +34,9 @@ returns-clause-promised c = answers.promised (record {
 
 pub returns-clause-one : goal.returns-clause-one
 returns-clause-one c = answers.one_queue_answer (record { none = c.laws_of_violations.ensures.none; apart = c.laws_of_judged_runs.ensures.apart })
-    (record { either = c.laws_of_written_records.ensures.either; one = c.laws_of_written_records.ensures.one })
+    (record {
+      either_written = c.laws_of_written_records.ensures.either;
+      one_written = c.laws_of_written_records.ensures.one;
+      either_read = c.laws_of_read_records.ensures.either;
+      one_read = c.laws_of_read_records.ensures.one;
+    })

@@ -1,0 +1,230 @@
+-- What is shown of the bytes of records, where the certificate is accepted, and that one thing is found of them.
+use Rattle.std.proofs.Common.{arith, ◌≡◌, ℕ, zero, suc, ◌+◌, ◌<◌, ◌≤◌, ◌&&◌, Bool, true, false, List, [], ◌∷◌, ◌++◌, length, map}
+use Rattle.std.proofs.Common.{Some, None, refl, sym, ap, ap₂, ◌∙◌, subst}
+use Rattle.std.proofs.Math.ListN.{length-map}
+use Rattle.std.specs.Prelude.{Option, get_or, nat_lt}
+use Rattle.std.specs.List.{list_all}
+use Rattle.std.proofs.lemmas.Bool.{and_parts, lt-ltb}
+use Rattle.step_machine.specs.declared.events.Entry.{Entry}
+use Rattle.step_machine.specs.History.{OpeningValue, history_of}
+use Rattle.step_machine.specs.Legal.{WellFormed}
+use Rattle.queue_certificates.specs.Certificates.{QueueCertificate, accepts}
+use Rattle.record_bytes.specs.Naming.{names_byte}
+use Rattle.record_bytes.proofs.OffsetLaws.{some-offset}
+use Rattle.record_bytes.proofs.RangeLaws.{has-below}
+use Rattle.record_bytes.specs.Ranges.{byte_ranges}
+use Rattle.record_bytes.specs.declared.ranges.ByteRange.{ByteRange}
+use Rattle.records_written.specs.Marks.{IsFirstMissing, IsFirstUnread, IsFirstUnwritten, IsShownDone, IsShownRead, IsShownWritten}
+use Rattle.records_written.specs.Parties.{IsListed, count_after, published_after, slot_in, taken_after}
+use Rattle.records_written.specs.Read.{IsRead}
+use Rattle.records_written.specs.Written.{IsWritten}
+use Rattle.records_written.specs.declared.finding.Missing.{Missing}
+use Rattle.records_written.specs.declared.parties.QueueNumber.{QueueNumber}
+use Rattle.certifying.specs.Kept.{DoesRecords, DoesRecordsOf, FoundHold, IsDone, KeepsRecords, RecordsHold}
+use Rattle.certifying.specs.Questions.{Questions}
+use Rattle.certifying.specs.Queues.{is_tag_byte, number_by, number_in, queue_count, slots_at}
+use Rattle.certifying.specs.Records.{AreFound, AreFoundFrom, IsFound, IsFoundFor, are_read, are_written, asked_ranges, doer, is_rest, is_shown}
+use Rattle.certifying.specs.declared.records.QueueRecords.{QueueRecords}
+use Rattle.certifying.specs.declared.records.Records.{Records}
+use Rattle.certifying.specs.declared.records.Records.TheVariants.{Unasked, NoBytes, Shown, NotShown}
+use Rattle.certifying.proofs.Numbers.{of_either}
+
+-- what `records_written` promises where a certificate is accepted
+pub record RecordLaws : Type 0 where
+  pub written : (B M : ℕ) (o : OpeningValue) (c : QueueCertificate) → accepts o c ≡ true → (w : QueueNumber) → IsListed c w → (mask : ℕ → Bool)
+      → IsShownWritten o c w mask → (es : List Entry) (e : Entry) → WellFormed B M (history_of o (es ++ e ∷ [])) → (k : ℕ)
+      → published_after c w es ≤ k → k < published_after c w (es ++ e ∷ []) → (b : ℕ) → mask b ≡ true → IsWritten c w es k (slot_in c w k + b)
+  pub read : (B M : ℕ) (o : OpeningValue) (c : QueueCertificate) → accepts o c ≡ true → (w : QueueNumber) → IsListed c w → (mask : ℕ → Bool)
+      → IsShownRead o c w mask → (es : List Entry) (e : Entry) → WellFormed B M (history_of o (es ++ e ∷ [])) → (k : ℕ)
+      → taken_after c w es ≤ k → k < taken_after c w (es ++ e ∷ []) → (b : ℕ) → mask b ≡ true → IsRead c w es k (slot_in c w k + b)
+
+-- and of the first byte that isn't shown to be written, or to be read
+pub record FirstLaws : Type 0 where
+  pub either_written : (o : OpeningValue) (c : QueueCertificate) (w : QueueNumber) (mask : ℕ → Bool) (u : Missing) → IsShownWritten o c w mask
+      → IsFirstUnwritten o c w mask u → ⊥
+  pub one_written : (o : OpeningValue) (c : QueueCertificate) (w : QueueNumber) (mask : ℕ → Bool) (u v : Missing) → IsFirstUnwritten o c w mask u
+      → IsFirstUnwritten o c w mask v → (u.state ≡ v.state) × (u.byte ≡ v.byte)
+  pub either_read : (o : OpeningValue) (c : QueueCertificate) (w : QueueNumber) (mask : ℕ → Bool) (u : Missing) → IsShownRead o c w mask
+      → IsFirstUnread o c w mask u → ⊥
+  pub one_read : (o : OpeningValue) (c : QueueCertificate) (w : QueueNumber) (mask : ℕ → Bool) (u v : Missing) → IsFirstUnread o c w mask u
+      → IsFirstUnread o c w mask v → (u.state ≡ v.state) × (u.byte ≡ v.byte)
+
+-- ---- one thing is found
+
+module _ (laws : FirstLaws) (o : OpeningValue) (c : QueueCertificate) where
+  either : (writes : Bool) (w : QueueNumber) (mask : ℕ → Bool) (u : Missing) → IsShownDone o c w (doer writes) mask → IsFirstMissing o c w (doer writes) mask u
+      → ⊥
+  either true w mask u shown first = laws.either_written o c w mask u shown first
+  either false w mask u shown first = laws.either_read o c w mask u shown first
+
+  one : (writes : Bool) (w : QueueNumber) (mask : ℕ → Bool) (u v : Missing) → IsFirstMissing o c w (doer writes) mask u
+      → IsFirstMissing o c w (doer writes) mask v → (u.state ≡ v.state) × (u.byte ≡ v.byte)
+  one true w mask u v first also = laws.one_written o c w mask u v first also
+  one false w mask u v first also = laws.one_read o c w mask u v first also
+
+  module _ (writes : Bool) where
+    one-found : (i : ℕ) (ranges : List ByteRange) (r s : Records) → IsFound o c writes i ranges r → IsFound o c writes i ranges s → r ≡ s
+    one-found i ranges Unasked s is also = absurd is
+    one-found i ranges NoBytes Unasked is also = absurd also
+    one-found i ranges NoBytes NoBytes is also = refl
+    one-found i ranges NoBytes Shown is also = absurd (also.0 is)
+    one-found i ranges NoBytes (NotShown v) is also = absurd (also.0 is)
+    one-found i ranges Shown Unasked is also = absurd also
+    one-found i ranges Shown NoBytes is also = absurd (is.0 also)
+    one-found i ranges Shown Shown is also = refl
+    one-found i ranges Shown (NotShown v) is also = absurd (either writes (number_in c i) (is_rest c i ranges) v is.1 also.1)
+    one-found i ranges (NotShown u) Unasked is also = absurd also
+    one-found i ranges (NotShown u) NoBytes is also = absurd (is.0 also)
+    one-found i ranges (NotShown u) Shown is also = absurd (either writes (number_in c i) (is_rest c i ranges) u also.1 is.1)
+    one-found i ranges (NotShown u) (NotShown v) is also =
+        let same = one writes (number_in c i) (is_rest c i ranges) u v is.1 also.1 in
+        ap₂ (λ (n b : ℕ). NotShown (record { state = n; byte = b })) same.0 same.1
+
+    one-for : (asked : Option (List ℕ)) (i : ℕ) (r s : Records) → IsFoundFor o c writes asked i r → IsFoundFor o c writes asked i s → r ≡ s
+    one-for None i r s is also = is ∙ sym also
+    one-for (Some bytes) i r s is also = one-found i (asked_ranges c bytes i) r s is also
+
+  one-from : (asked : Questions) (i : ℕ) (found others : List QueueRecords) → AreFoundFrom o c asked i found → AreFoundFrom o c asked i others
+      → length found ≡ length others → found ≡ others
+  one-from asked i [] [] are also same = refl
+  one-from asked i [] (s ∷ others) are also same = absurd (omega (arith, same))
+  one-from asked i (r ∷ found) [] are also same = absurd (omega (arith, same))
+  one-from asked i (r ∷ found) (s ∷ others) are also same =
+      let both : r ≡ s = ap₂ (λ (x y : Records). record { written = x; read = y }) (one-for true asked.written i r.written s.written are.0 also.0)
+      (one-for false asked.read i r.read s.read are.1 also.1) in
+      ap₂ (λ (x : QueueRecords) (xs : List QueueRecords). x ∷ xs) both (one-from asked (i + 1) found others are.2 also.2 (omega (arith, same)))
+
+  pub one-in : (asked : Questions) (found others : List QueueRecords) → AreFound o c asked found → AreFound o c asked others → found ≡ others
+  one-in asked found others are also = one-from asked 0 found others are.1 also.1 (are.0 ∙ sym also.0)
+
+-- ---- what is found of one party
+
+listed-below : (found : List Records) (i : ℕ) → get_or found i NoBytes ≡ Shown → i < length found
+listed-below [] i shown = absurd (cc)
+listed-below (r ∷ found) zero shown = omega arith
+listed-below (r ∷ found) (suc i) shown = let rest : i < length found = listed-below found i shown in omega (arith, rest)
+
+all-of : (f : QueueRecords → Records) (found : List QueueRecords) → list_all is_shown (map f found) ≡ list_all (λ both. is_shown (f both)) found
+all-of f [] = refl
+all-of f (both ∷ found) = ap (λ (b : Bool). is_shown (f both) && b) (all-of f found)
+
+module _ (o : OpeningValue) (c : QueueCertificate) where
+  -- what is found, with one more
+  pub found-more : (asked : Questions) (first : ℕ) (found : List QueueRecords) (both : QueueRecords) → AreFoundFrom o c asked first found
+      → IsFoundFor o c true asked.written (first + length found) both.written → IsFoundFor o c false asked.read (first + length found) both.read
+      → AreFoundFrom o c asked first (found ++ both ∷ [])
+  found-more asked first [] both are written read =
+      let same : first + 0 ≡ first = omega arith in (
+        subst (λ (i : ℕ). IsFoundFor o c true asked.written i both.written) same written,
+        subst (λ (i : ℕ). IsFoundFor o c false asked.read i both.read) same read,
+        tt,
+      )
+  found-more asked first (other ∷ found) both are written read =
+      let same : first + length (other ∷ found) ≡ first + 1 + length found = omega arith in (
+        are.0,
+        are.1,
+        found-more asked (first + 1) found both are.2 (subst (λ (i : ℕ). IsFoundFor o c true asked.written i both.written) same written)
+            (subst (λ (i : ℕ). IsFoundFor o c false asked.read i both.read) same read),
+      )
+
+  module _ (writes : Bool) where
+    -- from queue i on, of the bytes of a text
+    abbrev AreHalf : (asked : Option (List ℕ)) → (i : ℕ) → List Records → Type 0
+    AreHalf asked i [] = Unit {0}
+    AreHalf asked i (r ∷ more) = IsFoundFor o c writes asked i r × AreHalf asked (i + 1) more
+
+    abbrev IsWhole : (bytes : List ℕ) → (i : ℕ) → Type 0
+    IsWhole bytes i = (asked_ranges c bytes i ≡ [] → ⊥) × IsShownDone o c (number_in c i) (doer writes) (is_rest c i (asked_ranges c bytes i))
+
+    one-shown : (bytes : List ℕ) (i : ℕ) (r : Records) → IsFound o c writes i (asked_ranges c bytes i) r → r ≡ Shown → IsWhole bytes i
+    one-shown bytes i r is shown = subst (IsFound o c writes i (asked_ranges c bytes i)) shown is
+
+    -- of a queue of which it is found
+    found-shown : (bytes : List ℕ) (first : ℕ) (found : List Records) → AreHalf (Some bytes) first found → (i : ℕ) → get_or found i NoBytes ≡ Shown
+        → IsWhole bytes (first + i)
+    found-shown bytes first [] are i shown = absurd (cc)
+    found-shown bytes first (r ∷ found) are zero shown =
+        let here : first ≡ first + 0 = omega arith in subst (IsWhole bytes) here (one-shown bytes first r are.0 shown)
+    found-shown bytes first (r ∷ found) are (suc i) shown =
+        let there : first + 1 + i ≡ first + suc i = omega arith in subst (IsWhole bytes) there (found-shown bytes (first + 1) found are.1 i shown)
+
+    is-shown : (i : ℕ) (ranges : List ByteRange) (r : Records) → IsFound o c writes i ranges r → is_shown r ≡ true → r ≡ Shown
+    is-shown i ranges Unasked is shown = absurd is
+    is-shown i ranges NoBytes is shown = absurd (cc)
+    is-shown i ranges Shown is shown = refl
+    is-shown i ranges (NotShown missing) is shown = absurd (cc)
+
+    shown-at : (bytes : List ℕ) (first : ℕ) (found : List Records) → AreHalf (Some bytes) first found → list_all is_shown found ≡ true → (i : ℕ)
+        → i < length found → get_or found i NoBytes ≡ Shown
+    shown-at bytes first [] are shown i less = absurd (omega (arith, less))
+    shown-at bytes first (r ∷ found) are shown zero less = is-shown first (asked_ranges c bytes first) r are.0 (and_parts _ _ shown).0
+    shown-at bytes first (r ∷ found) are shown (suc i) less =
+        shown-at bytes (first + 1) found are.1 (and_parts _ _ shown).1 i (omega (arith, less))
+
+  written-half : (asked : Questions) (i : ℕ) (found : List QueueRecords) → AreFoundFrom o c asked i found
+      → AreHalf true asked.written i (map (λ both. both.written) found)
+  written-half asked i [] are = tt
+  written-half asked i (both ∷ found) are = (are.0, written-half asked (i + 1) found are.2)
+
+  read-half : (asked : Questions) (i : ℕ) (found : List QueueRecords) → AreFoundFrom o c asked i found
+      → AreHalf false asked.read i (map (λ both. both.read) found)
+  read-half asked i [] are = tt
+  read-half asked i (both ∷ found) are = (are.1, read-half asked (i + 1) found are.2)
+
+  -- ---- what that means in every run
+
+  module _ (laws : RecordLaws) (accepted : accepts o c ≡ true) where
+    listed : (i : ℕ) → i < queue_count c → IsListed c (number_in c i)
+    listed = of_either c (λ (i : ℕ) (t : Option ℕ). IsListed c (number_by i t)) (λ i less. less) (λ t less. less)
+
+    asked-of : (bytes : List ℕ) (i b : ℕ) → b < (slots_at c i).width → names_byte bytes b ≡ true → is_tag_byte c i b ≡ false
+        → is_rest c i (asked_ranges c bytes i) b ≡ true
+    asked-of bytes i b within named free =
+        let has = has-below (names_byte bytes) (slots_at c i).width b in
+        let under : nat_lt b (slots_at c i).width ≡ true = lt-ltb _ _ within in
+        rw (has, under, named, free) refl
+
+    done : (writes : Bool) (B M : ℕ) (w : QueueNumber) → IsListed c w → (mask : ℕ → Bool) → IsShownDone o c w (doer writes) mask → (es : List Entry)
+        (e : Entry) → WellFormed B M (history_of o (es ++ e ∷ [])) → (k : ℕ) → count_after c w (doer writes) es ≤ k
+        → k < count_after c w (doer writes) (es ++ e ∷ []) → (b : ℕ) → mask b ≡ true → IsDone writes c w es k (slot_in c w k + b)
+    done true B M w less mask shown es e formed k low high b asks = laws.written B M o c accepted w less mask shown es e formed k low high b asks
+    done false B M w less mask shown es e formed k low high b asks = laws.read B M o c accepted w less mask shown es e formed k low high b asks
+
+    module _ (writes : Bool) where
+      does-of : (bytes : List ℕ) (i : ℕ) → i < queue_count c → IsWhole writes bytes i → DoesRecordsOf writes bytes o c i
+      does-of bytes i less whole = (
+        some-offset (names_byte bytes) (slots_at c i).width (λ none. whole.0 (ap byte_ranges none)),
+        λ B M es e formed k low high b within named free. done writes B M (number_in c i) (listed i less) (is_rest c i (asked_ranges c bytes i)) whole.1
+            es e formed k low high b (asked-of bytes i b within named free),
+      )
+
+      half-holds : (asked : Option (List ℕ)) (found : List Records) → length found ≡ queue_count c → AreHalf writes asked 0 found
+          → FoundHold writes asked o c found
+      half-holds None found count are = tt
+      half-holds (Some bytes) found count are = λ i shown.
+          let within : i < length found = listed-below found i shown in
+          does-of bytes i (omega (arith, within, count)) (subst (IsWhole writes bytes) (omega arith) (found-shown writes bytes 0 found are i shown))
+
+      half-does : (asked : Option (List ℕ)) (found : List Records) → length found ≡ queue_count c → AreHalf writes asked 0 found
+          → list_all is_shown found ≡ true → DoesRecords writes asked o c
+      half-does None found count are shown = tt
+      half-does (Some bytes) found count are shown = λ i less.
+          half-holds (Some bytes) found count are i (shown-at writes bytes 0 found are shown i (omega (arith, less, count)))
+
+    module _ (asked : Questions) (found : List QueueRecords) (are : AreFound o c asked found) where
+      counted : (f : QueueRecords → Records) → length (map f found) ≡ queue_count c
+      counted f = length-map found f ∙ are.0
+
+      pub records-hold : RecordsHold asked o c found
+      records-hold = (
+        half-holds true asked.written (map (λ both. both.written) found) (counted (λ both. both.written)) (written-half asked 0 found are.1),
+        half-holds false asked.read (map (λ both. both.read) found) (counted (λ both. both.read)) (read-half asked 0 found are.1),
+      )
+
+      pub keeps-records : are_written found ≡ true → are_read found ≡ true → KeepsRecords asked o c
+      keeps-records written read = (
+        half-does true asked.written (map (λ both. both.written) found) (counted (λ both. both.written)) (written-half asked 0 found are.1)
+            (all-of (λ both. both.written) found ∙ written),
+        half-does false asked.read (map (λ both. both.read) found) (counted (λ both. both.read)) (read-half asked 0 found are.1)
+            (all-of (λ both. both.read) found ∙ read),
+      )
