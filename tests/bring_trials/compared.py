@@ -64,6 +64,13 @@ def answered(words, left):
     return status, printed.getvalue()
 
 
+def cut(count):
+    """An outcome that a search didn't show which stopped isn't new for that: what wasn't tried is said."""
+    with mock.patch.dict(OUTCOMES, {("ztso.h", "all"): None}):
+        status, printed = answered(["a.c", "--mapping", "weak.h"], 0)
+    count.told("compare-mappings where the other search stopped", status == 3, f"{status} {printed}")
+
+
 # your store's and load's instructions by a mapping, the status of --pairs, and its last line
 PAIRS = [(("sw x5,0(x6); fence rw,rw", "fence rw,rw; lw x7,0(x8)"), 0, "your store and load are in none of these"),
          (("sw x5,0(x6)", "fence rw,rw; lw x7,0(x8)"), 1, "your store or load is in"), (("sw x5,0(x6)", "lw x7,0(x8)"), 1, "your store or load is in")]
@@ -106,6 +113,7 @@ def part(count):
             made = json.loads(printed)
             count.told("compare-mappings --json", (status, made["status"], made["files"][0]["mapped"], made["new"][0]["values"], made["new"][0]["way"])
                        == (1, 1, 3, [1], "weak.h"), printed)
+            cut(count)
         finally:
             os.chdir(before)
     progress(count)

@@ -6,7 +6,7 @@ import tempfile
 from pathlib import Path
 from types import SimpleNamespace
 
-from bring_parts import ROOT, TOOLS, Refused, compilers, memory, queue_hints, queue_types
+from bring_parts import ROOT, TOOLS, Refused, compilers, memory, queue_hints, queue_types, queue_uncovered
 from bring_parts.fields import Part
 from bring_trials import counting
 
@@ -23,6 +23,10 @@ QUEUES = {
 NAMED = [("ring::queue.write_", "queue_write"), ("queue_write", "queue_write"), ("queue+64", "queue+64"), ("queue.write_+2", "queue_write+2"),
          ("a::b::words[1].id", "words_1_id"), ("queue.record", "queue_record_0_time"), ("queue.record+4", "queue_record_0_time+4"),
          ("queue.other", "queue.other"), ("64", "64")]
+# places of a text and what their bytes are called
+CALLED = [((4, 1), "queue"), ((6, 1), "queue+2"), ((8, 4), None), ((79, 1), "queue_record_0_time+3")]
+# instructions, whether one's first source was loaded whole, and whether it leaves all of that (1), or some bits (2)
+MASKED = [(("andi", 5, 6, 255), 1), (("andi", 5, 6, -1), 1), (("andi", 5, 6, 1), 2), (("srli", 5, 6, 4), 2), (("addi", 5, 6, 1), 1), (("andi", 5, 7, 1), 0)]
 LOCATIONS = {"null": 0, "queue": 4, "queue_write": 68, "words_1_id": 72, "queue_record_0_time": 76}
 # what the search says and what is answered, the notes of a hart, a certificate's queue, and parts of what helps
 COUNTS, TAGS = "queue 0 1 4 8 1 12 16 8 16 0 1 0 256 0\n", "tagged 0 1 12 8 12 4 1 zero 0\n"
@@ -174,6 +178,11 @@ def part(count, program):
     queue = runpy.run_path(str(TOOLS / "queue"))
     for place, wanted in NAMED:
         count.told(f"the place {place} of a text", queue["named_in"](LOCATIONS, place) == wanted, queue["named_in"](LOCATIONS, place))
+    for place, wanted in CALLED:
+        came = queue["names_in"](SimpleNamespace(locations=LOCATIONS), None)(*place)
+        count.told(f"what the bytes at {place} are called", came == wanted, came)
+    for instruction, wanted in MASKED:
+        count.told(f"what {instruction} leaves", queue_uncovered.masked(instruction, {6: 1}) == wanted, "")
     for found, answer, notes, certificate, wanted in HINTS:
         lines = answer.splitlines()
         after = (line for line in queue_hints.added(iter(lines), certificate) if line not in lines)

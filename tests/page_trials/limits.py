@@ -85,6 +85,8 @@ def texts(count, served):
 def schedules(count, served):
     status, answer = served.ask("view", **RUN, tokens="a0*2000")
     count.told("2,000 events", status == 200 and len(answer.get("outcomes", [])) == 2000)
+    pending = served.ask("view", **RUN, tokens="a1")[1]["harts"][1]["pending"]
+    count.told("a pending store by its place, its value and its bytes", pending == [{"address": 4, "value": 1, "bytes": 4}], pending)
     for name, route, more in (("2,001 events", "view", {"tokens": "a0*2000 a1"}),
                               ("2,001 events to read", "read", {"schedule": "ztso-schedule 1\na0*2001\n"})):
         answer = served.ask(route, **RUN, **more)[1]
