@@ -1,5 +1,6 @@
-"""What may be asked of an accepted certificate besides the protocol (docs/progress.md): whether a queue's sender writes bytes of its records, whether
-a hart is never stopped, and which bytes it writes. By the definitions of crates/records_written/specs and of crates/hart_safety/specs.
+"""What may be asked of an accepted certificate besides the protocol (docs/progress.md): whether a queue's sender writes bytes of its records, and
+its receiver reads them, whether a hart is never stopped, and which bytes it writes. By the definitions of crates/records_written/specs and of
+crates/hart_safety/specs.
 """
 
 import re
@@ -57,55 +58,57 @@ def bytes_text(ranges):
     return f"byte{'s'[is_one:]} {' and '.join(filter(None, (', '.join(each[:-1]), each[-1])))}", is_one
 
 
-# ---- what a queue's sender does to its queue
+# ---- what a queue's party does to its queue
 
-class Sender:
-    """The leaves of its states: of each what it does, and the states to which it leads. Queues with tags are numbered on after those with indices."""
+class Party:
+    """A queue's sender, which writes the records that it publishes, or its receiver, which reads those that it takes: the leaves of its states, of
+    each what it does, and the states to which it leads. Queues with tags are numbered on after those with indices."""
 
-    def __init__(self, opening, listed, index):
-        self.index, self.before = index, len(listed.queues)
+    def __init__(self, opening, listed, index, sends):
+        self.index, self.before, self.sends = index, len(listed.queues), sends
         self.queue = (*listed.queues, *listed.tagged)[index].queue
-        self.tags = tags.tags_of(listed, self.queue.sender)
-        self.hart, self.part = self.queue.sender, certificates.part_of(listed, self.queue.sender)
+        self.hart = self.queue.sender if sends else self.queue.receiver
+        self.tags, self.part = tags.tags_of(listed, self.hart), certificates.part_of(listed, self.hart)
         self.steps = certificates.steps_of(listed, self.hart)
         self.code = opening.harts[self.hart][0]
         self.leaves = [[(self.does(known, leaf.handed), [arrow.to for arrow in leaf.arrows]) for known, leaf in certificates.leaves(state.known, state.cases)]
                        for state in self.part.states]
 
     def does(self, known, handed):
-        """("fills", position, offset, width), of the positions from its count on; ("publishes", n), exactly; ("some", n), at most, or nobody
-        knows how many; or nothing."""
+        """("accesses", position, offset, width), of the positions from its count on: the sender stores, and the receiver loads; ("hands", n), it
+        publishes or takes exactly n; ("some", n), at most, or nobody knows how many; or nothing."""
         access = self.steps.accessed(known, certificates.instruction_at(self.code, known.pc))
-        if not access or not access[4]:
+        if not access:
             return None
-        place, bounds, width = access[:3]
-        if self.index >= self.before:
+        place, bounds, width, loads, stores = access
+        if stores and self.index >= self.before:
             if self.tags.moved_tag(known, place, width) == self.index - self.before:
-                return "publishes", 1
-        elif certificates.last_below(self.before, lambda at: self.steps.is_own_index(bounds, width, at)) == self.index:
+                return "hands", 1
+        elif stores and certificates.last_below(self.before, lambda at: self.steps.is_own_index(bounds, width, at)) == self.index:
             most = certificates.most(known.ranges, handed)
-            return ("publishes" if most == handed.constant else "some"), most
+            return ("hands" if most == handed.constant else "some"), most
         share = self.steps.share_at(known, self.index)
-        if not certificates.is_owned(known.ranges, self.queue, share, place, width):
+        if not (stores if self.sends else loads) or not certificates.is_owned(known.ranges, self.queue, share, place, width):
             return None
-        return ("fills", certificates.position_at(self.queue, share.own.constant, place.form.constant),
+        return ("accesses", certificates.position_at(self.queue, share.own.constant, place.form.constant),
                 certificates.offset_at(self.queue, place.form.constant), width)
 
     @staticmethod
     def after(marked, does, byte):
-        """The positions from the count on of which this byte is written after it, of those of which it was before; None is all."""
+        """The positions from the count on of which this byte is written, or read, after it, of those of which it was before; None is all."""
         kind, *numbers = does or ("nothing",)
         if kind == "some":
             return set()
         if marked is None or kind == "nothing":
             return marked
-        if kind == "publishes":
+        if kind == "hands":
             return {position - numbers[0] for position in marked if position >= numbers[0]}
         position, offset, width = numbers
         return marked | {position} if offset <= byte < offset + width else marked
 
     def marked(self, byte):
-        """At each state the positions of which this byte is surely written: all at first, and less until each leaf leads into what it leaves."""
+        """At each state the positions of which this byte is surely written, or read: all at first, and less until each leaf leads into what it
+        leaves."""
         found = [set() if n == self.part.first else None for n in range(len(self.leaves))]
         changed = True
         while changed:
@@ -120,23 +123,23 @@ class Sender:
         return found
 
     def bytes_apart(self, mask):
-        """The lowest bytes of the mask's parts that no store's end parts further: what holds of one holds of its part."""
-        fills = [does[2:] for leaves in self.leaves for does, _ in leaves if does and does[0] == "fills"]
-        ends = {end for offset, width in fills for end in (offset, offset + width)}
+        """The lowest bytes of the mask's parts that no access's end parts further: what holds of one holds of its part."""
+        accesses = [does[2:] for leaves in self.leaves for does, _ in leaves if does and does[0] == "accesses"]
+        ends = {end for offset, width in accesses for end in (offset, offset + width)}
         return sorted({first for first, _ in mask} | {end for end in ends if any(first <= end <= last for first, last in mask)})
 
     @staticmethod
     def open_position(leaves, marked):
-        """The first position that these leaves may publish and that isn't marked; None where all of them are."""
+        """The first position that these leaves may hand over and that isn't marked; None where all of them are."""
         if marked is None:
             return None
-        handed = [does[1] for does, _ in leaves if does and does[0] in ("publishes", "some")]
+        handed = [does[1] for does, _ in leaves if does and does[0] in ("hands", "some")]
         position = next(position for position in range(len(marked) + 1) if position not in marked)
         return position if None in handed or any(position < count for count in handed) else None
 
-    def unwritten(self, mask):
-        """The first state that may publish a record of which a byte isn't surely written, with the lowest such byte of the first such position;
-        or None."""
+    def missing(self, mask):
+        """The first state that may hand over a record of which a byte isn't surely written, or read, with the lowest such byte of the first such
+        position; or None."""
         marks = [(byte, self.marked(byte)) for byte in self.bytes_apart(mask)]
         for n, leaves in enumerate(self.leaves):
             found = [(self.open_position(leaves, marked[n]), byte) for byte, marked in marks]

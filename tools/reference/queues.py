@@ -1,5 +1,7 @@
 """What a certificate shows of a litmus text's queues, or drawn runs where it shows nothing, in lines (docs/queue-answers.md): the command `queue`."""
 
+from itertools import chain
+
 import certificate_lines
 import certificates
 import ownership
@@ -20,11 +22,14 @@ REGISTERS = 32
 # of how many queues a hart may be a party for a line about all of them together
 MOST_QUEUES = 6
 EVERY_RUN = "promised: in every legal run, of any length and schedule, with store buffers of any size, the"
-PROMISE_END = ", so records arrive in order, each once, with all that was written before"
+PROMISE_END = ", so positions arrive in order, each once, with all that was written before"
 READS = "not promised: that what is loaded from a slot is a record that the hart owns"
+# what isn't promised of records, by whether bytes of them are shown to be read, and to be written
+UNREAD = {False: "that a record's bytes are read", True: "that other bytes of a record are read"}
+FRESHLY = {False: "that a record was freshly or wholly written", True: "that other bytes of a record are freshly written"}
 REST = "what the code does with it, what memory outside of the queue holds"
-RECORDS = {False: f"not promised: that a record was freshly or wholly written, {REST}",
-           True: f"not promised: that other bytes of a record are freshly written, {REST}"}
+# of a sender and of a receiver: what it does to bytes of a record, and when
+RECORDS_OF = {True: ("written", "after the record before in its slot was published"), False: ("read", "before its slot is handed back")}
 PROGRESS = {False: "not promised: that anything is ever sent or received", True: "not promised: that a hart is ever run, or doesn't end or stop, or that a store ever lands"}
 # of a sender and of a receiver: how it goes on, what it finds, and what isn't shown
 MOVES = {True: ("publishes", "no slot free", ("slots free", "slot free"), "looks for a free slot"),
@@ -293,21 +298,22 @@ class Judge:
 
     # ---- what is asked besides, in lines, each with whether it is shown
 
-    def records(self, index, text):
-        """The line about these bytes of a queue's records."""
-        queue = self.opened[index].queue
+    def records(self, index, text, sends):
+        """The line about these bytes of a queue's records: whether its sender writes them, or its receiver reads them."""
+        queue, (done, since) = self.opened[index].queue, RECORDS_OF[sends]
         mask = queue_questions.bytes_named(text, queue.width)
         if not mask:
             return f"queue {index}: its records have none of these bytes", False
         named, is_one = queue_questions.bytes_text(mask)
-        written = f"{named} of each record {'is' if is_one else 'are'} written"
-        # what publishes a record writes its tag
+        shown = f"{named} of each record {'is' if is_one else 'are'} {done}"
+        # what publishes a record writes its tag, by which the receiver learns of it
         rest = queue_questions.without(mask, queue.tag_offset, queue.tag_offset + queue.tag_width - 1) if self.has_tags(index) else mask
-        unwritten = queue_questions.Sender(self.opening, self.listed, index).unwritten(rest)
-        if unwritten is None:
-            return f"queue {index}: {written} after the record before in its slot was published", True
-        state, byte = unwritten
-        return f"queue {index}: not shown that {written}: byte {byte}, hart {queue.sender}, {self.pc_place(queue.sender, state)}", False
+        party = queue_questions.Party(self.opening, self.listed, index, sends)
+        missing = party.missing(rest)
+        if missing is None:
+            return f"queue {index}: {shown} {since}", True
+        state, byte = missing
+        return f"queue {index}: not shown that {shown}: byte {byte}, hart {party.hart}, {self.pc_place(party.hart, state)}", False
 
     def protocol(self):
         """What is kept in every run."""
@@ -400,15 +406,17 @@ class Judge:
                          f" {moved[1]} taken")
         return [*flaw, *lines, "nothing is claimed"], NOT_SHOWN
 
-    def kept(self, written, harts, asks_progress):
-        """The lines, and the exit status, where the protocol is kept: of these bytes of records, if any, of the harts and of whether the queues go
-        on, if they are asked about."""
+    def kept(self, written, read, harts, asks_progress):
+        """The lines, and the exit status, where the protocol is kept: of these bytes of records that are to be written, and to be read, if any, of
+        the harts and of whether the queues go on, if they are asked about."""
         going = [self.going(index) for index in range(len(self.opened)) if asks_progress]
         goes = all(shown for _, shown in going)
-        records = [self.records(index, written) for index in range(len(self.opened))] if written is not None else []
-        told = [*records, *(line for number in range(len(self.opening.harts)) if harts for line in self.hart(number))]
+        records = {sends: [self.records(index, text, sends) for index in range(len(self.opened)) if text is not None]
+                   for sends, text in ((True, written), (False, read))}
+        told = [*chain(*zip(*filter(None, records.values()))), *(line for number in range(len(self.opening.harts)) if harts for line in self.hart(number))]
         lines = [*self.described(), *(line for each, _ in going for line in each), *(line for line, _ in told)]
-        limits = [RECORDS[bool(records) and all(shown for _, shown in records)], PROGRESS[asks_progress and goes]]
+        is_shown = {sends: bool(found) and all(shown for _, shown in found) for sends, found in records.items()}
+        limits = [f"not promised: {UNREAD[is_shown[False]]}, {FRESHLY[is_shown[True]]}, {REST}", PROGRESS[asks_progress and goes]]
         if unread := self.unread():
             return [unread, *lines, self.protocol(), READS, *limits], READS_NOT_SHOWN
         if not goes:
@@ -419,10 +427,10 @@ class Judge:
             first, status = f"kept in every run{', and goes on while its harts run' if asks_progress else ''}", KEPT
         return [first, *lines, self.protocol() + PROMISE_END, *limits], status
 
-    def answer(self, capacity, number, drawing, written=None, harts=False, asks_progress=True):
+    def answer(self, capacity, number, drawing, written=None, read=None, harts=False, asks_progress=True):
         """The lines, and the exit status."""
         if flaw := self.flaw():
             return self.tried(flaw, capacity, number, drawing) if self.may_draw else ([*flaw, "nothing is claimed"], NOT_SHOWN)
         if unused := self.unused():
             return [unused, "nothing is claimed"], NOT_SHOWN
-        return self.kept(written, harts, asks_progress)
+        return self.kept(written, read, harts, asks_progress)
