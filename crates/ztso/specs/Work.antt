@@ -1,5 +1,5 @@
 -- What each command that a command line can ask for does.
-use Rattle.std.specs.Prelude.{ℕ, ◌≡◌, ◌*◌, ◌⊎◌, max, not, Bool, true, false, List, [], ◌∷◌, Option, None, Result, Ok, Err}
+use Rattle.std.specs.Prelude.{ℕ, ◌≡◌, ◌*◌, ◌⊎◌, max, not, Bool, true, false, List, [], ◌∷◌, Option, Result, Ok, Err}
 use Rattle.std.specs.Io.KnownBytes.{Appends}
 use Rattle.rand_core.specs.Stream.{Stream}
 use Rattle.rand_core.specs.Steps.{stream_of, steps_u32}
@@ -103,8 +103,8 @@ queue_of called = record {
 }
 
 -- what is asked of a certificate besides the protocol
-abbrev pub queue_asked : (written : Option (List ℕ)) → (harts safety : Bool) → Questions
-queue_asked written harts safety = record { progress = not safety; written = written; read = None; harts = harts }
+abbrev pub queue_asked : (written read : Option (List ℕ)) → (harts safety : Bool) → Questions
+queue_asked written read harts safety = record { progress = not safety; written = written; read = read; harts = harts }
 
 -- in which form `show` tells a test
 abbrev pub form_of : (steps : Bool) → Form
@@ -118,8 +118,8 @@ left_of false = left.Counted
 
 -- ---- how a command ends
 
--- What the readers of all inputs tell, in the order in which they are read, what a user's commands tell, and the bytes that are asked about, if
--- any are.
+-- What the readers of all inputs tell, in the order in which they are read, what a user's commands tell, and the bytes of records that are asked
+-- about, if any are: those that are to be written, and those that are to be read.
 pub record Given : Type 0 where
   pub first : Option (List ℕ)
   pub second : Option (List ℕ)
@@ -127,6 +127,7 @@ pub record Given : Type 0 where
   pub fourth : Option (List ℕ)
   pub commands : Option (List ℕ)
   pub written : Option (List ℕ)
+  pub read : Option (List ℕ)
 
 -- An engine ended, whose value or fault makes this exit status or failure: what it wrote and returned is an answer, or
 -- a refusal is and nothing was written (`Ends` says it all).
@@ -174,7 +175,7 @@ Does B (UserChannel place) result given =
 Does B (Ring seed draw runs place) result given =
     Done good_exit (IsRingAnswer (runs_from B seed draw runs) place given.first given.second given.third) result
 Does B (OfQueues seed draw runs harts safety) result given =
-    Done judgement_exit (IsQueueAnswer (runs_from B seed draw runs) (queue_asked given.written harts safety) given.first given.second) result
+    Done judgement_exit (IsQueueAnswer (runs_from B seed draw runs) (queue_asked given.written given.read harts safety) given.first given.second) result
 
 -- the greatest exit status of a command that doesn't fail
 abbrev pub greatest_status : Command → ℕ

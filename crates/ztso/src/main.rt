@@ -114,6 +114,7 @@ where
         job.command,
         job.capacity,
         job.written,
+        job.read,
         &mut streams,
         progress,
         search,
