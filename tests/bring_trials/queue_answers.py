@@ -151,7 +151,7 @@ def part(count, program):
         count.told(f"how the verdict on {files} ends", came == wanted, came)
     queues = queue_hints.queues_of("queue 0 1 4 8 4 12 4 12 4 0 1 0 4294967296 0\n")
     for members, is_whole, wanted in WRITTEN:
-        came = queue_types.written_by_types(queues, types_of(members, is_whole))
+        came = queue_types.bytes_by_types(queues, types_of(members, is_whole))
         count.told(f"what is asked of records of {members}", came == wanted, str(came))
     with tempfile.TemporaryDirectory() as folder:
         fences(count, folder, program)

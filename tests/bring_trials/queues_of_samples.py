@@ -103,7 +103,9 @@ EDITS = [
      ["ring::queue.wrote is no place of the program: there are queue.slots_[0], queue.write_, queue.read_cache_"]),
     ((("extern", "extern int no; extern"), ("pushed +", "no + pushed +")), PLACES, ["`no` isn't defined"]),
 ]
-# a queue of structs in C, with indices of one type, and one whose slots tell whose they are by a byte; what is asked of it, and parts of what comes
+# a queue of structs in C, with indices of one type, and one whose slots tell whose they are by a byte, of whose members some are used; what is asked
+# of it, and parts of what comes
+UNASKED = ["--written", "none", "--read", "none"]
 RING = """#include <stdint.h>
 struct { volatile TYPE head, tail; volatile struct { int id, price, many; } order[8]; } ring;
 volatile int out;
@@ -141,7 +143,7 @@ void P1(void) {
 """
 OF_RING = "head=ring.head,tail=ring.tail,slots=ring.order"
 OF_TYPES = [(RING.replace("TYPE", f"uint{bits}_t"), "--queue", OF_RING,
-             ["kept in every run", f"its head is the {bits // 8} bytes at ", "has 8 slots of 12 bytes"])
+             ["kept in every run", f"its head is ring.head, the {'byte' if bits == 8 else f'{bits // 8} bytes'} at ", "has 8 slots of 12 bytes"])
             for bits in (8, 16, 32)]
 OF_TYPES += [
     (RING.replace("TYPE", "uint64_t"), "--queue", OF_RING, ["queue: ring.head has 8 bytes, and an index has 1, 2 or 4: the code is compiled for RV32"]),
@@ -217,7 +219,7 @@ def compiled(count, program, _):
         for source, kind, places, wanted in OF_TYPES:
             file = counting.write(folder, "mine.c", source)
             for compiler in ("gcc", "clang"):
-                _, printed, error = counting.run("queue", file, kind, places, "--compiler", compiler, "--program", program)
+                _, printed, error = counting.run("queue", file, kind, places, *UNASKED, "--compiler", compiler, "--program", program)
                 count.told(f"tools/queue of {places} and of types by {compiler}", all(part in printed + error for part in wanted), printed + error)
         module = Path(folder, "mine.o")
         compilers.Compiler("gcc").compile(counting.write(folder, "mine.cpp", text), module, language="C++")

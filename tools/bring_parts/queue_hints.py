@@ -30,7 +30,8 @@ OTHERS = ("of a triple buffer, a seqlock, a lock or several senders ask for outc
 BROKEN = re.compile(r"queue ([0-9]+): it stored ")
 DRAWN = re.compile(r"queue ([0-9]+): kept in ([0-9]+) drawn runs of ([0-9]+) events, in which ([0-9]+) positions were published")
 QUEUE = re.compile(r"^(queue|tagged) (.*)$", re.MULTILINE)
-UNWRITTEN = re.compile(r"^queue [0-9]+: not shown that bytes? .* written: ", re.MULTILINE)
+# bytes of records that aren't shown to be written, or read, with the option that asks for them
+UNSHOWN = re.compile(r"^queue [0-9]+: not shown that bytes? .* (written|read): ", re.MULTILINE)
 # a party that isn't shown to go on, the indices that each moves and looks at, and what keeps a compiler from dropping a look
 STUCK = re.compile(r"^queue ([0-9]+): not shown that hart ([0-9]+) (publishes|takes), or (finds|looks) ", re.MULTILINE)
 # one that goes on in all its queues together
@@ -111,11 +112,12 @@ def of_wraps(texts):
                    "slots have numbers of their own: take a power of two, or index=wrapping")
 
 
-def of_written(asked, queues):
-    """A line for each queue whose records don't have all the bytes that are asked for."""
-    for number, queue in enumerate(queues):
-        if any(last >= queue.width for _, last in ranges_in(asked or "")):
-            yield f"--written {asked}: a record of queue {number} has {counted(queue.width, 'byte')}, so at most 0-{queue.width - 1} are asked for"
+def of_bytes(asked, queues):
+    """A line for each option, and each queue whose records don't have all the bytes that it asks for."""
+    for option, given in asked.items():
+        for number, queue in enumerate(queues):
+            if any(last >= queue.width for _, last in ranges_in(given or "")):
+                yield f"--{option} {given}: a record of queue {number} has {counted(queue.width, 'byte')}, so at most 0-{queue.width - 1} are asked for"
 
 
 def counting(queue):
@@ -178,11 +180,15 @@ def at_end(answer, found, notes, certificate, test=None):
     yield from filter(None, (longer(int(number), queues[int(number)], numbers) for number, *numbers in drawn))
 
 
-def of_asked(answer, by_types):
-    """What is said where bytes of records aren't shown to be written, and nobody named these."""
-    if by_types and UNWRITTEN.search(answer):
-        yield f"bytes {by_types} of a record are asked for since by the types they aren't padding: --written none doesn't ask" if by_types != "all" else (
-            "all bytes of a record are asked for since by the types none is padding: --written none doesn't ask")
+def of_asked(answer, by_types, unsaid):
+    """What is said where bytes of records aren't shown to be written, or read, and nobody named these: by these options they weren't said."""
+    found = [option for option in dict.fromkeys(UNSHOWN.findall(answer)) if option in unsaid]
+    if by_types and found:
+        asked = "all bytes of a record are asked for since by the types none is" if by_types == "all" else (
+            f"bytes {by_types} of a record are asked for since by the types they aren't")
+        yield f"{asked} padding: {' and '.join(f'--{option} none' for option in found)} {'do' if len(found) > 1 else 'does'}n't ask"
+        if "read" in found:
+            yield f"{REMEDIES['loads from']}; of records that a loop takes it isn't always shown"
 
 
 def looks_of(number, hart, text, certificate):

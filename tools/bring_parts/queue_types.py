@@ -14,9 +14,9 @@ ELEMENT = re.compile(r"\[([0-9]+)\](.*)")
 STEP, SHOWN = re.compile(r"\.?[^.\[]+|\[[0-9]+\]"), 12
 RANGE = re.compile(r"([0-9]+)(?:-([0-9]+))?")
 # lines of an answer that name bytes of records, or of memory
-RECORDS = re.compile(r"queue ([0-9]+): bytes? (.*) of each record (?:are|is) written ")
+RECORDS = re.compile(r"queue ([0-9]+): bytes? (.*) of each record (?:are|is) (?:written|read) ")
 FIELD = re.compile(r"queue ([0-9]+): the ([0-9]+) bytes from ([0-9]+) on of ")
-UNWRITTEN = re.compile(r"queue ([0-9]+): not shown that bytes? .* of each record .*: byte ([0-9]+), hart ")
+UNSHOWN = re.compile(r"queue ([0-9]+): not shown that bytes? .* of each record (?:are|is) (written|read): byte ([0-9]+), hart ")
 WRITES = re.compile(r"hart [0-9]+: writes bytes? (.*) of ")
 
 
@@ -77,7 +77,7 @@ class Types:
         begin, name = (place, exact[0]) if exact else found[0] if len(found) == 1 else (place, None)
         return name and name + f"+{place - begin}" * (place > begin)
 
-    def written(self, queue):
+    def not_padding(self, queue):
         """The bytes of a record that aren't padding, or None where the types don't say which these are."""
         numbers = [array for array in self.arrays_at(str(queue.slots)) if array.number and queue.width % array.number == 0]
         if numbers:
@@ -134,12 +134,12 @@ def ranges_of(places):
 
 
 def names_of(line, queues, types):
-    """The line for the names of the bytes that a line of an answer names, if there are any, and for padding that isn't written."""
-    if shape := UNWRITTEN.match(line):
-        queue, byte = queues[int(shape[1])], int(shape[2])
+    """The line for the names of the bytes that a line of an answer names, if there are any, and for padding that isn't written, or read."""
+    if shape := UNSHOWN.match(line):
+        queue, byte = queues[int(shape[1])], int(shape[3])
         padding, slots = types.padding(queue)
         if byte in padding:
-            yield f"    byte {byte} is padding of {slots}: try --written {ranged(ranges_of(set(range(queue.width)) - padding))}"
+            yield f"    byte {byte} is padding of {slots}: try --{shape[2]} {ranged(ranges_of(set(range(queue.width)) - padding))}"
             return
         found = named([(byte, byte)], types.of_record(queue))
     elif shape := RECORDS.match(line):
@@ -153,17 +153,16 @@ def names_of(line, queues, types):
         yield f"    {found}"
 
 
-def written_by_types(queues, types):
-    """The bytes of records that are to be written, as --written takes them: those that are padding of no queue, if the types say of all queues
-    which these are; or None."""
-    found = [types.written(queue) for queue in queues]
+def bytes_by_types(queues, types):
+    """The bytes of records that are to be written and read, as --written and --read take them: those that are padding of no queue, if the types
+    say of all queues which these are; or None."""
+    found = [types.not_padding(queue) for queue in queues]
     if not found or None in found:
         return None
-    asked = {at for queue, written in zip(queues, found) for at in written
-             if all(at in other or at >= each.width for each, other in zip(queues, found))}
-    if not all(asked & written for written in found):
+    asked = {at for queue, used in zip(queues, found) for at in used if all(at in other or at >= each.width for each, other in zip(queues, found))}
+    if not all(asked & used for used in found):
         return None
-    return "all" if all(len(written) == queue.width for queue, written in zip(queues, found)) else ranged(ranges_of(asked))
+    return "all" if all(len(used) == queue.width for queue, used in zip(queues, found)) else ranged(ranges_of(asked))
 
 
 def ranges_in(text):
