@@ -1,5 +1,6 @@
-/* A receive ring of a controller: it sets DONE in a status byte, beside what it found, and the driver clears that bit alone.
+/* A receive ring of a controller: it sets DONE in a status byte, beside what it found. The driver clears that bit alone, and drops data with errors.
    tagged: slots=ring,size=4,width=8,tag=ring[0].status+1,tells=bit:1
+   read: 5
    answer: kept in every run, and goes on while its harts run */
 #include <stdatomic.h>
 

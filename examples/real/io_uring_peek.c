@@ -1,7 +1,9 @@
-/* liburing's completion queue, an entry at a time: io_uring_cq_ready and io_uring_cqe_seen. The kernel's half is ours.
+/* liburing's completion queue, an entry at a time: io_uring_cq_ready and io_uring_cqe_seen. The kernel's half is ours. Of an entry `res` is
+   read.
    package: liburing-dev
    queue: head=tail,tail=head,slots=entry,size=8
    flags: -Ishims/posix -Ishims -isystem out/usr/include
+   read: 8-11
    answer: gcc 0, clang 0 */
 #include <liburing.h>
 
