@@ -233,6 +233,8 @@ fn hart_progress_below(
 
 /// The same of all queues with indices of which a hart is a party together: how soon it goes on in one of them, or finds that it has to
 /// wait for one (`hart_going` of [`laws_of_queue_progress`](crate::laws_of_queue_progress) has the bound).
+///
+/// It asks about each set of these queues, so that each queue more doubles its time.
 pub fn hart_progress_of(
     alloc: Global,
     opening: &Opening,
