@@ -5,7 +5,7 @@ from collections import defaultdict
 
 from . import links
 
-WORDS = 60_200  # of all pages, as `wc -w` counts them; lower it when pages get shorter
+WORDS = 60_000  # of all pages, as `wc -w` counts them; lower it when pages get shorter
 IN_A_ROW = 10
 MAY_SAY_AGAIN = {"CHANGELOG.md", *(f"examples/{folder}/README.md" for folder in ("assembly", "c", "cpp", "rust"))}  # each is read alone
 CODE = re.compile(r"^ *```.*?^ *```$|<!-- scripts/[\w-]+:.*?begin -->.*?<!-- scripts/[\w-]+:.*?end -->", re.M | re.S)
