@@ -19,7 +19,8 @@ from bring_trials import counting
 TEXT = "RISCV T\n{\n0:x6=x; 1:x6=x;\n}\n P0         | P1         ;\n li x5,1    | lw x7,0(x6) ;\n sw x5,0(x6) |            ;\nexists (1:x7=1)\n"
 # by a mapping's or a way's options what a compiler makes: outcomes, whether the search stopped, or why it is refused
 OUTCOMES = {(None, "all"): [(0,)], (None, "full"): [(0,)], (None, "none"): [(0,)], ("rvwmo.h", "all"): [(0,)], ("ztso.h", "all"): [(0,)],
-            ("mine.h", "all"): [(0,)], ("weak.h", "all"): [(0,), (1,)], ("bad.h", "all"): "its row is no assembly", ("long.h", "all"): None}
+            ("mine.h", "all"): [(0,)], ("weak.h", "all"): [(0,), (1,)], ("weaker.h", "all"): [(0,), (1,), (2,)],
+            ("bad.h", "all"): "its row is no assembly", ("long.h", "all"): None}
 KNOWN = {"new": [{"file": "a.c", "compiler": "cc", "way": "weak.h", "values": [1]}]}
 # words of a command line, how many atomic operations are left beside a mapping, the status, and the last line
 LAST = "no new outcome in 1 file by 1 compiler"
@@ -27,6 +28,7 @@ ASKED = [
     (["a.c"], 0, 0, f"{LAST}; 4 of 4 atomic operations went through a mapping"),
     (["a.cpp", "--mapping", "mine.h"], 1, 0, f"{LAST}; 3 of 4 atomic operations went through a mapping"),
     (["a.c", "--mapping", "weak.h"], 0, 1, "1 new outcome in 1 of 1 file by 1 compiler; 4 of 4 atomic operations went through a mapping"),
+    (["a.c", "--mapping", "weaker.h"], 0, 1, "2 new outcomes in 1 of 1 file by 1 compiler; 4 of 4 atomic operations went through a mapping"),
     (["a.c", "--mapping", "weak.h", "--known", "known"], 0, 0, f"{LAST}; 1 outcome known; 4 of 4 atomic operations went through a mapping"),
     (["a.c", "--mapping", "mine.h"], 4, 3, f"{LAST}; 0 of 4 atomic operations went through a mapping; not tried: 1"),
     (["a.c", "--mapping", "bad.h"], 0, 3, f"{LAST}; 4 of 4 atomic operations went through a mapping; not tried: 1"),
