@@ -64,6 +64,13 @@ class Word(NamedTuple):
     is_signed: bool = False
     bits: int = 0
 
+    @property
+    def terms(self):
+        return self.count.terms
+
+    def variables(self):
+        return self.count.variables()
+
 
 class Bits(NamedTuple):
     """A word of which the bits under a mask are these. It names no variable."""
@@ -78,9 +85,11 @@ class Bits(NamedTuple):
         return []
 
 
-def of_bits(mask, bits):
-    """A number is a word of which all bits are known."""
-    return number(bits) if mask == SIZE - 1 else Bits(mask, bits)
+def changed(value, change):
+    """A value with its form changed, of a word that of the count."""
+    if value is None or isinstance(value, Bits):
+        return value
+    return value._replace(count=change(value.count)) if isinstance(value, Word) else change(value)
 
 
 def form(constant, terms=None):

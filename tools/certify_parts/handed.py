@@ -228,12 +228,12 @@ def wraps_at(value, limits):
     return None if low == high else (low + 1) * SIZE - value.constant - 1
 
 
-def computed(name, x, y, is_immediate, state, is_kept):
+def computed(op, x, y, is_immediate, state, is_kept):
     """What an operation on words makes: a number more or less, or a multiple. Where a sum wraps it is parted before, if it is kept."""
-    if name in ("add", "sub"):
+    if op in ("add", "addi", "sub"):
         if not isinstance(x, Form) or not isinstance(y, Form) or not is_immediate and not is_kept:
             return None
-        found = x.plus(y) if name == "add" else x.minus(y)
+        found = x.minus(y) if op == "sub" else x.plus(y)
         if not has_word(found):
             return found
         if word_in(found) is None:
@@ -242,28 +242,29 @@ def computed(name, x, y, is_immediate, state, is_kept):
         if is_kept and m == 1 and (at := wraps_at(found, state.handed[which])) is not None:
             raise Split(("w", which), at)
         return found
-    if name == "sll" and is_immediate and isinstance(x, Form) and word_in(x) and not y.terms:
+    if op == "slli" and isinstance(x, Form) and word_in(x) and not y.terms:
         return x.times(1 << (y.constant & 31))
     return None
 
 
-def split_compare(kind, x, y, state):
+def split_compare(op, x, y, state):
     """Asks for the split of a word after which a compare tells more: where one side wraps, or of the numbers that a number parts."""
-    for value, other in ((x.minus(y), number(0)),) if kind < 2 else ((x, y), (y, x)):
+    is_equal, is_plain = op in ("beq", "bne"), op in ("bltu", "bgeu")
+    for value, other in ((x.minus(y), number(0)),) if is_equal else ((x, y), (y, x)):
         if not has_word(value) or word_in(value) is None or word_in(value)[1] != 1:
             continue
         which, _ = word_in(value)
         low, high = state.handed[which]
-        if kind > 1 and (at := wraps_at(value, (low, high))) is not None:
+        if not is_equal and (at := wraps_at(value, (low, high))) is not None:
             raise Split(("w", which), at)
         if other.terms or low == high:
             continue
         # an equal number stands alone, and 0 where signs count
-        at = (other.constant - value.constant if kind < 2 else -value.constant) % SIZE
-        if kind < 6 and low <= at <= high:
+        at = (other.constant - value.constant if is_equal else -value.constant) % SIZE
+        if not is_plain and low <= at <= high:
             raise Split(("w", which), at if at == low else at - 1)
         more = value.constant - (value.constant + low) // SIZE * SIZE
         # of `value < other` all below the number, of `other < value` all up to it
         end = other.constant - 1 if value is x else other.constant
-        if kind > 1 and low + more <= end < high + more and (kind > 5 or high + more < SIZE // 2):
+        if not is_equal and low + more <= end < high + more and (is_plain or high + more < SIZE // 2):
             raise Split(("w", which), end - more)

@@ -2,7 +2,8 @@
 
 from typing import NamedTuple
 
-from .forms import signed
+from certificates import TAKEN, meaning
+
 from .steps import AMO, AUIPC, BRANCH, IMMEDIATE, JAL, JALR, LOAD, LUI, REGISTER, STORE, SYSTEM
 
 def needed_before(word, after, matters):
@@ -21,19 +22,21 @@ def needed_before(word, after, matters):
 
 def followers(pc, word):
     """The places where the hart may go on, or None where the code doesn't say."""
-    kind = word & 127
-    if kind == JALR:
+    op, *parts = meaning(word) or (None,)
+    if op == "jalr":
         return None
-    if kind == JAL:
-        return [pc + signed((word >> 31) << 20 | (word >> 12 & 255) << 12 | (word >> 20 & 1) << 11 | (word >> 21 & 1023) << 1, 21)]
-    if kind == BRANCH:
-        return [pc + 4, pc + signed((word >> 31) << 12 | (word >> 7 & 1) << 11 | (word >> 25 & 63) << 5 | (word >> 8 & 15) << 1, 13)]
-    return [pc + 4]
+    return [pc + parts[1]] if op == "jal" else [pc + 4, pc + parts[2]] if op in TAKEN else [pc + 4]
 
 
 def returns_of(code):
     """The places after calls."""
     return [4 * at + 4 for at, word in enumerate(code) if word & 127 in (JAL, JALR) and word >> 7 & 31]
+
+
+def following_of(code):
+    """For each place of a code those to which control may go from it. A return goes on after any call."""
+    returns = returns_of(code)
+    return [returns if goals is None else goals for goals in (followers(4 * at, word) for at, word in enumerate(code))]
 
 
 def handed_before(word, after, is_handed):
@@ -79,7 +82,7 @@ class Needed(NamedTuple):
         """The same with what is handed over, and these besides."""
         if self.hands:
             pcs, places, addresses = pcs | self.hands.pcs, places | self.hands.places, addresses | self.hands.addresses
-        following = [returns_of(code) if each is None else each for each in (followers(4 * at, word) for at, word in enumerate(code))]
+        following = following_of(code)
         return self._replace(hands=Hands(pcs, places, addresses, lived(code, pcs, following, handed_before),
                                          lived(code, frozenset(), following, address_parts)))
 
@@ -88,7 +91,7 @@ def needed_of(code, matters=frozenset(), hands=None):
     """What is needed of a code's registers, if what is stored matters at these places. A return goes on after any call."""
     returns = set(returns_of(code))
     goals = {4 * at: followers(4 * at, word) for at, word in enumerate(code)}
-    registers = lived(code, matters, [returns if each is None else each for each in goals.values()])
+    registers = lived(code, matters, following_of(code))
     inside = lived(code, matters, [[*(each or ()), *([pc + 4] if pc + 4 in returns else ())] for pc, each in goals.items()])
     after = {pc: registers[pc // 4 + 1].union(*(inside[goal // 4] for goal in goals[pc] if 0 <= goal <= 4 * len(code)), {code[pc // 4] >> 7 & 31})
              for pc in goals if pc + 4 in returns and goals[pc]}
@@ -126,10 +129,8 @@ class Flow(NamedTuple):
 
 
 def flow_of(code):
-    """The flow of a code. A return goes on after any call."""
-    returns = returns_of(code)
-    following = [[goal for goal in (returns if goals is None else goals) if 0 <= goal < 4 * len(code)]
-                 for goals in (followers(4 * at, word) for at, word in enumerate(code))]
+    """The flow of a code."""
+    following = [[goal for goal in goals if 0 <= goal < 4 * len(code)] for goals in following_of(code)]
     heads, met, left, path, todo = set(), {}, [], set(), [(None, iter((0,) if code else ()))]
     while todo:
         pc, goals = todo[-1]

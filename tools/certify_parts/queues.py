@@ -3,6 +3,8 @@
 from math import gcd
 from typing import NamedTuple
 
+import certificates as reference
+
 from .forms import SIZE
 
 
@@ -102,6 +104,10 @@ class Queue(NamedTuple):
 
     def text(self):
         return " ".join(map(str, ("queue", *self)))
+
+    def asked(self):
+        """The queue as the second implementation has it."""
+        return reference.Queue(*self[:-1])
 
     def opened(self, test):
         """The queue with the least count of which both indices open as the word; Wrong where there is none."""

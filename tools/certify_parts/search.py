@@ -379,8 +379,7 @@ class Search:
         if any(self.covers(group.state, state) for group in reversed(near)):
             return None
         for where, value in enumerate(state.registers + state.words):
-            terms = (value.count if isinstance(value, Word) else value).terms if value is not None else ()
-            if terms and any(variable[0] == "A" for variable, _ in terms):
+            if value is not None and value.terms and any(variable[0] == "A" for variable, _ in value.terms):
                 self.seen.add((state.pc, where))
         self.spend(1)
         if self.mode == Mode.BY_PATH and self.is_within(state):

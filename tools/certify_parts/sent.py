@@ -8,10 +8,12 @@ store of the head may need. Like the whole search this is trusted with nothing.
 from math import gcd
 from typing import NamedTuple
 
+import certificates as reference
+
 from .forms import Form, number, numbers_of, signed, variable_of
 from .harts import Harts
-from .live import address_parts, followers, returns_of
-from .steps import AMO, LOAD, STORE, Matters, Refused, leaves
+from .live import address_parts, following_of, lived
+from .steps import LOAD, STORE, Matters, Refused, leaves
 
 # in so many rounds the numbers of a part may grow
 MOST_GROWN = 12
@@ -117,7 +119,7 @@ class Records:
             if party == 1 and not queue.has_tags and queue.slots <= low and high + width <= queue.slots + queue.size * queue.width:
                 if state.pc not in program.address_loads or not program.owns(which, place, width, state):
                     return None
-                part = Part(which, slot_of(program, which, place, state)[1], width)
+                part = Part(which, program.positions(which, place, 1, state)[1], width)
                 program.log.loaded.add(part)
                 if part not in self.numbers:
                     return () if self.seeks and part not in self.lost else None
@@ -140,7 +142,7 @@ class Records:
             if self.fields(which) and not self.seeks:
                 raise Refused(state.pc, "a store to a slot by the receiver, of which the sender says what its records hold")
             return
-        _, offset = slot_of(program, which, place, state)
+        _, offset = program.positions(which, place, 1, state)
         for part in self.numbers:
             if part.which != which or part.at + part.width <= offset or offset + width <= part.at:
                 continue
@@ -168,45 +170,31 @@ class Records:
         return None if isinstance(value, Form) and sum(kind == "z" for kind, _ in value.variables()) > MOST_NUMBERS else value
 
 
-def slot_of(program, which, place, state):
-    """The position, from the own count on, and the offset in its slot, of an access of a queue's slots that are owned."""
-    queue = program.queues[which]
-    return program.positions(which, place, 1, state)[0], (program.limits(place, state)[0] - queue.slots) % queue.width
-
-
 def slot_store(program, which, state):
     """Of a store to a queue's slots: position and offset, the bytes, and the value as far as it is known; or None."""
     if state.pc >= 4 * len(program.code):
         return None
-    word = program.code[state.pc // 4]
-    kind, x, y = word & 127, state.registers[word >> 15 & 31], state.registers[word >> 20 & 31]
-    if kind == STORE:
-        place, width, value = program.offset(x, signed(word >> 25 << 5 | word >> 7 & 31, 12), state), 1 << (word >> 12 & 7), y
-    elif kind == AMO:
-        place, width, value = number(program.place(x, state)), 4, None
+    op, *parts = reference.meaning(program.code[state.pc // 4])
+    if op in reference.STORES:
+        y, x, given = parts
+        place, width, value = program.offset(state.registers[x], given, state), reference.STORES[op], state.registers[y]
+    elif op.startswith("amo"):
+        place, width, value = number(program.place(state.registers[parts[2]], state)), 4, None
     else:
         return None
     low, high = program.limits(place, state)
     queue = program.queues[which]
-    return (slot_of(program, which, place, state), width, value) if queue.meets_slots(low, high - low + width) else None
+    return (program.positions(which, place, 1, state), width, value) if queue.meets_slots(low, high - low + width) else None
 
 
 # ---- which loads are of numbers that an address may be made of
 
 def address_loads(code, matters):
     """The places of loads whose numbers an address may be made of, or what is stored where that matters."""
-    returns = returns_of(code)
-    goals = [returns if following is None else following for following in (followers(4 * at, word) for at, word in enumerate(code))]
-    live, changed = [frozenset()] * (len(code) + 1), True
-    while changed:
-        changed = False
-        for at in range(len(code) - 1, -1, -1):
-            after = frozenset().union(*(live[goal // 4] for goal in goals[at] if 0 <= goal <= 4 * len(code)))
-            now = frozenset(address_parts(code[at], after, 4 * at in matters))
-            changed |= now != live[at]
-            live[at] = now
+    following = following_of(code)
+    live = lived(code, matters, following, address_parts)
     return {4 * at for at, word in enumerate(code) if word & 127 == LOAD and any(
-        word >> 7 & 31 in live[goal // 4] for goal in goals[at] if goal <= 4 * len(code))}
+        word >> 7 & 31 in live[goal // 4] for goal in following[at] if goal <= 4 * len(code))}
 
 
 # ---- which fields are right

@@ -1,4 +1,4 @@
-"""What one instruction of a hart makes of an abstract state, and what it owes to the queues.
+"""What one instruction of a hart makes of an abstract state, as tools/reference has it, and what it owes to the queues.
 
 `execute` either answers the states after the instruction, or asks by `Split` that the numbers of a variable be parted first,
 or refuses by `Refused` what isn't shown to keep the protocol.
@@ -7,18 +7,26 @@ or refuses by `Refused` what isn't shown to keep the protocol.
 from math import prod
 from typing import NamedTuple
 
+import certificates as reference
+
 from . import handed, tags
-from .forms import SIZE, Bits, Form, Split, Word, bounds, form, has_word, number, numbers_of, signed, variable_of
-from .values import MOST_TRIED, ZERO, Share, State, Values
+from .forms import SIZE, Bits, Form, Split, Word, bounds, changed, form, has_word, number, numbers_of, variable_of
+from .values import EQUALS, FEW_TRIED, ZERO, Share, State, Values
 
 # the kinds of instructions, by their low seven bits
 LOAD, FENCE, IMMEDIATE, AUIPC, STORE, AMO, REGISTER, LUI, BRANCH, JALR, JAL, SYSTEM = (
     0x03, 0x0F, 0x13, 0x17, 0x23, 0x2F, 0x33, 0x37, 0x63, 0x67, 0x6F, 0x73)
+SIGNED_LOADS = ("lb", "lh")
 # so many splits a certificate may have of a state
 MOST_SPLITS = 1024
 # so many positions are tried one by one in a state
 BLOCK = 128
-NAMES = ("add", "sll", "slt", "sltu", "xor", "srl", "or", "and")
+
+
+IMMEDIATES = {*reference.IMMEDIATES, *reference.SHIFTS}
+OPERATIONS = IMMEDIATES | reference.COMPUTED.keys()
+# what makes of a word that may be handed over another one
+HANDED = ("add", "addi", "sub", "sll", "slli")
 
 
 class Refused(Exception):
@@ -90,13 +98,8 @@ class Program(Values):
         queue = self.queues[which]
         if queue.is_linear():
             return variable_of("n", which, queue.scale, queue.base + queue.scale * queue.offset)
-        if not queue.has_known_words():
-            return Word(which, variable_of("n", which))
-        count = self.position(which).plus(number(queue.offset))
-        turn, last = (end // queue.modulus for end in bounds(count, self.ranges(state), True))
-        if turn != last:
-            self.split_where(lambda found: found // queue.modulus, count, state)
-        return count.minus(number(turn * queue.modulus)).times(queue.scale).plus(number(queue.base))
+        word = Word(which, variable_of("n", which))
+        return self.form_of(word, state, queue.has_known_words()) or word
 
     def other_index(self, which):
         return self.other_indices[which]
@@ -125,54 +128,36 @@ class Program(Values):
             if value is not None:
                 self.split_to_know(value, state)
             return 0, SIZE - 1
-        return numbers_of(value, self.ranges(state)) or self.parted(value, state) or (0, SIZE - 1)
-
-    def parted(self, value, state):
-        self.split_where(lambda found: found // SIZE, value, state)
+        found = numbers_of(value, self.ranges(state))
+        if not found:
+            self.split_for(lambda ranges: numbers_of(value, ranges), (value,), state)
+        return found or (0, SIZE - 1)
 
     def positions(self, which, value, width, state):
-        """From how many positions past the own count on an access of slots is of, and up to where, or None."""
-        queue, share = self.queues[which], state.shares[which]
-        if queue.period() < queue.size:
-            return self.positions_by_parts(which, value, width, state)
-        turn = share.first // queue.size
-        if turn != share.last // queue.size:
-            raise Split(("p", which), (turn + 1) * queue.size - 1)
-        start = variable_of("p", which, queue.width, queue.slots - queue.width * queue.size * turn)
-        found = bounds(value.minus(start), self.ranges(state))
-        if found is None or found[0] != found[1]:
-            if self.cases(value.minus(start), state) <= MOST_SPLITS + 1:
-                self.split_to_know(value.minus(start), state, 64)
-            return None
-        distance = signed(found[0])
-        first, last = distance // queue.width, (distance + width - 1) // queue.width
-        if first != last:
-            return None
-        low, high = share.first - queue.size * turn, share.last - queue.size * turn
-        for edge in {first, last}:
-            # the place is a turn behind where the position is small
-            if low + edge < 0 <= high + edge:
-                raise Split(("p", which), share.first - low - edge - 1)
-            if low + edge < queue.size <= high + edge:
-                raise Split(("p", which), share.first - low + queue.size - edge - 1)
-        return first % queue.size, last % queue.size
+        """How many positions past the own count an access of slots is of, and where in the slot it begins; or None."""
+        queue, own, share, known = self.asked[which], variable_of("n", which), state.shares[which], self.known(value, state)
+        if known is not None and share.first == share.last and share.begin == share.end:
+            first, offset = share.first + share.begin * self.queues[which].period(), reference.offset_at(queue, known)
+            return (reference.position_at(queue, first, known), offset) if offset + width <= queue.width else None
 
-    def positions_by_parts(self, which, value, width, state):
-        """The same where the own position is told by its remainder and the rest."""
-        queue, own = self.queues[which], self.position(which)
-        found = bounds(value.minus(own.times(queue.width).plus(number(queue.slots))), self.ranges(state))
-        if found is None or found[0] != found[1]:
-            return None
-        first, last = signed(found[0]) // queue.width, (signed(found[0]) + width - 1) // queue.width
-        # a turn behind there are no places
-        further = own.plus(number(first + queue.size))
-        turns = {end // queue.size for end in bounds(further, self.ranges(state))}
-        if first != last or not -queue.size < first < queue.size:
-            return None
-        if len(turns) > 1:
-            self.split_where(lambda end: end // queue.size, further, state)
-            return None
-        return (first % queue.size,) * 2 if turns == {1} else None
+        def found(ranges):
+            layout = self.layout(ranges, (value, own))
+            most, place, count = layout.most, layout.form(value, SIZE), layout.form(own)
+            at, offset = reference.position_at(queue, count.constant, place.constant), reference.offset_at(queue, place.constant)
+            there = reference.remainder(most, reference.plus(count, reference.number(at)), queue.size)
+            return (at, offset) if offset + width <= queue.width and reference.is_slot(most, queue, place, offset, there) else None
+
+        found = self.once((which, value, width), (value, own), found)
+        at = found(self.ranges(state))
+        if at is None:
+            position = self.position(which) if self.queues[which].period() < queue.size else variable_of("p", which)
+            further = value.minus(position.times(queue.width))
+            limits = bounds(further, self.ranges(state))
+            if limits and limits[0] == limits[1]:
+                self.split_for(found, (value, own), state, SIZE)
+            elif self.cases(further, state) <= MOST_SPLITS + 1:
+                self.split_for(found, (value, own), state, FEW_TRIED)
+        return at
 
     def cases(self, value, state):
         """How many numbers the variables of a form may be, all together."""
@@ -182,10 +167,10 @@ class Program(Values):
     def owns(self, which, value, width, state):
         """Whether an access of slots is of owned ones; asks for a split where it is for some numbers."""
         share, found = state.shares[which], self.positions(which, value, width, state)
-        if found is None or max(found) >= share.high:
+        if found is None or found[0] >= share.high:
             return False
-        if max(found) >= share.low:
-            raise Split(("A", which), max(found))
+        if found[0] >= share.low:
+            raise Split(("A", which), found[0])
         return True
 
     def loaded(self, state, value, width, is_signed):
@@ -312,48 +297,30 @@ class Program(Values):
 
     def moved(self, which, value, state):
         """By how much a store of this value to the own index moves the own count."""
-        queue, share, step = self.queues[which], state.shares[which], None
-        if isinstance(value, Word) and not value.is_signed:
-            step = self.step_of(value.count.minus(variable_of("n", which)), queue.modulus, state) if value.queue == which else None
-        elif isinstance(value, Form) and (queue.is_linear() or queue.is_cut() or self.is_index(value, queue, state)):
-            own = self.own_index(which, state)
-            if queue.is_cut() and not isinstance(own, Word):
-                value = self.by_position(value, which)
-            scaled = value.minus(self.rest(own)[0] if isinstance(own, Word) else own)
-            if queue.is_cut():
-                # the bytes that are stored are all that counts
-                scaled = form(scaled.constant % 256 ** queue.index_width, {variable: m % 256 ** queue.index_width for variable, m in scaled.terms})
-            if all(signed(m) % queue.scale == 0 for m in (scaled.constant, *(m for _, m in scaled.terms))):
-                step = self.step_of(form(signed(scaled.constant) // queue.scale, {variable: signed(m) // queue.scale for variable, m in scaled.terms}),
-                                    queue.modulus, state)
-        if step is not None and step <= share.low:
-            return step
+        queue, share, own = self.asked[which], state.shares[which], variable_of("n", which)
+
+        def step(ranges):
+            layout = self.layout(ranges, (value, own))
+            found, count, most = layout.value(value), layout.form(own), layout.most
+            if isinstance(found, reference.Linear):
+                word = (found.form.constant - queue.base) % 256 ** queue.index_width
+                by = (word // queue.scale - queue.offset - count.constant) % queue.modulus
+            elif isinstance(found, reference.IndexFor):
+                by = (found.form.constant - count.constant) % queue.modulus
+            else:
+                return None
+            then = reference.plus(count, reference.number(by))
+            is_word = reference.is_within(self.indexed, most, found, reference.IndexFor(which, then)) or reference.is_cut(queue, found, then)
+            return by if is_word else None
+
+        found = step(self.ranges(state))
+        if found is not None and found <= share.low:
+            return found
+        if found is None and value is not None:
+            self.split_for(step, (value, own), state)
         if value is not None and share.low < share.high:
             raise Split(("A", which), share.low)
-        if value is not None and share.first < share.last <= share.first + MOST_TRIED and step is None:
-            raise Split(("p", which), share.first, True)
         raise Refused(state.pc, f"the own index isn't known to move on by at most {share.low}, which are owned there")
-
-    def is_index(self, value, queue, state):
-        """Whether a value is below the end of the words of an index; asks for a split where it is for some numbers."""
-        end = queue.base + queue.scale * queue.modulus
-        found = numbers_of(value, self.ranges(state))
-        if found is None:
-            self.parted(value, state)
-        elif found[0] < end <= found[1]:
-            self.split_where(lambda each: each % SIZE < end, value, state)
-        return found is not None and found[1] < end
-
-    def step_of(self, value, modulus, state):
-        """A form modulo the words of an index, where it is a number."""
-        found = bounds(value, self.ranges(state), True)
-        if found is None:
-            return None
-        if found[0] == found[1]:
-            return found[0] % modulus
-        if all(limits[1] - limits[0] <= 64 for variable, limits in self.ranges(state).items() if variable in value.variables()):
-            self.split_to_know(value, state, 64)
-        return None
 
     # ---- whole instructions
 
@@ -366,56 +333,55 @@ class Program(Values):
             return []
         if pc % 4 or pc > 4 * len(self.code):
             raise Refused(pc, "outside of the code")
-        word = self.code[pc // 4]
-        kind, to, third = word & 127, word >> 7 & 31, word >> 12 & 7
-        x, y = registers[word >> 15 & 31], registers[word >> 20 & 31]
-        upper, given = word & 0xFFFFF000, signed(word >> 20, 12)
-        if kind == LUI:
-            return [self.put(state, to, number(upper))]
-        if kind == AUIPC:
-            return [self.put(state, to, number(pc + upper))]
-        if kind in (IMMEDIATE, REGISTER):
-            y = y if kind == REGISTER else number(word >> 20 & 31 if third in (1, 5) else given)
-            name = "sub" if kind == REGISTER and third == 0 and word >> 30 & 1 else "sra" if third == 5 and word >> 30 & 1 else NAMES[third]
-            if state.handed and name in ("add", "sub", "sll") and (has_word(x) or has_word(y)):
-                return [self.put(state, to, handed.computed(name, x, y, kind == IMMEDIATE, state, handed.is_handed(self, pc + 4, to)))]
-            value, fresh = self.computed(name, x, y, state, kind == IMMEDIATE)
-            return [self.put(self.settled(state, x, y), to, value, fresh=fresh)]
-        if kind == FENCE:
+        op, *parts = reference.meaning(self.code[pc // 4]) or (None,)
+        if op in ("lui", "auipc"):
+            return [self.put(state, parts[0], number((parts[1] << 12) + (pc if op == "auipc" else 0)))]
+        if op in OPERATIONS:
+            return [self.operated(state, op, *parts)]
+        if op == "fence":
             return [self.put(state, 0, None)]
-        if kind == JAL:
-            offset = signed((word >> 31) << 20 | (word >> 12 & 255) << 12 | (word >> 20 & 1) << 11 | (word >> 21 & 1023) << 1, 21)
-            return [self.put(state, to, number(pc + 4), pc + offset)]
-        if kind == JALR:
-            goal = self.place(x, state)
+        if op == "jal":
+            return [self.put(state, parts[0], number(pc + 4), pc + parts[1])]
+        if op == "jalr":
+            goal = self.place(registers[parts[1]], state)
             if goal is None:
                 raise Refused(pc, "a jump to a place that is not known")
-            return [self.put(state, to, number(pc + 4), (goal + given) % SIZE & ~1)]
-        if kind == BRANCH:
-            return self.branched(state, word, third, x, y)
-        if kind == LOAD:
-            width = 1 << (third & 3)
-            place, most = self.offset(x, given, state), 256 ** width - 1 if third > 3 else SIZE - 1
-            if self.tagged and (seen := tags.looked(self, state, place, width)):
-                return tags.after_load(self, state, to, *seen, third)
-            value, looked = self.loaded(state, place, width, third < 2)
-            if self.records and value is None and looked is None and (found := self.records.received(self, state, place, width, third < 2)) is not None:
-                return [self.put(state, to, found[0], fresh=found[1])] if found else []
-            if value is None and looked is None and handed.is_handed(self, pc + 4, to):
-                return [self.put(state, to, None, word=(0, most))]
-            is_range = value is None and looked is None and (third > 3 or self.tells_by_bits)
-            self.depends |= {"with_bytes"} if is_range else set()
-            is_range = is_range and self.with_bytes
-            return [self.put(state, to, value, fresh=(0, most) if is_range else None, looked=looked)]
-        if kind == STORE:
-            place = self.offset(x, signed(word >> 25 << 5 | to, 12), state)
-            words, move = self.store(state, place, 1 << third, y)
+            return [self.put(state, parts[0], number(pc + 4), (goal + parts[2]) % SIZE & ~1)]
+        if op in reference.TAKEN:
+            return self.branched(state, op, *parts)
+        if op in reference.LOADS:
+            return self.after_load(state, op, *parts)
+        if op in reference.STORES:
+            y, x, given = parts
+            words, move = self.store(state, self.offset(registers[x], given, state), reference.STORES[op], registers[y])
             return [self.put(state._replace(words=words), 0, None, move=move)]
-        if kind == AMO:
-            return [self.exchanged(state, word >> 27, to, x, y)]
-        if kind == SYSTEM:
+        if op in ("ecall", "ebreak"):
             return self.called(state)
-        raise Refused(pc, f"the word {word:08x}")
+        if op:
+            return [self.exchanged(state, op, *parts)]
+        raise Refused(pc, f"the word {self.code[pc // 4]:08x}")
+
+    def operated(self, state, op, to, x, y):
+        is_immediate, x = op in IMMEDIATES, state.registers[x]
+        y = y if is_immediate else state.registers[y]
+        if state.handed and op in HANDED and (has_word(x) or has_word(y)):
+            return self.put(state, to, handed.computed(op, x, number(y) if is_immediate else y, is_immediate, state, handed.is_handed(self, state.pc + 4, to)))
+        value, fresh = self.computed(op, x, y, state)
+        return self.put(self.settled(state, x, y), to, value, fresh=fresh)
+
+    def after_load(self, state, op, to, x, given):
+        width, place = reference.LOADS[op], self.offset(state.registers[x], given, state)
+        if self.tagged and (seen := tags.looked(self, state, place, width)):
+            return tags.after_load(self, state, to, *seen, op)
+        value, looked = self.loaded(state, place, width, op in SIGNED_LOADS)
+        if self.records and value is None and looked is None and (found := self.records.received(self, state, place, width, op in SIGNED_LOADS)) is not None:
+            return [self.put(state, to, found[0], fresh=found[1])] if found else []
+        most = reference.most_loaded(op)
+        if value is None and looked is None and handed.is_handed(self, state.pc + 4, to):
+            return [self.put(state, to, None, word=(0, most))]
+        is_range = value is None and looked is None and (op in ("lbu", "lhu") or self.tells_by_bits)
+        self.depends |= {"with_bytes"} if is_range else set()
+        return [self.put(state, to, value, fresh=(0, most) if is_range and self.with_bytes else None, looked=looked)]
 
     def offset(self, value, given, state):
         if isinstance(value, Bits):
@@ -425,16 +391,16 @@ class Program(Values):
             return None if found is None else number(found + given)
         return None if value is None else value.plus(number(given))
 
-    def branched(self, state, word, third, x, y):
-        offset = signed((word >> 31) << 12 | (word >> 7 & 1) << 11 | (word >> 25 & 63) << 5 | (word >> 8 & 15) << 1, 13)
-        answer, found = self.compared(third, x, y, state), []
+    def branched(self, state, op, first, second, offset):
+        x, y = state.registers[first], state.registers[second]
+        answer, found = self.compared(op, x, y, state), []
         state = self.settled(state, x, y)
         for taken in (True, False):
             if answer in (None, taken):
                 after = state._replace(is_apart=any(low == high for low, high in state.handed))
                 # where two registers are equal and nothing is known of one, it is what the other is
-                if third < 2 and taken == (third == 0) and (x is None) != (y is None):
-                    which, value = (word >> 15 & 31, y) if x is None else (word >> 20 & 31, x)
+                if op in EQUALS and taken == (op == "beq") and (x is None) != (y is None):
+                    which, value = (first, y) if x is None else (second, x)
                     after = after._replace(registers=state.registers[:which] + (value,) + state.registers[which + 1:], is_apart=True)
                 found.append(self.put(after, 0, None, state.pc + (offset if taken else 4)))
         return found
@@ -454,13 +420,14 @@ class Program(Values):
             return state
         return state._replace(registers=tuple(forms.get(each, each) for each in state.registers), words=tuple(forms.get(each, each) for each in state.words))
 
-    def exchanged(self, state, operation, to, x, y):
+    def exchanged(self, state, op, to, y, x):
+        x, y = state.registers[x], state.registers[y]
         place = x if isinstance(x, Form) and self.may_be_tag(x, state) else self.place_of_exchange(x, state)
         old, looked = self.loaded(state, place, 4, False)
         if looked is not None:
             raise Refused(state.pc, "an AMO on the other's index")
-        new = y if operation == 1 else self.computed("add", old, y, state)[0] if operation == 0 and old is not None else None
-        words, move = self.store(state, place, 4, new)
+        new, fresh = (y, None) if op == "amoswap" else self.computed("add", old, y, state) if op == "amoadd" and old is not None else (None, None)
+        words, move = self.store(state, place, 4, None if fresh else new)
         return self.put(state._replace(words=words), to, old, move=move)
 
     def may_be_tag(self, value, state):
@@ -525,38 +492,29 @@ class Program(Values):
 
     def without(self, value, variable, share):
         """A value in which no variable stands for what was owned before a look."""
-        if value is None or variable not in (value.count if isinstance(value, Word) else value).variables():
+        if value is None or variable not in value.variables():
             return value
-        if share.low < share.high:
-            return None
-        if isinstance(value, Word):
-            return value._replace(count=value.count.put(variable, number(share.low)))
-        return value.put(variable, number(share.low))
+        return changed(value, lambda found: found.put(variable, number(share.low))) if share.low == share.high else None
 
     def rebased(self, value, which, step, on, further):
         """A value by the counts after the own one moved on, and with it the position and the turn."""
-        if value is None:
-            return None
-        if isinstance(value, Word):
-            return value._replace(count=self.rebased(value.count, which, step, on, further))
-        if not value.terms:
+        if value is None or not value.terms:
             return value
-        value = value.put(("n", which), variable_of("n", which, 1, -step)).put(("p", which), variable_of("p", which, 1, -on))
-        value = value.put(("t", which), variable_of("t", which, 1, -further))
-        return value.put(("A", which), variable_of("A", which, 1, step))
+        moves = {("n", which): step, ("p", which): on, ("t", which): further, ("A", which): -step}
+        for variable in value.variables():
+            if variable in moves:
+                moved = variable_of(*variable, 1, -moves[variable])
+                value = changed(value, lambda found: found.put(variable, moved))  # pylint: disable=cell-var-from-loop
+        return value
 
     def tidied(self, state, kept, move, looked, words):
         """The state without the variables ("z", k) that nothing names, or that are a number."""
         used = {variable for value in (*state.registers, *state.words) if value is not None
-                for variable in (value.count if isinstance(value, Word) else value).variables() if variable[0] == "z"} if state.others else ()
+                for variable in value.variables() if variable[0] == "z"} if state.others else ()
         stay = [which for which, (low, high) in enumerate(state.others) if low < high and ("z", which) in used]
         new = {("z", old): variable_of("z", at) for at, old in enumerate(stay)}
 
         def renamed(value):
-            if value is None:
-                return None
-            if isinstance(value, Word):
-                return value._replace(count=renamed(value.count))
             if all(variable[0] != "z" for variable, _ in value.terms):
                 return value
             found = number(value.constant)
@@ -566,8 +524,8 @@ class Program(Values):
             return found
 
         if state.others:
-            state = state._replace(registers=tuple(map(renamed, state.registers)), words=tuple(map(renamed, state.words)),
-                                   others=tuple(state.others[which] for which in stay))
+            registers, own_words = (tuple([changed(value, renamed) for value in values]) for values in (state.registers, state.words))
+            state = state._replace(registers=registers, words=own_words, others=tuple(state.others[which] for which in stay))
         moves = tuple(move[1] if move and move[0] == which else 0 for which in range(len(self.queues)))
         return Next(state, moves, tuple(looked == which for which in range(len(self.queues))), tuple(kept[which] for which in stay), words)
 

@@ -5,26 +5,22 @@ A party's share says of such a queue how many positions are owned at least, as a
 
 from typing import NamedTuple
 
-from .forms import SIZE, Bits, Form, bounds, number, numbers_of, of_bits, variable_of
+import certificates
+import tags as reference
+from tags import NUMBER, WORD, ZERO
+
+from .forms import SIZE, Form, numbers_of, variable_of
 from .queues import Wrong, numbers_given
+from .values import FEW_TRIED
 
-ZERO, NUMBER = "zero", "number"
-WORD = 4
+PARTIES = certificates.SENDER, certificates.RECEIVER
 
 
-class BitsTell(NamedTuple):
+class BitsTell(reference.Bits):
     """The tag's bits under a mask are these in a free slot and in a full one."""
-
-    mask: int
-    free: int
-    full: int
 
     def __str__(self):
         return f"bits {self.mask} {self.free} {self.full}"
-
-    def told(self, party):
-        """The bits by which a tag tells the party that it has the slot."""
-        return self.full if party else self.free
 
 
 class Tagged(NamedTuple):
@@ -70,6 +66,10 @@ class Tagged(NamedTuple):
 
     def text(self):
         return " ".join(map(str, ("tagged", *self)))
+
+    def asked(self):
+        """The queue as the second implementation has it."""
+        return reference.TaggedQueue(*self[:-1])
 
     def tag(self, position):
         """Where the tag of a position lies."""
@@ -186,10 +186,7 @@ def described(places, given, test):
 def place_in(program, which, state, place, width):
     """The position, from the own count on, and the offset in its slot, of an access of slots; None where these aren't known."""
     queue, (low, high) = program.queues[which], program.limits(place, state)
-    if low < queue.slots or high + width > queue.slots + queue.size * queue.width:
-        return None
-    found = program.positions(which, place, width, state)
-    return found and (found[0], (low - queue.slots) % queue.width)
+    return program.positions(which, place, width, state) if queue.slots <= low and high + width <= queue.slots + queue.size * queue.width else None
 
 
 def looked(program, state, place, width):
@@ -212,27 +209,21 @@ def read_rest(program, which, state, place, width):
     program.see_unowned(which, state.pc)
 
 
-def bits_loaded(bits, tells, width, op):
-    """What a load leaves of a tag whose bits are these."""
-    mask, above = tells.mask, SIZE - 256 ** width if op > 3 else 0
-    if op < 2 and width < WORD:
-        mask, bits = ((each | SIZE - 256 ** width) if each >> 8 * width - 1 else each for each in (mask, bits))
-    return of_bits(mask | above, bits)
-
-
 def after_load(program, state, to, which, position, op):
     """The states after a load of a tag by this instruction: the party is told that it owns up to that position, or not yet."""
-    queue, party, own = program.queues[which], program.parties[which], variable_of("n", which)
-    if queue.tells == ZERO:
-        values = [{"value": number(0)}, {"word": (1, 256 ** (1 << (op & 3)) - 1 if op > 3 else SIZE - 1)}]
-        told, other = reversed(values) if party else values
-    elif isinstance(queue.tells, BitsTell):
-        told, other = ({"value": bits_loaded(queue.tells.told(each), queue.tells, queue.tag_width, op)} for each in (party, not party))
-    else:
-        told, other = ({"value": own.plus(number(position + more))} for more in ((1, 0) if party else (0, 1 - queue.size)))
+    queue, party, own = program.asked[which], PARTIES[program.parties[which]], variable_of("n", which)
+    layout = program.layout(program.ranges(state), (own,), True)
+    told, other = (left(layout.found(result, len(state.others))) for result in (
+        reference.told_value(queue.codec, party, op, layout.form(own), position), reference.other_value(queue, party, op, layout.form(own), position)))
     is_owned = position < state.shares[which].low
-    found = [program.put(state, to, told.get("value"), word=told.get("word"), told=None if is_owned else (which, position + 1))]
-    return found if is_owned else [*found, program.put(state, to, other.get("value"), word=other.get("word"))]
+    found = [program.put(state, to, **told, told=None if is_owned else (which, position + 1))]
+    return found if is_owned else [*found, program.put(state, to, **other)]
+
+
+def left(found):
+    """What a register has after a load: a value, or a word of some range."""
+    value, fresh = found
+    return {"value": None, "word": (value.constant, value.constant + fresh[1])} if fresh else {"value": value}
 
 
 # ---- stores
@@ -260,25 +251,23 @@ def stored(program, which, state, place, width, value):
 
 def check_handed(program, which, state, value):
     """Refuses a store of the own tag that isn't known to hand its position over."""
-    queue, party, pc = program.queues[which], program.parties[which], state.pc
-    known = program.known(value, state)
-    if isinstance(queue.tells, BitsTell):
-        bits, wanted = program.bits_of(value, state), queue.tells.told(not party)
-        if not bits or bits.mask & queue.tells.mask != queue.tells.mask or bits.bits & queue.tells.mask != wanted:
-            program.refuse(pc, f"the bits under {queue.tells.mask} of the tag that it stores aren't known to be {wanted}")
+    queue, party, own, pc = program.asked[which], PARTIES[program.parties[which]], variable_of("n", which), state.pc
+
+    def hands_over(ranges):
+        layout = program.layout(ranges, (value, own))
+        return reference.hands_over(layout.most, queue, party, layout.form(own), program.operand(layout, value)) or None
+
+    if hands_over(program.ranges(state)):
         return
-    value = number(known) if known is not None else value if isinstance(value, Form) else None
-    if queue.tells == NUMBER:
-        own = variable_of("n", which, 1, queue.size if party else 1)
-        found = value and bounds(value.minus(own), program.ranges(state), True)
-        if found is None or found[0] != found[1]:
-            program.split_to_know(value and value.minus(own), state, 64)
-        if found is None or not found[0] == found[1] == found[0] // SIZE * SIZE:
-            program.refuse(pc, f"the tag that it stores isn't known to be the position's number and {queue.size if party else 1}")
-        return
-    limits = value and numbers_of(value, program.ranges(state))
-    if party and not (limits and limits[0] == limits[1] and limits[0] % 256 ** queue.tag_width == 0):
+    wanted = reference.told_by(queue.codec, certificates.other(party), certificates.number(queue.size if party == PARTIES[1] else 0))
+    if isinstance(wanted, reference.NumberOf):
+        program.split_for(hands_over, (value, own), state, FEW_TRIED)
+        program.refuse(pc, f"the tag that it stores isn't known to be the position's number and {wanted.form.constant}")
+    if wanted == reference.NOTHING:
         program.refuse(pc, "the tag that it stores isn't known to be 0")
-    if not party and not (limits and 1 <= limits[0] and limits[1] < 256 ** queue.tag_width):
-        program.refuse(pc, "the tag that it stores may be 0, which says that the slot is free" if not limits or not limits[0] else
-                       f"the tag that it stores isn't known to fit its {queue.tag_width} bytes")
+    if wanted != reference.SOMETHING:
+        program.refuse(pc, f"the bits under {wanted.mask} of the tag that it stores aren't known to be {wanted.bits}")
+    known = program.known(value, state)
+    limits = (known, known) if known is not None else isinstance(value, Form) and numbers_of(value, program.ranges(state))
+    program.refuse(pc, "the tag that it stores may be 0, which says that the slot is free" if not limits or not limits[0] else
+                   f"the tag that it stores isn't known to fit its {queue.tag_width} bytes")
