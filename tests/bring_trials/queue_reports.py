@@ -107,7 +107,8 @@ def jumped_to(count, folder):
             ([ring], text, True, "    P0 23: a = b: c", f"{ring}:23: P0: a = b: c"),
             ([Path(folder, "ring.litmus")], text, False, "    P1 23: a", f"{ring}:23: P1: a"),
             ([Path(folder, "none/ring.litmus")], text, False, "    P1 23: a", "    P1 23: a"),
-            ([ring], text, True, "    P0 other.h:4: a", "    P0 other.h:4: a"),
+            ([ring], text, True, "    P0 other.h:4: a", f"{other}:4: P0: a"),
+            ([ring], text, True, "    P0 away.h:4: a", "    P0 away.h:4: a"),
             ([other, ring], two, True, "    P0 other.h:4: a", f"{other}:4: P0: a"),
             ([other, ring], two, True, "    P1 12: a", f"{ring}:12: P1: a"),
             ([ring], text, True, "    P0 at 0x1c (no debugging information)", "    P0 at 0x1c (no debugging information)")):

@@ -21,6 +21,8 @@ LEVEL = re.compile(r"(?<!\S)(-O\w*|-C opt-level=\w+)(?!\S)")
 SHORT = re.compile(r"^(?:\S*-)?(gcc|g\+\+) |(?<= )([0-9]+\.[0-9]+)\.[\w.]+")
 # the line of a source after one that names an instruction
 NOTED = re.compile(r"    P(?P<hart>\d+) (?:(?P<file>[\w.+-]+):)?(?P<line>\d+): (?P<text>.*)")
+# what a header's name ends in
+HEADERS = (".h", ".hh", ".hpp", ".hxx", ".inc", ".ipp")
 # options by which a text has other code than the compiler makes by itself
 OPTION = re.compile(r" --(?:mapping (?P<mapping>\S+)|fences (?P<fences>none|full)(?!\S))")
 FENCES = {"none": "", "full": " that aren't full"}
@@ -56,11 +58,13 @@ def changes_of(text):
 
 
 def sources_of(files, text, is_source):
-    """Where the sources lie whose lines a text has, by their names: those that are asked about, or that its comment names, beside it. The one
-    whose lines have no name there is called None, if it is known."""
+    """Where the sources lie whose lines a text has, by their names: those that are asked about, or that its comment names, beside it, and the
+    headers beside these. The one whose lines have no name there is called None, if it is known."""
     names = [Path(file).name for file in files] if is_source else made_of(text)[0]
     places = [Path(file) for file in files] if is_source else [Path(files[0]).with_name(name) for name in names]
-    found = {name: place for name, place in zip(names, places) if place.is_file()}
+    folders = {place.parent for place in places if place.parent.is_dir()}
+    headers = {path.name: path for folder in folders for path in folder.iterdir() if path.suffix in HEADERS}
+    found = headers | {name: place for name, place in zip(names, places) if place.is_file()}
     titled = [name for name in names if Path(name).stem == text.partition("\n")[0].removeprefix("RISCV ")]
     first = names[0] if len(names) == 1 else titled[0] if len(titled) == 1 else None
     return {**found, None: found[first]} if first in found else found
