@@ -91,6 +91,10 @@ DESCRIBED = [(None, ["slots=q.slot,size=2,width=8,tag=q.slot[0].full+1"], ["--ta
              (None, ["slots=q.slot, size=2, width=8, tag=4+1"], ["--tagged", "slots=12,size=2,width=8,tag=4+1"]),
              (["head=q.sent,tail=q.taken,slots=q.slot,size=2"], None, ["--queue", "head=4,tail=8,slots=12,size=2"]),
              (["head=q.sent,tail=q.taken,slots=q.slot,size=2,scale=8,base=q.slot"], None, ["--queue", "head=4,tail=8,slots=12,size=2,scale=8,base=12"])]
+# what drawn runs propose, by a text's places and by the source's names
+IN_TEXT = {"q_in": 4, "q_out": 5, "q_slot": 8}
+PROPOSED = [("--queue head=q_in,tail=q_out,slots=q_slot,bytes=1", "--queue head=q.in,tail=q.out,slots=q.slot,bytes=1"),
+            ("--queue head=12,tail=away,slots=q_slot", "--queue head=12,tail=away,slots=q.slot")]
 # a line after a schedule's first one, and what a terminal is shown
 SCHEDULES = [("a0*3 l0", "a0*3 l0"), ("a0*3 l0 " * 60, "a0*3 l0 " * 49 + "a0*3 l0 .. 240 events in all: -o FOLDER keeps them")]
 # edits of examples/cpp/queue.cpp, the places, and parts of what comes
@@ -200,6 +204,9 @@ def part(count, program):
         except Refused as refused:
             came = str(refused)
         count.told(f"what the types say of {given}", came == wanted, came)
+    for said, wanted in PROPOSED:
+        came = queue["in_source"](said, SimpleNamespace(locations=IN_TEXT), types)
+        count.told(f"how the source calls {said}", came == wanted, came)
     for line, wanted in SCHEDULES:
         count.told(f"a schedule of {len(line)} characters at a terminal", queue["shown"](line, True) == wanted, queue["shown"](line, True))
 
