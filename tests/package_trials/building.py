@@ -32,7 +32,7 @@ printf '#!/bin/sh\\necho %s "$@"\\n' "$profile" >"$CARGO_TARGET_DIR/$profile/zts
 chmod +x "$CARGO_TARGET_DIR/$profile/ztso"
 """
 BUILDING = "ztso: building with rustc, without proofs"
-FIRST = f"{BUILDING} and first without optimization: about five seconds on 4 processors\n"
+FIRST = f"{BUILDING} and first without optimization: seven seconds on 4 processors\n"
 WHOLE = f"{BUILDING}: ten to twenty seconds on 4 processors\n"
 UNPROVED = "ztso: built by rustc, and nothing is proved of it; ./prove builds the proved program\n"
 NOT_YET = "ztso: not optimized yet: the fast program is built in the background, and ./ztso --wait waits for it\n"
