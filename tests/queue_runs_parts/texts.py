@@ -21,7 +21,7 @@ REGISTERS = 32
 NOP = 0x13
 # how long the search of a changed text may take, in seconds of the processor
 FEW_SECONDS = 1
-SAID = re.compile(r"/\* .*?\n((?: +(?:queue|tagged): \S+\n)+) +answer: (.*?) \*/", re.S)
+SAID = re.compile(r"/\* .*?\n((?: +(?:queue|tagged): \S+\n)+)(?: +read: \S+\n)? +answer: (.*?) \*/", re.S)
 # a count that opens at so much less than 2^32, or at a few less, wraps soon
 BEFORE_THE_WRAP = 4
 

@@ -4,6 +4,7 @@ certificate is followed from one listed state to the next, with the numbers that
 import certificates
 import machine
 import progress
+import queue_questions
 import tags
 from protocol_trials import ownership, telling
 from protocol_trials.machine import Access
@@ -66,6 +67,11 @@ def function(names, source, **known):
     return eval(f"lambda {names}: {source}", known)  # pylint: disable=eval-used
 
 
+def ends_alike(bits, number, count):
+    """Whether a number of this many bits ends in as many zeros as a count, as far as these bits go."""
+    return number < 1 << bits and all((number % (1 << k) == 0) == (count % (1 << k) == 0) for k in range(bits + 1))
+
+
 class Followed:
     """A certificate: in which listed state of a hart a walk is, and with which numbers."""
 
@@ -89,16 +95,28 @@ class Followed:
         known, own = self.certificate.harts[h].states[at].known, self.certificate.harts[h].own
         terms = [f"pc == {known.pc}", f"len(n) == {len(known.ranges)}"]
         terms += [f"n[{j}] <= {most}" for j, most in enumerate(known.ranges) if most is not None]
-        terms += [f"r[{j}] == {self.value(v)}" for j, v in enumerate(known.registers) if v is not certificates.ANY]
-        terms += [f"read({a}) == {self.value(v)}" for a, v in zip(own, known.words) if v is not certificates.ANY]
+        terms += [self.says(f"r[{j}]", v) for j, v in enumerate(known.registers) if v is not certificates.ANY]
+        terms += [self.says(f"read({a})", v) for a, v in zip(own, known.words) if v is not certificates.ANY]
         # of a queue with tags a state says how many positions are owned at least
         terms += [f"s[{i}][0] == {written(share.own)} and s[{i}][1] {'==' if i < len(self.index_words) else '>='} {written(share.owned)}"
                   for i, share in enumerate(known.shares) if h in self.parties[i]]
-        return function("n, pc, r, read, s", " and ".join(terms), word=self.index_words)
+        return function("n, pc, r, read, s", " and ".join(terms), word=self.index_words, signed=self.signed_word, ends_alike=ends_alike)
 
     @staticmethod
-    def value(v):
-        return f"({written(v.form)}) & {MASK}" if isinstance(v, certificates.Linear) else f"word[{v.queue}]({written(v.form)})"
+    def says(number, v):
+        """That a number is what is known of it."""
+        if isinstance(v, certificates.HasBits):
+            return f"{number} & {v.mask} == {v.bits}"
+        if isinstance(v, certificates.EndsAs):
+            return f"ends_alike({v.bits}, {number}, {written(v.form)})"
+        if isinstance(v, certificates.Linear):
+            return f"{number} == ({written(v.form)}) & {MASK}"
+        word = f"word[{v.queue}]({written(v.form)})"
+        return f"{number} == " + (f"signed({v.queue}, {word})" if isinstance(v, certificates.SignedFor) else word)
+
+    def signed_word(self, i, word):
+        """What a signed load leaves of a word of queue i's index."""
+        return certificates.signed_word(self.certificate.queues[i].queue.index_width, word)
 
     def after(self, h, at, n, state):
         """The listed state that follows, with its numbers, where the hart is in this state after one instruction; or None."""
@@ -165,6 +183,13 @@ def rows_of(accepted):
                 yield (i, h), Row(found.owned, found.pace + found.sight + 2)
 
 
+def lasting_harts(accepted):
+    """The harts that run after each of their entries, where the certificate shows that they never stop and never end."""
+    opening, certificate = accepted.opening, accepted.certificate
+    return {h for h in range(len(certificate.harts)) if progress.first_end(opening, certificate, h) is None
+            and queue_questions.Hart(opening, certificate, h).stop() is None}
+
+
 # ---- walks
 
 
@@ -186,7 +211,7 @@ class Walks:
         self.harts = range(len(self.test.codes))
         self.events = [("a", h) for h in self.harts] + [("l", h) for h in self.harts]
         self.breaches, self.outside, self.idle, self.entries, self.taken = [], [], [], 0, 0
-        self.rows = dict(rows_of(accepted))
+        self.rows, self.lasting = dict(rows_of(accepted)), lasting_harts(accepted)
 
     def walk(self, capacity, numbers):
         """One run, of the events of these numbers, up to the first thing that must not be."""
@@ -220,6 +245,9 @@ class Walks:
                     return
             if name not in ("stopped", "ended"):
                 self.count(h, before, access)
+            elif h in self.lasting:
+                self.outside.append(f"hart {h}, which never stops and never ends: {outcome}")
+                return
             if not follows or name in ("stopped", "ended"):
                 continue
             following = self.followed.after(h, *at[h], self.seen(h, state))
