@@ -53,6 +53,11 @@ def source_of(name, text):
     return Source(name, text, tuple(re.findall(r"(queue|tagged): (\S+)", queues)), answer)
 
 
+def names_tag(source):
+    """Whether a tag is told by the source's name, of which only its types say where it lies."""
+    return any(re.search(r"\btag=[^,+\d]", words) for _, words in source.queues)
+
+
 def variants(source):
     """The source itself, with other numbers of slots, and with counts that open shortly before they wrap."""
     yield source
