@@ -22,7 +22,7 @@ use Rattle.slots_that_tell.specs.Telling.{owned_end}
 use Rattle.queue_certificates.specs.ToldRuns.{telling, OpenTellers}
 use Rattle.queue_certificates.specs.Forms.{Form, form_value, number, substituted, is_same, settled, are_in}
 use Rattle.queue_certificates.specs.States.{KnownValue, any, linear, index_for, signed_for, ends_as, has_bits, Share, no_share, KnownState}
-use Rattle.queue_certificates.specs.States.{value_by, state_by, signed_word, is_within, MeansAt, Means}
+use Rattle.queue_certificates.specs.States.{value_by, state_by, signed_word, is_within, word_at, own_number, MeansAt, Means}
 use Rattle.queue_certificates.specs.Steps.{all_below, is_apart, addresses, exchanged, follow, instruction_at, loads_owned}
 use Rattle.queue_certificates.specs.Cases.{Arrow, Cases, leaf, each_leaf}
 use Rattle.queue_certificates.specs.Fields.{is_field, next_received}
@@ -30,6 +30,7 @@ use Rattle.queue_certificates.specs.Tags.{party_in, is_tagged, AreTold, tags_lea
 use Rattle.queue_certificates.specs.Effects.{effect_of, value_stored}
 use Rattle.queue_certificates.specs.Filled.{Filled, is_filled, no_field, is_filled_after, are_so, may_send}
 use Rattle.queue_certificates.specs.declared.effect.Effect.{Effect}
+use Rattle.queue_certificates.specs.declared.own.OwnWord.{OwnWord}
 use Rattle.queue_layouts.specs.declared.tagged.Codec.TheVariants as codec
 use Rattle.queue_layouts.specs.declared.tagged.TaggedQueue.{TaggedQueue}
 use Rattle.queue_layouts.specs.declared.tagged.OpenedTagged.{OpenedTagged}
@@ -42,10 +43,10 @@ pub record ListedState : Type 0 where
   pub filled : List Filled
   pub cases : Cases
 
--- a hart's part: the addresses of words that no other hart writes, the state in which it opens with the numbers of its variables, and all
+-- a hart's part: the words, halves and bytes that no other hart writes, the state in which it opens with the numbers of its variables, and all
 -- its states
 pub record HartPart : Type 0 where
-  pub own : List ℕ
+  pub own : List OwnWord
   pub first : ℕ
   pub numbers : List ℕ
   pub states : List ListedState
@@ -117,7 +118,7 @@ tagged_start c t = (get_or c.tagged t no_tagged).start
 abbrev pub part_of : QueueCertificate → ℕ → HartPart
 part_of c h = get_or c.harts h no_part
 
-abbrev pub own_of : QueueCertificate → ℕ → List ℕ
+abbrev pub own_of : QueueCertificate → ℕ → List OwnWord
 own_of c h = (part_of c h).own
 
 abbrev pub state_at : QueueCertificate → (h n : ℕ) → ListedState
@@ -127,7 +128,7 @@ state_at c h n = get_or (part_of c h).states n nowhere
 
 -- the byte at x is of one of hart h's own words
 abbrev pub IsKeptByte : QueueCertificate → (h x : ℕ) → Type 0
-IsKeptByte c h x = (j : ℕ) × (j < length (own_of c h)) × (slice_index (own_of c h) j ≤ x) × (x < slice_index (own_of c h) j + 4)
+IsKeptByte c h x = (j : ℕ) × (j < length (own_of c h)) × IsInBytes (word_at (own_of c h) j).at (word_at (own_of c h) j).width x
 
 -- a hart that runs is in one of its states
 abbrev pub IsInState : QueueCertificate → (h : ℕ) → HartState → View → AllCounts → Type 0
@@ -308,7 +309,7 @@ opens_told q (Some p) start s xs = (start == form_value s.own xs)
 abbrev pub opens_in : OpeningValue → QueueCertificate → (h : ℕ) → HartOpeningValue → KnownState → List ℕ → Bool
 opens_in o c h x k xs = are_in_ranges k.ranges xs && (k.pc == 0)
     && all_below (length k.registers) (λ j. is_value (queue_at c) xs (get_or k.registers j any) (slice_index (slice_set x.registers 0 0) j))
-    && all_below (length (own_of c h)) (λ j. is_value (queue_at c) xs (get_or k.words j any) (number_seen (opening_byte o) (slice_index (own_of c h) j) 4))
+    && all_below (length (own_of c h)) (λ j. is_value (queue_at c) xs (get_or k.words j any) (own_number (opening_byte o) (word_at (own_of c h) j)))
     && all_below (length c.queues) (λ i. opens_share (queue_at c i) (party_of (queue_at c i) h) (start_at c i) (get_or k.shares i no_share) xs)
 
 abbrev pub opens_all_told : QueueCertificate → (h : ℕ) → KnownState → List ℕ → Bool

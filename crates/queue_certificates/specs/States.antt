@@ -6,6 +6,7 @@ use Rattle.slot_queue.specs.Queues.{Queue, index_word}
 use Rattle.queue_parties.specs.Parties.{Party, QueueCounts, count}
 use Rattle.slot_queue.specs.Ownership.{hart, end}
 use Rattle.queue_certificates.specs.OwnedRuns.{View, AllCounts, number_seen}
+use Rattle.queue_certificates.specs.declared.own.OwnWord.{OwnWord}
 use Rattle.queue_certificates.specs.Forms.{Form, form_value, number, plus, times, is_same, InRanges, most, fits_in, remainder}
 
 -- what is known of a register or a word: nothing; that it is this form's remainder by 2 ^ 32; that it is the word of queue i that
@@ -129,13 +130,24 @@ pub record HasShare (q : Queue) (p : Party) (c : QueueCounts) (xs : List ℕ) (s
   pub own : count p c ≡ form_value s.own xs
   pub upto : end q p c ≡ form_value s.own xs + form_value s.owned xs
 
--- of hart h, whose own words are at these addresses, where there are N queues
-module _ (queues : ℕ → Queue) (N : ℕ) (own : List ℕ) (h : ℕ) where
+-- a word of a hart's own, by its place among all
+abbrev pub no_word : OwnWord
+no_word = record { at = 0; width = 0 }
+
+abbrev pub word_at : List OwnWord → (j : ℕ) → OwnWord
+word_at own j = get_or own j no_word
+
+-- what it holds
+abbrev pub own_number : View → OwnWord → ℕ
+own_number m w = number_seen m w.at w.width
+
+-- of hart h, which has these own words, where there are N queues
+module _ (queues : ℕ → Queue) (N : ℕ) (own : List OwnWord) (h : ℕ) where
   pub record MeansAt (xs : List ℕ) (k : KnownState) (s : HartState) (m : View) (cs : AllCounts) : Type 0 where
     pub ranges : InRanges k.ranges xs
     pub pc : s.pc ≡ k.pc
     pub registers : (j : ℕ) → Has queues xs (get_or k.registers j any) (slice_index s.registers j)
-    pub words : (j : ℕ) → j < length own → Has queues xs (get_or k.words j any) (number_seen m (slice_index own j) 4)
+    pub words : (j : ℕ) → j < length own → Has queues xs (get_or k.words j any) (own_number m (word_at own j))
     pub shares : (i : ℕ) → i < N → (p : Party) → h ≡ hart (queues i) p → HasShare (queues i) p (cs i) xs (get_or k.shares i no_share)
 
   abbrev pub Means : KnownState → HartState → View → AllCounts → Type 0

@@ -1,7 +1,7 @@
 -- What an instruction makes of a known state: the states that may follow, or nothing where it isn't shown that it may be executed.
 use Rattle.std.specs.Prelude.{ℕ, ℤ, pos, zero, suc, ◌+◌, ◌-◌, ◌*◌, ◌/◌, ◌%◌, ◌^◌, ◌==◌, ◌&&◌, ◌||◌, not, nat_le, nat_lt}
 use Rattle.std.specs.Prelude.{if◌then◌else◌, Bool, true, false, Option, None, Some, List, [], ◌∷◌, map, length, get_or}
-use Rattle.std.specs.Prelude.{set, slice_index}
+use Rattle.std.specs.Prelude.{set, slice_index, bit_and, bit_or, bit_xor}
 use Rattle.rv_decode.specs.Meaning.{meaning}
 use Rattle.rv_decode.specs.declared.instruction.Reg.{Reg}
 use Rattle.rv_decode.specs.declared.instruction.BranchOp.{BranchOp}
@@ -20,10 +20,11 @@ use Rattle.hart.specs.Effects.{word, next_pc, address, load_width, store_width}
 use Rattle.slot_queue.specs.Queues.{Queue}
 use Rattle.queue_parties.specs.Parties.{Party, the_sender, the_receiver, other}
 use Rattle.slot_queue.specs.Ownership.{party_of, index}
-use Rattle.queue_certificates.specs.Forms.{Form, number, first_variable, plus, times, remainder, lifted, is_same, most, fits_in, Bounds, minus}
+use Rattle.queue_certificates.specs.declared.own.OwnWord.{OwnWord}
+use Rattle.queue_certificates.specs.Forms.{Form, number, first_variable, plus, times, remainder, remainder_word, lifted, is_same, most, fits_in, Bounds, minus}
 use Rattle.queue_certificates.specs.States.{KnownValue, any, linear, index_for, signed_for, ends_as, has_bits, Share, no_share, KnownState, value_by}
-use Rattle.queue_certificates.specs.States.{share_by, state_by, scaled, plain, is_within}
-use Rattle.queue_certificates.specs.Results.{Result, just, exactly, or_up_to, as_number, bounds, sum_of, of_immediate, of_shift, of_registers, is_branch_taken}
+use Rattle.queue_certificates.specs.States.{share_by, state_by, scaled, plain, is_within, word_at}
+use Rattle.queue_certificates.specs.Results.{Result, just, exactly, or_up_to, as_number, bounds, sum_of, counting, of_immediate, of_shift, of_registers, is_branch_taken}
 
 -- at each number below n; and the last number below n at which it is so
 abbrev pub all_below : ℕ → (ℕ → Bool) → Bool
@@ -195,14 +196,36 @@ storable N (signed_for i f) = if nat_lt i N then signed_for i f else any
 storable N (ends_as n f) = any
 storable N (has_bits m b) = has_bits m b
 
--- the own words at these addresses after a store of a value
-abbrev pub word_then : (N : ℕ) → Bounds → (width : ℕ) → KnownValue → (a : ℕ) → KnownValue → KnownValue
-word_then N b width v a w = if is_apart b width a 4 then w else (if is_one b && (b.low == a) && (width == 4) then storable N v else any)
+-- The lowest bytes of a number: its remainder by n, as this form where it is one, or as a word of the index of queue i, which counts on
+-- in n words
+abbrev pub low_form : (ℕ → Queue) → (n : ℕ) → Form → Option Form → Option ℕ → KnownValue
+low_form queues n f (Some g) i = linear g
+low_form queues n f None None = any
+low_form queues n f None (Some i) = index_for i (plus f (number (n - (queues i).offset % n)))
 
-abbrev pub words_then : (N : ℕ) → Bounds → (width : ℕ) → KnownValue → (own : List ℕ) → List KnownValue → List KnownValue
-words_then N b width v [] ws = ws
-words_then N b width v (a ∷ own) [] = []
-words_then N b width v (a ∷ own) (w ∷ ws) = word_then N b width v a w ∷ words_then N b width v own ws
+-- where there are N queues
+module _ (queues : ℕ → Queue) (N : ℕ) (rs : List (Option ℕ)) where
+  abbrev pub low_bytes : (width : ℕ) → KnownValue → KnownValue
+  low_bytes width any = any
+  low_bytes width (linear f) = low_form queues (256 ^ width) f (remainder_word rs f (256 ^ width)) (counting queues N (256 ^ width))
+  low_bytes width (index_for i f) = if nat_lt i N && nat_le (queues i).index_width width then index_for i f else any
+  low_bytes width (signed_for i f) = any
+  low_bytes width (ends_as n f) = any
+  low_bytes width (has_bits m b) = has_bits (bit_or m (bit_xor (256 ^ width - 1) (2 ^ 32 - 1))) (bit_and b (256 ^ width - 1))
+
+  -- the number of which a store leaves so many bytes
+  abbrev pub stored_value : (width : ℕ) → KnownValue → KnownValue
+  stored_value width v = if width == 4 then storable N v else low_bytes width (plain queues rs v)
+
+  -- these own words after a store of a value
+  abbrev pub word_then : Bounds → (width : ℕ) → KnownValue → OwnWord → KnownValue → KnownValue
+  word_then b width v o w = if is_apart b width o.at o.width then w else
+      (if is_one b && (b.low == o.at) && (width == o.width) then stored_value width v else any)
+
+  abbrev pub words_then : Bounds → (width : ℕ) → KnownValue → List OwnWord → List KnownValue → List KnownValue
+  words_then b width v [] ws = ws
+  words_then b width v (o ∷ own) [] = []
+  words_then b width v (o ∷ own) (w ∷ ws) = word_then b width v o w ∷ words_then b width v own ws
 
 abbrev pub shares_moved : List Share → (d : Form) → Option ℕ → List Share
 shares_moved ss d None = ss
@@ -262,8 +285,14 @@ module _ (queues : ℕ → Queue) where
   extended_value load.Half v = if is_index_below (2 ^ 15) v then v else signed_value 2 v
   extended_value op v = v
 
-  abbrev pub loaded : LoadOp → KnownValue → Result
-  loaded op v = or_up_to (most_loaded op) (extended_value op v)
+  -- and so does one of a number whose highest bit is surely 0
+  abbrev pub keeps_value : List (Option ℕ) → LoadOp → KnownValue → Bool
+  keeps_value rs load.Byte (linear f) = fits_in (most rs f) (Some (2 ^ 7 - 1))
+  keeps_value rs load.Half (linear f) = fits_in (most rs f) (Some (2 ^ 15 - 1))
+  keeps_value rs op v = false
+
+  abbrev pub loaded : List (Option ℕ) → LoadOp → KnownValue → Result
+  loaded rs op v = or_up_to (most_loaded op) (if keeps_value rs op v then v else extended_value op v)
 
   -- d positions are handed over: the word is of the count d further, and d are owned
   abbrev pub may_move : KnownState → (d : Form) → KnownValue → (i : ℕ) → Share → Bool
@@ -317,30 +346,30 @@ abbrev pub may_load : (ℕ → Queue) → (N h : ℕ) → KnownState → Bounds 
 may_load queues N h k b width look = all_below N
     (λ i. (is_just look i && nat_lt i (length k.shares)) || misses (queues i) (party_of (queues i) h) b width)
 
--- ---- harts have own words at these addresses
+-- ---- harts have these own words
 
-module _ (own_of : ℕ → List ℕ) (h : ℕ) where
+module _ (own_of : ℕ → List OwnWord) (h : ℕ) where
   abbrev pub is_own_word : (b : Bounds) (width : ℕ) → (j : ℕ) → Bool
-  is_own_word b width j = is_one b && (b.low == slice_index (own_of h) j) && (width == 4)
+  is_own_word b width j = is_one b && (b.low == (word_at (own_of h) j).at) && (width == (word_at (own_of h) j).width)
 
   -- it writes no other hart's own word
   abbrev pub leaves_words : Bounds → (width : ℕ) → (g : ℕ) → Bool
-  leaves_words b width g = (g == h) || all_below (length (own_of g)) (λ j. is_apart b width (slice_index (own_of g) j) 4)
+  leaves_words b width g = (g == h) || all_below (length (own_of g)) (λ j. is_apart b width (word_at (own_of g) j).at (word_at (own_of g) j).width)
 
-abbrev pub after_store : (N : ℕ) (own_of : ℕ → List ℕ) (h : ℕ) → KnownState → (d : Form) → (width : ℕ) → KnownValue → Bounds → Option ℕ → KnownState
-after_store N own_of h k d width v b move = going_to (record k {
-  words = words_then N b width v (own_of h) k.words;
-  shares = shares_moved k.shares d move;
-}) (next_pc k.pc)
+module _ (queues : ℕ → Queue) (N : ℕ) (own_of : ℕ → List OwnWord) (h : ℕ) where
+  abbrev pub after_store : KnownState → (d : Form) → (width : ℕ) → KnownValue → Bounds → Option ℕ → KnownState
+  after_store k d width v b move = going_to (record k {
+    words = words_then queues N k.ranges b width v (own_of h) k.words;
+    shares = shares_moved k.shares d move;
+  }) (next_pc k.pc)
 
-module _ (queues : ℕ → Queue) (N : ℕ) (own_of : ℕ → List ℕ) (h : ℕ) where
   -- the number that a load reads, where it is no look
   abbrev pub value_loaded : KnownState → (b : Bounds) (width : ℕ) → KnownValue
   value_loaded k b width = index_loaded k (last_below N (is_own_index queues h b width))
       (word_loaded k (last_below (length (own_of h)) (is_own_word own_of h b width)))
 
   abbrev pub after_load : KnownState → LoadOp → (rd : ℕ) → Bounds → Option ℕ → KnownState
-  after_load k op rd b None = with_result k rd (next_pc k.pc) (loaded queues op (value_loaded k b (load_width op)))
+  after_load k op rd b None = with_result k rd (next_pc k.pc) (loaded queues k.ranges op (value_loaded k b (load_width op)))
   after_load k op rd b (Some i) = after_look queues h k op rd i (share_at k i)
 
   abbrev pub load_by : KnownState → LoadOp → (rd : ℕ) → Bounds → Option ℕ → Option (List KnownState)
@@ -352,15 +381,15 @@ module _ (queues : ℕ → Queue) (N : ℕ) (own_of : ℕ → List ℕ) (h : ℕ
   -- an AMO loads and then stores a word, of no index of the other's
   abbrev pub after_exchange : KnownState → (d : Form) → (rd : ℕ) → KnownValue → Bounds → Option ℕ → KnownState
   after_exchange k d rd v b move = with_result (record k {
-    words = words_then N b 4 v (own_of h) k.words;
+    words = words_then queues N k.ranges b 4 v (own_of h) k.words;
     shares = shares_moved k.shares d move;
   }) rd (next_pc k.pc) (just (value_loaded k b 4))
 
--- ---- of hart h, where there are N queues and H harts with own words at these addresses
-module _ (queues : ℕ → Queue) (N : ℕ) (own_of : ℕ → List ℕ) (H h : ℕ) where
+-- ---- of hart h, where there are N queues and H harts with these own words
+module _ (queues : ℕ → Queue) (N : ℕ) (own_of : ℕ → List OwnWord) (H h : ℕ) where
   abbrev pub store_by : KnownState → (d : Form) → (width : ℕ) → KnownValue → (place : KnownValue) → Bounds → Option ℕ → Option (List KnownState)
   store_by k d width v place b move = if all_below N (may_store queues h k d v place b width move) && all_below H (leaves_words own_of h b width)
-      then Some (after_store N own_of h k d width v b move ∷ []) else None
+      then Some (after_store queues N own_of h k d width v b move ∷ []) else None
 
   abbrev pub storing : KnownState → (d : Form) → (width : ℕ) → KnownValue → (place : KnownValue) → Bounds → Option (List KnownState)
   storing k d width v place b = store_by k d width v place b (last_below N (is_own_index queues h b width))

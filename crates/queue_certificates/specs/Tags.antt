@@ -263,7 +263,7 @@ module _ (tagged : ℕ → TaggedQueue) (T N h : ℕ) where
 
 -- ---- instructions: the states that may follow, where `next` do if there were no tags; H harts have own words at these addresses
 
-module _ (tagged : ℕ → TaggedQueue) (T : ℕ) (queues : ℕ → Queue) (N : ℕ) (own_of : ℕ → List ℕ) (H h : ℕ) where
+module _ (tagged : ℕ → TaggedQueue) (T : ℕ) (queues : ℕ → Queue) (N : ℕ) (own_of : ℕ → List OwnWord) (H h : ℕ) where
   -- a load that isn't known to be of the queue's tag may tell the party more than it takes note of
   abbrev pub load_tells : KnownState → LoadOp → (rd : ℕ) → (place : KnownValue) → Bounds → (look : Option ℕ) → List KnownState → Option (List KnownState)
   load_tells k op rd place b None ks = Some ks

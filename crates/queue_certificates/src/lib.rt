@@ -16,6 +16,7 @@
 #![tactic(auto)]
 
 mod effect;
+mod own;
 
 ghost use Rattle.std.specs.Prelude.{ℕ, ◌≡◌, ◌⊎◌, ◌+◌, ◌*◌, ◌<◌, ◌≤◌, List, [], ◌∷◌, ◌++◌, length, Some, true};
 ghost use Rattle.step_machine.specs.declared.events.Entry.{Entry};
@@ -43,6 +44,7 @@ ghost use Rattle.queue_certificates.specs.Certificates.{QueueCertificate, queue_
 ghost use Rattle.queue_certificates.specs.Certificates.{accepts, accepts_loads, accepts_rest};
 
 pub use effect::Effect;
+pub use own::OwnWord;
 
 /// Where a certificate is accepted for an opening, in every legal run from it, of any length and with store buffers of any size. It
 /// does nothing.
