@@ -18,6 +18,7 @@ use Rattle.queue_layouts.specs.declared.tagged.Codec.{Codec}
 use Rattle.queue_layouts.specs.declared.tagged.Codec.TheVariants as codec
 use Rattle.queue_layouts.specs.declared.tagged.TaggedQueue.{TaggedQueue}
 use Rattle.queue_layouts.specs.Tagged.{slots_of}
+use Rattle.queue_certificates.specs.declared.own.OwnWord.{OwnWord}
 use Rattle.queue_certificates.specs.Forms.{Form, form_value, number, first_variable, plus, lifted, substituted, is_same, most, fits_in, remainder, Bounds}
 use Rattle.queue_certificates.specs.States.{KnownValue, any, linear, index_for, signed_for, ends_as, has_bits, Share, no_share, KnownState}
 use Rattle.queue_certificates.specs.Results.{Result, just, bounds, Bits, of_bits, bits_of}
