@@ -1,7 +1,6 @@
 -- What is accepted is certified: the states of a certificate are closed, and keep the protocol of each queue.
 use Rattle.std.proofs.Common.{arith, ℕ, ◌-◌, ◌+◌, ◌*◌, ◌<◌, ◌≤◌, ◌≡◌, ◌≢◌, ◌==◌, ◌||◌, inl, inr, Bool, true, false, Option, Some, None, List, []}
 use Rattle.std.proofs.Common.{length, get_or, refl, sym, ◌∙◌, ap, subst}
-use Rattle.std.specs.Prelude.{slice_index}
 use Rattle.std.proofs.lemmas.Bool.{and_parts, or_cases, eqb-true, eq-eqb}
 use Rattle.std.proofs.lemmas.Option.{get_or_from_slice_get}
 use Rattle.std.proofs.lemmas.List.Elements.{All-get_or, All-from_get_or}
@@ -26,7 +25,7 @@ use Rattle.queue_certificates.specs.ToldRuns.{LoadsRestOwned}
 use Rattle.queue_certificates.specs.OwnedRuns.{View, AllCounts, view_then, Acts, IsSameFor, LoadsOwned, kept_beside}
 use Rattle.queue_certificates.specs.RecordFields.{MeetsField}
 use Rattle.queue_certificates.specs.Forms.{Form}
-use Rattle.queue_certificates.specs.States.{KnownValue, KnownState, MeansAt}
+use Rattle.queue_certificates.specs.States.{KnownValue, KnownState, MeansAt, word_at}
 use Rattle.queue_certificates.specs.Steps.{all_below, follow, instruction_at, loads_owned}
 use Rattle.queue_certificates.specs.Effects.{effect_of, value_stored}
 use Rattle.queue_certificates.specs.Filled.{Filled, no_field, is_filled_after, are_so, most_published, may_send}
@@ -39,14 +38,14 @@ use Rattle.queue_certificates.specs.Certificates.{all_lead, owns_loads, accepts,
 use Rattle.queue_certificates.specs.Certificates.{told_beside, owns_rest, accepts_rest}
 use Rattle.queue_certificates.specs.Tags.{party_in, loads_rest}
 use Rattle.queue_layouts.specs.Tagged.{slots_of}
-use Rattle.queue_certificates.proofs.States.{at-below, means-frame}
+use Rattle.queue_certificates.proofs.States.{at-below, means-frame, kept-number}
 use Rattle.queue_certificates.proofs.Accesses.{hart-party}
 use Rattle.queue_certificates.proofs.TagShares.{told-opens, told-frame}
 use Rattle.queue_certificates.proofs.Accepted.{fine, fields-fine, fine-tagged, past, OfHart, of-hart, opens-means}
 use Rattle.queue_certificates.proofs.AtLeaf.{at-leaf}
 use Rattle.queue_certificates.proofs.Leaves.{followed, among-leads, leaf-goes}
 use Rattle.queue_certificates.proofs.Steps.{nobody_told, nothing_sent, untold}
-use Rattle.queue_certificates.proofs.Filled.{field-fits, kept-number, so-at, sent-at}
+use Rattle.queue_certificates.proofs.Filled.{field-fits, so-at, sent-at}
 use Rattle.queue_certificates.proofs.Effects.{published_then, Does, right-after}
 use Rattle.queue_certificates.proofs.Sends.{state-does}
 use Rattle.queue_certificates.proofs.Takes.{third-leaves, state-leaves}
@@ -58,7 +57,8 @@ module _ (M : ℕ) (o : OpeningValue) (c : QueueCertificate) (ok : accepts o c �
     next : IsAtState c h z (view_then y m) (λ i. after_access (queue_at c i) (party_of (queue_at c i) h) y (cs i))
         (λ t. told_access (slots_of (tagged_at c t)) (party_in (tagged_at c t) h) y (us t))
     keeps : (i : ℕ) → i < length c.queues → KeepsAccess (queue_at c i) (party_of (queue_at c i) h) (cs i) y
-    apart : (g x : ℕ) → g ≢ h → (j : ℕ) → j < length (own_of c g) → slice_index (own_of c g) j ≤ x → x < slice_index (own_of c g) j + 4 → LeavesByteBy x y
+    apart : (g x : ℕ) → g ≢ h → (j : ℕ) → j < length (own_of c g) → (word_at (own_of c g) j).at ≤ x
+        → x < (word_at (own_of c g) j).at + (word_at (own_of c g) j).width → LeavesByteBy x y
     loads : (i : ℕ) → i < length c.queues → owns i ≡ true → (p : Party) → h ≡ hart (queue_at c i) p → LoadsOwned (queue_at c i) p (cs i) y
     sends : (i : ℕ) → i < length c.queues → HasFields c i → h ≡ (queue_at c i).sender → (k : ℕ) → (cs i).published ≤ k
         → k < (after_access (queue_at c i) (party_of (queue_at c i) h) y (cs i)).published → MeetsFields c i k m
@@ -257,7 +257,7 @@ module _ (M : ℕ) (o : OpeningValue) (c : QueueCertificate) (ok : accepts o c �
   goes-apart : (h : ℕ) (s : HartState) (m : View) (cs us : AllCounts) (e : Entry) → IsAtState c h s m cs us
       → Acts M o (length c.queues) (queue_at c) (HasFields c) (MeetsFields c) h s m cs e → Knows h us m
       → (g x : ℕ) → g ≢ h → IsOwnByte c g x → LeavesByteBy x (access_of e)
-  goes-apart h s m cs us e in' a knows g x far (inl own) = (goes h s m cs us e in' a knows).apart g x far own.0 own.1 own.2 own.3
+  goes-apart h s m cs us e in' a knows g x far (inl own) = (goes h s m cs us e in' a knows).apart g x far own.0 own.1 own.2.0 own.2.1
   goes-apart h s m cs us e in' a knows g x far (inr sent) = by (whose (queue_at c sent.0).sender (queue_at c sent.0).receiver h)
     where
       by : Whose (queue_at c sent.0).sender (queue_at c sent.0).receiver h → LeavesByteBy x (access_of e)
@@ -307,7 +307,7 @@ module _ (M : ℕ) (o : OpeningValue) (c : QueueCertificate) (ok : accepts o c �
       (
         w.2.0,
         means-frame (queue_at c) (length c.queues) (own_of c h) h w.2.0 (state_at c h w.0).known
-            s m n cs ds w.2.1 (λ j x less low high. bytes x (inl (j, less, low, high))) same,
+            s m n cs ds w.2.1 (λ j x less low high. bytes x (inl (j, less, (low, high)))) same,
         told-frame (tagged_at c) (length c.tagged) (queue_at c) (length c.queues) (own_of c) (length c.harts) h w.2.0 (state_at c h w.0).known
             us vs w.2.2 told,
       ),

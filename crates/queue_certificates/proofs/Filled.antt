@@ -11,8 +11,7 @@ use Rattle.std.proofs.lemmas.List.Sums.{AllPass-from_list_all}
 use Rattle.std.proofs.lemmas.Nat.{mul-le, le-div}
 use Rattle.std.proofs.Math.Nat.{mod-eq_of_lt, mod-add-div, mul-add, zero-mul, le_of_mul-le-mul_left, div-mul-le_self}
 use Rattle.memory.specs.Writes.{write, covers, byte_after}
-use Rattle.memory.proofs.Bytes.{joined-same, covers-yes, covers-from}
-use Rattle.memory.proofs.Joined.{joined-bytes}
+use Rattle.memory.proofs.Bytes.{covers-from}
 use Rattle.slot_queue.specs.Queues.{Queue, IsQueue, slot_of}
 use Rattle.queue_parties.proofs.Positions.{ahead, ahead-is, one-slot, slot-within}
 use Rattle.queue_parties.specs.Positions.{IsInBytes}
@@ -28,7 +27,8 @@ use Rattle.queue_certificates.specs.declared.effect.Effect.{Effect}
 use Rattle.queue_certificates.specs.declared.effect.Effect.TheVariants.{Fills}
 use Rattle.queue_certificates.proofs.Forms.{mod-sum, dot-vanishes}
 use Rattle.queue_certificates.proofs.Bounds.{value-between}
-use Rattle.queue_certificates.proofs.States.{at-below}
+use Rattle.queue_certificates.proofs.States.{at-below, kept-number}
+use Rattle.queue_certificates.proofs.Stores.{written-number}
 
 -- ---- a number of a field's
 
@@ -118,18 +118,6 @@ field-fits q fs ok j = by (cases_lt j (length fs))
 
 -- ---- bytes of a field after a write to one slot
 
--- the number that is written where it is written
-pub written-number : (m n : View) (a width v : ℕ) → v < 256 ^ width → ((x : ℕ) → n x ≡ byte_after (write a width v) x (m x)) → number_seen n a width ≡ v
-written-number m n a width v small after = joined-same (λ i. n (a + i)) (λ i. byte_at i v) width same ∙ joined-bytes v width ∙ mod-eq_of_lt small
-  where
-    same : (i : ℕ) → i < width → n (a + i) ≡ byte_at i v
-    same i less =
-        let on : covers (write a width v) (a + i) ≡ true = covers-yes (write a width v) (a + i) (omega arith) (omega (arith, less)) in
-        after (a + i) ∙ ap (λ c. if c then byte_at (a + i - a) v else m (a + i)) on ∙ ap (λ j. byte_at j v) (omega arith)
-
-pub kept-number : (m n : View) (a width : ℕ) → ((x : ℕ) → a ≤ x → x < a + width → n x ≡ m x) → number_seen n a width ≡ number_seen m a width
-kept-number m n a width same = joined-same (λ i. n (a + i)) (λ i. m (a + i)) width (λ i less. same (a + i) (omega arith) (omega (arith, less)))
-
 -- ---- what is right after an effect
 
 passes-found : (f : ℕ → Bool) (bs : List ℕ) (b : ℕ) → list_all f bs ≡ true → list_any (λ a. a == b) bs ≡ true → f b ≡ true
@@ -215,7 +203,8 @@ module _ (q : Queue) (is : IsQueue q) (fs : List Field) (ok : list_all (is_field
     number.1,
     ap (λ y. number_seen n (slot_of q (c + p) + y) (get_or fs j no_field).width) at
         ∙ ap (λ y. number_seen n (slot_of q (c + p) + offset) y) wide
-        ∙ written-number m n (slot_of q (c + p) + offset) width w.value (subst (λ y. w.value < 256 ^ y) wide small) w.after ∙ number.2,
+        ∙ written-number m n (slot_of q (c + p) + offset) width w.value w.after
+        ∙ mod-eq_of_lt (subst (λ y. w.value < 256 ^ y) wide small) ∙ number.2,
   )
     where
       small : w.value < 256 ^ (get_or fs j no_field).width

@@ -1,8 +1,8 @@
 -- What a receiver's load of a field comes to: one of the field's numbers.
-use Rattle.std.proofs.Common.{ℕ, ℤ, pos, zero, suc, ◌+◌, ◌*◌, ◌%◌, ◌^◌, ◌<◌, ◌≤◌, ◌≡◌, ◌==◌, ◌&&◌, if◌then◌else◌}
+use Rattle.std.proofs.Common.{ℕ, ℤ, zero, suc, ◌+◌, ◌*◌, ◌%◌, ◌^◌, ◌<◌, ◌≤◌, ◌≡◌, ◌==◌, ◌&&◌, if◌then◌else◌}
 use Rattle.std.proofs.Common.{Bool, true, false, Option, Some, None, List, [], ◌∷◌, length, get_or, refl, sym, ◌∙◌, ap, subst, arith}
-use Rattle.std.specs.Prelude.{All, ◌-ℤ◌}
-use Rattle.std.proofs.lemmas.Bool.{and_parts, eqb-true, ltb-true, lt-ltb}
+use Rattle.std.specs.Prelude.{All}
+use Rattle.std.proofs.lemmas.Bool.{and_parts, eqb-true, ltb-true}
 use Rattle.std.proofs.lemmas.List.Elements.{All-head, All-tail}
 use Rattle.std.proofs.lemmas.Nat.{mul-le}
 use Rattle.std.proofs.Math.Nat.{mod-eq_of_lt}
@@ -13,7 +13,7 @@ use Rattle.rv_decode.specs.declared.instruction.Instr.{Instr}
 use Rattle.rv_decode.specs.declared.instruction.Instr.TheVariants.{Load}
 use Rattle.hart.specs.State.{HartState}
 use Rattle.hart.specs.Steps.{advanced}
-use Rattle.hart.specs.Effects.{register_value, word, next_pc, address, extended, load_width}
+use Rattle.hart.specs.Effects.{register_value, next_pc, address, extended, load_width}
 use Rattle.hart.proofs.Instructions.{IsAt}
 use Rattle.step_machine.specs.declared.events.Entry.{Entry}
 use Rattle.step_machine.specs.History.{OpeningValue}
@@ -21,6 +21,7 @@ use Rattle.step_machine.specs.Access.{access_of}
 use Rattle.step_machine.specs.Paths.{number_read}
 use Rattle.slot_queue.specs.Queues.{Queue, IsQueue, TellsFull, slot_of}
 use Rattle.queue_parties.specs.Parties.{the_receiver}
+use Rattle.queue_certificates.specs.declared.own.OwnWord.{OwnWord}
 use Rattle.queue_certificates.specs.OwnedRuns.{View, AllCounts, number_seen, Acts}
 use Rattle.queue_certificates.specs.RecordFields.{Field, MeetsField}
 use Rattle.queue_certificates.specs.Forms.{Form}
@@ -30,7 +31,7 @@ use Rattle.queue_certificates.specs.Steps.{after_load, follow, instruction_at}
 use Rattle.queue_certificates.specs.Fields.{last_number, field_number, keeps_numbers, field_there, field_or, field_in, field_below, after_field, next_received}
 use Rattle.queue_certificates.proofs.Results.{Gives}
 use Rattle.queue_certificates.proofs.Stores.{placed-at}
-use Rattle.queue_certificates.proofs.Steps.{Goes, nobody_told, nothing_sent}
+use Rattle.queue_certificates.proofs.Steps.{sign-low, Goes, nobody_told, nothing_sent}
 use Rattle.queue_certificates.proofs.NextAccess.{found-at}
 use Rattle.queue_certificates.proofs.Steps as steps
 
@@ -55,9 +56,9 @@ ReadsField m f a width = (j : ℕ) × (j ≤ f.count) × (number_seen m a width 
 
 kept-number : (op : LoadOp) (f : Field) (v : ℕ) → keeps_numbers op f ≡ true → v ≤ last_number f → extended op v ≡ v
 kept-number load_op.Byte f v ok low = let small : last_number f < 2 ^ 7 = ltb-true (last_number f) (2 ^ 7) ok in
-    ap (λ t. if t then v else word (pos v -ℤ pos (2 ^ 8))) (lt-ltb v (2 ^ 7) (omega (arith, small, low)))
+    sign-low 8 v (omega (arith, small, low))
 kept-number load_op.Half f v ok low = let small : last_number f < 2 ^ 15 = ltb-true (last_number f) (2 ^ 15) ok in
-    ap (λ t. if t then v else word (pos v -ℤ pos (2 ^ 16))) (lt-ltb v (2 ^ 15) (omega (arith, small, low)))
+    sign-low 16 v (omega (arith, small, low))
 kept-number load_op.Word f v ok low = refl
 kept-number load_op.ByteUnsigned f v ok low = refl
 kept-number load_op.HalfUnsigned f v ok low = refl
@@ -69,13 +70,13 @@ load-small load_op.Word v small = omega (arith, small)
 load-small load_op.ByteUnsigned v small = omega (arith, small)
 load-small load_op.HalfUnsigned v small = omega (arith, small)
 
-pub none-follows : (queues : ℕ → Queue) (fields : ℕ → List Field) (N : ℕ) (own_of : ℕ → List ℕ) (H h : ℕ) (k : KnownState) (i : Option Instr)
+pub none-follows : (queues : ℕ → Queue) (fields : ℕ → List Field) (N : ℕ) (own_of : ℕ → List OwnWord) (H h : ℕ) (k : KnownState) (i : Option Instr)
     (ks : List KnownState) → next_received queues fields N h k i None ≡ Some ks → ⊥
 none-follows queues fields N own_of H h k None ks is = absurd (cc)
 none-follows queues fields N own_of H h k (Some (Load op rd rs1 offset)) ks is = absurd (cc)
 none-follows queues fields N own_of H h k i ks is = absurd (cc)
 
-module _ (M : ℕ) (o : OpeningValue) (queues : ℕ → Queue) (N : ℕ) (own_of : ℕ → List ℕ) (H h : ℕ) (xs : List ℕ)
+module _ (M : ℕ) (o : OpeningValue) (queues : ℕ → Queue) (N : ℕ) (own_of : ℕ → List OwnWord) (H h : ℕ) (xs : List ℕ)
     (k : KnownState) (s : HartState) (m : View) (cs : AllCounts) (e : Entry)
     (acts : Acts M o N queues nobody_told nothing_sent h s m cs e) (size : 32 ≤ length s.registers)
     (fine : (i : ℕ) → i < N → IsQueue (queues i) × TellsFull (queues i) × ((queues i).index_width ≤ 4))

@@ -1,7 +1,6 @@
 -- What an instruction leaves in a register has the result's value.
 use Rattle.std.proofs.Common.{ℕ, ℤ, pos, negsuc, zero, suc, ◌+◌, ◌-◌, ◌*◌, ◌/◌, ◌%◌, ◌^◌, ◌<◌, ◌≤◌, ◌≡◌, ◌==◌, ◌&&◌}
-use Rattle.std.proofs.Common.{◌+ℤ◌, inl, inr, if◌then◌else◌, not, Bool, true, false, Option, Some, None, List, ◌∷◌}
-use Rattle.std.proofs.Common.{refl, sym, ◌∙◌, ap, subst, arith}
+use Rattle.std.proofs.Common.{◌+ℤ◌, inl, inr, if◌then◌else◌, not, Bool, true, false, Option, Some, None, List, ◌∷◌, refl, sym, ◌∙◌, ap, subst, arith}
 use Rattle.std.specs.Prelude.{int_lt, nat_lt, nat_le, ◌-ℤ◌, bit_and, bit_or, bit_xor, count_ones}
 use Rattle.std.specs.Int.{trailing_zeros, w32}
 use Rattle.std.specs.Int.Bits.{xor_add_and, and_zero_r}
@@ -27,14 +26,12 @@ use Rattle.queue_certificates.specs.Forms.{remainder_word, is_same, bounds_of, F
 use Rattle.queue_certificates.specs.Forms.{InRanges, Bounds, most}
 use Rattle.queue_certificates.specs.States.{KnownValue, any, linear, index_for, signed_for, ends_as, has_bits, Has, signed_word, scaled}
 use Rattle.queue_certificates.specs.Results.{Result, just, exactly, any_up_to, or_up_to, as_number, or_else, both, is_below}
-use Rattle.queue_certificates.specs.Results.{is_below_signed, set_less, negated, flag_of}
-use Rattle.queue_certificates.specs.Results.{shifted_right, sum_of, number_and, taken_known}
+use Rattle.queue_certificates.specs.Results.{is_below_signed, set_less, negated, flag_of, shifted_right, sum_of, number_and, taken_known}
 use Rattle.queue_certificates.specs.Results.{Rest, of_rest, negative, rests_added, whole, rest_of, turned, result_by, shifted_left}
 use Rattle.queue_certificates.specs.Results.{xor_of, ending_in, ending_by, Bits, of_bits, bits_of, either_bits, or_of, kept_bits, sign_or, is_less}
 use Rattle.queue_certificates.specs.Results.{index_rest, is_count, counting, rest_counted, multiple_or, masked_row, if_unbounded, remaining}
 use Rattle.queue_certificates.specs.Results.{without, shifted_back, masked, masked_by, bounds, is_equal, immediate_part}
-use Rattle.queue_certificates.specs.Results.{of_immediate, shift_part, of_shift, register_part, of_registers}
-use Rattle.queue_certificates.specs.Results.{branch_part, is_branch_taken}
+use Rattle.queue_certificates.specs.Results.{of_immediate, shift_part, of_shift, register_part, of_registers, branch_part, is_branch_taken}
 use Rattle.queue_certificates.proofs.Forms.{taken-away, same-exactly, value-plus, value-times, value-number, value-first, value-lifted}
 use Rattle.queue_certificates.proofs.Forms.{mod-sum, mod-product, plus-value, times-value, round-up}
 use Rattle.queue_certificates.proofs.Bounds.{value-word}
@@ -84,7 +81,7 @@ signed-fits width x low small = by (nat_lt (x + x) (256 ^ width))
     by true = omega (arith, low, small)
     by false = omega (arith, low, small)
 
-divisor-below : (n : ℕ) → 2 ^ 32 % n ≡ 0 → n ≤ 2 ^ 32
+pub divisor-below : (n : ℕ) → 2 ^ 32 % n ≡ 0 → n ≤ 2 ^ 32
 divisor-below n divides = elim (cases_lt (2 ^ 32) n) [
   | inl over ↦ absurd (let same : 2 ^ 32 % n ≡ 2 ^ 32 = mod-eq_of_lt over in omega (arith, same, divides))
   | inr under ↦ under
@@ -317,16 +314,23 @@ module _ (queues : ℕ → Queue) (xs : List ℕ) where
       by (Some a) (Some b) of-x of-y = of-bits-has queues xs (bit_or (bit_and a.mask b.mask) (bit_or a.bits b.bits)) (bit_or a.bits b.bits) (bit_or x y)
           (or_lt 32 x y (of-x a refl).0 (of-y b refl).0) (or-bits x y a.mask b.mask a.bits b.bits (of-x a refl).1 (of-y b refl).1)
 
+  -- bits under a mask
+  pub kept-has : (m b x mask : ℕ) → Has queues xs (has_bits m b) x
+      → Has queues xs (has_bits (bit_or m (bit_xor mask (2 ^ 32 - 1))) (bit_and b mask)) (bit_and x mask)
+  kept-has m b x mask has = (
+    (let less : bit_and x mask ≤ x = and_le_l x mask in omega (arith, less, has.0)),
+    kept-bits x m mask has.0 ∙ ap (λ y. bit_and y mask) has.1,
+  )
+
   kept-gives : (m b x mask : ℕ) (other : Result) → Has queues xs (has_bits m b) x → Gives other (bit_and x mask)
       → Gives (kept_bits m b mask other) (bit_and x mask)
   kept-gives m b x mask other has gives = by ((mask + 1 == 2 ^ count_ones mask) && (bit_and m mask == 0))
     where
       by : (t : Bool) → Gives (if t then other else just (of_bits (bit_or m (bit_xor mask (2 ^ 32 - 1))) (bit_and b mask))) (bit_and x mask)
       by true = gives
-      by false = just-gives (of_bits (bit_or m (bit_xor mask (2 ^ 32 - 1))) (bit_and b mask)) (bit_and x mask)
-          (of-bits-has queues xs (bit_or m (bit_xor mask (2 ^ 32 - 1))) (bit_and b mask) (bit_and x mask)
-          (let less : bit_and x mask ≤ x = and_le_l x mask in omega (arith, less, has.0))
-          (kept-bits x m mask has.0 ∙ ap (λ y. bit_and y mask) has.1))
+      by false = let kept = kept-has m b x mask has in
+          just-gives (of_bits (bit_or m (bit_xor mask (2 ^ 32 - 1))) (bit_and b mask)) (bit_and x mask)
+          (of-bits-has queues xs (bit_or m (bit_xor mask (2 ^ 32 - 1))) (bit_and b mask) (bit_and x mask) kept.0 kept.1)
 
   ending-in : (v : KnownValue) (x mask : ℕ) (other : Result) → Has queues xs v x → Gives other (bit_and x mask)
       → Gives (ending_in v mask other) (bit_and x mask)
@@ -457,10 +461,10 @@ module _ (queues : ℕ → Queue) (xs : List ℕ) where
       by rest true count is = ap (λ j. is_count (queues j) n) (sym (let e : k ≡ i = cc in e)) ∙ count
       by rest false other is = rest is
 
-  rest_rest-counted-gives : (N n : ℕ) (f : Form) (x : ℕ) (other : Result) → 1 ≤ n → x ≡ form_value f xs % n → Gives other x
-      → (o : Option ℕ) → counting queues N n ≡ o → Gives (rest_counted queues n f o other) x
-  rest_rest-counted-gives N n f x other some is gives None none = gives
-  rest_rest-counted-gives N n f x other some is gives (Some i) at =
+  -- a remainder by n as a word of an index that counts on in n words
+  pub counted-has : (N n : ℕ) (f : Form) (x i : ℕ) → 1 ≤ n → x ≡ form_value f xs % n → counting queues N n ≡ Some i
+      → Has queues xs (index_for i (plus f (number (n - (queues i).offset % n)))) x
+  counted-has N n f x i some is at =
       let p2 = and_parts (((queues i).base == 0) && ((queues i).scale == 1)) ((queues i).modulus == n) (counting-is N n i at) in
       let p1 = and_parts ((queues i).base == 0) ((queues i).scale == 1) p2.0 in
       let base : (queues i).base ≡ 0 = eqb-true (queues i).base 0 p1.0 in
@@ -474,9 +478,15 @@ module _ (queues : ℕ → Queue) (xs : List ℕ) where
       let count : (form_value g xs + (queues i).offset) % (queues i).modulus ≡ x =
       ap (λ m. (form_value g xs + (queues i).offset) % m) modulus ∙ ap (λ y. y % n) turned
       ∙ round-up n (form_value f xs) (queues i).offset some ∙ sym is in
-      just-gives (index_for i g) x (sym (ap (λ b. b + (queues i).scale * ((form_value g xs + (queues i).offset) % (queues i).modulus)) base
+      sym (ap (λ b. b + (queues i).scale * ((form_value g xs + (queues i).offset) % (queues i).modulus)) base
       ∙ ap (λ s. 0 + s * ((form_value g xs + (queues i).offset) % (queues i).modulus)) scale
-      ∙ ap (λ y. 0 + 1 * y) count ∙ (let e : 0 + 1 * x ≡ x = omega arith in e)))
+      ∙ ap (λ y. 0 + 1 * y) count ∙ (let e : 0 + 1 * x ≡ x = omega arith in e))
+
+  rest-counted-gives : (N n : ℕ) (f : Form) (x : ℕ) (other : Result) → 1 ≤ n → x ≡ form_value f xs % n → Gives other x
+      → (o : Option ℕ) → counting queues N n ≡ o → Gives (rest_counted queues n f o other) x
+  rest-counted-gives N n f x other some is gives None none = gives
+  rest-counted-gives N n f x other some is gives (Some i) at =
+      just-gives (index_for i (plus f (number (n - (queues i).offset % n)))) x (counted-has N n f x i some is at)
 
   shifted-right : (b : Option Bounds) (x amount : ℕ) → ((c : Bounds) → b ≡ Some c → x ≤ c.high) → Gives (shifted_right b amount) (x / 2 ^ amount)
   shifted-right None x amount below = just-gives any (x / 2 ^ amount) tt
@@ -565,7 +575,7 @@ module _ (queues : ℕ → Queue) (xs : List ℕ) where
     remaining-gives N n f x other some small is gives None word = by (most rs f)
       where
         by : (m : Option ℕ) → Gives (if_unbounded m (rest_counted queues n f (counting queues N n) other) other) x
-        by None = rest_rest-counted-gives N n f x other some is gives (counting queues N n) refl
+        by None = rest-counted-gives N n f x other some is gives (counting queues N n) refl
         by (Some m) = gives
 
     multiple-gives : (n : ℕ) (f : Form) (m x : ℕ) (other : Result) → m ≤ 2 ^ 32 → x < 2 ^ 32 → x ≡ form_value f xs % m * n → Gives other x

@@ -21,6 +21,7 @@ use Rattle.slot_queue.specs.Queues.{Queue, IsQueue, TellsFull, KeepsOff, least, 
 use Rattle.queue_parties.specs.Positions.{IsInBytes}
 use Rattle.queue_parties.specs.Parties.{the_sender, the_receiver, QueueCounts, known, with_known}
 use Rattle.slot_queue.specs.Ownership.{index, party_of, after_access}
+use Rattle.queue_certificates.specs.declared.own.OwnWord.{OwnWord}
 use Rattle.queue_certificates.specs.OwnedRuns.{View, AllCounts, ReadsFrom, Acts, view_then}
 use Rattle.queue_certificates.specs.RecordFields.{Field}
 use Rattle.queue_certificates.specs.Forms.{Form, form_value, most, Bounds}
@@ -57,7 +58,7 @@ chosen : {A : Type 0} (t : Bool) (x y : A) → (if t then Some x else None) ≡ 
 chosen true x y is = refl
 chosen false x y is = absurd (cc)
 
-module _ (M : ℕ) (o : OpeningValue) (queues : ℕ → Queue) (N : ℕ) (own_of : ℕ → List ℕ) (H i : ℕ) (less : i < N) (xs : List ℕ)
+module _ (M : ℕ) (o : OpeningValue) (queues : ℕ → Queue) (N : ℕ) (own_of : ℕ → List OwnWord) (H i : ℕ) (less : i < N) (xs : List ℕ)
     (k : KnownState) (s : HartState) (m : View) (cs : AllCounts) (e : Entry)
     (acts : Acts M o N queues nobody_told nothing_sent (queues i).sender s m cs e) (size : 32 ≤ length s.registers)
     (fine : (j : ℕ) → j < N → IsQueue (queues j) × TellsFull (queues j) × ((queues j).index_width ≤ 4))

@@ -1,7 +1,6 @@
 -- What a known state means after its forms are changed, in its cases, and where an arrow leads.
 use Rattle.std.proofs.Common.{ℕ, zero, suc, ◌+◌, ◌<◌, ◌≤◌, ◌≡◌, ◌≢◌, ◌==◌, ◌&&◌, ◌⊎◌, inl, inr, if◌then◌else◌, Bool}
-use Rattle.std.proofs.Common.{true, false, Option, Some, None, List, [], ◌∷◌, length, get_or, refl, sym, ◌∙◌, ap, subst}
-use Rattle.std.proofs.Common.{arith}
+use Rattle.std.proofs.Common.{true, false, Option, Some, None, List, [], ◌∷◌, length, get_or, refl, sym, ◌∙◌, ap, subst, arith}
 use Rattle.std.specs.Prelude.{nat_le, map, set, slice_index, slice_set}
 use Rattle.std.proofs.lemmas.Bool.{and_parts, eqb-true, lt-ltb, cases_lt, cases_eq}
 use Rattle.std.proofs.lemmas.List.{get_or-set_same, get_or-set_other, set_past, get_or_past}
@@ -11,9 +10,11 @@ use Rattle.hart.specs.Effects.{written_at}
 use Rattle.slot_queue.specs.Queues.{Queue}
 use Rattle.queue_parties.specs.Parties.{Party, the_sender, the_receiver, QueueCounts, count, known}
 use Rattle.slot_queue.specs.Ownership.{end}
+use Rattle.queue_certificates.specs.declared.own.OwnWord.{OwnWord}
 use Rattle.queue_certificates.specs.OwnedRuns.{View, AllCounts, number_seen, IsSameFor}
 use Rattle.queue_certificates.specs.Forms.{Form, form_value, lifted, substituted, raised, settled, is_same, IsAtMost, InRanges, are_in}
 use Rattle.queue_certificates.specs.States.{KnownValue, any, Share, no_share, KnownState, value_by, share_by, state_by, Has, is_within, HasShare, MeansAt}
+use Rattle.queue_certificates.specs.States.{word_at, own_number}
 use Rattle.queue_certificates.specs.Results.{Result}
 use Rattle.queue_certificates.specs.Steps.{all_below, with_register, with_result, going_to}
 use Rattle.queue_certificates.specs.Tags.{tags_lead}
@@ -47,7 +48,11 @@ share-by t q p c xs ys same (s ∷ ss) zero has = record {
 }
 share-by t q p c xs ys same (s ∷ ss) (suc i) has = share-by t q p c xs ys same ss i has
 
-module _ (queues : ℕ → Queue) (N : ℕ) (own : List ℕ) (h : ℕ) where
+-- the number of bytes that two views have alike
+pub kept-number : (m n : View) (a width : ℕ) → ((x : ℕ) → a ≤ x → x < a + width → n x ≡ m x) → number_seen n a width ≡ number_seen m a width
+kept-number m n a width same = joined-same (λ i. n (a + i)) (λ i. m (a + i)) width (λ i less. same (a + i) (omega arith) (omega (arith, less)))
+
+module _ (queues : ℕ → Queue) (N : ℕ) (own : List OwnWord) (h : ℕ) where
   pub means-by : (t : Form → Form) (rs : List (Option ℕ)) (xs ys : List ℕ) → ((f : Form) → form_value (t f) ys ≡ form_value f xs) → InRanges rs ys
       → (k : KnownState) (s : HartState) (m : View) (cs : AllCounts) → MeansAt queues N own h xs k s m cs → MeansAt queues N own h ys (state_by t rs k) s m cs
   means-by t rs xs ys same ranges k s m cs means = record {
@@ -55,8 +60,8 @@ module _ (queues : ℕ → Queue) (N : ℕ) (own : List ℕ) (h : ℕ) where
     pc = means.pc;
     registers = λ j. subst (λ v. Has queues ys v (slice_index s.registers j)) (sym (get-by t k.registers j))
         (has-by queues t xs ys same (get_or k.registers j any) (slice_index s.registers j) (means.registers j));
-    words = λ j less. subst (λ v. Has queues ys v (number_seen m (slice_index own j) 4)) (sym (get-by t k.words j))
-        (has-by queues t xs ys same (get_or k.words j any) (number_seen m (slice_index own j) 4) (means.words j less));
+    words = λ j less. subst (λ v. Has queues ys v (own_number m (word_at own j))) (sym (get-by t k.words j))
+        (has-by queues t xs ys same (get_or k.words j any) (own_number m (word_at own j)) (means.words j less));
     shares = λ i less p is. share-by t (queues i) p (cs i) xs ys same k.shares i (means.shares i less p is);
   }
 
@@ -66,22 +71,19 @@ module _ (queues : ℕ → Queue) (N : ℕ) (own : List ℕ) (h : ℕ) where
 
   -- ---- what doesn't concern the hart
 
-  number-frame : (m n : View) (a : ℕ) → ((x : ℕ) → a ≤ x → x < a + 4 → n x ≡ m x) → number_seen n a 4 ≡ number_seen m a 4
-  number-frame m n a same = joined-same (λ i. n (a + i)) (λ i. m (a + i)) 4 (λ i less. same (a + i) (omega arith) (omega (arith, less)))
-
   end-frame : (q : Queue) (p : Party) (c d : QueueCounts) → known p d ≡ known p c → end q p d ≡ end q p c
   end-frame q the_sender c d same = ap (λ k. k + q.capacity) same
   end-frame q the_receiver c d same = same
 
   pub means-frame : (xs : List ℕ) (k : KnownState) (s : HartState) (m n : View) (cs ds : AllCounts) → MeansAt queues N own h xs k s m cs
-      → ((j x : ℕ) → j < length own → slice_index own j ≤ x → x < slice_index own j + 4 → n x ≡ m x)
+      → ((j x : ℕ) → j < length own → (word_at own j).at ≤ x → x < (word_at own j).at + (word_at own j).width → n x ≡ m x)
       → ((i : ℕ) → i < N → IsSameFor (queues i) h (cs i) (ds i)) → MeansAt queues N own h xs k s n ds
   means-frame xs k s m n cs ds means bytes same = record {
     ranges = means.ranges;
     pc = means.pc;
     registers = means.registers;
     words = λ j less. subst (Has queues xs (get_or k.words j any))
-        (sym (number-frame m n (slice_index own j) (λ x low high. bytes j x less low high))) (means.words j less);
+        (sym (kept-number m n (word_at own j).at (word_at own j).width (λ x low high. bytes j x less low high))) (means.words j less);
     shares = λ i less p is. (let has = means.shares i less p is in record {
       own = (same i less).count p is ∙ has.own;
       upto = end-frame (queues i) p (cs i) (ds i) ((same i less).known p is) ∙ has.upto;
@@ -229,7 +231,7 @@ module _ (queues : ℕ → Queue) (N : ℕ) (own : List ℕ) (h : ℕ) where
         ranges = forms-in k.ranges gs t.ranges ys means.ranges p4.1;
         pc = means.pc ∙ eqb-true k.pc t.pc p4.0;
         registers = λ j. each-within k.ranges ys means.ranges gs k.registers t.registers p3.1 j (slice_index s.registers j) (means.registers j);
-        words = λ j less. each-within k.ranges ys means.ranges gs k.words t.words p2.1 j (number_seen m (slice_index own j) 4) (means.words j less);
+        words = λ j less. each-within k.ranges ys means.ranges gs k.words t.words p2.1 j (own_number m (word_at own j)) (means.words j less);
         shares = λ i less p is. same-share ys gs (get_or k.shares i no_share) (get_or t.shares i no_share) (queues i) p (cs i)
             (at-below N (λ i. is_share (get_or k.shares i no_share) (get_or t.shares i no_share) gs) p1.1 i less) (means.shares i less p is);
       }

@@ -2,7 +2,7 @@
 use Rattle.std.proofs.Common.{ℕ, ℤ, pos, negsuc, ◌+ℤ◌, zero, suc, ◌+◌, ◌-◌, ◌*◌, ◌/◌, ◌%◌, ◌^◌, ◌<◌, ◌≤◌, ◌≡◌, ◌≢◌, ◌==◌, ◌&&◌}
 use Rattle.std.proofs.Common.{◌||◌, ◌⊎◌, inl, inr, if◌then◌else◌, Bool, true, false, Option, Some, None, List, [], ◌∷◌}
 use Rattle.std.proofs.Common.{length, get_or, refl, sym, ◌∙◌, ap, subst, arith}
-use Rattle.std.specs.Prelude.{nat_lt, nat_le, ◌-ℤ◌, not, map, slice_index, slice_set, set}
+use Rattle.std.specs.Prelude.{nat_lt, nat_le, ◌-ℤ◌, not, map, slice_index, slice_set, set, bit_and}
 use Rattle.std.specs.List.{slice_get}
 use Rattle.std.proofs.lemmas.Bool.{and_parts, or_cases, eqb-true, eqb-false, ltb-true, leb-true, lt-ltb, cases_eq, cases_lt}
 use Rattle.std.proofs.lemmas.List.{length-set, set-get_or, get_or-set_same, get_or-set_other, length-map}
@@ -19,8 +19,7 @@ use Rattle.rv_decode.specs.declared.instruction.AmoOp.TheVariants as amo
 use Rattle.rv_decode.specs.declared.instruction.StoreOp.TheVariants as store_op
 use Rattle.rv_decode.specs.declared.instruction.Instr.{Instr}
 use Rattle.rv_decode.specs.declared.instruction.Instr.TheVariants.{Lui, Auipc, Jal, Jalr, Branch, Load, Store}
-use Rattle.rv_decode.specs.declared.instruction.Instr.TheVariants.{Immediate, Shift, Register, Fence, FenceTso, Ecall}
-use Rattle.rv_decode.specs.declared.instruction.Instr.TheVariants.{Ebreak, Amo}
+use Rattle.rv_decode.specs.declared.instruction.Instr.TheVariants.{Immediate, Shift, Register, Fence, FenceTso, Ecall, Ebreak, Amo}
 use Rattle.hart.specs.State.{HartState}
 use Rattle.hart.specs.Steps.{need_of, advanced, advanced_by, after_instruction, jump_need, access_need, is_full, called, given}
 use Rattle.hart.specs.Effects.{register_value, written_at, word, next_pc, address, is_taken, with_immediate, shifted}
@@ -43,13 +42,16 @@ use Rattle.store_buffers.specs.StoreBuffers.{LeavesByteBy}
 use Rattle.slot_queue.specs.Queues.{Queue, IsQueue, TellsFull, KeepsOff, index_word}
 use Rattle.queue_parties.specs.Parties.{Party, other, QueueCounts, count, known as known_of}
 use Rattle.slot_queue.specs.Ownership.{hart, index, party_of, after_load as after_load_of, after_access, KeepsAccess}
+use Rattle.queue_certificates.specs.declared.own.OwnWord.{OwnWord}
 use Rattle.queue_certificates.specs.OwnedRuns.{View, AllCounts, number_seen, view_then, Acts, ReadsFrom, IsSameFor, LoadsOwned, OwnsSlotsOf}
-use Rattle.queue_certificates.specs.Forms.{Form, form_value, number, plus, minus, is_same, most, fits_in, lifted, Bounds}
-use Rattle.queue_certificates.specs.States.{KnownValue, any, linear, index_for, signed_for, ends_as, has_bits}
+use Rattle.queue_certificates.specs.Forms.{Form, form_value, number, plus, minus, is_same, most, fits_in, lifted, Bounds, remainder_word}
+use Rattle.queue_certificates.specs.States.{KnownValue, any, linear, index_for, signed_for, ends_as, has_bits, word_at, own_number}
 use Rattle.queue_certificates.specs.States.{signed_word, Share, no_share, share_by, KnownState}
 use Rattle.queue_certificates.specs.States.{value_by, state_by, scaled, plain, is_within, Has, HasShare, MeansAt}
 use Rattle.queue_certificates.specs.Results.{Result, just, exactly, as_number, bounds, sum_of, of_immediate, of_shift, of_registers, is_branch_taken}
+use Rattle.queue_certificates.specs.Results.{counting}
 use Rattle.queue_certificates.specs.Steps.{with_register, with_result, going_to, goes_by, operand, jumping}
+use Rattle.queue_certificates.specs.Steps.{low_form, low_bytes, stored_value, keeps_value}
 use Rattle.queue_certificates.specs.Steps.{called as called_state, follow, register_at, instruction_at, loads_owned}
 use Rattle.queue_certificates.specs.Steps.{reads_owned, updated_value, after_exchange, exchanging, addresses}
 use Rattle.queue_certificates.specs.Steps.{address_value, anywhere, is_one, is_whole, misses, is_look, is_own_index}
@@ -61,23 +63,23 @@ use Rattle.queue_certificates.specs.Steps.{is_copy, immediate_result, is_cut, ma
 use Rattle.queue_certificates.specs.Steps.{storable, word_then, words_then, after_store, storing}
 use Rattle.queue_certificates.proofs.Values.{word-linear, has-plain, known-is, has-bounds, within}
 use Rattle.queue_certificates.proofs.Forms.{same-value}
-use Rattle.queue_certificates.proofs.Results.{word-of-sum, word-small, word-has, sum-has, Gives, just-gives}
+use Rattle.queue_certificates.proofs.Results.{word-of-sum, word-small, word-has, sum-has, Gives, just-gives, divisor-below, counted-has, kept-has}
 use Rattle.queue_certificates.proofs.Results.{signed-of-bits, signed-fits, or-up-to-gives, exactly-gives}
 use Rattle.queue_certificates.proofs.Results.{immediate-gives, shift-gives, register-gives, branch-is}
 use Rattle.queue_certificates.proofs.States.{means-result, means-going, means-lifted, means-moved, means-frame, written-has, at-below}
-use Rattle.queue_certificates.proofs.Stores.{stored-low, apart-from, stored-number, left-number, stored-whole, stored-word}
-use Rattle.queue_certificates.proofs.Stores.{keeps-off, Stored, stays-off, stays-filled, moves-on, owned-slots}
-use Rattle.queue_certificates.proofs.Stores.{off-slots}
-use Rattle.queue_certificates.proofs.Bounds.{value-below, fits-below}
+use Rattle.queue_certificates.proofs.Stores.{stored-low, apart-from, written-number, left-number, stored-whole, stored-part}
+use Rattle.queue_certificates.proofs.Stores.{keeps-off, Stored, stays-off, stays-filled, moves-on, owned-slots, off-slots}
+use Rattle.queue_certificates.proofs.Bounds.{value-below, fits-below, value-word}
 use Rattle.slot_queue.proofs.Codes.{word-small as word-fits}
 use Rattle.queue_parties.proofs.Parties.{Whose, mine as is_party, theirs as is_third, whose}
 use Rattle.memory.specs.declared.writes.Write.{Write}
 use Rattle.memory.specs.Writes.{write, covers}
 use Rattle.memory.proofs.Joined.{joined-below}
-use Rattle.std.proofs.lemmas.Nat.{mul-le}
-use Rattle.std.proofs.Math.Nat.{mod-lt, pow-le-pow_right}
+use Rattle.std.proofs.lemmas.Nat.{mul-le, pow_pos, and_mask}
+use Rattle.std.proofs.Math.Nat.{mod-lt, pow-le-pow_right, mod-eq_of_lt, mod-mod_of_dvd, mod-le}
 use Rattle.rv_decode.specs.declared.instruction.StoreOp.{StoreOp}
 use Rattle.queue_certificates.proofs.Accesses.{found-below, just-is, same-party, party-hart, hart-party, IsWholeIndex, whole-index, missed, Looked, looks, hits}
+use Rattle.std.proofs.lemmas.Nat.Gcd.{dvd_of_mod-eq-zero}
 
 pub no-code : (s : HartState) → nat_lt s.pc (4 * length s.code) ≡ false → need_of s ≡ need.Stop stop.NoCode
 unfolding need_of
@@ -170,6 +172,10 @@ copied immediate.Xor n is x small = absurd (cc)
 copied immediate.Or n is x small = absurd (cc)
 copied immediate.And n is x small = absurd (cc)
 
+-- a signed load leaves a number as it is if its highest bit is 0
+pub sign-low : (bits x : ℕ) → x < 2 ^ (bits - 1) → sign_extended bits x ≡ x
+sign-low bits x low = ap (λ t. if t then x else word (pos x -ℤ pos (2 ^ bits))) (lt-ltb x (2 ^ (bits - 1)) low)
+
 -- what a load leaves in its register
 pub extended-most : (op : LoadOp) (x : ℕ) → x < 256 ^ load_width op → extended op x ≤ most_loaded op
 extended-most load_op.Byte x low = subst (λ y. y ≤ 2 ^ 32 - 1) (sym (signed-of-bits 8 1 x refl refl (omega arith) low))
@@ -180,7 +186,7 @@ extended-most load_op.Word x low = omega (arith, low)
 extended-most load_op.ByteUnsigned x low = omega (arith, low)
 extended-most load_op.HalfUnsigned x low = omega (arith, low)
 
-module _ (queues : ℕ → Queue) (N : ℕ) (own_of : ℕ → List ℕ) (h : ℕ) where
+module _ (queues : ℕ → Queue) (N : ℕ) (own_of : ℕ → List OwnWord) (h : ℕ) where
   -- a state that may follow says what is so, over one variable more, which comes first
   abbrev pub IsNext : List ℕ → KnownState → HartState → View → AllCounts → Type 0
   IsNext xs k s m cs = (x : ℕ) × MeansAt queues N (own_of h) h (x ∷ xs) k s m cs
@@ -194,11 +200,12 @@ module _ (queues : ℕ → Queue) (N : ℕ) (own_of : ℕ → List ℕ) (h : ℕ
   pub record Goes (owns : ℕ → Bool) (xs : List ℕ) (ks : List KnownState) (m : View) (cs : AllCounts) (y : Access) (z : HartState) : Type 0 where
     pub next : z.status ≡ status.Running → IsAmong xs ks z (view_then y m) (λ i. after_access (queues i) (party_of (queues i) h) y (cs i))
     pub keeps : (i : ℕ) → i < N → KeepsAccess (queues i) (party_of (queues i) h) (cs i) y
-    pub apart : (g x : ℕ) → g ≢ h → (j : ℕ) → j < length (own_of g) → slice_index (own_of g) j ≤ x → x < slice_index (own_of g) j + 4 → LeavesByteBy x y
+    pub apart : (g x : ℕ) → g ≢ h → (j : ℕ) → j < length (own_of g) → (word_at (own_of g) j).at ≤ x
+        → x < (word_at (own_of g) j).at + (word_at (own_of g) j).width → LeavesByteBy x y
     -- where `owns` says so, its loads of a queue's slots are of owned ones
     pub loads : (i : ℕ) → i < N → owns i ≡ true → (p : Party) → h ≡ hart (queues i) p → LoadsOwned (queues i) p (cs i) y
 
-module _ (M : ℕ) (o : OpeningValue) (queues : ℕ → Queue) (N : ℕ) (own_of : ℕ → List ℕ) (H h : ℕ) (xs : List ℕ)
+module _ (M : ℕ) (o : OpeningValue) (queues : ℕ → Queue) (N : ℕ) (own_of : ℕ → List OwnWord) (H h : ℕ) (xs : List ℕ)
     (k : KnownState) (s : HartState) (m : View) (cs : AllCounts) (e : Entry)
     (acts : Acts M o N queues nobody_told nothing_sent h s m cs e) (size : 32 ≤ length s.registers)
     (fine : (i : ℕ) → i < N → IsQueue (queues i) × TellsFull (queues i) × ((queues i).index_width ≤ 4))
@@ -526,6 +533,45 @@ module _ (M : ℕ) (o : OpeningValue) (queues : ℕ → Queue) (N : ℕ) (own_of
           let four : 256 ^ (queues i).index_width ≤ 2 ^ 32 = pow-le-pow_right {n = 256} (omega arith) {i = (queues i).index_width} {j = 4} (fine i less).2 in
           is has (subst (λ y. y < 2 ^ 32) (sym has) (signed-fits (queues i).index_width (index_word (queues i) (form_value f xs)) small four)) ∙ has
 
+  -- the lowest bytes, and what a store leaves of a number
+  low-form : (n : ℕ) (f : Form) (x : ℕ) → 1 ≤ n → n ≤ 2 ^ 32 → x ≡ form_value f xs % n
+      → (g : Option Form) → remainder_word k.ranges f n ≡ g → (i : Option ℕ) → counting queues N n ≡ i → Has queues xs (low_form queues n f g i) x
+  low-form n f x some small is (Some g) word i at = is ∙ value-word k.ranges f n g xs means.ranges small word
+  low-form n f x some small is None word None at = tt
+  low-form n f x some small is None word (Some i) at = counted-has queues xs N n f x i some is at
+
+  low-has : (bits width x : ℕ) (u : KnownValue) → 2 ^ bits ≡ 256 ^ width → 2 ^ 32 % 256 ^ width ≡ 0 → Has queues xs u x
+      → Has queues xs (low_bytes queues N k.ranges width u) (x % 256 ^ width)
+  low-has bits width x any all divides has = tt
+  low-has bits width x (signed_for i f) all divides has = tt
+  low-has bits width x (ends_as n f) all divides has = tt
+  low-has bits width x (linear f) all divides has =
+      low-form (256 ^ width) f (x % 256 ^ width) (subst (λ n. 1 ≤ n) all (pow_pos bits)) (divisor-below (256 ^ width) divides)
+      (ap (λ y. y % 256 ^ width) has ∙ mod-mod_of_dvd (256 ^ width) (form_value f xs) (dvd_of_mod-eq-zero (256 ^ width) divides))
+      (remainder_word k.ranges f (256 ^ width)) refl (counting queues N (256 ^ width)) refl
+  low-has bits width x (index_for i f) all divides has = by (nat_lt i N && nat_le (queues i).index_width width) refl
+    where
+      by : (t : Bool) → (nat_lt i N && nat_le (queues i).index_width width) ≡ t
+          → Has queues xs (if t then index_for i f else any) (x % 256 ^ width)
+      by false other = tt
+      by true ok =
+          let parts = and_parts (nat_lt i N) (nat_le (queues i).index_width width) ok in
+          let small : index_word (queues i) (form_value f xs) < 256 ^ (queues i).index_width =
+          word-fits (queues i) (fine i (ltb-true i N parts.0)).0 (form_value f xs) in
+          let fits : 256 ^ (queues i).index_width ≤ 256 ^ width =
+          pow-le-pow_right {n = 256} (omega arith) {i = (queues i).index_width} {j = width} (leb-true (queues i).index_width width parts.1) in
+          mod-eq_of_lt (omega (arith, has, small, fits)) ∙ has
+  low-has bits width x (has_bits l b) all divides has =
+      subst (Has queues xs (low_bytes queues N k.ranges width (has_bits l b)))
+      (ap (λ n. bit_and x (n - 1)) (sym all) ∙ and_mask x bits ∙ ap (λ n. x % n) all)
+      (kept-has queues xs l b x (256 ^ width - 1) has)
+
+  stored-has : (op : StoreOp) (x : ℕ) (u : KnownValue) → Has queues xs u x
+      → Has queues xs (stored_value queues N k.ranges (store_width op) u) (x % 256 ^ store_width op)
+  stored-has store_op.Byte x u has = low-has 8 1 x (plain queues k.ranges u) refl refl (has-plain queues k.ranges xs means.ranges u x has)
+  stored-has store_op.Half x u has = low-has 16 2 x (plain queues k.ranges u) refl refl (has-plain queues k.ranges xs means.ranges u x has)
+  stored-has store_op.Word x u has = storable-has (x % 2 ^ 32) x u has (λ has small. mod-eq_of_lt small)
+
   immediate-result : (op : ImmediateOp) (v : KnownValue) (x : ℕ) (n : ℤ) → Has queues xs v x
       → Gives queues xs (immediate_result queues N k op v n) (with_immediate op x n)
   immediate-result op v x n has = by (is_copy op n) refl
@@ -618,8 +664,7 @@ module _ (M : ℕ) (o : OpeningValue) (queues : ℕ → Queue) (N : ℕ) (own_of
           → Has queues ys (if t then w else signed_value queues width w) (sign_extended bits x)
       by false other = subst (Has queues ys (signed_value queues width w)) (sym (signed-of-bits bits width x half all small low))
           (signed-has ys width w x has)
-      by true low = subst (Has queues ys w)
-          (sym (ap (λ t. if t then x else word (pos x -ℤ pos (2 ^ bits))) (lt-ltb x (2 ^ (bits - 1)) (index-below ys (2 ^ (bits - 1)) w x low has)))) has
+      by true low = subst (Has queues ys w) (sym (sign-low bits x (index-below ys (2 ^ (bits - 1)) w x low has))) has
 
   extended-has : (ys : List ℕ) (op : LoadOp) (w : KnownValue) (x : ℕ) → x < 256 ^ load_width op → Has queues ys w x
       → Has queues ys (extended_value queues op w) (extended op x)
@@ -628,6 +673,11 @@ module _ (M : ℕ) (o : OpeningValue) (queues : ℕ → Queue) (N : ℕ) (own_of
   extended-has ys load_op.Word w x low has = has
   extended-has ys load_op.ByteUnsigned w x low has = has
   extended-has ys load_op.HalfUnsigned w x low has = has
+
+  form-low : (f : Form) (x n : ℕ) → fits_in (most k.ranges f) (Some n) ≡ true → Has queues xs (linear f) x → x < n + 1
+  form-low f x n ok has =
+      let low : form_value f xs ≤ n = fits-below (most k.ranges f) (Some n) (form_value f xs) ok (λ y is. value-below k.ranges f xs y means.ranges is) in
+      let less : form_value f xs % 2 ^ 32 ≤ form_value f xs = mod-le (form_value f xs) (2 ^ 32) in omega (arith, has, low, less)
 
   pub value-loaded : (b : Bounds) (width a x : ℕ) → b.low ≤ a → a ≤ b.high → x ≡ number_seen m a width
       → Has queues xs (value_loaded queues N own_of h k b width) x
@@ -638,11 +688,12 @@ module _ (M : ℕ) (o : OpeningValue) (queues : ℕ → Queue) (N : ℕ) (own_of
       word-loaded None is = tt
       word-loaded (Some j) is =
           let f = found-below (length (own_of h)) (is_own_word own_of h b width) j is in
-          let parts = and_parts (is_one b && (b.low == slice_index (own_of h) j)) (width == 4) f.1 in
-          let front = and_parts (is_one b) (b.low == slice_index (own_of h) j) parts.0 in
-          let place : a ≡ slice_index (own_of h) j = one-place b a front.0 low high ∙ eqb-true b.low (slice_index (own_of h) j) front.1 in
-          let wide : width ≡ 4 = eqb-true width 4 parts.1 in
-          subst (Has queues xs (get_or k.words j any)) (sym (read ∙ ap (number_seen m a) wide ∙ ap (λ z. number_seen m z 4) place)) (means.words j f.0)
+          let own : OwnWord = word_at (own_of h) j in
+          let parts = and_parts (is_one b && (b.low == own.at)) (width == own.width) f.1 in
+          let front = and_parts (is_one b) (b.low == own.at) parts.0 in
+          let place : a ≡ own.at = one-place b a front.0 low high ∙ eqb-true b.low own.at front.1 in
+          let wide : width ≡ own.width = eqb-true width own.width parts.1 in
+          subst (Has queues xs (get_or k.words j any)) (sym (read ∙ ap (number_seen m a) wide ∙ ap (λ z. number_seen m z own.width) place)) (means.words j f.0)
 
       index : (i : Option ℕ) → last_below N (is_own_index queues h b width) ≡ i
           → Has queues xs (index_loaded k i (word_loaded k
@@ -657,10 +708,19 @@ module _ (M : ℕ) (o : OpeningValue) (queues : ℕ → Queue) (N : ℕ) (own_of
           read ∙ ap (number_seen m a) w.whole ∙ ap (λ z. number_seen m z ((queues i).index_width)) (one-place b a parts.0 low high ∙ w.place) ∙ sees.own
           ∙ ap (index_word (queues i)) (means.shares i f.0 w.party mine).own
 
+  value-kept : (op : LoadOp) (w : KnownValue) (x : ℕ) → keeps_value queues k.ranges op w ≡ true → Has queues xs w x → extended op x ≡ x
+  value-kept load_op.Byte (linear f) x ok has = sign-low 8 x (form-low f x (2 ^ 7 - 1) ok has)
+  value-kept load_op.Half (linear f) x ok has = sign-low 16 x (form-low f x (2 ^ 15 - 1) ok has)
+  value-kept op w x ok has = absurd (cc)
+
   loaded-gives : (op : LoadOp) (w : KnownValue) (x : ℕ) → x < 256 ^ load_width op → Has queues xs w x
-      → Gives queues xs (loaded queues op w) (extended op x)
-  loaded-gives op w x low has = or-up-to-gives queues xs (most_loaded op) (extended op x) (extended_value queues op w)
-      (extended-most op x low) (extended-has xs op w x low has)
+      → Gives queues xs (loaded queues k.ranges op w) (extended op x)
+  loaded-gives op w x low has = or-up-to-gives queues xs (most_loaded op) (extended op x)
+      (if keeps_value queues k.ranges op w then w else extended_value queues op w) (extended-most op x low) (by (keeps_value queues k.ranges op w) refl)
+    where
+      by : (t : Bool) → keeps_value queues k.ranges op w ≡ t → Has queues xs (if t then w else extended_value queues op w) (extended op x)
+      by true keeps = subst (Has queues xs w) (sym (value-kept op w x keeps has)) has
+      by false other = extended-has xs op w x low has
 
   load-keeps : (q : Queue) (t : Option Party) (c : QueueCounts) (a width x : ℕ) → KeepsAccess q t c (load a width x)
   load-keeps q None c a width x = tt
@@ -696,7 +756,7 @@ module _ (M : ℕ) (o : OpeningValue) (queues : ℕ → Queue) (N : ℕ) (own_of
       → IsNext queues N own_of h xs (after_load queues N own_of h k op rd.number b look) z m
       (λ i. after_access (queues i) (party_of (queues i) h) (load a (load_width op) v) (cs i))
   load-known op rd a b None z low high read is ok at regs =
-      load-gives op rd a b z low high ok (loaded queues op (value_loaded queues N own_of h k b (load_width op)))
+      load-gives op rd a b z low high ok (loaded queues k.ranges op (value_loaded queues N own_of h k b (load_width op)))
       (loaded-gives op (value_loaded queues N own_of h k b (load_width op)) v (read-small op a read) (value-loaded b (load_width op) a v low high read))
       at regs
   load-known op rd a b (Some i) z low high read is ok at regs = (
@@ -1002,63 +1062,60 @@ module _ (M : ℕ) (o : OpeningValue) (queues : ℕ → Queue) (N : ℕ) (own_of
                   | inr fill ↦ absurd (let no : false ≡ true = subst (λ t. may_fill queues k t place (store_width op) i ≡ true) none fill in cc)
                 ]
 
-    store-apart : (g y : ℕ) → g ≢ h → (j : ℕ) → j < length (own_of g) → slice_index (own_of g) j ≤ y → y < slice_index (own_of g) j + 4 → covers w y ≡ false
+    store-apart : (g y : ℕ) → g ≢ h → (j : ℕ) → j < length (own_of g) → (word_at (own_of g) j).at ≤ y
+        → y < (word_at (own_of g) j).at + (word_at (own_of g) j).width → covers w y ≡ false
     store-apart g y far j less from to = elim (cases_lt g H) [
       | inr beyond ↦ absurd (let none : length (own_of g) ≡ 0 = past g beyond in omega (arith, none, less))
       | inl listed ↦ elim (or_cases (g == h)
-          (all_below (length (own_of g)) (λ j. is_apart b (store_width op) (slice_index (own_of g) j) 4))
+          (all_below (length (own_of g)) (λ j. is_apart b (store_width op) (word_at (own_of g) j).at (word_at (own_of g) j).width))
           (at-below H (leaves_words own_of h b (store_width op)) leaves g listed)) [
             | inl same ↦ absurd (far (eqb-true g h same))
-            | inr all ↦ apart-from b (store_width op) a (slice_index (own_of g) j) 4 y (stored op x)
-                (at-below (length (own_of g)) (λ j. is_apart b (store_width op) (slice_index (own_of g) j) 4) all j less)
+            | inr all ↦ apart-from b (store_width op) a (word_at (own_of g) j).at (word_at (own_of g) j).width y (stored op x)
+                (at-below (length (own_of g)) (λ j. is_apart b (store_width op) (word_at (own_of g) j).at (word_at (own_of g) j).width) all j less)
                 low high from to
           ]
     ]
 
-    word-then : (own v : ℕ) (u : KnownValue) → Has queues xs u (number_seen m own 4)
-        → Has queues xs (word_then N b (store_width op) vx own u)
-        (number_seen (view_then (store w) m) own 4)
-    word-then own v u has = by (is_apart b (store_width op) own 4) refl
+    word-then : (own : OwnWord) (u : KnownValue) → Has queues xs u (own_number m own)
+        → Has queues xs (word_then queues N k.ranges b (store_width op) vx own u) (own_number (view_then (store w) m) own)
+    word-then own u has = by (is_apart b (store_width op) own.at own.width) refl
       where
-        at : (t : Bool) → (is_one b && (b.low == own) && (store_width op == 4)) ≡ t
-            → Has queues xs (if t then storable N vx else any)
-            (number_seen (view_then (store w) m) own 4)
+        at : (t : Bool) → (is_one b && (b.low == own.at) && (store_width op == own.width)) ≡ t
+            → Has queues xs (if t then stored_value queues N k.ranges (store_width op) vx else any) (own_number (view_then (store w) m) own)
         at false other = tt
         at true ok =
-            let parts = and_parts (is_one b && (b.low == own)) (store_width op == 4) ok in
-            let front = and_parts (is_one b) (b.low == own) parts.0 in
-            let place : a ≡ own = one-place b a front.0 low high ∙ eqb-true b.low own front.1 in
-            let wide : store_width op ≡ 4 = eqb-true (store_width op) 4 parts.1 in
-            storable-has (number_seen (view_then (store w) m) own 4) x vx has-x (λ has small.
-            subst (λ n. number_seen (view_then (store w) m) n 4 ≡ x) place
-            (subst (λ z. number_seen (view_then (store z) m) a 4 ≡ x)
-            (sym (ap (λ n. write a n (stored op x)) wide ∙ ap (write a 4) (stored-word op x wide)))
-            (stored-number m a x small)))
+            let parts = and_parts (is_one b && (b.low == own.at)) (store_width op == own.width) ok in
+            let front = and_parts (is_one b) (b.low == own.at) parts.0 in
+            let place : a ≡ own.at = one-place b a front.0 low high ∙ eqb-true b.low own.at front.1 in
+            let wide : store_width op ≡ own.width = eqb-true (store_width op) own.width parts.1 in
+            subst (Has queues xs (stored_value queues N k.ranges (store_width op) vx))
+            (sym (ap (number_seen (view_then (store w) m) own.at) (sym wide) ∙ ap (λ n. number_seen (view_then (store w) m) n (store_width op)) (sym place)
+            ∙ written-number m (view_then (store w) m) a (store_width op) (stored op x) (λ y. refl) ∙ stored-part op x))
+            (stored-has op x vx has-x)
 
-        by : (t : Bool) → is_apart b (store_width op) own 4 ≡ t
+        by : (t : Bool) → is_apart b (store_width op) own.at own.width ≡ t
             → Has queues xs (if t then u else
-            (if is_one b && (b.low == own) && (store_width op == 4) then storable N vx else any))
-            (number_seen (view_then (store w) m) own 4)
-        by true off = subst (Has queues xs u) (sym (left-number m w own
-            (λ y from to. apart-from b (store_width op) a own 4 y (stored op x) off low high from to))) has
-        by false on = at (is_one b && (b.low == own) && (store_width op == 4)) refl
+            (if is_one b && (b.low == own.at) && (store_width op == own.width) then stored_value queues N k.ranges (store_width op) vx else any))
+            (own_number (view_then (store w) m) own)
+        by true off = subst (Has queues xs u) (sym (left-number m w own.at own.width
+            (λ y from to. apart-from b (store_width op) a own.at own.width y (stored op x) off low high from to))) has
+        by false on = at (is_one b && (b.low == own.at) && (store_width op == own.width)) refl
 
-    words-then : (own : List ℕ) (us : List KnownValue) → ((j : ℕ) → j < length own → Has queues xs (get_or us j any) (number_seen m (slice_index own j) 4))
+    words-then : (own : List OwnWord) (us : List KnownValue) → ((j : ℕ) → j < length own → Has queues xs (get_or us j any) (own_number m (word_at own j)))
         → (j : ℕ) → j < length own
-        → Has queues xs (get_or (words_then N b (store_width op) vx own us) j any)
-        (number_seen (view_then (store w) m) (slice_index own j) 4)
+        → Has queues xs (get_or (words_then queues N k.ranges b (store_width op) vx own us) j any) (own_number (view_then (store w) m) (word_at own j))
     words-then [] us all j less = absurd (omega (arith, less))
     words-then (n ∷ own) [] all j less = tt
-    words-then (n ∷ own) (u ∷ us) all zero less = word-then n 0 u (all 0 less)
+    words-then (n ∷ own) (u ∷ us) all zero less = word-then n u (all 0 less)
     words-then (n ∷ own) (u ∷ us) all (suc j) less = words-then own us (λ j less. all (suc j) (omega (arith, less))) j (omega (arith, less))
 
     store-means : (z : HartState) → z.pc ≡ next_pc k.pc → z.registers ≡ s.registers
-        → IsNext queues N own_of h xs (after_store N own_of h k d (store_width op) vx b move) z
+        → IsNext queues N own_of h xs (after_store queues N own_of h k d (store_width op) vx b move) z
         (view_then (store w) m) (λ i. after_access (queues i) (party_of (queues i) h) (store w) (cs i))
     store-means z at regs = (
       0,
       means-going queues N (own_of h) h xs (record k {
-        words = words_then N b (store_width op) vx (own_of h) k.words;
+        words = words_then queues N k.ranges b (store_width op) vx (own_of h) k.words;
         shares = shares_moved k.shares d move;
       })
           s z (view_then (store w) m) (λ i. after_access (queues i) (party_of (queues i) h) (store w) (cs i)) (next_pc k.pc) (record {
@@ -1087,7 +1144,7 @@ module _ (M : ℕ) (o : OpeningValue) (queues : ℕ → Queue) (N : ℕ) (own_of
           (may_store queues h k d (register_at k rs2) (address_value queues k rs1 offset)
           (addresses queues k rs1 offset) (store_width op) move)
           && all_below H (leaves_words own_of h (addresses queues k rs1 offset) (store_width op))) ≡ t
-          → (if t then Some (after_store N own_of h k d (store_width op) (register_at k rs2)
+          → (if t then Some (after_store queues N own_of h k d (store_width op) (register_at k rs2)
           (addresses queues k rs1 offset) move ∷ []) else None) ≡ Some ks
           → Goes queues N own_of h owns xs ks m cs (access_of e) (advanced s v)
       by move is false ok found = absurd (cc)
@@ -1109,7 +1166,7 @@ module _ (M : ℕ) (o : OpeningValue) (queues : ℕ → Queue) (N : ℕ) (own_of
                 (λ i. after_access (queues i) (party_of (queues i) h)
                 (store (write (address (register_value s.registers rs1) offset) (store_width op)
                 (stored op (register_value s.registers rs2)))) (cs i)))
-                (let e : after_store N own_of h k d (store_width op) (register_at k rs2)
+                (let e : after_store queues N own_of h k d (store_width op) (register_at k rs2)
                 (addresses queues k rs1 offset) move ∷ [] ≡ ks =
                 cc in
                 e)
@@ -1263,7 +1320,7 @@ module _ (M : ℕ) (o : OpeningValue) (queues : ℕ → Queue) (N : ℕ) (own_of
               let new : ℕ = updated op v (register_value s.registers rs2) in (
                 g.0,
                 means-result queues N (own_of h) h xs (record k {
-                  words = words_then N b 4 vx (own_of h) k.words;
+                  words = words_then queues N k.ranges b 4 vx (own_of h) k.words;
                   shares = shares_moved k.shares d move;
                 })
                     s (after_instruction s v (Amo op rd rs1 rs2 aq rl)) (view_then (store (write a 4 new)) m)

@@ -9,8 +9,9 @@ use Rattle.rv_decode.specs.declared.instruction.StoreOp.{StoreOp}
 use Rattle.rv_decode.specs.declared.instruction.StoreOp.TheVariants as store_op
 use Rattle.hart.specs.Effects.{stored, store_width}
 use Rattle.memory.specs.declared.writes.Write.{Write}
-use Rattle.memory.specs.Writes.{write, covers}
-use Rattle.memory.proofs.Bytes.{joined-same, covers-yes, covers-from, word_of_bytes}
+use Rattle.memory.specs.Writes.{write, covers, byte_after}
+use Rattle.memory.proofs.Bytes.{joined-same, covers-yes, covers-from}
+use Rattle.memory.proofs.Joined.{joined-bytes}
 use Rattle.step_machine.specs.Access.{store}
 use Rattle.slot_queue.specs.Queues.{Queue, IsQueue, KeepsOff, index_word, slot_of}
 use Rattle.queue_parties.specs.Parties.{Party, the_sender, the_receiver, QueueCounts, count, with_count}
@@ -25,6 +26,7 @@ use Rattle.queue_certificates.specs.Steps.{is_apart, is_off, position_at, offset
 use Rattle.queue_certificates.proofs.Bounds.{value-below, fits-below, value-remainder}
 use Rattle.queue_certificates.proofs.Forms.{value-plus, value-times, value-number, same-value, same-exactly}
 use Rattle.queue_certificates.proofs.Values.{within}
+use Rattle.queue_certificates.proofs.States.{kept-number}
 
 -- ---- bytes
 
@@ -39,18 +41,19 @@ apart-from b width a from count x v ok low high above below = by (covers (write 
       | inr over ↦ (let u : from + count ≤ b.low = leb-true (from + count) b.low over in omega (arith, u, low, below, w.0))
     ])
 
-pub stored-number : (m : View) (a v : ℕ) → v < 2 ^ 32 → number_seen (view_then (store (write a 4 v)) m) a 4 ≡ v
-stored-number m a v small = joined-same (λ i. view_then (store (write a 4 v)) m (a + i)) (λ i. byte_at i v) 4 same ∙ word_of_bytes v small
+-- the number that is seen where it was written, by a view in which it was, and of bytes that are the same in both views
+pub written-number : (m n : View) (a width v : ℕ) → ((x : ℕ) → n x ≡ byte_after (write a width v) x (m x)) → number_seen n a width ≡ v % 256 ^ width
+written-number m n a width v after = joined-same (λ i. n (a + i)) (λ i. byte_at i v) width same ∙ joined-bytes v width
   where
-    same : (i : ℕ) → i < 4 → view_then (store (write a 4 v)) m (a + i) ≡ byte_at i v
+    same : (i : ℕ) → i < width → n (a + i) ≡ byte_at i v
     same i less =
-        let on : covers (write a 4 v) (a + i) ≡ true = covers-yes (write a 4 v) (a + i) (omega arith) (omega (arith, less)) in
-        ap (λ c. if c then byte_at (a + i - a) v else m (a + i)) on ∙ ap (λ j. byte_at j v) (omega arith)
+        let on : covers (write a width v) (a + i) ≡ true = covers-yes (write a width v) (a + i) (omega arith) (omega (arith, less)) in
+        after (a + i) ∙ ap (λ c. if c then byte_at (a + i - a) v else m (a + i)) on ∙ ap (λ j. byte_at j v) (omega arith)
 
-pub left-number : (m : View) (w : Write) (a : ℕ) → ((x : ℕ) → a ≤ x → x < a + 4 → covers w x ≡ false)
-    → number_seen (view_then (store w) m) a 4 ≡ number_seen m a 4
-left-number m w a leaves = joined-same (λ i. view_then (store w) m (a + i)) (λ i. m (a + i)) 4
-    (λ i less. ap (λ c. if c then byte_at (a + i - w.addr) w.value else m (a + i)) (leaves (a + i) (omega arith) (omega (arith, less))))
+pub left-number : (m : View) (w : Write) (a width : ℕ) → ((x : ℕ) → a ≤ x → x < a + width → covers w x ≡ false)
+    → number_seen (view_then (store w) m) a width ≡ number_seen m a width
+left-number m w a width leaves = kept-number m (view_then (store w) m) a width
+    (λ x from to. ap (λ c. if c then byte_at (x - w.addr) w.value else m x) (leaves x from to))
 
 pub stored-whole : (op : StoreOp) (x : ℕ) → x < 256 ^ store_width op → stored op x ≡ x
 stored-whole store_op.Byte x small = mod-eq_of_lt (omega (arith, small))
@@ -63,10 +66,10 @@ stored-low store_op.Byte x g is = omega (arith, is)
 stored-low store_op.Half x g is = omega (arith, is)
 stored-low store_op.Word x g is = is
 
-pub stored-word : (op : StoreOp) (x : ℕ) → store_width op ≡ 4 → stored op x ≡ x
-stored-word store_op.Byte x wide = absurd (omega (arith, wide))
-stored-word store_op.Half x wide = absurd (omega (arith, wide))
-stored-word store_op.Word x wide = refl
+pub stored-part : (op : StoreOp) (x : ℕ) → stored op x % 256 ^ store_width op ≡ x % 256 ^ store_width op
+stored-part store_op.Byte x = omega arith
+stored-part store_op.Half x = omega arith
+stored-part store_op.Word x = refl
 
 pub keeps-off : (q : Queue) (b : Bounds) (width a v : ℕ) → is_off q b width ≡ true → b.low ≤ a → a ≤ b.high → KeepsOff q (write a width v)
 keeps-off q b width a v ok low high x on =

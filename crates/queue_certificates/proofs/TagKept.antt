@@ -14,6 +14,7 @@ use Rattle.rv_decode.specs.declared.instruction.Instr.TheVariants.{Immediate, Sh
 use Rattle.rv_decode.specs.declared.instruction.Instr.TheVariants.{Ebreak, Amo}
 use Rattle.hart.specs.Effects.{next_pc, load_width}
 use Rattle.slot_queue.specs.Queues.{Queue}
+use Rattle.queue_certificates.specs.declared.own.OwnWord.{OwnWord}
 use Rattle.queue_certificates.specs.RecordFields.{Field}
 use Rattle.queue_certificates.specs.Forms.{Form, lifted, Bounds}
 use Rattle.queue_certificates.specs.States.{KnownValue, any, linear, index_for, signed_for, ends_as, has_bits, Share, no_share, share_by, KnownState}
@@ -89,7 +90,7 @@ keeps-branch N k t p target next (Some true) one two = (keeps-going N k t target
 keeps-branch N k t p target next (Some false) one two = (keeps-going N k p next two, tt)
 
 -- of hart h, where there are N queues with indices
-module _ (queues : ℕ → Queue) (N : ℕ) (own_of : ℕ → List ℕ) (H h : ℕ) (k : KnownState) where
+module _ (queues : ℕ → Queue) (N : ℕ) (own_of : ℕ → List OwnWord) (H h : ℕ) (k : KnownState) where
   keeps-jump : (rd : ℕ) (offset : ℤ) (a : Option ℕ) (ks : List KnownState) → jumping k rd offset a ≡ Some ks → AllKeep N k ks
   keeps-jump rd offset None ks is = absurd (cc)
   keeps-jump rd offset (Some a) ks is = keeps-result N k rd _ _ ks is
@@ -136,7 +137,7 @@ module _ (queues : ℕ → Queue) (N : ℕ) (own_of : ℕ → List ℕ) (H h : �
       → storing queues N own_of H h k d width v place b ≡ Some ks → AllKeep N k ks
   keeps-storing d width v place b ks is =
       let m = moved-keeps d (last_below N (is_own_index queues h b width)) (own-below b width) in
-      keeps-if N k _ (after_store N own_of h k d width v b (last_below N (is_own_index queues h b width)) ∷ []) ks
+      keeps-if N k _ (after_store queues N own_of h k d width v b (last_below N (is_own_index queues h b width)) ∷ []) ks
       (keeps-lifted N k (shares_moved k.shares d (last_below N (is_own_index queues h b width))) _ m.0 m.1 refl, tt) is
 
   keeps-exchanging : (d : Form) (op : AmoOp) (rd : ℕ) (v place : KnownValue) (b : Option Bounds) (ks : List KnownState)

@@ -20,6 +20,7 @@ use Rattle.queue_parties.specs.Parties.{Party, count}
 use Rattle.slots_that_tell.specs.Slots.{IsSlots, tag_of}
 use Rattle.slots_that_tell.specs.Telling.{teller_hart, after_load, told_access}
 use Rattle.slots_that_tell.proofs.Owned.{mine-of}
+use Rattle.queue_certificates.specs.declared.own.OwnWord.{OwnWord}
 use Rattle.queue_certificates.specs.ToldRuns.{TellsEither, SeesTags, OwnsAllButTags}
 use Rattle.queue_certificates.specs.OwnedRuns.{View, AllCounts, number_seen, ReadsFrom, view_then, Acts}
 use Rattle.queue_certificates.specs.Forms.{number, lifted, Bounds}
@@ -45,7 +46,7 @@ use Rattle.queue_certificates.proofs.TagKept.{Keeps, AllKeep, keeps-same}
 use Rattle.queue_certificates.proofs.TagNext.{IsAmongTold, told_by, Stays, among-kept, set-means, set-told, load-stays}
 use Rattle.queue_certificates.proofs.NextAccess.{found-at}
 
-module _ (M : ℕ) (o : OpeningValue) (queues : ℕ → Queue) (N : ℕ) (own_of : ℕ → List ℕ) (H h : ℕ) (xs : List ℕ)
+module _ (M : ℕ) (o : OpeningValue) (queues : ℕ → Queue) (N : ℕ) (own_of : ℕ → List OwnWord) (H h : ℕ) (xs : List ℕ)
     (k : KnownState) (s : HartState) (m : View) (cs : AllCounts) (e : Entry)
     (acts : Acts M o N queues nobody_told nothing_sent h s m cs e) (size : 32 ≤ length s.registers)
     (fine : (i : ℕ) → i < N → IsQueue (queues i) × TellsFull (queues i) × ((queues i).index_width ≤ 4))

@@ -9,6 +9,7 @@ use Rattle.step_machine.specs.Access.{Access, load}
 use Rattle.slot_queue.specs.Queues.{Queue}
 use Rattle.queue_parties.specs.Parties.{Party}
 use Rattle.slots_that_tell.specs.Telling.{teller_hart, told_access}
+use Rattle.queue_certificates.specs.declared.own.OwnWord.{OwnWord}
 use Rattle.queue_certificates.specs.OwnedRuns.{View, AllCounts}
 use Rattle.queue_certificates.specs.States.{Share, no_share, KnownState, HasShare, MeansAt}
 use Rattle.queue_certificates.specs.Tags.{party_in, is_tagged, HasAtLeast, with_share, AreTold}
@@ -19,7 +20,7 @@ use Rattle.queue_certificates.proofs.TagCounts.{load-kept}
 use Rattle.queue_certificates.proofs.TagShares.{IsSameShare, same-least, tagged-fine, teller-is}
 use Rattle.queue_certificates.proofs.TagKept.{Keeps, AllKeep}
 
-module _ (tagged : ℕ → TaggedQueue) (T : ℕ) (queues : ℕ → Queue) (N : ℕ) (own_of : ℕ → List ℕ) (H h : ℕ) where
+module _ (tagged : ℕ → TaggedQueue) (T : ℕ) (queues : ℕ → Queue) (N : ℕ) (own_of : ℕ → List OwnWord) (H h : ℕ) where
   -- one of these states says what is so, of both kinds of queues, over one variable more
   abbrev pub IsAmongTold : List ℕ → List KnownState → HartState → View → (cs us : AllCounts) → Type 0
   IsAmongTold xs [] s m cs us = ⊥
@@ -32,7 +33,7 @@ module _ (tagged : ℕ → TaggedQueue) (T : ℕ) (queues : ℕ → Queue) (N : 
 
 -- ---- shares after an access
 
-module _ (tagged : ℕ → TaggedQueue) (T : ℕ) (queues : ℕ → Queue) (N : ℕ) (own_of : ℕ → List ℕ) (H h : ℕ) (xs : List ℕ) (k : KnownState) where
+module _ (tagged : ℕ → TaggedQueue) (T : ℕ) (queues : ℕ → Queue) (N : ℕ) (own_of : ℕ → List OwnWord) (H h : ℕ) (xs : List ℕ) (k : KnownState) where
   -- at these counts all that says the same of queue t is right
   abbrev pub Stays : AllCounts → (t : ℕ) → Type 0
   Stays us t = (p : Party) → h ≡ teller_hart (slots_of (tagged t)) p → (x : ℕ) (s : Share)

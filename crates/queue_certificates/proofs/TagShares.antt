@@ -13,6 +13,7 @@ use Rattle.slot_queue.specs.Queues.{Queue}
 use Rattle.slots_that_tell.specs.Slots.{Slots, IsSlots, gap, RestsAt, KeepsOff, tag_of}
 use Rattle.slots_that_tell.specs.Telling.{teller_of, teller_hart, owned_end}
 use Rattle.slots_that_tell.proofs.Codecs.{zero_differs, numbered_differs, bits_differ}
+use Rattle.queue_certificates.specs.declared.own.OwnWord.{OwnWord}
 use Rattle.queue_certificates.specs.ToldRuns.{telling}
 use Rattle.queue_certificates.specs.Forms.{Form, form_value, substituted, raised, settled, is_same, InRanges, most, fits_in}
 use Rattle.queue_certificates.specs.States.{Share, no_share, KnownState, share_by, state_by}
@@ -147,7 +148,7 @@ told-opens c h k xs fine ok t less p at =
 
 -- ---- of all queues
 
-module _ (tagged : ℕ → TaggedQueue) (T : ℕ) (queues : ℕ → Queue) (N : ℕ) (own_of : ℕ → List ℕ) (H h : ℕ) where
+module _ (tagged : ℕ → TaggedQueue) (T : ℕ) (queues : ℕ → Queue) (N : ℕ) (own_of : ℕ → List OwnWord) (H h : ℕ) where
   -- counts that are the same as far as the hart knows
   pub told-frame : (xs : List ℕ) (k : KnownState) (us vs : AllCounts) → AreTold tagged T N h xs k us
       → ((t : ℕ) → t < T → IsSameFor (telling (slots_of (tagged t))) h (us t) (vs t)) → AreTold tagged T N h xs k vs

@@ -16,6 +16,7 @@ use Rattle.slots_that_tell.specs.Slots.{IsSlots, tag_of, tagged_slot}
 use Rattle.slots_that_tell.specs.Telling.{MovesOn, MayStore, moved, teller_hart, told_access, TellsAccess, FillsOwned}
 use Rattle.slots_that_tell.proofs.Owned.{mine-of}
 use Rattle.queue_certificates.proofs.ToldAccesses.{moves}
+use Rattle.queue_certificates.specs.declared.own.OwnWord.{OwnWord}
 use Rattle.queue_certificates.specs.OwnedRuns.{View, AllCounts}
 use Rattle.queue_certificates.specs.Forms.{InRanges, Bounds}
 use Rattle.queue_certificates.specs.States.{KnownValue, any, linear, index_for, signed_for, ends_as, has_bits, Share, no_share, KnownState, Has}
@@ -42,7 +43,7 @@ use Rattle.queue_certificates.proofs.TagKept.{AllKeep}
 use Rattle.queue_certificates.proofs.States.{at-below}
 use Rattle.queue_certificates.proofs.TagNext.{IsAmongTold, told_by, Stays, among-kept, set-means, set-told, same-stays}
 
-module _ (tagged : ℕ → TaggedQueue) (T : ℕ) (queues : ℕ → Queue) (N : ℕ) (own_of : ℕ → List ℕ) (H h : ℕ) (xs : List ℕ) (k : KnownState) (us : AllCounts)
+module _ (tagged : ℕ → TaggedQueue) (T : ℕ) (queues : ℕ → Queue) (N : ℕ) (own_of : ℕ → List OwnWord) (H h : ℕ) (xs : List ℕ) (k : KnownState) (us : AllCounts)
     (are : (t : ℕ) → t < T → is_tagged (tagged t) ≡ true) (told : AreTold tagged T N h xs k us) (ranges : InRanges k.ranges xs)
     (op : StoreOp) (place u : KnownValue) (b : Bounds) (a x : ℕ) (at-place : Has queues xs place a) (low : b.low ≤ a) (high : a ≤ b.high)
     (has-x : Has queues xs u x) (move : Option ℕ) (moved-is : moved_tag tagged T N h k place (store_width op) ≡ move)

@@ -1,7 +1,7 @@
 -- What an instruction comes to where there are queues with tags: one of the states that may follow, and allowed accesses.
 use Rattle.std.proofs.Common.{ℕ, ℤ, ◌+◌, ◌<◌, ◌≤◌, ◌≡◌, ◌≢◌, inl, inr, if◌then◌else◌, Bool, true, false}
 use Rattle.std.proofs.Common.{Option, Some, None, List, length, get_or, refl, sym, ◌∙◌, ap, subst, arith}
-use Rattle.std.specs.Prelude.{All, slice_index}
+use Rattle.std.specs.Prelude.{All}
 use Rattle.rv_decode.specs.declared.instruction.Reg.{Reg}
 use Rattle.rv_decode.specs.declared.instruction.LoadOp.{LoadOp}
 use Rattle.rv_decode.specs.declared.instruction.StoreOp.{StoreOp}
@@ -26,11 +26,12 @@ use Rattle.queue_parties.specs.Parties.{Party, the_sender, QueueCounts}
 use Rattle.slots_that_tell.specs.Slots.{Slots, IsSlots, tagged_slot}
 use Rattle.slots_that_tell.specs.Telling.{teller_hart, told_access, TellsAccess}
 use Rattle.slots_that_tell.proofs.Owned.{loaded-count}
+use Rattle.queue_certificates.specs.declared.own.OwnWord.{OwnWord}
 use Rattle.queue_certificates.specs.ToldRuns.{SeesTags, LoadsRestOwned}
 use Rattle.queue_certificates.specs.OwnedRuns.{View, AllCounts, view_then, Acts, LoadsOwned}
 use Rattle.queue_certificates.specs.RecordFields.{Field, MeetsField}
 use Rattle.queue_certificates.specs.Forms.{Form, Bounds}
-use Rattle.queue_certificates.specs.States.{KnownValue, any, no_share, KnownState, Has, MeansAt}
+use Rattle.queue_certificates.specs.States.{KnownValue, any, no_share, KnownState, Has, MeansAt, word_at}
 use Rattle.queue_certificates.specs.Results.{bounds}
 use Rattle.queue_certificates.specs.Steps.{anywhere, operand, address_value, addresses, updated_value, exchanging, register_at, follow, instruction_at}
 use Rattle.queue_certificates.specs.Steps.{share_at, loads_owned}
@@ -41,8 +42,7 @@ use Rattle.queue_certificates.specs.TagEffects.{tag_effect_at, tag_effect_of}
 use Rattle.queue_certificates.specs.declared.effect.Effect.{Effect}
 use Rattle.queue_certificates.specs.declared.effect.Effect.TheVariants.{Leaves}
 use Rattle.queue_layouts.specs.Tagged.{slots_of}
-use Rattle.queue_certificates.specs.Tags.{looked_tag}
-use Rattle.queue_certificates.specs.Tags.{moved_tag, may_store_all, all_handed, store_tells, reads_rest}
+use Rattle.queue_certificates.specs.Tags.{looked_tag, moved_tag, may_store_all, all_handed, store_tells, reads_rest}
 use Rattle.queue_layouts.specs.declared.tagged.TaggedQueue.{TaggedQueue}
 use Rattle.queue_certificates.proofs.Steps.{nobody_told, nothing_sent, IsQuiet, Goes}
 use Rattle.queue_certificates.proofs.Steps as steps
@@ -59,14 +59,15 @@ use Rattle.queue_certificates.proofs.TagLoads.{load-next, load-rest}
 use Rattle.queue_certificates.proofs.TagStores.{store-may, store-among, store-sends}
 use Rattle.queue_certificates.proofs.NextAccess.{Stops, Makes, next-access}
 
-module _ (tagged : ℕ → TaggedQueue) (T : ℕ) (queues : ℕ → Queue) (N : ℕ) (own_of : ℕ → List ℕ) (H h : ℕ) where
+module _ (tagged : ℕ → TaggedQueue) (T : ℕ) (queues : ℕ → Queue) (N : ℕ) (own_of : ℕ → List OwnWord) (H h : ℕ) where
   -- what an access of the hart comes to, after which it is in state z
   pub record GoesTold (owns rests : ℕ → Bool) (effects : ℕ → Effect) (xs : List ℕ) (ks : List KnownState) (m : View)
       (cs us : AllCounts) (y : Access) (z : HartState) : Type 0 where
     pub next : z.status ≡ status.Running → IsAmongTold tagged T queues N own_of H h xs ks z (view_then y m)
         (λ i. after_access (queues i) (party_of (queues i) h) y (cs i)) (λ t. told_access (slots_of (tagged t)) (party_in (tagged t) h) y (us t))
     pub keeps : (i : ℕ) → i < N → KeepsAccess (queues i) (party_of (queues i) h) (cs i) y
-    pub apart : (g x : ℕ) → g ≢ h → (j : ℕ) → j < length (own_of g) → slice_index (own_of g) j ≤ x → x < slice_index (own_of g) j + 4 → LeavesByteBy x y
+    pub apart : (g x : ℕ) → g ≢ h → (j : ℕ) → j < length (own_of g) → (word_at (own_of g) j).at ≤ x
+        → x < (word_at (own_of g) j).at + (word_at (own_of g) j).width → LeavesByteBy x y
     pub loads : (i : ℕ) → i < N → owns i ≡ true → (p : Party) → h ≡ hart (queues i) p → LoadsOwned (queues i) p (cs i) y
     pub tells : (t : ℕ) → t < T → TellsAccess (slots_of (tagged t)) (party_in (tagged t) h) (us t) y
     -- where `rests` says so, its loads of the queue's slots are of tags and of owned ones
@@ -109,7 +110,7 @@ quiet-same q p c land quiet = absurd quiet
 
 -- ---- an instruction
 
-module _ (M : ℕ) (o : OpeningValue) (queues : ℕ → Queue) (N : ℕ) (own_of : ℕ → List ℕ) (H h : ℕ) (xs : List ℕ)
+module _ (M : ℕ) (o : OpeningValue) (queues : ℕ → Queue) (N : ℕ) (own_of : ℕ → List OwnWord) (H h : ℕ) (xs : List ℕ)
     (k : KnownState) (s : HartState) (m : View) (cs : AllCounts) (e : Entry)
     (acts : Acts M o N queues nobody_told nothing_sent h s m cs e) (size : 32 ≤ length s.registers)
     (fine : (i : ℕ) → i < N → IsQueue (queues i) × TellsFull (queues i) × ((queues i).index_width ≤ 4))

@@ -1,5 +1,5 @@
 -- A certificate of the queues of a text: of each hart states that are closed under its instructions. And when it is accepted.
-use Rattle.std.specs.Prelude.{map, ℕ, ◌≡◌, ◌⊎◌, ◌+◌, ◌-◌, ◌*◌, ◌%◌, ◌^◌, ◌<◌, ◌≤◌, ◌==◌, ◌&&◌, ◌||◌, not, nat_le}
+use Rattle.std.specs.Prelude.{map, ℕ, ◌≡◌, ◌⊎◌, ◌+◌, ◌-◌, ◌*◌, ◌%◌, ◌^◌, ◌<◌, ◌==◌, ◌&&◌, ◌||◌, not, nat_le}
 use Rattle.std.specs.Prelude.{nat_lt, Bool, true, false, Option, None, Some, List, [], ◌∷◌, length}
 use Rattle.std.specs.Prelude.{get_or, slice_index, slice_set, All}
 use Rattle.std.specs.List.{list_all}
@@ -15,7 +15,7 @@ use Rattle.slot_queue.specs.Queues.{Queue, index_word}
 use Rattle.queue_parties.specs.Positions.{IsInBytes}
 use Rattle.queue_parties.specs.Parties.{Party, the_sender, the_receiver, all_at}
 use Rattle.slot_queue.specs.Ownership.{party_of, end}
-use Rattle.queue_certificates.specs.OwnedRuns.{View, AllCounts, number_seen, OpenQueues, IsCertified, LoadsAreOwned, Beside}
+use Rattle.queue_certificates.specs.OwnedRuns.{View, AllCounts, OpenQueues, IsCertified, LoadsAreOwned, Beside}
 use Rattle.queue_certificates.specs.RecordFields.{Field, MeetsField}
 use Rattle.slots_that_tell.specs.Slots.{tag_of}
 use Rattle.slots_that_tell.specs.Telling.{owned_end}

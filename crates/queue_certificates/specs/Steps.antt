@@ -24,7 +24,8 @@ use Rattle.queue_certificates.specs.declared.own.OwnWord.{OwnWord}
 use Rattle.queue_certificates.specs.Forms.{Form, number, first_variable, plus, times, remainder, remainder_word, lifted, is_same, most, fits_in, Bounds, minus}
 use Rattle.queue_certificates.specs.States.{KnownValue, any, linear, index_for, signed_for, ends_as, has_bits, Share, no_share, KnownState, value_by}
 use Rattle.queue_certificates.specs.States.{share_by, state_by, scaled, plain, is_within, word_at}
-use Rattle.queue_certificates.specs.Results.{Result, just, exactly, or_up_to, as_number, bounds, sum_of, counting, of_immediate, of_shift, of_registers, is_branch_taken}
+use Rattle.queue_certificates.specs.Results.{Result, just, exactly, or_up_to, as_number, bounds, sum_of, counting}
+use Rattle.queue_certificates.specs.Results.{of_immediate, of_shift, of_registers, is_branch_taken}
 
 -- at each number below n; and the last number below n at which it is so
 abbrev pub all_below : ℕ → (ℕ → Bool) → Bool
