@@ -40,4 +40,5 @@ pub mod Certified
 pub mod EveryRun
 pub mod OneSlotQueue
 mod OneSlotNumbers
+mod OneSlotReads
 pub mod OneSlotTags
