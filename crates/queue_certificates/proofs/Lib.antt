@@ -40,5 +40,4 @@ pub mod Certified
 pub mod EveryRun
 pub mod OneSlotQueue
 mod OneSlotNumbers
-mod OneSlotReads
 pub mod OneSlotTags

@@ -122,7 +122,7 @@ LoadsOwned q p c (exchange a old new) = OwnsSlotsOf q p c a 4
 LoadsOwned q p c other = Unit {0}
 
 -- the party's hart loads no byte of a slot that it doesn't own
--- only conclusions cite it: proofs/OneSlotReads.antt has it by hand
+-- only conclusions cite it: proofs/OneSlotQueue.antt has it by hand
 abbrev pub ReadsOwned : Queue → Party → QueueCounts → List Entry → Type 0
 ReadsOwned q p c [] = Unit {0}
 ReadsOwned q p c (e ∷ es) = (hart_of e ≡ hart q p → LoadsOwned q p c (access_of e)) × ReadsOwned q p (counts_next q c e) es
