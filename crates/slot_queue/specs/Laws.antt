@@ -31,8 +31,8 @@ LeavesSlotsAt q h es = (k x : ℕ) → IsByteOf q k x → LeavesByteAt h x es
 abbrev pub slot_record : Queue → OpeningValue → List Entry → (h k : ℕ) → ℕ
 slot_record q o es h k = read o es h (slot_of q k) q.width
 
--- the records past which a party moves its count, each as a load of its hart just before would read it: those that the sender publishes, and
--- those that the receiver takes
+-- The records past which a party moves its count, each as a load of its hart just before would read it: those that the sender publishes, and
+-- those that the receiver takes. Only conclusions cite these three: proofs/ByHand.antt has them of a run, by hand
 abbrev pub records_by : Queue → Party → OpeningValue → QueueCounts → (before es : List Entry) → List ℕ
 records_by q p o c before es = records_passed (counts_next q) (count p) (λ front e k. slot_record q o front (hart q p) k) c before es
 
