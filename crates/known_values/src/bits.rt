@@ -87,7 +87,7 @@ pub fn or_of(alloc: Global, left: &KnownValue, right: &KnownValue) -> KnownValue
 }
 
 /// The bits that are known of a word of which a mask keeps some: all those beside it are 0.
-pub(crate) fn known_beside(known: u32, mask: u32) -> u32
+pub fn known_beside(known: u32, mask: u32) -> u32
     ensures { result ≡ bit_or known (bit_xor mask (2 ^ 32 - 1)) }
 {
     known | (mask ^ u32::MAX)

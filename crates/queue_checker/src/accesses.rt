@@ -87,26 +87,29 @@ impl LeafCheck for Sparing<'_> {
     }
 }
 
-fn touches_at(
-    alloc: Global,
-    opening: &Opening,
-    certificate: &QueueCertificate,
+/// A hart's stores to the slots of a queue, or else its loads from them.
+#[derive(Clone, Copy)]
+struct Accessing<'a> {
+    opening: &'a Opening,
+    certificate: &'a QueueCertificate,
     queue: Queue,
     stores: bool,
     hart: u32,
-    pc: u32,
-    n: u32,
-) -> Result<bool, Lack>
-    requires { n < length (part_of certificate.now hart).states }
-    ensures { IfOk result (λ may. may ≡ touches_at opening.now certificate.now queue stores hart pc n) }
+}
+
+fn touches_at(alloc: Global, accessing: &Accessing<'_>, pc: u32, n: u32) -> Result<bool, Lack>
+    requires { n < length (part_of accessing.now.certificate.now accessing.now.hart).states }
+    ensures { IfOk result (λ may. may ≡ touches_at accessing.now.opening.now accessing.now.certificate.now accessing.now.queue accessing.now.stores
+        accessing.now.hart pc n) }
 {
+    let (certificate, hart) = (accessing.certificate, accessing.hart);
     let listed = &listed_states(certificate, hart)[n as usize];
     if listed.known.pc == pc {
         let sparing = Sparing {
             certificate,
-            queue,
-            stores,
-            code: code_of(opening, hart),
+            queue: accessing.queue,
+            stores: accessing.stores,
+            code: code_of(accessing.opening, hart),
         };
         let spares = each_leaf(alloc, &sparing, &listed.known, &listed.cases)?;
         Ok(!spares)
@@ -116,21 +119,13 @@ fn touches_at(
 }
 
 /// Whether the hart's instruction at a pc may in some state.
-fn any_touches(
-    alloc: Global,
-    opening: &Opening,
-    certificate: &QueueCertificate,
-    queue: Queue,
-    stores: bool,
-    hart: u32,
-    pc: u32,
-) -> Result<bool, Lack>
-    ensures { IfOk result (λ may. may ≡ any_below (length (part_of certificate.now hart).states) (touches_at opening.now certificate.now queue stores
-        hart pc)) }
+fn any_touches(alloc: Global, accessing: &Accessing<'_>, pc: u32) -> Result<bool, Lack>
+    ensures { IfOk result (λ may. may ≡ any_below (length (part_of accessing.now.certificate.now accessing.now.hart).states)
+        (touches_at accessing.now.opening.now accessing.now.certificate.now accessing.now.queue accessing.now.stores accessing.now.hart pc)) }
 {
     let mut any = false;
-    for n in 0..small(listed_states(certificate, hart).len())? {
-        any = touches_at(alloc, opening, certificate, queue, stores, hart, pc, n)? || any;
+    for n in 0..small(listed_states(accessing.certificate, accessing.hart).len())? {
+        any = touches_at(alloc, accessing, pc, n)? || any;
     }
     Ok(any)
 }
@@ -145,8 +140,22 @@ fn access_at(
 ) -> Result<SlotAccess, Lack>
     ensures { IfOk result (λ access. access ≡ access_at opening.now certificate.now queue hart pc) }
 {
-    let stores = any_touches(alloc, opening, certificate, queue, true, hart, pc)?;
-    let loads = any_touches(alloc, opening, certificate, queue, false, hart, pc)?;
+    let storing = Accessing {
+        opening,
+        certificate,
+        queue,
+        stores: true,
+        hart,
+    };
+    let loading = Accessing {
+        opening,
+        certificate,
+        queue,
+        stores: false,
+        hart,
+    };
+    let stores = any_touches(alloc, &storing, pc)?;
+    let loads = any_touches(alloc, &loading, pc)?;
     Ok(SlotAccess {
         hart,
         pc,

@@ -1,6 +1,7 @@
 //! Certificates of queues, as `queue_certificates` defines them.
 
 use known_values::{Form, KnownValue, OpenedQueue};
+use queue_certificates::OwnWord;
 use queue_layouts::OpenedTagged;
 use std::marker::Model;
 
@@ -142,11 +143,11 @@ impl Model for ListedState {
     ghost view = { λ s. record { known = s.known; filled = s.filled.items; cases = s.cases } };
 }
 
-/// A hart's part: the addresses of words that it alone writes, the state in which it opens with the numbers of its variables, and
-/// all its states.
+/// A hart's part: the words, halves and bytes that it alone writes, the state in which it opens with the numbers of its variables,
+/// and all its states.
 #[derive(Drop)]
 pub struct HartPart {
-    pub own: Vec<u32>,
+    pub own: Vec<OwnWord>,
     pub first: u32,
     pub numbers: Vec<u64>,
     pub states: Vec<ListedState>,

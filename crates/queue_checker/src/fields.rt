@@ -8,7 +8,7 @@ ghost use Rattle.queue_certificates.specs.Fields.{field_number, keeps_numbers, f
 use crate::certificate::{KnownState, QueueCertificate};
 use crate::loads::{last_look, load_width};
 use crate::places::{anywhere, offset_at};
-use crate::sites::queue_count;
+use crate::sites::{Site, queue_count};
 use crate::slots::is_owned;
 use crate::states::{next_pc, share_in, with_result};
 use crate::steps::address_value;
@@ -154,18 +154,17 @@ fn after_field(
 
 fn load_received(
     alloc: Global,
-    certificate: &QueueCertificate,
-    hart: u32,
-    state: &KnownState,
+    site: &Site<'_>,
     op: LoadOp,
     rd: Reg,
     rs1: Reg,
     offset: i32,
     next: Successors,
 ) -> Result<Successors, Lack>
-    ensures { IfOk result (λ received. received ≡ next_received (queue_at certificate.now) (fields_at certificate.now) (length certificate.now.queues)
-        hart state.now (Some (Load op rd rs1 offset)) next) }
+    ensures { IfOk result (λ received. received ≡ next_received (queue_at site.now.certificate.now) (fields_at site.now.certificate.now)
+        (length site.now.certificate.now.queues) site.now.hart site.now.state.now (Some (Load op rd rs1 offset)) next) }
 {
+    let (certificate, hart, state) = (site.certificate, site.hart, site.state);
     let place = address_value(alloc, certificate, state, rs1, offset)?;
     let bounds = anywhere(bounds(alloc, &state.ranges, &place)?);
     let width = load_width(op);
@@ -202,7 +201,14 @@ pub(crate) fn next_received(
                 rs1,
                 offset,
             },
-        ) => load_received(alloc, certificate, hart, state, op, rd, rs1, offset, next),
+        ) => {
+            let site = Site {
+                certificate,
+                hart,
+                state,
+            };
+            load_received(alloc, &site, op, rd, rs1, offset, next)
+        }
         _ => Ok(next),
     }
 }

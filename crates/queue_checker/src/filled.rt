@@ -80,22 +80,31 @@ fn is_right_after(
     }
 }
 
+/// An effect of a sender's on its queue's slots, of which these fields are right before it, with what is known of the number that it
+/// stores.
+#[derive(Clone, Copy)]
+pub(crate) struct Sending<'a> {
+    pub ranges: &'a [Option<u64>],
+    pub queue: Queue,
+    pub fields: &'a [Field],
+    pub stored: &'a KnownValue,
+    pub slots: &'a [FilledSlot],
+    pub effect: Effect,
+}
+
 /// Whether a field is right after an effect.
 fn is_filled_after(
     alloc: Global,
-    ranges: &[Option<u64>],
-    queue: Queue,
-    fields: &[Field],
-    stored: &KnownValue,
-    slots: &[FilledSlot],
-    effect: Effect,
+    sending: &Sending<'_>,
     position: u64,
     field: u64,
 ) -> Result<bool, Lack>
-    ensures { IfOk result (λ right. right ≡ is_filled_after ranges.now queue fields.now stored.now slots.now effect position field) }
+    ensures { IfOk result (λ right. right ≡ is_filled_after sending.now.ranges.now sending.now.queue sending.now.fields.now sending.now.stored.now
+        sending.now.slots.now sending.now.effect position field) }
 {
-    let size = u64::from(queue.size);
-    match effect {
+    let size = u64::from(sending.queue.size);
+    let slots = sending.slots;
+    match sending.effect {
         Effect::Leaves => Ok(is_filled(size, slots, position, field)),
         Effect::Fills {
             position: filled,
@@ -104,7 +113,8 @@ fn is_filled_after(
         } => {
             let was = is_filled(size, slots, position, field);
             if filled == position {
-                let its = field_numbered(fields, field);
+                let its = field_numbered(sending.fields, field);
+                let (ranges, stored) = (sending.ranges, sending.stored);
                 is_right_after(alloc, ranges, stored, its, offset, width, was)
             } else {
                 Ok(was)
@@ -118,24 +128,18 @@ fn is_filled_after(
 /// Whether all these fields are.
 fn are_filled_after(
     alloc: Global,
-    ranges: &[Option<u64>],
-    queue: Queue,
-    fields: &[Field],
-    stored: &KnownValue,
-    slots: &[FilledSlot],
-    effect: Effect,
+    sending: &Sending<'_>,
     position: u64,
     mut numbers: &[u64],
 ) -> Result<bool, Lack>
-    ensures { IfOk result (λ right. right ≡ list_all (is_filled_after ranges.now queue fields.now stored.now slots.now effect position) numbers.now) }
+    ensures { IfOk result (λ right. right ≡ list_all (is_filled_after sending.now.ranges.now sending.now.queue sending.now.fields.now
+        sending.now.stored.now sending.now.slots.now sending.now.effect position) numbers.now) }
 {
     'numbers: loop {
         match numbers {
             [] => return Ok(true),
             [number, others @ ..] => {
-                if !is_filled_after(
-                    alloc, ranges, queue, fields, stored, slots, effect, position, *number,
-                )? {
+                if !is_filled_after(alloc, sending, position, *number)? {
                     return Ok(false);
                 }
                 numbers = others;
@@ -148,29 +152,15 @@ fn are_filled_after(
 pub(crate) fn are_so(
     alloc: Global,
     target: &[FilledSlot],
-    ranges: &[Option<u64>],
-    queue: Queue,
-    fields: &[Field],
-    stored: &KnownValue,
-    slots: &[FilledSlot],
-    effect: Effect,
+    sending: &Sending<'_>,
 ) -> Result<bool, Lack>
-    ensures { IfOk result (λ so. so ≡ are_so target.now (is_filled_after ranges.now queue fields.now stored.now slots.now effect)) }
+    ensures { IfOk result (λ so. so ≡ are_so target.now (is_filled_after sending.now.ranges.now sending.now.queue sending.now.fields.now
+        sending.now.stored.now sending.now.slots.now sending.now.effect)) }
 {
     let mut all = true;
     for i in 0..target.len() {
         let slot = &target[i];
-        all = are_filled_after(
-            alloc,
-            ranges,
-            queue,
-            fields,
-            stored,
-            slots,
-            effect,
-            i as u64,
-            &slot.fields,
-        )? && all;
+        all = are_filled_after(alloc, sending, i as u64, &slot.fields)? && all;
     }
     Ok(all)
 }

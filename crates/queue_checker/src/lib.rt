@@ -13,6 +13,8 @@ mod arrows;
 pub mod certificate;
 mod checking;
 #[cfg(test)]
+mod checking_own;
+#[cfg(test)]
 mod checking_tags;
 pub mod closing;
 pub mod effects;
@@ -42,6 +44,7 @@ mod tag_values;
 pub mod tagged_queues;
 mod tags;
 pub mod targets;
+mod words;
 
 pub use accesses::{SlotAccess, slot_accesses, tagged_accesses};
 pub use certificate::{

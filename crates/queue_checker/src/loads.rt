@@ -9,20 +9,22 @@ ghost use Rattle.queue_certificates.specs.Forms.{Form, number, plus, lifted};
 ghost use Rattle.queue_certificates.specs.States.{KnownState, KnownValue, Share, share_by, no_share, any, index_for};
 ghost use Rattle.queue_certificates.specs.Certificates.{queue_at, own_of};
 ghost use Rattle.queue_certificates.specs.Steps.{all_below, is_one, last_below, is_just, misses, owned_then, looked_share, is_look, is_own_index};
-ghost use Rattle.queue_certificates.specs.Steps.{is_index_below, signed_value, most_loaded, loaded, is_own_word, share_at};
+ghost use Rattle.queue_certificates.specs.Steps.{is_index_below, signed_value, most_loaded, keeps_value, loaded, is_own_word, share_at};
 ghost use Rattle.queue_certificates.specs.Steps.{word_loaded, index_loaded, value_loaded, extended_value};
 ghost use Rattle.queue_certificates.specs.Steps.{looked_word, after_look, after_load, may_load, load_by, loading};
 
 use crate::certificate::{KnownState, QueueCertificate, Share};
 use crate::places::{back_of, is_one, is_others, is_own, misses};
-use crate::sites::{own_words, queue_count};
+use crate::sites::{Site, own_words, queue_count};
 use crate::states::{
     lifted_shares, next_pc, put_share, share_in, value_in, with_result, with_shares,
 };
 use crate::successors::{Successors, not_shown, one};
+use crate::words::last_own_word;
 use known_values::forms::{first_variable, lifted, number, plus};
 use known_values::lack::{product, sum};
 use known_values::queues::queue_in;
+use known_values::ranges::{fits_in, most};
 use known_values::results::or_up_to;
 use known_values::values::{any, index_for, signed_for};
 use known_values::{Bounds, Form, Known, KnownValue, Lack, Outcome, Queue};
@@ -99,29 +101,6 @@ pub fn last_own_index(
         }
     }
     Ok(last)
-}
-
-/// Whether an access is of the word at an address, whole.
-fn is_word(address: u32, bounds: Bounds, width: u64) -> bool
-    ensures { result ≡ (is_one bounds && (bounds.low == address) && (width == 4)) }
-{
-    let one = is_one(bounds);
-    let there = bounds.low == u64::from(address);
-    let whole = width == 4;
-    one && there && whole
-}
-
-/// The last of these addresses, of words, that an access is of, whole.
-fn last_own_word(own: &[u32], bounds: Bounds, width: u64) -> Option<usize>
-    ensures { result ≡ last_below (length own.now) (λ j. is_one bounds && (bounds.low == slice_index own.now j) && (width == 4)) }
-{
-    let mut last = None;
-    for i in 0..own.len() {
-        if is_word(own[i], bounds, width) {
-            last = Some(i);
-        }
-    }
-    last
 }
 
 /// The value that an access reads, where it is no look.
@@ -220,6 +199,21 @@ fn below_or_signed(
     }
 }
 
+/// Whether a signed load surely leaves a number as it is, since its highest bit is 0.
+fn keeps_value(ranges: &[Option<u64>], op: LoadOp, value: &KnownValue) -> Result<bool, Lack>
+    ensures { (queues : ℕ → Queue) → IfOk result (λ keeps. keeps ≡ keeps_value queues ranges.now op value.now) }
+{
+    match (op, &value.known) {
+        (LoadOp::Byte, Known::Linear(form)) => {
+            Ok(fits_in(most(ranges, form)?, Some((1 << 7) - 1)))
+        }
+        (LoadOp::Half, Known::Linear(form)) => {
+            Ok(fits_in(most(ranges, form)?, Some((1 << 15) - 1)))
+        }
+        _ => Ok(false),
+    }
+}
+
 /// The most that a load leaves in a register.
 pub(crate) fn most_loaded(op: LoadOp) -> u64
     ensures { result ≡ most_loaded op }
@@ -235,13 +229,18 @@ pub(crate) fn most_loaded(op: LoadOp) -> u64
 fn loaded(
     alloc: Global,
     certificate: &QueueCertificate,
+    ranges: &[Option<u64>],
     op: LoadOp,
     value: KnownValue,
 ) -> Result<Outcome, Lack>
-    ensures { IfOk result (λ r. r ≡ loaded (queue_at certificate.now) op value) }
+    ensures { IfOk result (λ r. r ≡ loaded (queue_at certificate.now) ranges.now op value) }
 {
-    let kept = extended_value(certificate, op, value)?;
-    or_up_to(alloc, most_loaded(op), &kept)
+    if keeps_value(ranges, op, &value)? {
+        or_up_to(alloc, most_loaded(op), &value)
+    } else {
+        let left = extended_value(certificate, op, value)?;
+        or_up_to(alloc, most_loaded(op), &left)
+    }
 }
 
 fn owned_then(alloc: Global, share: &Share) -> Result<Form, Lack>
@@ -301,17 +300,15 @@ fn looked_shares(alloc: Global, shares: &[Share], i: u32, share: &Share) -> Resu
 /// The state after a look at queue `i`'s index.
 fn after_look(
     alloc: Global,
-    certificate: &QueueCertificate,
-    hart: u32,
-    state: &KnownState,
+    site: &Site<'_>,
     op: LoadOp,
     rd: u8,
     i: u32,
     share: &Share,
 ) -> Result<KnownState, Lack>
-    ensures { IfOk result (λ s. s ≡ after_look (queue_at certificate.now) hart
-        state.now op rd i share.now) }
+    ensures { IfOk result (λ s. s ≡ after_look (queue_at site.now.certificate.now) site.now.hart site.now.state.now op rd i share.now) }
 {
+    let (certificate, hart, state) = (site.certificate, site.hart, site.state);
     let word = looked_word(alloc, certificate, hart, i, share)?;
     let value = extended_value(certificate, op, word)?;
     let most = most_more(queue_in(&certificate.queues, i), share);
@@ -322,26 +319,25 @@ fn after_look(
 
 fn after_load(
     alloc: Global,
-    certificate: &QueueCertificate,
-    hart: u32,
-    state: &KnownState,
+    site: &Site<'_>,
     op: LoadOp,
     rd: u8,
     bounds: Bounds,
     look: Option<u32>,
 ) -> Result<KnownState, Lack>
-    ensures { IfOk result (λ s. s ≡ after_load (queue_at certificate.now) (length certificate.now.queues) (own_of certificate.now) hart state.now op
-        rd bounds look) }
+    ensures { IfOk result (λ s. s ≡ after_load (queue_at site.now.certificate.now) (length site.now.certificate.now.queues)
+        (own_of site.now.certificate.now) site.now.hart site.now.state.now op rd bounds look) }
 {
+    let (certificate, state) = (site.certificate, site.state);
     match look {
         None => {
-            let value = value_loaded(alloc, certificate, hart, state, bounds, load_width(op))?;
-            let outcome = loaded(alloc, certificate, op, value)?;
+            let value = value_loaded(alloc, certificate, site.hart, state, bounds, load_width(op))?;
+            let outcome = loaded(alloc, certificate, &state.ranges, op, value)?;
             with_result(alloc, state, rd, next_pc(state.pc), outcome)
         }
         Some(i) => {
             let share = share_in(alloc, &state.shares, i as usize)?;
-            after_look(alloc, certificate, hart, state, op, rd, i, &share)
+            after_look(alloc, site, op, rd, i, &share)
         }
     }
 }
@@ -387,23 +383,19 @@ pub(crate) fn may_load(
 /// The states that may follow a load.
 pub(crate) fn loading(
     alloc: Global,
-    certificate: &QueueCertificate,
-    hart: u32,
-    state: &KnownState,
+    site: &Site<'_>,
     op: LoadOp,
     rd: u8,
     bounds: Bounds,
 ) -> Result<Successors, Lack>
-    ensures { IfOk result (λ next. next ≡ loading (queue_at certificate.now) (length certificate.now.queues) (own_of certificate.now) hart state.now
-        op rd bounds) }
+    ensures { IfOk result (λ next. next ≡ loading (queue_at site.now.certificate.now) (length site.now.certificate.now.queues)
+        (own_of site.now.certificate.now) site.now.hart site.now.state.now op rd bounds) }
 {
+    let (certificate, hart, state) = (site.certificate, site.hart, site.state);
     let width = load_width(op);
     let look = last_look(certificate, hart, bounds, width)?;
     if may_load(certificate, hart, state, bounds, width, look)? {
-        one(
-            alloc,
-            after_load(alloc, certificate, hart, state, op, rd, bounds, look)?,
-        )
+        one(alloc, after_load(alloc, site, op, rd, bounds, look)?)
     } else {
         Ok(not_shown(alloc))
     }

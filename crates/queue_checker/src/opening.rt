@@ -5,8 +5,7 @@ ghost use Rattle.memory.specs.Writes.{byte_of, joined};
 ghost use Rattle.step_machine.specs.Entries.{opening_byte};
 ghost use Rattle.slot_queue.specs.Queues.{index_word};
 ghost use Rattle.slot_queue.specs.Ownership.{party_of};
-ghost use Rattle.queue_certificates.specs.OwnedRuns.{number_seen};
-ghost use Rattle.queue_certificates.specs.States.{any, no_share};
+ghost use Rattle.queue_certificates.specs.States.{any, no_share, word_at, own_number};
 ghost use Rattle.queue_certificates.specs.Steps.{all_below};
 ghost use Rattle.queue_certificates.specs.Certificates.{queue_at, start_at, own_of, part_of, state_at, no_queue};
 ghost use Rattle.queue_certificates.specs.Certificates.{is_value, is_at_most, are_in_ranges, opens_share, opens_in, opens_unfilled, opens_all_told};
@@ -23,6 +22,7 @@ use known_values::lack::{product, remainder_by, sum};
 use known_values::queues::queue_in;
 use known_values::values::signed_word;
 use known_values::{Known, KnownValue, Lack, OpenedQueue, Queue};
+use queue_certificates::OwnWord;
 use std::alloc::Global;
 use step_machine::{HartOpening, Opening};
 
@@ -200,19 +200,14 @@ fn is_own_word(
     numbers: &[u64],
     values: &[KnownValue],
     words: &[u32],
-    address: u32,
+    own: OwnWord,
     i: usize,
 ) -> Result<bool, Lack>
-    ensures { IfOk result (λ same. same ≡ is_value (queue_in queues.now) numbers.now (get_or values.now i any) (number_seen (byte_of words.now)
-        address 4)) }
+    ensures { IfOk result (λ same. same ≡ is_value (queue_in queues.now) numbers.now (get_or values.now i any) (own_number (byte_of words.now) own)) }
 {
     let value = value_in(alloc, values, i)?;
-    is_value(
-        queues,
-        numbers,
-        &value,
-        number_at(words, u64::from(address), 4)?,
-    )
+    let number = number_at(words, u64::from(own.at), own.width)?;
+    is_value(queues, numbers, &value, number)
 }
 
 fn are_own_words(
@@ -221,10 +216,10 @@ fn are_own_words(
     numbers: &[u64],
     values: &[KnownValue],
     words: &[u32],
-    own: &[u32],
+    own: &[OwnWord],
 ) -> Result<bool, Lack>
     ensures { IfOk result (λ same. same ≡ all_below (length own.now) (λ j. is_value (queue_in queues.now) numbers.now (get_or values.now j any)
-        (number_seen (byte_of words.now) (slice_index own.now j) 4))) }
+        (own_number (byte_of words.now) (word_at own.now j)))) }
 {
     let mut all = true;
     for j in 0..own.len() {

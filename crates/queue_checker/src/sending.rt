@@ -10,10 +10,10 @@ ghost use Rattle.queue_certificates.specs.Certificates.{keeps_fields, keeps_all_
 
 use crate::certificate::{Arrow, Filled, FilledSlot, KnownState, ListedState, QueueCertificate};
 use crate::effects::{effect_of, value_stored};
-use crate::filled::{are_so, filled_in, may_send, says_nothing};
+use crate::filled::{Sending, are_so, filled_in, may_send, says_nothing};
 use crate::leaves::{LeafCheck, each_leaf};
 use crate::places::misses_slots;
-use crate::sites::{listed_states, queue_count};
+use crate::sites::{Site, listed_states, queue_count};
 use crate::steps::instruction_at;
 use crate::targets::store_target;
 use known_values::queues::{fields_in, queue_in};
@@ -58,19 +58,14 @@ fn target_fills(
     certificate: &QueueCertificate,
     hart: u32,
     i: u32,
-    ranges: &[Option<u64>],
-    stored: &KnownValue,
-    slots: &[FilledSlot],
-    effect: Effect,
+    sending: &Sending<'_>,
     n: u32,
 ) -> Result<bool, Lack>
-    ensures { IfOk result (λ fills. fills ≡ are_so (get_or (state_at certificate.now hart n).filled i []) (is_filled_after ranges.now (queue_at
-        certificate.now i) (fields_at certificate.now i) stored.now slots.now effect)) }
+    ensures { IfOk result (λ fills. fills ≡ are_so (get_or (state_at certificate.now hart n).filled i [])
+        (is_filled_after sending.now.ranges.now sending.now.queue sending.now.fields.now sending.now.stored.now sending.now.slots.now
+        sending.now.effect)) }
 {
-    let target = filled_at(certificate, hart, n, i);
-    let queue = queue_in(&certificate.queues, i);
-    let fields = fields_in(&certificate.queues, i);
-    are_so(alloc, target, ranges, queue, fields, stored, slots, effect)
+    are_so(alloc, filled_at(certificate, hart, n, i), sending)
 }
 
 /// Whether all that each arrow's state says to be right is so after an effect.
@@ -79,31 +74,19 @@ fn arrows_fill(
     certificate: &QueueCertificate,
     hart: u32,
     i: u32,
-    ranges: &[Option<u64>],
-    stored: &KnownValue,
-    slots: &[FilledSlot],
-    effect: Effect,
+    sending: &Sending<'_>,
     mut arrows: &[Arrow],
 ) -> Result<bool, Lack>
-    ensures { IfOk result (λ fill. fill ≡ arrows_fill certificate.now hart i arrows.now (is_filled_after ranges.now (queue_at certificate.now i)
-        (fields_at certificate.now i) stored.now slots.now effect)) }
+    ensures { IfOk result (λ fill. fill ≡ arrows_fill certificate.now hart i arrows.now
+        (is_filled_after sending.now.ranges.now sending.now.queue sending.now.fields.now sending.now.stored.now sending.now.slots.now
+        sending.now.effect)) }
 {
     'arrows: loop {
         match arrows {
             [] => return Ok(true),
             [arrow, others @ ..] => {
                 let to = arrow.to;
-                if !target_fills(
-                    alloc,
-                    certificate,
-                    hart,
-                    i,
-                    ranges,
-                    stored,
-                    slots,
-                    effect,
-                    to,
-                )? {
+                if !target_fills(alloc, certificate, hart, i, sending, to)? {
                     return Ok(false);
                 }
                 arrows = others;
@@ -115,34 +98,32 @@ fn arrows_fill(
 /// Whether an effect of the sender's is allowed, and leads into states that say what is so.
 fn effect_sends(
     alloc: Global,
-    certificate: &QueueCertificate,
-    hart: u32,
+    site: &Site<'_>,
     i: u32,
     slots: &[FilledSlot],
-    state: &KnownState,
     arrows: &[Arrow],
     stored: &KnownValue,
     effect: Option<Effect>,
 ) -> Result<bool, Lack>
-    ensures { IfOk result (λ sends. sends ≡ effect_sends certificate.now hart i slots.now state.now arrows.now stored.now effect) }
+    ensures { IfOk result (λ sends. sends ≡ effect_sends site.now.certificate.now site.now.hart i slots.now site.now.state.now arrows.now stored.now
+        effect) }
 {
+    let (certificate, hart) = (site.certificate, site.hart);
     match effect {
         None => Ok(false),
         Some(effect) => {
-            let size = u64::from(queue_in(&certificate.queues, i).size);
-            let may = may_send(size, fields_in(&certificate.queues, i), slots, effect);
-            let ranges = &state.ranges;
-            let fill = arrows_fill(
-                alloc,
-                certificate,
-                hart,
-                i,
-                ranges,
+            let queue = queue_in(&certificate.queues, i);
+            let fields = fields_in(&certificate.queues, i);
+            let sending = Sending {
+                ranges: &site.state.ranges,
+                queue,
+                fields,
                 stored,
                 slots,
                 effect,
-                arrows,
-            )?;
+            };
+            let may = may_send(u64::from(queue.size), fields, slots, effect);
+            let fill = arrows_fill(alloc, certificate, hart, i, &sending, arrows)?;
             Ok(may && fill)
         }
     }
@@ -151,34 +132,23 @@ fn effect_sends(
 /// Whether a case of a state keeps what is said of queue `i`'s records.
 fn keeps_records(
     alloc: Global,
-    certificate: &QueueCertificate,
-    hart: u32,
+    site: &Site<'_>,
     i: u32,
     slots: &[FilledSlot],
-    state: &KnownState,
     handed: &Form,
     arrows: &[Arrow],
     instruction: Option<Instr>,
 ) -> Result<bool, Lack>
-    ensures { IfOk result (λ keeps. keeps ≡ keeps_records certificate.now hart i (party_of (queue_at certificate.now i) hart) slots.now state.now
-        handed.now arrows.now instruction) }
+    ensures { IfOk result (λ keeps. keeps ≡ keeps_records site.now.certificate.now site.now.hart i (party_of (queue_at site.now.certificate.now i)
+        site.now.hart) slots.now site.now.state.now handed.now arrows.now instruction) }
 {
+    let (certificate, state) = (site.certificate, site.state);
     let queue = queue_in(&certificate.queues, i);
-    if hart == queue.sender {
+    if site.hart == queue.sender {
         let stored = value_stored(alloc, certificate, state, instruction)?;
         let effect = effect_of(alloc, certificate, i, state, handed, instruction)?;
-        effect_sends(
-            alloc,
-            certificate,
-            hart,
-            i,
-            slots,
-            state,
-            arrows,
-            &stored,
-            effect,
-        )
-    } else if hart == queue.receiver {
+        effect_sends(alloc, site, i, slots, arrows, &stored, effect)
+    } else if site.hart == queue.receiver {
         leaves_slots(alloc, certificate, i, state, instruction)
     } else {
         Ok(true)
@@ -207,17 +177,13 @@ impl LeafCheck for Keeping<'_> {
         arrows: &[Arrow],
     ) -> Result<bool, Lack> {
         let instruction = instruction_at(self.code, state.pc);
-        keeps_records(
-            alloc,
-            self.certificate,
-            self.hart,
-            self.queue,
-            self.slots,
+        let site = Site {
+            certificate: self.certificate,
+            hart: self.hart,
             state,
-            handed,
-            arrows,
-            instruction,
-        )
+        };
+        let (i, slots) = (self.queue, self.slots);
+        keeps_records(alloc, &site, i, slots, handed, arrows, instruction)
     }
 }
 

@@ -3,8 +3,17 @@
 ghost use Rattle.std.specs.Prelude.{◌≡◌, ◌+◌, IfOk, length};
 ghost use Rattle.queue_certificates.specs.Certificates.{own_of, part_of};
 
-use crate::certificate::{ListedState, QueueCertificate};
+use crate::certificate::{KnownState, ListedState, QueueCertificate};
 use known_values::Lack;
+use queue_certificates::OwnWord;
+
+/// Where a hart stands: in this state of a certificate.
+#[derive(Clone, Copy)]
+pub(crate) struct Site<'a> {
+    pub certificate: &'a QueueCertificate,
+    pub hart: u32,
+    pub state: &'a KnownState,
+}
 
 /// A count as a number; that there are more is a lack.
 pub fn small(count: usize) -> Result<u32, Lack>
@@ -27,8 +36,8 @@ pub(crate) fn queue_count(certificate: &QueueCertificate) -> Result<u32, Lack>
     small(certificate.queues.len())
 }
 
-/// The addresses of the hart's own words; none, if there are fewer harts.
-pub(crate) fn own_words(certificate: &QueueCertificate, hart: u32) -> &[u32]
+/// The hart's own words; none, if there are fewer harts.
+pub(crate) fn own_words(certificate: &QueueCertificate, hart: u32) -> &[OwnWord]
     ensures { result.now ≡ own_of certificate.now hart }
 {
     match certificate.harts.get(hart as usize) {

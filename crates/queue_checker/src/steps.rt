@@ -10,10 +10,12 @@ ghost use Rattle.queue_certificates.specs.Steps.{address_value, addresses, opera
 
 use crate::certificate::{KnownState, QueueCertificate};
 use crate::loads::{load_width, loading};
-use crate::places::anywhere;
+use crate::sites::Site;
 use crate::states::{called, copied_state, going_to, next_pc, value_in, with_result, with_value};
-use crate::stores::{exchanging, storable, store_width, storing};
+use crate::stores::{Exchange, exchanging, store_width, storing};
 use crate::successors::{Successors, none, not_shown, one, two};
+use crate::targets::accessed;
+use crate::words::storable;
 use known_values::forms::number;
 use known_values::lack::{product, sum};
 use known_values::numbers::{as_number, bounds};
@@ -224,83 +226,63 @@ fn jumping(
 
 fn follow_load(
     alloc: Global,
-    certificate: &QueueCertificate,
-    hart: u32,
-    state: &KnownState,
+    site: &Site<'_>,
     op: LoadOp,
     rd: Reg,
     rs1: Reg,
     offset: i32,
 ) -> Result<Successors, Lack>
-    ensures { IfOk result (λ next. next ≡ loading (queue_at certificate.now) (length certificate.now.queues) (own_of certificate.now) hart state.now
-        op rd.number (addresses (queue_at certificate.now) state.now rs1 offset)) }
+    ensures { IfOk result (λ next. next ≡ loading (queue_at site.now.certificate.now) (length site.now.certificate.now.queues) (own_of site.now.certificate.now)
+        site.now.hart site.now.state.now op rd.number (addresses (queue_at site.now.certificate.now) site.now.state.now rs1 offset)) }
 {
-    let place = address_value(alloc, certificate, state, rs1, offset)?;
-    let bounds = anywhere(bounds(alloc, &state.ranges, &place)?);
-    loading(alloc, certificate, hart, state, op, rd.number, bounds)
+    let (certificate, state) = (site.certificate, site.state);
+    let target = accessed(alloc, certificate, state, rs1, offset, load_width(op))?;
+    loading(alloc, site, op, rd.number, target.bounds)
 }
 
 fn follow_store(
     alloc: Global,
-    certificate: &QueueCertificate,
-    hart: u32,
-    state: &KnownState,
+    site: &Site<'_>,
     handed: &Form,
     op: StoreOp,
     rs1: Reg,
     rs2: Reg,
     offset: i32,
 ) -> Result<Successors, Lack>
-    ensures { IfOk result (λ next. next ≡ storing (queue_at certificate.now) (length certificate.now.queues) (own_of certificate.now) (length
-        certificate.now.harts) hart state.now handed.now (store_width op) (register_at state.now rs2) (address_value (queue_at certificate.now) state.now rs1
-        offset) (addresses (queue_at certificate.now) state.now rs1 offset)) }
+    ensures { IfOk result (λ next. next ≡ storing (queue_at site.now.certificate.now) (length site.now.certificate.now.queues) (own_of site.now.certificate.now)
+        (length site.now.certificate.now.harts) site.now.hart site.now.state.now handed.now (store_width op)
+        (register_at site.now.state.now rs2) (address_value (queue_at site.now.certificate.now) site.now.state.now rs1 offset)
+        (addresses (queue_at site.now.certificate.now) site.now.state.now rs1 offset)) }
 {
-    let place = address_value(alloc, certificate, state, rs1, offset)?;
-    let bounds = anywhere(bounds(alloc, &state.ranges, &place)?);
+    let (certificate, state) = (site.certificate, site.state);
+    let target = accessed(alloc, certificate, state, rs1, offset, store_width(op))?;
     let value = register_at(alloc, state, rs2)?;
-    storing(
-        alloc,
-        certificate,
-        hart,
-        state,
-        handed,
-        store_width(op),
-        &value,
-        &place,
-        bounds,
-    )
+    storing(alloc, site, handed, &value, &target)
 }
 
 fn follow_amo(
     alloc: Global,
-    certificate: &QueueCertificate,
-    hart: u32,
-    state: &KnownState,
+    site: &Site<'_>,
     handed: &Form,
     op: AmoOp,
     rd: Reg,
     rs1: Reg,
     rs2: Reg,
 ) -> Result<Successors, Lack>
-    ensures { IfOk result (λ next. next ≡ exchanging (queue_at certificate.now) (length certificate.now.queues) (own_of certificate.now) (length
-        certificate.now.harts) hart state.now handed.now op rd.number (register_at state.now rs2) (operand (queue_at certificate.now) state.now rs1) (bounds
-        state.now.ranges (operand (queue_at certificate.now) state.now rs1))) }
+    ensures { IfOk result (λ next. next ≡ exchanging (queue_at site.now.certificate.now) (length site.now.certificate.now.queues) (own_of
+        site.now.certificate.now) (length site.now.certificate.now.harts) site.now.hart site.now.state.now handed.now op rd.number (register_at
+        site.now.state.now rs2) (operand (queue_at site.now.certificate.now) site.now.state.now rs1) (bounds site.now.state.now.ranges (operand
+        (queue_at site.now.certificate.now) site.now.state.now rs1))) }
 {
-    let place = operand(alloc, certificate, state, rs1)?;
+    let state = site.state;
+    let place = operand(alloc, site.certificate, state, rs1)?;
     let bounds = bounds(alloc, &state.ranges, &place)?;
-    let with = register_at(alloc, state, rs2)?;
-    exchanging(
-        alloc,
-        certificate,
-        hart,
-        state,
-        handed,
+    let amo = Exchange {
         op,
-        rd.number,
-        &with,
-        &place,
-        bounds,
-    )
+        rd: rd.number,
+        with: register_at(alloc, state, rs2)?,
+    };
+    exchanging(alloc, site, handed, &amo, place, bounds)
 }
 
 fn follow_upper(alloc: Global, state: &KnownState, rd: Reg, upper: u32) -> Result<Successors, Lack>
@@ -455,7 +437,6 @@ fn operation_result(
 fn immediate_result(
     alloc: Global,
     certificate: &QueueCertificate,
-    hart: u32,
     state: &KnownState,
     op: ImmediateOp,
     value: &KnownValue,
@@ -473,20 +454,19 @@ fn immediate_result(
 
 fn follow_immediate(
     alloc: Global,
-    certificate: &QueueCertificate,
-    hart: u32,
-    state: &KnownState,
+    site: &Site<'_>,
     op: ImmediateOp,
     rd: Reg,
     rs1: Reg,
     immediate: i32,
 ) -> Result<Successors, Lack>
-    ensures { IfOk result (λ next. next ≡ Some (with_result state.now rd.number (next_pc state.now.pc)
-        (immediate_result (queue_at certificate.now) (length certificate.now.queues)
-        state.now op (operand (queue_at certificate.now) state.now rs1) immediate) ∷ [])) }
+    ensures { IfOk result (λ next. next ≡ Some (with_result site.now.state.now rd.number (next_pc site.now.state.now.pc)
+        (immediate_result (queue_at site.now.certificate.now) (length site.now.certificate.now.queues)
+        site.now.state.now op (operand (queue_at site.now.certificate.now) site.now.state.now rs1) immediate) ∷ [])) }
 {
+    let (certificate, state) = (site.certificate, site.state);
     let value = operand(alloc, certificate, state, rs1)?;
-    let outcome = immediate_result(alloc, certificate, hart, state, op, &value, immediate)?;
+    let outcome = immediate_result(alloc, certificate, state, op, &value, immediate)?;
     one(
         alloc,
         with_result(alloc, state, rd.number, next_pc(state.pc), outcome)?,
@@ -583,6 +563,11 @@ pub(crate) fn follow(
     let Some(instruction) = instruction else {
         return Ok(none(alloc));
     };
+    let site = Site {
+        certificate,
+        hart,
+        state,
+    };
     match instruction {
         Instr::Lui { rd, upper } => follow_upper(alloc, state, rd, upper),
         Instr::Auipc { rd, upper } => follow_upper_pc(alloc, state, rd, upper),
@@ -601,31 +586,19 @@ pub(crate) fn follow(
             rd,
             rs1,
             offset,
-        } => { follow_load(alloc, certificate, hart, state, op, rd, rs1, offset) }
+        } => { follow_load(alloc, &site, op, rd, rs1, offset) }
         Instr::Store {
             op,
             rs1,
             rs2,
             offset,
-        } => {
-            follow_store(
-                alloc,
-                certificate,
-                hart,
-                state,
-                handed,
-                op,
-                rs1,
-                rs2,
-                offset,
-            )
-        }
+        } => { follow_store(alloc, &site, handed, op, rs1, rs2, offset) }
         Instr::Immediate {
             op,
             rd,
             rs1,
             immediate,
-        } => { follow_immediate(alloc, certificate, hart, state, op, rd, rs1, immediate) }
+        } => { follow_immediate(alloc, &site, op, rd, rs1, immediate) }
         Instr::Shift {
             op,
             rd,
@@ -646,6 +619,6 @@ pub(crate) fn follow(
             rs1,
             rs2,
             ..
-        } => { follow_amo(alloc, certificate, hart, state, handed, op, rd, rs1, rs2) }
+        } => { follow_amo(alloc, &site, handed, op, rd, rs1, rs2) }
     }
 }

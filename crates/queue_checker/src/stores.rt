@@ -1,25 +1,27 @@
 //! Stores and AMOs: which a party may make, and the state after one.
 
-ghost use Rattle.std.specs.Prelude.{◌≡◌, ◌+◌, ◌-◌, ◌++◌, ◌^◌, ◌||◌, ◌&&◌, ℕ, List, Some, None, IfOk, length, map, set, get_or, slice_index};
+ghost use Rattle.std.specs.Prelude.{◌≡◌, ◌+◌, ◌-◌, ◌++◌, ◌^◌, ◌||◌, ◌&&◌, ℕ, List, Some, None, IfOk, length, map, set, get_or};
 ghost use Rattle.hart.specs.Effects.{next_pc, store_width};
 ghost use Rattle.slot_queue.specs.Ownership.{party_of};
 ghost use Rattle.slot_queue.specs.Queues.{Queue};
 ghost use Rattle.queue_certificates.specs.States.{no_share, linear, index_for, is_within, plain};
 ghost use Rattle.queue_certificates.specs.Results.{sum_of};
 ghost use Rattle.queue_certificates.specs.Certificates.{queue_at, own_of};
-ghost use Rattle.queue_certificates.specs.Steps.{all_below, is_cut, moved_share, may_move, may_fill, may_store, is_apart, leaves_words, storable};
-ghost use Rattle.queue_certificates.specs.Steps.{word_then, words_then, shares_moved, after_store, storing, updated_value, after_exchange, exchanging, misses};
+ghost use Rattle.queue_certificates.specs.Steps.{all_below, last_below, is_own_index, is_cut, moved_share, may_move, may_fill, may_store, leaves_words};
+ghost use Rattle.queue_certificates.specs.Steps.{words_then, shares_moved, after_store, storing, updated_value, after_exchange, exchanging, misses};
 ghost use Rattle.queue_certificates.specs.Steps.{value_loaded, exchange_by};
 
 use crate::certificate::{KnownState, QueueCertificate, Share};
 use crate::loads::{last_own_index, value_loaded};
-use crate::places::{is_apart, is_off, is_one, misses};
-use crate::sites::{own_words, queue_count, small};
+use crate::places::{is_off, misses};
+use crate::sites::{Site, queue_count};
 use crate::slots::is_owned;
 use crate::states::{
-    copied_shares, copied_values, going_to, next_pc, push_copies, put_share, share_in, with_result,
+    copied_shares, copied_values, going_to, next_pc, put_share, share_in, with_result,
 };
 use crate::successors::{Successors, not_shown, one};
+use crate::targets::Target;
+use crate::words::{leaves_words, words_then};
 use known_values::forms::{is_same, minus, number, plus};
 use known_values::lack::product;
 use known_values::queues::{queue_in, words_of};
@@ -124,21 +126,22 @@ fn may_move(
 }
 
 /// Whether the bytes are of a slot of queue `i` that the hart, one of its parties, owns.
-fn may_fill(
-    alloc: Global,
-    certificate: &QueueCertificate,
-    hart: u32,
-    state: &KnownState,
-    place: &KnownValue,
-    width: u64,
-    i: u32,
-) -> Result<bool, Lack>
-    ensures { IfOk result (λ may. may ≡ may_fill (queue_at certificate.now) state.now (party_of (queue_at certificate.now i) hart) place.now width i) }
+fn may_fill(alloc: Global, site: &Site<'_>, target: &Target, i: u32) -> Result<bool, Lack>
+    ensures { IfOk result (λ may. may ≡ may_fill (queue_at site.now.certificate.now) site.now.state.now (party_of (queue_at site.now.certificate.now
+        i) site.now.hart) target.now.place target.now.width i) }
 {
-    let queue = queue_in(&certificate.queues, i);
+    let (hart, state) = (site.hart, site.state);
+    let queue = queue_in(&site.certificate.queues, i);
     if hart == queue.sender || hart == queue.receiver {
         let share = share_in(alloc, &state.shares, i as usize)?;
-        is_owned(alloc, &state.ranges, queue, &share, place, width)
+        is_owned(
+            alloc,
+            &state.ranges,
+            queue,
+            &share,
+            &target.place,
+            target.width,
+        )
     } else {
         Ok(false)
     }
@@ -147,26 +150,28 @@ fn may_fill(
 /// Whether a store may be made, for queue `i`.
 fn may_store(
     alloc: Global,
-    certificate: &QueueCertificate,
-    hart: u32,
-    state: &KnownState,
+    site: &Site<'_>,
     handed: &Form,
     value: &KnownValue,
-    place: &KnownValue,
-    bounds: Bounds,
-    width: u64,
+    target: &Target,
     moves: Option<u32>,
     i: u32,
 ) -> Result<bool, Lack>
-    ensures { IfOk result (λ may. may ≡ may_store (queue_at certificate.now) hart state.now handed.now value.now place.now bounds width moves i) }
+    ensures { IfOk result (λ may. may ≡ may_store (queue_at site.now.certificate.now) site.now.hart site.now.state.now handed.now value.now
+        target.now.place target.now.bounds target.now.width moves i) }
 {
+    let (certificate, state) = (site.certificate, site.state);
     if moves == Some(i) {
         let share = share_in(alloc, &state.shares, i as usize)?;
         may_move(alloc, certificate, state, handed, value, i, &share)
-    } else if is_off(queue_in(&certificate.queues, i), bounds, width)? {
+    } else if is_off(
+        queue_in(&certificate.queues, i),
+        target.bounds,
+        target.width,
+    )? {
         Ok(true)
     } else {
-        may_fill(alloc, certificate, hart, state, place, width, i)
+        may_fill(alloc, site, target, i)
     }
 }
 
@@ -179,147 +184,21 @@ fn both(left: bool, right: bool) -> bool
 /// Whether a store may be made, for each queue.
 fn may_store_all(
     alloc: Global,
-    certificate: &QueueCertificate,
-    hart: u32,
-    state: &KnownState,
+    site: &Site<'_>,
     handed: &Form,
     value: &KnownValue,
-    place: &KnownValue,
-    bounds: Bounds,
-    width: u64,
+    target: &Target,
     moves: Option<u32>,
 ) -> Result<bool, Lack>
-    ensures { IfOk result (λ may. may ≡ all_below (length certificate.now.queues) (may_store (queue_at certificate.now) hart state.now handed.now
-        value.now place.now bounds width moves)) }
+    ensures { IfOk result (λ may. may ≡ all_below (length site.now.certificate.now.queues) (may_store (queue_at site.now.certificate.now) site.now.hart
+        site.now.state.now handed.now value.now target.now.place target.now.bounds target.now.width moves)) }
 {
     let mut all = true;
-    for i in 0..queue_count(certificate)? {
-        let may = may_store(
-            alloc,
-            certificate,
-            hart,
-            state,
-            handed,
-            value,
-            place,
-            bounds,
-            width,
-            moves,
-            i,
-        )?;
+    for i in 0..queue_count(site.certificate)? {
+        let may = may_store(alloc, site, handed, value, target, moves, i)?;
         all = both(may, all);
     }
     Ok(all)
-}
-
-/// Whether the bytes are none of the words at these addresses.
-fn are_apart(own: &[u32], bounds: Bounds, width: u64) -> Result<bool, Lack>
-    ensures { IfOk result (λ apart. apart ≡ all_below (length own.now) (λ j. is_apart bounds width (slice_index own.now j) 4)) }
-{
-    let mut all = true;
-    for j in 0..own.len() {
-        all = is_apart(bounds, width, u64::from(own[j]), 4)? && all;
-    }
-    Ok(all)
-}
-
-/// Whether the bytes are none of this hart's own words, if it is another.
-fn leaves_words_of(
-    certificate: &QueueCertificate,
-    hart: u32,
-    bounds: Bounds,
-    width: u64,
-    other: u32,
-) -> Result<bool, Lack>
-    ensures { IfOk result (λ leaves. leaves ≡ leaves_words (own_of certificate.now) hart bounds width other) }
-{
-    if other == hart {
-        Ok(true)
-    } else {
-        are_apart(own_words(certificate, other), bounds, width)
-    }
-}
-
-/// Whether the bytes are none of another hart's own words.
-fn leaves_words(
-    certificate: &QueueCertificate,
-    hart: u32,
-    bounds: Bounds,
-    width: u64,
-) -> Result<bool, Lack>
-    ensures { IfOk result (λ leaves. leaves ≡ all_below (length certificate.now.harts) (leaves_words (own_of certificate.now) hart bounds width)) }
-{
-    let mut all = true;
-    for other in 0..small(certificate.harts.len())? {
-        all = leaves_words_of(certificate, hart, bounds, width, other)? && all;
-    }
-    Ok(all)
-}
-
-/// What a word is known as that holds a number of which this is known.
-pub(crate) fn storable(
-    alloc: Global,
-    certificate: &QueueCertificate,
-    value: &KnownValue,
-) -> Result<KnownValue, Lack>
-    ensures { IfOk result (λ v. v ≡ storable (length certificate.now.queues) value.now) }
-{
-    match &value.known {
-        Known::IndexFor(i, _) if *i as usize >= certificate.queues.len() => Ok(any()),
-        Known::SignedFor(i, _) if *i as usize >= certificate.queues.len() => Ok(any()),
-        Known::EndsAs(_, _) => Ok(any()),
-        _ => value.copy(alloc),
-    }
-}
-
-/// What is known of the own word at `address` after a store of a value.
-fn word_then(
-    alloc: Global,
-    certificate: &QueueCertificate,
-    bounds: Bounds,
-    width: u64,
-    value: &KnownValue,
-    address: u32,
-    word: &KnownValue,
-) -> Result<KnownValue, Lack>
-    ensures { IfOk result (λ v. v ≡ word_then (length certificate.now.queues) bounds width value.now address word.now) }
-{
-    if is_apart(bounds, width, u64::from(address), 4)? {
-        word.copy(alloc)
-    } else if is_one(bounds) && bounds.low == u64::from(address) && width == 4 {
-        storable(alloc, certificate, value)
-    } else {
-        Ok(any())
-    }
-}
-
-/// What is known of the own words after a store of a value.
-fn words_then(
-    alloc: Global,
-    certificate: &QueueCertificate,
-    bounds: Bounds,
-    width: u64,
-    value: &KnownValue,
-    mut own: &[u32],
-    mut words: &[KnownValue],
-) -> Result<Vec<KnownValue>, Lack>
-    ensures { IfOk result (λ ws. ws.items ≡ words_then (length certificate.now.queues) bounds width value.now own.now words.now) }
-{
-    let mut out = Vec::new(alloc);
-    'words: loop {
-        match (own, words) {
-            ([], rest) => {
-                push_copies(alloc, &mut out, rest)?;
-                return Ok(out);
-            }
-            ([_first, _others @ ..], []) => return Ok(out),
-            ([address, addresses @ ..], [word, more @ ..]) => {
-                out.push(word_then(alloc, certificate, bounds, width, value, *address, word)?)?;
-                own = addresses;
-                words = more;
-            }
-        }
-    }
 }
 
 /// The shares after as many positions as `handed` of queue `moves` are handed over.
@@ -345,22 +224,21 @@ fn shares_moved(
 /// A state with what an access that stores a value leaves in the own words and hands over.
 fn stored_state(
     alloc: Global,
-    certificate: &QueueCertificate,
-    hart: u32,
-    state: &KnownState,
+    site: &Site<'_>,
     handed: &Form,
-    width: u64,
     value: &KnownValue,
     bounds: Bounds,
+    width: u64,
     moves: Option<u32>,
 ) -> Result<KnownState, Lack>
-    ensures { IfOk result (λ s. s ≡ record state.now {
-      words = words_then (length certificate.now.queues) bounds width value.now (own_of certificate.now hart) state.now.words;
-      shares = shares_moved state.now.shares handed.now moves;
+    ensures { IfOk result (λ s. s ≡ record site.now.state.now {
+      words = words_then (queue_at site.now.certificate.now) (length site.now.certificate.now.queues) site.now.state.now.ranges bounds width value.now
+          (own_of site.now.certificate.now site.now.hart) site.now.state.now.words;
+      shares = shares_moved site.now.state.now.shares handed.now moves;
     }) }
 {
-    let own = own_words(certificate, hart);
-    let words = words_then(alloc, certificate, bounds, width, value, own, &state.words)?;
+    let state = site.state;
+    let words = words_then(alloc, site, bounds, width, value)?;
     let shares = shares_moved(alloc, &state.shares, handed, moves)?;
     let ranges = Vec::from_slice(alloc, &state.ranges)?;
     let registers = copied_values(alloc, &state.registers)?;
@@ -376,76 +254,40 @@ fn stored_state(
 /// The state after a store of a value.
 fn after_store(
     alloc: Global,
-    certificate: &QueueCertificate,
-    hart: u32,
-    state: &KnownState,
+    site: &Site<'_>,
     handed: &Form,
-    width: u64,
     value: &KnownValue,
     bounds: Bounds,
+    width: u64,
     moves: Option<u32>,
 ) -> Result<KnownState, Lack>
-    ensures { IfOk result (λ s. s ≡ after_store (length certificate.now.queues) (own_of certificate.now) hart state.now handed.now width value.now
-        bounds moves) }
+    ensures { IfOk result (λ s. s ≡ after_store (queue_at site.now.certificate.now) (length site.now.certificate.now.queues) (own_of site.now.certificate.now)
+        site.now.hart site.now.state.now handed.now width value.now bounds moves) }
 {
-    let stored = stored_state(
-        alloc,
-        certificate,
-        hart,
-        state,
-        handed,
-        width,
-        value,
-        bounds,
-        moves,
-    )?;
-    going_to(alloc, &stored, next_pc(state.pc))
+    let stored = stored_state(alloc, site, handed, value, bounds, width, moves)?;
+    going_to(alloc, &stored, next_pc(site.state.pc))
 }
 
 /// The states that may follow a store of a value.
 pub(crate) fn storing(
     alloc: Global,
-    certificate: &QueueCertificate,
-    hart: u32,
-    state: &KnownState,
+    site: &Site<'_>,
     handed: &Form,
-    width: u64,
     value: &KnownValue,
-    place: &KnownValue,
-    bounds: Bounds,
+    target: &Target,
 ) -> Result<Successors, Lack>
-    ensures { IfOk result (λ next. next ≡ storing (queue_at certificate.now) (length certificate.now.queues) (own_of certificate.now) (length
-        certificate.now.harts) hart state.now handed.now width value.now place.now bounds) }
+    ensures { IfOk result (λ next. next ≡ storing (queue_at site.now.certificate.now) (length site.now.certificate.now.queues) (own_of site.now.certificate.now)
+        (length site.now.certificate.now.harts) site.now.hart site.now.state.now handed.now target.now.width value.now
+        target.now.place target.now.bounds) }
 {
+    let (certificate, hart) = (site.certificate, site.hart);
+    let (bounds, width) = (target.bounds, target.width);
     let moves = last_own_index(certificate, hart, bounds, width)?;
-    let may = may_store_all(
-        alloc,
-        certificate,
-        hart,
-        state,
-        handed,
-        value,
-        place,
-        bounds,
-        width,
-        moves,
-    )?;
+    let may = may_store_all(alloc, site, handed, value, target, moves)?;
     let leaves = leaves_words(certificate, hart, bounds, width)?;
     if may && leaves {
-        one(
-            alloc,
-            after_store(
-                alloc,
-                certificate,
-                hart,
-                state,
-                handed,
-                width,
-                value,
-                bounds,
-                moves,
-            )?,
-        )
+        let next = after_store(alloc, site, handed, value, bounds, width, moves)?;
+        one(alloc, next)
     } else {
         Ok(not_shown(alloc))
     }
@@ -487,30 +329,19 @@ pub(crate) fn updated_value(
 /// The state after an AMO that stores a value.
 fn after_exchange(
     alloc: Global,
-    certificate: &QueueCertificate,
-    hart: u32,
-    state: &KnownState,
+    site: &Site<'_>,
     handed: &Form,
     rd: u8,
     value: &KnownValue,
     bounds: Bounds,
     moves: Option<u32>,
 ) -> Result<KnownState, Lack>
-    ensures { IfOk result (λ s. s ≡ after_exchange (queue_at certificate.now) (length certificate.now.queues) (own_of certificate.now) hart state.now
-        handed.now rd value.now bounds moves) }
+    ensures { IfOk result (λ s. s ≡ after_exchange (queue_at site.now.certificate.now) (length site.now.certificate.now.queues) (own_of
+        site.now.certificate.now) site.now.hart site.now.state.now handed.now rd value.now bounds moves) }
 {
-    let stored = stored_state(
-        alloc,
-        certificate,
-        hart,
-        state,
-        handed,
-        4,
-        value,
-        bounds,
-        moves,
-    )?;
-    let read = value_loaded(alloc, certificate, hart, state, bounds, 4)?;
+    let state = site.state;
+    let stored = stored_state(alloc, site, handed, value, bounds, 4, moves)?;
+    let read = value_loaded(alloc, site.certificate, site.hart, state, bounds, 4)?;
     let outcome = just(alloc, &read)?;
     with_result(alloc, &stored, rd, next_pc(state.pc), outcome)
 }
@@ -532,68 +363,58 @@ fn misses_all(
     Ok(all)
 }
 
+/// An AMO by its operation, the register that takes what it reads, and what its other register holds.
+#[derive(Drop)]
+pub(crate) struct Exchange {
+    pub op: AmoOp,
+    pub rd: u8,
+    pub with: KnownValue,
+}
+
 /// The value that an AMO on the word at these addresses stores.
 fn value_exchanged(
     alloc: Global,
-    certificate: &QueueCertificate,
-    hart: u32,
-    state: &KnownState,
+    site: &Site<'_>,
     op: AmoOp,
     with: &KnownValue,
     bounds: Bounds,
 ) -> Result<KnownValue, Lack>
-    ensures { IfOk result (λ v. v ≡ updated_value (queue_at certificate.now) state.now.ranges op (value_loaded (queue_at certificate.now) (length
-        certificate.now.queues) (own_of certificate.now) hart state.now bounds 4) with.now) }
+    ensures { IfOk result (λ v. v ≡ updated_value (queue_at site.now.certificate.now) site.now.state.now.ranges op
+        (value_loaded (queue_at site.now.certificate.now) (length site.now.certificate.now.queues) (own_of site.now.certificate.now) site.now.hart
+        site.now.state.now bounds 4) with.now) }
 {
-    let old = value_loaded(alloc, certificate, hart, state, bounds, 4)?;
+    let (certificate, state) = (site.certificate, site.state);
+    let old = value_loaded(alloc, certificate, site.hart, state, bounds, 4)?;
     updated_value(alloc, certificate, &state.ranges, op, &old, with)
 }
 
 /// The states that may follow an AMO that stores a value to the word at these addresses.
 fn exchange_by(
     alloc: Global,
-    certificate: &QueueCertificate,
-    hart: u32,
-    state: &KnownState,
+    site: &Site<'_>,
     handed: &Form,
     rd: u8,
     value: &KnownValue,
-    place: &KnownValue,
+    place: KnownValue,
     bounds: Bounds,
-    moves: Option<u32>,
 ) -> Result<Successors, Lack>
-    ensures { IfOk result (λ next. next ≡ exchange_by (queue_at certificate.now) (length certificate.now.queues) (own_of certificate.now) (length
-        certificate.now.harts) hart state.now handed.now rd value.now place.now bounds moves) }
+    ensures { IfOk result (λ next. next ≡ exchange_by (queue_at site.now.certificate.now) (length site.now.certificate.now.queues) (own_of
+        site.now.certificate.now) (length site.now.certificate.now.harts) site.now.hart site.now.state.now handed.now rd value.now place bounds
+        (last_below (length site.now.certificate.now.queues) (is_own_index (queue_at site.now.certificate.now) site.now.hart bounds 4))) }
 {
-    let may = may_store_all(
-        alloc,
-        certificate,
-        hart,
-        state,
-        handed,
-        value,
+    let (certificate, hart) = (site.certificate, site.hart);
+    let moves = last_own_index(certificate, hart, bounds, 4)?;
+    let target = Target {
         place,
         bounds,
-        4,
-        moves,
-    )?;
+        width: 4,
+    };
+    let may = may_store_all(alloc, site, handed, value, &target, moves)?;
     let leaves = leaves_words(certificate, hart, bounds, 4)?;
     let misses = misses_all(certificate, hart, bounds, 4)?;
     if may && leaves && misses {
-        one(
-            alloc,
-            after_exchange(
-                alloc,
-                certificate,
-                hart,
-                state,
-                handed,
-                rd,
-                value,
-                bounds,
-                moves,
-            )?,
-        )
+        let next = after_exchange(alloc, site, handed, rd, value, bounds, moves)?;
+        one(alloc, next)
     } else {
         Ok(not_shown(alloc))
     }
@@ -602,66 +423,35 @@ fn exchange_by(
 /// The states that may follow an AMO on the word at these addresses.
 fn exchange_at(
     alloc: Global,
-    certificate: &QueueCertificate,
-    hart: u32,
-    state: &KnownState,
+    site: &Site<'_>,
     handed: &Form,
-    op: AmoOp,
-    rd: u8,
-    with: &KnownValue,
-    place: &KnownValue,
+    amo: &Exchange,
+    place: KnownValue,
     bounds: Bounds,
 ) -> Result<Successors, Lack>
-    ensures { IfOk result (λ next. next ≡ exchanging (queue_at certificate.now) (length certificate.now.queues) (own_of certificate.now) (length
-        certificate.now.harts) hart state.now handed.now op rd with.now place.now (Some bounds)) }
+    ensures { IfOk result (λ next. next ≡ exchanging (queue_at site.now.certificate.now) (length site.now.certificate.now.queues) (own_of
+        site.now.certificate.now) (length site.now.certificate.now.harts) site.now.hart site.now.state.now handed.now amo.now.op amo.now.rd
+        amo.now.with place (Some bounds)) }
 {
-    let moves = last_own_index(certificate, hart, bounds, 4)?;
-    let value = value_exchanged(alloc, certificate, hart, state, op, with, bounds)?;
-    exchange_by(
-        alloc,
-        certificate,
-        hart,
-        state,
-        handed,
-        rd,
-        &value,
-        place,
-        bounds,
-        moves,
-    )
+    let value = value_exchanged(alloc, site, amo.op, &amo.with, bounds)?;
+    exchange_by(alloc, site, handed, amo.rd, &value, place, bounds)
 }
 
 /// The states that may follow an AMO.
 pub(crate) fn exchanging(
     alloc: Global,
-    certificate: &QueueCertificate,
-    hart: u32,
-    state: &KnownState,
+    site: &Site<'_>,
     handed: &Form,
-    op: AmoOp,
-    rd: u8,
-    with: &KnownValue,
-    place: &KnownValue,
+    amo: &Exchange,
+    place: KnownValue,
     bounds: Option<Bounds>,
 ) -> Result<Successors, Lack>
-    ensures { IfOk result (λ next. next ≡ exchanging (queue_at certificate.now) (length certificate.now.queues) (own_of certificate.now) (length
-        certificate.now.harts) hart state.now handed.now op rd with.now place.now bounds) }
+    ensures { IfOk result (λ next. next ≡ exchanging (queue_at site.now.certificate.now) (length site.now.certificate.now.queues) (own_of
+        site.now.certificate.now) (length site.now.certificate.now.harts) site.now.hart site.now.state.now handed.now amo.now.op amo.now.rd
+        amo.now.with place bounds) }
 {
     match bounds {
         None => Ok(not_shown(alloc)),
-        Some(bounds) => {
-            exchange_at(
-                alloc,
-                certificate,
-                hart,
-                state,
-                handed,
-                op,
-                rd,
-                with,
-                place,
-                bounds,
-            )
-        }
+        Some(bounds) => exchange_at(alloc, site, handed, amo, place, bounds),
     }
 }

@@ -11,7 +11,7 @@ ghost use Rattle.queue_layouts.specs.Sides.{the_party};
 
 use crate::certificate::{KnownState, QueueCertificate, Share};
 use crate::loads::{load_width, may_load};
-use crate::sites::{place_after, queue_count};
+use crate::sites::{Site, place_after, queue_count};
 use crate::states::{next_pc, with_result, with_share};
 use crate::successors::{Successors, not_shown, one, two};
 use crate::tag_values::{other_value, told_value};
@@ -138,18 +138,17 @@ fn after_tag(
 
 fn at_tag(
     alloc: Global,
-    certificate: &QueueCertificate,
-    hart: u32,
-    state: &KnownState,
+    site: &Site<'_>,
     op: LoadOp,
     rd: u8,
     t: u32,
     position: Option<u64>,
 ) -> Result<Successors, Lack>
-    ensures { IfOk result (λ next. next ≡ at_tag (tagged_at certificate.now) (length certificate.now.queues) state.now (party_in (tagged_at
-        certificate.now t) hart) op rd t position) }
+    ensures { IfOk result (λ next. next ≡ at_tag (tagged_at site.now.certificate.now) (length site.now.certificate.now.queues)
+        site.now.state.now (party_in (tagged_at site.now.certificate.now t) site.now.hart) op rd t position) }
 {
-    match party_in(tagged_in(&certificate.tagged, t), hart) {
+    let (certificate, state) = (site.certificate, site.state);
+    match party_in(tagged_in(&certificate.tagged, t), site.hart) {
         None => Ok(not_shown(alloc)),
         Some(party) => match position {
             None => Ok(not_shown(alloc)),
@@ -171,19 +170,19 @@ fn at_tag(
 /// The states that may follow a load of a tag of queue `t`, if it isn't of an index too.
 fn looks_at(
     alloc: Global,
-    certificate: &QueueCertificate,
-    hart: u32,
-    state: &KnownState,
+    site: &Site<'_>,
     op: LoadOp,
     rd: u8,
     target: &Target,
     t: u32,
 ) -> Result<Successors, Lack>
-    ensures { IfOk result (λ next. next ≡ (if may_load (queue_at certificate.now) (length certificate.now.queues) hart state.now target.now.bounds
-        target.now.width None then at_tag (tagged_at certificate.now) (length certificate.now.queues) state.now (party_in (tagged_at certificate.now
-        t) hart) op rd t (tag_at (tagged_at certificate.now) (length certificate.now.tagged) (length certificate.now.queues) hart state.now
-        target.now.place target.now.width t) else None)) }
+    ensures { IfOk result (λ next. next ≡ (if may_load (queue_at site.now.certificate.now) (length site.now.certificate.now.queues)
+        site.now.hart site.now.state.now target.now.bounds target.now.width None then at_tag (tagged_at site.now.certificate.now)
+        (length site.now.certificate.now.queues) site.now.state.now (party_in (tagged_at site.now.certificate.now t) site.now.hart) op rd t
+        (tag_at (tagged_at site.now.certificate.now) (length site.now.certificate.now.tagged) (length site.now.certificate.now.queues)
+        site.now.hart site.now.state.now target.now.place target.now.width t) else None)) }
 {
+    let (certificate, hart, state) = (site.certificate, site.hart, site.state);
     if may_load(certificate, hart, state, target.bounds, target.width, None)? {
         let position = tag_at(
             alloc,
@@ -194,7 +193,7 @@ fn looks_at(
             target.width,
             t,
         )?;
-        at_tag(alloc, certificate, hart, state, op, rd, t, position)
+        at_tag(alloc, site, op, rd, t, position)
     } else {
         Ok(not_shown(alloc))
     }
@@ -203,21 +202,21 @@ fn looks_at(
 /// The states that may follow a load, where these do if there were no tags.
 pub(crate) fn load_tells(
     alloc: Global,
-    certificate: &QueueCertificate,
-    hart: u32,
-    state: &KnownState,
+    site: &Site<'_>,
     op: LoadOp,
     rd: u8,
     rs1: Reg,
     offset: i32,
     states: Vec<KnownState>,
 ) -> Result<Successors, Lack>
-    ensures { IfOk result (λ next. next ≡ load_tells (tagged_at certificate.now) (length certificate.now.tagged) (queue_at certificate.now) (length
-        certificate.now.queues) (own_of certificate.now) (length certificate.now.harts) hart state.now op rd (address_value (queue_at certificate.now)
-        state.now rs1 offset) (addresses (queue_at certificate.now) state.now rs1 offset) (looked_tag (tagged_at certificate.now) (length
-        certificate.now.tagged) (length certificate.now.queues) hart state.now (address_value (queue_at certificate.now) state.now rs1 offset)
-        (load_width op)) states.items) }
+    ensures { IfOk result (λ next. next ≡ load_tells (tagged_at site.now.certificate.now) (length site.now.certificate.now.tagged) (queue_at
+        site.now.certificate.now) (length site.now.certificate.now.queues) (own_of site.now.certificate.now) (length site.now.certificate.now.harts)
+        site.now.hart site.now.state.now op rd (address_value (queue_at site.now.certificate.now) site.now.state.now rs1 offset) (addresses (queue_at
+        site.now.certificate.now) site.now.state.now rs1 offset) (looked_tag (tagged_at site.now.certificate.now) (length
+        site.now.certificate.now.tagged) (length site.now.certificate.now.queues) site.now.hart site.now.state.now (address_value (queue_at
+        site.now.certificate.now) site.now.state.now rs1 offset) (load_width op)) states.items) }
 {
+    let (certificate, hart, state) = (site.certificate, site.hart, site.state);
     let target = accessed(alloc, certificate, state, rs1, offset, load_width(op))?;
     let look = looked_tag(alloc, certificate, hart, state, &target)?;
     match look {
@@ -225,6 +224,6 @@ pub(crate) fn load_tells(
             shown: true,
             states,
         }),
-        Some(t) => looks_at(alloc, certificate, hart, state, op, rd, &target, t),
+        Some(t) => looks_at(alloc, site, op, rd, &target, t),
     }
 }

@@ -20,7 +20,7 @@ ghost use Rattle.queue_certificates.specs.Certificates.{tagged_at};
 ghost use Rattle.queue_layouts.specs.Sides.{the_party};
 
 use crate::certificate::{KnownState, QueueCertificate, Share};
-use crate::sites::{place_after, queue_count};
+use crate::sites::{Site, place_after, queue_count};
 use crate::states::{copied_state, with_share};
 use crate::successors::{Successors, not_shown};
 use crate::tag_places::{is_beside_slots, is_of_rest};
@@ -107,19 +107,19 @@ fn leaves_tags(
 /// Whether a store of a value may be made, for queue `t`.
 fn may_tell(
     alloc: Global,
-    certificate: &QueueCertificate,
-    hart: u32,
-    state: &KnownState,
+    site: &Site<'_>,
     stored: &KnownValue,
     target: &Target,
     moves: Option<u32>,
     t: u32,
 ) -> Result<bool, Lack>
-    ensures { IfOk result (λ may. may ≡ may_tell (tagged_at certificate.now) (length certificate.now.queues) state.now (party_in (tagged_at
-        certificate.now t) hart) stored.now target.now.place target.now.bounds target.now.width moves t) }
+    ensures { IfOk result (λ may. may ≡ may_tell (tagged_at site.now.certificate.now) (length site.now.certificate.now.queues)
+        site.now.state.now (party_in (tagged_at site.now.certificate.now t) site.now.hart) stored.now target.now.place target.now.bounds
+        target.now.width moves t) }
 {
+    let (certificate, state) = (site.certificate, site.state);
     let queue = tagged_in(&certificate.tagged, t);
-    match party_in(queue, hart) {
+    match party_in(queue, site.hart) {
         None => is_beside_slots(queue, target.bounds, target.width),
         Some(party) => {
             if moves == Some(t) {
@@ -134,19 +134,17 @@ fn may_tell(
 /// Whether a store of a value may be made, for each queue with tags.
 fn may_store_all(
     alloc: Global,
-    certificate: &QueueCertificate,
-    hart: u32,
-    state: &KnownState,
+    site: &Site<'_>,
     stored: &KnownValue,
     target: &Target,
     moves: Option<u32>,
 ) -> Result<bool, Lack>
-    ensures { IfOk result (λ may. may ≡ may_store_all (tagged_at certificate.now) (length certificate.now.tagged) (length certificate.now.queues) hart
-        state.now stored.now target.now.place target.now.bounds target.now.width moves) }
+    ensures { IfOk result (λ may. may ≡ may_store_all (tagged_at site.now.certificate.now) (length site.now.certificate.now.tagged) (length
+        site.now.certificate.now.queues) site.now.hart site.now.state.now stored.now target.now.place target.now.bounds target.now.width moves) }
 {
     let mut all = true;
-    for t in 0..tagged_count(certificate)? {
-        all = may_tell(alloc, certificate, hart, state, stored, target, moves, t)? && all;
+    for t in 0..tagged_count(site.certificate)? {
+        all = may_tell(alloc, site, stored, target, moves, t)? && all;
     }
     Ok(all)
 }
@@ -216,19 +214,18 @@ fn all_handed(
 /// The states that may follow a store of a value, where these do if there were no tags.
 pub(crate) fn store_tells(
     alloc: Global,
-    certificate: &QueueCertificate,
-    hart: u32,
-    state: &KnownState,
+    site: &Site<'_>,
     stored: &KnownValue,
     target: &Target,
     moves: Option<u32>,
     states: Vec<KnownState>,
 ) -> Result<Successors, Lack>
-    ensures { IfOk result (λ next. next ≡ store_tells (tagged_at certificate.now) (length certificate.now.tagged) (length certificate.now.queues) hart
-        state.now stored.now target.now.place target.now.bounds target.now.width moves states.items) }
+    ensures { IfOk result (λ next. next ≡ store_tells (tagged_at site.now.certificate.now) (length site.now.certificate.now.tagged) (length
+        site.now.certificate.now.queues) site.now.hart site.now.state.now stored.now target.now.place target.now.bounds target.now.width moves
+        states.items) }
 {
-    if may_store_all(alloc, certificate, hart, state, stored, target, moves)? {
-        let states = all_handed(alloc, certificate, state, moves, states)?;
+    if may_store_all(alloc, site, stored, target, moves)? {
+        let states = all_handed(alloc, site.certificate, site.state, moves, states)?;
         Ok(Successors {
             shown: true,
             states,

@@ -9,7 +9,7 @@ ghost use Rattle.queue_certificates.specs.Certificates.{queue_at, own_of, tagged
 ghost use Rattle.queue_checker.specs.Operands.{accessed_in, load_target};
 
 use crate::certificate::{KnownState, QueueCertificate, Share};
-use crate::sites::queue_count;
+use crate::sites::{Site, queue_count};
 use crate::slots::is_owned;
 use crate::states::share_after;
 use crate::steps::operand;
@@ -64,27 +64,16 @@ pub(crate) fn tag_at(
 /// The states that may follow a store of a value there, where these do if there were no tags.
 fn stored_told(
     alloc: Global,
-    certificate: &QueueCertificate,
-    hart: u32,
-    state: &KnownState,
+    site: &Site<'_>,
     stored: &KnownValue,
     target: &Target,
     states: Vec<KnownState>,
 ) -> Result<Successors, Lack>
-    ensures { IfOk result (λ next. next ≡ storing_tells (tagged_at certificate.now) (length certificate.now.tagged) (length certificate.now.queues)
-        hart state.now stored.now target.now.place target.now.bounds target.now.width states.items) }
+    ensures { IfOk result (λ next. next ≡ storing_tells (tagged_at site.now.certificate.now) (length site.now.certificate.now.tagged) (length
+        site.now.certificate.now.queues) site.now.hart site.now.state.now stored.now target.now.place target.now.bounds target.now.width states.items) }
 {
-    let moves = moved_tag(alloc, certificate, hart, state, target)?;
-    store_tells(
-        alloc,
-        certificate,
-        hart,
-        state,
-        stored,
-        target,
-        moves,
-        states,
-    )
+    let moves = moved_tag(alloc, site.certificate, site.hart, site.state, target)?;
+    store_tells(alloc, site, stored, target, moves, states)
 }
 
 /// The bytes of a store.
@@ -104,21 +93,21 @@ fn stored_there(
 /// The same of a store.
 fn store_told(
     alloc: Global,
-    certificate: &QueueCertificate,
-    hart: u32,
-    state: &KnownState,
+    site: &Site<'_>,
     op: StoreOp,
     rs1: Reg,
     rs2: Reg,
     offset: i32,
     states: Vec<KnownState>,
 ) -> Result<Successors, Lack>
-    ensures { IfOk result (λ next. next ≡ told_by_store (tagged_at certificate.now) (length certificate.now.tagged) (queue_at certificate.now) (length
-        certificate.now.queues) (own_of certificate.now) (length certificate.now.harts) hart state.now op rs1 rs2 offset states.items) }
+    ensures { IfOk result (λ next. next ≡ told_by_store (tagged_at site.now.certificate.now) (length site.now.certificate.now.tagged) (queue_at
+        site.now.certificate.now) (length site.now.certificate.now.queues) (own_of site.now.certificate.now) (length site.now.certificate.now.harts)
+        site.now.hart site.now.state.now op rs1 rs2 offset states.items) }
 {
+    let (certificate, state) = (site.certificate, site.state);
     let target = stored_there(alloc, certificate, state, op, rs1, offset)?;
     let stored = operand(alloc, certificate, state, rs2)?;
-    stored_told(alloc, certificate, hart, state, &stored, &target, states)
+    stored_told(alloc, site, &stored, &target, states)
 }
 
 /// The value that an AMO stores, by what its register holds alone.
@@ -138,34 +127,33 @@ fn exchanged_value(
 /// The same of an AMO's store.
 fn amo_told(
     alloc: Global,
-    certificate: &QueueCertificate,
-    hart: u32,
-    state: &KnownState,
+    site: &Site<'_>,
     op: AmoOp,
     rs1: Reg,
     rs2: Reg,
     states: Vec<KnownState>,
 ) -> Result<Successors, Lack>
-    ensures { IfOk result (λ next. next ≡ storing_tells (tagged_at certificate.now) (length certificate.now.tagged) (length certificate.now.queues)
-        hart state.now (updated_value (queue_at certificate.now) state.now.ranges op any (operand (queue_at certificate.now) state.now rs2)) (operand
-        (queue_at certificate.now) state.now rs1) (exchanged (queue_at certificate.now) state.now rs1) 4 states.items) }
+    ensures { IfOk result (λ next. next ≡ storing_tells (tagged_at site.now.certificate.now) (length site.now.certificate.now.tagged) (length
+        site.now.certificate.now.queues) site.now.hart site.now.state.now (updated_value (queue_at site.now.certificate.now) site.now.state.now.ranges
+        op any (operand (queue_at site.now.certificate.now) site.now.state.now rs2)) (operand (queue_at site.now.certificate.now) site.now.state.now
+        rs1) (exchanged (queue_at site.now.certificate.now) site.now.state.now rs1) 4 states.items) }
 {
+    let (certificate, state) = (site.certificate, site.state);
     let target = exchanged(alloc, certificate, state, rs1)?;
     let stored = exchanged_value(alloc, certificate, state, op, rs2)?;
-    stored_told(alloc, certificate, hart, state, &stored, &target, states)
+    stored_told(alloc, site, &stored, &target, states)
 }
 
 /// The states that may follow an instruction, where these do if there were no tags.
 fn told_by(
     alloc: Global,
-    certificate: &QueueCertificate,
-    hart: u32,
-    state: &KnownState,
+    site: &Site<'_>,
     instruction: Instr,
     states: Vec<KnownState>,
 ) -> Result<Successors, Lack>
-    ensures { IfOk result (λ told. told ≡ next_told (tagged_at certificate.now) (length certificate.now.tagged) (queue_at certificate.now) (length
-        certificate.now.queues) (own_of certificate.now) (length certificate.now.harts) hart state.now (Some instruction) (Some states.items)) }
+    ensures { IfOk result (λ told. told ≡ next_told (tagged_at site.now.certificate.now) (length site.now.certificate.now.tagged) (queue_at
+        site.now.certificate.now) (length site.now.certificate.now.queues) (own_of site.now.certificate.now) (length site.now.certificate.now.harts)
+        site.now.hart site.now.state.now (Some instruction) (Some states.items)) }
 {
     match instruction {
         Instr::Load {
@@ -173,40 +161,14 @@ fn told_by(
             rd,
             rs1,
             offset,
-        } => {
-            load_tells(
-                alloc,
-                certificate,
-                hart,
-                state,
-                op,
-                rd.number,
-                rs1,
-                offset,
-                states,
-            )
-        }
+        } => { load_tells(alloc, site, op, rd.number, rs1, offset, states) }
         Instr::Store {
             op,
             rs1,
             rs2,
             offset,
-        } => {
-            store_told(
-                alloc,
-                certificate,
-                hart,
-                state,
-                op,
-                rs1,
-                rs2,
-                offset,
-                states,
-            )
-        }
-        Instr::Amo { op, rs1, rs2, .. } => {
-            amo_told(alloc, certificate, hart, state, op, rs1, rs2, states)
-        }
+        } => { store_told(alloc, site, op, rs1, rs2, offset, states) }
+        Instr::Amo { op, rs1, rs2, .. } => { amo_told(alloc, site, op, rs1, rs2, states) }
         _ => Ok(Successors {
             shown: true,
             states,
@@ -230,7 +192,14 @@ pub(crate) fn next_told(
         return Ok(next);
     }
     match instruction {
-        Some(instruction) => told_by(alloc, certificate, hart, state, instruction, next.states),
+        Some(instruction) => {
+            let site = Site {
+                certificate,
+                hart,
+                state,
+            };
+            told_by(alloc, &site, instruction, next.states)
+        }
         None => Ok(next),
     }
 }

@@ -3,4 +3,5 @@ use Rattle.queue_checker.specs.Accesses.{any_below, touches_at}
 use Rattle.queue_checker.proofs.accesses.any_touches.Given as goal
 
 abbrev pub invariant-loop-n : goal.invariant-loop-n
-invariant-loop-n l = l.any ≡ any_below l.n (touches_at l.opening l.certificate l.queue l.stores l.hart l.pc)
+invariant-loop-n l = let a = l.accessing in
+    l.any ≡ any_below l.n (touches_at a.opening.now a.certificate.now a.queue a.stores a.hart l.pc)

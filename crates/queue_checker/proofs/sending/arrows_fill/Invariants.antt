@@ -1,10 +1,10 @@
 use Rattle.std.proofs.Common.{◌≡◌, length}
-use Rattle.queue_certificates.specs.Certificates.{queue_at, fields_at, arrows_fill}
+use Rattle.queue_certificates.specs.Certificates.{arrows_fill}
 use Rattle.queue_certificates.specs.Filled.{is_filled_after}
 use Rattle.queue_checker.proofs.sending.arrows_fill.Given as goal
 
 abbrev pub invariant-arrows : goal.invariant-arrows
-invariant-arrows l = let f = is_filled_after l.ranges (queue_at l.certificate l.i) (fields_at l.certificate l.i) l.stored l.slots l.effect in
+invariant-arrows l = let s = l.sending in let f = is_filled_after s.ranges.now s.queue s.fields.now s.stored.now s.slots.now s.effect in
     arrows_fill l.certificate l.hart l.i l.arrows f ≡ arrows_fill l.certificate l.hart l.i l.initial.arrows f
 
 abbrev pub decreases-arrows : goal.decreases-arrows

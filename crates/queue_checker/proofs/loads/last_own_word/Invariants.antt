@@ -1,7 +1,0 @@
-use Rattle.std.proofs.Common.{◌≡◌}
-use Rattle.std.specs.Prelude.{◌&&◌, ◌==◌, slice_index}
-use Rattle.queue_certificates.specs.Steps.{last_below, is_one}
-use Rattle.queue_checker.proofs.loads.last_own_word.Given as goal
-
-abbrev pub invariant-loop-i : goal.invariant-loop-i
-invariant-loop-i l = l.last ≡ last_below l.i (λ j. is_one l.bounds && (l.bounds.low == slice_index l.own j) && (l.width == 4))
