@@ -10,6 +10,7 @@ use Rattle.std.proofs.Math.Bool.{or-true}
 use Rattle.std.proofs.lemmas.List.Sums.{sum_by-cons, sum_by-append, sum_by_push}
 use Rattle.queue_certificates.specs.States.{KnownValue, KnownState}
 use Rattle.queue_certificates.specs.Certificates.{OpenedQueue, ListedState, HartPart, QueueCertificate}
+use Rattle.queue_certificates.specs.declared.own.OwnWord.{OwnWord}
 use Rattle.queue_layouts.specs.declared.tagged.OpenedTagged.{OpenedTagged}
 use Rattle.queue_checker.specs.Trees.{height}
 use Rattle.certificate_reader.specs.declared.stages.Keyword.TheVariants as keyword
@@ -21,11 +22,12 @@ use Rattle.certificate_reader.specs.Drafts.{DraftValue, no_draft, by_words, with
 use Rattle.certificate_reader.specs.Drafts.{state_closed_at, hart_closed, hart_closed_at, hart_listed, with_hart, own_of, hart_opening, with_value, finished}
 use Rattle.certificate_reader.specs.Reading.{certificate_from, certificate_at}
 use Rattle.certificate_reader.specs.Writing.{LineOfWords, line_if, range_text, value_lines, share_lines, known_lines, filled_lines, described_lines}
-use Rattle.certificate_reader.specs.Writing.{tree_lines, state_lines, part_lines}
+use Rattle.certificate_reader.specs.Writing.{own_word_text, tree_lines, state_lines, part_lines}
 use Rattle.certificate_reader.specs.Writing.{numbers_of, queue_line, field_line, queue_lines, tagged_line, certificate_lines, certificate_text}
-use Rattle.certificate_reader.specs.Written.{FitsWord, FitsCount, FitsState, FitsPart, FitsQueue, CanBeWritten}
+use Rattle.certificate_reader.specs.Written.{FitsOwn, FitsCount, FitsState, FitsPart, FitsQueue, CanBeWritten}
 use Rattle.certificate_reader.proofs.Growing.{reverse_pushed, cases_again}
-use Rattle.certificate_reader.proofs.NumbersAgain.{only_word_again, first_word_again, queue_again, words_again, counts_again}
+use Rattle.certificate_reader.proofs.NumbersAgain.{only_word_again, first_word_again, queue_again, counts_again}
+use Rattle.certificate_reader.proofs.FormsAgain.{own_words_again}
 use Rattle.certificate_reader.proofs.LinesAgain.{told_lines, lines_again, by_name, LeadsTo, line_then, line_told, leads_on, then_told}
 use Rattle.certificate_reader.proofs.LinesAgain.{IsHeld, at_stage, then_held}
 use Rattle.certificate_reader.proofs.Turns.{each_told, each_added, if_told}
@@ -40,7 +42,7 @@ pub record Core : Type 0 where
   pub queues : List OpenedQueue
   pub tagged : List OpenedTagged
   pub harts : List HartPart
-  pub own : List ℕ
+  pub own : List OwnWord
   pub first : ℕ
   pub numbers : List ℕ
   pub states : List ListedState
@@ -237,15 +239,15 @@ closed_stage d ends = closed_at d.stage d refl ends
 abbrev MayOpen : Stage → Type 0
 MayOpen s = stage_after s keyword.Open ≡ Some stage.Opened
 
-abbrev with_own : DraftValue → List ℕ → Stage → DraftValue
+abbrev with_own : DraftValue → List OwnWord → Stage → DraftValue
 with_own d own s = record d { own = own; stage = s }
 
-own_told : (d : DraftValue) (own : List ℕ) → length own ≤ 64 → AllByRecursion FitsWord own
-    → LeadsTo (IsHeld MayOpen (with_own d own)) (with_own d [] stage.Hart) (line_if (codes "own") (map decimal own))
+own_told : (d : DraftValue) (own : List OwnWord) → length own ≤ 64 → AllByRecursion FitsOwn own
+    → LeadsTo (IsHeld MayOpen (with_own d own)) (with_own d [] stage.Hart) (line_if (codes "own") (map own_word_text own))
 unfolding keyword_named stage_after own_of
-own_told d own few all = if_told MayOpen (with_own d) (codes "own") decimal stage.Hart refl own
-    (line_told (IsHeld MayOpen (with_own d own)) (with_own d [] stage.Hart) (with_own d own stage.Hart) (codes "own") (map decimal own) keyword.Own stage.Owned
-    refl refl (rw (words_again own all, le-ltb 64 (length own) few) refl) (at_stage MayOpen (with_own d own) stage.Owned refl))
+own_told d own few all = if_told MayOpen (with_own d) (codes "own") own_word_text stage.Hart refl own
+    (line_told (IsHeld MayOpen (with_own d own)) (with_own d [] stage.Hart) (with_own d own stage.Hart) (codes "own") (map own_word_text own)
+    keyword.Own stage.Owned refl refl (rw (own_words_again own all, le-ltb 64 (length own) few) refl) (at_stage MayOpen (with_own d own) stage.Owned refl))
 
 opening_again : (first : ℕ) (numbers : List ℕ) → first < 2 ^ 32 → length numbers ≤ 64 → AllByRecursion FitsCount numbers
     → hart_opening (map decimal (first ∷ numbers)) ≡ Ok (first, numbers)
@@ -299,13 +301,13 @@ part_told d qs ts hs n p at few_harts few_queues few_tagged few fits =
     core = record { queues = qs; tagged = ts; harts = hs; own = p.own; first = p.first; numbers = p.numbers; states = []; listed = n }
 
     own_lines : List LineOfWords
-    own_lines = line_if (codes "own") (map decimal p.own)
+    own_lines = line_if (codes "own") (map own_word_text p.own)
 
     opening : LineOfWords
     opening = (codes "open", map decimal (p.first ∷ p.numbers))
 
     own_read : LeadsTo (IsHeld MayOpen (with_own x p.own)) (record x { stage = stage.Hart }) own_lines
-    own_read = subst (λ (own : List ℕ). LeadsTo (IsHeld MayOpen (with_own x p.own)) (with_own x own stage.Hart) own_lines) (sym at.own)
+    own_read = subst (λ (own : List OwnWord). LeadsTo (IsHeld MayOpen (with_own x p.own)) (with_own x own stage.Hart) own_lines) (sym at.own)
         (own_told x p.own fits.few_words fits.own)
 
     open_read : (t : Stage) → MayOpen t → LeadsTo (IsListed (with_states core [])) (with_own x p.own t) (opening ∷ [])

@@ -1,7 +1,7 @@
--- Forms and values, as they are written, are read again.
+-- Forms, values and own words, as they are written, are read again.
 use Rattle.std.proofs.Common.{◌≡◌, ℕ, ◌+◌, ◌-◌, ◌^◌, ◌<◌, ◌≤◌, Bool, true, false, List, [], ◌∷◌, ◌++◌, length, map, replicate}
 use Rattle.std.proofs.Common.{Some, None, Result, Ok, refl, sym, ap, subst, ◌∙◌, append_assoc, length-append, arith}
-use Rattle.std.specs.Prelude.{codes}
+use Rattle.std.specs.Prelude.{◌==◌, if◌then◌else◌, codes}
 use Rattle.std.specs.List.{AllByRecursion, list_all, slice_split}
 use Rattle.std.specs.Char.{is_digit}
 use Rattle.std.specs.Str.{bytes_eq}
@@ -15,19 +15,22 @@ use Rattle.texts.specs.Results.{◌>>=◌}
 use Rattle.texts.specs.Cutting.{before, after, is_byte, NonePass}
 use Rattle.texts.specs.Pieces.{pieces}
 use Rattle.texts.specs.declared.pieces.Separators.TheVariants.{Byte}
-use Rattle.texts.proofs.CuttingLaws.{none-append, before-stop, after-stop, split_none, split_stop, decimal_none, not_byte, not_low_byte}
-use Rattle.texts.proofs.RowLaws.{is_low, Solid}
+use Rattle.texts.proofs.CuttingLaws.{none-append, before-none, after-none, before-stop, after-stop, split_none, split_stop}
+use Rattle.texts.proofs.CuttingLaws.{decimal_none, not_byte, not_low_byte}
+use Rattle.texts.proofs.RowLaws.{is_low, Solid, decimal_solid}
 use Rattle.queue_certificates.specs.Forms.{Form}
 use Rattle.queue_certificates.specs.States.{linear, index_for, signed_for, ends_as, has_bits}
+use Rattle.queue_certificates.specs.declared.own.OwnWord.{OwnWord}
 use Rattle.certificate_reader.specs.declared.forms.Mark.{Mark}
 use Rattle.certificate_reader.specs.declared.forms.Mark.TheVariants as mark
 use Rattle.certificate_reader.specs.declared.faults.CertificateFault.{CertificateFault}
+use Rattle.certificate_reader.specs.Faults.{or_bad_line}
 use Rattle.certificate_reader.specs.Numbers.{count_of, round_of}
 use Rattle.certificate_reader.specs.FormTexts.{multiple_of, with_factor, factors_after, form_from, form_of, marked_of}
 use Rattle.certificate_reader.specs.FormTexts.{linear_of, marked_value, marked_numbers, mask_and_bits, bits_value, known_value_in}
-use Rattle.certificate_reader.specs.Lists.{forms_in}
-use Rattle.certificate_reader.specs.Writing.{is_written, first_if, multiple_text, multiples, parts_of, parts_text, form_text}
-use Rattle.certificate_reader.specs.Written.{FitsCount, FitsForm}
+use Rattle.certificate_reader.specs.Lists.{is_own_width, own_word_of, own_words_in, forms_in}
+use Rattle.certificate_reader.specs.Writing.{is_written, first_if, multiple_text, multiples, parts_of, parts_text, form_text, own_word_text}
+use Rattle.certificate_reader.specs.Written.{FitsCount, FitsForm, FitsOwn}
 use Rattle.certificate_reader.proofs.NumbersAgain.{word_again, count_again, each_again}
 
 -- ---- bytes
@@ -287,3 +290,53 @@ bits_again N n m b small fits =
       word_again m small,
       word_again b fits,
     ) refl
+
+-- ---- own words
+
+width_small : (w : ℕ) → is_own_width w ≡ true → w < 2 ^ 32
+width_small w is = grind (arith, eqb-true)
+
+-- the text of an own word that has four bytes, or hasn't
+abbrev text_by : Bool → OwnWord → List ℕ
+text_by b o = decimal o.at ++ (if b then [] else 58 ∷ decimal o.width)
+
+own_word_again : (o : OwnWord) → FitsOwn o → own_word_of (own_word_text o) ≡ Some o
+unfolding own_word_of
+own_word_again o fits = by_test (o.width == 4) refl
+  where
+    none : NonePass (is_byte 58) (decimal o.at)
+    none = decimal_bytes (is_byte 58) (λ d lt. not_byte 58 d (omega arith) lt) o.at (omega (arith, fits.at))
+
+    by_test : (b : Bool) → (o.width == 4) ≡ b → own_word_of (text_by b o) ≡ Some o
+    by_test true is =
+        let four : 4 ≡ o.width = sym (eqb-true o.width 4 is) in
+        rw (
+          append-nil (decimal o.at),
+          before-none (is_byte 58) (decimal o.at) none,
+          after-none (is_byte 58) (decimal o.at) none,
+          word_again o.at fits.at,
+          four,
+        ) refl
+    by_test false is = rw (
+      before-stop (is_byte 58) (decimal o.at) 58 (decimal o.width) none refl,
+      after-stop (is_byte 58) (decimal o.at) 58 (decimal o.width) none refl,
+      word_again o.at fits.at,
+      word_again o.width (width_small o.width fits.width),
+      fits.width,
+    ) refl
+
+pub own_words_again : (own : List OwnWord) → AllByRecursion FitsOwn own → own_words_in (map own_word_text own) ≡ Ok own
+unfolding own_words_in
+own_words_again own all = each_again (λ word. or_bad_line (own_word_of word)) own_word_text FitsOwn (λ o fits. rw (own_word_again o fits) refl) own all
+
+pub own_word_solid : (o : OwnWord) → FitsOwn o → Solid (own_word_text o)
+own_word_solid o fits = by_test (o.width == 4)
+  where
+    at : Solid (decimal o.at)
+    at = decimal_solid o.at (omega (arith, fits.at))
+
+    by_test : (b : Bool) → Solid (text_by b o)
+    by_test true = subst Solid (sym (append-nil (decimal o.at))) at
+    by_test false =
+        let width : Solid (decimal o.width) = decimal_solid o.width (omega (arith, width_small o.width fits.width)) in
+        (omega (arith, length-append (decimal o.at) (58 ∷ decimal o.width)), none-append is_low (decimal o.at) (58 ∷ decimal o.width) at.1 (refl, width.1))

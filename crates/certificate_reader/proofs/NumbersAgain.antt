@@ -15,7 +15,7 @@ use Rattle.texts.proofs.RowLaws.{decimal_says}
 use Rattle.queue_certificates.specs.Certificates.{OpenedQueue}
 use Rattle.certificate_reader.specs.Faults.{or_bad_line}
 use Rattle.certificate_reader.specs.Numbers.{count_of, first_word_in, first_count_in, five_at, four_counts, only_word}
-use Rattle.certificate_reader.specs.Lists.{words_in, counts_in, range_of, ranges_in}
+use Rattle.certificate_reader.specs.Lists.{counts_in, range_of, ranges_in}
 use Rattle.certificate_reader.specs.Drafts.{queue_of}
 use Rattle.certificate_reader.specs.Writing.{range_text, numbers_of}
 use Rattle.certificate_reader.specs.Written.{FitsWord, FitsCount, FitsRange, FitsQueue}
@@ -95,10 +95,6 @@ pub each_again : {V F : Type 0} (read : List ℕ → Result V F) (write : V → 
 unfolding each
 each_again read write P one [] all = refl
 each_again read write P one (v ∷ vs) all = rw (one v all.0, each_again read write P one vs all.1) refl
-
-pub words_again : (ns : List ℕ) → AllByRecursion FitsWord ns → words_in (map decimal ns) ≡ Ok ns
-unfolding words_in
-words_again ns all = each_again (λ word. or_bad_line (word_of word)) decimal FitsWord (λ n small. rw (word_again n small) refl) ns all
 
 pub counts_again : (ns : List ℕ) → AllByRecursion FitsCount ns → counts_in (map decimal ns) ≡ Ok ns
 unfolding counts_in

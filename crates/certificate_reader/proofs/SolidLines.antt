@@ -18,11 +18,11 @@ use Rattle.certificate_reader.specs.CaseTexts.{arrow_lines, case_lines}
 use Rattle.certificate_reader.specs.Writing.{LineOfWords, lines_at, form_text, value_line, value_lines, share_line, share_lines, range_text, line_if}
 use Rattle.certificate_reader.specs.Writing.{slot_line, slot_lines, filled_lines, known_lines, described_lines, node_line, tree_lines, state_lines}
 use Rattle.certificate_reader.specs.Writing.{part_lines, numbers_of, field_numbers, field_line, queue_line, queue_lines, certificate_lines, value_text}
-use Rattle.certificate_reader.specs.Writing.{codec_words, tagged_line}
+use Rattle.certificate_reader.specs.Writing.{codec_words, own_word_text, tagged_line}
 use Rattle.certificate_reader.specs.Written.{FitsWord, FitsCount, FitsForm, FitsValue, FitsShare, FitsRange, FitsArrow}
 use Rattle.certificate_reader.specs.Written.{FitsCases, FitsFilled, FitsState, FitsPart, FitsField, FitsQueue, FitsCodec, FitsTagged}
-use Rattle.certificate_reader.specs.Written.{CanBeWritten}
-use Rattle.certificate_reader.proofs.FormsAgain.{form_solid}
+use Rattle.certificate_reader.specs.Written.{FitsOwn, CanBeWritten}
+use Rattle.certificate_reader.proofs.FormsAgain.{form_solid, own_word_solid}
 use Rattle.certificate_reader.proofs.FieldsAgain.{AreFew, are_few}
 use Rattle.certificate_reader.proofs.LinesAgain.{IsSolidLine}
 
@@ -181,13 +181,14 @@ state_solid queues T words s few few_tagged few_words fits =
 
 part_solid : (queues : List OpenedQueue) (T : ℕ) (p : HartPart) → AreFew queues → T ≤ 16 → FitsPart queues T p → AreSolid (part_lines p)
 part_solid queues T p few few_tagged fits =
-    let own = if_solid (codes "own") (map decimal p.own) (solid_by_test (codes "own") refl) (all_map FitsWord Solid decimal word_solid p.own fits.own) in
+    let own = if_solid (codes "own") (map own_word_text p.own) (solid_by_test (codes "own") refl)
+    (all_map FitsOwn Solid own_word_text own_word_solid p.own fits.own) in
     let numbers : AllByRecursion Solid (map decimal (p.first ∷ p.numbers)) =
     (word_solid p.first fits.first, all_map FitsCount Solid decimal count_solid p.numbers fits.numbers) in
     let opening = line_solid (codes "open") (map decimal (p.first ∷ p.numbers)) (solid_by_test (codes "open") refl) numbers in
-    all_append IsSolidLine ((codes "hart", []) ∷ line_if (codes "own") (map decimal p.own) ++ (codes "open", map decimal (p.first ∷ p.numbers)) ∷ [])
+    all_append IsSolidLine ((codes "hart", []) ∷ line_if (codes "own") (map own_word_text p.own) ++ (codes "open", map decimal (p.first ∷ p.numbers)) ∷ [])
     (flat_map state_lines p.states)
-    (all_append IsSolidLine ((codes "hart", []) ∷ line_if (codes "own") (map decimal p.own)) ((codes "open", map decimal (p.first ∷ p.numbers)) ∷ [])
+    (all_append IsSolidLine ((codes "hart", []) ∷ line_if (codes "own") (map own_word_text p.own)) ((codes "open", map decimal (p.first ∷ p.numbers)) ∷ [])
     (line_solid (codes "hart") [] (solid_by_test (codes "hart") refl) tt, own) (opening, tt))
     (all_flat (FitsState queues T (length p.own)) IsSolidLine state_lines
     (λ s fits_s. state_solid queues T (length p.own) s few few_tagged fits.few_words fits_s) p.states fits.states)

@@ -9,6 +9,7 @@ use Rattle.queue_certificates.specs.Forms.{Form}
 use Rattle.queue_certificates.specs.States.{KnownValue, any, Share, no_share, KnownState}
 use Rattle.queue_certificates.specs.Certificates.{OpenedQueue, HartPart, ListedState, QueueCertificate}
 use Rattle.queue_certificates.specs.Filled.{Filled}
+use Rattle.queue_certificates.specs.declared.own.OwnWord.{OwnWord}
 use Rattle.queue_layouts.specs.declared.tagged.OpenedTagged.{OpenedTagged}
 use Rattle.certificate_reader.specs.declared.faults.CertificateFault.{CertificateFault}
 use Rattle.certificate_reader.specs.declared.faults.CertificateFault.TheVariants.{BadHead, BadLine, Misplaced, TooMany, Unfinished}
@@ -23,7 +24,7 @@ use Rattle.certificate_reader.specs.declared.limits.TheConstants.{MAX_QUEUES, MA
 use Rattle.certificate_reader.specs.Faults.{or_bad_line}
 use Rattle.certificate_reader.specs.Numbers.{first_in, first_word_in, first_count_in, ended, five_at, four_counts, only_word}
 use Rattle.certificate_reader.specs.FormTexts.{form_of, known_value_in}
-use Rattle.certificate_reader.specs.Lists.{few, one_more, words_in, counts_in, ranges_in, forms_in}
+use Rattle.certificate_reader.specs.Lists.{few, one_more, own_words_in, counts_in, ranges_in, forms_in}
 use Rattle.certificate_reader.specs.Fields.{with_field, with_filled}
 use Rattle.certificate_reader.specs.Tags.{with_tagged}
 use Rattle.certificate_reader.specs.CaseTexts.{cases_of}
@@ -37,7 +38,7 @@ pub record DraftValue : Type 0 where
   pub queues : List OpenedQueue
   pub tagged : List OpenedTagged
   pub harts : List HartPart
-  pub own : List ℕ
+  pub own : List OwnWord
   pub first : ℕ
   pub numbers : List ℕ
   pub states : List ListedState
@@ -181,9 +182,9 @@ with_state d words = do
 
 -- ---- what is known
 
-unfoldable pub own_of : List (List ℕ) → Result (List ℕ) CertificateFault
+unfoldable pub own_of : List (List ℕ) → Result (List OwnWord) CertificateFault
 own_of words = do
-  own ← words_in words
+  own ← own_words_in words
   few MAX_WORDS own
 
 unfoldable pub ranges_of : List (List ℕ) → Result (List (Option ℕ)) CertificateFault

@@ -1,6 +1,6 @@
 -- The one text in which a certificate is written: each line's words with one space between them, numbers without leading zeros, what is
 -- known by places in ascending order, and no line that tells nothing.
-use Rattle.std.specs.Prelude.{ℕ, ◌+◌, ◌==◌, ◌||◌, not, Bool, true, false, List, [], ◌∷◌, ◌++◌, length, map, Option, Some, None, codes}
+use Rattle.std.specs.Prelude.{ℕ, ◌+◌, ◌==◌, ◌||◌, not, if◌then◌else◌, Bool, true, false, List, [], ◌∷◌, ◌++◌, length, map, Option, Some, None, codes}
 use Rattle.std.specs.List.{flat_map}
 use Rattle.std.specs.Fmt.{decimal}
 use Rattle.queue_certificates.specs.RecordFields.{Field}
@@ -8,6 +8,7 @@ use Rattle.queue_certificates.specs.Forms.{Form}
 use Rattle.queue_certificates.specs.States.{KnownValue, any, linear, index_for, signed_for, ends_as, has_bits, Share, KnownState}
 use Rattle.queue_certificates.specs.Certificates.{OpenedQueue, ListedState, HartPart, QueueCertificate}
 use Rattle.queue_certificates.specs.Filled.{Filled}
+use Rattle.queue_certificates.specs.declared.own.OwnWord.{OwnWord}
 use Rattle.queue_layouts.specs.declared.tagged.Codec.{Codec}
 use Rattle.queue_layouts.specs.declared.tagged.Codec.TheVariants as codec
 use Rattle.queue_layouts.specs.declared.tagged.OpenedTagged.{OpenedTagged}
@@ -130,6 +131,10 @@ described_lines s = known_lines s.known ++ filled_lines 0 s.filled
 
 -- ---- states, harts and queues
 
+-- an own word: `A`, or `A:W` where it doesn't have four bytes (the `:` is 58)
+abbrev pub own_word_text : OwnWord → List ℕ
+own_word_text o = decimal o.at ++ (if o.width == 4 then [] else 58 ∷ decimal o.width)
+
 abbrev pub node_line : Node → LineOfWords
 node_line (node.Split j v) = (codes "split", decimal j ∷ decimal v ∷ [])
 node_line (node.Leaf handed) = (codes "leaf", form_text handed ∷ [])
@@ -142,7 +147,7 @@ abbrev pub state_lines : ListedState → List LineOfWords
 state_lines s = (codes "state", decimal s.known.pc ∷ []) ∷ described_lines s ++ tree_lines (case_lines s.cases)
 
 abbrev pub part_lines : HartPart → List LineOfWords
-part_lines p = (codes "hart", []) ∷ line_if (codes "own") (map decimal p.own) ++ (codes "open", map decimal (p.first ∷ p.numbers)) ∷ []
+part_lines p = (codes "hart", []) ∷ line_if (codes "own") (map own_word_text p.own) ++ (codes "open", map decimal (p.first ∷ p.numbers)) ∷ []
     ++ flat_map state_lines p.states
 
 -- the numbers of a queue's line

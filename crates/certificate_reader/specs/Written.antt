@@ -1,5 +1,5 @@
 -- Which certificates can be written within the reader's limits: a text of such a one is read as the certificate again.
-use Rattle.std.specs.Prelude.{ℕ, ◌≡◌, ◌+◌, ◌^◌, ◌<◌, ◌≤◌, Option, None, Some, List, [], ◌∷◌, length, get_or, sum_by}
+use Rattle.std.specs.Prelude.{ℕ, ◌≡◌, ◌+◌, ◌^◌, ◌<◌, ◌≤◌, true, Option, None, Some, List, [], ◌∷◌, length, get_or, sum_by}
 use Rattle.std.specs.List.{AllByRecursion}
 use Rattle.queue_certificates.specs.RecordFields.{Field}
 use Rattle.queue_certificates.specs.Forms.{Form}
@@ -7,10 +7,12 @@ use Rattle.queue_certificates.specs.States.{KnownValue, any, linear, index_for, 
 use Rattle.queue_certificates.specs.Cases.{Arrow, Cases, leaf, split}
 use Rattle.queue_certificates.specs.Certificates.{OpenedQueue, no_queue, ListedState, HartPart, QueueCertificate}
 use Rattle.queue_certificates.specs.Filled.{Filled}
+use Rattle.queue_certificates.specs.declared.own.OwnWord.{OwnWord}
 use Rattle.queue_layouts.specs.declared.tagged.Codec.{Codec}
 use Rattle.queue_layouts.specs.declared.tagged.Codec.TheVariants as codec
 use Rattle.queue_layouts.specs.declared.tagged.OpenedTagged.{OpenedTagged}
 use Rattle.queue_checker.specs.Trees.{height}
+use Rattle.certificate_reader.specs.Lists.{is_own_width}
 use Rattle.certificate_reader.specs.declared.stages.TheConstants.{MAX_SPLITS}
 use Rattle.certificate_reader.specs.declared.limits.TheConstants.{MAX_QUEUES, MAX_TAGGED, MAX_SLOTS, MAX_FIELDS, MAX_POSITIONS}
 use Rattle.certificate_reader.specs.declared.limits.TheConstants.{MAX_HARTS, MAX_WORDS, MAX_VARIABLES, MAX_STATES}
@@ -94,8 +96,13 @@ pub record FitsState (queues : List OpenedQueue) (T own : ℕ) (s : ListedState)
   pub cases : FitsCases (length s.known.ranges) s.cases
   pub splits : height s.cases ≤ MAX_SPLITS
 
+-- an own word, which has 1, 2 or 4 bytes: no text says another width
+pub record FitsOwn (o : OwnWord) : Type 0 where
+  pub at : FitsWord o.at
+  pub width : is_own_width o.width ≡ true
+
 pub record FitsPart (queues : List OpenedQueue) (T : ℕ) (p : HartPart) : Type 0 where
-  pub own : AllByRecursion FitsWord p.own
+  pub own : AllByRecursion FitsOwn p.own
   pub few_words : length p.own ≤ MAX_WORDS
   pub first : FitsWord p.first
   pub numbers : AllByRecursion FitsCount p.numbers

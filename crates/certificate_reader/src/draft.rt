@@ -14,12 +14,13 @@ use crate::cases::{Node, tree};
 use crate::faults::{BAD, CertificateFault, LineError, MISPLACED, TOO_MANY};
 use crate::fields::{add_field, set_filled};
 use crate::limits::{MAX_HARTS, MAX_STATES, MAX_VARIABLES, MAX_WORDS};
-use crate::lists::{counts, forms, ranges, words};
+use crate::lists::{counts, forms, own_words, ranges};
 use crate::numbers::{end, first_count, first_word, only_word};
 use crate::parts::{add_queue, first_form, no_shares, set_share, set_value, unknown};
 use crate::stages::{Keyword, MAX_SPLITS, Stage, keyword_of};
 use crate::tagged::add_tagged;
 use known_values::{KnownValue, OpenedQueue};
+use queue_certificates::OwnWord;
 use queue_checker::{Arrow, Filled, HartPart, KnownState, ListedState, QueueCertificate, Share};
 use queue_layouts::OpenedTagged;
 use std::alloc::{AllocError, Global};
@@ -35,7 +36,7 @@ pub struct Draft {
     /// Those whose parts are over.
     pub harts: Vec<HartPart>,
     /// Of the hart at hand: its own words, how it opens, and its states that are over.
-    pub own: Vec<u32>,
+    pub own: Vec<OwnWord>,
     pub first: u32,
     pub numbers: Vec<u64>,
     pub states: Vec<ListedState>,
@@ -280,7 +281,7 @@ impl Draft {
     fn set_own(&mut self, alloc: Global, rest: &[u8]) -> Result<(), LineError>
         ensures { GivesUpToMemory refusal_of (λ x. draft_value self.new) result (by_keyword (draft_value self.old) keyword.Own (tokens rest.now)) }
     {
-        let own = words(alloc, rest)?;
+        let own = own_words(alloc, rest)?;
         if own.len() > MAX_WORDS {
             return Err(TOO_MANY);
         }

@@ -1,11 +1,12 @@
-//! Writing forms and values.
+//! Writing forms, values and own words.
 
 ghost use Rattle.std.specs.Prelude.{◌≡◌, ◌++◌, ◌∷◌, [], map, OnOk};
 ghost use Rattle.std.specs.String.{string_bytes};
 ghost use Rattle.std.specs.Fmt.{decimal};
-ghost use Rattle.certificate_reader.specs.Writing.{is_written, multiple_text, multiples, parts_text, spaced, form_text, range_text};
+ghost use Rattle.certificate_reader.specs.Writing.{is_written, multiple_text, multiples, parts_text, spaced, form_text, range_text, own_word_text};
 
 use known_values::Form;
+use queue_certificates::OwnWord;
 use std::alloc::AllocError;
 use texts::push_decimal;
 
@@ -105,13 +106,25 @@ pub fn push_numbers(out: &mut String, numbers: &[u64]) -> Result<(), AllocError>
     Ok(())
 }
 
-/// Appends the addresses, each after a space.
-pub fn push_addresses(out: &mut String, addresses: &[u32]) -> Result<(), AllocError>
-    ensures { OnOk result (string_bytes out.new ≡ string_bytes out.old ++ spaced (map decimal addresses.now)) }
+/// Appends an own word, its width only where that isn't four bytes.
+fn push_own_word(out: &mut String, own: OwnWord) -> Result<(), AllocError>
+    ensures { OnOk result (string_bytes out.new ≡ string_bytes out.old ++ own_word_text own) }
 {
-    for address in addresses {
+    push_decimal(out, u64::from(own.at))?;
+    if own.width == 4 {
+        return Ok(());
+    }
+    out.push_str(":")?;
+    push_decimal(out, u64::from(own.width))
+}
+
+/// Appends the own words, each after a space.
+pub fn push_own_words(out: &mut String, own: &[OwnWord]) -> Result<(), AllocError>
+    ensures { OnOk result (string_bytes out.new ≡ string_bytes out.old ++ spaced (map own_word_text own.now)) }
+{
+    for word in own {
         out.push_str(" ")?;
-        push_decimal(out, u64::from(*address))?;
+        push_own_word(out, *word)?;
     }
     Ok(())
 }

@@ -8,12 +8,13 @@ ghost use Rattle.certificate_reader.specs.CaseTexts.{arrow_lines, case_lines};
 ghost use Rattle.certificate_reader.specs.declared.cases.Node.TheVariants as node;
 ghost use Rattle.certificate_reader.specs.Reading.{certificate_at};
 ghost use Rattle.certificate_reader.specs.Written.{CanBeWritten};
-ghost use Rattle.certificate_reader.specs.Writing.{lines_text, line_if, form_text, node_line, tree_lines, state_lines, part_lines};
+ghost use Rattle.certificate_reader.specs.Writing.{lines_text, line_if, form_text, own_word_text, node_line, tree_lines, state_lines, part_lines};
 ghost use Rattle.certificate_reader.specs.Writing.{queue_line, field_line, queue_lines, spaced, codec_words, telling_line, tagged_line, certificate_text};
 
-use crate::form_texts::{push_addresses, push_form, push_forms, push_numbers};
+use crate::form_texts::{push_form, push_forms, push_numbers, push_own_words};
 use crate::known_texts::push_described;
 use known_values::{Field, Form, OpenedQueue};
+use queue_certificates::OwnWord;
 use queue_checker::{Arrow, CaseNode, Cases, HartPart, ListedState, QueueCertificate};
 use queue_layouts::{Codec, OpenedTagged};
 use std::alloc::{AllocError, Global};
@@ -81,14 +82,14 @@ pub fn push_state(out: &mut String, state: &ListedState) -> Result<(), AllocErro
 }
 
 /// Appends the line of a hart's own words, if it has any.
-fn push_own(out: &mut String, own: &[u32]) -> Result<(), AllocError>
-    ensures { OnOk result (string_bytes out.new ≡ string_bytes out.old ++ lines_text [] (line_if (codes "own") (map decimal own.now))) }
+fn push_own(out: &mut String, own: &[OwnWord]) -> Result<(), AllocError>
+    ensures { OnOk result (string_bytes out.new ≡ string_bytes out.old ++ lines_text [] (line_if (codes "own") (map own_word_text own.now))) }
 {
     match own {
         [] => Ok(()),
         [_, ..] => {
             out.push_str("own")?;
-            push_addresses(out, own)?;
+            push_own_words(out, own)?;
             out.push_str("\n")
         }
     }
@@ -250,7 +251,8 @@ fn text_of(alloc: Global, certificate: &QueueCertificate) -> Result<String, Allo
     Ok(text)
 }
 
-/// The text of the certificate, which is read as this certificate again where that is within the limits.
+/// The text of the certificate, which is read as this certificate again where that is within the limits. A text has own words of 1, 2
+/// or 4 bytes alone: a certificate with one of another width is written, but its text isn't read.
 #[tactic(auto, using(crate::proofs::CertificateAgain::written_again))]
 pub fn write_certificate(
     alloc: Global,
