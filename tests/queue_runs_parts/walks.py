@@ -96,7 +96,7 @@ class Followed:
         terms = [f"pc == {known.pc}", f"len(n) == {len(known.ranges)}"]
         terms += [f"n[{j}] <= {most}" for j, most in enumerate(known.ranges) if most is not None]
         terms += [self.says(f"r[{j}]", v) for j, v in enumerate(known.registers) if v is not certificates.ANY]
-        terms += [self.says(f"read({a})", v) for a, v in zip(own, known.words) if v is not certificates.ANY]
+        terms += [self.says(f"read({o.at}, {o.width})", v) for o, v in zip(own, known.words) if v is not certificates.ANY]
         # of a queue with tags a state says how many positions are owned at least
         terms += [f"s[{i}][0] == {written(share.own)} and s[{i}][1] {'==' if i < len(self.index_words) else '>='} {written(share.owned)}"
                   for i, share in enumerate(known.shares) if h in self.parties[i]]
@@ -270,7 +270,7 @@ class Walks:
     def seen(self, h, state):
         """What a listed state speaks of: the pc, the registers, words as the hart reads them, and its shares."""
         pc, registers, _, pending, _ = state[0][h]
-        return pc, registers, lambda a: word_read(pending, state[1], a), self.shares[h]
+        return pc, registers, lambda a, width: number_read(pending, state[1], a, width), self.shares[h]
 
     def enter(self, h, kind, width, parts):
         """An access, by each queue's protocol, which it returns."""
@@ -289,7 +289,7 @@ class Walks:
         return access
 
 
-def word_read(pending, memory, a):
-    if any(place < a + 4 and a < place + width for place, width, _ in pending):
-        return machine.number(machine.byte_read(pending, memory, a + i) for i in range(4))
+def number_read(pending, memory, a, width):
+    if width < certificates.WORD or any(place < a + 4 and a < place + stored for place, stored, _ in pending):
+        return machine.number(machine.byte_read(pending, memory, a + i) for i in range(width))
     return machine.word_at(memory, a)

@@ -11,6 +11,8 @@ HEAD, LINE, PLACE, LIMIT, UNFINISHED = 45, 46, 47, 48, 49
 QUEUES, SLOTS, FIELDS, POSITIONS, HARTS, OWN, STATES, VARIABLES, SPLITS = 16, 65_536, 16, 64, 64, 64, 16_384, 64, 1024
 NAMES = ("queue", "field", "tagged", "hart", "own", "open", "state", "most", "reg", "word", "share", "filled", "split", "leaf", "to")
 KNOWN = ("reg", "word", "share", "filled")
+# the bytes that an own word may have
+WIDTHS = (1, 2, 4)
 # how a tag tells, and how many numbers follow the word
 TELLS = {"zero": 0, "number": 0, "bits": 3}
 ROUND = 2**32
@@ -52,6 +54,14 @@ def form(word, variables):
         need(len(factors) <= variable < variables)
         factors += [0] * (variable - len(factors)) + [factor]
     return constant, factors
+
+
+def place(word):
+    """Where an own word lies, and its bytes: all four if they aren't said."""
+    at, colon, width = word.partition(":")
+    found = number(at), number(width) if colon else 4
+    need(found[1] in WIDTHS)
+    return found
 
 
 class Reader:
@@ -121,7 +131,7 @@ class Reader:
         self.take(("hart",), lambda: None, lambda found: before < HARTS)
         self.own, states = [], []
         if self.name() == "own":
-            self.own = self.take(("own",), lambda *given: [*map(number, given)], lambda found: len(found) <= OWN)
+            self.own = self.take(("own",), lambda *given: [*map(place, given)], lambda found: len(found) <= OWN)
         opening = self.take(("open",), lambda first, *given: (number(first), [*map(count, given)]), lambda found: len(found[1]) <= VARIABLES)
         while self.name() not in (None, "hart"):
             states.append(self.state())

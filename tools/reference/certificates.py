@@ -243,6 +243,13 @@ class HasBits(NamedTuple):
 ANY = None
 
 
+class OwnWord(NamedTuple):
+    """Where it lies and how many bytes it has, which no other hart writes."""
+
+    at: int
+    width: int
+
+
 class Share(NamedTuple):
     own: Form
     owned: Form
@@ -744,6 +751,7 @@ def is_branch_taken(queues, ranges, op, v, w):
 
 LOADS = {"lb": 1, "lh": 2, "lw": 4, "lbu": 1, "lhu": 2}
 STORES = {"sb": 1, "sh": 2, "sw": 4}
+WORD = 4
 IMMEDIATES = ("addi", "slti", "sltiu", "xori", "ori", "andi")
 SHIFTS = ("slli", "srli", "srai")
 
@@ -906,7 +914,7 @@ def most_loaded(op):
 
 
 class Steps:
-    """Of hart h, where the harts have own words at these addresses."""
+    """Of hart h, where the harts have these own words."""
 
     def __init__(self, queues, own_of, h):
         self.queues, self.own_of, self.h, self.own = queues, own_of, h, get_or(own_of, h, ())
@@ -936,7 +944,7 @@ class Steps:
         return is_one(b) and is_whole(self.queues[i], self.parties[i], itself, b.low, width)
 
     def is_own_word(self, b, width, j):
-        return is_one(b) and b.low == self.own[j] and width == 4
+        return is_one(b) and b.low == self.own[j].at and width == self.own[j].width
 
     @staticmethod
     def share_at(k, i):
@@ -967,8 +975,13 @@ class Steps:
             return v if self.is_index_below(1 << 8 * LOADS[op] - 1, v) else self.signed_value(LOADS[op], v)
         return v
 
-    def loaded(self, op, v):
-        return or_up_to(most_loaded(op), self.extended_value(op, v))
+    @staticmethod
+    def keeps_value(ranges, op, v):
+        """Whether a signed load leaves a number as it is, since its highest bit is surely 0."""
+        return op in ("lb", "lh") and isinstance(v, Linear) and fits_in(most(ranges, v.form), (1 << 8 * LOADS[op] - 1) - 1)
+
+    def loaded(self, ranges, op, v):
+        return or_up_to(most_loaded(op), v if self.keeps_value(ranges, op, v) else self.extended_value(op, v))
 
     def looked_word(self, i, s):
         return IndexFor(i, plus(plus(lifted(s.own), owned_then(s)), number(back_of(self.queues[i], self.parties[i]))))
@@ -979,7 +992,7 @@ class Steps:
 
     def after_load(self, k, op, rd, b, look):
         if look is None:
-            return with_result(k, rd, next_pc(k.pc), self.loaded(op, self.value_loaded(k, b, LOADS[op])))
+            return with_result(k, rd, next_pc(k.pc), self.loaded(k.ranges, op, self.value_loaded(k, b, LOADS[op])))
         return self.after_look(k, op, rd, look, self.share_at(k, look))
 
     def may_load(self, k, b, width, look):
@@ -1005,20 +1018,41 @@ class Steps:
         return is_off(self.queues[i], b, width) or self.may_fill(k, self.parties[i], place, width, i)
 
     def leaves_words(self, b, width, g):
-        return g == self.h or all(is_apart(b, width, a, 4) for a in self.own_of[g])
+        return g == self.h or all(is_apart(b, width, *o) for o in self.own_of[g])
 
-    def word_then(self, b, width, v, a, w):
-        return w if is_apart(b, width, a, 4) else self.storable(v) if is_one(b) and b.low == a and width == 4 else ANY
+    def low_form(self, n, f):
+        """What is known of a form's remainder by n: the form that it is, or the word of an index that counts on in n words."""
+        i = counting(self.queues, n)
+        return ANY if i is None else IndexFor(i, plus(f, number(n - mod(self.queues[i].offset, n))))
 
-    def words_then(self, b, width, v, own, known):
-        return (*(self.word_then(b, width, v, a, w) for a, w in zip(own, known)), *(known[len(own):]))
+    def low_bytes(self, ranges, width, v):
+        """What is known of the lowest bytes of a value."""
+        every = 256 ** width
+        if isinstance(v, Linear):
+            rest = remainder_word(ranges, v.form, every)
+            return self.low_form(every, v.form) if rest is None else Linear(rest)
+        if isinstance(v, IndexFor):
+            return v if v.queue < len(self.queues) and self.queues[v.queue].index_width <= width else ANY
+        return HasBits(v.mask | every - 1 ^ M32 - 1, v.bits & every - 1) if isinstance(v, HasBits) else ANY
+
+    def stored_value(self, ranges, width, v):
+        """What is known of the number of which a store leaves so many bytes."""
+        return self.storable(v) if width == WORD else self.low_bytes(ranges, width, plain(self.queues, ranges, v))
+
+    def word_then(self, ranges, b, width, v, o, w):
+        if is_apart(b, width, *o):
+            return w
+        return self.stored_value(ranges, width, v) if is_one(b) and b.low == o.at and width == o.width else ANY
+
+    def words_then(self, ranges, b, width, v, own, known):
+        return (*(self.word_then(ranges, b, width, v, o, w) for o, w in zip(own, known)), *(known[len(own):]))
 
     @staticmethod
     def shares_moved(shares, d, move):
         return shares if move is None else put_at(shares, move, moved_share(get_or(shares, move, NO_SHARE), d))
 
     def stored(self, k, d, width, v, b, move):
-        return k._replace(words=self.words_then(b, width, v, self.own, k.words), shares=self.shares_moved(k.shares, d, move))
+        return k._replace(words=self.words_then(k.ranges, b, width, v, self.own, k.words), shares=self.shares_moved(k.shares, d, move))
 
     def after_store(self, k, d, width, v, b, move):
         return going_to(self.stored(k, d, width, v, b, move), next_pc(k.pc))
@@ -1306,7 +1340,7 @@ def opens_in(opening, c, h, registers, k, numbers):
     registers = put_at(registers, 0, 0)
     return are_in_ranges(k.ranges, numbers) and k.pc == 0 \
         and all(is_value(queues, numbers, v, get_or(registers, j, 0)) for j, v in enumerate(k.registers)) \
-        and all(is_value(queues, numbers, get_or(k.words, j, ANY), number_seen(opening, a, 4)) for j, a in enumerate(own)) \
+        and all(is_value(queues, numbers, get_or(k.words, j, ANY), number_seen(opening, *o)) for j, o in enumerate(own)) \
         and all(opens_share(q, party_of(q, h), each.start, get_or(k.shares, i, NO_SHARE), numbers)
                 for i, (q, each) in enumerate(zip(queues, c.queues)))
 

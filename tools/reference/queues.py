@@ -107,7 +107,7 @@ def read(text):
         tuple(certificates.OpenedQueue(certificates.Queue(*numbers[:13]), numbers[13], tuple(sent.Field(*field) for field in fields))
               for numbers, fields in queues),
         tuple(tags.OpenedTagged(tags.TaggedQueue(*found[:7], codec_of(*found[7])), found[8]) for found in tagged),
-        tuple(certificates.HartPart(tuple(own), first, tuple(numbers), tuple(state(own, *each) for each in states))
+        tuple(certificates.HartPart(tuple(certificates.OwnWord(*place) for place in own), first, tuple(numbers), tuple(state(own, *each) for each in states))
               for own, (first, numbers), states in harts))
 
 
