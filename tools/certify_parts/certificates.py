@@ -17,6 +17,11 @@ def written(form):
     return "+".join([str(form.constant)] * bool(form.constant or not terms) + terms)
 
 
+def place_written(place, width):
+    """Where an own word lies, and its bytes, where these aren't all four."""
+    return str(place) if width == 4 else f"{place}:{width}"
+
+
 def value_written(value):
     if isinstance(value, reference.HasBits):
         return f"&{value.mask}:{value.bits}"
@@ -54,7 +59,7 @@ class Writer:
     def lines(self):
         yield "hart"
         if self.program.reads:
-            yield " ".join(map(str, ("own", *(self.program.kept[which] for which in sorted(self.program.reads)))))
+            yield " ".join(["own", *(place_written(*self.program.kept[which]) for which in sorted(self.program.reads))])
         at = self.covering(self.program.start)
         yield " ".join(map(str, ("open", at, *(self.opening(variable, at) for variable in self.layouts[at].places))))
         for state, layout in zip(self.states, self.layouts):

@@ -19,10 +19,10 @@ class Hands(Exception):
         self.pcs, self.places, self.addresses = frozenset(pcs), frozenset(places), frozenset(addresses)
 
 
-def see_load(program, place, pc):
+def see_load(program, which, pc):
     """Asks for a search that knows of an own word whether a tag's store may hand it over, or an address is made of it."""
-    to, hands = program.code[pc // 4] >> 7 & 31, program.needed.hands
-    stores = program.word_stores.get(program.at[place], set())
+    to, hands, place = program.code[pc // 4] >> 7 & 31, program.needed.hands, program.kept[which]
+    stores = program.word_stores.get(which, set())
     if to in hands.registers[pc // 4 + 1] and not (place in hands.places and stores <= hands.pcs):
         raise Hands(stores, {place})
     if place not in hands.addresses and to in hands.in_addresses[pc // 4 + 1]:

@@ -1,5 +1,6 @@
 """The search over all harts of a test: which words each alone writes depends on what the others store."""
 
+from functools import partial
 from itertools import chain
 from typing import NamedTuple
 
@@ -47,6 +48,40 @@ WAYS = (Way(Mode.TOGETHER, (1, 5), apart=FEW_APART), Way(Mode.TOGETHER, (2, 5)),
 WORK = 10_000
 TURNS = 2
 MOST_ROUNDS = 60
+# of so many bytes and halves that a hart loads it is asked whether they are its own
+MOST_NARROW = 24
+
+
+def are_apart(own, others):
+    """Whether none of these stores, each from a byte on up to another one, touches an own word."""
+    place, width = own
+    return not any(place < end and low < place + width for low, end in others)
+
+
+class Narrow:
+    """The bytes and halves that a hart loads and no other one stores to: those that the search keeps; and those that the hart wasn't seen to store,
+    which may be anything, as what a device writes. `may_be_own` says of a place and its bytes whether they may be the hart's own."""
+
+    def __init__(self):
+        self.kept, self.inputs, self.stores, self.changes, self.may_be_own = frozenset(), frozenset(), frozenset(), 0, None
+
+    def may_be_kept(self, place, width):
+        return (place, width) not in self.inputs and self.may_be_own(place, width)
+
+    def keep(self, asked_for):
+        """Takes those that a search asked for, as far as there is room; returns whether there are any."""
+        found = set(sorted(asked_for)[:MOST_NARROW - len(self.kept)])
+        self.changes += bool(found)
+        self.stores |= found & self.inputs
+        self.kept, self.inputs = self.kept | found, self.inputs - found
+        return bool(found)
+
+    def leave(self, program):
+        """Leaves those that were loaded and never stored; returns whether there are any."""
+        left = {program.kept[which] for which in program.reads if program.kept[which][1] < 4 and which not in program.word_stores} - self.stores
+        self.changes += bool(left)
+        self.kept, self.inputs = self.kept - left, self.inputs | left
+        return bool(left)
 
 
 class FoundHart(NamedTuple):
@@ -59,11 +94,11 @@ class FoundHart(NamedTuple):
     turn: int
 
     def is_apart(self, others):
-        """Whether the same is found where other harts store to these words."""
-        return others.isdisjoint(self.program.kept[which] for which in self.program.reads)
+        """Whether the same is found where other harts store there."""
+        return all(are_apart(self.program.kept[which], others) for which in self.program.reads)
 
     def stands(self, others, turn):
-        """Whether nothing more is to be sought in a turn where other harts store to these words: nothing more is found where something was refused."""
+        """Whether nothing more is to be sought in a turn where other harts store there: nothing more is found where something was refused."""
         return (self.refused or self.is_apart(others)) and (self.turn >= turn or not self.refused and not self.program.unowned)
 
 
@@ -77,8 +112,10 @@ class Harts:
             if queue.has_tags and queue.tells == tags.ZERO:
                 self.needed[queue.sender] = self.needed[queue.sender].with_hands(test.harts[queue.sender].code)
         self.flows = [flow_of(hart.code) for hart in test.harts]
-        # of each hart at which turn and way it begins, which copies were seen, which ways came to an end, and by which numbers positions are parted
-        self.begins, self.copies, self.ended, self.parts = ([each() for _ in test.harts] for each in (lambda: (0, 0), frozenset, set, dict))
+        # of each hart at which turn and way it begins, which copies were seen, which ways came to an end, by which numbers positions are parted, and
+        # which bytes and halves are its own
+        self.begins, self.copies, self.ended, self.parts, self.narrow = (
+            [each() for _ in test.harts] for each in (lambda: (0, 0), frozenset, set, dict, Narrow))
         # where a word of counts wraps, position and slot part if the number of slots doesn't divide 2^32: more time seldom shows anything then
         self.may_be_covered = not any(not queue.has_tags and queue.is_linear() and SIZE % queue.size for queue in queues)
         self.shared = {place for place in test.words if any(queue.meets(place, 4) for queue in queues)}
@@ -116,34 +153,49 @@ class Harts:
 
     def hart(self, hart, others, turn, before):
         """The search over one hart, whose own words are those that no other one stores to, up to a turn. `before` is what was found already."""
-        kept, last = sorted(set(self.test.words) - self.shared - others), max(turn, self.begins[hart][0])
+        last = max(turn, self.begins[hart][0])
         refused = before if before and before.refused else None
         reads = before if before and not before.refused and before.is_apart(others) else None
         for at, way, work in self.ways(hart):
-            asked = self.asked(hart, kept, way, at[0])
+            asked = self.asked(hart, others, way, at[0])
             # more work seldom shows which numbers it sends
             is_idle = at[0] and (reads and self.records or not self.may_be_covered)
             if at < self.begins[hart] or at[0] > last or asked in self.ended[hart] or is_idle or self.clock.is_over() and (reads or refused):
                 continue
             self.clock.tell(hart, at[1] + 1, len(WAYS))
-            found = self.searched(hart, kept, way, work, at[0], reads is not None)
+            found = self.searched(hart, others, way, work, at[0], reads is not None)
             # one that names an instruction is told first
             if found.refused and (not refused or refused.refused.pc is None):
                 refused = found
             if not found.refused or found.refused.pc is not None:
-                self.ended[hart] |= {(each, *asked[1:]) for each in self.alike(asked[0], found.program)}
+                self.ended[hart] |= {(each, self.numbers_kept(hart, others), *asked[2:]) for each in self.alike(asked[0], found.program)}
             if self.is_whole(found):
                 # a further round begins here
                 self.begins[hart] = at
-                return self.going_on(found, kept)
+                return self.going_on(found, others)
             reads = reads or (None if found.refused else found)
             self.copies[hart] |= found.search.seen
         return (reads or refused)._replace(turn=last)
 
-    def asked(self, hart, kept, way, turn):
+    def kept(self, hart, others):
+        """The hart's own words, and the bytes and halves among these, each where it lies and its bytes."""
+        stored = {place for low, end in others for place in range(low & ~3, end, 4)}
+        words = [(place, 4) for place in set(self.test.words) - self.shared - stored]
+        return sorted(words + [own for own in self.narrow[hart].kept if are_apart(own, others)])
+
+    def numbers_kept(self, hart, others):
+        """How many own words a hart has, and how often what it has of bytes and halves changed."""
+        return len(self.kept(hart, others)), self.narrow[hart].changes
+
+    def may_be_own(self, others, place, width):
+        """Whether a byte or a half that a hart loads may be its own."""
+        return {place & ~3, place + width - 1 & ~3} <= self.test.words.keys() \
+            and not any(queue.meets(place, width) for queue in self.queues) and are_apart((place, width), others)
+
+    def asked(self, hart, others, way, turn):
         """What a search depends on, except for its work."""
         far = way.mode == Mode.BY_PATH and tuple(told_apart_of(queue, not turn) for queue in self.queues)
-        return way._replace(work=()), len(kept), self.copies[hart], far, self.records and self.records.known(), tuple(self.parts_at(hart, turn).items())
+        return way._replace(work=()), self.numbers_kept(hart, others), self.copies[hart], far, self.records and self.records.known(), tuple(self.parts_at(hart, turn).items())
 
     def parts_at(self, hart, turn):
         """By which numbers the queues' positions are parted, of those of which a search asked for that: in the second turn each is whole."""
@@ -161,30 +213,44 @@ class Harts:
     def is_whole(self, found):
         return not found.refused and not found.program.unowned and (not self.records or self.records.are_shown(found.program, found.search))
 
-    def going_on(self, found, kept):
+    def going_on(self, found, others):
         """What was found of a hart, or, if its states don't show that it goes on, what one of a few other ways finds of which they do."""
-        new = (way for way in TELLING if self.asked(found.hart, kept, way, 0) not in self.ended[found.hart])
-        others = (self.searched(found.hart, kept, way, way.work[0], 0, True) for way in new)
-        return next((each for each in chain([found], others) if self.is_whole(each) and goes_on(each.program, each.search)), found)
+        new = (way for way in TELLING if self.asked(found.hart, others, way, 0) not in self.ended[found.hart])
+        further = (self.searched(found.hart, others, way, way.work[0], 0, True) for way in new)
+        return next((each for each in chain([found], further) if self.is_whole(each) and goes_on(each.program, each.search)), found)
 
     def refused_soon(self):
         """Of how many harts each of a few searches names an instruction that isn't shown to keep the protocol."""
-        kept = sorted(set(self.test.words) - self.shared)
-
         def is_refused(hart, way):
-            refused = self.searched(hart, kept, way, way.work[0], 0).refused
+            refused = self.searched(hart, set(), way, way.work[0], 0).refused
             return refused is not None and refused.pc is not None
 
         return sum(all(is_refused(hart, way) for way in SOON) for hart in range(len(self.test.harts)))
 
-    def searched(self, hart, kept, way, work, turn, wants_all=False):
-        """What one way finds of a hart, anew as long as what it stores turns out to matter at further places. With `wants_all` it ends as soon as not
-        all will be shown."""
+    def searched(self, hart, others, way, work, turn, wants_all=False):
+        """What one way finds of a hart, where the others store there. If that isn't all, it is sought anew with the bytes and halves of its own."""
+        narrow, before = self.narrow[hart], None
+        narrow.may_be_own = partial(self.may_be_own, others)
+        while True:
+            kept = narrow.kept
+            found = self.searched_with(hart, others, way, work, turn, wants_all)
+            is_over = found.refused and found.refused.pc is None
+            if not is_over and narrow.leave(found.program):
+                if before and narrow.kept == before[0]:
+                    return before[1]
+            elif not (found.refused or found.program.unowned) or not narrow.keep(found.program.asked_for) or is_over:
+                return found
+            else:
+                before = kept, found
+
+    def searched_with(self, hart, others, way, work, turn, wants_all):
+        """The same with what is kept of bytes and halves, anew as long as what it stores turns out to matter at further places. With `wants_all` it
+        ends as soon as not all will be shown."""
         while True:
             parts = self.parts_at(hart, turn)
             queues = [queue.parted(parts[which]) if which in parts else queue.counting() if way.loosens else queue for which, queue in enumerate(self.queues)]
-            program = Program(self.test, queues, hart, kept, self.needed[hart], way.with_bytes, way.loosens, self.records, way.opens_full,
-                              way.mode == Mode.BY_ROOM, wants_all)
+            program = Program(self.test, queues, hart, self.kept(hart, others), self.narrow[hart], self.needed[hart], way.with_bytes, way.loosens,
+                              self.records, way.opens_full, way.mode == Mode.BY_ROOM, wants_all)
             search = Search(program, way, self.copies[hart], int(work * WORK), self.clock, self.flows[hart], not turn)
             try:
                 search.run_by_path() if way.mode == Mode.BY_PATH else search.run()

@@ -160,15 +160,29 @@ class Search:
     def are_values(self, values, state, wanted):
         return values == wanted or all(new == each or self.is_value(new, state, each) for new, each in zip(values, wanted))
 
-    def spellings(self, values, states, known):
-        """Values that all of these may be: each as it stands; what the other's index holds; and forms of counts through two of the numbers that are
-        known of them."""
+    def spellings(self, values, states, known, width):
+        """Values of so many bytes that all of these may be: each as it stands; what the other's index holds; and forms of counts through two of the
+        numbers that are known of them. Of fewer than four bytes none is a running count, which may be more, and some may be words of one."""
         yield from list(dict.fromkeys(values))[:4]
         yield from self.program.looks
+        if width < 4:
+            yield from self.words_of(states, known, width)
         known = [(value, self.program.ranges(state)) for value, state in zip(known, states) if value is not None]
         for at in {1, len(known) // 2, len(known) - 1} - {0, -1}:
             if at < len(known):
-                yield from self.through(known[0], known[at])
+                yield from (each for each in self.through(known[0], known[at]) if width == 4 or all(kind != "n" for kind, _ in each.variables()))
+
+    def words_of(self, states, known, width):
+        """Words of indices of so many bytes at most, by the first number that is known: such as are that far from the own count, or from the other's."""
+        first = next(((value, state) for value, state in zip(known, states) if value is not None), None)
+        for which, queue in enumerate(self.program.queues) if first else ():
+            share = first[1].shares[which]
+            if not share or share.count is None or queue.has_tags or queue.index_width > width or (first[0] - queue.base) % queue.scale:
+                continue
+            further = ((first[0] - queue.base) // queue.scale - queue.offset - share.count + queue.modulus // 2) % queue.modulus - queue.modulus // 2
+            yield Word(which, variable_of("n", which, 1, further))
+            if share.low == share.high:
+                yield Word(which, variable_of("n", which, 1, further - share.low).plus(variable_of("A", which)))
 
     def through(self, *two):
         """Forms of the counts that both know, through both numbers."""
@@ -214,9 +228,10 @@ class Search:
         if not is_copy and values.count(values[0]) == len(values):
             return values[0]
         # most values are the same at one pc and the next
-        asked = values, self.number_of(states), is_copy
+        width = 4 if where < 32 else self.program.kept[where - 32][1]
+        asked = values, self.number_of(states), is_copy, width
         if asked not in self.spelled_once:
-            self.spelled_once[asked] = self.spelled_anew(values, states, is_copy)
+            self.spelled_once[asked] = self.spelled_anew(values, states, is_copy, width)
         return self.spelled_once[asked]
 
     def number_of(self, states):
@@ -229,12 +244,12 @@ class Search:
             self.asked = states, self.numbers.setdefault(told, len(self.numbers))
         return self.asked[1]
 
-    def spelled_anew(self, values, states, is_copy):
+    def spelled_anew(self, values, states, is_copy, width):
         known = list(map(self.program.known, values, states))
         if self.contradict(known, states):
             return None
         rows = list(zip(values, known, states))
-        for each in chain(self.program.looks if is_copy else (), self.spellings(values, states, known)):
+        for each in chain(self.program.looks if is_copy else (), self.spellings(values, states, known, width)):
             for row in rows:
                 if not self.is_known_value(*row, each):
                     break

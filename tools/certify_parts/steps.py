@@ -59,16 +59,21 @@ class Next(NamedTuple):
 class Program(Values):
     """One hart's code with what holds of all its states."""
 
-    def __init__(self, test, queues, hart, kept, needed, with_bytes=False, loosens=True, records=None, opens_full=False, settles=False, wants_all=False):
+    def __init__(self, test, queues, hart, kept, narrow, needed, with_bytes=False, loosens=True, records=None, opens_full=False, settles=False,
+                 wants_all=False):
         self.hart, self.code = hart, test.harts[hart].code
         super().__init__(queues, hart, loosens)
         self.tagged = [(which, queue, party) for which, (queue, party) in enumerate(zip(queues, self.parties)) if queue.has_tags and party is not None]
         self.word_stores = {}    # by an own word: the pcs of its stores
         self.other_indices = [self.looked(which) for which in range(len(queues))]
         self.looks = [index for index in self.other_indices if index is not None]
-        self.kept, self.with_bytes = kept, with_bytes
-        self.at = {place: which for which, place in enumerate(kept)}
-        self.stored = set()    # words that it may store to, apart from queues
+        # the hart's own words, each where it lies and its bytes; and what is known of bytes and halves (certify_parts/harts.py)
+        self.kept, self.narrow, self.with_bytes = kept, narrow, with_bytes
+        self.at = {own: which for which, own in enumerate(kept)}
+        self.parts = [(which, *own) for which, own in enumerate(kept) if own[1] < 4]
+        self.asked_for = set()   # bytes and halves of which more would be known if they were kept
+        self.steps = reference.Steps(self.indexed, (), hart)
+        self.stored = set()    # where it may store, apart from queues: from which byte on, and up to which
         self.reads = set()     # which of `kept` it loads: of the others nothing need be known
         self.needed, self.edges = needed, {}    # edges: by a variable, the numbers after which it was parted
         # whether words of indices become forms where an instruction asks for that, and numbers that are tried one by one end no range. These are
@@ -84,7 +89,7 @@ class Program(Values):
         if records:
             records.begin(self)
         registers = tuple(number(test.harts[hart].registers.get(which, 0)) if which in needed.registers[0] or not which else None for which in range(32))
-        words = tuple(number(test.words.get(place, 0)) for place in kept)
+        words = tuple(number(test.number(*own)) for own in kept)
         # at least nothing is owned of a queue with tags, unless it is asked with all that is
         owned = [0 if queue.has_tags and not opens_full or party is None else queue.first_owned(party) for queue, party in zip(queues, self.parties)]
         shares = tuple(None if party is None else Share(queue.start, *[queue.start % queue.period()] * 2, *[first] * 2,
@@ -197,7 +202,7 @@ class Program(Values):
                 return (value._replace(is_signed=True) if self.is_negative(queue, width, is_signed) else value), which
             self.refuse_looks(state, low, high, width)
             return None, None
-        return (self.own_word(state, low, width) if low == high else None), None
+        return (self.own_word(state, low, width, is_signed) if low == high else None), None
 
     def see_unowned(self, which, pc):
         """Takes down a load of slots that isn't shown to be of owned ones."""
@@ -216,15 +221,46 @@ class Program(Values):
             if party is not None and not queue.has_tags and width == queue.index_width and low <= queue.other(party) <= high:
                 raise Refused(state.pc, "a load that may be of the other's index")
 
-    def own_word(self, state, place, width):
-        if width != 4 or place not in self.at:
+    def own_word(self, state, place, width, is_signed):
+        """What a load of an own word leaves, if one lies there that has so many bytes."""
+        which = self.at.get((place, width))
+        if which is None:
+            if width < 4 and self.narrow.may_be_kept(place, width):
+                self.asked_for.add((place, width))
             return None
-        self.reads.add(self.at[place])
-        if self.at[place] in self.dropped:
-            raise Matters(self.dropped[self.at[place]])
+        self.reads.add(which)
+        if which in self.dropped:
+            raise Matters(self.dropped[which])
         if self.needed.hands:
-            handed.see_load(self, place, state.pc)
-        return state.words[self.at[place]]
+            handed.see_load(self, which, state.pc)
+        return self.low_bytes(state.words[which], width, state, is_signed) if is_signed and width < 4 else state.words[which]
+
+    def low_bytes(self, value, width, state, is_loaded=False):
+        """What is known of the number of which a store leaves so many bytes, fewer than four; or, loaded, of what a signed load leaves of it."""
+        if value is None:
+            return None
+
+        def made(ranges):
+            layout = self.layout(ranges, (value,), True)
+            if not is_loaded:
+                return layout, self.steps.stored_value(layout.most, width, self.operand(layout, value))
+            op, given = next(op for op in SIGNED_LOADS if reference.LOADS[op] == width), layout.value(value)
+            return layout, given if self.steps.keeps_value(layout.most, op, given) else self.steps.extended_value(op, given)
+
+        made = self.once(("low", value, width, is_loaded), (value,), made)
+        layout, found = made(self.ranges(state))
+        if found is reference.ANY and isinstance(value, Form):
+            self.split_for(lambda ranges: made(ranges)[1], (value,), state, FEW_TRIED)
+        if found is reference.ANY:
+            return None
+        found, _ = layout.found(reference.just(found), None)
+        return self.reduced(found) if isinstance(found, Word) and not found.bits else found
+
+    def reduced(self, word):
+        """A word without the variables of other numbers that it doesn't depend on."""
+        modulus = self.queues[word.queue].modulus
+        terms = [(variable, m) for variable, m in word.terms if variable[0] != "z" or SIZE % modulus or m % modulus]
+        return word._replace(count=word.count._replace(terms=tuple(terms)))
 
     def hands_over(self, state, queue):
         """Asks for a search that knows that what a store stores is handed over by a tag."""
@@ -260,11 +296,12 @@ class Program(Values):
             if self.records:
                 self.records.stores(self, which, state, value_of_place, width, value)
             return state.words, None
+        self.stored.add((low, high + width))
         if low == high:
-            self.stored.update(range(low & ~3, low + width, 4))
+            if (low, width) in self.narrow.inputs:
+                self.asked_for.add((low, width))
             return self.written(state, low, width, value), None
-        self.stored.update(range(low & ~3, high + width, 4))
-        return tuple(None if low < place + 4 and place < high + width else word for place, word in zip(self.kept, state.words)), None
+        return tuple(None if low < place + count and place < high + width else word for (place, count), word in zip(self.kept, state.words)), None
 
     @staticmethod
     def told(first, last):
@@ -279,8 +316,12 @@ class Program(Values):
     def written(self, state, place, width, value):
         words = list(state.words)
         for at in range(place & ~3, place + width, 4):
-            if at in self.at:
-                words[self.at[at]] = self.kept_there(state.pc, self.at[at], value) if (at, width) == (place, 4) else None
+            if (at, 4) in self.at:
+                words[self.at[at, 4]] = self.kept_there(state.pc, self.at[at, 4], value) if (at, width) == (place, 4) else None
+        for which, at, count in self.parts:
+            if at < place + width and place < at + count:
+                is_whole = (at, count) == (place, width)
+                words[which] = self.low_bytes(self.kept_there(state.pc, which, value), width, state) if is_whole else None
         return tuple(words)
 
     def kept_there(self, pc, which, value):
