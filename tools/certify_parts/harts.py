@@ -195,7 +195,8 @@ class Harts:
     def asked(self, hart, others, way, turn):
         """What a search depends on, except for its work."""
         far = way.mode == Mode.BY_PATH and tuple(told_apart_of(queue, not turn) for queue in self.queues)
-        return way._replace(work=()), self.numbers_kept(hart, others), self.copies[hart], far, self.records and self.records.known(), tuple(self.parts_at(hart, turn).items())
+        return (way._replace(work=()), self.numbers_kept(hart, others), self.copies[hart], far, self.records and self.records.known(),
+                tuple(self.parts_at(hart, turn).items()))
 
     def parts_at(self, hart, turn):
         """By which numbers the queues' positions are parted, of those of which a search asked for that: in the second turn each is whole."""
