@@ -83,19 +83,19 @@ fn is_right_after(
 /// An effect of a sender's on its queue's slots, of which these fields are right before it, with what is known of the number that it
 /// stores.
 #[derive(Clone, Copy)]
-pub(crate) struct Sending<'a> {
+pub(crate) struct Sending<'a, 's, 'v> {
     pub ranges: &'a [Option<u64>],
     pub queue: Queue,
     pub fields: &'a [Field],
-    pub stored: &'a KnownValue,
-    pub slots: &'a [FilledSlot],
+    pub stored: &'v KnownValue,
+    pub slots: &'s [FilledSlot],
     pub effect: Effect,
 }
 
 /// Whether a field is right after an effect.
 fn is_filled_after(
     alloc: Global,
-    sending: &Sending<'_>,
+    sending: &Sending<'_, '_, '_>,
     position: u64,
     field: u64,
 ) -> Result<bool, Lack>
@@ -128,7 +128,7 @@ fn is_filled_after(
 /// Whether all these fields are.
 fn are_filled_after(
     alloc: Global,
-    sending: &Sending<'_>,
+    sending: &Sending<'_, '_, '_>,
     position: u64,
     mut numbers: &[u64],
 ) -> Result<bool, Lack>
@@ -152,7 +152,7 @@ fn are_filled_after(
 pub(crate) fn are_so(
     alloc: Global,
     target: &[FilledSlot],
-    sending: &Sending<'_>,
+    sending: &Sending<'_, '_, '_>,
 ) -> Result<bool, Lack>
     ensures { IfOk result (λ so. so ≡ are_so target.now (is_filled_after sending.now.ranges.now sending.now.queue sending.now.fields.now
         sending.now.stored.now sending.now.slots.now sending.now.effect)) }

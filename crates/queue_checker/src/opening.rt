@@ -5,6 +5,7 @@ ghost use Rattle.memory.specs.Writes.{byte_of, joined};
 ghost use Rattle.step_machine.specs.Entries.{opening_byte};
 ghost use Rattle.slot_queue.specs.Queues.{index_word};
 ghost use Rattle.slot_queue.specs.Ownership.{party_of};
+ghost use Rattle.queue_certificates.specs.OwnedRuns.{number_seen};
 ghost use Rattle.queue_certificates.specs.States.{any, no_share, word_at, own_number};
 ghost use Rattle.queue_certificates.specs.Steps.{all_below};
 ghost use Rattle.queue_certificates.specs.Certificates.{queue_at, start_at, own_of, part_of, state_at, no_queue};
@@ -203,7 +204,8 @@ fn is_own_word(
     own: OwnWord,
     i: usize,
 ) -> Result<bool, Lack>
-    ensures { IfOk result (λ same. same ≡ is_value (queue_in queues.now) numbers.now (get_or values.now i any) (own_number (byte_of words.now) own)) }
+    ensures { IfOk result (λ same. same ≡ is_value (queue_in queues.now) numbers.now (get_or values.now i any) (number_seen (byte_of words.now)
+        own.at own.width)) }
 {
     let value = value_in(alloc, values, i)?;
     let number = number_at(words, u64::from(own.at), own.width)?;
@@ -219,13 +221,32 @@ fn are_own_words(
     own: &[OwnWord],
 ) -> Result<bool, Lack>
     ensures { IfOk result (λ same. same ≡ all_below (length own.now) (λ j. is_value (queue_in queues.now) numbers.now (get_or values.now j any)
-        (own_number (byte_of words.now) (word_at own.now j)))) }
+        (number_seen (byte_of words.now) (word_at own.now j).at (word_at own.now j).width))) }
 {
     let mut all = true;
     for j in 0..own.len() {
         all = is_own_word(alloc, queues, numbers, values, words, own[j], j)? && all;
     }
     Ok(all)
+}
+
+/// Whether the hart's own words open as a state says.
+fn own_words_open(
+    alloc: Global,
+    opening: &Opening,
+    certificate: &QueueCertificate,
+    hart: u32,
+    state: &KnownState,
+    numbers: &[u64],
+) -> Result<bool, Lack>
+    ensures { IfOk result (λ same. same ≡ all_below (length (own_of certificate.now hart)) (λ j. is_value (queue_at certificate.now) numbers.now
+        (get_or state.now.words j any) (own_number (opening_byte opening.now) (word_at (own_of certificate.now hart) j)))) }
+{
+    let own = own_words(certificate, hart);
+    let queues: &[OpenedQueue] = &certificate.queues;
+    let values: &[KnownValue] = &state.words;
+    let words: &[u32] = &opening.words;
+    are_own_words(alloc, queues, numbers, values, words, own)
 }
 
 /// The count at which queue `i` opens; 0, if there are fewer.
@@ -289,11 +310,10 @@ fn opens_in(
     ensures { IfOk result (λ opens. opens ≡ opens_in opening.now certificate.now hart its.now state.now numbers.now) }
 {
     let queues = &certificate.queues;
-    let own = own_words(certificate, hart);
     let in_ranges = are_in_ranges(&state.ranges, numbers);
     let at_start = state.pc == 0;
     let registers = are_registers(alloc, queues, numbers, &state.registers, &its.registers)?;
-    let words = are_own_words(alloc, queues, numbers, &state.words, &opening.words, own)?;
+    let words = own_words_open(alloc, opening, certificate, hart, state, numbers)?;
     let shares = open_shares(alloc, certificate, hart, &state.shares, numbers)?;
     Ok(in_ranges && at_start && registers && words && shares)
 }

@@ -58,7 +58,7 @@ fn target_fills(
     certificate: &QueueCertificate,
     hart: u32,
     i: u32,
-    sending: &Sending<'_>,
+    sending: &Sending<'_, '_, '_>,
     n: u32,
 ) -> Result<bool, Lack>
     ensures { IfOk result (λ fills. fills ≡ are_so (get_or (state_at certificate.now hart n).filled i [])
@@ -74,7 +74,7 @@ fn arrows_fill(
     certificate: &QueueCertificate,
     hart: u32,
     i: u32,
-    sending: &Sending<'_>,
+    sending: &Sending<'_, '_, '_>,
     mut arrows: &[Arrow],
 ) -> Result<bool, Lack>
     ensures { IfOk result (λ fill. fill ≡ arrows_fill certificate.now hart i arrows.now
@@ -108,14 +108,14 @@ fn effect_sends(
     ensures { IfOk result (λ sends. sends ≡ effect_sends site.now.certificate.now site.now.hart i slots.now site.now.state.now arrows.now stored.now
         effect) }
 {
-    let (certificate, hart) = (site.certificate, site.hart);
+    let (certificate, hart, state) = (site.certificate, site.hart, site.state);
     match effect {
         None => Ok(false),
         Some(effect) => {
             let queue = queue_in(&certificate.queues, i);
             let fields = fields_in(&certificate.queues, i);
             let sending = Sending {
-                ranges: &site.state.ranges,
+                ranges: &state.ranges,
                 queue,
                 fields,
                 stored,

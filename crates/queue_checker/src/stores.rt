@@ -130,8 +130,8 @@ fn may_fill(alloc: Global, site: &Site<'_>, target: &Target, i: u32) -> Result<b
     ensures { IfOk result (λ may. may ≡ may_fill (queue_at site.now.certificate.now) site.now.state.now (party_of (queue_at site.now.certificate.now
         i) site.now.hart) target.now.place target.now.width i) }
 {
-    let (hart, state) = (site.hart, site.state);
-    let queue = queue_in(&site.certificate.queues, i);
+    let (certificate, hart, state) = (site.certificate, site.hart, site.state);
+    let queue = queue_in(&certificate.queues, i);
     if hart == queue.sender || hart == queue.receiver {
         let share = share_in(alloc, &state.shares, i as usize)?;
         is_owned(
@@ -264,8 +264,9 @@ fn after_store(
     ensures { IfOk result (λ s. s ≡ after_store (queue_at site.now.certificate.now) (length site.now.certificate.now.queues) (own_of site.now.certificate.now)
         site.now.hart site.now.state.now handed.now width value.now bounds moves) }
 {
+    let state = site.state;
     let stored = stored_state(alloc, site, handed, value, bounds, width, moves)?;
-    going_to(alloc, &stored, next_pc(site.state.pc))
+    going_to(alloc, &stored, next_pc(state.pc))
 }
 
 /// The states that may follow a store of a value.

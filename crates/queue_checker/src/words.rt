@@ -1,13 +1,13 @@
 //! A hart's own words: of which an access is, and what is known of them after a store.
 
 ghost use Rattle.std.specs.Prelude.{◌≡◌, ◌^◌, ◌-◌, ◌&&◌, ◌==◌, IfOk, length, bit_and, bit_or, bit_xor};
-ghost use Rattle.queue_certificates.specs.States.{word_at, has_bits};
+ghost use Rattle.queue_certificates.specs.States.{word_at, has_bits, plain};
 ghost use Rattle.queue_certificates.specs.Certificates.{queue_at, own_of};
 ghost use Rattle.queue_certificates.specs.Steps.{all_below, last_below, is_one, is_apart, leaves_words, storable};
 ghost use Rattle.queue_certificates.specs.Steps.{low_form, low_bytes, stored_value, word_then, words_then};
 ghost use Rattle.known_values.specs.Queues.{queue_in};
 
-use crate::certificate::QueueCertificate;
+use crate::certificate::{KnownState, QueueCertificate};
 use crate::places::{is_apart, is_one};
 use crate::sites::{Site, own_words, small};
 use crate::states::push_copies;
@@ -187,6 +187,23 @@ fn low_bytes(
     }
 }
 
+/// The same of a value that may be an index's word, in a state.
+fn low_value(
+    alloc: Global,
+    certificate: &QueueCertificate,
+    state: &KnownState,
+    width: u64,
+    value: &KnownValue,
+) -> Result<KnownValue, Lack>
+    ensures { IfOk result (λ v. v ≡ low_bytes (queue_at certificate.now) (length certificate.now.queues) state.now.ranges width
+        (plain (queue_at certificate.now) state.now.ranges value.now)) }
+{
+    let queues: &[OpenedQueue] = &certificate.queues;
+    let ranges: &[Option<u64>] = &state.ranges;
+    let form = plain(alloc, queues, ranges, value)?;
+    low_bytes(alloc, queues, ranges, width, &form)
+}
+
 /// What is known of the number of which a store of a value leaves as many bytes.
 fn stored_value(
     alloc: Global,
@@ -197,13 +214,11 @@ fn stored_value(
     ensures { IfOk result (λ v. v ≡ stored_value (queue_at site.now.certificate.now) (length site.now.certificate.now.queues)
         site.now.state.now.ranges width value.now) }
 {
+    let (certificate, state) = (site.certificate, site.state);
     if width == 4 {
-        storable(alloc, site.certificate, value)
+        storable(alloc, certificate, value)
     } else {
-        let queues = &site.certificate.queues;
-        let ranges = &site.state.ranges;
-        let form = plain(alloc, queues, ranges, value)?;
-        low_bytes(alloc, queues, ranges, width, &form)
+        low_value(alloc, certificate, state, width, value)
     }
 }
 
@@ -270,6 +285,7 @@ pub(crate) fn words_then(
     ensures { IfOk result (λ ws. ws.items ≡ words_then (queue_at site.now.certificate.now) (length site.now.certificate.now.queues)
         site.now.state.now.ranges bounds width value.now (own_of site.now.certificate.now site.now.hart) site.now.state.now.words) }
 {
+    let state = site.state;
     let own = own_words(site.certificate, site.hart);
-    these_words_then(alloc, site, bounds, width, value, own, &site.state.words)
+    these_words_then(alloc, site, bounds, width, value, own, &state.words)
 }
