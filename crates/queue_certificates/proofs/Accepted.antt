@@ -19,7 +19,7 @@ use Rattle.slot_queue.specs.Ownership.{hart, party_of, end}
 use Rattle.queue_certificates.specs.OwnedRuns.{View, AllCounts, Acts}
 use Rattle.queue_certificates.specs.RecordFields.{MeetsField}
 use Rattle.queue_certificates.specs.Forms.{form_value, InRanges}
-use Rattle.queue_certificates.specs.States.{KnownValue, any, linear, index_for, signed_for, ends_as, has_bits, no_share, word_at, own_number}
+use Rattle.queue_certificates.specs.States.{KnownValue, any, linear, index_for, signed_for, ends_as, has_bits, no_share, own_at, own_number}
 use Rattle.queue_certificates.specs.States.{KnownState, Has, signed_word, HasShare, MeansAt}
 use Rattle.queue_certificates.specs.Steps.{all_below}
 use Rattle.queue_certificates.specs.Fields.{is_field}
@@ -246,12 +246,12 @@ module _ (M : ℕ) (o : OpeningValue) (c : QueueCertificate) (ok : accepts o c �
       let a = are_in_ranges k.ranges xs in
       let p4 = and_parts (are_in_ranges k.ranges xs && (k.pc == 0)
       && all_below (length k.registers) (λ j. is_value (queue_at c) xs (get_or k.registers j any) (slice_index (slice_set x.registers 0 0) j))
-      && all_below (length (own_of c h)) (λ j. is_value (queue_at c) xs (get_or k.words j any) (own_number (opening_byte o) (word_at (own_of c h) j))))
+      && all_below (length (own_of c h)) (λ j. is_value (queue_at c) xs (get_or k.words j any) (own_number (opening_byte o) (own_at (own_of c h) j))))
       (all_below (length c.queues) (λ i. opens_share (queue_at c i) (party_of (queue_at c i) h) (start_at c i) (get_or k.shares i no_share) xs)) ok in
       let p3 = and_parts (are_in_ranges k.ranges xs && (k.pc == 0)
       && all_below (length k.registers) (λ j. is_value (queue_at c) xs (get_or k.registers j any) (slice_index (slice_set x.registers 0 0) j)))
       (all_below (length (own_of c h)) (λ j.
-      is_value (queue_at c) xs (get_or k.words j any) (own_number (opening_byte o) (word_at (own_of c h) j))))
+      is_value (queue_at c) xs (get_or k.words j any) (own_number (opening_byte o) (own_at (own_of c h) j))))
       p4.0 in
       let p2 = and_parts (are_in_ranges k.ranges xs && (k.pc == 0))
       (all_below (length k.registers) (λ j. is_value (queue_at c) xs (get_or k.registers j any) (slice_index (slice_set x.registers 0 0) j))) p3.0 in
@@ -259,9 +259,9 @@ module _ (M : ℕ) (o : OpeningValue) (c : QueueCertificate) (ok : accepts o c �
         ranges = in-ranges k.ranges xs p1.0;
         pc = sym (eqb-true k.pc 0 p1.1);
         registers = λ j. register j (cases_lt j (length k.registers)) p2.1;
-        words = λ j less. has-value (queue_at c) xs (get_or k.words j any) (own_number (opening_byte o) (word_at (own_of c h) j))
+        words = λ j less. has-value (queue_at c) xs (get_or k.words j any) (own_number (opening_byte o) (own_at (own_of c h) j))
             (at-below (length (own_of c h)) (λ j. is_value (queue_at c) xs (get_or k.words j any)
-            (own_number (opening_byte o) (word_at (own_of c h) j))) p3.1 j less);
+            (own_number (opening_byte o) (own_at (own_of c h) j))) p3.1 j less);
         shares = λ i less p is. opens-share h k xs i less
             (at-below (length c.queues) (λ i.
             opens_share (queue_at c i) (party_of (queue_at c i) h) (start_at c i) (get_or k.shares i no_share) xs)

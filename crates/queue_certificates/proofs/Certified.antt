@@ -25,7 +25,7 @@ use Rattle.queue_certificates.specs.ToldRuns.{LoadsRestOwned}
 use Rattle.queue_certificates.specs.OwnedRuns.{View, AllCounts, view_then, Acts, IsSameFor, LoadsOwned, kept_beside}
 use Rattle.queue_certificates.specs.RecordFields.{MeetsField}
 use Rattle.queue_certificates.specs.Forms.{Form}
-use Rattle.queue_certificates.specs.States.{KnownValue, KnownState, MeansAt, word_at}
+use Rattle.queue_certificates.specs.States.{KnownValue, KnownState, MeansAt, own_at}
 use Rattle.queue_certificates.specs.Steps.{all_below, follow, instruction_at, loads_owned}
 use Rattle.queue_certificates.specs.Effects.{effect_of, value_stored}
 use Rattle.queue_certificates.specs.Filled.{Filled, no_field, is_filled_after, are_so, most_published, may_send}
@@ -57,8 +57,8 @@ module _ (M : ℕ) (o : OpeningValue) (c : QueueCertificate) (ok : accepts o c �
     next : IsAtState c h z (view_then y m) (λ i. after_access (queue_at c i) (party_of (queue_at c i) h) y (cs i))
         (λ t. told_access (slots_of (tagged_at c t)) (party_in (tagged_at c t) h) y (us t))
     keeps : (i : ℕ) → i < length c.queues → KeepsAccess (queue_at c i) (party_of (queue_at c i) h) (cs i) y
-    apart : (g x : ℕ) → g ≢ h → (j : ℕ) → j < length (own_of c g) → (word_at (own_of c g) j).at ≤ x
-        → x < (word_at (own_of c g) j).at + (word_at (own_of c g) j).width → LeavesByteBy x y
+    apart : (g x : ℕ) → g ≢ h → (j : ℕ) → j < length (own_of c g) → (own_at (own_of c g) j).at ≤ x
+        → x < (own_at (own_of c g) j).at + (own_at (own_of c g) j).width → LeavesByteBy x y
     loads : (i : ℕ) → i < length c.queues → owns i ≡ true → (p : Party) → h ≡ hart (queue_at c i) p → LoadsOwned (queue_at c i) p (cs i) y
     sends : (i : ℕ) → i < length c.queues → HasFields c i → h ≡ (queue_at c i).sender → (k : ℕ) → (cs i).published ≤ k
         → k < (after_access (queue_at c i) (party_of (queue_at c i) h) y (cs i)).published → MeetsFields c i k m

@@ -14,7 +14,7 @@ use Rattle.queue_certificates.specs.declared.own.OwnWord.{OwnWord}
 use Rattle.queue_certificates.specs.OwnedRuns.{View, AllCounts, number_seen, IsSameFor}
 use Rattle.queue_certificates.specs.Forms.{Form, form_value, lifted, substituted, raised, settled, is_same, IsAtMost, InRanges, are_in}
 use Rattle.queue_certificates.specs.States.{KnownValue, any, Share, no_share, KnownState, value_by, share_by, state_by, Has, is_within, HasShare, MeansAt}
-use Rattle.queue_certificates.specs.States.{word_at, own_number}
+use Rattle.queue_certificates.specs.States.{own_at, own_number}
 use Rattle.queue_certificates.specs.Results.{Result}
 use Rattle.queue_certificates.specs.Steps.{all_below, with_register, with_result, going_to}
 use Rattle.queue_certificates.specs.Tags.{tags_lead}
@@ -60,8 +60,8 @@ module _ (queues : ℕ → Queue) (N : ℕ) (own : List OwnWord) (h : ℕ) where
     pc = means.pc;
     registers = λ j. subst (λ v. Has queues ys v (slice_index s.registers j)) (sym (get-by t k.registers j))
         (has-by queues t xs ys same (get_or k.registers j any) (slice_index s.registers j) (means.registers j));
-    words = λ j less. subst (λ v. Has queues ys v (own_number m (word_at own j))) (sym (get-by t k.words j))
-        (has-by queues t xs ys same (get_or k.words j any) (own_number m (word_at own j)) (means.words j less));
+    words = λ j less. subst (λ v. Has queues ys v (own_number m (own_at own j))) (sym (get-by t k.words j))
+        (has-by queues t xs ys same (get_or k.words j any) (own_number m (own_at own j)) (means.words j less));
     shares = λ i less p is. share-by t (queues i) p (cs i) xs ys same k.shares i (means.shares i less p is);
   }
 
@@ -76,14 +76,14 @@ module _ (queues : ℕ → Queue) (N : ℕ) (own : List OwnWord) (h : ℕ) where
   end-frame q the_receiver c d same = same
 
   pub means-frame : (xs : List ℕ) (k : KnownState) (s : HartState) (m n : View) (cs ds : AllCounts) → MeansAt queues N own h xs k s m cs
-      → ((j x : ℕ) → j < length own → (word_at own j).at ≤ x → x < (word_at own j).at + (word_at own j).width → n x ≡ m x)
+      → ((j x : ℕ) → j < length own → (own_at own j).at ≤ x → x < (own_at own j).at + (own_at own j).width → n x ≡ m x)
       → ((i : ℕ) → i < N → IsSameFor (queues i) h (cs i) (ds i)) → MeansAt queues N own h xs k s n ds
   means-frame xs k s m n cs ds means bytes same = record {
     ranges = means.ranges;
     pc = means.pc;
     registers = means.registers;
     words = λ j less. subst (Has queues xs (get_or k.words j any))
-        (sym (kept-number m n (word_at own j).at (word_at own j).width (λ x low high. bytes j x less low high))) (means.words j less);
+        (sym (kept-number m n (own_at own j).at (own_at own j).width (λ x low high. bytes j x less low high))) (means.words j less);
     shares = λ i less p is. (let has = means.shares i less p is in record {
       own = (same i less).count p is ∙ has.own;
       upto = end-frame (queues i) p (cs i) (ds i) ((same i less).known p is) ∙ has.upto;
@@ -231,7 +231,7 @@ module _ (queues : ℕ → Queue) (N : ℕ) (own : List OwnWord) (h : ℕ) where
         ranges = forms-in k.ranges gs t.ranges ys means.ranges p4.1;
         pc = means.pc ∙ eqb-true k.pc t.pc p4.0;
         registers = λ j. each-within k.ranges ys means.ranges gs k.registers t.registers p3.1 j (slice_index s.registers j) (means.registers j);
-        words = λ j less. each-within k.ranges ys means.ranges gs k.words t.words p2.1 j (own_number m (word_at own j)) (means.words j less);
+        words = λ j less. each-within k.ranges ys means.ranges gs k.words t.words p2.1 j (own_number m (own_at own j)) (means.words j less);
         shares = λ i less p is. same-share ys gs (get_or k.shares i no_share) (get_or t.shares i no_share) (queues i) p (cs i)
             (at-below N (λ i. is_share (get_or k.shares i no_share) (get_or t.shares i no_share) gs) p1.1 i less) (means.shares i less p is);
       }

@@ -45,7 +45,7 @@ use Rattle.slot_queue.specs.Ownership.{hart, index, party_of, after_load as afte
 use Rattle.queue_certificates.specs.declared.own.OwnWord.{OwnWord}
 use Rattle.queue_certificates.specs.OwnedRuns.{View, AllCounts, number_seen, view_then, Acts, ReadsFrom, IsSameFor, LoadsOwned, OwnsSlotsOf}
 use Rattle.queue_certificates.specs.Forms.{Form, form_value, number, plus, minus, is_same, most, fits_in, lifted, Bounds, remainder_word}
-use Rattle.queue_certificates.specs.States.{KnownValue, any, linear, index_for, signed_for, ends_as, has_bits, word_at, own_number}
+use Rattle.queue_certificates.specs.States.{KnownValue, any, linear, index_for, signed_for, ends_as, has_bits, own_at, own_number}
 use Rattle.queue_certificates.specs.States.{signed_word, Share, no_share, share_by, KnownState}
 use Rattle.queue_certificates.specs.States.{value_by, state_by, scaled, plain, is_within, Has, HasShare, MeansAt}
 use Rattle.queue_certificates.specs.Results.{Result, just, exactly, as_number, bounds, sum_of, of_immediate, of_shift, of_registers, is_branch_taken}
@@ -200,8 +200,8 @@ module _ (queues : ℕ → Queue) (N : ℕ) (own_of : ℕ → List OwnWord) (h :
   pub record Goes (owns : ℕ → Bool) (xs : List ℕ) (ks : List KnownState) (m : View) (cs : AllCounts) (y : Access) (z : HartState) : Type 0 where
     pub next : z.status ≡ status.Running → IsAmong xs ks z (view_then y m) (λ i. after_access (queues i) (party_of (queues i) h) y (cs i))
     pub keeps : (i : ℕ) → i < N → KeepsAccess (queues i) (party_of (queues i) h) (cs i) y
-    pub apart : (g x : ℕ) → g ≢ h → (j : ℕ) → j < length (own_of g) → (word_at (own_of g) j).at ≤ x
-        → x < (word_at (own_of g) j).at + (word_at (own_of g) j).width → LeavesByteBy x y
+    pub apart : (g x : ℕ) → g ≢ h → (j : ℕ) → j < length (own_of g) → (own_at (own_of g) j).at ≤ x
+        → x < (own_at (own_of g) j).at + (own_at (own_of g) j).width → LeavesByteBy x y
     -- where `owns` says so, its loads of a queue's slots are of owned ones
     pub loads : (i : ℕ) → i < N → owns i ≡ true → (p : Party) → h ≡ hart (queues i) p → LoadsOwned (queues i) p (cs i) y
 
@@ -688,7 +688,7 @@ module _ (M : ℕ) (o : OpeningValue) (queues : ℕ → Queue) (N : ℕ) (own_of
       word-loaded None is = tt
       word-loaded (Some j) is =
           let f = found-below (length (own_of h)) (is_own_word own_of h b width) j is in
-          let own : OwnWord = word_at (own_of h) j in
+          let own : OwnWord = own_at (own_of h) j in
           let parts = and_parts (is_one b && (b.low == own.at)) (width == own.width) f.1 in
           let front = and_parts (is_one b) (b.low == own.at) parts.0 in
           let place : a ≡ own.at = one-place b a front.0 low high ∙ eqb-true b.low own.at front.1 in
@@ -1062,16 +1062,16 @@ module _ (M : ℕ) (o : OpeningValue) (queues : ℕ → Queue) (N : ℕ) (own_of
                   | inr fill ↦ absurd (let no : false ≡ true = subst (λ t. may_fill queues k t place (store_width op) i ≡ true) none fill in cc)
                 ]
 
-    store-apart : (g y : ℕ) → g ≢ h → (j : ℕ) → j < length (own_of g) → (word_at (own_of g) j).at ≤ y
-        → y < (word_at (own_of g) j).at + (word_at (own_of g) j).width → covers w y ≡ false
+    store-apart : (g y : ℕ) → g ≢ h → (j : ℕ) → j < length (own_of g) → (own_at (own_of g) j).at ≤ y
+        → y < (own_at (own_of g) j).at + (own_at (own_of g) j).width → covers w y ≡ false
     store-apart g y far j less from to = elim (cases_lt g H) [
       | inr beyond ↦ absurd (let none : length (own_of g) ≡ 0 = past g beyond in omega (arith, none, less))
       | inl listed ↦ elim (or_cases (g == h)
-          (all_below (length (own_of g)) (λ j. is_apart b (store_width op) (word_at (own_of g) j).at (word_at (own_of g) j).width))
+          (all_below (length (own_of g)) (λ j. is_apart b (store_width op) (own_at (own_of g) j).at (own_at (own_of g) j).width))
           (at-below H (leaves_words own_of h b (store_width op)) leaves g listed)) [
             | inl same ↦ absurd (far (eqb-true g h same))
-            | inr all ↦ apart-from b (store_width op) a (word_at (own_of g) j).at (word_at (own_of g) j).width y (stored op x)
-                (at-below (length (own_of g)) (λ j. is_apart b (store_width op) (word_at (own_of g) j).at (word_at (own_of g) j).width) all j less)
+            | inr all ↦ apart-from b (store_width op) a (own_at (own_of g) j).at (own_at (own_of g) j).width y (stored op x)
+                (at-below (length (own_of g)) (λ j. is_apart b (store_width op) (own_at (own_of g) j).at (own_at (own_of g) j).width) all j less)
                 low high from to
           ]
     ]
@@ -1101,9 +1101,9 @@ module _ (M : ℕ) (o : OpeningValue) (queues : ℕ → Queue) (N : ℕ) (own_of
             (λ y from to. apart-from b (store_width op) a own.at own.width y (stored op x) off low high from to))) has
         by false on = at (is_one b && (b.low == own.at) && (store_width op == own.width)) refl
 
-    words-then : (own : List OwnWord) (us : List KnownValue) → ((j : ℕ) → j < length own → Has queues xs (get_or us j any) (own_number m (word_at own j)))
+    words-then : (own : List OwnWord) (us : List KnownValue) → ((j : ℕ) → j < length own → Has queues xs (get_or us j any) (own_number m (own_at own j)))
         → (j : ℕ) → j < length own
-        → Has queues xs (get_or (words_then queues N k.ranges b (store_width op) vx own us) j any) (own_number (view_then (store w) m) (word_at own j))
+        → Has queues xs (get_or (words_then queues N k.ranges b (store_width op) vx own us) j any) (own_number (view_then (store w) m) (own_at own j))
     words-then [] us all j less = absurd (omega (arith, less))
     words-then (n ∷ own) [] all j less = tt
     words-then (n ∷ own) (u ∷ us) all zero less = word-then n u (all 0 less)

@@ -31,7 +31,7 @@ use Rattle.queue_certificates.specs.ToldRuns.{SeesTags, LoadsRestOwned}
 use Rattle.queue_certificates.specs.OwnedRuns.{View, AllCounts, view_then, Acts, LoadsOwned}
 use Rattle.queue_certificates.specs.RecordFields.{Field, MeetsField}
 use Rattle.queue_certificates.specs.Forms.{Form, Bounds}
-use Rattle.queue_certificates.specs.States.{KnownValue, any, no_share, KnownState, Has, MeansAt, word_at}
+use Rattle.queue_certificates.specs.States.{KnownValue, any, no_share, KnownState, Has, MeansAt, own_at}
 use Rattle.queue_certificates.specs.Results.{bounds}
 use Rattle.queue_certificates.specs.Steps.{anywhere, operand, address_value, addresses, updated_value, exchanging, register_at, follow, instruction_at}
 use Rattle.queue_certificates.specs.Steps.{share_at, loads_owned}
@@ -66,8 +66,8 @@ module _ (tagged : ℕ → TaggedQueue) (T : ℕ) (queues : ℕ → Queue) (N : 
     pub next : z.status ≡ status.Running → IsAmongTold tagged T queues N own_of H h xs ks z (view_then y m)
         (λ i. after_access (queues i) (party_of (queues i) h) y (cs i)) (λ t. told_access (slots_of (tagged t)) (party_in (tagged t) h) y (us t))
     pub keeps : (i : ℕ) → i < N → KeepsAccess (queues i) (party_of (queues i) h) (cs i) y
-    pub apart : (g x : ℕ) → g ≢ h → (j : ℕ) → j < length (own_of g) → (word_at (own_of g) j).at ≤ x
-        → x < (word_at (own_of g) j).at + (word_at (own_of g) j).width → LeavesByteBy x y
+    pub apart : (g x : ℕ) → g ≢ h → (j : ℕ) → j < length (own_of g) → (own_at (own_of g) j).at ≤ x
+        → x < (own_at (own_of g) j).at + (own_at (own_of g) j).width → LeavesByteBy x y
     pub loads : (i : ℕ) → i < N → owns i ≡ true → (p : Party) → h ≡ hart (queues i) p → LoadsOwned (queues i) p (cs i) y
     pub tells : (t : ℕ) → t < T → TellsAccess (slots_of (tagged t)) (party_in (tagged t) h) (us t) y
     -- where `rests` says so, its loads of the queue's slots are of tags and of owned ones

@@ -22,7 +22,7 @@ use Rattle.slots_that_tell.specs.Telling.{owned_end}
 use Rattle.queue_certificates.specs.ToldRuns.{telling, OpenTellers}
 use Rattle.queue_certificates.specs.Forms.{Form, form_value, number, substituted, is_same, settled, are_in}
 use Rattle.queue_certificates.specs.States.{KnownValue, any, linear, index_for, signed_for, ends_as, has_bits, Share, no_share, KnownState}
-use Rattle.queue_certificates.specs.States.{value_by, state_by, signed_word, is_within, word_at, own_number, MeansAt, Means}
+use Rattle.queue_certificates.specs.States.{value_by, state_by, signed_word, is_within, own_at, own_number, MeansAt, Means}
 use Rattle.queue_certificates.specs.Steps.{all_below, is_apart, addresses, exchanged, follow, instruction_at, loads_owned}
 use Rattle.queue_certificates.specs.Cases.{Arrow, Cases, leaf, each_leaf}
 use Rattle.queue_certificates.specs.Fields.{is_field, next_received}
@@ -128,7 +128,7 @@ state_at c h n = get_or (part_of c h).states n nowhere
 
 -- the byte at x is of one of hart h's own words
 abbrev pub IsKeptByte : QueueCertificate → (h x : ℕ) → Type 0
-IsKeptByte c h x = (j : ℕ) × (j < length (own_of c h)) × IsInBytes (word_at (own_of c h) j).at (word_at (own_of c h) j).width x
+IsKeptByte c h x = (j : ℕ) × (j < length (own_of c h)) × IsInBytes (own_at (own_of c h) j).at (own_at (own_of c h) j).width x
 
 -- a hart that runs is in one of its states
 abbrev pub IsInState : QueueCertificate → (h : ℕ) → HartState → View → AllCounts → Type 0
@@ -309,7 +309,7 @@ opens_told q (Some p) start s xs = (start == form_value s.own xs)
 abbrev pub opens_in : OpeningValue → QueueCertificate → (h : ℕ) → HartOpeningValue → KnownState → List ℕ → Bool
 opens_in o c h x k xs = are_in_ranges k.ranges xs && (k.pc == 0)
     && all_below (length k.registers) (λ j. is_value (queue_at c) xs (get_or k.registers j any) (slice_index (slice_set x.registers 0 0) j))
-    && all_below (length (own_of c h)) (λ j. is_value (queue_at c) xs (get_or k.words j any) (own_number (opening_byte o) (word_at (own_of c h) j)))
+    && all_below (length (own_of c h)) (λ j. is_value (queue_at c) xs (get_or k.words j any) (own_number (opening_byte o) (own_at (own_of c h) j)))
     && all_below (length c.queues) (λ i. opens_share (queue_at c i) (party_of (queue_at c i) h) (start_at c i) (get_or k.shares i no_share) xs)
 
 abbrev pub opens_all_told : QueueCertificate → (h : ℕ) → KnownState → List ℕ → Bool

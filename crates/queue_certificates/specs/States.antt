@@ -134,8 +134,8 @@ pub record HasShare (q : Queue) (p : Party) (c : QueueCounts) (xs : List ℕ) (s
 abbrev pub no_word : OwnWord
 no_word = record { at = 0; width = 0 }
 
-abbrev pub word_at : List OwnWord → (j : ℕ) → OwnWord
-word_at own j = get_or own j no_word
+abbrev pub own_at : List OwnWord → (j : ℕ) → OwnWord
+own_at own j = get_or own j no_word
 
 -- what it holds
 abbrev pub own_number : View → OwnWord → ℕ
@@ -147,7 +147,7 @@ module _ (queues : ℕ → Queue) (N : ℕ) (own : List OwnWord) (h : ℕ) where
     pub ranges : InRanges k.ranges xs
     pub pc : s.pc ≡ k.pc
     pub registers : (j : ℕ) → Has queues xs (get_or k.registers j any) (slice_index s.registers j)
-    pub words : (j : ℕ) → j < length own → Has queues xs (get_or k.words j any) (own_number m (word_at own j))
+    pub words : (j : ℕ) → j < length own → Has queues xs (get_or k.words j any) (own_number m (own_at own j))
     pub shares : (i : ℕ) → i < N → (p : Party) → h ≡ hart (queues i) p → HasShare (queues i) p (cs i) xs (get_or k.shares i no_share)
 
   abbrev pub Means : KnownState → HartState → View → AllCounts → Type 0

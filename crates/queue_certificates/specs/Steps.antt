@@ -23,7 +23,7 @@ use Rattle.slot_queue.specs.Ownership.{party_of, index}
 use Rattle.queue_certificates.specs.declared.own.OwnWord.{OwnWord}
 use Rattle.queue_certificates.specs.Forms.{Form, number, first_variable, plus, times, remainder, remainder_word, lifted, is_same, most, fits_in, Bounds, minus}
 use Rattle.queue_certificates.specs.States.{KnownValue, any, linear, index_for, signed_for, ends_as, has_bits, Share, no_share, KnownState, value_by}
-use Rattle.queue_certificates.specs.States.{share_by, state_by, scaled, plain, is_within, word_at}
+use Rattle.queue_certificates.specs.States.{share_by, state_by, scaled, plain, is_within, own_at}
 use Rattle.queue_certificates.specs.Results.{Result, just, exactly, or_up_to, as_number, bounds, sum_of, counting}
 use Rattle.queue_certificates.specs.Results.{of_immediate, of_shift, of_registers, is_branch_taken}
 
@@ -351,11 +351,11 @@ may_load queues N h k b width look = all_below N
 
 module _ (own_of : ℕ → List OwnWord) (h : ℕ) where
   abbrev pub is_own_word : (b : Bounds) (width : ℕ) → (j : ℕ) → Bool
-  is_own_word b width j = is_one b && (b.low == (word_at (own_of h) j).at) && (width == (word_at (own_of h) j).width)
+  is_own_word b width j = is_one b && (b.low == (own_at (own_of h) j).at) && (width == (own_at (own_of h) j).width)
 
   -- it writes no other hart's own word
   abbrev pub leaves_words : Bounds → (width : ℕ) → (g : ℕ) → Bool
-  leaves_words b width g = (g == h) || all_below (length (own_of g)) (λ j. is_apart b width (word_at (own_of g) j).at (word_at (own_of g) j).width)
+  leaves_words b width g = (g == h) || all_below (length (own_of g)) (λ j. is_apart b width (own_at (own_of g) j).at (own_at (own_of g) j).width)
 
 module _ (queues : ℕ → Queue) (N : ℕ) (own_of : ℕ → List OwnWord) (h : ℕ) where
   abbrev pub after_store : KnownState → (d : Form) → (width : ℕ) → KnownValue → Bounds → Option ℕ → KnownState

@@ -6,7 +6,7 @@ ghost use Rattle.step_machine.specs.Entries.{opening_byte};
 ghost use Rattle.slot_queue.specs.Queues.{index_word};
 ghost use Rattle.slot_queue.specs.Ownership.{party_of};
 ghost use Rattle.queue_certificates.specs.OwnedRuns.{number_seen};
-ghost use Rattle.queue_certificates.specs.States.{any, no_share, word_at, own_number};
+ghost use Rattle.queue_certificates.specs.States.{any, no_share, own_at, own_number};
 ghost use Rattle.queue_certificates.specs.Steps.{all_below};
 ghost use Rattle.queue_certificates.specs.Certificates.{queue_at, start_at, own_of, part_of, state_at, no_queue};
 ghost use Rattle.queue_certificates.specs.Certificates.{is_value, is_at_most, are_in_ranges, opens_share, opens_in, opens_unfilled, opens_all_told};
@@ -221,7 +221,7 @@ fn are_own_words(
     own: &[OwnWord],
 ) -> Result<bool, Lack>
     ensures { IfOk result (λ same. same ≡ all_below (length own.now) (λ j. is_value (queue_in queues.now) numbers.now (get_or values.now j any)
-        (number_seen (byte_of words.now) (word_at own.now j).at (word_at own.now j).width))) }
+        (number_seen (byte_of words.now) (own_at own.now j).at (own_at own.now j).width))) }
 {
     let mut all = true;
     for j in 0..own.len() {
@@ -240,7 +240,7 @@ fn own_words_open(
     numbers: &[u64],
 ) -> Result<bool, Lack>
     ensures { IfOk result (λ same. same ≡ all_below (length (own_of certificate.now hart)) (λ j. is_value (queue_at certificate.now) numbers.now
-        (get_or state.now.words j any) (own_number (opening_byte opening.now) (word_at (own_of certificate.now hart) j)))) }
+        (get_or state.now.words j any) (own_number (opening_byte opening.now) (own_at (own_of certificate.now hart) j)))) }
 {
     let own = own_words(certificate, hart);
     let queues: &[OpenedQueue] = &certificate.queues;

@@ -1,7 +1,7 @@
 //! A hart's own words: of which an access is, and what is known of them after a store.
 
 ghost use Rattle.std.specs.Prelude.{◌≡◌, ◌^◌, ◌-◌, ◌&&◌, ◌==◌, IfOk, length, bit_and, bit_or, bit_xor};
-ghost use Rattle.queue_certificates.specs.States.{word_at, has_bits, plain};
+ghost use Rattle.queue_certificates.specs.States.{own_at, has_bits, plain};
 ghost use Rattle.queue_certificates.specs.Certificates.{queue_at, own_of};
 ghost use Rattle.queue_certificates.specs.Steps.{all_below, last_below, is_one, is_apart, leaves_words, storable};
 ghost use Rattle.queue_certificates.specs.Steps.{low_form, low_bytes, stored_value, word_then, words_then};
@@ -34,8 +34,8 @@ fn is_word(word: OwnWord, bounds: Bounds, width: u64) -> bool
 
 /// The last of these words that an access is of, whole.
 pub(crate) fn last_own_word(own: &[OwnWord], bounds: Bounds, width: u64) -> Option<usize>
-    ensures { result ≡ last_below (length own.now) (λ j. is_one bounds && (bounds.low == (word_at own.now j).at)
-        && (width == (word_at own.now j).width)) }
+    ensures { result ≡ last_below (length own.now) (λ j. is_one bounds && (bounds.low == (own_at own.now j).at)
+        && (width == (own_at own.now j).width)) }
 {
     let mut last = None;
     for i in 0..own.len() {
@@ -55,7 +55,7 @@ fn is_beside(word: OwnWord, bounds: Bounds, width: u64) -> Result<bool, Lack>
 
 /// Whether the bytes are none of these words'.
 fn are_apart(own: &[OwnWord], bounds: Bounds, width: u64) -> Result<bool, Lack>
-    ensures { IfOk result (λ apart. apart ≡ all_below (length own.now) (λ j. is_apart bounds width (word_at own.now j).at (word_at own.now j).width)) }
+    ensures { IfOk result (λ apart. apart ≡ all_below (length own.now) (λ j. is_apart bounds width (own_at own.now j).at (own_at own.now j).width)) }
 {
     let mut all = true;
     for j in 0..own.len() {

@@ -1,7 +1,7 @@
 use Rattle.std.proofs.Common.{◌≡◌, get_or}
 use Rattle.memory.specs.Writes.{byte_of}
 use Rattle.queue_certificates.specs.OwnedRuns.{number_seen}
-use Rattle.queue_certificates.specs.States.{any, word_at}
+use Rattle.queue_certificates.specs.States.{any, own_at}
 use Rattle.queue_certificates.specs.Steps.{all_below}
 use Rattle.queue_certificates.specs.Certificates.{is_value}
 use Rattle.known_values.specs.Queues.{queue_in}
@@ -9,4 +9,4 @@ use Rattle.queue_checker.proofs.opening.are_own_words.Given as goal
 
 abbrev pub invariant-loop-j : goal.invariant-loop-j
 invariant-loop-j l = l.all ≡ all_below l.j (λ j. is_value (queue_in l.queues) l.numbers (get_or l.values j any)
-    (number_seen (byte_of l.words) (word_at l.own j).at (word_at l.own j).width))
+    (number_seen (byte_of l.words) (own_at l.own j).at (own_at l.own j).width))

@@ -1,7 +1,7 @@
 use Rattle.std.proofs.Common.{◌≡◌}
-use Rattle.queue_certificates.specs.States.{word_at}
+use Rattle.queue_certificates.specs.States.{own_at}
 use Rattle.queue_certificates.specs.Steps.{all_below, is_apart}
 use Rattle.queue_checker.proofs.words.are_apart.Given as goal
 
 abbrev pub invariant-loop-j : goal.invariant-loop-j
-invariant-loop-j l = l.all ≡ all_below l.j (λ j. is_apart l.bounds l.width (word_at l.own j).at (word_at l.own j).width)
+invariant-loop-j l = l.all ≡ all_below l.j (λ j. is_apart l.bounds l.width (own_at l.own j).at (own_at l.own j).width)

@@ -1,8 +1,8 @@
 use Rattle.std.proofs.Common.{◌≡◌}
 use Rattle.std.specs.Prelude.{◌&&◌, ◌==◌}
-use Rattle.queue_certificates.specs.States.{word_at}
+use Rattle.queue_certificates.specs.States.{own_at}
 use Rattle.queue_certificates.specs.Steps.{last_below, is_one}
 use Rattle.queue_checker.proofs.words.last_own_word.Given as goal
 
 abbrev pub invariant-loop-i : goal.invariant-loop-i
-invariant-loop-i l = l.last ≡ last_below l.i (λ j. is_one l.bounds && (l.bounds.low == (word_at l.own j).at) && (l.width == (word_at l.own j).width))
+invariant-loop-i l = l.last ≡ last_below l.i (λ j. is_one l.bounds && (l.bounds.low == (own_at l.own j).at) && (l.width == (own_at l.own j).width))
