@@ -32,6 +32,7 @@ use Rattle.queue_certificates.specs.Tags.{load_tells, next_told, told_by_store}
 use Rattle.queue_certificates.specs.Cases.{Arrow, Cases, leaf, split, with_low, each_leaf}
 use Rattle.queue_certificates.specs.Certificates.{QueueCertificate, queue_at, fields_at, tagged_at, own_of, part_of, state_at, next_states, arrow_leads}
 use Rattle.queue_certificates.specs.Certificates.{each_leads, all_lead}
+use Rattle.queue_certificates.specs.declared.own.OwnWord.{OwnWord}
 use Rattle.queue_certificates.proofs.Values.{known-is, has-plain}
 use Rattle.queue_certificates.proofs.Results.{branch-is}
 use Rattle.queue_certificates.proofs.Steps.{nobody_told, nothing_sent}
@@ -54,7 +55,7 @@ MayReach pc (Some ks) = Reaches pc ks
 
 -- ---- accesses go on to the next instruction
 
-module _ (tagged : ℕ → TaggedQueue) (T : ℕ) (queues : ℕ → Queue) (N : ℕ) (own_of : ℕ → List ℕ) (H h : ℕ) (fields : ℕ → List Field) (k : KnownState) where
+module _ (tagged : ℕ → TaggedQueue) (T : ℕ) (queues : ℕ → Queue) (N : ℕ) (own_of : ℕ → List OwnWord) (H h : ℕ) (fields : ℕ → List Field) (k : KnownState) where
   abbrev pub next-of : Option Instr → Option (List KnownState) → Option (List KnownState)
   next-of i ks = next_told tagged T queues N own_of H h k i (next_received queues fields N h k i ks)
 
