@@ -163,7 +163,7 @@ module _ (B M : ℕ) (o : OpeningValue) (c : QueueCertificate) (ok : accepts o c
       → (kept_beside (told_beside c)).IsSame h us vs → MeansAll c h k z n ds vs
   still-means h k z m n cs ds us vs w bytes same told = (
     w.0,
-    means-frame (queue_at c) (length c.queues) (own_of c h) h w.0 k z m n cs ds w.1 (λ j x short low high. bytes x (j, short, low, high)) same,
+    means-frame (queue_at c) (length c.queues) (own_of c h) h w.0 k z m n cs ds w.1 (λ j x short low high. bytes x (j, short, (low, high))) same,
     told-frame (tagged_at c) (length c.tagged) (queue_at c) (length c.queues) (own_of c) (length c.harts) h w.0 k us vs w.2 told,
   )
 
