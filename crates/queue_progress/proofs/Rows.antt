@@ -115,7 +115,7 @@ module _ (B M : ℕ) (o : OpeningValue) (c : QueueCertificate) (ok : accepts o c
       still k z m cs us w bytes same told = (
         w.0,
         means-frame (queue_at c) (length c.queues) (own_of c h) h w.0 k z m (Sees (done ++ e ∷ [])) cs (Counted (done ++ e ∷ [])) w.1
-            (λ j x short low high. bytes x (j, short, low, high)) same,
+            (λ j x short low high. bytes x (j, short, (low, high))) same,
         told-frame (tagged_at c) (length c.tagged) (queue_at c) (length c.queues) (own_of c) (length c.harts) h w.0 k us (Told (done ++ e ∷ [])) w.2 told,
       )
 
