@@ -38,10 +38,11 @@ fn opening(alloc: Global, load: u32) -> Result<Opening, AllocError> {
     })
 }
 
-/// The numbers that x1, x3, x4, the half and the byte are known to be at one pc.
+/// The numbers that x1, x3, x4, the half and the byte are known to be at one pc, and the state to which it leads.
 #[derive(Clone, Copy)]
 struct Row {
     pc: u32,
+    to: u32,
     x1: Option<u64>,
     x3: Option<u64>,
     x4: Option<u64>,
@@ -49,9 +50,10 @@ struct Row {
     byte: Option<u64>,
 }
 
-fn at(pc: u32) -> Row {
+fn at(pc: u32, to: u32) -> Row {
     Row {
         pc,
+        to,
         x1: None,
         x3: None,
         x4: None,
@@ -62,21 +64,21 @@ fn at(pc: u32) -> Row {
 
 /// One state at each instruction: the byte has the lowest bits of what is stored.
 fn rows() -> [Row; 6] {
-    let mut to_half = at(4);
+    let mut to_half = at(4, 2);
     to_half.x1 = Some(261);
-    let mut to_byte = at(8);
+    let mut to_byte = at(8, 3);
     to_byte.x1 = Some(261);
     to_byte.half = Some(261);
-    let mut from_half = at(12);
+    let mut from_half = at(12, 4);
     from_half.half = Some(261);
     from_half.byte = Some(5);
-    let mut from_byte = at(16);
+    let mut from_byte = at(16, 5);
     from_byte.x3 = Some(261);
     from_byte.byte = Some(5);
-    let mut last = at(20);
+    let mut last = at(20, 0);
     last.x3 = Some(261);
     last.x4 = Some(5);
-    [at(0), to_half, to_byte, from_half, from_byte, last]
+    [at(0, 1), to_half, to_byte, from_half, from_byte, last]
 }
 
 fn value(alloc: Global, known: Option<u64>) -> KnownValue {
@@ -114,11 +116,10 @@ fn known(alloc: Global, row: Row) -> Result<KnownState, AllocError> {
     })
 }
 
-/// A state that leads to the one at `to`.
-fn listed(alloc: Global, row: Row, to: u32) -> Result<ListedState, AllocError> {
+fn listed(alloc: Global, row: Row) -> Result<ListedState, AllocError> {
     let known = known(alloc, row)?;
     let arrow = Arrow {
-        to,
+        to: row.to,
         forms: Vec::new(alloc),
     };
     Ok(ListedState {
@@ -133,8 +134,7 @@ fn listed(alloc: Global, row: Row, to: u32) -> Result<ListedState, AllocError> {
 fn certificate(alloc: Global) -> Result<QueueCertificate, AllocError> {
     let mut states = Vec::new(alloc);
     for row in rows() {
-        let to = if row.pc == 20 { 0 } else { row.pc / 4 + 1 };
-        states.push(listed(alloc, row, to)?)?;
+        states.push(listed(alloc, row)?)?;
     }
     let half = OwnWord { at: 0, width: 2 };
     let byte = OwnWord { at: 2, width: 1 };
