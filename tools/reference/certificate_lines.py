@@ -2,6 +2,7 @@
 
 import re
 import sys
+from functools import lru_cache
 
 import words
 from digits import of_digits
@@ -16,6 +17,9 @@ WIDTHS = (1, 2, 4)
 # how a tag tells, and how many numbers follow the word
 TELLS = {"zero": 0, "number": 0, "bits": 3}
 ROUND = 2**32
+MOST = str(ROUND)
+# a certificate says the same numbers and forms again and again: so many are remembered
+REMEMBERED = 1 << 14
 
 sys.setrecursionlimit(10_000)
 
@@ -29,15 +33,17 @@ def need(holds):
         raise Bad
 
 
+@lru_cache(REMEMBERED)
 def number(word):
-    need(re.fullmatch("[0-9]+", word) and of_digits(word) < ROUND)
+    need(word.isascii() and word.isdigit() and of_digits(word) < ROUND)
     return of_digits(word)
 
 
 def count(word):
-    return ROUND if word == str(ROUND) else number(word)
+    return ROUND if word == MOST else number(word)
 
 
+@lru_cache(REMEMBERED)
 def form(word, variables):
     """The constant of a form, and its factors up to the last one that it names."""
     first, *others = word.split("+")
@@ -53,7 +59,7 @@ def form(word, variables):
         factor, variable = count(factor), number(variable)
         need(len(factors) <= variable < variables)
         factors += [0] * (variable - len(factors)) + [factor]
-    return constant, factors
+    return constant, tuple(factors)
 
 
 def place(word):
