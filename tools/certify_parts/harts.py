@@ -145,7 +145,10 @@ class Harts:
         # beside bits that tell a loaded word may be stored
         least = 0 if any(queue.has_tags and isinstance(queue.tells, tags.BitsTell) for queue in self.queues) else 4
         loads_bytes = any(word & 127 == LOAD and word >> 12 & 7 >= least for word in self.test.harts[hart].code)
-        ways = sorted(WAYS, key=lambda way: way != BY_SLOTS) if is_tagged else WAYS
+        # where an index counts few rounds, remainders of sums tell little: what joins least without them comes first
+        begins_anew = any(not queue.has_tags and queue.party(hart) is not None and queue.begins_soon_anew() for queue in self.queues)
+        first = BY_SLOTS if is_tagged else TELLING[0] if begins_anew else WAYS[0]
+        ways = sorted(WAYS, key=lambda way: way != first)
         for turn in range(TURNS):
             for number, way in enumerate(ways):
                 if (is_sender or not way.opens_full) and (loads_bytes or not way.with_bytes):

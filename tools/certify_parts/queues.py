@@ -52,6 +52,10 @@ class Queue(NamedTuple):
         """How many turns of the slots an index counts, if these are many and told apart by a number of their own; else 1."""
         return self.modulus // self.size if not self.is_linear() and self.modulus % self.size == 0 and self.modulus > FEW * self.size else 1
 
+    def begins_soon_anew(self):
+        """Whether an index counts a few rounds of the slots, by words that no sum has, and then begins anew."""
+        return self.size < self.modulus <= FEW * self.size and not self.is_linear() and not self.is_cut()
+
     def period(self):
         """The positions of a count modulo this are told apart: they say which slot it has, and, with the turn, which word if words aren't linear."""
         return self.size if self.is_linear() or self.turns() > 1 else self.size * self.modulus // gcd(self.size, self.modulus)
