@@ -245,8 +245,8 @@ class Walks:
                     return
             if name not in ("stopped", "ended"):
                 self.count(h, before, access)
-            elif h in self.lasting:
-                self.outside.append(f"hart {h}, which never stops and never ends: {outcome}")
+            if h in self.lasting and state[0][h][2] != machine.RUNNING:
+                self.outside.append(f"hart {h}, which never stops and never ends, after {outcome}")
                 return
             if not follows or name in ("stopped", "ended"):
                 continue
