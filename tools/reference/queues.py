@@ -184,6 +184,8 @@ class Judge:
         self.test, self.opening, self.listed = test, opening_of(test), read(text)
         # each queue by its number: those with tags after those with indices
         self.opened, self.with_indices = (*self.listed.queues, *self.listed.tagged), len(self.listed.queues)
+        # of harts whether they run in every run, as far as that was asked
+        self.lasting = {}
 
     # ---- what isn't shown
 
@@ -321,12 +323,21 @@ class Judge:
             return f"{EVERY_RUN} protocol of ownership is kept"
         return f"{EVERY_RUN} protocol{'s of ownership and' if self.listed.queues else ''} of slots that tell {'are' if self.listed.queues else 'is'} kept"
 
+    def runs_on(self, number):
+        """Whether a hart runs in every run: None where it may be stopped, and False where it may end alone."""
+        if number not in self.lasting:
+            stop = queue_questions.Hart(self.opening, self.listed, number).stop()
+            self.lasting[number] = None if stop is not None else progress.first_end(self.opening, self.listed, number) is None
+        return self.lasting[number]
+
     def hart(self, number):
         """The lines about a hart."""
         hart = queue_questions.Hart(self.opening, self.listed, number)
         stop, anywhere, written = hart.stop(), hart.anywhere(), hart.written()
         yield (f"hart {number}: never stopped", True) if stop is None else (
             f"hart {number}: not shown that it is never stopped: {self.pc_place(number, stop)}", False)
+        if self.runs_on(number):
+            yield f"hart {number}: never ends", True
         if anywhere is not None:
             yield f"hart {number}: not shown which bytes it writes: {self.pc_place(number, anywhere)}", False
         elif written:
@@ -359,6 +370,13 @@ class Judge:
         return (f"queue {index}: hart {hart} moves on in this or another of its queues, or looks at one and finds {finds}, "
                 f"within {found.pace + len(queues) * (found.sight + 1) + 1} of its instructions, whatever others do")
 
+    def arriving(self, index):
+        """The line of whether more arrives, of a queue whose parties go on, if neither may be stopped."""
+        queue = self.opened[index].queue
+        lasting = [self.runs_on(hart) for hart in (queue.sender, queue.receiver)]
+        ended = "" if all(lasting) else ", or one of its harts has ended"
+        return [] if None in lasting else [f"queue {index}: every run can go on until more is published or taken{ended}"]
+
     def going(self, index):
         """The lines of whether a queue goes on, and whether that is shown."""
         queue = self.opened[index].queue
@@ -372,10 +390,12 @@ class Judge:
             stands = f"queue {index}: not shown that more is published or taken: its harts may move on elsewhere, or wait for one another"
             return [*lines, *([stands] if all(alone or among for alone, among in zip(goes, together)) else [])], False
         if self.has_tags(index):
-            return [*lines, f"queue {index}: whenever no store to a tag is pending and both harts run on, more is published or taken"], True
+            stands = f"queue {index}: whenever no store to a tag is pending and both harts run on, more is published or taken"
+            return [*lines, stands, *self.arriving(index)], True
         slots, records = (each.owned for each in found)
         if slots + records < queue.capacity:
-            return [*lines, f"queue {index}: whenever both indices have landed and both harts run on, more is published or taken"], True
+            stands = f"queue {index}: whenever both indices have landed and both harts run on, more is published or taken"
+            return [*lines, stands, *self.arriving(index)], True
         return [*lines, f"queue {index}: hart {queue.sender} may wait for {slots + 1} free slots and hart {queue.receiver} for {records + 1} records, "
                         f"of {queue.capacity}"], False
 

@@ -25,8 +25,9 @@ use Rattle.engine_support.specs.Inputs.After.{read}
 use Rattle.engine_support.specs.Tests.{tests}
 use Rattle.engine_support.proofs.InputLaws.{IsOne, alike_after, is_one, one_litmus_text}
 use Rattle.certifying.specs.Answers.{IsAnswerTo, IsCertificateAnswer, IsFlawAnswer, IsQueueAnswer, IsTrialAnswer, IsUseAnswer, is_of_queue}
-use Rattle.certifying.specs.Answers.{all_shown, judged_reads, kept_answer, kept_judgement}
+use Rattle.certifying.specs.Answers.{all_shown, asks_endings, judged_reads, kept_answer, kept_judgement}
 use Rattle.certifying.specs.Questions.{Questions}
+use Rattle.certifying.specs.Endings.{all_endings}
 use Rattle.certifying.specs.Going.{all_going, all_going_lines}
 use Rattle.certifying.specs.Harts.{harts_lines, harts_safe}
 use Rattle.certifying.specs.Inputs.{SaysCertificate, certificate_of, certificates}
@@ -37,6 +38,7 @@ use Rattle.certifying.specs.Records.{AreFound, are_read, are_written}
 use Rattle.certifying.specs.declared.records.QueueRecords.{QueueRecords}
 use Rattle.certifying.specs.Unread.{first_unread, unowned_by, unread_of}
 use Rattle.certifying.specs.Unused.{first_unused}
+use Rattle.certifying.specs.declared.endings.Endings.{Endings}
 use Rattle.certifying.specs.declared.judgement.Judgement.{Judgement}
 use Rattle.certifying.specs.declared.judgement.Judgement.TheVariants as judgement
 use Rattle.certifying.specs.declared.unread.Unread.{Unread}
@@ -162,33 +164,36 @@ module _ (laws : Laws) (o : OpeningValue) (c : QueueCertificate) where
   receives none = laws.sent o c ((laws.no_flaw o c).0 none)
 
   module _ (M : ℕ) (asked : Questions) where
+    abbrev ends : List Endings
+    ends = all_endings M o c (asks_endings asked)
+
     lines_hold : first_flaw o c ≡ None → (found : List QueueRecords) → AreFound o c asked found → (answer : List ℕ × Judgement)
         → answer ≡ kept_answer M asked o c found → LinesHold M asked o c answer
     lines_hold none found are answer is =
         let accepted = (laws.no_flaw o c).0 none in record {
           found = found;
           answer_is = is;
-          progress = progress-holds o c laws.going accepted asked.progress;
+          progress = progress-holds o c laws.going laws.harts accepted M asked.progress;
           records = records-hold o c laws.records accepted asked found are;
           harts = harts-hold o c laws.harts accepted M asked.harts;
         }
 
     promised_all : first_flaw o c ≡ None → first_unread o c ≡ None → (found : List QueueRecords) → AreFound o c asked found → (text : List ℕ)
         → (goes : Bool) → all_going o c asked.progress ≡ goes
-        → (all : Bool) → all_shown found (harts_safe M o c asked.harts) ≡ all → LinesHold M asked o c (text, kept_judgement goes all)
+        → (all : Bool) → all_shown found (harts_safe o c ends asked.harts) ≡ all → LinesHold M asked o c (text, kept_judgement goes all)
         → IsPromised M asked (text, kept_judgement goes all) o c
     promised_all none owned found are text true goes true shown hold =
         let accepted = (laws.no_flaw o c).0 none in
-        let both = and_parts (are_written found && are_read found) (harts_safe M o c asked.harts) shown in
+        let both = and_parts (are_written found && are_read found) (harts_safe o c ends asked.harts) shown in
         let records = and_parts (are_written found) (are_read found) both.0 in (
           keeps none,
           keeps_tags none,
           receives none,
           loads none owned,
           loads_tags none owned,
-          keeps-going o c laws.going accepted asked.progress goes,
+          keeps-going o c laws.going laws.harts accepted M asked.progress goes,
           keeps-records o c laws.records accepted asked found are records.0 records.1,
-          keeps-harts o c laws.harts accepted M asked.harts both.1,
+          keeps-harts o c laws.harts accepted M asked.progress asked.harts both.1,
         )
     promised_all none owned found are text true goes false shown hold = (
       keeps none,
@@ -196,7 +201,7 @@ module _ (laws : Laws) (o : OpeningValue) (c : QueueCertificate) where
       receives none,
       loads none owned,
       loads_tags none owned,
-      keeps-going o c laws.going ((laws.no_flaw o c).0 none) asked.progress goes,
+      keeps-going o c laws.going laws.harts ((laws.no_flaw o c).0 none) M asked.progress goes,
       hold,
     )
     promised_all none owned found are text false goes all shown hold =
@@ -204,13 +209,13 @@ module _ (laws : Laws) (o : OpeningValue) (c : QueueCertificate) where
 
     -- what is answered, where the first load that isn't shown is this
     abbrev answered : List QueueRecords → Option Unread → List ℕ × Judgement
-    answered found u = judged_reads o c asked (all_going_lines o c asked.progress) found (harts_lines M o c asked.harts)
-        (all_going o c asked.progress) (harts_safe M o c asked.harts) u
+    answered found u = judged_reads o c asked (all_going_lines o c ends asked.progress) found (harts_lines o c ends asked.harts)
+        (all_going o c asked.progress) (harts_safe o c ends asked.harts) u
 
     promised_reads : first_flaw o c ≡ None → (found : List QueueRecords) → AreFound o c asked found → (u : Option Unread) → first_unread o c ≡ u
         → LinesHold M asked o c (answered found u) → IsPromised M asked (answered found u) o c
     promised_reads none found are None e hold = promised_all none e found are _ (all_going o c asked.progress) refl
-        (all_shown found (harts_safe M o c asked.harts)) refl hold
+        (all_shown found (harts_safe o c ends asked.harts)) refl hold
     promised_reads none found are (Some unread) e hold = (keeps none, keeps_tags none, receives none, hold)
 
     promised_use : first_flaw o c ≡ None → (u : Option Unused) → (answer : List ℕ × Judgement) → IsUseAnswer M asked o c u answer

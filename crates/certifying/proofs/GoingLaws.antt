@@ -16,17 +16,21 @@ use Rattle.queue_progress.specs.declared.pace.Progress.{Progress}
 use Rattle.queue_progress.specs.declared.pace.Progress.TheVariants.{GoesOn, NoPace, NoLook}
 use Rattle.queue_progress.specs.declared.pace.ToldProgress.{ToldProgress}
 use Rattle.queue_progress.specs.declared.pace.ToldProgress.TheVariants.{Within, Endless}
-use Rattle.queue_progress.specs.Rows.{EachAfter, EachOwn, HaveLanded, IsStuckStep, all_moved, counts_at, executed}
+use Rattle.queue_progress.specs.Rows.{Arrives, ArrivesOrEnds, EachAfter, EachOwn, HaveLanded, IsStuckStep, Lasts, RunsOrEnds, all_moved}
+use Rattle.queue_progress.specs.Rows.{counts_at, executed}
 use Rattle.queue_progress.specs.Harts.{IsHartStuck, hart_keeps_going, sides}
 use Rattle.queue_progress.specs.Progress.{hart_progress_of, progress_of}
 use Rattle.queue_progress.specs.Shown.{keeps_going}
-use Rattle.queue_progress.specs.Told.{IsToldStuck, TagsHaveLanded, slots_at, teller_at, told_counts_at, told_progress_of, told_within}
+use Rattle.queue_progress.specs.Told.{IsToldStuck, TagsHaveLanded, ToldArrives, ToldArrivesOrEnds, slots_at, teller_at, told_counts_at}
+use Rattle.queue_progress.specs.Told.{told_progress_of, told_within}
 use Rattle.certifying.specs.Going.{all_going, is_going, is_moving, is_told_going, is_within}
-use Rattle.certifying.specs.Kept.{HartGoesOn, KeepsGoing, PartyGoesOn, ProgressHolds, QueueGoesOn, QueueMoves, TellerGoesOn, TellersGoOn, TellersMove}
+use Rattle.certifying.specs.Kept.{HartGoesOn, KeepsGoing, PartyGoesOn, ProgressHolds, QueueArrives, QueueGoesOn, QueueMoves, TellerGoesOn}
+use Rattle.certifying.specs.Kept.{TellersArrive, TellersGoOn, TellersMove}
 use Rattle.certifying.specs.Together.{are_several, bound_of, pace_of, pace_together, party_by, party_progress}
 use Rattle.certifying.specs.declared.together.Bound.{Bound}
 use Rattle.certifying.specs.declared.together.PartyProgress.{PartyProgress}
 use Rattle.certifying.specs.declared.together.PartyProgress.TheVariants as party
+use Rattle.certifying.proofs.HartLaws.{HartLaws, runs-on, runs-or-ends}
 
 -- what queue_progress promises of an accepted certificate
 pub record GoingLaws : Type 0 where
@@ -40,6 +44,14 @@ pub record GoingLaws : Type 0 where
       → keeps_going o c (queue_at c i).receiver i r ≡ true → (es row : List Entry) → WellFormed B M (history_of o (es ++ row))
       → HaveLanded (queue_at c i) o es (counts_at c i es) → s.pace + s.sight + 2 ≤ executed (queue_at c i).sender row
       → r.pace + r.sight + 2 ≤ executed (queue_at c i).receiver row → all_moved (counts_at c i es) < all_moved (counts_at c i (es ++ row))
+  pub arrives : (B M : ℕ) (o : OpeningValue) (c : QueueCertificate) → accepts o c ≡ true → (i : ℕ) → i < length c.queues → (s r : Pace)
+      → s.owned + r.owned < (queue_at c i).capacity → keeps_going o c (queue_at c i).sender i s ≡ true
+      → keeps_going o c (queue_at c i).receiver i r ≡ true → 1 ≤ B → Lasts B M o (queue_at c i).sender → Lasts B M o (queue_at c i).receiver
+      → (es : List Entry) → WellFormed B M (history_of o es) → Arrives B M o c i es
+  pub arrives_or_ends : (B M : ℕ) (o : OpeningValue) (c : QueueCertificate) → accepts o c ≡ true → (i : ℕ) → i < length c.queues → (s r : Pace)
+      → s.owned + r.owned < (queue_at c i).capacity → keeps_going o c (queue_at c i).sender i s ≡ true
+      → keeps_going o c (queue_at c i).receiver i r ≡ true → 1 ≤ B → RunsOrEnds B M o (queue_at c i).sender
+      → RunsOrEnds B M o (queue_at c i).receiver → (es : List Entry) → WellFormed B M (history_of o es) → ArrivesOrEnds B M o c i es
   pub hart_shown : (o : OpeningValue) (c : QueueCertificate) (h : ℕ) (pace : Pace) → hart_progress_of o c h ≡ GoesOn pace
       → hart_keeps_going o c h pace ≡ true
   pub hart_going : (B M : ℕ) (o : OpeningValue) (c : QueueCertificate) → accepts o c ≡ true → (h : ℕ) (pace : Pace)
@@ -53,6 +65,14 @@ pub record GoingLaws : Type 0 where
       → told_within o c (teller_at c t the_sender) t s ≡ true → told_within o c (teller_at c t the_receiver) t r ≡ true → (es row : List Entry)
       → WellFormed B M (history_of o (es ++ row)) → TagsHaveLanded (slots_at c t) es → s < executed (teller_at c t the_sender) row
       → r < executed (teller_at c t the_receiver) row → all_moved (told_counts_at c t es) < all_moved (told_counts_at c t (es ++ row))
+  pub told_arrives : (B M : ℕ) (o : OpeningValue) (c : QueueCertificate) → accepts o c ≡ true → (t : ℕ) → t < length c.tagged → (s r : ℕ)
+      → told_within o c (teller_at c t the_sender) t s ≡ true → told_within o c (teller_at c t the_receiver) t r ≡ true → 1 ≤ B
+      → Lasts B M o (teller_at c t the_sender) → Lasts B M o (teller_at c t the_receiver) → (es : List Entry) → WellFormed B M (history_of o es)
+      → ToldArrives B M o c t es
+  pub told_arrives_or_ends : (B M : ℕ) (o : OpeningValue) (c : QueueCertificate) → accepts o c ≡ true → (t : ℕ) → t < length c.tagged
+      → (s r : ℕ) → told_within o c (teller_at c t the_sender) t s ≡ true → told_within o c (teller_at c t the_receiver) t r ≡ true → 1 ≤ B
+      → RunsOrEnds B M o (teller_at c t the_sender) → RunsOrEnds B M o (teller_at c t the_receiver) → (es : List Entry)
+      → WellFormed B M (history_of o es) → ToldArrivesOrEnds B M o c t es
 
 -- both parties go on by this queue's numbers, and wait for few enough positions
 record AreMoving (q : Queue) (sender receiver : PartyProgress) : Type 0 where
@@ -101,26 +121,39 @@ some-within : (progress : ToldProgress) → is_within progress ≡ true → (N :
 some-within (Within N) is = (N, refl)
 some-within (Endless n) is = absurd (cc)
 
-module _ (o : OpeningValue) (c : QueueCertificate) (laws : GoingLaws) (accepted : accepts o c ≡ true) where
+module _ (o : OpeningValue) (c : QueueCertificate) (laws : GoingLaws) (harts : HartLaws) (accepted : accepts o c ≡ true) (M : ℕ) where
   party_goes : (i : ℕ) → i < length c.queues → (p : Party) (pace : Pace) → progress_of o c (hart (queue_at c i) p) i ≡ GoesOn pace
       → PartyGoesOn o c i p pace
-  party_goes i less p pace found B M es row formed stuck =
+  party_goes i less p pace found B N es row formed stuck =
       let most : executed (hart (queue_at c i) p) row ≤ pace.pace + pace.sight + 1 =
-      laws.going B M o c accepted i p less pace (laws.shown o c (hart (queue_at c i) p) i pace found) es row formed stuck in
+      laws.going B N o c accepted i p less pace (laws.shown o c (hart (queue_at c i) p) i pace found) es row formed stuck in
       omega (arith, most)
 
   both : (i : ℕ) → i < length c.queues → (s r : Pace) → progress_of o c (queue_at c i).sender i ≡ GoesOn s
       → progress_of o c (queue_at c i).receiver i ≡ GoesOn r → s.owned + r.owned < (queue_at c i).capacity → QueueMoves o c i s r
-  both i less s r sender receiver few B M es row formed landed enough also = laws.stands B M o c accepted i less s r few
+  both i less s r sender receiver few B N es row formed landed enough also = laws.stands B N o c accepted i less s r few
       (laws.shown o c (queue_at c i).sender i s sender) (laws.shown o c (queue_at c i).receiver i r receiver) es row formed landed enough also
+
+  arrives : (i : ℕ) → i < length c.queues → (s r : Pace) → progress_of o c (queue_at c i).sender i ≡ GoesOn s
+      → progress_of o c (queue_at c i).receiver i ≡ GoesOn r → s.owned + r.owned < (queue_at c i).capacity → QueueArrives M o c i
+  arrives i less s r sender receiver few =
+      let sends = laws.shown o c (queue_at c i).sender i s sender in
+      let receives = laws.shown o c (queue_at c i).receiver i r receiver in (
+        λ stops B some. laws.arrives_or_ends B M o c accepted i less s r few sends receives some
+            (runs-or-ends o c harts accepted M (queue_at c i).sender (and_parts _ _ stops).0 B)
+            (runs-or-ends o c harts accepted M (queue_at c i).receiver (and_parts _ _ stops).1 B),
+        λ runs B some. laws.arrives B M o c accepted i less s r few sends receives some
+            (runs-on o c harts accepted M (queue_at c i).sender (and_parts _ _ runs).0 B)
+            (runs-on o c harts accepted M (queue_at c i).receiver (and_parts _ _ runs).1 B),
+      )
 
   hart_together : (h : ℕ) (pace : Pace) → pace_together o c h ≡ Some pace → HartGoesOn o c h pace
   unfolding pace_together
-  hart_together h pace found B M es row formed stuck =
+  hart_together h pace found B N es row formed stuck =
       let several = are_several (sides c h (length c.queues)) in
       let goes : hart_progress_of o c h ≡ GoesOn pace = paced (hart_progress_of o c h) pace (chosen several (pace_of (hart_progress_of o c h)) pace found) in
       let most : executed h row ≤ pace.pace + sides c h (length c.queues) * (pace.sight + 1) =
-      laws.hart_going B M o c accepted h pace (laws.hart_shown o c h pace goes) es row formed stuck in
+      laws.hart_going B N o c accepted h pace (laws.hart_shown o c h pace goes) es row formed stuck in
       omega (arith, most)
 
   alone_in : (h i : ℕ) (bound : Bound) → party_progress o c h i ≡ party.Alone bound → HasPace (progress_of o c h i) bound
@@ -128,22 +161,40 @@ module _ (o : OpeningValue) (c : QueueCertificate) (laws : GoingLaws) (accepted 
   alone_in h i bound is = alone c h (progress_of o c h i) (pace_together o c h) bound is
 
   teller : (t : ℕ) → t < length c.tagged → (p : Party) (N : ℕ) → told_progress_of o c (teller_at c t p) t ≡ Within N → TellerGoesOn o c t p N
-  teller t less p N found B M es row formed stuck =
+  teller t less p N found B K es row formed stuck =
       let most : executed (teller_at c t p) row ≤ N =
-      laws.told_going B M o c accepted t p less N (laws.told_shown o c (teller_at c t p) t N found) es row formed stuck in
+      laws.told_going B K o c accepted t p less N (laws.told_shown o c (teller_at c t p) t N found) es row formed stuck in
       omega (arith, most)
 
   tellers : (t : ℕ) → t < length c.tagged → (s r : ℕ) → told_progress_of o c (tagged_at c t).sender t ≡ Within s
       → told_progress_of o c (tagged_at c t).receiver t ≡ Within r → TellersMove o c t s r
-  tellers t less s r sender receiver B M es row formed landed enough also = laws.told_stands B M o c accepted t less s r
+  tellers t less s r sender receiver B N es row formed landed enough also = laws.told_stands B N o c accepted t less s r
       (laws.told_shown o c (teller_at c t the_sender) t s sender) (laws.told_shown o c (teller_at c t the_receiver) t r receiver) es row formed landed
       (omega (arith, enough)) (omega (arith, also))
 
-  pub progress-holds : (asked : Bool) → ProgressHolds asked o c
-  progress-holds true = (party_goes, both, hart_together, (teller, tellers))
+  tellers_arrive : (t : ℕ) → t < length c.tagged → (s r : ℕ) → told_progress_of o c (tagged_at c t).sender t ≡ Within s
+      → told_progress_of o c (tagged_at c t).receiver t ≡ Within r → TellersArrive M o c t
+  tellers_arrive t less s r sender receiver =
+      let sends = laws.told_shown o c (teller_at c t the_sender) t s sender in
+      let receives = laws.told_shown o c (teller_at c t the_receiver) t r receiver in (
+        λ stops B some. laws.told_arrives_or_ends B M o c accepted t less s r sends receives some
+            (runs-or-ends o c harts accepted M (tagged_at c t).sender (and_parts _ _ stops).0 B)
+            (runs-or-ends o c harts accepted M (tagged_at c t).receiver (and_parts _ _ stops).1 B),
+        λ runs B some. laws.told_arrives B M o c accepted t less s r sends receives some
+            (runs-on o c harts accepted M (tagged_at c t).sender (and_parts _ _ runs).0 B)
+            (runs-on o c harts accepted M (tagged_at c t).receiver (and_parts _ _ runs).1 B),
+      )
+
+  pub progress-holds : (asked : Bool) → ProgressHolds M asked o c
+  progress-holds true = (
+    party_goes,
+    λ i less s r sender receiver few. (both i less s r sender receiver few, arrives i less s r sender receiver few),
+    hart_together,
+    (teller, λ t less s r sender receiver. (tellers t less s r sender receiver, tellers_arrive t less s r sender receiver)),
+  )
   progress-holds false = tt
 
-  queue-goes : (i : ℕ) → i < length c.queues → is_going o c i ≡ true → QueueGoesOn o c i
+  queue-goes : (i : ℕ) → i < length c.queues → is_going o c i ≡ true → QueueGoesOn M o c i
   unfolding is_going
   queue-goes i less is =
       let m = moving (queue_at c i) (party_progress o c (queue_at c i).sender i) (party_progress o c (queue_at c i).receiver i) is in
@@ -158,10 +209,11 @@ module _ (o : OpeningValue) (c : QueueCertificate) (laws : GoingLaws) (accepted 
         sender_goes = party_goes i less the_sender s.pace s.is;
         receiver_goes = party_goes i less the_receiver r.pace r.is;
         moves = both i less s.pace r.pace s.is r.is few;
+        arrives = arrives i less s.pace r.pace s.is r.is few;
       }
 
   -- both parties of a queue with tags go on
-  queue-told : (t : ℕ) → t < length c.tagged → is_told_going o c t ≡ true → TellersGoOn o c t
+  queue-told : (t : ℕ) → t < length c.tagged → is_told_going o c t ≡ true → TellersGoOn M o c t
   unfolding is_told_going
   queue-told t less is =
       let both = and_parts _ _ is in
@@ -175,9 +227,10 @@ module _ (o : OpeningValue) (c : QueueCertificate) (laws : GoingLaws) (accepted 
         sender_goes = teller t less the_sender sends.0 sends.1;
         receiver_goes = teller t less the_receiver receives.0 receives.1;
         moves = tellers t less sends.0 receives.0 sends.1 receives.1;
+        arrives = tellers_arrive t less sends.0 receives.0 sends.1 receives.1;
       }
 
-  pub keeps-going : (asked : Bool) → all_going o c asked ≡ true → KeepsGoing asked o c
+  pub keeps-going : (asked : Bool) → all_going o c asked ≡ true → KeepsGoing M asked o c
   keeps-going false is = tt
   keeps-going true is =
       let parts = and_parts (all_below (length c.queues) (is_going o c)) (all_below (length c.tagged) (is_told_going o c)) is in (

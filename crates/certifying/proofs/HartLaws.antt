@@ -1,7 +1,9 @@
 -- What is shown of harts, where the certificate is accepted.
-use Rattle.std.proofs.Common.{◌≡◌, ℕ, Bool, true, false, not, List, [], ◌∷◌, ◌++◌, length, Some, None, refl, subst}
-use Rattle.std.specs.Prelude.{Option, is_some}
-use Rattle.std.proofs.lemmas.Bool.{and_parts}
+use Rattle.std.proofs.Common.{arith, ◌≡◌, ◌==◌, ◌<◌, ◌≤◌, ◌+◌, ℕ, zero, suc, Bool, true, false, not, List, [], ◌∷◌, ◌++◌, length, Some, None}
+use Rattle.std.proofs.Common.{refl, sym, ap, subst, ◌∙◌, eqb-true}
+use Rattle.std.specs.Prelude.{Option, is_some, nat_lt, ◌||◌}
+use Rattle.std.proofs.lemmas.Bool.{and_parts, eqb-false, ltb-true, ltb-false, false≢true}
+use Rattle.std.proofs.lemmas.List.{get_or_append_left, get_or_push, length-append}
 use Rattle.hart.specs.State.{HartState}
 use Rattle.hart.specs.declared.status.Stop.{Stop}
 use Rattle.hart.specs.declared.status.Status.TheVariants.{Stopped}
@@ -14,41 +16,122 @@ use Rattle.step_machine.specs.Paths.{state_of}
 use Rattle.store_buffers.specs.StoreBuffers.{LeavesByteBy}
 use Rattle.queue_certificates.specs.Certificates.{QueueCertificate, accepts}
 use Rattle.queue_certificates.proofs.States.{at-below}
+use Rattle.hart_safety.specs.Ends.{first_end}
 use Rattle.hart_safety.specs.Regions.{IsInNone}
 use Rattle.hart_safety.specs.Writes.{first_unbounded, regions_written}
 use Rattle.hart_safety.specs.Stops.{first_stop}
+use Rattle.queue_progress.specs.Rows.{Lasts, RunsOrEnds}
+use Rattle.certifying.specs.Endings.{all_endings, always_runs, endings_at, endings_below, endings_in, endings_of, never_stops, no_endings}
 use Rattle.certifying.specs.Harts.{harts_safe, is_safe}
 use Rattle.certifying.specs.Kept.{HartsHold, KeepsHarts, WritesWithinRegions}
+use Rattle.certifying.specs.declared.endings.Endings.{Endings}
 
 -- what `hart_safety` promises where a certificate is accepted
 pub record HartLaws : Type 0 where
   pub never_stopped : (B M : ℕ) (o : OpeningValue) (c : QueueCertificate) → accepts o c ≡ true → (h : ℕ) → first_stop M o c h ≡ None
       → (es : List Entry) → WellFormed B M (history_of o es) → (s : HartState) → state_of M (history_of o es) h ≡ Some s → (why : Stop)
       → s.status ≡ Stopped why → ⊥
+  pub runs_or_ended : (B M : ℕ) (o : OpeningValue) (c : QueueCertificate) → accepts o c ≡ true → (h : ℕ) → h < length o.harts
+      → first_stop M o c h ≡ None → RunsOrEnds B M o h
+  pub runs : (B M : ℕ) (o : OpeningValue) (c : QueueCertificate) → accepts o c ≡ true → (h : ℕ) → h < length o.harts
+      → first_stop M o c h ≡ None → first_end o c h ≡ None → Lasts B M o h
   pub written_within : (B M : ℕ) (o : OpeningValue) (c : QueueCertificate) → accepts o c ≡ true → (es : List Entry) (e : Entry)
       → WellFormed B M (history_of o (es ++ e ∷ [])) → is_land e ≡ false → first_unbounded o c (hart_of e) ≡ None → (x : ℕ)
       → IsInNone x (regions_written o c (hart_of e)) → LeavesByteBy x (access_of e)
+
+-- ---- where harts may be stopped, and where they may end
+
+module _ (M : ℕ) (o : OpeningValue) (c : QueueCertificate) where
+  all-below : (n : ℕ) → length (endings_below M o c n) ≡ n
+  all-below zero = refl
+  all-below (suc n) =
+      let before : length (endings_below M o c n) ≡ n = all-below n in
+      let one : length (endings_below M o c (suc n)) ≡ length (endings_below M o c n) + 1 =
+      length-append (endings_below M o c n) (endings_of M o c n ∷ []) in
+      omega (arith, before, one)
+
+  -- of a hart that is one of them
+  found-next : (n h : ℕ) → h < suc n → (h < n → endings_at (endings_below M o c n) h ≡ endings_of M o c h) → (last : Bool) → (h == n) ≡ last
+      → endings_at (endings_below M o c (suc n)) h ≡ endings_of M o c h
+  found-next n h less before true is = let same : h ≡ n = eqb-true h n is in
+      subst (λ (k : ℕ). endings_at (endings_below M o c (suc n)) k ≡ endings_of M o c k) (sym same)
+      (get_or_push (endings_below M o c n) (endings_of M o c n) no_endings n (all-below n))
+  found-next n h less before false is =
+      let under : h < n = omega (arith, less, eqb-false h n is) in
+      get_or_append_left (endings_below M o c n) (endings_of M o c n ∷ []) no_endings h (subst (λ (k : ℕ). h < k) (sym (all-below n)) under)
+      ∙ before under
+
+  found-at : (n h : ℕ) → h < n → endings_at (endings_below M o c n) h ≡ endings_of M o c h
+  found-at zero h less = absurd (omega (arith, less))
+  found-at (suc n) h less = found-next n h less (found-at n h) (h == n) refl
+
+  -- of another nothing is shown
+  none-at : (xs : List Endings) (h : ℕ) → length xs ≤ h → endings_at xs h ≡ no_endings
+  none-at [] h past = refl
+  none-at (e ∷ xs) zero past = absurd (omega (arith, past))
+  none-at (e ∷ xs) (suc h) past = none-at xs h (omega (arith, past))
+
+  -- so one of which something is shown is one of them
+  abbrev IsListed : (h : ℕ) → Type 0
+  IsListed h = (h < length o.harts) × (endings_in M o c h ≡ endings_of M o c h)
+
+  listed : (h : ℕ) → never_stops (endings_in M o c h) ≡ true → IsListed h
+  listed h stops = by (nat_lt h (length o.harts)) refl
+    where
+      by : (inside : Bool) → nat_lt h (length o.harts) ≡ inside → IsListed h
+      by true is = let less = ltb-true h (length o.harts) is in (less, found-at (length o.harts) h less)
+      by false is =
+          let past : length (endings_below M o c (length o.harts)) ≤ h = omega (arith, all-below (length o.harts), ltb-false h (length o.harts) is) in
+          absurd (false≢true (sym (ap never_stops (none-at (endings_below M o c (length o.harts)) h past)) ∙ stops))
+
+-- ---- what is promised
 
 module _ (o : OpeningValue) (c : QueueCertificate) (laws : HartLaws) (accepted : accepts o c ≡ true) where
   nothing-there : {A : Type 0} (x : Option A) → not (is_some x) ≡ true → x ≡ None
   nothing-there None is = refl
   nothing-there (Some a) is = absurd (cc)
 
-  no-other : (M h : ℕ) → is_safe M o c h ≡ true → (first_stop M o c h ≡ None) × (first_unbounded o c h ≡ None)
+  no-other : (ends : List Endings) (h : ℕ) → is_safe o c ends h ≡ true → ((endings_at ends h).stop ≡ None) × (first_unbounded o c h ≡ None)
   unfolding is_safe
-  no-other M h safe = let both = and_parts _ _ safe in (nothing-there _ both.0, nothing-there _ both.1)
+  no-other ends h safe = let both = and_parts _ _ safe in (nothing-there _ both.0, nothing-there _ both.1)
 
   written-in : (h : ℕ) → first_unbounded o c h ≡ None → WritesWithinRegions o c h
   written-in h none B N es e formed unlanded of_hart =
       subst (λ (g : ℕ). first_unbounded o c g ≡ None → (x : ℕ) → IsInNone x (regions_written o c g) → LeavesByteBy x (access_of e)) of_hart
       (laws.written_within B N o c accepted es e formed unlanded) none
 
+  -- of one of the opening's harts
+  pub runs-or-ends : (M h : ℕ) → never_stops (endings_in M o c h) ≡ true → (B : ℕ) → RunsOrEnds B M o h
+  runs-or-ends M h stops B =
+      let is = listed M o c h stops in
+      laws.runs_or_ended B M o c accepted h is.0 (nothing-there _ (subst (λ (e : Endings). never_stops e ≡ true) is.1 stops))
+
+  runs-by : (M h : ℕ) → h < length o.harts → always_runs (endings_of M o c h) ≡ true → (B : ℕ) → Lasts B M o h
+  runs-by M h less always B = let both = and_parts _ _ always in
+      laws.runs B M o c accepted h less (nothing-there _ both.0) (nothing-there _ both.1)
+
+  pub runs-on : (M h : ℕ) → always_runs (endings_in M o c h) ≡ true → (B : ℕ) → Lasts B M o h
+  runs-on M h always B =
+      let is = listed M o c h (and_parts _ _ always).0 in
+      runs-by M h is.0 (subst (λ (e : Endings). always_runs e ≡ true) is.1 always) B
+
   pub harts-hold : (M : ℕ) (harts : Bool) → HartsHold M harts o c
   harts-hold M false = tt
-  harts-hold M true = λ h less. (λ none B es formed. laws.never_stopped B M o c accepted h none es formed, written-in h)
+  harts-hold M true = λ h less. (
+    λ none B es formed. laws.never_stopped B M o c accepted h none es formed,
+    λ always. runs-by M h less always,
+    written-in h,
+  )
 
-  pub keeps-harts : (M : ℕ) (harts : Bool) → harts_safe M o c harts ≡ true → KeepsHarts M harts o c
-  keeps-harts M false safe = tt
-  keeps-harts M true safe = λ h less.
-      let none = no-other M h (at-below (length o.harts) (is_safe M o c) safe h less) in
-      let hold = harts-hold M true h less in (hold.0 none.0, hold.1 none.1)
+  kept-by : (M : ℕ) → harts_safe o c (endings_below M o c (length o.harts)) true ≡ true → KeepsHarts M true o c
+  kept-by M safe = λ h less.
+      let none = no-other (endings_below M o c (length o.harts)) h (at-below (length o.harts) (is_safe o c (endings_below M o c (length o.harts))) safe h less) in
+      let stops : first_stop M o c h ≡ None =
+      sym (ap (λ (e : Endings). e.stop) (found-at M o c (length o.harts) h less)) ∙ none.0 in
+      let hold = harts-hold M true h less in (hold.0 stops, hold.1, hold.2 none.1)
+
+  -- they are asked for where this is, and where progress is
+  pub keeps-harts : (M : ℕ) (progress harts : Bool) → harts_safe o c (all_endings M o c (progress || harts)) harts ≡ true → KeepsHarts M harts o c
+  keeps-harts M progress false safe = tt
+  keeps-harts M false true safe = kept-by M safe
+  keeps-harts M true true safe = kept-by M safe

@@ -1,8 +1,10 @@
--- The numbers of queues, of either kind.
-use Rattle.std.proofs.Common.{arith, ℕ, ◌≡◌, ◌+◌, ◌-◌, ◌<◌, ◌≤◌, Bool, true, false, length, refl, subst}
+-- The numbers of queues, of either kind, and lines by such numbers.
+use Rattle.std.proofs.Common.{arith, ℕ, zero, suc, ◌≡◌, ◌+◌, ◌-◌, ◌<◌, ◌≤◌, Bool, true, false, List, [], ◌∷◌, ◌++◌, length, drop}
+use Rattle.std.proofs.Common.{refl, sym, ap, subst, ◌∙◌}
 use Rattle.std.specs.Prelude.{nat_lt, Option, None, Some, if◌then◌else◌}
 use Rattle.std.proofs.lemmas.Bool.{ltb-false, ltb-true}
 use Rattle.queue_certificates.specs.Certificates.{QueueCertificate}
+use Rattle.engine_support.specs.OpeningTexts.{numbered}
 use Rattle.certifying.specs.Queues.{queue_count, tagged_number}
 
 numbered_below : (i n : ℕ) → i < n → (if nat_lt i n then None else Some (i - n)) ≡ None
@@ -31,3 +33,12 @@ of_either c P indexed tagged i less = at (nat_lt i (length c.queues)) refl
         let from : n ≤ i = ltb-false i n is in
         let there : n + (i - n) ≡ i = omega (arith, from) in
         subst (λ (j : ℕ). P j (Some (i - n))) there (tagged (i - n) (omega (arith, from, less)))
+
+-- the lines from one element on
+pub one-more : {A : Type 0} (text : ℕ → List ℕ) (n i : ℕ) (xs : List A) → i < length xs
+    → numbered (λ t (x : A). text t) n (drop i xs) ≡ text n ++ numbered (λ t (x : A). text t) (n + 1) (drop (i + 1) xs)
+one-more text n i [] less = absurd (omega (arith, less))
+one-more text n zero (x ∷ xs) less = refl
+one-more {A} text n (suc i) (x ∷ xs) less =
+    let on : suc i + 1 ≡ suc (i + 1) = omega arith in
+    one-more text n i xs (omega (arith, less)) ∙ ap (λ (m : ℕ). text n ++ numbered (λ t (x : A). text t) (n + 1) (drop m (x ∷ xs))) (sym on)

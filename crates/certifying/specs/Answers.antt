@@ -1,5 +1,5 @@
 -- The command `queue`: whether a certificate shows that every run of a litmus text keeps the protocol of its queues, and what is promised then.
-use Rattle.std.specs.Prelude.{ℕ, ◌≡◌, ◌==◌, ◌&&◌, Bool, true, false, List, [], ◌∷◌, ◌++◌, length, codes, Option, Some, None, is_some, Result, Ok, Err}
+use Rattle.std.specs.Prelude.{ℕ, ◌≡◌, ◌==◌, ◌&&◌, ◌||◌, Bool, true, false, List, [], ◌∷◌, ◌++◌, length, codes, Option, Some, None, is_some, Result, Ok, Err}
 use Rattle.step_machine.specs.History.{OpeningValue}
 use Rattle.step_machine.specs.declared.events.Event.{Event}
 use Rattle.queue_certificates.specs.Certificates.{QueueCertificate}
@@ -22,6 +22,7 @@ use Rattle.engine_support.specs.OpeningTexts.{numbered}
 use Rattle.certifying.specs.Questions.{Questions}
 use Rattle.certifying.specs.Broken.{broken_text, runs_line}
 use Rattle.certifying.specs.Descriptions.{all_queue_lines}
+use Rattle.certifying.specs.Endings.{all_endings}
 use Rattle.certifying.specs.Going.{all_going, all_going_lines}
 use Rattle.certifying.specs.Harts.{harts_lines, harts_safe}
 use Rattle.certifying.specs.Inputs.{certificates}
@@ -31,6 +32,7 @@ use Rattle.certifying.specs.Records.{AreFound, are_read, are_written, record_lin
 use Rattle.certifying.specs.Trials.{IsFirstBroken, QueuesKeep}
 use Rattle.certifying.specs.Unread.{first_unread, unread_line}
 use Rattle.certifying.specs.Unused.{first_unused, unused_line}
+use Rattle.certifying.specs.declared.endings.Endings.{Endings}
 use Rattle.certifying.specs.declared.judgement.Judgement.{Judgement}
 use Rattle.certifying.specs.declared.judgement.Judgement.TheVariants.{Kept, ReadsNotShown, ProgressNotShown, AskedNotShown, NotShown, Broken, OtherProtocol}
 use Rattle.certifying.specs.declared.records.QueueRecords.{QueueRecords}
@@ -145,10 +147,18 @@ judged_reads o c asked going found harts goes safe None =
     (kept_text o c asked going found harts goes (all_shown found safe), kept_judgement goes (all_shown found safe))
 judged_reads o c asked going found harts goes safe (Some unread) = (unread_text o c asked going found harts goes unread, ReadsNotShown)
 
+-- the same by where harts may be stopped, and where they may end
+abbrev pub ending_answer : Questions → OpeningValue → QueueCertificate → List QueueRecords → List Endings → List ℕ × Judgement
+ending_answer asked o c found ends = judged_reads o c asked (all_going_lines o c ends asked.progress) found (harts_lines o c ends asked.harts)
+    (all_going o c asked.progress) (harts_safe o c ends asked.harts) (first_unread o c)
+
+-- this is asked where one line or another says something of it
+abbrev pub asks_endings : Questions → Bool
+asks_endings asked = asked.progress || asked.harts
+
 -- the same with M words of memory, by what is found of records
 abbrev pub kept_answer : (M : ℕ) → Questions → OpeningValue → QueueCertificate → List QueueRecords → List ℕ × Judgement
-kept_answer M asked o c found = judged_reads o c asked (all_going_lines o c asked.progress) found (harts_lines M o c asked.harts)
-    (all_going o c asked.progress) (harts_safe M o c asked.harts) (first_unread o c)
+kept_answer M asked o c found = ending_answer asked o c found (all_endings M o c (asks_endings asked))
 
 pub record IsKeptAnswer (M : ℕ) (asked : Questions) (o : OpeningValue) (c : QueueCertificate) (answer : List ℕ × Judgement) : Type 0 where
   pub found : List QueueRecords

@@ -11,8 +11,10 @@ use Rattle.queue_progress.specs.declared.pace.ToldProgress.{ToldProgress}
 use Rattle.queue_progress.specs.declared.pace.ToldProgress.TheVariants.{Within, Endless}
 use Rattle.queue_progress.specs.Told.{told_progress_of}
 use Rattle.engine_support.specs.OpeningTexts.{numbered}
+use Rattle.certifying.specs.Endings.{both_run, endings_at, neither_stops}
 use Rattle.certifying.specs.Together.{party_progress, party_told, together_line}
 use Rattle.certifying.specs.Unread.{pc_place}
+use Rattle.certifying.specs.declared.endings.Endings.{Endings}
 use Rattle.certifying.specs.declared.together.Bound.{Bound}
 use Rattle.certifying.specs.declared.together.PartyProgress.{PartyProgress}
 use Rattle.certifying.specs.declared.together.PartyProgress.TheVariants.{Alone, Together, NoPace, NoLook}
@@ -94,18 +96,31 @@ goes_on (Alone bound) = true
 goes_on (Together bound) = true
 goes_on other = false
 
-abbrev pub both_line : (i : ℕ) → Queue → (sender receiver : PartyProgress) → List ℕ
-both_line i q (Alone s) (Alone r) =
-    if nat_lt (s.owned + r.owned) q.capacity then moving_line i else waiting_line i q (s.owned + 1) (r.owned + 1)
-both_line i q s r = if goes_on s && goes_on r then elsewhere_line i else []
+unfoldable pub arrives_line : (i : ℕ) → List ℕ
+arrives_line i = codes "queue " ++ (decimal i ++ (codes ": every run can go on until more is published or taken" ++ 10 ∷ []))
 
-abbrev pub progress_lines : OpeningValue → QueueCertificate → (i : ℕ) → Queue → (sender receiver : PartyProgress) → List ℕ
-progress_lines o c i q s r = party_lines o c true i q.sender q.receiver s ++ party_lines o c false i q.receiver q.sender r ++ both_line i q s r
+unfoldable pub arrives_or_ends_line : (i : ℕ) → List ℕ
+arrives_or_ends_line i =
+    codes "queue " ++ (decimal i ++ (codes ": every run can go on until more is published or taken, or one of its harts has ended" ++ 10 ∷ []))
+
+-- of two that go on, by where each may be stopped, and where it may end
+abbrev pub arriving_line : (i : ℕ) → (sender receiver : Endings) → List ℕ
+arriving_line i s r = if neither_stops s r then (if both_run s r then arrives_line i else arrives_or_ends_line i) else []
+
+abbrev pub pair_lines : List Endings → (i : ℕ) → Queue → (sender receiver : PartyProgress) → List ℕ
+pair_lines ends i q (Alone s) (Alone r) = if nat_lt (s.owned + r.owned) q.capacity
+    then moving_line i ++ arriving_line i (endings_at ends q.sender) (endings_at ends q.receiver) else waiting_line i q (s.owned + 1) (r.owned + 1)
+pair_lines ends i q s r = if goes_on s && goes_on r then elsewhere_line i else []
+
+abbrev pub progress_lines : OpeningValue → QueueCertificate → List Endings → (i : ℕ) → Queue → (sender receiver : PartyProgress) → List ℕ
+progress_lines o c ends i q s r =
+    party_lines o c true i q.sender q.receiver s ++ party_lines o c false i q.receiver q.sender r ++ pair_lines ends i q s r
 
 -- ---- of a queue with indices
 
-unfoldable pub going_lines : OpeningValue → QueueCertificate → (i : ℕ) → List ℕ
-going_lines o c i = progress_lines o c i (queue_at c i) (party_progress o c (queue_at c i).sender i) (party_progress o c (queue_at c i).receiver i)
+unfoldable pub going_lines : OpeningValue → QueueCertificate → List Endings → (i : ℕ) → List ℕ
+going_lines o c ends i =
+    progress_lines o c ends i (queue_at c i) (party_progress o c (queue_at c i).sender i) (party_progress o c (queue_at c i).receiver i)
 
 unfoldable pub is_going : OpeningValue → QueueCertificate → (i : ℕ) → Bool
 is_going o c i = is_moving (queue_at c i) (party_progress o c (queue_at c i).sender i) (party_progress o c (queue_at c i).receiver i)
@@ -120,17 +135,18 @@ abbrev pub is_within : ToldProgress → Bool
 is_within (Within N) = true
 is_within (Endless n) = false
 
-abbrev pub told_both_line : (i : ℕ) → (moving : Bool) → List ℕ
-told_both_line i true = told_moving_line i
-told_both_line i false = []
+abbrev pub told_pair_lines : (i : ℕ) → (sender receiver : Endings) → (moving : Bool) → List ℕ
+told_pair_lines i s r true = told_moving_line i ++ arriving_line i s r
+told_pair_lines i s r false = []
 
-abbrev pub told_progress_lines : OpeningValue → QueueCertificate → (i sender receiver : ℕ) → ToldProgress → ToldProgress → List ℕ
-told_progress_lines o c i sender receiver s r = party_lines o c true i sender receiver (party_told s)
-    ++ party_lines o c false i receiver sender (party_told r) ++ told_both_line i (is_within s && is_within r)
+abbrev pub told_progress_lines : OpeningValue → QueueCertificate → List Endings → (i sender receiver : ℕ) → ToldProgress → ToldProgress → List ℕ
+told_progress_lines o c ends i sender receiver s r = party_lines o c true i sender receiver (party_told s)
+    ++ party_lines o c false i receiver sender (party_told r)
+    ++ told_pair_lines i (endings_at ends sender) (endings_at ends receiver) (is_within s && is_within r)
 
 -- of queue t of those with tags, which are numbered on after the others
-unfoldable pub told_going_lines : OpeningValue → QueueCertificate → (t : ℕ) → List ℕ
-told_going_lines o c t = told_progress_lines o c (length c.queues + t) (tagged_at c t).sender (tagged_at c t).receiver
+unfoldable pub told_going_lines : OpeningValue → QueueCertificate → List Endings → (t : ℕ) → List ℕ
+told_going_lines o c ends t = told_progress_lines o c ends (length c.queues + t) (tagged_at c t).sender (tagged_at c t).receiver
     (told_progress_of o c (tagged_at c t).sender t) (told_progress_of o c (tagged_at c t).receiver t)
 
 unfoldable pub is_told_going : OpeningValue → QueueCertificate → (t : ℕ) → Bool
@@ -138,9 +154,10 @@ is_told_going o c t = is_within (told_progress_of o c (tagged_at c t).sender t) 
 
 -- ---- of all queues, if it is asked
 
-abbrev pub all_going_lines : OpeningValue → QueueCertificate → (asked : Bool) → List ℕ
-all_going_lines o c true = numbered (λ i opened. going_lines o c i) 0 c.queues ++ numbered (λ t opened. told_going_lines o c t) 0 c.tagged
-all_going_lines o c false = []
+abbrev pub all_going_lines : OpeningValue → QueueCertificate → List Endings → (asked : Bool) → List ℕ
+all_going_lines o c ends true =
+    numbered (λ i opened. going_lines o c ends i) 0 c.queues ++ numbered (λ t opened. told_going_lines o c ends t) 0 c.tagged
+all_going_lines o c ends false = []
 
 -- it is shown
 abbrev pub all_going : OpeningValue → QueueCertificate → (asked : Bool) → Bool

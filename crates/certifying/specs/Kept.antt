@@ -36,19 +36,21 @@ use Rattle.hart_safety.specs.Writes.{first_unbounded, regions_written}
 use Rattle.queue_progress.specs.declared.pace.Pace.{Pace}
 use Rattle.queue_progress.specs.declared.pace.Progress.TheVariants.{GoesOn}
 use Rattle.queue_progress.specs.Harts.{IsHartStuck}
-use Rattle.queue_progress.specs.Rows.{EachAfter, EachOwn, HaveLanded, IsStuckStep, all_moved, counts_at, executed}
+use Rattle.queue_progress.specs.Rows.{Arrives, ArrivesOrEnds, EachAfter, EachOwn, HaveLanded, IsStuckStep, Lasts, all_moved, counts_at, executed}
 use Rattle.queue_progress.specs.declared.pace.ToldProgress.TheVariants.{Within}
 use Rattle.queue_progress.specs.Progress.{progress_of}
-use Rattle.queue_progress.specs.Told.{IsToldStuck, TagsHaveLanded, teller_at, told_counts_at, told_progress_of}
+use Rattle.queue_progress.specs.Told.{IsToldStuck, TagsHaveLanded, ToldArrives, ToldArrivesOrEnds, teller_at, told_counts_at, told_progress_of}
 use Rattle.engine_support.specs.declared.fault.Refusal.{Refusal}
 use Rattle.engine_support.specs.Inputs.{Reads}
 use Rattle.engine_support.specs.Tests.{tests}
 use Rattle.certifying.specs.Answers.{kept_answer, undecided}
+use Rattle.certifying.specs.Endings.{always_runs, both_run, endings_in, endings_of, neither_stops}
 use Rattle.certifying.specs.Questions.{Questions}
 use Rattle.certifying.specs.Inputs.{certificates}
 use Rattle.certifying.specs.Queues.{any_queue, any_start, is_tag_byte, number_in, queue_count, slots_at}
 use Rattle.certifying.specs.Records.{doer}
 use Rattle.certifying.specs.Together.{bound_of, bound_together, pace_together}
+use Rattle.certifying.specs.declared.endings.Endings.{Endings}
 use Rattle.certifying.specs.declared.records.QueueRecords.{QueueRecords}
 use Rattle.certifying.specs.declared.records.Records.{Records}
 use Rattle.certifying.specs.declared.records.Records.TheVariants.{NoBytes, Shown}
@@ -104,10 +106,24 @@ abbrev pub NeverStops : (M : ℕ) → OpeningValue → (h : ℕ) → Type 0
 NeverStops M o h = (B : ℕ) (es : List Entry) → WellFormed B M (history_of o es) → (s : HartState) → state_of M (history_of o es) h ≡ Some s
     → (why : Stop) → s.status ≡ Stopped why → ⊥
 
+-- in each such run it is there and runs
+abbrev pub AlwaysRuns : (M : ℕ) → OpeningValue → (h : ℕ) → Type 0
+AlwaysRuns M o h = (B : ℕ) → Lasts B M o h
+
 -- in each run it writes bytes of its regions only
 abbrev pub WritesWithinRegions : OpeningValue → QueueCertificate → (h : ℕ) → Type 0
 WritesWithinRegions o c h = (B M : ℕ) (es : List Entry) (e : Entry) → WellFormed B M (history_of o (es ++ e ∷ [])) → is_land e ≡ false
     → hart_of e ≡ h → (x : ℕ) → IsInNone x (regions_written o c h) → LeavesByteBy x (access_of e)
+
+-- ---- whether runs can go on
+
+-- it holds after each run with M words of memory, and with store buffers that have room for B stores, at least one
+abbrev pub AfterEachRun : (M : ℕ) → OpeningValue → (Holds : (B : ℕ) → List Entry → Type 0) → Type 0
+AfterEachRun M o Holds = (B : ℕ) → 1 ≤ B → (es : List Entry) → WellFormed B M (history_of o es) → Holds B es
+
+-- one thing does where neither of two harts may be stopped, and another where neither may end, too
+abbrev pub ByEndings : (M : ℕ) → OpeningValue → (sender receiver : Endings) → (OrEnds Always : (B : ℕ) → List Entry → Type 0) → Type 0
+ByEndings M o s r OrEnds Always = (neither_stops s r ≡ true → AfterEachRun M o OrEnds) × (both_run s r ≡ true → AfterEachRun M o Always)
 
 -- ---- whether a queue with indices goes on
 
@@ -125,8 +141,14 @@ QueueMoves o c i s r = (B M : ℕ) (es row : List Entry) → WellFormed B M (his
     → HaveLanded (queue_at c i) o es (counts_at c i es) → bound_of s ≤ executed (queue_at c i).sender row
     → bound_of r ≤ executed (queue_at c i).receiver row → all_moved (counts_at c i es) < all_moved (counts_at c i (es ++ row))
 
+-- After each run other entries may follow, and in the end more is published or taken, or one of the two has ended; and where neither ends, more is
+-- published or taken
+abbrev pub QueueArrives : (M : ℕ) → OpeningValue → QueueCertificate → (i : ℕ) → Type 0
+QueueArrives M o c i = ByEndings M o (endings_in M o c (queue_at c i).sender) (endings_in M o c (queue_at c i).receiver)
+    (λ B. ArrivesOrEnds B M o c i) (λ B. Arrives B M o c i)
+
 -- all of that, with the numbers that the lines have
-pub record QueueGoesOn (o : OpeningValue) (c : QueueCertificate) (i : ℕ) : Type 0 where
+pub record QueueGoesOn (M : ℕ) (o : OpeningValue) (c : QueueCertificate) (i : ℕ) : Type 0 where
   pub sends : Pace
   pub receives : Pace
   pub sender_found : progress_of o c (queue_at c i).sender i ≡ GoesOn sends
@@ -134,6 +156,7 @@ pub record QueueGoesOn (o : OpeningValue) (c : QueueCertificate) (i : ℕ) : Typ
   pub sender_goes : PartyGoesOn o c i the_sender sends
   pub receiver_goes : PartyGoesOn o c i the_receiver receives
   pub moves : QueueMoves o c i sends receives
+  pub arrives : QueueArrives M o c i
 
 -- ---- whether a hart goes on in its queues with indices together
 
@@ -158,8 +181,13 @@ TellersMove o c t s r = (B M : ℕ) (es row : List Entry) → WellFormed B M (hi
     → s + 1 ≤ executed (tagged_at c t).sender row → r + 1 ≤ executed (tagged_at c t).receiver row
     → all_moved (told_counts_at c t es) < all_moved (told_counts_at c t (es ++ row))
 
+-- and after each run such entries may follow
+abbrev pub TellersArrive : (M : ℕ) → OpeningValue → QueueCertificate → (t : ℕ) → Type 0
+TellersArrive M o c t = ByEndings M o (endings_in M o c (tagged_at c t).sender) (endings_in M o c (tagged_at c t).receiver)
+    (λ B. ToldArrivesOrEnds B M o c t) (λ B. ToldArrives B M o c t)
+
 -- all of that, with the numbers that the lines have
-pub record TellersGoOn (o : OpeningValue) (c : QueueCertificate) (t : ℕ) : Type 0 where
+pub record TellersGoOn (M : ℕ) (o : OpeningValue) (c : QueueCertificate) (t : ℕ) : Type 0 where
   pub sends : ℕ
   pub receives : ℕ
   pub sender_found : told_progress_of o c (tagged_at c t).sender t ≡ Within sends
@@ -167,13 +195,14 @@ pub record TellersGoOn (o : OpeningValue) (c : QueueCertificate) (t : ℕ) : Typ
   pub sender_goes : TellerGoesOn o c t the_sender sends
   pub receiver_goes : TellerGoesOn o c t the_receiver receives
   pub moves : TellersMove o c t sends receives
+  pub arrives : TellersArrive M o c t
 
 -- ---- of all, where all is shown
 
 -- each queue goes on, if that is asked
-abbrev pub KeepsGoing : (progress : Bool) → OpeningValue → QueueCertificate → Type 0
-KeepsGoing true o c = ((i : ℕ) → i < length c.queues → QueueGoesOn o c i) × ((t : ℕ) → t < length c.tagged → TellersGoOn o c t)
-KeepsGoing false o c = Unit {0}
+abbrev pub KeepsGoing : (M : ℕ) → (progress : Bool) → OpeningValue → QueueCertificate → Type 0
+KeepsGoing M true o c = ((i : ℕ) → i < length c.queues → QueueGoesOn M o c i) × ((t : ℕ) → t < length c.tagged → TellersGoOn M o c t)
+KeepsGoing M false o c = Unit {0}
 
 -- each queue's records, if they are asked about
 abbrev pub DoesRecords : (writes : Bool) → (asked : Option (List ℕ)) → OpeningValue → QueueCertificate → Type 0
@@ -185,7 +214,8 @@ KeepsRecords asked o c = DoesRecords true asked.written o c × DoesRecords false
 
 -- each hart, if they are asked about
 abbrev pub KeepsHarts : (M : ℕ) → (harts : Bool) → OpeningValue → QueueCertificate → Type 0
-KeepsHarts M true o c = (h : ℕ) → h < length o.harts → NeverStops M o h × WritesWithinRegions o c h
+KeepsHarts M true o c = (h : ℕ) → h < length o.harts → NeverStops M o h × (always_runs (endings_of M o c h) ≡ true → AlwaysRuns M o h)
+    × WritesWithinRegions o c h
 KeepsHarts M false o c = Unit {0}
 
 -- ---- of those whose line says that it is shown, whatever the judgement
@@ -199,34 +229,35 @@ abbrev pub RecordsHold : Questions → OpeningValue → QueueCertificate → Lis
 RecordsHold asked o c found =
     FoundHold true asked.written o c (map (λ both. both.written) found) × FoundHold false asked.read o c (map (λ both. both.read) found)
 
--- each hart without a state that may stop it, and each without a store that may go anywhere
+-- each hart without a state that may stop it, each that may not end either, and each without a store that may go anywhere
 abbrev pub HartsHold : (M : ℕ) → (harts : Bool) → OpeningValue → QueueCertificate → Type 0
 HartsHold M true o c = (h : ℕ) → h < length o.harts → (first_stop M o c h ≡ None → NeverStops M o h)
-    × (first_unbounded o c h ≡ None → WritesWithinRegions o c h)
+    × (always_runs (endings_of M o c h) ≡ true → AlwaysRuns M o h) × (first_unbounded o c h ≡ None → WritesWithinRegions o c h)
 HartsHold M false o c = Unit {0}
 
 -- each party of a queue with tags that is within some number of instructions, and both together
-abbrev pub TellersHold : OpeningValue → QueueCertificate → Type 0
-TellersHold o c = ((t : ℕ) → t < length c.tagged → (p : Party) (N : ℕ) → told_progress_of o c (teller_at c t p) t ≡ Within N → TellerGoesOn o c t p N)
+abbrev pub TellersHold : (M : ℕ) → OpeningValue → QueueCertificate → Type 0
+TellersHold M o c = ((t : ℕ) → t < length c.tagged → (p : Party) (N : ℕ) → told_progress_of o c (teller_at c t p) t ≡ Within N → TellerGoesOn o c t p N)
     × ((t : ℕ) → t < length c.tagged → (s r : ℕ) → told_progress_of o c (tagged_at c t).sender t ≡ Within s
-    → told_progress_of o c (tagged_at c t).receiver t ≡ Within r → TellersMove o c t s r)
+    → told_progress_of o c (tagged_at c t).receiver t ≡ Within r → TellersMove o c t s r × TellersArrive M o c t)
 
 -- each party with a pace, both together where, while they wait, they own fewer positions than the queue has, and each hart with a pace for all its
 -- queues
-abbrev pub ProgressHolds : (progress : Bool) → OpeningValue → QueueCertificate → Type 0
-ProgressHolds true o c = ((i : ℕ) → i < length c.queues → (p : Party) (pace : Pace) → progress_of o c (hart (queue_at c i) p) i ≡ GoesOn pace
+abbrev pub ProgressHolds : (M : ℕ) → (progress : Bool) → OpeningValue → QueueCertificate → Type 0
+ProgressHolds M true o c = ((i : ℕ) → i < length c.queues → (p : Party) (pace : Pace) → progress_of o c (hart (queue_at c i) p) i ≡ GoesOn pace
     → PartyGoesOn o c i p pace)
     × ((i : ℕ) → i < length c.queues → (s r : Pace) → progress_of o c (queue_at c i).sender i ≡ GoesOn s
-    → progress_of o c (queue_at c i).receiver i ≡ GoesOn r → s.owned + r.owned < (queue_at c i).capacity → QueueMoves o c i s r)
+    → progress_of o c (queue_at c i).receiver i ≡ GoesOn r → s.owned + r.owned < (queue_at c i).capacity
+    → QueueMoves o c i s r × QueueArrives M o c i)
     × ((h : ℕ) (pace : Pace) → pace_together o c h ≡ Some pace → HartGoesOn o c h pace)
-    × TellersHold o c
-ProgressHolds false o c = Unit {0}
+    × TellersHold M o c
+ProgressHolds M false o c = Unit {0}
 
 -- The answer has the lines of the queues' progress, of these records and of the harts, and what they say is shown is so.
 pub record LinesHold (M : ℕ) (asked : Questions) (o : OpeningValue) (c : QueueCertificate) (answer : List ℕ × Judgement) : Type 0 where
   pub found : List QueueRecords
   pub answer_is : answer ≡ kept_answer M asked o c found
-  pub progress : ProgressHolds asked.progress o c
+  pub progress : ProgressHolds M asked.progress o c
   pub records : RecordsHold asked o c found
   pub harts : HartsHold M asked.harts o c
 
@@ -255,9 +286,9 @@ pub record AreJudged (file certificate : Option (List ℕ)) (Holds : OpeningValu
 -- what is promised by this text and judgement, with M words of memory
 abbrev pub IsPromised : (M : ℕ) → Questions → List ℕ × Judgement → OpeningValue → QueueCertificate → Type 0
 IsPromised M asked (text, Kept) o c = KeepsProtocol o c × KeepsTags o c × ReceivesFields o c × LoadsOwnedSlots o c × LoadsTagsOrOwned o c
-    × KeepsGoing asked.progress o c × KeepsRecords asked o c × KeepsHarts M asked.harts o c
+    × KeepsGoing M asked.progress o c × KeepsRecords asked o c × KeepsHarts M asked.harts o c
 IsPromised M asked (text, AskedNotShown) o c = KeepsProtocol o c × KeepsTags o c × ReceivesFields o c × LoadsOwnedSlots o c
-    × LoadsTagsOrOwned o c × KeepsGoing asked.progress o c × LinesHold M asked o c (text, AskedNotShown)
+    × LoadsTagsOrOwned o c × KeepsGoing M asked.progress o c × LinesHold M asked o c (text, AskedNotShown)
 IsPromised M asked (text, ProgressNotShown) o c = KeepsProtocol o c × KeepsTags o c × ReceivesFields o c × LoadsOwnedSlots o c
     × LoadsTagsOrOwned o c × LinesHold M asked o c (text, ProgressNotShown)
 IsPromised M asked (text, ReadsNotShown) o c = KeepsProtocol o c × KeepsTags o c × ReceivesFields o c

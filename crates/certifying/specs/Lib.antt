@@ -4,6 +4,7 @@ pub mod Descriptions
 pub mod Unused
 pub mod Unread
 pub mod NotShown
+pub mod Endings
 pub mod Together
 pub mod Going
 pub mod Questions

@@ -15,7 +15,7 @@ ghost use Rattle.ownership_runs.specs.Protocols.{HasSlot};
 ghost use Rattle.certifying.specs.Queues.{any_queue, queue_count};
 ghost use Rattle.queue_checker.specs.Flaws.{first_flaw};
 ghost use Rattle.certifying.specs.Answers.{IsAnswerTo, IsCertificateAnswer, IsFlawAnswer, IsKeptAnswer, IsQueueAnswer, IsTrialAnswer, IsUseAnswer};
-ghost use Rattle.certifying.specs.Answers.{fault_of, is_of_queue, judged_reads, kept_judgement, kept_text, nothing_line};
+ghost use Rattle.certifying.specs.Answers.{asks_endings, fault_of, is_of_queue, judged_reads, kept_judgement, kept_text, nothing_line};
 ghost use Rattle.certifying.specs.Questions.{questions_by};
 ghost use Rattle.certifying.specs.Broken.{runs_line};
 ghost use Rattle.certifying.specs.NotShown.{flaw_line, likely_line};
@@ -25,6 +25,7 @@ ghost use Rattle.certifying.specs.Unused.{first_unused};
 
 use crate::answer_texts::{flaw_text, kept_text, tried_text, unread_text, unused_text};
 use crate::breaking::broken_text;
+use crate::endings::all_endings;
 use crate::going::push_going;
 use crate::harts::{HartsTold, harts_told};
 use crate::input::read_certificate;
@@ -122,6 +123,13 @@ fn judged_reads(
     }
 }
 
+/// Whether it is asked where harts may be stopped, and where they may end: of each queue that goes on, or of each hart.
+fn asks_endings(asked: Questions<'_>) -> bool
+    ensures { result ≡ asks_endings (questions_by asked.entry) }
+{
+    asked.progress || asked.harts
+}
+
 /// The same, on machines with `words` words of memory.
 fn judged_asked(
     alloc: Global,
@@ -132,10 +140,18 @@ fn judged_asked(
 ) -> Result<(String, Judgement), Lack>
     ensures { IfOk result (λ answer. IsKeptAnswer words (questions_by asked.entry) opening.now certificate.now (text_and_value answer)) }
 {
+    let endings = all_endings(alloc, opening, certificate, words, asks_endings(asked))?;
     let mut going = String::new(alloc);
-    let goes = push_going(alloc, &mut going, opening, certificate, asked.progress)?;
+    let goes = push_going(
+        alloc,
+        &mut going,
+        opening,
+        certificate,
+        &endings,
+        asked.progress,
+    )?;
     let found = found_in(alloc, opening, certificate, asked)?;
-    let told = harts_told(alloc, opening, certificate, words, asked.harts)?;
+    let told = harts_told(alloc, opening, certificate, &endings, asked.harts)?;
     judged_reads(
         alloc,
         opening,
@@ -349,7 +365,7 @@ fn made<
 /// If the certificate isn't accepted, but its queues open as it says, the runs of the sample are made of the text for each queue,
 /// with store buffers of `B` pairs and `M` words of memory: then it writes a short schedule of the first run that breaks the protocol
 /// of the first such queue, or that all keep it. That depends neither on the jobs nor on the progress. Where the certificate is
-/// accepted `B` isn't part of the answer, and `M` only of what is asked of the harts.
+/// accepted `B` isn't part of the answer, and `M` only of whether harts may be stopped.
 ///
 /// What is asked besides is answered only where the certificate is accepted.
 ///

@@ -6,12 +6,15 @@ ghost use Rattle.queue_certificates.specs.Certificates.{queue_at, tagged_at};
 ghost use Rattle.queue_certificates.specs.Steps.{all_below};
 ghost use Rattle.engine_support.specs.OpeningTexts.{numbered};
 ghost use Rattle.queue_progress.specs.Told.{told_progress_of};
-ghost use Rattle.certifying.specs.Going.{all_going, all_going_lines, blind_front, both_line, cycle_end, elsewhere_line, few_text, goes_on};
-ghost use Rattle.certifying.specs.Going.{going_lines, idle_front, is_going, is_moving, is_told_going, is_within, many_text, moves_front, moves_line};
-ghost use Rattle.certifying.specs.Going.{moving_line, none_text, one_text, party_lines, progress_lines, told_both_line, told_going_lines};
-ghost use Rattle.certifying.specs.Going.{told_moving_line, told_progress_lines, waiting_end, waiting_front, waiting_line, within_end};
+ghost use Rattle.certifying.specs.Endings.{endings_at};
+ghost use Rattle.certifying.specs.Going.{all_going, all_going_lines, arrives_line, arrives_or_ends_line, arriving_line, blind_front, pair_lines};
+ghost use Rattle.certifying.specs.Going.{cycle_end, elsewhere_line, few_text, goes_on, going_lines, idle_front, is_going, is_moving, is_told_going};
+ghost use Rattle.certifying.specs.Going.{is_within, many_text, moves_front, moves_line, moving_line, none_text, one_text, party_lines, progress_lines};
+ghost use Rattle.certifying.specs.Going.{told_pair_lines, told_going_lines, told_moving_line, told_progress_lines, waiting_end, waiting_front};
+ghost use Rattle.certifying.specs.Going.{waiting_line, within_end};
 ghost use Rattle.certifying.specs.Together.{party_progress, party_told, together_line};
 
+use crate::endings::{Endings, both_run, endings_at, neither_stops};
 use crate::queues::{number_of, number_of_tagged};
 use crate::together::{Bound, PartyProgress, party_progress, party_told, push_together};
 use crate::unread::push_pc_place;
@@ -272,19 +275,64 @@ fn goes_on(progress: PartyProgress) -> bool
     }
 }
 
+#[tactic(auto, unfolding(crate::specs::Going::arrives_line))]
+fn push_arrives(out: &mut String, index: u32) -> Result<(), AllocError>
+    ensures { OnOk result (string_bytes out.new ≡ string_bytes out.old ++ arrives_line index) }
+{
+    writeln!(
+        out,
+        "queue {index}: every run can go on until more is published or taken"
+    )
+}
+
+#[tactic(auto, unfolding(crate::specs::Going::arrives_or_ends_line))]
+fn push_arrives_or_ends(out: &mut String, index: u32) -> Result<(), AllocError>
+    ensures { OnOk result (string_bytes out.new ≡ string_bytes out.old ++ arrives_or_ends_line index) }
+{
+    writeln!(
+        out,
+        "queue {index}: every run can go on until more is published or taken, or one of its harts has ended"
+    )
+}
+
+/// The line of whether more arrives, of two parties that go on, if neither may be stopped.
+fn push_arriving(
+    out: &mut String,
+    index: u32,
+    sender: Endings,
+    receiver: Endings,
+) -> Result<(), AllocError>
+    ensures { OnOk result (string_bytes out.new ≡ string_bytes out.old ++ arriving_line index sender receiver) }
+{
+    if !neither_stops(sender, receiver) {
+        Ok(())
+    } else if both_run(sender, receiver) {
+        push_arrives(out, index)
+    } else {
+        push_arrives_or_ends(out, index)
+    }
+}
+
 fn push_both(
     out: &mut String,
+    endings: &[Endings],
     index: u32,
     queue: Queue,
     sender: PartyProgress,
     receiver: PartyProgress,
 ) -> Result<(), Lack>
-    ensures { OnOk result (string_bytes out.new ≡ string_bytes out.old ++ both_line index queue sender receiver) }
+    ensures { OnOk result (string_bytes out.new ≡ string_bytes out.old ++ pair_lines endings.now index queue sender receiver) }
 {
     match (sender, receiver) {
         (PartyProgress::Alone(sends), PartyProgress::Alone(receives)) => {
             if sum(sends.owned, receives.owned)? < u64::from(queue.capacity) {
                 push_moving(out, index)?;
+                push_arriving(
+                    out,
+                    index,
+                    endings_at(endings, queue.sender),
+                    endings_at(endings, queue.receiver),
+                )?;
             } else {
                 push_waiting(
                     out,
@@ -309,13 +357,14 @@ fn push_progress(
     out: &mut String,
     opening: &Opening,
     certificate: &QueueCertificate,
+    endings: &[Endings],
     index: u32,
     queue: Queue,
     sends: PartyProgress,
     receives: PartyProgress,
 ) -> Result<(), Lack>
     ensures { OnOk result (string_bytes out.new ≡ string_bytes out.old
-        ++ progress_lines opening.now certificate.now index queue sends receives) }
+        ++ progress_lines opening.now certificate.now endings.now index queue sends receives) }
 {
     let Queue {
         sender,
@@ -342,7 +391,7 @@ fn push_progress(
         sender,
         receives,
     )?;
-    push_both(out, index, queue, sends, receives)
+    push_both(out, endings, index, queue, sends, receives)
 }
 
 /// Appends the lines of a queue with indices, and returns whether it is shown to go on.
@@ -352,15 +401,25 @@ fn push_queue(
     out: &mut String,
     opening: &Opening,
     certificate: &QueueCertificate,
+    endings: &[Endings],
     index: u32,
 ) -> Result<bool, Lack>
-    ensures lines { OnOk result (string_bytes out.new ≡ string_bytes out.old ++ going_lines opening.now certificate.now index) }
+    ensures lines { OnOk result (string_bytes out.new ≡ string_bytes out.old ++ going_lines opening.now certificate.now endings.now index) }
     ensures going { IfOk result (λ going. going ≡ is_going opening.now certificate.now index) }
 {
     let queue = queue_in(&certificate.queues, index);
     let sends = party_progress(alloc, opening, certificate, queue.sender, index)?;
     let receives = party_progress(alloc, opening, certificate, queue.receiver, index)?;
-    push_progress(out, opening, certificate, index, queue, sends, receives)?;
+    push_progress(
+        out,
+        opening,
+        certificate,
+        endings,
+        index,
+        queue,
+        sends,
+        receives,
+    )?;
     is_moving(queue, sends, receives)
 }
 
@@ -370,15 +429,16 @@ fn push_indexed(
     out: &mut String,
     opening: &Opening,
     certificate: &QueueCertificate,
+    endings: &[Endings],
 ) -> Result<bool, Lack>
     ensures lines { OnOk result (string_bytes out.new ≡ string_bytes out.old
-        ++ numbered (λ i opened. going_lines opening.now certificate.now i) 0 certificate.now.queues) }
+        ++ numbered (λ i opened. going_lines opening.now certificate.now endings.now i) 0 certificate.now.queues) }
     ensures going { IfOk result (λ going. going ≡ all_below (length certificate.now.queues) (is_going opening.now certificate.now)) }
 {
     let mut all = true;
     for (place, _opened) in certificate.queues.iter().enumerate() {
         let index = number_of(place)?;
-        let going = push_queue(alloc, out, opening, certificate, index)?;
+        let going = push_queue(alloc, out, opening, certificate, endings, index)?;
         all = going && all;
     }
     Ok(all)
@@ -405,11 +465,18 @@ fn is_within(progress: ToldProgress) -> bool
     }
 }
 
-fn push_told_both(out: &mut String, index: u32, moving: bool) -> Result<(), AllocError>
-    ensures { OnOk result (string_bytes out.new ≡ string_bytes out.old ++ told_both_line index moving) }
+fn push_told_both(
+    out: &mut String,
+    index: u32,
+    sender: Endings,
+    receiver: Endings,
+    moving: bool,
+) -> Result<(), AllocError>
+    ensures { OnOk result (string_bytes out.new ≡ string_bytes out.old ++ told_pair_lines index sender receiver moving) }
 {
     if moving {
-        push_told_moving(out, index)
+        push_told_moving(out, index)?;
+        push_arriving(out, index, sender, receiver)
     } else {
         Ok(())
     }
@@ -419,15 +486,20 @@ fn push_told_progress(
     out: &mut String,
     opening: &Opening,
     certificate: &QueueCertificate,
+    endings: &[Endings],
     index: u32,
-    sender: u32,
-    receiver: u32,
+    queue: TaggedQueue,
     sends: ToldProgress,
     receives: ToldProgress,
 ) -> Result<(), Lack>
     ensures { OnOk result (string_bytes out.new ≡ string_bytes out.old
-        ++ told_progress_lines opening.now certificate.now index sender receiver sends receives) }
+        ++ told_progress_lines opening.now certificate.now endings.now index queue.sender queue.receiver sends receives) }
 {
+    let TaggedQueue {
+        sender,
+        receiver,
+        ..
+    } = queue;
     push_party(
         out,
         opening,
@@ -448,7 +520,13 @@ fn push_told_progress(
         sender,
         party_told(receives)?,
     )?;
-    Ok(push_told_both(out, index, is_within(sends) && is_within(receives))?)
+    Ok(push_told_both(
+        out,
+        index,
+        endings_at(endings, sender),
+        endings_at(endings, receiver),
+        is_within(sends) && is_within(receives),
+    )?)
 }
 
 /// Appends the lines of queue `tagged` of those with tags, and returns whether it is shown to go on.
@@ -458,26 +536,23 @@ fn push_tagged(
     out: &mut String,
     opening: &Opening,
     certificate: &QueueCertificate,
+    endings: &[Endings],
     tagged: u32,
 ) -> Result<bool, Lack>
-    ensures lines { OnOk result (string_bytes out.new ≡ string_bytes out.old ++ told_going_lines opening.now certificate.now tagged) }
+    ensures lines { OnOk result (string_bytes out.new ≡ string_bytes out.old ++ told_going_lines opening.now certificate.now endings.now tagged) }
     ensures going { IfOk result (λ going. going ≡ is_told_going opening.now certificate.now tagged) }
 {
-    let TaggedQueue {
-        sender,
-        receiver,
-        ..
-    } = tagged_in(&certificate.tagged, tagged);
+    let queue = tagged_in(&certificate.tagged, tagged);
     let index = number_of_tagged(certificate, tagged as usize)?;
-    let sends = told_progress_of(alloc, opening, certificate, sender, tagged)?;
-    let receives = told_progress_of(alloc, opening, certificate, receiver, tagged)?;
+    let sends = told_progress_of(alloc, opening, certificate, queue.sender, tagged)?;
+    let receives = told_progress_of(alloc, opening, certificate, queue.receiver, tagged)?;
     push_told_progress(
         out,
         opening,
         certificate,
+        endings,
         index,
-        sender,
-        receiver,
+        queue,
         sends,
         receives,
     )?;
@@ -490,35 +565,38 @@ fn push_all_tagged(
     out: &mut String,
     opening: &Opening,
     certificate: &QueueCertificate,
+    endings: &[Endings],
 ) -> Result<bool, Lack>
     ensures lines { OnOk result (string_bytes out.new ≡ string_bytes out.old
-        ++ numbered (λ t opened. told_going_lines opening.now certificate.now t) 0 certificate.now.tagged) }
+        ++ numbered (λ t opened. told_going_lines opening.now certificate.now endings.now t) 0 certificate.now.tagged) }
     ensures going { IfOk result (λ going. going ≡ all_below (length certificate.now.tagged) (is_told_going opening.now certificate.now)) }
 {
     let mut all = true;
     for (place, _opened) in certificate.tagged.iter().enumerate() {
         let number = number_of(place)?;
-        let going = push_tagged(alloc, out, opening, certificate, number)?;
+        let going = push_tagged(alloc, out, opening, certificate, endings, number)?;
         all = going && all;
     }
     Ok(all)
 }
 
-/// Appends the lines of whether each queue goes on, if that is asked, and returns whether it is shown.
+/// Appends the lines of whether each queue goes on, if that is asked, by where harts may be stopped, and where they may end. It returns
+/// whether each is shown to go on.
 pub fn push_going(
     alloc: Global,
     out: &mut String,
     opening: &Opening,
     certificate: &QueueCertificate,
+    endings: &[Endings],
     asked: bool,
 ) -> Result<bool, Lack>
-    ensures lines { OnOk result (string_bytes out.new ≡ string_bytes out.old ++ all_going_lines opening.now certificate.now asked) }
+    ensures lines { OnOk result (string_bytes out.new ≡ string_bytes out.old ++ all_going_lines opening.now certificate.now endings.now asked) }
     ensures going { IfOk result (λ going. going ≡ all_going opening.now certificate.now asked) }
 {
     if !asked {
         return Ok(true);
     }
-    let indexed = push_indexed(alloc, out, opening, certificate)?;
-    let tagged = push_all_tagged(alloc, out, opening, certificate)?;
+    let indexed = push_indexed(alloc, out, opening, certificate, endings)?;
+    let tagged = push_all_tagged(alloc, out, opening, certificate, endings)?;
     Ok(indexed && tagged)
 }

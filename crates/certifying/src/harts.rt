@@ -1,17 +1,19 @@
-//! Whether harts are never stopped, and which bytes they write.
+//! Whether harts are never stopped and never end, and which bytes they write.
 
 ghost use Rattle.std.specs.Prelude.{◌≡◌, ◌++◌, IfOk, OnOk, map, true};
 ghost use Rattle.std.specs.String.{string_bytes};
 ghost use Rattle.record_bytes.specs.declared.ranges.ByteRange.{ByteRange};
 ghost use Rattle.hart_safety.specs.declared.regions.Region.{Region};
 ghost use Rattle.hart_safety.specs.Writes.{first_unbounded, writes_of};
-ghost use Rattle.certifying.specs.Harts.{anywhere_front, anywhere_line, hart_lines, harts_lines, harts_safe, is_safe, never_line, nothing_written};
-ghost use Rattle.certifying.specs.Harts.{only_end, range_of_region, regions_line, stop_front, stop_line, writes_front, writes_line};
+ghost use Rattle.certifying.specs.Harts.{anywhere_front, anywhere_line, end_line, endless_line, hart_lines, harts_lines, harts_safe, is_safe};
+ghost use Rattle.certifying.specs.Harts.{never_line, nothing_written, only_end, range_of_region, regions_line, stop_front, stop_line, writes_front};
+ghost use Rattle.certifying.specs.Harts.{writes_line};
 
 use crate::byte_texts::push_bytes;
+use crate::endings::{Endings, always_runs, endings_at, never_stops};
 use crate::queues::number_of;
 use crate::unread::push_pc_place;
-use hart_safety::{Region, Writes, first_stop, writes_of};
+use hart_safety::{Region, Writes, writes_of};
 use known_values::Lack;
 use queue_checker::QueueCertificate;
 use record_bytes::ByteRange;
@@ -56,6 +58,24 @@ fn push_stop(
             push_pc_place(out, opening, certificate, hart, state)?;
             writeln!(out, "")
         }
+    }
+}
+
+#[tactic(auto, unfolding(crate::specs::Harts::endless_line))]
+fn push_endless(out: &mut String, hart: u32) -> Result<(), AllocError>
+    ensures { OnOk result (string_bytes out.new ≡ string_bytes out.old ++ endless_line hart) }
+{
+    writeln!(out, "hart {hart}: never ends")
+}
+
+/// The line of a hart that never ends, if nothing stops it either.
+fn push_end(out: &mut String, hart: u32, endings: Endings) -> Result<(), AllocError>
+    ensures { OnOk result (string_bytes out.new ≡ string_bytes out.old ++ end_line hart endings) }
+{
+    if always_runs(endings) {
+        push_endless(out, hart)
+    } else {
+        Ok(())
     }
 }
 
@@ -148,58 +168,59 @@ fn push_writes(
     }
 }
 
-/// Appends the lines of a hart, and returns whether both are shown.
+/// Appends the lines of a hart, and returns whether it is shown never to be stopped, and which bytes it writes.
 #[tactic(auto, unfolding(crate::specs::Harts::hart_lines, crate::specs::Harts::is_safe))]
 fn push_hart(
     alloc: Global,
     out: &mut String,
     opening: &Opening,
     certificate: &QueueCertificate,
-    words: u64,
+    endings: &[Endings],
     hart: u32,
 ) -> Result<bool, Lack>
-    ensures lines { OnOk result (string_bytes out.new ≡ string_bytes out.old ++ hart_lines words opening.now certificate.now hart) }
-    ensures safe { IfOk result (λ safe. safe ≡ is_safe words opening.now certificate.now hart) }
+    ensures lines { OnOk result (string_bytes out.new ≡ string_bytes out.old ++ hart_lines opening.now certificate.now endings.now hart) }
+    ensures safe { IfOk result (λ safe. safe ≡ is_safe opening.now certificate.now endings.now hart) }
 {
-    let stop = first_stop(alloc, opening, certificate, words, hart)?;
+    let its = endings_at(endings, hart);
     let writes = writes_of(alloc, opening, certificate, hart)?;
-    push_stop(out, opening, certificate, hart, stop)?;
+    push_stop(out, opening, certificate, hart, its.stop)?;
+    push_end(out, hart, its)?;
     push_writes(alloc, out, opening, certificate, hart, &writes)?;
-    Ok(stop.is_none() && writes.unbounded.is_none())
+    Ok(never_stops(its) && writes.unbounded.is_none())
 }
 
 fn all_told(
     alloc: Global,
     opening: &Opening,
     certificate: &QueueCertificate,
-    words: u64,
+    endings: &[Endings],
 ) -> Result<HartsTold, Lack>
-    ensures lines { IfOk result (λ told. string_bytes told.lines ≡ harts_lines words opening.now certificate.now true) }
-    ensures safe { IfOk result (λ told. told.safe ≡ harts_safe words opening.now certificate.now true) }
+    ensures lines { IfOk result (λ told. string_bytes told.lines ≡ harts_lines opening.now certificate.now endings.now true) }
+    ensures safe { IfOk result (λ told. told.safe ≡ harts_safe opening.now certificate.now endings.now true) }
 {
     let mut lines = String::new(alloc);
     let mut safe = true;
     for (place, _start) in opening.harts.iter().enumerate() {
         let hart = number_of(place)?;
-        let shown = push_hart(alloc, &mut lines, opening, certificate, words, hart)?;
+        let shown = push_hart(alloc, &mut lines, opening, certificate, endings, hart)?;
         safe = shown && safe;
     }
     Ok(HartsTold { lines, safe })
 }
 
-/// The lines of the harts, if they are asked about, on machines with `words` words of memory.
+/// The lines of the harts, if they are asked about, by where they may be stopped, and where they may end.
 pub fn harts_told(
     alloc: Global,
     opening: &Opening,
     certificate: &QueueCertificate,
-    words: u64,
+    endings: &[Endings],
     asked: bool,
 ) -> Result<HartsTold, Lack>
-    ensures lines { IfOk result (λ told. string_bytes told.lines ≡ harts_lines words opening.now certificate.now asked) }
-    ensures safe { IfOk result (λ told. told.safe ≡ harts_safe words opening.now certificate.now asked) }
+    ensures lines { IfOk result (λ told. string_bytes told.lines ≡ harts_lines opening.now certificate.now endings.now asked) }
+    ensures safe { IfOk result (λ told. told.safe ≡ harts_safe opening.now certificate.now endings.now asked) }
 {
     if asked {
-        all_told(alloc, opening, certificate, words)
+        all_told(alloc, opening, certificate, endings)
     } else {
         Ok(HartsTold {
             lines: String::new(alloc),

@@ -15,6 +15,7 @@ pub mod answering;
 pub mod breaking;
 pub mod byte_texts;
 pub mod descriptions;
+pub mod endings;
 pub mod going;
 pub mod harts;
 pub mod input;

@@ -1,22 +1,14 @@
-use Rattle.std.proofs.Common.{rules, arith, ℕ, zero, suc, ◌≡◌, ◌++◌, ◌+◌, ◌<◌, ◌∷◌, [], List, length, drop, append_assoc, ap, sym, refl, ◌∙◌}
+use Rattle.std.proofs.Common.{rules, ℕ, ◌≡◌, ◌++◌, ◌+◌, ◌<◌, List, length, drop, append_assoc, ap, sym, ◌∙◌}
 use Rattle.std.specs.String.{string_bytes}
 use Rattle.engine_support.specs.OpeningTexts.{numbered}
 use Rattle.certifying.specs.Going.{told_going_lines}
+use Rattle.certifying.proofs.Numbers.{one-more}
 use Rattle.certifying.proofs.going.push_all_tagged.Goals as goal
-
--- the lines from one element on
-one-more : {A : Type 0} (text : ℕ → List ℕ) (n i : ℕ) (xs : List A) → i < length xs
-    → numbered (λ t (x : A). text t) n (drop i xs) ≡ text n ++ numbered (λ t (x : A). text t) (n + 1) (drop (i + 1) xs)
-one-more text n i [] less = absurd (omega (arith, less))
-one-more text n zero (x ∷ xs) less = refl
-one-more {A} text n (suc i) (x ∷ xs) less =
-    let on : suc i + 1 ≡ suc (i + 1) = omega arith in
-    one-more text n i xs (omega (arith, less)) ∙ ap (λ (m : ℕ). text n ++ numbered (λ t (x : A). text t) (n + 1) (drop m (x ∷ xs))) (sym on)
 
 pub loop-place-preserved : goal.loop-place-preserved
 loop-place-preserved c =
     let tagged = c.args.certificate.now.tagged in
-    let text = told_going_lines c.args.opening.now c.args.certificate.now in
+    let text = told_going_lines c.args.opening.now c.args.certificate.now c.args.endings.now in
     let place = c.loop-place.place in
     let less : place < length tagged = search rules in
     let step = one-more text place place tagged less in

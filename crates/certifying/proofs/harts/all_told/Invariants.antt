@@ -7,7 +7,7 @@ use Rattle.certifying.proofs.harts.all_told.Given as goal
 
 abbrev pub invariant-loop-place : goal.invariant-loop-place
 invariant-loop-place l = record {
-  lines : string_bytes l.lines ++ numbered (λ h start. hart_lines l.words l.opening l.certificate h) l.place (drop l.place l.opening.harts)
-      ≡ numbered (λ h start. hart_lines l.words l.opening l.certificate h) 0 l.opening.harts;
-  safe : l.safe ≡ all_below l.place (is_safe l.words l.opening l.certificate);
+  lines : string_bytes l.lines ++ numbered (λ h start. hart_lines l.opening l.certificate l.endings h) l.place (drop l.place l.opening.harts)
+      ≡ numbered (λ h start. hart_lines l.opening l.certificate l.endings h) 0 l.opening.harts;
+  safe : l.safe ≡ all_below l.place (is_safe l.opening l.certificate l.endings);
 }

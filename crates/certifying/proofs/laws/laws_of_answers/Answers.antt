@@ -15,11 +15,15 @@ returns-clause-promised c = answers.promised (record {
     shown = c.laws_of_queue_progress.ensures.shown;
     going = c.laws_of_queue_progress.ensures.going;
     stands = c.laws_of_queue_progress.ensures.stands;
+    arrives = c.laws_of_queue_progress.ensures.arrives;
+    arrives_or_ends = c.laws_of_queue_progress.ensures.arrives_or_ends;
     hart_shown = c.laws_of_queue_progress.ensures.hart_shown;
     hart_going = c.laws_of_queue_progress.ensures.hart_going;
     told_shown = c.laws_of_queue_progress.ensures.told_shown;
     told_going = c.laws_of_queue_progress.ensures.told_going;
     told_stands = c.laws_of_queue_progress.ensures.told_stands;
+    told_arrives = c.laws_of_queue_progress.ensures.told_arrives;
+    told_arrives_or_ends = c.laws_of_queue_progress.ensures.told_arrives_or_ends;
   };
   records = record {
     written = λ B M o listed accepted. c.laws_of_written_records.ensures.shown B M o listed accepted;
@@ -27,6 +31,8 @@ returns-clause-promised c = answers.promised (record {
   };
   harts = record {
     never_stopped = c.laws_of_hart_safety.ensures.never_stopped;
+    runs_or_ended = c.laws_of_hart_safety.ensures.runs_or_ended;
+    runs = c.laws_of_hart_safety.ensures.runs;
     written_within = c.laws_of_hart_safety.ensures.written_within;
   };
   drawn = record { none = c.laws_of_violations.ensures.none; apart = c.laws_of_judged_runs.ensures.apart };
