@@ -125,7 +125,8 @@ module _ (o : OpeningValue) (c : QueueCertificate) (laws : HartLaws) (accepted :
 
   kept-by : (M : ℕ) → harts_safe o c (endings_below M o c (length o.harts)) true ≡ true → KeepsHarts M true o c
   kept-by M safe = λ h less.
-      let none = no-other (endings_below M o c (length o.harts)) h (at-below (length o.harts) (is_safe o c (endings_below M o c (length o.harts))) safe h less) in
+      let none = no-other (endings_below M o c (length o.harts)) h
+      (at-below (length o.harts) (is_safe o c (endings_below M o c (length o.harts))) safe h less) in
       let stops : first_stop M o c h ≡ None =
       sym (ap (λ (e : Endings). e.stop) (found-at M o c (length o.harts) h less)) ∙ none.0 in
       let hold = harts-hold M true h less in (hold.0 stops, hold.1, hold.2 none.1)

@@ -11,7 +11,7 @@
 //! Beside queues with indices there may be queues with tags, whose slots tell whose they are (`slots_that_tell`). Where a party loads a
 //! tag the certificate goes on from two states: in one the tag tells the party that it has the slot, and in the other it doesn't.
 //!
-//! Called by `queue_checker`, `records_written` and `certifying`.
+//! Called by `queue_checker`, `certificate_reader`, `records_written` and `certifying`.
 
 #![tactic(auto)]
 
