@@ -44,7 +44,7 @@ ASKED = [
 
 def compiled(path, way, states):
     """What one way makes of a file, as it stands in OUTCOMES."""
-    made = OUTCOMES[way.mapping, way.fences]
+    made = OUTCOMES[way.mapping, way.fences] if not way.mapping or mappings.is_mapped(path) else "no text of C"
     if isinstance(made, str) or not Path(path).exists():
         raise Refused(made if isinstance(made, str) else "No such file or directory")
     found = search.Found({values: "a0*2 l0 a1" for values in made or [(0,)]}, 9, made is None)
@@ -78,7 +78,13 @@ PAIRS = [(("sw x5,0(x6); fence rw,rw", "fence rw,rw; lw x7,0(x8)"), 0, "your sto
          (("sw x5,0(x6)", "fence rw,rw; lw x7,0(x8)"), 1, "your store or load is in"), (("sw x5,0(x6)", "lw x7,0(x8)"), 1, "your store or load is in")]
 
 
+# string literals as a mapping writes them, and the statements that they are
+LITERALS = ('"fence rw,rw\\n\\t" "sw x5,0(x6)"', "fence rw,rw; sw x5,0(x6)")
+
+
 def pairs(count):
+    made = mappings.statements_of(LITERALS[0], "mine.h")
+    count.told(f"the statements of {LITERALS[0]}", made == LITERALS[1], made)
     for halves, wanted, last in PAIRS:
         with mock.patch.multiple(mappings, halves=lambda name, compiler, made=halves: made):
             status, printed = answered(["--pairs", "--mapping", "mine.h"], 0)

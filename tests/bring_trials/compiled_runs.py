@@ -6,7 +6,7 @@ import tempfile
 from pathlib import Path
 from xml.dom import minidom
 
-from bring_parts import Refused, c_lines, dwarf, fields, memory
+from bring_parts import Refused, c_lines, dwarf, fields, instructions, making, memory
 from bring_trials.counting import run, write
 
 import litmus
@@ -187,10 +187,18 @@ def as_svg(count, printed, error):
                and texts[-1][2] == NAMED and max(y for _, y, _, _ in texts[:-1]) < height, f"{width} {height} {texts[-3:]}")
 
 
+def of_old_header(count, folder):
+    """A line of a header that isn't in UTF-8."""
+    header = write(folder, "old.h", b"// \xff\nx = 1;\n")
+    note = making.noted({"a.c": ""})()(instructions.Instruction(instructions.TEXT, "sw", "x5,0(x6)", "old.h", 2, str(header)))
+    count.told("a line of an old header", note == "old.h:2: x = 1", note)
+
+
 def part(count, program):
     names(count)
     lines_in_cells(count)
     with tempfile.TemporaryDirectory() as folder:
+        of_old_header(count, folder)
         file, schedule = write(folder, "t.litmus", TEXT), write(folder, "t.schedule", SCHEDULE)
         for words, wanted in BESIDE.items():
             status, printed, error = run("chart-lines", file, schedule, "--program", program, *words)

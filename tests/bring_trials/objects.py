@@ -4,7 +4,7 @@ import tempfile
 from pathlib import Path
 from types import SimpleNamespace
 
-from bring_parts import Refused, arguments, dwarf, fields, functions, instructions, memory, questions
+from bring_parts import Refused, arguments, dwarf, fields, functions, instructions, litmus_texts, memory, questions
 from bring_parts import objects as tried
 from bring_parts.instructions import TEXT, Instruction
 from bring_parts.objects import Symbol
@@ -210,12 +210,22 @@ def questions_in(count):
         count.told(f"the question in {name}", made == wanted and all(lefts) and lefts, f"{made} {asked.ending.lefts()}")
     for plain, wanted in PLAIN:
         count.told(f"the short name of {plain}", memory.short(plain) == wanted, memory.short(plain))
-    image = SimpleNamespace(data=lambda: [(4 + 4 * at, 4, Symbol(4 + 4 * at, 4, "OBJECT", "2", f"n{at}", plain))
-                                          for at, plain in enumerate(("near::q", "far::q", "far::tail"))])
+    image = SimpleNamespace(data=lambda: [(4 + 4 * at, size, Symbol(4 + 4 * at, size, "OBJECT", "2", f"n{at}", plain))
+                                          for at, (plain, size) in enumerate((("near::q", 4), ("far::q", 4), ("far::tail", 4), ("far::list", 8)))])
     placed, longer = memory.objects_of(image, fields.Parts(dwarf.Information("")))
-    words = memory.Memory([0] * 4, placed, longer)
-    made = [words.named(text, "") for text in ("near::q", "far::q", "tail", "far::tail")]
-    count.told("two objects of one name", made == ["near__q", "far__q", "tail", "tail"], f"{made} {words.names}")
+    words = memory.Memory([0] * 6, placed, longer)
+    made = [refusal(words.named, text, "") or words.named(text, "") for text in ("near::q", "far::q", "tail", "far::tail", "far::list[1]")]
+    count.told("two objects of one name", made == ["near__q", "far__q", "tail", "tail", "list_1"], f"{made} {words.names}")
+
+
+def harts_of_objects(count):
+    """A function that is only called, as P2, is none that the harts' names leave out; and what a comment says doesn't end it."""
+    symbols = [Symbol(TEXT, 4, "FUNC", "1", "P0", "P0"), Symbol(0, 0, "NOTYPE", "UND", "P2", "P2")]
+    image = SimpleNamespace(symbols=symbols, function={"P0": symbols[0]}.get)
+    said = refusal(litmus_texts.harts_of, image, SimpleNamespace(function=lambda name: None), [])
+    count.told("a function P2 of another file", not said, said)
+    said = litmus_texts.comment_of(["cc -DEND=*)"])
+    count.told("a comment's end in a comment", said == "(* cc -DEND=* ) *)", said)
 
 
 def part(count):
@@ -224,6 +234,7 @@ def part(count):
     codes(count)
     information(count)
     questions_in(count)
+    harts_of_objects(count)
     with tempfile.TemporaryDirectory() as folder:
         for head, wanted in HEADS:
             said = refusal(tried.check, write(folder, "x.o", head))

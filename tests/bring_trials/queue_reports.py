@@ -119,10 +119,12 @@ def jumped_to(count, folder):
 def undrawn(count, program):
     """A run that the program draws no picture of has its schedule alone."""
     text = ROOT / "examples/queues/wrong/no_look.litmus"
-    about = queue_asked.About.of([text], text.read_text(), False, program, [])
+    about = queue_asked.About.of([text], text.read_text(), False, program, [STRANGE])
     report = queue_report.Report(8, "broken", about, [], text, text, "ztso-schedule 1\na1*20000\n", 4)
     picture, run = queue_report.drawn_in(report, program)
     count.told("a run of too many entries on a page", picture is None and "<p>There is no picture: " in run and "a1*20000" in run, run)
+    page = queue_report.page_of(report, ["broken"], run, [])
+    count.told("a strange command on a page", STRANGE in about.command and not Page(page).tags & {"script", "b"}, page)
 
 
 def made_by_rule(count, folder, program):

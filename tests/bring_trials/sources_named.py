@@ -130,8 +130,9 @@ UNSEEN = """
 DATA = [(4, "_ZN12_GLOBAL__N_14pairE", "(anonymous namespace)::pair"), (8, "_ZL5first", "first"), (12, "_Z2ga", "ga"), (16, "f.count", "f.count")]
 UNSEEN_PLACES = {"pair.low": "pair_low", "pair.bits": "pair_low", "first": "first", "second": "first", "ga": "ga", "gb": "ga", "count": "count",
                  "f::count": "count"}
-# what a code before main writes: a member, one by an AMO, one that a called function is given, and none of the last
-MAKES = ["lui\tx15,0x0", "addi\tx15,x15,4", "sw\tx0,0(x15)", "amoswap.w\tx0,x14,(x15)", "addi\tx10,x15,4", "jal\tx1,100100", "jalr\tx0,0(x1)"]
+# what a code before main writes: a member, one by an AMO, one that a called function is given, and none of the last: a call leaves x15 unknown
+MAKES = ["lui\tx15,0x0", "addi\tx15,x15,4", "sw\tx0,0(x15)", "amoswap.w\tx0,x14,(x15)", "addi\tx10,x15,4", "jal\tx1,100100", "sw\tx0,8(x15)",
+         "jalr\tx0,0(x1)"]
 
 
 def lines_of_tables(count):
