@@ -45,6 +45,8 @@ PARTS = (
     Part("queues", ("tests/queues", "--program", "PROGRAM"), short=("--short",), alone=True,
          without="five of six queues, rows and changed checks, and wrong certificates made of large ones"),
     Part("queue-examples", ("tests/queue-examples", "--program", "PROGRAM"), short=("--short",), without="every second queue"),
+    Part("changed-certificates", ("tests/changed-certificates", "--program", "PROGRAM"), whole=("--count", "8000"), short=("--count", "1000"),
+         without="seven of eight draws"),
     Part("tests", ("stock/test",), needs=("cargo",)),
     Part("bringing", ("tests/bringing", "--program", "PROGRAM"), short=("texts", "listings", "objects", "sources", "compared", "logs", "pictures",
                                                                                 "queues", "reports", "shelf"),

@@ -1355,7 +1355,7 @@ def is_queue(q):
     return q.sender != q.receiver and are_apart(q.head, q.index_width, q.tail, q.index_width) \
         and are_apart(q.head, q.index_width, q.slots, q.size * q.width) and are_apart(q.tail, q.index_width, q.slots, q.size * q.width) \
         and q.size >= 1 and q.capacity <= q.size and q.modulus >= 1 and q.scale >= 1 and q.index_width >= 1 \
-        and q.base + q.scale * (q.modulus - 1) < 256 ** q.index_width and q.index_width <= 4 and q.capacity < q.modulus
+        and q.index_width <= 4 and q.base + q.scale * (q.modulus - 1) < 256 ** q.index_width and q.capacity < q.modulus
 
 
 def opens_empty(opening, q, start):

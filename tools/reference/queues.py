@@ -117,7 +117,7 @@ def queue_fault(opening, opened):
     """What is wrong with a queue that isn't accepted."""
     q, start, fields = opened
     width, slots = q.index_width, q.size * q.width
-    opens = [certificates.number_seen(opening, place, width) == q.index_word(start) if q.modulus else False for place in (q.head, q.tail)]
+    opens = [certificates.number_seen(opening, place, width) == q.index_word(start) if q.modulus and width <= 4 else False for place in (q.head, q.tail)]
     holds = (
         (q.sender != q.receiver, "one hart as its sender and its receiver"),
         (certificates.are_apart(q.head, width, q.tail, width), "a head and a tail that overlap"),

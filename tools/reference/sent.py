@@ -9,6 +9,9 @@ from typing import NamedTuple
 
 import certificates
 
+# no number of a field, of numbers up to 2^32 each, has more bytes
+MOST_BYTES = 9
+
 
 class Field(NamedTuple):
     """Of each record the number of `width` bytes from `at` on is low + step * j, for some j up to `count`."""
@@ -27,7 +30,7 @@ def last_number(f):
 
 
 def is_field(q, f):
-    return f.at + f.width <= q.width and last_number(f) < 256 ** f.width
+    return f.at + f.width <= q.width and last_number(f) < 256 ** min(f.width, MOST_BYTES)
 
 
 def field_number(f):

@@ -91,7 +91,7 @@ def tag_flaws(q):
             (q.tag_offset + q.tag_width <= q.width, "a tag that reaches past its slot"),
             (not number or q.tag_width == WORD, "numbers in a tag that isn't a word"),
             (not number or q.size % certificates.M32 != 1, "numbers that are the same for free and for full slots"),
-            (not bits or bits.mask < 256 ** q.tag_width, "a mask with bits that its tag doesn't have"),
+            (not bits or bits.mask < 256 ** min(q.tag_width, WORD), "a mask with bits that its tag doesn't have"),
             (not bits or bits.free != bits.full, "bits that are the same for free and for full slots"))
 
 
