@@ -48,7 +48,7 @@ WAYS = (Way(Mode.TOGETHER, (1, 5), apart=FEW_APART), Way(Mode.TOGETHER, (2, 5)),
 WORK = 10_000
 TURNS = 2
 MOST_ROUNDS = 60
-# of so many bytes and halves that a hart loads it is asked whether they are its own
+# the most bytes and halves that a hart loads of which it is asked whether they are its own
 MOST_NARROW = 24
 
 

@@ -222,7 +222,7 @@ class Program(Values):
                 raise Refused(state.pc, "a load that may be of the other's index")
 
     def own_word(self, state, place, width, is_signed):
-        """What a load of an own word leaves, if one lies there that has so many bytes."""
+        """What a load of an own word leaves, if one lies there that has as many bytes."""
         which = self.at.get((place, width))
         if which is None:
             if width < 4 and self.narrow.may_be_kept(place, width):
@@ -236,7 +236,7 @@ class Program(Values):
         return self.low_bytes(state.words[which], width, state, is_signed) if is_signed and width < 4 else state.words[which]
 
     def low_bytes(self, value, width, state, is_loaded=False):
-        """What is known of the number of which a store leaves so many bytes, fewer than four; or, loaded, of what a signed load leaves of it."""
+        """What is known of the number that a store of `width` bytes, fewer than four, leaves of a value; or, loaded, of what a signed load leaves of it."""
         if value is None:
             return None
 

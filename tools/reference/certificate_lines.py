@@ -18,7 +18,7 @@ WIDTHS = (1, 2, 4)
 TELLS = {"zero": 0, "number": 0, "bits": 3}
 ROUND = 2**32
 MOST = str(ROUND)
-# a certificate says the same numbers and forms again and again: so many are remembered
+# a certificate says the same numbers and forms again and again: the last ones are remembered, of each up to this number
 REMEMBERED = 1 << 14
 
 sys.setrecursionlimit(10_000)

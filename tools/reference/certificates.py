@@ -1036,7 +1036,7 @@ class Steps:
         return HasBits(v.mask | every - 1 ^ M32 - 1, v.bits & every - 1) if isinstance(v, HasBits) else ANY
 
     def stored_value(self, ranges, width, v):
-        """What is known of the number of which a store leaves so many bytes."""
+        """What is known of the number that a store of `width` bytes leaves of a value."""
         return self.storable(v) if width == WORD else self.low_bytes(ranges, width, plain(self.queues, ranges, v))
 
     def word_then(self, ranges, b, width, v, o, w):

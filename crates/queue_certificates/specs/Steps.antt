@@ -214,7 +214,7 @@ module _ (queues : ℕ → Queue) (N : ℕ) (rs : List (Option ℕ)) where
   low_bytes width (ends_as n f) = any
   low_bytes width (has_bits m b) = has_bits (bit_or m (bit_xor (256 ^ width - 1) (2 ^ 32 - 1))) (bit_and b (256 ^ width - 1))
 
-  -- the number of which a store leaves so many bytes
+  -- what is known of the number that a store of `width` bytes leaves of a value
   abbrev pub stored_value : (width : ℕ) → KnownValue → KnownValue
   stored_value width v = if width == 4 then storable N v else low_bytes width (plain queues rs v)
 
