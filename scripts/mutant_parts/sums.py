@@ -3,7 +3,8 @@
 Comments aside, these are of the crate itself its sources and its line of crates.txt, of the crates below what its sources
 cite of their specs/ and of the text of their src/ outside of functions' bodies (`cited`). A body below is no part of a check
 here, which cites its contract, and neither are the lemmas of proofs/ below: they are proved, so no lemma makes a wrong
-body right.
+body right. In which file of specs/ or proofs/ a declaration stands doesn't count, nor the order there, nor through which
+file a name is imported: so an import that turns to a homonym in another file of the same crate's part isn't seen.
 """
 
 import hashlib
@@ -12,7 +13,8 @@ import subprocess
 
 from crates import SOURCES, TOP
 
-from .cited import cited, stated, without_remarks
+from .cited import GHOST, cited, ghosts, stated, words
+from .declarations import parsed
 from .functions import bare
 
 DIGITS = 16
@@ -40,18 +42,38 @@ def files(folder, suffix=""):
     return [(path.relative_to(folder).as_posix(), path) for path in sorted(folder.rglob(f"*{suffix}")) if path.is_file()]
 
 
-def uncommented(path):
-    """A source without its comments: of a definition or a lemma, without the lines that are one."""
-    text = path.read_text()
-    return " ".join(bare(text).split()) if path.suffix == ".rt" else without_remarks(text)
+def of_source(name, text):
+    """What a source says, with the names that it imports of specs/ and proofs/ after all, and the words by which it cites."""
+    code = bare(text)
+    found = ghosts(code)
+    said = " ".join(GHOST.sub("", code).split())
+    return f"{name} {said} {' '.join(sorted({one.said() for one in found}))}", words(said).union(*(one.cites() for one in found))
+
+
+def of_definitions(place, text):
+    """The declarations of a file of specs/ or proofs/, its imports, and the words by which it cites."""
+    file = parsed(text)
+    found = file.named(place)
+    said = [f"{place} {one.text}" for one in file.declarations]
+    return said, {f"{place} use {one.said()}" for one in found}, words("\n".join(said)).union(*(one.cites() for one in found))
 
 
 def read_by(name, crates, logic, top=TOP):
     """The sum of all that the checks of a crate read, but its mutants."""
-    own = [(f"{part}/{at}", uncommented(path)) for part in SOURCES for at, path in files(top / "crates" / name / part)]
-    parts = [logic, *(line for line in (top / "crates.txt").read_text().splitlines() if line.partition(":")[0].split()[:1] == [name])]
+    sources, declared, imports, known = [], [], set(), set()
+    for part in SOURCES:
+        for at, path in files(top / "crates" / name / part):
+            if path.suffix == ".antt":
+                found, brought, cites = of_definitions(f"{name}.{part}", path.read_text())
+                declared += found
+                imports |= brought
+            else:
+                found, cites = of_source(f"{part}/{at}", path.read_text())
+                sources.append(found)
+            known |= cites
+    line = [line for line in (top / "crates.txt").read_text().splitlines() if line.partition(":")[0].split()[:1] == [name]]
     below = [item for low in sorted(crates.below(name)) for item in stated(top / "crates" / low, files)]
-    return digest([*parts, *(text for file in own for text in file), *cited((text for _, text in own), below)])
+    return digest([logic, *line, *sources, *sorted(declared), *sorted(imports), *cited(known, below)])
 
 
 def of_edits(edits):

@@ -70,7 +70,7 @@ class House(unittest.TestCase):
 
 class Functions(unittest.TestCase):
     def items(self, text):
-        return list(cited.items("lib.rt", text))
+        return list(cited.items("low", "lib.rt", text))
 
     def test_where_they_stand(self):
         found = [(one.name, one.owner, one.first, one.last) for one in functions.functions(LOW)]
@@ -86,12 +86,12 @@ class Functions(unittest.TestCase):
 
     def test_what_cites_a_statement(self):
         found = [sorted(item.names) for item in self.items(LOW + "\nimpl Drop for Rows<'_> {\n    fn drop(&mut self) {}\n}\n\nstruct Row;\n")]
-        self.assertEqual(found, [["next"], ["last"], [], ["Row", "width"]])
+        self.assertEqual(found, [["low.specs.next", "next"], ["last", "low.specs.last"], [], ["Row", "low.specs.Row", "low.specs.width", "width"]])
 
     def test_a_statement_has_its_imports(self):
         following, last, *_ = (item.text for item in self.items(LOW))
-        self.assertIn("Rattle.low.specs.Rows.row", following)
-        self.assertNotIn("Rattle", last)
+        self.assertIn("low.specs.row", following)
+        self.assertNotIn("specs", last)
 
 
 class Mutants(House):
@@ -178,6 +178,39 @@ class Sums(House):
 
     def test_a_definition_below_counts(self):
         self.assertTrue(self.changed("low/specs/Rows.antt", "row n = n", "row n = 1"))
+
+    def moved(self, files):
+        """Whether the sum of either crate changes when these files take the place of the definition."""
+        before = [self.of(name) for name in ("low", "high")]
+        (self.top / "crates/low/specs/Rows.antt").unlink()
+        for name, text in files.items():
+            self.write(f"low/specs/{name}.antt", text)
+        return [self.of(name) for name in ("low", "high")] != before
+
+    def test_a_definition_in_another_file_does_not_count(self):
+        self.assertFalse(self.moved({"Lines": "-- a row\nrow n\n    = n\n"}))
+
+    def test_another_definition_in_another_file_counts(self):
+        self.assertTrue(self.moved({"Lines": "row n = 1\n"}))
+
+    def test_where_definitions_stand_and_how_they_are_imported_does_not_count(self):
+        before = "use Rattle.std.specs.Prelude.{ℕ, ◌+◌}\n\npub line : ℕ → ℕ\nline n = n + 1\n\nrow n = line n\n"
+        self.write("low/specs/Rows.antt", before)
+        self.assertFalse(self.moved({
+            "Lib": "pub mod Rows\npub mod Lines\npub use Rattle.low.specs.Lines.{line}\n",
+            "Lines": "use Rattle.std.specs.Prelude.{ℕ}\nuse Rattle.std.specs.Prelude.{◌+◌}\n\npub line : ℕ → ℕ\nline n = n + 1\n",
+            "Rows": "use Rattle.low.specs.{line}\nrow n = line n\n",
+        }))
+
+    def test_another_import_of_a_name_counts(self):
+        self.write("low/specs/Rows.antt", "use Rattle.std.specs.Prelude.{line}\nrow n = line n\n")
+        self.assertTrue(self.moved({"Rows": "use Rattle.std.proofs.Common.{line}\nrow n = line n\n"}))
+
+    def test_what_is_passed_on_counts(self):
+        self.write("low/specs/Columns.antt", "column n = n\n")
+        self.write("low/specs/Lib.antt", "pub use Rattle.low.specs.Columns.{column as row_of}\n")
+        self.write("low/specs/Rows.antt", "use Rattle.low.specs.{row_of}\nrow n = row_of n\n")
+        self.assertTrue(self.changed("low/specs/Columns.antt", "column n = n", "column n = 1"))
 
     def test_what_is_not_cited_does_not_count(self):
         self.assertFalse(self.changed("low/src/lib.rt", "fn last(&self) -> u32", "fn last(&self) -> u64"))
