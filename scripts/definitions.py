@@ -9,7 +9,7 @@ from pathlib import Path
 
 ROOT = Path(__file__).resolve().parent.parent
 
-USE = re.compile(r"^(?:pub )?use (?P<module>[\w.]+?)(?:\.\{(?P<names>[^}]*)\})?(?: as (?P<alias>\w+))?$")
+USE = re.compile(r"^(?:(?:unfoldable )?pub )?use (?P<module>[\w.]+?)(?:\.\{(?P<names>[^}]*)\})?(?: as (?P<alias>\w+))?$")
 HEAD = re.compile(r"^(?:(?:abbrev|unfoldable|opaque|pub|record|data)\s+)+(?P<name>[^\s:({]+)")
 NAME = re.compile(r"[^\W\d][\w'-]*(?:\.[^\W\d][\w'-]*)*")
 DECLARED = re.compile(r"^Rattle\.(?P<crate>\w+)\.specs\.declared\.(?P<module>[\w.]+)$")

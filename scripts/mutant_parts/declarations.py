@@ -11,7 +11,7 @@ from typing import NamedTuple
 BEGINS = ("pub", "abbrev", "unfoldable", "opaque", "record", "data", "module", "infix", "infixl", "infixr")
 NAMED = re.compile(rf"^\s*(?:(?:{'|'.join(BEGINS)}|\d+)\s+)*(?P<name>[^\s:(){{}}]+)\s*(?P<typed>.*)")
 REMARK = re.compile(r"^[ \t]*--.*\n", re.M)
-USE = re.compile(r"^(?:pub )?use (?P<path>[\w.+]+?)(?:\.\{(?P<names>[^}]*)\})?(?: as (?P<alias>\w+))?$")
+USE = re.compile(r"^(?:(?:unfoldable )?pub )?use (?P<path>[\w.+]+?)(?:\.\{(?P<names>[^}]*)\})?(?: as (?P<alias>\w+))?$")
 INLINE = re.compile(r"\bRattle\.(\w+)\.(specs|proofs)(?:\.\w+)*\.(?=[^\W\d])")
 TOKEN = re.compile(r"\[\]|[^\s(){}\[\];,.]+")
 MADE = ("Goals", "Given")  # the modules that the kit makes of a function's proof
@@ -119,7 +119,7 @@ def parsed(text):
         if used := USE.match(line):
             found = list(imported(*used.groups()))
             imports += found
-            passed_on += found * line.startswith("pub")
+            passed_on += found * (not line.startswith("use"))
         elif re.match(r"(?:pub )?mod \w+$", line) or not line.strip():
             continue
         elif pieces and (line[0] in " \t)]}" or not begins(line, name)):

@@ -2,12 +2,9 @@
 use Rattle.std.proofs.Common.{◌≡◌, ℕ, ◌<◌, Bool, true, false, ◌||◌, List, [], ◌∷◌, ◌++◌, length, map, Some, refl, sym, ap, subst, ◌∙◌, inl, inr, Option, None}
 use Rattle.std.specs.List.{slice_split, onto_first}
 use Rattle.std.proofs.lemmas.Bool.{cases_Bool, eqb-true, or_parts}
-use Rattle.texts.specs.Pieces.{is_blank}
-use Rattle.texts.specs.Cutting.{is_byte, without_front, without_end, trimmed, stripped, NonePass, onto_kept, before, after}
-use Rattle.texts.proofs.CuttingLaws.{split_cut, split_none, split_stop, split_after}
-use Rattle.texts.proofs.TrimLaws.{stripped-none, stripped-trailing}
-use Rattle.assembler.specs.Lines.{between_commas}
-use Rattle.assembler.specs.Spelled.{operands_in}
+use Rattle.texts.specs.{is_blank, is_byte, without_front, without_end, trimmed, stripped, NonePass, onto_kept, before, after}
+use Rattle.texts.proofs.{split_cut, split_none, split_stop, split_after, stripped-none, stripped-trailing}
+use Rattle.assembler.specs.{between_commas, operands_in}
 
 -- a blank, the end of a line, and what begins a comment or ends a label
 abbrev pub parts_line : ℕ → Bool

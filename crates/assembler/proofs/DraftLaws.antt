@@ -1,18 +1,13 @@
 -- One more line of a draft, and what is known of all of them.
-use Rattle.std.proofs.Common.{◌≡◌, ℕ, ◌+◌, ◌*◌, ◌<◌, ◌≤◌, true, false, cond, List, [], ◌∷◌, ◌++◌, length, map, Option}
-use Rattle.std.proofs.Common.{Some, None, Ok, Err, refl, sym, ap, subst, ◌∙◌, inl, inr, arith, Bool}
+use Rattle.std.proofs.Common.{◌≡◌, ℕ, ◌+◌, ◌*◌, ◌<◌, ◌≤◌, true, false, cond, List, [], ◌∷◌, ◌++◌, length, map, Option, Some, None, Ok, Err, refl, sym, ap}
+use Rattle.std.proofs.Common.{subst, ◌∙◌, inl, inr, arith, Bool}
 use Rattle.std.specs.Prelude.{IfSome}
 use Rattle.std.specs.Option.{is_some}
 use Rattle.std.proofs.lemmas.Bool.{cases_Bool, lt-ltb, le-ltb, cond-true, cond-false}
-use Rattle.assembler.specs.declared.kept.KeptLine.{KeptLine}
-use Rattle.assembler.specs.Kept.{kept_line, AreKeptLines, place_in}
+use Rattle.assembler.specs.{KeptLine, kept_line, AreKeptLines, place_in, AsmFault, LabelTwice, TooLong, Made, label_of, statement_text, made_in, Line, size_of}
+use Rattle.assembler.specs.{word_count, is_label, place_from, label_place, is_twice, line_below, drafted, placed_statement, all_placed, Fitting, AllFit}
+use Rattle.assembler.specs.{line_over, all_instructions}
 use Rattle.std.proofs.lemmas.Slice.Eq.{bytes_eq-Decides}
-use Rattle.assembler.specs.declared.faults.AsmFault.{AsmFault}
-use Rattle.assembler.specs.declared.faults.AsmFault.TheVariants.{LabelTwice, TooLong}
-use Rattle.assembler.specs.Statements.{Made}
-use Rattle.assembler.specs.Lines.{label_of, statement_text, made_in}
-use Rattle.assembler.specs.Drafts.{Line, size_of, word_count, is_label, place_from, label_place, is_twice, line_below}
-use Rattle.assembler.specs.Drafts.{drafted, placed_statement, all_placed, Fitting, AllFit, line_over, all_instructions}
 use Rattle.assembler.proofs.LabelLaws.{fresh_apart, once-push}
 use Rattle.std.specs.Str.{bytes_eq}
 use Rattle.std.specs.HashMap.{HashMap, UpdatesBy}

@@ -5,8 +5,7 @@ use Rattle.std.specs.Option.{is_some}
 use Rattle.std.specs.List.{AllByRecursion}
 use Rattle.std.proofs.lemmas.Bool.{cases_Bool}
 use Rattle.std.proofs.lemmas.Slice.Eq.{bytes_eq-Decides}
-use Rattle.assembler.specs.Drafts.{Line, size_of, is_label, place_from, label_place, is_twice}
-use Rattle.assembler.specs.Program.{AreApart, EachOnce}
+use Rattle.assembler.specs.{Line, size_of, is_label, place_from, label_place, is_twice, AreApart, EachOnce}
 
 pub label_is : (name : List ℕ) (label : Option (List ℕ)) → is_label name label ≡ true → label ≡ Some name
 label_is name None e = absurd cc

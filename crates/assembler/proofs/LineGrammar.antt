@@ -2,21 +2,12 @@
 use Rattle.std.proofs.Common.{arith, ◌≡◌, ℕ, true, false, List, [], ◌∷◌, ◌++◌, Option, Some, None, Ok, refl, sym, ap, subst, ◌∙◌, inl, inr, ◌⊎◌, append_assoc}
 use Rattle.std.specs.List.{list_all}
 use Rattle.std.proofs.lemmas.Bool.{cases_Bool, and_parts}
-use Rattle.texts.specs.Cutting.{before, after, is_byte, without_front, trimmed, AreBlanks, NonePass}
-use Rattle.texts.proofs.ResultLaws.{ok_is}
-use Rattle.assembler.specs.declared.faults.AsmFault.{AsmFault}
-use Rattle.assembler.specs.Names.{is_label_name, begins_label_name, goes_on_label_name}
-use Rattle.assembler.specs.Statements.{Made}
-use Rattle.assembler.specs.Lines.{code_of, label_and_rest, parts_of, label_of, statement_text, made_in}
-use Rattle.assembler.specs.Drafts.{Line}
-use Rattle.assembler.specs.Grammar.{HasNoLabel, IsUncommented, IsLine}
-use Rattle.assembler.specs.Grammar.IsUncommented.{bare, labelled}
-use Rattle.assembler.specs.Grammar.IsLine.{code, commented}
-use Rattle.texts.proofs.CuttingLaws.{none-append, before-none, before-stop, after-stop, before-passes_not, cut_byte, uncut}
-use Rattle.texts.proofs.TrimLaws.{leading_none, leading_past, leading_split}
-use Rattle.texts.proofs.GrammarLaws.{all_by_test, none_of_all, other_byte}
+use Rattle.texts.specs.{before, after, is_byte, without_front, trimmed, AreBlanks, NonePass, is_blank}
+use Rattle.texts.proofs.{ok_is, none-append, before-none, before-stop, after-stop, before-passes_not, cut_byte, uncut, leading_none, leading_past}
+use Rattle.texts.proofs.{leading_split, all_by_test, none_of_all, other_byte}
+use Rattle.assembler.specs.{AsmFault, is_label_name, begins_label_name, goes_on_label_name, Made, code_of, label_and_rest, parts_of, label_of, statement_text}
+use Rattle.assembler.specs.{made_in, Line, HasNoLabel, IsUncommented, IsLine, bare, labelled, code, commented}
 use Rattle.assembler.proofs.StatementGrammar.{body_found, body_only}
-use Rattle.texts.specs.Pieces.{is_blank}
 
 -- ---- the parts of what stands before a comment
 

@@ -6,8 +6,7 @@ use Rattle.std.proofs.lemmas.Bool.{and_parts, not-true, cases_Bool, cases_lt, eq
 use Rattle.std.proofs.lemmas.Int.{ints, int_rem_euclid_is}
 use Rattle.rv_decode.specs.Fits.{IsSigned}
 use Rattle.rv_decode.specs.declared.instruction.Reg.{Reg}
-use Rattle.assembler.specs.Statements.{wrapped, low_of, high_of, is_short, loaded}
-use Rattle.assembler.specs.Loading.{IsSameWord, Puts}
+use Rattle.assembler.specs.{wrapped, low_of, high_of, is_short, loaded, IsSameWord, Puts}
 use Rattle.assembler.specs.Loading.Puts.{short, upper, both}
 
 -- a signed number of 32 bits

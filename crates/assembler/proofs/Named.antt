@@ -9,11 +9,9 @@ use Rattle.rv_decode.specs.declared.instruction.ImmediateOp.{ImmediateOp}
 use Rattle.rv_decode.specs.declared.instruction.ShiftOp.{ShiftOp}
 use Rattle.rv_decode.specs.declared.instruction.RegisterOp.{RegisterOp}
 use Rattle.rv_decode.specs.declared.instruction.AmoOp.{AmoOp}
-use Rattle.assembler.specs.declared.form.Form.{Form}
+use Rattle.assembler.specs.{Form, form_named, branch_name, load_name, store_name, immediate_name, shift_name, register_name, amo_name, order_name}
 use Rattle.assembler.specs.declared.form.Form.TheVariants as form
 use Rattle.assembler.proofs.Commas.{parts_line}
-use Rattle.assembler.specs.Mnemonics.{form_named}
-use Rattle.assembler.specs.Writing.{branch_name, load_name, store_name, immediate_name, shift_name, register_name, amo_name, order_name}
 
 abbrev pub is_word : List ℕ → Bool
 is_word xs = nat_lt 0 (length xs) && list_all (λ c. not (parts_line c)) xs

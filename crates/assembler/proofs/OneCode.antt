@@ -11,9 +11,7 @@ use Rattle.rv_decode.proofs.Meanings.{meaning_of}
 use Rattle.rv_decode.proofs.PlainWords.{one_plain_word}
 use Rattle.rv_decode.proofs.Words.{fits_iff_word}
 use Rattle.rv_decode.specs.declared.instruction.Instr.{Instr}
-use Rattle.assembler.specs.Drafts.{IsPlain, AllPlain, assembled}
-use Rattle.assembler.specs.Writing.{text_of}
-use Rattle.assembler.specs.Program.{IsProgram, AreWordsOf, IsCode}
+use Rattle.assembler.specs.{IsPlain, AllPlain, assembled, text_of, IsProgram, AreWordsOf, IsCode}
 use Rattle.assembler.proofs.ProgramGrammar.{some_instr, same_instrs, program_found, program_only, one_program}
 use Rattle.assembler.proofs.RoundTrip.{read_again}
 use Rattle.rv_decode.specs.Meaning.{meaning}

@@ -1,6 +1,6 @@
 -- Operands: the grammar of each kind settles, and what is read of an operand is what its grammar reads.
-use Rattle.std.proofs.Common.{◌≡◌, ℕ, ◌<◌, Bool, true, false, List, [], ◌∷◌, length, Option, Some, None, Result, Ok, Err}
-use Rattle.std.proofs.Common.{refl, sym, ap, subst, ◌∙◌, inl, inr, ◌⊎◌, arith, ℤ, pos, negsuc}
+use Rattle.std.proofs.Common.{◌≡◌, ℕ, ◌<◌, Bool, true, false, List, [], ◌∷◌, length, Option, Some, None, Result, Ok, Err, refl, sym, ap, subst, ◌∙◌, inl, inr}
+use Rattle.std.proofs.Common.{◌⊎◌, arith, ℤ, pos, negsuc}
 use Rattle.std.specs.Prelude.{neg_ℤ, int_lt, unsigned_abs, ◌≤ℤ◌, ◌<ℤ◌, option_map, if◌then◌else◌}
 use Rattle.std.specs.Option.{option_and_then, option_or, option_zip}
 use Rattle.std.specs.Result.{result_ok}
@@ -9,27 +9,19 @@ use Rattle.std.specs.Char.{digit_value}
 use Rattle.std.proofs.lemmas.Bool.{and_parts, not-true, cases_Bool, eqb-true, ne_eqb, le-ltb}
 use Rattle.std.proofs.lemmas.Str.Parse.{digit_from_value}
 use Rattle.std.proofs.lemmas.Int.{ints}
-use Rattle.texts.specs.Pieces.{is_blank}
-use Rattle.texts.specs.Cutting.{AllPass, before, after, is_byte, trimmed}
-use Rattle.texts.specs.Results.{◌>>=◌}
-use Rattle.texts.specs.Grammars.{mapped, filter_mapped, suffixed_at, absent, choice, magnitude, integer}
-use Rattle.texts.proofs.GrammarLaws.{Settles, all_by_test, settles_mapped, settles_filter_mapped, settles_parted, settles_ended, settles_absent}
-use Rattle.texts.proofs.GrammarLaws.{settles_padded, settles_either, integer_settles, integer_first}
+use Rattle.texts.specs.{is_blank, AllPass, before, after, is_byte, trimmed, ◌>>=◌, mapped, filter_mapped, suffixed_at, absent, choice, magnitude, integer}
+use Rattle.texts.proofs.GrammarLaws.{Settles, all_by_test, settles_mapped, settles_filter_mapped, settles_parted, settles_ended, settles_absent, settles_padded}
+use Rattle.texts.proofs.GrammarLaws.{settles_either, integer_settles, integer_first}
 use Rattle.texts.proofs.ResultLaws.{some_is}
-use Rattle.rv_decode.specs.Fits.{IsEven}
-use Rattle.rv_decode.specs.Meaning.{reg_of}
+use Rattle.rv_decode.specs.{IsEven, reg_of, register_names, register_named}
 use Rattle.rv_decode.proofs.Meanings.{reg_of-number}
 use Rattle.rv_decode.proofs.TableLaws.{row_below}
 use Rattle.rv_decode.specs.declared.instruction.Reg.{Reg}
-use Rattle.rv_decode.specs.Registers.{register_names, register_named}
-use Rattle.assembler.specs.declared.faults.AsmFault.{AsmFault}
-use Rattle.assembler.specs.Sets.{set_names, set_named}
-use Rattle.assembler.specs.Names.{is_label_name, begins_label_name, goes_on_label_name}
-use Rattle.assembler.specs.Operands.{known_register, in_range, number_in, natural_in, closed, in_parentheses, or_zero}
-use Rattle.assembler.specs.Operands.{Target, bytes, label, is_reached, in_reach, IsInReach, known_set}
-use Rattle.assembler.specs.Operands.{OperandKind, register, upper, amount, short, word, address, pointer, near, far, set, OperandValue, value_in}
-use Rattle.assembler.specs.Spelled.{a_register, a_set, within, number_from, natural_to, displacement, base, based}
-use Rattle.assembler.specs.Spelled.{address_from, a_label, reached, target_within, an_operand}
+use Rattle.assembler.specs.{AsmFault, set_names, set_named, is_label_name, begins_label_name, goes_on_label_name, known_register, in_range, number_in}
+use Rattle.assembler.specs.{natural_in, closed, in_parentheses, or_zero, Target, bytes, label, is_reached, in_reach, IsInReach, known_set, OperandKind}
+use Rattle.assembler.specs.{register, amount, word, address, pointer, near, far, set, OperandValue, value_in, a_register, a_set, within, number_from}
+use Rattle.assembler.specs.{natural_to, displacement, base, based, address_from, a_label, reached, target_within, an_operand}
+use Rattle.assembler.specs.Operands.{upper, short}
 use Rattle.assembler.proofs.Rows.{found_in, are_apart, row_of_member, member_of_row, all_rows}
 
 -- ---- registers and sets

@@ -1,18 +1,12 @@
 -- The table of operands: what is made of a list of them is what the grammar says.
 use Rattle.std.proofs.Common.{◌≡◌, ℕ, true, false, List, [], ◌∷◌, length, Ok, refl, sym, subst}
-use Rattle.texts.specs.Numbers.{capped_value}
-use Rattle.texts.specs.Grammars.{magnitude, integer}
+use Rattle.texts.specs.{capped_value, magnitude, integer}
 use Rattle.texts.proofs.ResultLaws.{ok_is, bind_ok}
 use Rattle.rv_decode.specs.declared.instruction.Instr.TheVariants as instr
-use Rattle.assembler.specs.declared.faults.AsmFault.{AsmFault}
-use Rattle.assembler.specs.declared.form.Form.{Form}
-use Rattle.assembler.specs.declared.form.Form.TheVariants.{Jalr, Fence, FenceTso, Ecall, Ebreak}
+use Rattle.assembler.specs.{AsmFault, Form, Jalr, Fence, FenceTso, Ecall, Ebreak, set_named, Made, one, Maker, operand_row, read_operands, statement_of}
+use Rattle.assembler.specs.{is_pair, AreSpelled, Makes}
 use Rattle.rv_decode.specs.Registers.{register_named}
-use Rattle.assembler.specs.Sets.{set_named}
 use Rattle.assembler.specs.Operands.{OperandKind, register, short, address, set, OperandValue, value_in}
-use Rattle.assembler.specs.Statements.{Made, one, Maker, operand_row, read_operands, statement_of}
-use Rattle.assembler.specs.Lines.{is_pair}
-use Rattle.assembler.specs.Grammar.{AreSpelled, Makes}
 use Rattle.assembler.proofs.OperandLaws.{operand_found, operand_only}
 
 -- ---- an operand of each kind

@@ -1,30 +1,23 @@
 -- The instructions of a text are those of the program that the grammar says it is.
-use Rattle.std.proofs.Common.{◌≡◌, ℕ, ◌+◌, ◌≤◌, Bool, true, false, ltb, List, [], ◌∷◌, ◌++◌, map, Option, Some, None}
-use Rattle.std.proofs.Common.{Result, Ok, Err, refl, sym, ap, subst, ◌∙◌, inl, inr, arith, ℤ, pos, append_assoc}
-use Rattle.std.proofs.Common.{append-nil}
-use Rattle.std.specs.Prelude.{◌≢◌}
+use Rattle.std.proofs.Common.{◌≡◌, ℕ, ◌+◌, ◌≤◌, Bool, true, false, ltb, List, [], ◌∷◌, ◌++◌, map, Option, Some, None, Result, Ok, Err, refl, sym, ap, subst}
+use Rattle.std.proofs.Common.{◌∙◌, inl, inr, arith, ℤ, pos, append_assoc, append-nil}
+use Rattle.std.specs.Prelude.{◌≢◌, IfOk, OnOk}
 use Rattle.std.specs.Str.Lines.{lines}
 use Rattle.std.specs.List.{AllByRecursion}
 use Rattle.std.proofs.lemmas.Bool.{cases_Bool, le-ltb, ltb-false}
 use Rattle.std.proofs.lemmas.List.{map-append}
-use Rattle.std.specs.Prelude.{IfOk, OnOk}
 use Rattle.std.specs.declared.vec.Vec.{Vec}
 use Rattle.std.specs.declared.alloc.Global.{Global}
 use Rattle.texts.specs.Results.{GivesUpToMemory}
 use Rattle.texts.proofs.ResultLaws.{ok_is, bind_ok, some_is}
 use Rattle.rv_decode.specs.declared.instruction.Instr.{Instr}
 use Rattle.rv_decode.specs.declared.instruction.Instr.TheVariants as instr
-use Rattle.assembler.specs.declared.faults.AsmFault.{AsmFault}
-use Rattle.assembler.specs.Faults.{Refusal}
+use Rattle.assembler.specs.{AsmFault, Refusal, bytes, is_reached, IsInReach, Made, one, two, jump, branch, label_of, statement_text, made_in, Line, size_of}
+use Rattle.assembler.specs.{word_count, is_label, place_from, label_place, is_twice, refused_at_line, drafted, all_drafted, in_bytes, distance}
+use Rattle.assembler.specs.{placed_statement, onto, all_placed, all_instructions, assembled, IsLine, AreLines, AreApart, EachOnce, IsFresh, Defines, IsPlaced}
+use Rattle.assembler.specs.{ArePlaced, AreInstrs, IsProgram, AreWordsOf}
 use Rattle.rv_decode.specs.Meaning.{meaning}
 use Rattle.rv_decode.proofs.Meanings.{meaning_iff}
-use Rattle.assembler.specs.Operands.{bytes, is_reached, IsInReach}
-use Rattle.assembler.specs.Statements.{Made, one, two, jump, branch}
-use Rattle.assembler.specs.Lines.{label_of, statement_text, made_in}
-use Rattle.assembler.specs.Drafts.{Line, size_of, word_count, is_label, place_from, label_place, is_twice, refused_at_line, drafted}
-use Rattle.assembler.specs.Drafts.{all_drafted, in_bytes, distance, placed_statement, onto, all_placed, all_instructions, assembled}
-use Rattle.assembler.specs.Grammar.{IsLine}
-use Rattle.assembler.specs.Program.{AreLines, AreApart, EachOnce, IsFresh, Defines, IsPlaced, ArePlaced, AreInstrs, IsProgram, AreWordsOf}
 use Rattle.assembler.specs.Program.IsPlaced.{nothing, single, double, jumping, branching}
 use Rattle.assembler.proofs.OperandLaws.{is_reached-only, reached_true}
 use Rattle.assembler.proofs.LabelLaws.{label_is, is_the_label, Apart, fresh_apart, apart_fresh, apart-append}

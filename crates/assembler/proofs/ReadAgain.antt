@@ -1,26 +1,19 @@
 -- The operands that an instruction's text is made of are spelled as the grammar asks.
-use Rattle.std.proofs.Common.{◌≡◌, ℕ, suc, ◌+◌, ◌^◌, ◌<◌, ◌≤◌, Bool, true, false, [], ◌∷◌, ◌++◌, length, Option, Some}
-use Rattle.std.proofs.Common.{None, refl, arith, inl, inr, ℤ, pos, negsuc}
+use Rattle.std.proofs.Common.{◌≡◌, ℕ, suc, ◌+◌, ◌^◌, ◌<◌, ◌≤◌, Bool, true, false, [], ◌∷◌, ◌++◌, length, Option, Some, None, refl, arith, inl, inr, ℤ, pos}
+use Rattle.std.proofs.Common.{negsuc}
 use Rattle.std.specs.Prelude.{nat_eq}
 use Rattle.std.specs.Fmt.{digits, decimal, signed_decimal}
 use Rattle.std.proofs.lemmas.Bool.{eqb-true}
 use Rattle.std.proofs.lemmas.Fmt.{decimal_nonempty}
 use Rattle.std.proofs.lemmas.Int.{ints}
-use Rattle.texts.specs.Cutting.{NonePass}
-use Rattle.texts.proofs.CuttingLaws.{decimal_none}
-use Rattle.rv_decode.specs.Fits.{IsSigned}
+use Rattle.texts.specs.{NonePass, magnitude, integer, is_blank}
+use Rattle.texts.proofs.{decimal_none, decimal_numeral, stripped-none, stripped-all}
+use Rattle.rv_decode.specs.{IsSigned, register_names}
 use Rattle.rv_decode.specs.declared.instruction.Reg.{Reg}
-use Rattle.rv_decode.specs.Registers.{register_names}
-use Rattle.assembler.specs.Sets.{set_names}
-use Rattle.assembler.specs.Spelled.{a_register, a_set, number_from, natural_to, base, address_from, target_within}
-use Rattle.texts.specs.Grammars.{magnitude, integer}
-use Rattle.texts.proofs.GrammarLaws.{decimal_numeral}
-use Rattle.assembler.specs.Writing.{register_text, address_text, set_text}
+use Rattle.assembler.specs.{set_names, a_register, a_set, number_from, natural_to, base, address_from, target_within, register_text, address_text, set_text}
+use Rattle.assembler.specs.{bytes, IsInReach}
 use Rattle.assembler.proofs.Rows.{all_below, below_all, found_in, member_of_row}
 use Rattle.assembler.proofs.OperandLaws.{within-only, is_reached-only}
-use Rattle.assembler.specs.Operands.{bytes, IsInReach}
-use Rattle.texts.specs.Pieces.{is_blank}
-use Rattle.texts.proofs.TrimLaws.{stripped-none, stripped-all}
 
 -- ---- registers and sets
 

@@ -7,32 +7,23 @@ use Rattle.std.specs.List.{list_all}
 use Rattle.std.specs.Fmt.{decimal, signed_decimal}
 use Rattle.std.proofs.lemmas.Bool.{ne_eqb, ltb-true, and_parts, or_parts, not-true}
 use Rattle.std.proofs.lemmas.Fmt.{decimal_nonempty}
-use Rattle.texts.specs.Pieces.{is_blank}
+use Rattle.texts.specs.{is_blank, is_byte, trimmed, NonePass}
 use Rattle.rv_decode.specs.declared.instruction.Reg.{Reg}
 use Rattle.rv_decode.specs.declared.instruction.Instr.{Instr}
 use Rattle.rv_decode.specs.declared.instruction.Instr.TheVariants as instr
-use Rattle.assembler.specs.declared.form.Form.{Form}
+use Rattle.assembler.specs.{Form, form_named, one, operand_row, statement_of, label_of, statement_text, made_in, made_for, some_text, operands_in, assembled}
+use Rattle.assembler.specs.{drafted, line_below, all_instructions, register_text, address_text, set_text, branch_name, load_name, store_name, immediate_name}
+use Rattle.assembler.specs.{shift_name, register_name, amo_name, order_name, with_two, with_three, text_of}
 use Rattle.assembler.specs.declared.form.Form.TheVariants as form
-use Rattle.texts.specs.Cutting.{is_byte, trimmed, NonePass}
-use Rattle.assembler.specs.Mnemonics.{form_named}
 use Rattle.assembler.specs.Operands.{bytes, register, upper, amount, short, address, pointer, near, far, set, value_in}
-use Rattle.assembler.specs.Statements.{one, operand_row, statement_of}
-use Rattle.assembler.specs.Lines.{label_of, statement_text, made_in, made_for, some_text}
-use Rattle.assembler.specs.Spelled.{operands_in}
-use Rattle.assembler.specs.Drafts.{assembled, drafted, line_below, all_instructions}
-use Rattle.assembler.specs.Writing.{register_text, address_text, set_text, branch_name, load_name, store_name}
-use Rattle.assembler.specs.Writing.{immediate_name, shift_name, register_name, amo_name, order_name, with_two}
-use Rattle.assembler.specs.Writing.{with_three, text_of}
-use Rattle.texts.proofs.CuttingLaws.{none-append, before-none, after-none, before-stop, after-stop, one_line}
-use Rattle.texts.proofs.CuttingLaws.{decimal_none, not_byte, not_low_byte, digit_no_blank}
-use Rattle.texts.proofs.TrimLaws.{stripped-none, stripped-ends}
+use Rattle.texts.proofs.{none-append, before-none, after-none, before-stop, after-stop, one_line, decimal_none, not_byte, not_low_byte, digit_no_blank}
+use Rattle.texts.proofs.{stripped-none, stripped-ends, all_by_test, none_of_all}
 use Rattle.assembler.proofs.Commas.{parts_line, parts_operands, IsOperand, none_weaker, operand_line, no_blank, two_between, three_between}
-use Rattle.texts.proofs.GrammarLaws.{all_by_test, none_of_all}
 use Rattle.assembler.proofs.Named.{is_word, IsNameOf, branch_named, load_named, store_named, immediate_named, shift_named, register_named, amo_named}
 use Rattle.assembler.proofs.Rows.{all_below, below_all}
 use Rattle.assembler.proofs.OperandLaws.{operand_only}
-use Rattle.assembler.proofs.ReadAgain.{register_spelled, set_spelled, short_spelled, natural_spelled, target_spelled}
-use Rattle.assembler.proofs.ReadAgain.{address_spelled, pointer_spelled, signed_none, signed_some}
+use Rattle.assembler.proofs.ReadAgain.{register_spelled, set_spelled, short_spelled, natural_spelled, target_spelled, address_spelled, pointer_spelled}
+use Rattle.assembler.proofs.ReadAgain.{signed_none, signed_some}
 
 -- ---- operands that stand for themselves
 

@@ -1,26 +1,17 @@
 -- What is made of a text is the statement of the grammar, and what the grammar has is made.
-use Rattle.std.proofs.Common.{◌≡◌, ℕ, ◌<◌, true, false, not, eqb, List, [], ◌∷◌, ◌++◌, length, Option}
-use Rattle.std.proofs.Common.{Some, None, Ok, refl, sym, ap, subst, ◌∙◌, inl, inr, arith, append-nil}
+use Rattle.std.proofs.Common.{◌≡◌, ℕ, ◌<◌, true, false, not, eqb, List, [], ◌∷◌, ◌++◌, length, Option, Some, None, Ok, refl, sym, ap, subst, ◌∙◌, inl, inr}
+use Rattle.std.proofs.Common.{arith, append-nil}
 use Rattle.std.specs.Prelude.{◌==◌}
 use Rattle.std.specs.List.{Contains, list_all}
 use Rattle.std.proofs.lemmas.Bool.{cases_Bool, eqb-true, ne_eqb, not-true}
-use Rattle.texts.specs.Pieces.{is_blank}
-use Rattle.texts.specs.Cutting.{before, after, without_front, without_end, trimmed, onto_kept, AreBlanks, IsPadded, NonePass, stripped}
-use Rattle.texts.proofs.ResultLaws.{ok_is, bind_ok}
-use Rattle.assembler.specs.declared.form.Form.{Form}
-use Rattle.assembler.specs.Mnemonics.{mnemonics, form_named}
-use Rattle.assembler.specs.Statements.{Made, statement_of}
-use Rattle.assembler.specs.Lines.{operands_of, made_for, made_in}
-use Rattle.assembler.specs.Spelled.{operands_in}
-use Rattle.assembler.specs.Grammar.{Makes, IsStatement, IsBody}
-use Rattle.assembler.specs.Grammar.IsStatement.{alone, applied}
+use Rattle.texts.specs.{is_blank, before, after, without_front, without_end, trimmed, onto_kept, AreBlanks, IsPadded, NonePass, stripped}
+use Rattle.texts.proofs.{ok_is, bind_ok, before-none, after-none, before-stop, after-stop, cut_whole, uncut, all-append, onto_some, stripped-padded}
+use Rattle.texts.proofs.{stripped-all, stripped-none, stripped-trailing, padded_stripped, padded_twice, trailing_split, all_by_test, none_of_all}
+use Rattle.assembler.specs.{Form, mnemonics, form_named, Made, statement_of, operands_of, made_for, made_in, operands_in, Makes, IsStatement, IsBody, alone}
+use Rattle.assembler.specs.{applied}
 use Rattle.assembler.specs.Grammar.IsBody.{nothing, statement}
-use Rattle.texts.proofs.CuttingLaws.{before-none, after-none, before-stop, after-stop, cut_whole, uncut}
-use Rattle.texts.proofs.TrimLaws.{all-append, onto_some, stripped-padded, stripped-all, stripped-none}
-use Rattle.texts.proofs.TrimLaws.{stripped-trailing, padded_stripped, padded_twice, trailing_split}
 use Rattle.assembler.proofs.Rows.{found_in, are_apart, row_of_member, member_of_row, all_rows}
 use Rattle.assembler.proofs.Commas.{split_trimmed}
-use Rattle.texts.proofs.GrammarLaws.{all_by_test, none_of_all}
 use Rattle.assembler.proofs.OperandTable.{found_makes, only_makes, makes_of_empty}
 
 -- ---- mnemonics

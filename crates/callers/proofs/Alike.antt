@@ -1,33 +1,26 @@
 -- A queue that can be used owes nothing at the opening, so two answers to one input have one exit status.
-use Rattle.std.proofs.Common.{ℕ, ◌≡◌, ◌+◌, ◌-◌, ◌*◌, ◌/◌, ◌%◌, ◌<◌, ◌≤◌, min, not, nat_lt, inl, inr, Bool, true, false, List, [], Some}
-use Rattle.std.proofs.Common.{refl, sym, ap, subst, ◌∙◌, arith, add-zero}
+use Rattle.std.proofs.Common.{ℕ, ◌≡◌, ◌+◌, ◌-◌, ◌*◌, ◌/◌, ◌%◌, ◌<◌, ◌≤◌, min, not, nat_lt, inl, inr, Bool, true, false, List, [], Some, refl, sym, ap, subst}
+use Rattle.std.proofs.Common.{◌∙◌, arith, add-zero}
 use Rattle.std.proofs.lemmas.Bool.{cases_order, cases_lt}
 use Rattle.std.proofs.lemmas.Bool.Decides.{nat_tests}
 use Rattle.std.proofs.Math.Nat.{add-mod_right, mod-eq_of_lt, mod-lt}
 use Rattle.step_machine.specs.declared.events.Event.{Event}
-use Rattle.step_machine.specs.History.{OpeningValue, History, at_opening}
-use Rattle.step_machine.specs.Entries.{memory_word}
+use Rattle.step_machine.specs.Names.{OpeningValue, History, at_opening, memory_word}
 use Rattle.step_machine.proofs.Running.{run-one}
 use Rattle.rv_decode.specs.Listings.{Listed}
 use Rattle.spsc_queue.specs.RingBuffers.{slot_address}
 use Rattle.spsc_queue.specs.Calls.{copy_in, buffer, HasFunction}
-use Rattle.callers.specs.Queues.{kind_of, caches_tail, slots_after, start_in, waiting_in, spsc_of, sends_by, receives_by, HasFirstCopy, IsLocated}
-use Rattle.callers.specs.Violations.{waits_in, IsOldTail, IsOpeningViolation, first_caller_violation}
+use Rattle.callers.specs.{kind_of, caches_tail, slots_after, start_in, waiting_in, spsc_of, sends_by, receives_by, HasFirstCopy, IsLocated, waits_in, IsOldTail}
+use Rattle.callers.specs.{IsOpeningViolation, first_caller_violation, KeepsObligations, HasCallerViolation, IsCallersOutput, IsOutputOfRuns, call_schedule}
+use Rattle.callers.specs.{kept_text, Calls, CallerViolation, QueueKind, Queue, Located}
 use Rattle.drawn_runs.specs.Samples.{DrawnRuns}
 use Rattle.judged_runs.specs.Finding.{AreAllGood}
 use Rattle.judged_runs.specs.Histories.{MOST, summed}
 use Rattle.judged_runs.proofs.Histories.{runs_one}
 use Rattle.callers.specs.Counts.{AreCountsOf, are_none, sends as sends_in, receives as receives_in}
-use Rattle.callers.specs.Runs.{KeepsObligations, HasCallerViolation}
-use Rattle.callers.specs.Answers.{IsCallersOutput, IsOutputOfRuns, call_schedule, kept_text}
 use Rattle.callers.specs.declared.counts.Counts.{Counts}
-use Rattle.callers.specs.declared.judging.Calls.{Calls}
-use Rattle.callers.specs.declared.violations.CallerViolation.{CallerViolation}
 use Rattle.callers.specs.declared.violations.CallerViolation.TheVariants as violation
-use Rattle.callers.specs.declared.queue.QueueKind.{QueueKind}
 use Rattle.callers.specs.declared.queue.QueueKind.TheVariants as kind
-use Rattle.callers.specs.declared.queue.Queue.{Queue}
-use Rattle.callers.specs.declared.queue.Located.{Located}
 use Rattle.callers.proofs.Exact.{none_owed}
 use Rattle.callers.proofs.Rest.{on_from, back_from, at_any}
 

@@ -1,31 +1,24 @@
 -- How many calls returned, one entry more, and what runs count to, one more and those of two parts together.
-use Rattle.std.proofs.Common.{ℕ, ◌≡◌, ◌==◌, ◌&&◌, not, ◌+◌, ◌≤◌, min, inl, inr, Bool, true, false, List, [], ◌∷◌, ◌++◌, length, Some}
-use Rattle.std.proofs.Common.{refl, sym, ap, subst, ◌∙◌, arith, append_assoc, append-nil, add_assoc}
+use Rattle.std.proofs.Common.{ℕ, ◌≡◌, ◌==◌, ◌&&◌, not, ◌+◌, ◌≤◌, min, inl, inr, Bool, true, false, List, [], ◌∷◌, ◌++◌, length, Some, refl, sym, ap, subst, ◌∙◌}
+use Rattle.std.proofs.Common.{arith, append_assoc, append-nil, add_assoc}
 use Rattle.std.specs.Prelude.{if◌then◌else◌}
 use Rattle.std.proofs.lemmas.Bool.{eqb-true}
 use Rattle.hart.specs.State.{HartState}
 use Rattle.step_machine.specs.declared.events.Entry.{Entry}
 use Rattle.step_machine.specs.declared.events.Entry.TheVariants as entry
 use Rattle.step_machine.specs.declared.events.Event.{Event}
-use Rattle.step_machine.specs.History.{OpeningValue, History, history_of}
-use Rattle.step_machine.specs.Entries.{hart_of, is_land, is_own}
-use Rattle.step_machine.specs.Paths.{state_of}
+use Rattle.step_machine.specs.Names.{OpeningValue, History, history_of, hart_of, is_land, is_own, state_of}
 use Rattle.step_machine.proofs.Placing.{land_other}
-use Rattle.litmus.specs.Verdicts.{IsVerdict}
-use Rattle.litmus.specs.LitmusTests.{LitmusTest}
+use Rattle.litmus.specs.{IsVerdict, LitmusTest}
 use Rattle.litmus.specs.declared.verdict.Verdict.{Verdict}
 use Rattle.litmus.specs.declared.verdict.Verdict.TheVariants.{Holds, Fails, Unfinished}
 use Rattle.spsc_queue.specs.Calls.{Block, SpscQueue, is_in_call, is_in_call_from, is_in_call_with}
 use Rattle.spsc_queue.proofs.OwnEntries.{own_is}
 use Rattle.judged_runs.proofs.Histories.{capped_both, runs_both, runs_count, total_both}
-use Rattle.callers.specs.Queues.{spsc_of}
+use Rattle.callers.specs.{spsc_of, returns_now, returns_in, returned_by, returned_from, returned, sends, receives, AreCalls, HasCalls, HaveUnfinished}
+use Rattle.callers.specs.{AreTotalCalls, AreCountsOf, calls_both, unfinished_by, counted_by, Calls, Located}
 use Rattle.judged_runs.specs.Histories.{MOST}
-use Rattle.callers.specs.Counts.{returns_now, returns_in, returned_by, returned_from, returned, sends, receives, AreCalls, HasCalls, HaveUnfinished}
-use Rattle.callers.specs.Counts.{AreTotalCalls, AreCountsOf, calls_both, unfinished_by}
-use Rattle.callers.specs.inner.Noting.{counted_by}
 use Rattle.callers.specs.declared.counts.Counts.{Counts}
-use Rattle.callers.specs.declared.judging.Calls.{Calls}
-use Rattle.callers.specs.declared.queue.Located.{Located}
 
 -- ---- one entry more
 

@@ -1,28 +1,24 @@
 -- A run that keeps what callers owe has no violation.
-use Rattle.std.proofs.Common.{ℕ, ◌≡◌, ◌≢◌, ◌==◌, ◌*◌, ◌||◌, Bool, true, false, List, [], ◌∷◌, ◌++◌, Option, Some, None}
-use Rattle.std.proofs.Common.{refl, sym, ap, subst, ◌∙◌, append_assoc, append-nil, eq-eqb}
+use Rattle.std.proofs.Common.{ℕ, ◌≡◌, ◌≢◌, ◌==◌, ◌*◌, ◌||◌, Bool, true, false, List, [], ◌∷◌, ◌++◌, Option, Some, None, refl, sym, ap, subst, ◌∙◌, append_assoc}
+use Rattle.std.proofs.Common.{append-nil, eq-eqb}
 use Rattle.std.specs.Prelude.{if◌then◌else◌, option_map, slice_index}
 use Rattle.std.specs.Option.{option_or}
 use Rattle.std.proofs.lemmas.Bool.{ne_eqb, eqb-true, eqb-false}
-use Rattle.hart.specs.State.{HartState}
-use Rattle.hart.specs.Steps.{advanced}
+use Rattle.hart.specs.{HartState, advanced}
 use Rattle.step_machine.specs.declared.events.Entry.{Entry}
-use Rattle.step_machine.specs.Access.{Access, nothing, load, store, exchange, fence, land, access_of}
-use Rattle.step_machine.specs.History.{OpeningValue, history_of}
-use Rattle.step_machine.specs.Entries.{hart_of, is_land}
-use Rattle.step_machine.specs.Paths.{number_read, state_of}
+use Rattle.step_machine.specs.Names.{Access, nothing, load, store, exchange, fence, land, access_of, OpeningValue, history_of, hart_of, is_land, number_read}
+use Rattle.step_machine.specs.Names.{state_of}
 use Rattle.step_machine.proofs.Follows.{advance_by, state_of-mine}
 use Rattle.spsc_queue.specs.RingBuffers.{RingBuffer}
 use Rattle.spsc_queue.specs.Protocol.{WritesNothingTo}
 use Rattle.rv_decode.specs.Listings.{Listed}
-use Rattle.spsc_queue.specs.Calls.{Block, SpscQueue, Party, the_sender, the_receiver, party_hart, party_line, buffer}
-use Rattle.spsc_queue.specs.Calls.{enters, is_in_call, is_sender_in_call, is_receiver_in_call}
-use Rattle.spsc_queue.specs.Calls.{HasArguments, HasFunction, PartyObligation, CallerObligation, UsesAsSpscQueue}
+use Rattle.spsc_queue.specs.Calls.{Block, SpscQueue, Party, the_sender, the_receiver, party_hart, party_line, buffer, enters, is_in_call, is_sender_in_call}
+use Rattle.spsc_queue.specs.Calls.{is_receiver_in_call, HasArguments, HasFunction, PartyObligation, CallerObligation, UsesAsSpscQueue}
 use Rattle.spsc_queue.specs.Obligations.{may_pass, has_arguments}
 use Rattle.spsc_queue.proofs.Decided.{passes_said, arguments_said}
 use Rattle.spsc_queue.proofs.OwnEntries.{state_here, is_here}
-use Rattle.callers.specs.Violations.{is_in_its_call, written_at, arguments_violation, entering_violation, party_violation, pc_in}
-use Rattle.callers.specs.Violations.{idle_violation, violation_of, violation_after, first_caller_violation}
+use Rattle.callers.specs.Violations.{is_in_its_call, written_at, arguments_violation, entering_violation, party_violation, pc_in, idle_violation, violation_of}
+use Rattle.callers.specs.Violations.{violation_after, first_caller_violation}
 use Rattle.callers.specs.declared.violations.CallerViolation.TheVariants as violation
 
 nothing_written : (r : RingBuffer) (x : Access) → WritesNothingTo r x → written_at r x ≡ None

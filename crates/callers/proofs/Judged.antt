@@ -1,21 +1,15 @@
 -- What the judgement of runs says of them.
 use Rattle.std.proofs.Common.{ℕ, ◌≡◌, List, Some, sym, ap, subst, ◌∙◌}
 use Rattle.step_machine.specs.declared.events.Event.{Event}
-use Rattle.step_machine.specs.History.{OpeningValue, History, history_of, at_opening}
-use Rattle.step_machine.specs.Legal.{WellFormed}
+use Rattle.step_machine.specs.Names.{OpeningValue, History, history_of, at_opening, WellFormed}
 use Rattle.step_machine.proofs.Running.{kept-at_opening, kept-run, opening_kept, run-one}
 use Rattle.drawn_runs.specs.Samples.{DrawnRuns}
 use Rattle.judged_runs.specs.Telling.{IsTold}
 use Rattle.judged_runs.specs.declared.telling.Told.{Told}
 use Rattle.judged_runs.proofs.Better.{told_better}
-use Rattle.callers.specs.Answers.{call_schedule}
-use Rattle.callers.specs.Counts.{AreCountsOf}
-use Rattle.callers.specs.Queues.{spsc_of, IsLocated}
-use Rattle.callers.specs.Violations.{first_caller_violation}
-use Rattle.callers.specs.Runs.{KeepsObligations, HasNoCallerViolation, HasCallerViolation}
+use Rattle.callers.specs.{call_schedule, AreCountsOf, spsc_of, IsLocated, first_caller_violation, KeepsObligations, HasNoCallerViolation, HasCallerViolation}
+use Rattle.callers.specs.{CallerViolation, Located}
 use Rattle.callers.specs.declared.counts.Counts.{Counts}
-use Rattle.callers.specs.declared.violations.CallerViolation.{CallerViolation}
-use Rattle.callers.specs.declared.queue.Located.{Located}
 use Rattle.callers.proofs.Sound.{keeps_all}
 
 module _ (B M : ℕ) (o : OpeningValue) (l : Located) (events : List Event) where

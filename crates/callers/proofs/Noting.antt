@@ -1,37 +1,27 @@
 -- What is noted of a run, one entry more.
-use Rattle.std.proofs.Common.{ℕ, ◌≡◌, ◌==◌, ◌&&◌, ◌||◌, not, ◌+◌, ◌<◌, Bool, true, false, List, [], ◌∷◌, ◌++◌, length, take, get_or, Option, Some, None}
-use Rattle.std.proofs.Common.{refl, sym, ap, subst, ◌∙◌, append_assoc, append-nil}
+use Rattle.std.proofs.Common.{ℕ, ◌≡◌, ◌==◌, ◌&&◌, ◌||◌, not, ◌+◌, ◌<◌, Bool, true, false, List, [], ◌∷◌, ◌++◌, length, take, get_or, Option, Some, None, refl}
+use Rattle.std.proofs.Common.{sym, ap, subst, ◌∙◌, append_assoc, append-nil}
 use Rattle.std.specs.Prelude.{if◌then◌else◌, option_map}
 use Rattle.std.specs.Option.{option_or}
 use Rattle.std.specs.List.{slice_get}
 use Rattle.std.proofs.lemmas.Bool.{eqb-true}
 use Rattle.std.proofs.lemmas.List.{take_more}
-use Rattle.hart.specs.State.{HartState}
-use Rattle.hart.specs.Steps.{advanced}
+use Rattle.hart.specs.{HartState, advanced}
 use Rattle.step_machine.specs.declared.events.Event.{Event}
 use Rattle.step_machine.specs.declared.events.Event.TheVariants.{Act, Land}
 use Rattle.step_machine.specs.declared.events.Entry.{Entry}
 use Rattle.step_machine.specs.declared.events.Entry.TheVariants as entry
 use Rattle.step_machine.specs.declared.events.Outcome.{Outcome}
 use Rattle.step_machine.specs.declared.events.Outcome.TheVariants as outcome
-use Rattle.step_machine.specs.History.{HartOpeningValue, OpeningValue, History, history_of, with_entry, at_opening}
-use Rattle.step_machine.specs.Entries.{hart_of, is_land, own}
-use Rattle.step_machine.specs.Paths.{number_read, state_of, Path}
-use Rattle.step_machine.specs.Runs.{Happens, Run}
-use Rattle.step_machine.proofs.Follows.{state_after, advance_by, state_of-mine, Path-hart}
-use Rattle.step_machine.proofs.Placing.{land_other}
-use Rattle.step_machine.proofs.Running.{RunFrom-more}
+use Rattle.step_machine.specs.Names.{HartOpeningValue, OpeningValue, History, history_of, with_entry, at_opening, hart_of, is_land, own, number_read, state_of}
+use Rattle.step_machine.specs.Names.{Path, Happens, Run}
+use Rattle.step_machine.proofs.{state_after, advance_by, state_of-mine, Path-hart, land_other, RunFrom-more}
 use Rattle.spsc_queue.specs.Calls.{Block, SpscQueue, is_in_call_after, is_in_call_with, is_in_call, is_sender_in_call, is_receiver_in_call}
 use Rattle.spsc_queue.proofs.Completed.{is_in_call-last, same_call, own_call}
 use Rattle.spsc_queue.proofs.OwnEntries.{own_is}
-use Rattle.callers.specs.Queues.{spsc_of}
-use Rattle.callers.specs.Violations.{is_in_its_call, idle_violation, violation_of, violation_after, first_caller_violation}
+use Rattle.callers.specs.{spsc_of, is_in_its_call, idle_violation, violation_of, violation_after, first_caller_violation, IsCallState, AreCallNotes, noted_call}
+use Rattle.callers.specs.{found_by, notes_by, IsEventNoted, CallerViolation, Located, CallState, Notes}
 use Rattle.callers.proofs.Counting.{count_noted, land_counts}
-use Rattle.callers.specs.inner.Noting.{IsCallState, AreCallNotes, noted_call, found_by, notes_by, IsEventNoted}
-use Rattle.callers.specs.declared.violations.CallerViolation.{CallerViolation}
-use Rattle.callers.specs.declared.queue.Located.{Located}
-use Rattle.callers.specs.declared.judging.CallState.{CallState}
-use Rattle.callers.specs.declared.judging.Notes.{Notes}
 
 -- ---- the first violation among entries and one more
 

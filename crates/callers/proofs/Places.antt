@@ -12,8 +12,7 @@ use Rattle.std.proofs.Math.Seq.{drop-append_seam, take-length}
 use Rattle.step_machine.specs.History.{HartOpeningValue, OpeningValue, IsShort}
 use Rattle.rv_decode.specs.Listings.{Listed, words_of}
 use Rattle.spsc_queue.specs.Calls.{HasFunction}
-use Rattle.callers.specs.Queues.{HasFirstCopy, HasNoCopy}
-use Rattle.callers.specs.inner.Locating.{StandsAt}
+use Rattle.callers.specs.{HasFirstCopy, HasNoCopy, StandsAt}
 
 -- they stand at line n where the code's rest from there on begins with them, and nowhere else
 module _ (words code : List ℕ) (n : ℕ) (r : Bool)

@@ -1,20 +1,17 @@
 -- A queue whose indices open as offsets, whose copy of the tail opens as an old tail, and whose slots hold words just where some wait, is
 -- at rest.
-use Rattle.std.proofs.Common.{ℕ, ◌≡◌, ◌+◌, ◌-◌, ◌*◌, ◌/◌, ◌%◌, ◌<◌, ◌≤◌, ◌==◌, not, nat_lt, inl, inr, Bool, true, false, if◌then◌else◌, [], Some}
-use Rattle.std.proofs.Common.{ap, refl, sym, subst, ◌∙◌, arith, add-zero}
+use Rattle.std.proofs.Common.{ℕ, ◌≡◌, ◌+◌, ◌-◌, ◌*◌, ◌/◌, ◌%◌, ◌<◌, ◌≤◌, ◌==◌, not, nat_lt, inl, inr, Bool, true, false, if◌then◌else◌, [], Some, ap, refl, sym}
+use Rattle.std.proofs.Common.{subst, ◌∙◌, arith, add-zero}
 use Rattle.std.proofs.lemmas.Bool.{cases_lt, lt-ltb, le-ltb, eqb-true}
 use Rattle.std.proofs.lemmas.Bool.Decides.{nat_tests}
 use Rattle.std.proofs.lemmas.Nat.{mod-mul-add}
 use Rattle.std.proofs.Math.Nat.{add-mod_right, mod-eq_of_lt, mod-lt}
-use Rattle.step_machine.specs.History.{OpeningValue}
-use Rattle.step_machine.specs.Entries.{memory_word}
+use Rattle.step_machine.specs.Names.{OpeningValue, memory_word}
 use Rattle.spsc_queue.specs.RingBuffers.{Kind, lamport, fastforward, RingBuffer, slot_offset, capacity_of, IsQuiescent}
 use Rattle.spsc_queue.specs.Calls.{IsBlock, buffer}
 use Rattle.spsc_queue.proofs.Parts.{copied_in}
-use Rattle.callers.specs.Queues.{kind_of, caches_tail, block_at, slots_after, waiting_between, start_in, waiting_in, spsc_of}
-use Rattle.callers.specs.Violations.{IsOffset, waits_in, IsOldTail, AreAsOwedBelow}
-use Rattle.callers.specs.declared.queue.Queue.{Queue}
-use Rattle.callers.specs.declared.queue.Located.{Located}
+use Rattle.callers.specs.{kind_of, caches_tail, block_at, slots_after, waiting_between, start_in, waiting_in, spsc_of, IsOffset, waits_in, IsOldTail}
+use Rattle.callers.specs.{AreAsOwedBelow, Queue, Located}
 
 -- slot j by how many slots after slot `start` it comes, and back
 after_within : (S start j : ℕ) → start < S → slots_after S start j < S

@@ -1,31 +1,25 @@
 -- A run with no violation keeps what callers owe.
-use Rattle.std.proofs.Common.{ℕ, ◌≡◌, ◌≢◌, ◌==◌, ◌*◌, ◌||◌, Bool, true, false, List, [], ◌∷◌, ◌++◌, Option, Some, None}
-use Rattle.std.proofs.Common.{refl, sym, ap, subst, ◌∙◌, append_assoc, append-nil, eq-eqb}
+use Rattle.std.proofs.Common.{ℕ, ◌≡◌, ◌≢◌, ◌==◌, ◌*◌, ◌||◌, Bool, true, false, List, [], ◌∷◌, ◌++◌, Option, Some, None, refl, sym, ap, subst, ◌∙◌, append_assoc}
+use Rattle.std.proofs.Common.{append-nil, eq-eqb}
 use Rattle.std.specs.Prelude.{if◌then◌else◌, option_map, slice_index}
 use Rattle.std.specs.Option.{option_or}
 use Rattle.std.proofs.lemmas.Bool.{ne_eqb}
 use Rattle.memory.specs.declared.writes.Write.{Write}
 use Rattle.memory.specs.Writes.{write}
-use Rattle.hart.specs.State.{HartState}
-use Rattle.hart.specs.Steps.{advanced}
+use Rattle.hart.specs.{HartState, advanced}
 use Rattle.step_machine.specs.declared.events.Entry.{Entry}
-use Rattle.step_machine.specs.Access.{Access, nothing, load, store, exchange, fence, land, access_of}
-use Rattle.step_machine.specs.History.{OpeningValue, history_of}
-use Rattle.step_machine.specs.Entries.{hart_of, is_land}
-use Rattle.step_machine.specs.Paths.{number_read, state_of}
-use Rattle.step_machine.specs.Legal.{WellFormed}
+use Rattle.step_machine.specs.Names.{Access, nothing, load, store, exchange, fence, land, access_of, OpeningValue, history_of, hart_of, is_land, number_read}
+use Rattle.step_machine.specs.Names.{state_of, WellFormed}
 use Rattle.step_machine.proofs.Follows.{advance_by, state_of-mine}
 use Rattle.spsc_queue.specs.RingBuffers.{RingBuffer, overlaps}
 use Rattle.spsc_queue.specs.Protocol.{WritesNothingTo}
-use Rattle.spsc_queue.specs.Calls.{Block, SpscQueue, Party, the_sender, the_receiver, buffer, enters, is_sender_in_call, is_receiver_in_call}
-use Rattle.spsc_queue.specs.Calls.{HasArguments, PartyObligation, CallerObligation, UsesAsSpscQueue}
+use Rattle.spsc_queue.specs.Calls.{Block, SpscQueue, Party, the_sender, the_receiver, buffer, enters, is_sender_in_call, is_receiver_in_call, HasArguments}
+use Rattle.spsc_queue.specs.Calls.{PartyObligation, CallerObligation, UsesAsSpscQueue}
 use Rattle.spsc_queue.proofs.Obligations.{arguments_are}
 use Rattle.spsc_queue.proofs.OwnEntries.{land_is}
-use Rattle.callers.specs.Queues.{spsc_of, IsLocated}
-use Rattle.callers.specs.declared.queue.Located.{Located}
+use Rattle.callers.specs.{spsc_of, IsLocated, Located, is_in_its_call, met_by, written_at, arguments_violation, entering_violation, party_violation, pc_in}
+use Rattle.callers.specs.{idle_violation, violation_of, violation_after, first_caller_violation}
 use Rattle.spsc_queue.specs.Obligations.{may_pass, has_arguments}
-use Rattle.callers.specs.Violations.{is_in_its_call, met_by, written_at, arguments_violation, entering_violation, party_violation, pc_in}
-use Rattle.callers.specs.Violations.{idle_violation, violation_of, violation_after, first_caller_violation}
 use Rattle.callers.specs.declared.violations.CallerViolation.TheVariants as violation
 
 -- ---- what owes nothing

@@ -2,14 +2,10 @@
 use Rattle.std.proofs.Common.{◌≡◌, ◌⊎◌, inl, inr, ℕ, Bool, List, [], refl, sym, subst, ◌∙◌, Result, Ok, Err}
 use Rattle.std.specs.Prelude.{IsErrAnd}
 use Rattle.hart.specs.declared.need.Report.{Report}
-use Rattle.step_machine.specs.History.{OpeningValue, History}
-use Rattle.step_machine.specs.Runs.{Run}
-use Rattle.step_machine.specs.Entries.{reported}
+use Rattle.step_machine.specs.Names.{OpeningValue, History, Run, reported}
 use Rattle.recorder.specs.Versions.{ScheduleValue, events_of_schedule}
 use Rattle.poll_close.specs.Layout.{Layout}
-use Rattle.poll_close.specs.Laws.{AcceptedAt, Ring, opening_over}
-use Rattle.poll_close.specs.Places.{layout_of}
-use Rattle.poll_close.specs.Refusals.{RefusesAt}
+use Rattle.poll_close.specs.{AcceptedAt, Ring, opening_over, layout_of, RefusesAt}
 use Rattle.poll_close.specs.declared.faults.Refused.TheVariants as refused
 use Rattle.poll_close.specs.declared.faults.RefusedAt.{RefusedAt}
 use Rattle.poll_close.specs.declared.faults.RefusedAt.TheVariants as why
@@ -19,8 +15,7 @@ use Rattle.engine_support.specs.declared.fault.Fault.TheVariants.{NoMemory, Refu
 use Rattle.engine_support.specs.declared.fault.Refusal.{Refusal}
 use Rattle.engine_support.specs.Faults.{AnswersAs}
 use Rattle.engine_support.specs.Runs.{Runs}
-use Rattle.engine_support.proofs.RunLaws.{runs_events}
-use Rattle.engine_support.proofs.ScheduleLaws.{stopped_by}
+use Rattle.engine_support.proofs.{runs_events, stopped_by}
 use Rattle.channel_engines.specs.Channels.{fault_from, IsUnfilled, IsReported, IsUnreported, Reported}
 use Rattle.channel_engines.specs.UserChannels.{IsUserReported}
 

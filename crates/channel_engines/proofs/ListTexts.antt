@@ -1,13 +1,10 @@
 -- A text of lists: what is read is what it says, and what it says is read.
 use Rattle.std.proofs.Common.{◌≡◌, ℕ, List, Ok}
 use Rattle.std.specs.Str.Lines.{lines}
-use Rattle.texts.specs.Numbers.{word_of}
-use Rattle.texts.specs.Pieces.{pieces}
+use Rattle.texts.specs.{word_of, SaysWord, pieces, DecidesGrammar}
 use Rattle.texts.specs.declared.pieces.Separators.TheVariants.{Spaces}
-use Rattle.texts.specs.Formats.{DecidesGrammar}
 use Rattle.texts.proofs.FormatLaws.{settled_found, settled_only, settled_one, settles_each, settles_each_at, settles_map_err, settles_word}
 use Rattle.engine_support.specs.LineFaults.{bad_line, or_bad, at_line, refused_on}
-use Rattle.texts.specs.Numbers.{SaysWord}
 use Rattle.channel_engines.specs.Lists.{list_texts, with_bytes, SaysList, SaysLists, list_at, list_of, lists_of_lines, lists_at}
 use Rattle.engine_support.proofs.InputLaws.{IsOne, is_one}
 

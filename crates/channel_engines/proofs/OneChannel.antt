@@ -6,18 +6,14 @@ use Rattle.step_machine.specs.History.{History}
 use Rattle.step_machine.proofs.Running.{run-one}
 use Rattle.recorder.specs.Versions.{ScheduleValue}
 use Rattle.poll_close.specs.Layout.{Layout}
-use Rattle.poll_close.specs.Laws.{AreWords, Ring, AcceptedAt, opening_over}
-use Rattle.poll_close.specs.Refusals.{FitsAt, IsBeyond, ZeroAt, ZeroWordAt}
+use Rattle.poll_close.specs.{AreWords, Ring, AcceptedAt, opening_over, FitsAt, IsBeyond, ZeroAt, ZeroWordAt}
 use Rattle.engine_support.specs.declared.fault.Refusal.{Refusal}
-use Rattle.engine_support.specs.Engines.{Output, AreAlike}
+use Rattle.engine_support.specs.{Output, AreAlike, schedules}
 use Rattle.engine_support.specs.Runs.{Runs}
-use Rattle.engine_support.specs.Schedules.{schedules}
-use Rattle.engine_support.proofs.RunLaws.{one_difference, runs_or_differs}
+use Rattle.engine_support.proofs.{one_difference, runs_or_differs, alike_after, one_after, one_schedule, same_output}
 use Rattle.channel_engines.specs.Lists.{list_texts}
 use Rattle.channel_engines.specs.Channels.{HasNoChannel, IsChannelAnswer, IsChannelRun, IsDelivery, IsUnreported}
 use Rattle.channel_engines.proofs.ListTexts.{one_list_text}
-use Rattle.engine_support.proofs.InputLaws.{alike_after, one_after, one_schedule}
-use Rattle.engine_support.proofs.OneInput.{same_output}
 
 -- ---- the first word that is 0
 

@@ -1,17 +1,13 @@
 -- What answers `ring` is one answer where all runs are clean, and where they aren't each answer tells of that.
-use Rattle.std.proofs.Common.{◌≡◌, ℕ, suc, ◌+◌, ◌-◌, Bool, true, false, List, [], ◌∷◌, ◌++◌, length, Result, Ok}
-use Rattle.std.proofs.Common.{refl, sym, ap, ap₂, subst, ◌∙◌, arith}
+use Rattle.std.proofs.Common.{◌≡◌, ℕ, suc, ◌+◌, ◌-◌, Bool, true, false, List, [], ◌∷◌, ◌++◌, length, Result, Ok, refl, sym, ap, ap₂, subst, ◌∙◌, arith}
 use Rattle.std.specs.Prelude.{Some, None, codes}
 use Rattle.std.specs.Fmt.{decimal}
 use Rattle.std.specs.List.{slice_get}
-use Rattle.step_machine.specs.History.{History, OpeningValue, at_opening}
-use Rattle.step_machine.specs.Runs.{Run}
+use Rattle.step_machine.specs.Names.{History, OpeningValue, at_opening, Run}
 use Rattle.step_machine.proofs.Running.{run-one}
 use Rattle.drawn_runs.specs.Samples.{DrawnRuns, schedule_in}
-use Rattle.poll_close.specs.Violations.{first_violation}
-use Rattle.poll_close.specs.Laws.{opening_over}
+use Rattle.poll_close.specs.{first_violation, opening_over, layout_of}
 use Rattle.poll_close.specs.Layout.{Layout}
-use Rattle.poll_close.specs.Places.{layout_of}
 use Rattle.poll_close.specs.declared.place.BlockPlace.{BlockPlace}
 use Rattle.poll_close.proofs.ViolationLaws.{first_law}
 use Rattle.engine_support.specs.declared.fault.Refusal.{Refusal}

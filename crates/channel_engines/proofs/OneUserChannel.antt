@@ -2,18 +2,14 @@
 use Rattle.std.proofs.Common.{◌≡◌, ℕ, List, Result, Ok, Err, sym, ap, ◌∙◌}
 use Rattle.std.specs.Prelude.{Some}
 use Rattle.std.specs.List.{flat_map}
-use Rattle.step_machine.specs.Entries.{reported}
-use Rattle.step_machine.specs.History.{History}
+use Rattle.step_machine.specs.Names.{reported, History}
 use Rattle.recorder.specs.Versions.{ScheduleValue}
 use Rattle.poll_close.specs.Laws.{Ring, opening_over}
 use Rattle.poll_close.specs.Layout.{Layout}
 use Rattle.engine_support.specs.declared.fault.Refusal.{Refusal}
 use Rattle.engine_support.specs.declared.fault.Role.TheVariants.{Sender, Receiver}
-use Rattle.engine_support.specs.Engines.{Output}
-use Rattle.engine_support.specs.Schedules.{schedules}
-use Rattle.engine_support.proofs.InputLaws.{one_after, one_schedule}
-use Rattle.engine_support.proofs.OneInput.{same_output}
-use Rattle.engine_support.proofs.RunLaws.{one_run}
+use Rattle.engine_support.specs.{Output, schedules}
+use Rattle.engine_support.proofs.{one_after, one_schedule, same_output, one_run}
 use Rattle.channel_engines.specs.Channels.{report_line}
 use Rattle.channel_engines.specs.Lists.{list_texts}
 use Rattle.channel_engines.specs.UserChannels.{IsUserAnswer, IsUserDelivery, IsUserRun, ring_over}

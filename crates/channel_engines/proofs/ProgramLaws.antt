@@ -1,8 +1,7 @@
 -- Inputs that are a user's own programs.
 use Rattle.std.proofs.Common.{arith, ◌≡◌, ℕ, ◌≤◌, List, [], ◌∷◌, length, sym, ap}
 use Rattle.rv_decode.specs.declared.instruction.Instr.{Instr}
-use Rattle.assembler.specs.Drafts.{assembled}
-use Rattle.assembler.specs.Program.{AreWordsOf, IsCode, IsProgram}
+use Rattle.assembler.specs.{assembled, AreWordsOf, IsCode, IsProgram}
 use Rattle.assembler.proofs.OneCode.{one_code, refused_without_program}
 use Rattle.litmus_reader.proofs.TableLaws.{lines_size}
 use Rattle.engine_support.specs.declared.fault.Role.{Role}

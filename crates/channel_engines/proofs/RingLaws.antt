@@ -1,8 +1,7 @@
 -- Why no runs are drawn.
 use Rattle.std.proofs.Common.{◌≡◌, inl, inr, ℕ, Bool, List, [], sym, subst, ◌∙◌, Err}
 use Rattle.drawn_runs.specs.Samples.{DrawnRuns}
-use Rattle.poll_close.specs.Places.{layout_of}
-use Rattle.poll_close.specs.Refusals.{RefusesAt}
+use Rattle.poll_close.specs.{layout_of, RefusesAt}
 use Rattle.poll_close.specs.declared.faults.RefusedAt.{RefusedAt}
 use Rattle.poll_close.specs.declared.place.BlockPlace.{BlockPlace}
 use Rattle.engine_support.specs.declared.fault.Fault.{Fault}

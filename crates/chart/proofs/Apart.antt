@@ -1,16 +1,12 @@
 -- No two lines that stand at one row have one lane.
-use Rattle.std.proofs.Common.{arith, ◌≡◌, ℕ, ◌+◌, ◌==◌, false, List, [], ◌∷◌}
-use Rattle.std.proofs.Common.{◌++◌, Option, Some, All, refl, sym, ◌∙◌, inl, inr, eq-eqb, append-nil}
+use Rattle.std.proofs.Common.{arith, ◌≡◌, ℕ, ◌+◌, ◌==◌, false, List, [], ◌∷◌, ◌++◌, Option, Some, All, refl, sym, ◌∙◌, inl, inr, eq-eqb, append-nil}
 use Rattle.std.specs.Prelude.{option_to_list}
 use Rattle.std.proofs.lemmas.Bool.{cases_Bool, cases_eq, ne_eqb, or_parts, or_from}
 use Rattle.std.proofs.lemmas.List.Folds.{list_any-append}
 use Rattle.std.proofs.lemmas.List.Elements.{All-nil, All-cons}
 use Rattle.step_machine.specs.declared.events.Entry.{Entry}
-use Rattle.chart.specs.declared.lanes.Held.{Held}
-use Rattle.chart.specs.declared.lanes.Shape.{Shape}
-use Rattle.chart.specs.Rows.{RowOf}
-use Rattle.chart.specs.Lanes.{holds, is_held, in_lane, held_by, others, own_line}
-use Rattle.chart.specs.Lanes.{passing_lines, held_after_entry, laned_row, held_after, lanes_from, lanes_of, AreLanesApart, IsApart}
+use Rattle.chart.specs.{Held, Shape, RowOf, holds, is_held, in_lane, held_by, others, own_line, passing_lines, held_after_entry, laned_row, held_after}
+use Rattle.chart.specs.{lanes_from, lanes_of, AreLanesApart, IsApart}
 use Rattle.chart.proofs.LaneLaws.{first_free-is}
 
 eqb-swap : (a b : ℕ) → (a == b) ≡ (b == a)

@@ -1,7 +1,6 @@
 -- Writes with their rows are the writes, and each row named has made its write.
-use Rattle.std.proofs.Common.{◌≡◌, ℕ, ◌+◌, ◌-◌, ◌<◌, ◌==◌, min, get_or, Bool, true, false, if◌then◌else◌, List, []}
-use Rattle.std.proofs.Common.{◌∷◌, ◌++◌, length, take, drop, map, Option, Some, None, All, refl, sym, ◌∙◌, ap, subst}
-use Rattle.std.proofs.Common.{arith, append_assoc, append-nil}
+use Rattle.std.proofs.Common.{◌≡◌, ℕ, ◌+◌, ◌-◌, ◌<◌, ◌==◌, min, get_or, Bool, true, false, if◌then◌else◌, List, [], ◌∷◌, ◌++◌, length, take, drop, map, Option}
+use Rattle.std.proofs.Common.{Some, None, All, refl, sym, ◌∙◌, ap, subst, arith, append_assoc, append-nil}
 use Rattle.std.specs.Prelude.{option_map, option_to_list, IfSome}
 use Rattle.std.specs.Int.{byte_at}
 use Rattle.std.specs.List.{slice_get}
@@ -10,11 +9,9 @@ use Rattle.std.proofs.lemmas.List.Elements.{All-nil, All-cons, All-head, All-tai
 use Rattle.memory.specs.declared.writes.Write.{Write}
 use Rattle.memory.specs.Writes.{covers, newest_of}
 use Rattle.step_machine.specs.declared.events.Entry.{Entry}
-use Rattle.step_machine.specs.Access.{Access, access_of}
-use Rattle.step_machine.specs.Entries.{hart_of, stored_by, written_by, own_store, own_stores, lands, pending, write_of, landed_after, landed}
+use Rattle.step_machine.specs.Names.{Access, access_of, hart_of, stored_by, written_by, own_store, own_stores, lands, pending, write_of, landed_after, landed}
 use Rattle.step_machine.proofs.Appended.{entry_there, lands-append}
-use Rattle.chart.specs.declared.sources.RowWrite.{RowWrite}
-use Rattle.chart.specs.Sources.{at_row, stores_by_row, pending_by_row, landed_by_row_after, landed_by_row, newest_from, stored_at, written_in_row}
+use Rattle.chart.specs.{RowWrite, at_row, stores_by_row, pending_by_row, landed_by_row_after, landed_by_row, newest_from, stored_at, written_in_row}
 
 abbrev pub write_in : RowWrite → Write
 write_in w = w.write

@@ -2,8 +2,7 @@
 use Rattle.std.proofs.Common.{◌≡◌, ℕ, suc, ◌+◌, ◌<◌, ◌==◌, if◌then◌else◌, List, [], ◌∷◌, ◌++◌, length, take, get_or, refl, arith}
 use Rattle.std.specs.Prelude.{unwrap_or}
 use Rattle.std.proofs.lemmas.List.{take_more}
-use Rattle.chart.specs.declared.pictures.Stroke.{Stroke}
-use Rattle.chart.specs.Pictures.{MarkOf, LineOf, sign_byte, strikes, struck, byte_of_mark, mark_byte, line_cell, text_end, first_cells}
+use Rattle.chart.specs.{Stroke, MarkOf, LineOf, sign_byte, strikes, struck, byte_of_mark, mark_byte, line_cell, text_end, first_cells}
 
 struck-last : (cell found : ℕ) (ss : List Stroke) (s : Stroke) →
     struck cell found (ss ++ s ∷ []) ≡ (if strikes s cell then sign_byte s.sign else struck cell found ss)

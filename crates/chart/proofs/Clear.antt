@@ -1,6 +1,6 @@
 -- No text of a picture's row stands on another text or on a stroke.
-use Rattle.std.proofs.Common.{◌≡◌, ℕ, ◌+◌, ◌-◌, ◌*◌, ◌<◌, ◌≤◌, ◌^◌, Bool, true, cond, if◌then◌else◌}
-use Rattle.std.proofs.Common.{◌⊎◌, inl, inr, List, [], ◌∷◌, ◌++◌, length, map, Option, Some, None, All, refl, ap, arith}
+use Rattle.std.proofs.Common.{◌≡◌, ℕ, ◌+◌, ◌-◌, ◌*◌, ◌<◌, ◌≤◌, ◌^◌, Bool, true, cond, if◌then◌else◌, ◌⊎◌, inl, inr, List, [], ◌∷◌, ◌++◌, length, map, Option}
+use Rattle.std.proofs.Common.{Some, None, All, refl, ap, arith}
 use Rattle.std.specs.Prelude.{nat_lt, nat_le, ◌&&◌, option_map, IfSome}
 use Rattle.std.specs.List.{slice_index_or, flat_map, list_any, AllByRecursion}
 use Rattle.std.specs.Fmt.{decimal}
@@ -10,19 +10,10 @@ use Rattle.std.proofs.lemmas.Fmt.{length-decimal-le}
 use Rattle.std.proofs.lemmas.List.Concat.{flat_map-cons}
 use Rattle.std.proofs.lemmas.List.Elements.{All-nil, All-cons, All-head, All-tail, All-append, All-from_recursion}
 use Rattle.step_machine.specs.declared.events.Entry.{Entry}
-use Rattle.chart.specs.declared.lanes.Held.{Held}
-use Rattle.chart.specs.declared.pictures.Sign.{Sign}
-use Rattle.chart.specs.declared.pictures.Sign.TheVariants.{Down, To, Joins}
-use Rattle.chart.specs.declared.pictures.Stroke.{Stroke}
-use Rattle.chart.specs.declared.pictures.Weight.TheVariants.{Loud}
+use Rattle.chart.specs.{Held, Sign, Down, To, Joins, Stroke, Loud, Source, RowOf, LanedOf, MarkOf, strikes, stands_in, IsClear, rank, columns, pitch}
+use Rattle.chart.specs.{first_cell, lane_cell, memory_cell, sign_at, across, own_strokes, is_read, read_strokes, passing_stroke, row_strokes, text_at}
+use Rattle.chart.specs.{number_mark, row_line}
 use Rattle.chart.specs.declared.places.Places.{Places}
-use Rattle.chart.specs.declared.sources.Source.{Source}
-use Rattle.chart.specs.Rows.{RowOf}
-use Rattle.chart.specs.Lanes.{LanedOf}
-use Rattle.chart.specs.Pictures.{MarkOf, strikes, stands_in, IsClear}
-use Rattle.chart.specs.Places.{rank, columns, pitch, first_cell, lane_cell, memory_cell}
-use Rattle.chart.specs.Lines.{sign_at, across, own_strokes, is_read}
-use Rattle.chart.specs.Lines.{read_strokes, passing_stroke, row_strokes, text_at, number_mark, row_line}
 
 -- ---- cells of strokes
 

@@ -2,15 +2,10 @@
 use Rattle.std.proofs.Common.{◌≡◌, ℕ, ◌+◌, max, if◌then◌else◌, List, refl, sym, ◌∙◌, ap}
 use Rattle.std.specs.Prelude.{nat_le}
 use Rattle.step_machine.specs.declared.events.Entry.{Entry}
-use Rattle.chart.specs.declared.least_widths.LeastWidths.{LeastWidths}
+use Rattle.chart.specs.{LeastWidths, Form, Selection, memory_cell, SceneOf, least_label, label_cells, kept_cells, least_lanes, used_after, lanes_in, places_of}
+use Rattle.chart.specs.{heads_line, AboutOf, FitsColumns, scene_of_run, layout, wide, brief, listed, brief_listed, narrowest, width_of, form_or, fitting_form}
+use Rattle.chart.specs.{limit}
 use Rattle.chart.specs.declared.places.Places.{Places}
-use Rattle.chart.specs.declared.scenes.Form.{Form}
-use Rattle.chart.specs.declared.scenes.Selection.{Selection}
-use Rattle.chart.specs.Places.{memory_cell}
-use Rattle.chart.specs.Scenes.{SceneOf, least_label, label_cells, kept_cells, least_lanes, used_after, lanes_in, places_of}
-use Rattle.chart.specs.Lines.{heads_line}
-use Rattle.chart.specs.Layout.{AboutOf, FitsColumns, scene_of_run, layout, wide, brief, listed, brief_listed, narrowest}
-use Rattle.chart.specs.Layout.{width_of, form_or, fitting_form, limit}
 
 module _ (a b : SceneOf) (harts : a.harts ≡ b.harts) (least : a.least ≡ b.least) (fits : (form : Form) → FitsColumns a form)
     (also_fits : (form : Form) → FitsColumns b form) where

@@ -3,11 +3,7 @@ use Rattle.std.proofs.Common.{◌≡◌, ◌∙◌, ℕ, suc, ◌+◌, false, Li
 use Rattle.std.specs.Prelude.{codes}
 use Rattle.std.specs.List.{slice_get}
 use Rattle.step_machine.specs.declared.events.Entry.{Entry}
-use Rattle.chart.specs.declared.sources.RowWrite.{RowWrite}
-use Rattle.chart.specs.Sources.{pending_by_row}
-use Rattle.chart.specs.declared.scenes.Form.{Form}
-use Rattle.chart.specs.Scenes.{SceneOf}
-use Rattle.chart.specs.Layout.{AboutOf, pending_text, first_pending, pending_of_hart, pending_lines, bare_hints, hints_of}
+use Rattle.chart.specs.{RowWrite, pending_by_row, Form, SceneOf, AboutOf, pending_text, first_pending, pending_of_hart, pending_lines, bare_hints, hints_of}
 
 pub first_more : (about : AboutOf) (h : ℕ) (ws : List RowWrite) (n : ℕ) →
     first_pending about h ws (n + 1) ≡ first_pending about h ws n ++ pending_text about h (slice_get ws n) ∷ []

@@ -8,11 +8,8 @@ use Rattle.memory.specs.Writes.{newest_of, joined}
 use Rattle.memory.proofs.Bytes.{joined-same}
 use Rattle.step_machine.specs.declared.events.Entry.{Entry}
 use Rattle.step_machine.specs.declared.events.Entry.TheVariants as entry
-use Rattle.step_machine.specs.History.{OpeningValue}
-use Rattle.step_machine.specs.Legal.{Allowed}
-use Rattle.step_machine.specs.Entries.{opening_byte, read_byte, read, write_of}
-use Rattle.chart.specs.declared.sources.RowWrite.{RowWrite}
-use Rattle.chart.specs.Sources.{pending_by_row, newest, source_named, source_of, row_number, landed_store, stored_at, byte_from}
+use Rattle.step_machine.specs.Names.{OpeningValue, Allowed, opening_byte, read_byte, read, write_of}
+use Rattle.chart.specs.{RowWrite, pending_by_row, newest, source_named, source_of, row_number, landed_store, stored_at, byte_from}
 use Rattle.chart.proofs.ByRow.{writes, byte_by, HasStored, HasWritten, writes-pending, writes-landed, newest-bytes, newest-is, pending_stored, landed_written}
 
 -- the newest write to cover a byte, where the rows have it

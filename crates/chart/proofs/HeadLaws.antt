@@ -1,6 +1,5 @@
 -- No head of a column stands on another one.
-use Rattle.std.proofs.Common.{◌≡◌, ℕ, zero, suc, ◌+◌, ◌*◌, ◌<◌, ◌≤◌, min, Bool, true, false, cond}
-use Rattle.std.proofs.Common.{◌⊎◌, inl, inr, List, [], ◌∷◌, ◌++◌, length, refl, arith}
+use Rattle.std.proofs.Common.{◌≡◌, ℕ, zero, suc, ◌+◌, ◌*◌, ◌<◌, ◌≤◌, min, Bool, true, false, cond, ◌⊎◌, inl, inr, List, [], ◌∷◌, ◌++◌, length, refl, arith}
 use Rattle.std.specs.Prelude.{codes}
 use Rattle.std.specs.List.{count_by}
 use Rattle.std.proofs.Math.Nat.{suc-mul}
@@ -8,12 +7,8 @@ use Rattle.std.proofs.lemmas.Bool.{cases_Bool}
 use Rattle.std.proofs.lemmas.Fmt.{length-decimal-le}
 use Rattle.std.proofs.lemmas.List.{length-append}
 use Rattle.std.proofs.lemmas.List.Sums.{sum_by-append}
-use Rattle.chart.specs.declared.pictures.Weight.TheVariants.{Bold}
+use Rattle.chart.specs.{Bold, stands_in, IsClear, pitch, first_cell, memory_cell, hart_name, text_at, head_mark, head_marks, heads_line}
 use Rattle.chart.specs.declared.places.Places.{Places}
-use Rattle.chart.specs.Pictures.{stands_in, IsClear}
-use Rattle.chart.specs.Places.{pitch, first_cell, memory_cell}
-use Rattle.chart.specs.Scenes.{hart_name}
-use Rattle.chart.specs.Lines.{text_at, head_mark, head_marks, heads_line}
 use Rattle.chart.proofs.Clear.{struck_at, one_of}
 
 abbrev apart : (harts text lanes : ℕ) → Places

@@ -1,13 +1,10 @@
 -- Lanes of one more row, and which lane is free.
-use Rattle.std.proofs.Common.{◌≡◌, ℕ, zero, suc, ◌+◌, ◌-◌, ◌<◌, ◌==◌, true, false, if◌then◌else◌, List, []}
-use Rattle.std.proofs.Common.{◌∷◌, ◌++◌, length, take, drop, get_or, Some, None, refl, sym, ap, ◌∙◌, arith}
+use Rattle.std.proofs.Common.{◌≡◌, ℕ, zero, suc, ◌+◌, ◌-◌, ◌<◌, ◌==◌, true, false, if◌then◌else◌, List, [], ◌∷◌, ◌++◌, length, take, drop, get_or, Some, None}
+use Rattle.std.proofs.Common.{refl, sym, ap, ◌∙◌, arith}
 use Rattle.std.proofs.lemmas.Bool.{cases_Bool}
 use Rattle.std.proofs.lemmas.List.{take_more, length-take}
 use Rattle.std.proofs.Math.Seq.{drop-cons}
-use Rattle.chart.specs.declared.lanes.Held.{Held}
-use Rattle.chart.specs.declared.lanes.Shape.{Shape}
-use Rattle.chart.specs.Rows.{RowOf}
-use Rattle.chart.specs.Lanes.{is_held, first_free, held_by, laned_row, held_after, held_from, lanes_from, lanes_of, held_at_end}
+use Rattle.chart.specs.{Held, Shape, RowOf, is_held, first_free, held_by, laned_row, held_after, held_from, lanes_from, lanes_of, held_at_end}
 
 -- ---- a step of each loop
 

@@ -1,10 +1,7 @@
 -- The lines of one more row, and the head of one more hart.
 use Rattle.std.proofs.Common.{◌≡◌, ℕ, suc, ◌+◌, List, [], ◌∷◌, ◌++◌, refl, arith}
 use Rattle.chart.specs.declared.places.Places.{Places}
-use Rattle.chart.specs.declared.scenes.Form.{Form}
-use Rattle.chart.specs.Lanes.{LanedOf}
-use Rattle.chart.specs.Scenes.{SceneOf}
-use Rattle.chart.specs.Lines.{drawn_at, first_row_lines, head_mark, head_marks}
+use Rattle.chart.specs.{Form, LanedOf, SceneOf, drawn_at, first_row_lines, head_mark, head_marks}
 
 pub lines_more : (form : Form) (scene : SceneOf) (p : Places) (lanes : List LanedOf) (n : ℕ) →
     first_row_lines form scene p lanes (n + 1) ≡ first_row_lines form scene p lanes n ++ drawn_at form scene p lanes n

@@ -1,24 +1,16 @@
 -- No text of a picture's rows stands on another text or on a stroke, and no head of a column on another one.
-use Rattle.std.proofs.Common.{◌≡◌, ℕ, zero, suc, ◌+◌, ◌<◌, ◌≤◌, ◌^◌, Bool, true, false, if◌then◌else◌}
-use Rattle.std.proofs.Common.{List, [], ◌∷◌, length, Option, Some, All, refl, sym, ◌∙◌, ap, arith}
+use Rattle.std.proofs.Common.{◌≡◌, ℕ, zero, suc, ◌+◌, ◌<◌, ◌≤◌, ◌^◌, Bool, true, false, if◌then◌else◌, List, [], ◌∷◌, length, Option, Some, All, refl, sym, ◌∙◌}
+use Rattle.std.proofs.Common.{ap, arith}
 use Rattle.std.specs.List.{slice_get, list_any}
 use Rattle.std.proofs.lemmas.Bool.{cases_eq}
 use Rattle.std.proofs.lemmas.List.{length-map}
 use Rattle.std.proofs.lemmas.List.Elements.{All-nil, All-cons, All-append}
 use Rattle.step_machine.specs.declared.events.Entry.{Entry}
 use Rattle.step_machine.specs.Entries.{hart_of}
-use Rattle.chart.specs.declared.lanes.Held.{Held}
-use Rattle.chart.specs.declared.pictures.Stroke.{Stroke}
+use Rattle.chart.specs.{Held, Stroke, LeastWidths, Form, Selection, RowOf, rows_of, LanedOf, held_at_end, LineOf, strikes, IsClear, SceneOf, scene_of}
+use Rattle.chart.specs.{row_label, widest_label, label_cells, shape_of, least_lanes, lanes_in, places_of, used_after, laned_line, line_in, picture_line}
+use Rattle.chart.specs.{is_without_line, drawn_at, first_row_lines, open_lines, AboutOf, layout, limit, form_or, fitting_form, body_of}
 use Rattle.chart.specs.declared.places.Places.{Places}
-use Rattle.chart.specs.declared.least_widths.LeastWidths.{LeastWidths}
-use Rattle.chart.specs.declared.scenes.Form.{Form}
-use Rattle.chart.specs.declared.scenes.Selection.{Selection}
-use Rattle.chart.specs.Rows.{RowOf, rows_of}
-use Rattle.chart.specs.Lanes.{LanedOf, held_at_end}
-use Rattle.chart.specs.Pictures.{LineOf, strikes, IsClear}
-use Rattle.chart.specs.Scenes.{SceneOf, scene_of, row_label, widest_label, label_cells, shape_of, least_lanes, lanes_in, places_of, used_after}
-use Rattle.chart.specs.Lines.{laned_line, line_in, picture_line, is_without_line, drawn_at, first_row_lines, open_lines}
-use Rattle.chart.specs.Layout.{AboutOf, layout, limit, form_or, fitting_form, body_of}
 use Rattle.chart.proofs.Clear.{row_clear}
 use Rattle.chart.proofs.Placed.{RowFits, row_fits, columns_there}
 use Rattle.chart.proofs.HeadLaws.{heads_clear}

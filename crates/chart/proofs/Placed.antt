@@ -1,6 +1,6 @@
 -- Each line of a row stands in a column and a lane that the picture has, and a row's own line in its hart's column.
-use Rattle.std.proofs.Common.{◌≡◌, ℕ, zero, suc, ◌+◌, ◌<◌, ◌≤◌, ◌==◌, max, Bool, false, not}
-use Rattle.std.proofs.Common.{List, [], ◌∷◌, ◌++◌, length, Option, Some, None, All, refl, ◌∙◌, subst, arith}
+use Rattle.std.proofs.Common.{◌≡◌, ℕ, zero, suc, ◌+◌, ◌<◌, ◌≤◌, ◌==◌, max, Bool, false, not, List, [], ◌∷◌, ◌++◌, length, Option, Some, None, All, refl, ◌∙◌}
+use Rattle.std.proofs.Common.{subst, arith}
 use Rattle.std.specs.Prelude.{option_to_list, IfSome}
 use Rattle.std.specs.List.{slice_get}
 use Rattle.std.proofs.lemmas.Bool.{cases_Bool, cases_eq, eqb-true, ne_eqb}
@@ -10,19 +10,12 @@ use Rattle.std.proofs.lemmas.Option.{IfSome_then}
 use Rattle.memory.specs.declared.writes.Write.{Write}
 use Rattle.step_machine.specs.declared.events.Entry.{Entry}
 use Rattle.step_machine.specs.declared.events.Entry.TheVariants as entry
-use Rattle.step_machine.specs.Access.{Access}
-use Rattle.step_machine.specs.Entries.{hart_of, stored_by, own_store}
+use Rattle.step_machine.specs.Names.{Access, hart_of, stored_by, own_store}
 use Rattle.step_machine.proofs.Appended.{entry_there}
-use Rattle.chart.specs.declared.lanes.Held.{Held}
-use Rattle.chart.specs.declared.lanes.Shape.{Shape}
+use Rattle.chart.specs.{Held, Shape, RowWrite, pending_by_row, row_number, landed_store, stored_at, RowOf, row_after, rows_after, LanedOf, hart_column}
+use Rattle.chart.specs.{first_free, in_lane, held_by, own_line, passing_lines, laned_row, held_after_entry, held_after, lanes_from, rank, columns, lanes_to}
+use Rattle.chart.specs.{lanes_at, used_after}
 use Rattle.chart.specs.declared.places.Places.{Places}
-use Rattle.chart.specs.declared.sources.RowWrite.{RowWrite}
-use Rattle.chart.specs.Sources.{pending_by_row, row_number, landed_store, stored_at}
-use Rattle.chart.specs.Rows.{RowOf, row_after, rows_after}
-use Rattle.chart.specs.Lanes.{LanedOf, hart_column, first_free, in_lane, held_by, own_line, passing_lines}
-use Rattle.chart.specs.Lanes.{laned_row, held_after_entry, held_after, lanes_from}
-use Rattle.chart.specs.Places.{rank, columns}
-use Rattle.chart.specs.Scenes.{lanes_to, lanes_at, used_after}
 use Rattle.chart.proofs.ByRow.{HasStored, pending_stored}
 use Rattle.chart.proofs.Clear.{Placed, IsPlacedIn}
 use Rattle.chart.proofs.LaneLaws.{first_free-is}

@@ -1,9 +1,7 @@
 -- One more row and one more line.
 use Rattle.std.proofs.Common.{◌≡◌, ℕ, suc, ◌+◌, ◌<◌, List, [], ◌∷◌, ◌++◌, length, take, get_or, max, refl, arith}
 use Rattle.std.proofs.lemmas.List.{take_more}
-use Rattle.chart.specs.declared.scenes.Form.{Form}
-use Rattle.chart.specs.Lanes.{LanedOf}
-use Rattle.chart.specs.Scenes.{SceneOf, row_label, kept_at, widest_label, widest_kept, lanes_at, used_after}
+use Rattle.chart.specs.{Form, LanedOf, SceneOf, row_label, kept_at, widest_label, widest_kept, lanes_at, used_after}
 
 pub label_more : (form : Form) (scene : SceneOf) (n : ℕ) →
     widest_label form scene (n + 1) ≡ max (widest_label form scene n) (length (row_label form scene n))

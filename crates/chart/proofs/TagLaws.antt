@@ -1,8 +1,7 @@
 -- One more source, and one more row of a tag.
 use Rattle.std.proofs.Common.{◌≡◌, ℕ, ◌+◌, ◌<◌, List, [], ◌∷◌, ◌++◌, length, take, get_or, refl}
 use Rattle.std.proofs.lemmas.List.{take_more}
-use Rattle.chart.specs.declared.sources.Source.{Source}
-use Rattle.chart.specs.Tags.{NamedOf, with_source, named_after, none_named, named_by, with_rows}
+use Rattle.chart.specs.{Source, NamedOf, with_source, named_after, none_named, named_by, with_rows}
 
 named_after-last : (named : NamedOf) (ss : List Source) (s : Source) → named_after named (ss ++ s ∷ []) ≡ with_source (named_after named ss) s
 named_after-last named [] s = refl

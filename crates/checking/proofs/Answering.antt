@@ -7,21 +7,9 @@ use Rattle.litmus.specs.LitmusTests.{LitmusTest}
 use Rattle.engine_support.specs.declared.fault.Fault.{Fault}
 use Rattle.engine_support.specs.declared.fault.Fault.TheVariants.{ReadFailed, WriteFailed, NoMemory, Refused}
 use Rattle.engine_support.specs.declared.fault.Refusal.{Refusal}
-use Rattle.engine_support.specs.Inputs.{Reads}
-use Rattle.engine_support.specs.Inputs.After.{read, refused}
-use Rattle.engine_support.specs.Interactive.{EndsInteractive, OnStopped, OnUnwritten}
-use Rattle.engine_support.specs.Tests.{tests}
-use Rattle.engine_support.specs.inner.Failures.{IsFailure}
-use Rattle.engine_support.specs.inner.Making.{FindsUpToReads}
-use Rattle.checking.specs.declared.tally.Tally.{Tally}
-use Rattle.engine_support.specs.WholeLines.{whole_lines}
-use Rattle.checking.specs.RecordTexts.{texts_in}
-use Rattle.checking.specs.Judgements.{Judged, IsTextJudged}
-use Rattle.checking.specs.Reports.{judgement_line, judgement_lines}
-use Rattle.checking.specs.Outcomes.{IsOutcomeTable}
-use Rattle.checking.specs.Checking.{IsCheckAnswer, IsChecked, IsCheckFront, IsFront, OfLines}
-use Rattle.checking.specs.inner.Reporting.{AllWritten, OneWritten, SomeWritten}
-use Rattle.checking.specs.inner.Tallies.{IsTallyOfTexts, TalliesText}
+use Rattle.engine_support.specs.{Reads, read, refused, EndsInteractive, OnStopped, OnUnwritten, tests, IsFailure, FindsUpToReads, whole_lines}
+use Rattle.checking.specs.{Tally, texts_in, Judged, IsTextJudged, judgement_line, judgement_lines, IsOutcomeTable, IsCheckAnswer, IsChecked, IsCheckFront}
+use Rattle.checking.specs.{IsFront, OfLines, AllWritten, OneWritten, SomeWritten, IsTallyOfTexts, TalliesText}
 use Rattle.engine_support.proofs.Written.{appends_more, appends_nothing}
 
 -- ---- a text

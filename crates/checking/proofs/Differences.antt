@@ -2,17 +2,12 @@
 use Rattle.std.proofs.Common.{◌≡◌, ◌≢◌, ℕ, ◌<◌, length, List, take, get_or, Result, Ok, Err, refl, sym, ◌∙◌}
 use Rattle.std.specs.Prelude.{IfOk, OnOk}
 use Rattle.std.proofs.lemmas.Option.{slice_get-get_or}
-use Rattle.step_machine.specs.History.{OpeningValue, History}
-use Rattle.step_machine.specs.Runs.{Happens}
+use Rattle.step_machine.specs.Names.{OpeningValue, History, Happens}
 use Rattle.step_machine.specs.declared.events.Outcome.{Outcome}
-use Rattle.recorder.specs.Records.{Step}
-use Rattle.recorder.specs.Replaying.{IsRunRecord, DiffersAt}
+use Rattle.recorder.specs.{Step, IsRunRecord, DiffersAt}
 use Rattle.texts.proofs.ResultLaws.{some_is}
 use Rattle.litmus.specs.LitmusTests.{LitmusTest}
-use Rattle.checking.specs.EventLines.{line_of_event}
-use Rattle.checking.specs.Judgements.{IsRecordJudged}
-use Rattle.checking.specs.Judgements.Judged.{differing}
-use Rattle.checking.specs.Judgements.IsRecordJudged.{of_difference}
+use Rattle.checking.specs.{line_of_event, IsRecordJudged, differing, of_difference}
 
 pub differing_here : (B M : ℕ) (o : OpeningValue) (steps : List Step) (i : ℕ) (d : Step) (mid : History) (out : Outcome) (new : History) → i < length steps
     → IsRunRecord B M o (take i steps) mid → Happens B M mid (get_or steps i d).0 out new → out ≢ (get_or steps i d).1

@@ -1,25 +1,16 @@
 -- Records that are judged as they are read.
-use Rattle.std.proofs.Common.{arith, ◌≡◌, ℕ, ◌+◌, ◌<◌, ◌≤◌, true, false, List, [], ◌∷◌, ◌++◌, length, length-append}
-use Rattle.std.proofs.Common.{Option, Some, None, refl, sym, ap, subst, ◌∙◌, append_assoc, inl, take_all}
+use Rattle.std.proofs.Common.{arith, ◌≡◌, ℕ, ◌+◌, ◌<◌, ◌≤◌, true, false, List, [], ◌∷◌, ◌++◌, length, length-append, Option, Some, None, refl, sym, ap, subst}
+use Rattle.std.proofs.Common.{◌∙◌, append_assoc, inl, take_all}
 use Rattle.std.specs.Prelude.{IfSome}
 use Rattle.std.specs.Io.BufRead.{take_through, drop_through, DropsThrough}
 use Rattle.std.specs.Io.KnownBytes.{Appends}
 use Rattle.std.proofs.lemmas.List.{append-nil}
 use Rattle.litmus.specs.LitmusTests.{LitmusTest}
-use Rattle.engine_support.proofs.Written.{appends_more, appends_nothing, no_byte}
-use Rattle.checking.specs.declared.tally.Tally.{Tally}
-use Rattle.engine_support.specs.Input.{kept_of}
-use Rattle.engine_support.specs.WholeLines.{whole_lines}
-use Rattle.engine_support.proofs.LineReading.{first_whole}
-use Rattle.checking.specs.RecordTexts.{begins_record, is_left_out, unless_blank, texts_in}
-use Rattle.checking.specs.Judgements.{Judged, IsTextJudged, AreTextsJudged}
-use Rattle.checking.specs.Reports.{judgement_line, judgement_lines}
-use Rattle.checking.specs.Checking.{IsFront, OfLines}
-use Rattle.checking.specs.inner.Holding.{IsHeld}
-use Rattle.checking.specs.inner.Reporting.{AllWritten, Closes, OneWritten, SomeWritten, TakesLine}
-use Rattle.checking.specs.inner.Reporting.Closes.{judged, left_out}
-use Rattle.checking.specs.inner.Reporting.TakesLine.{belongs, begins}
-use Rattle.checking.specs.inner.Tallies.{HasRoomForText, IsTallyOfTexts}
+use Rattle.engine_support.proofs.{appends_more, appends_nothing, no_byte, first_whole}
+use Rattle.checking.specs.{Tally, begins_record, is_left_out, unless_blank, texts_in, Judged, IsTextJudged, AreTextsJudged, judgement_line, judgement_lines}
+use Rattle.checking.specs.{IsFront, OfLines, IsHeld, AllWritten, Closes, OneWritten, SomeWritten, TakesLine, judged, left_out, belongs, begins, HasRoomForText}
+use Rattle.checking.specs.{IsTallyOfTexts}
+use Rattle.engine_support.specs.{kept_of, whole_lines}
 use Rattle.checking.proofs.TallyLaws.{has_room, tally_more}
 use Rattle.checking.proofs.TextLaws.{begins_kept, texts_from, text_ends, text_goes_on, text_is_last, held_judged, held_kept, held_left_out}
 

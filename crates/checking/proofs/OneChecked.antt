@@ -4,36 +4,21 @@ use Rattle.std.specs.Prelude.{◌==◌}
 use Rattle.std.specs.List.{flat_map, slice_get}
 use Rattle.texts.proofs.FormatLaws.{settled_one, settled_only}
 use Rattle.texts.proofs.ResultLaws.{some_is}
-use Rattle.step_machine.specs.History.{OpeningValue, History, at_opening}
-use Rattle.step_machine.specs.Runs.{Happens}
+use Rattle.step_machine.specs.Names.{OpeningValue, History, at_opening, Happens}
 use Rattle.step_machine.proofs.Running.{happens-one, run-one}
-use Rattle.litmus.specs.LitmusTests.{LitmusTest, left_sides}
-use Rattle.litmus.specs.Verdicts.{final_value}
+use Rattle.litmus.specs.{LitmusTest, left_sides, final_value}
 use Rattle.litmus.specs.declared.verdict.Verdict.{Verdict}
 use Rattle.litmus.proofs.VerdictLaws.{one_verdict}
-use Rattle.recorder.specs.Records.{Step, events_in, IsRecordOf, record_at}
-use Rattle.recorder.specs.Replaying.{IsRunRecord, DiffersAt}
+use Rattle.recorder.specs.{Step, events_in, IsRecordOf, record_at, IsRunRecord, DiffersAt}
 use Rattle.recorder.proofs.HeadLaws.{record_settles}
 use Rattle.recorder.proofs.RunRecords.{no_other, record_runs}
 use Rattle.engine_support.specs.declared.fault.Refusal.{Refusal}
-use Rattle.engine_support.specs.Engines.{AreOneAnswer, decoded}
-use Rattle.engine_support.specs.Outcomes.{unfinished_line}
-use Rattle.engine_support.specs.Tests.{tests}
-use Rattle.engine_support.proofs.OutcomeTables.{one_outcomes}
-use Rattle.engine_support.proofs.InputLaws.{alike_after, one_litmus_text, one_made}
-use Rattle.engine_support.proofs.OneInput.{equal_alike, one_refusal, value_or_refusal}
-use Rattle.engine_support.proofs.RunLaws.{one_place}
-use Rattle.checking.specs.EventLines.{line_of_event}
-use Rattle.engine_support.specs.WholeLines.{whole_lines}
-use Rattle.checking.specs.RecordTexts.{texts_in}
-use Rattle.checking.specs.Judgements.{AreTextsJudged, Difference, EndsAs, IsDifference, IsTextJudged, IsRunJudged}
-use Rattle.checking.specs.Judgements.{IsRecordJudged, Judged, judged_run, record_of}
-use Rattle.checking.specs.Judgements.Judged.{differing, no_record}
-use Rattle.checking.specs.Judgements.IsRecordJudged.{of_run, of_difference}
-use Rattle.checking.specs.Judgements.IsTextJudged.{none, record_is}
-use Rattle.checking.specs.Reports.{judgement_lines}
-use Rattle.checking.specs.Outcomes.{finished_with, IsOutcomeTable, is_refused, is_unfinished, accepted_row, refused_line}
-use Rattle.checking.specs.Checking.{IsCheckAnswer, IsChecked}
+use Rattle.engine_support.specs.{AreOneAnswer, decoded, unfinished_line, tests, whole_lines}
+use Rattle.engine_support.proofs.{one_outcomes, alike_after, one_litmus_text, one_made, equal_alike, one_refusal, value_or_refusal, one_place}
+use Rattle.checking.specs.{line_of_event, texts_in, AreTextsJudged, EndsAs, IsDifference, IsTextJudged, IsRunJudged, IsRecordJudged, Judged, judged_run}
+use Rattle.checking.specs.{record_of, differing, no_record, of_run, of_difference, none, record_is, judgement_lines, finished_with, IsOutcomeTable, is_refused}
+use Rattle.checking.specs.{is_unfinished, accepted_row, refused_line, IsCheckAnswer, IsChecked}
+use Rattle.checking.specs.Judgements.{Difference}
 
 -- ---- one run of a record
 

@@ -1,13 +1,9 @@
 -- The text of a tally is the table of what was judged.
 use Rattle.std.proofs.Common.{◌≡◌, List, ℕ, ◌++◌, count_by, ap, ◌∙◌}
 use Rattle.litmus.specs.LitmusTests.{LitmusTest}
-use Rattle.engine_support.specs.Outcomes.{unfinished_line}
-use Rattle.engine_support.specs.Counting.{AreCountedLines, counted}
+use Rattle.engine_support.specs.{unfinished_line, AreCountedLines, counted}
 use Rattle.engine_support.proofs.OutcomeTables.{are_outcomes, table_is}
-use Rattle.checking.specs.declared.tally.Tally.{Tally}
-use Rattle.checking.specs.Judgements.{Judged}
-use Rattle.checking.specs.Outcomes.{first_record, finished_with, is_refused, is_unfinished, refused_line, IsOutcomeTable}
-use Rattle.checking.specs.inner.Tallies.{IsTallyOfTexts, first_name}
+use Rattle.checking.specs.{Tally, Judged, first_record, finished_with, is_refused, is_unfinished, refused_line, IsOutcomeTable, IsTallyOfTexts, first_name}
 
 pub tabled : (test : LitmusTest) (answers : List Judged) (tally : Tally) (lines text : List ℕ) → IsTallyOfTexts answers tally
     → AreCountedLines test (counted first_name tally.outcomes) lines → text ≡ lines ++ unfinished_line tally.unfinished ++ refused_line tally.refused

@@ -1,16 +1,14 @@
 -- A tally of judgements, and one judgement more.
-use Rattle.std.proofs.Common.{◌≡◌, ℕ, ◌+◌, ◌<◌, Bool, true, false, cond, List, [], ◌∷◌, ◌++◌, length, length-append}
-use Rattle.std.proofs.Common.{Option, Some, None, refl, sym, ap, ◌∙◌, arith}
+use Rattle.std.proofs.Common.{◌≡◌, ℕ, ◌+◌, ◌<◌, Bool, true, false, cond, List, [], ◌∷◌, ◌++◌, length, length-append, Option, Some, None, refl, sym, ap, ◌∙◌}
+use Rattle.std.proofs.Common.{arith}
 use Rattle.std.specs.Prelude.{is_some, unwrap_or}
 use Rattle.std.specs.List.{list_any, position_from}
 use Rattle.std.specs.Option.{option_or}
 use Rattle.std.proofs.lemmas.List.Sums.{count_by-le-length}
 use Rattle.engine_support.specs.Counting.{counted, counted_both, seen_of}
 use Rattle.engine_support.proofs.OutcomeTables.{count_more, seen_few, seen_more, seen_none}
-use Rattle.checking.specs.declared.tally.Tally.{Tally}
-use Rattle.checking.specs.Judgements.{Judged}
-use Rattle.checking.specs.Outcomes.{first_record, finished_with, is_refused, is_unfinished, record_end}
-use Rattle.checking.specs.inner.Tallies.{HasRoomForText, IsTallyOfTexts, TalliesText, first_name}
+use Rattle.checking.specs.{Tally, Judged, first_record, finished_with, is_refused, is_unfinished, record_end, HasRoomForText, IsTallyOfTexts, TalliesText}
+use Rattle.checking.specs.{first_name}
 
 -- ---- the first record with an outcome
 

@@ -1,9 +1,7 @@
 -- The texts in an input, line by line.
-use Rattle.std.proofs.Common.{arith, ◌≡◌, ℕ, zero, suc, ◌-◌, ◌<◌, ◌==◌, true, false, List, [], ◌∷◌, ◌++◌, length, take}
-use Rattle.std.proofs.Common.{drop, Option, Some, None, length-append, refl}
-use Rattle.std.proofs.Common.{sym, ap, subst, ◌∙◌, ◌⊎◌, ◌≤◌, append_assoc, inl, inr, lit≤, take_all, take-take}
-use Rattle.std.specs.Prelude.{nat_eq, nat_le}
-use Rattle.std.specs.Prelude.{position}
+use Rattle.std.proofs.Common.{arith, ◌≡◌, ℕ, zero, suc, ◌-◌, ◌<◌, ◌==◌, true, false, List, [], ◌∷◌, ◌++◌, length, take, drop, Option, Some, None, length-append}
+use Rattle.std.proofs.Common.{refl, sym, ap, subst, ◌∙◌, ◌⊎◌, ◌≤◌, append_assoc, inl, inr, lit≤, take_all, take-take}
+use Rattle.std.specs.Prelude.{nat_eq, nat_le, position}
 use Rattle.std.specs.List.{list_all}
 use Rattle.std.specs.Str.Lines.{lines, strip_carriage_return}
 use Rattle.texts.specs.Pieces.{is_blank}
@@ -13,14 +11,11 @@ use Rattle.std.proofs.lemmas.Bool.{cases_Bool, cases_lt, eqb-true, lt-leb}
 use Rattle.std.proofs.lemmas.List.{append-nil, drop-take, length-take-le}
 use Rattle.step_machine.proofs.Placing.{and_left}
 use Rattle.litmus.specs.LitmusTests.{LitmusTest}
-use Rattle.recorder.specs.Reading.{ends_line, has_head}
-use Rattle.recorder.specs.Records.{record_head}
+use Rattle.recorder.specs.{ends_line, has_head, record_head}
 use Rattle.engine_support.specs.Input.{kept_of}
 use Rattle.engine_support.proofs.Judging.{judged-large}
-use Rattle.checking.specs.RecordTexts.{are_blank_lines, begins_record, before_record, records_in, is_left_out, texts_with, unless_blank}
-use Rattle.checking.specs.Judgements.{Judged, IsTextJudged, record_of}
-use Rattle.checking.specs.Judgements.IsTextJudged.{none, record_is}
-use Rattle.checking.specs.inner.Holding.{held_with, IsHeld}
+use Rattle.checking.specs.{are_blank_lines, begins_record, before_record, records_in, is_left_out, texts_with, unless_blank, Judged, IsTextJudged, record_of}
+use Rattle.checking.specs.{none, record_is, held_with, IsHeld}
 
 -- ---- a line more
 

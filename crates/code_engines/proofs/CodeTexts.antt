@@ -2,12 +2,10 @@
 use Rattle.std.proofs.Common.{arith, ◌≡◌, ℕ, ◌+◌, List, [], ◌∷◌, ◌++◌, Ok, refl, sym, ap, subst, ◌∙◌}
 use Rattle.std.specs.List.{AllZip, flat_map}
 use Rattle.std.specs.Str.Lines.{lines}
-use Rattle.texts.specs.Numbers.{IsHexWord}
-use Rattle.texts.proofs.ResultLaws.{bind_ok, ok_is}
+use Rattle.texts.specs.{IsHexWord, tokens}
+use Rattle.texts.proofs.{bind_ok, ok_is, settled_found, settled_only}
 use Rattle.engine_support.specs.declared.fault.Refusal.{Refusal}
-use Rattle.texts.specs.Cutting.{tokens}
 use Rattle.code_engines.specs.Dis.{SaysCode, code_of_lines, dis_at}
-use Rattle.texts.proofs.FormatLaws.{settled_found, settled_only}
 use Rattle.code_engines.proofs.NumberWords.{code_settles}
 use Rattle.engine_support.proofs.LineFaulted.{at_line-ok}
 

@@ -7,15 +7,11 @@ use Rattle.std.specs.Str.Parse.{AllDigits}
 use Rattle.std.proofs.lemmas.Bool.{ne_eqb}
 use Rattle.std.proofs.lemmas.List.Elements.{recursion_from_All}
 use Rattle.std.proofs.lemmas.List.Splits.{length-slice_split}
-use Rattle.texts.specs.Numbers.{hex_word}
-use Rattle.texts.specs.Pieces.{is_blank}
-use Rattle.texts.specs.Cutting.{tokens, NonePass}
+use Rattle.texts.specs.{hex_word, is_blank, tokens, NonePass}
 use Rattle.texts.proofs.HexWords.{hex_word-said}
-use Rattle.texts.proofs.PieceLaws.{lines_of_parts-cons}
-use Rattle.texts.proofs.CuttingLaws.{split_none, split_stop}
+use Rattle.texts.proofs.{lines_of_parts-cons, split_none, split_stop, filter_kept}
 use Rattle.code_engines.specs.Asm.{hex_line}
 use Rattle.code_engines.specs.Dis.{SaysCode}
-use Rattle.texts.proofs.TokenLaws.{filter_kept}
 
 -- ---- a hex digit is no blank, CR or LF
 

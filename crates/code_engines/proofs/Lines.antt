@@ -1,30 +1,26 @@
 -- A line of a steps text: what is read of it is what it says.
-use Rattle.std.proofs.Common.{◌≡◌, ℕ, ◌-◌, ◌/◌, ◌%◌, ◌<◌, ◌≤◌, false, not, ◌||◌, cond, eqb, ltb, leb, List, [], ◌∷◌}
-use Rattle.std.proofs.Common.{◌++◌, length, set, Option, Some, None, Ok, Err, refl, sym, ap, subst, ◌∙◌, ◌⊎◌, inl, inr}
-use Rattle.std.proofs.Common.{arith}
+use Rattle.std.proofs.Common.{◌≡◌, ℕ, ◌-◌, ◌/◌, ◌%◌, ◌<◌, ◌≤◌, false, not, ◌||◌, cond, eqb, ltb, leb, List, [], ◌∷◌, ◌++◌, length, set, Option, Some, None, Ok}
+use Rattle.std.proofs.Common.{Err, refl, sym, ap, subst, ◌∙◌, ◌⊎◌, inl, inr, arith}
 use Rattle.std.specs.Prelude.{codes}
 use Rattle.std.specs.List.{AllZip}
 use Rattle.std.proofs.lemmas.Bool.{cases_Bool}
 use Rattle.std.proofs.lemmas.Bool.Decides.{nat_tests}
 use Rattle.std.proofs.lemmas.Slice.Eq.{bytes_eq-Decides}
-use Rattle.texts.specs.Numbers.{IsHexWord}
-use Rattle.texts.specs.Formats.{DecidesGrammar}
-use Rattle.texts.proofs.ResultLaws.{bind_ok, ok_is}
+use Rattle.texts.specs.{IsHexWord, DecidesGrammar, tokens, first_cut}
+use Rattle.texts.proofs.{bind_ok, ok_is, settled_found, settled_only, settles_then, settles_unless, settles_ok, settles_map_err, tokens-cut, tokens_uncut}
+use Rattle.texts.proofs.{tokens-first, tokens_none}
 use Rattle.memory.specs.Words.{IsAddress}
 use Rattle.step_machine.specs.History.{HartOpeningValue}
 use Rattle.step_machine.specs.declared.events.Event.{Event}
 use Rattle.recorder.specs.Schedule.{IsTokensOf}
-use Rattle.texts.proofs.FormatLaws.{settled_found, settled_only, settles_then, settles_unless, settles_ok, settles_map_err}
 use Rattle.recorder.proofs.TextLaws.{further_settles}
 use Rattle.code_engines.specs.declared.steps.line.Keyword.{Keyword}
 use Rattle.code_engines.specs.declared.steps.line.Keyword.TheVariants as keyword
-use Rattle.texts.specs.Cutting.{tokens, first_cut}
 use Rattle.code_engines.specs.ScriptValue.{ScriptValue, Statement, hart, reg, word, steps, fresh, register_set, with_statement, MayCome}
 use Rattle.code_engines.specs.StepsText.{LineSays}
 use Rattle.engine_support.specs.LineFaults.{bad_line}
-use Rattle.code_engines.specs.StepsReading.{two_numbers, three_numbers, with_hart, with_register, with_word, with_steps}
-use Rattle.code_engines.specs.StepsReading.{keyword_named, by_keyword, by_cut, after_line}
-use Rattle.texts.proofs.TokenLaws.{tokens-cut, tokens_uncut, tokens-first, tokens_none}
+use Rattle.code_engines.specs.StepsReading.{two_numbers, three_numbers, with_hart, with_register, with_word, with_steps, keyword_named, by_keyword, by_cut}
+use Rattle.code_engines.specs.StepsReading.{after_line}
 use Rattle.code_engines.proofs.NumberWords.{code_settles, SayTwo, two_settles, Three, SayThree, three_settles}
 
 -- ---- keywords

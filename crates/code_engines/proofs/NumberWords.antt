@@ -1,9 +1,7 @@
 -- Words that say numbers: what is read is what they say, and what they say is read.
 use Rattle.std.proofs.Common.{arith, ◌≡◌, ℕ, List, [], ◌∷◌, Ok, refl, ap, ◌∙◌}
 use Rattle.std.specs.List.{AllZip}
-use Rattle.texts.specs.Numbers.{SaysWord, IsHexWord, hex_word_of}
-use Rattle.texts.specs.Results.{◌>>=◌}
-use Rattle.texts.specs.Formats.{DecidesGrammar}
+use Rattle.texts.specs.{SaysWord, IsHexWord, hex_word_of, ◌>>=◌, DecidesGrammar}
 use Rattle.texts.proofs.FormatLaws.{settles_as, settles_then, settles_ok, settles_word, settles_each, settles_hex_word}
 use Rattle.engine_support.specs.LineFaults.{bad_line, or_bad}
 use Rattle.code_engines.specs.Code.{code_at}

@@ -2,15 +2,11 @@
 use Rattle.std.proofs.Common.{arith, ◌≡◌, ℕ, List, Some, Result, sym, ◌∙◌}
 use Rattle.std.specs.List.{flat_map}
 use Rattle.step_machine.proofs.Running.{run-one}
-use Rattle.assembler.specs.Drafts.{assembled}
-use Rattle.assembler.specs.Faults.{asm_number}
-use Rattle.assembler.specs.Program.{IsCode}
+use Rattle.assembler.specs.{assembled, asm_number, IsCode}
 use Rattle.assembler.proofs.OneCode as assembly
 use Rattle.engine_support.specs.declared.fault.Refusal.{Refusal}
-use Rattle.engine_support.specs.Engines.{Output}
-use Rattle.engine_support.specs.Faults.{refused_at}
-use Rattle.engine_support.proofs.InputLaws.{IsOne, is_one, is_one_without, one_after, one_made}
-use Rattle.engine_support.proofs.OneInput.{same_output}
+use Rattle.engine_support.specs.{Output, refused_at}
+use Rattle.engine_support.proofs.{IsOne, is_one, is_one_without, one_after, one_made, same_output}
 use Rattle.code_engines.specs.Asm.{IsAsmAnswer, asm_at, assembly_texts, hex_line}
 use Rattle.code_engines.specs.ScriptValue.{ScriptValue}
 use Rattle.code_engines.specs.StepsText.{Describes}

@@ -1,7 +1,6 @@
 -- The steps text of an opening, read as a steps text, is that opening.
-use Rattle.std.proofs.Common.{◌≡◌, ℕ, zero, suc, ◌+◌, ◌*◌, ◌-◌, ◌/◌, ◌<◌, ◌≤◌, eqb, ltb, false, List, [], ◌∷◌, ◌++◌, length, map, set, drop}
-use Rattle.std.proofs.Common.{refl, sym, ap, subst, ◌∙◌, inr}
-use Rattle.std.proofs.Common.{append_assoc, length-append, arith}
+use Rattle.std.proofs.Common.{◌≡◌, ℕ, zero, suc, ◌+◌, ◌*◌, ◌-◌, ◌/◌, ◌<◌, ◌≤◌, eqb, ltb, false, List, [], ◌∷◌, ◌++◌, length, map, set, drop, refl, sym, ap}
+use Rattle.std.proofs.Common.{subst, ◌∙◌, inr, append_assoc, length-append, arith}
 use Rattle.std.specs.Prelude.{codes, replicate}
 use Rattle.std.specs.List.{AllByRecursion, AllZip, flat_map, slice_index_or}
 use Rattle.std.specs.Char.{digit_value}
@@ -12,14 +11,10 @@ use Rattle.std.proofs.Math.Seq.{set-append_seam}
 use Rattle.std.proofs.lemmas.Bool.{ne_eqb}
 use Rattle.std.proofs.lemmas.List.{append-nil, drop-replicate}
 use Rattle.std.proofs.lemmas.List.Splits.{length-slice_split}
-use Rattle.texts.specs.Cutting.{is_byte, NonePass}
-use Rattle.texts.specs.Numbers.{IsHexWord, hex_word}
-use Rattle.texts.specs.Rows.{Written, word_text, row_text}
+use Rattle.texts.specs.{is_byte, NonePass, IsHexWord, hex_word, Written, word_text, row_text}
 use Rattle.texts.specs.Rows.Written.{plain, number}
-use Rattle.texts.proofs.CuttingLaws.{split_stop}
+use Rattle.texts.proofs.{split_stop, lines_of_parts-cons, is_low, Solid, solid_by_test, decimal_solid, decimal_says, AreSolid, row-again, row_none, line-stays}
 use Rattle.texts.proofs.HexWords.{hex_word-said}
-use Rattle.texts.proofs.PieceLaws.{lines_of_parts-cons}
-use Rattle.texts.proofs.RowLaws.{is_low, Solid, solid_by_test, decimal_solid, decimal_says, AreSolid, row-again, row_none, line-stays}
 use Rattle.step_machine.specs.History.{HartOpeningValue, OpeningValue}
 use Rattle.step_machine.specs.declared.events.Event.{Event}
 use Rattle.litmus_reader.specs.PlainOpenings.{IsPlainHart, IsPlainOpening}

@@ -1,6 +1,6 @@
 -- Which parameters a command may have: a test, and what passes it.
-use Rattle.std.proofs.Common.{◌≡◌, ◌+◌, ◌==◌, ◌&&◌, ℕ, Bool, true, false, not, zero, suc, refl}
-use Rattle.std.proofs.Common.{subst, arith, List, [], ◌∷◌, length, Some, is_some, leb, leb-true}
+use Rattle.std.proofs.Common.{◌≡◌, ◌+◌, ◌==◌, ◌&&◌, ℕ, Bool, true, false, not, zero, suc, refl, subst, arith, List, [], ◌∷◌, length, Some, is_some, leb}
+use Rattle.std.proofs.Common.{leb-true}
 use Rattle.std.specs.List.{list_all, list_any}
 use Rattle.std.specs.Str.{bytes_eq}
 use Rattle.std.proofs.lemmas.Bool.{and_parts}

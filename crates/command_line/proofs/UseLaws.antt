@@ -1,7 +1,6 @@
 -- What uses of a command's parameters say is what clap finds.
-use Rattle.std.proofs.Common.{◌≡◌, ◌≢◌, ◌∙◌, ◌+◌, ◌≤◌, ◌==◌, ◌&&◌, ◌||◌, ℕ, Bool, true, false, not, zero, suc, min}
-use Rattle.std.proofs.Common.{refl, sym, ap, subst, arith, List, [], ◌∷◌, ◌++◌, map, length, Option, Some, None}
-use Rattle.std.proofs.Common.{is_some, append-nil, codes}
+use Rattle.std.proofs.Common.{◌≡◌, ◌≢◌, ◌∙◌, ◌+◌, ◌≤◌, ◌==◌, ◌&&◌, ◌||◌, ℕ, Bool, true, false, not, zero, suc, min, refl, sym, ap, subst, arith, List, [], ◌∷◌}
+use Rattle.std.proofs.Common.{◌++◌, map, length, Option, Some, None, is_some, append-nil, codes}
 use Rattle.std.specs.Prelude.{if◌then◌else◌, find, fold, option_map, option_and_then, slice_get}
 use Rattle.std.specs.Option.{option_map_or}
 use Rattle.std.specs.List.{list_all, list_any}
@@ -19,17 +18,16 @@ use Rattle.clap.specs.Faults.{default_fault, defaults_fault, level_fault, settle
 use Rattle.clap.specs.Lexer.{long_of, short_of}
 use Rattle.clap.specs.Simple.{Shape, filled, filled_from, help_rule, new_shape, with_index}
 use Rattle.clap.specs.Takes.{is_given}
-use Rattle.clap.specs.Walk.{Held, Walk, idle, option, arg_by_id, arg_by_index, arg_by_long, at_row, default_rows}
-use Rattle.clap.specs.Walk.{more_values, first_of, has_row, most_values, reading_by, settled_rows, rows_after, used}
-use Rattle.clap.specs.Walk.{walked, with_default, with_values, without, nothing_held}
+use Rattle.clap.specs.Walk.{Held, Walk, idle, option, arg_by_id, arg_by_index, arg_by_long, at_row, default_rows, more_values, first_of, has_row, most_values}
+use Rattle.clap.specs.Walk.{reading_by, settled_rows, rows_after, used, walked, with_default, with_values, without, nothing_held}
 use Rattle.clap.specs.declared.builder.value_parser.Reading.{Reading}
 use Rattle.clap.specs.declared.error.kind.ErrorKind.TheVariants.{ArgumentConflict}
 use Rattle.clap.specs.declared.parser.matches.ValueSource.TheVariants.{CommandLine, DefaultValue}
 use Rattle.clap.proofs.CutLemmas.{Lacks}
 use Rattle.clap.proofs.WalkLemmas.{find-map}
 use Rattle.clap.proofs.LexerLemmas.{name_and_value-at, name_and_value-without}
-use Rattle.command_line.specs.Parameters.{Parameter, positional, required, defaulted, optional, flag, is_required}
-use Rattle.command_line.specs.Parameters.{name_of, named, takes_value, word_in_place, rule_for}
+use Rattle.command_line.specs.Parameters.{Parameter, positional, required, defaulted, optional, flag, is_required, name_of, named, takes_value, word_in_place}
+use Rattle.command_line.specs.Parameters.{rule_for}
 use Rattle.command_line.specs.Uses.{IsArgument, IsWhole, Said, Says, Use, stands, spaced, joined, given, said_for, defaults_of, texts_of_uses}
 
 same_text : (name : Text) → bytes_eq name name ≡ true

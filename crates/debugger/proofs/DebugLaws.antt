@@ -1,13 +1,10 @@
 -- What the debugger does of a schedule, event by event.
-use Rattle.std.proofs.Common.{◌≡◌, ℕ, zero, suc, ◌+◌, Bool, false, List, [], ◌∷◌, ◌++◌, drop, None, Some, Result, Ok}
-use Rattle.std.proofs.Common.{Err, IfOk, OnOk, refl, sym, ap, ◌∙◌, append_assoc, arith}
+use Rattle.std.proofs.Common.{◌≡◌, ℕ, zero, suc, ◌+◌, Bool, false, List, [], ◌∷◌, ◌++◌, drop, None, Some, Result, Ok, Err, IfOk, OnOk, refl, sym, ap, ◌∙◌}
+use Rattle.std.proofs.Common.{append_assoc, arith}
 use Rattle.std.specs.List.{slice_get}
 use Rattle.std.specs.Result.{result_and}
 use Rattle.step_machine.specs.declared.events.Event.{Event}
-use Rattle.debugger.specs.declared.debugger.Source.TheVariants.{Schedule}
-use Rattle.debugger.specs.DebuggerStates.{DebuggerState}
-use Rattle.debugger.specs.DebugText.{end_line, break_line}
-use Rattle.debugger.specs.Debugging.{stop_before, DoesEvent, DoesAll}
+use Rattle.debugger.specs.{Schedule, DebuggerState, end_line, break_line, stop_before, DoesEvent, DoesAll}
 
 -- what is left from a place on, where nothing stands there
 drop_past : {X : Type 0} (xs : List X) (i : ℕ) → slice_get xs i ≡ None → drop i xs ≡ []

@@ -1,15 +1,12 @@
 -- The debugger's state: what came from the schedule is the schedule's up to its place.
-use Rattle.std.proofs.Common.{◌≡◌, ℕ, suc, ◌+◌, ◌-◌, ◌≤◌, ◌<◌, List, [], ◌∷◌, ◌++◌, length, take, drop, min, get_or}
-use Rattle.std.proofs.Common.{Some, refl, sym, ap, ◌∙◌, arith, length-append, length-drop, take_all}
+use Rattle.std.proofs.Common.{◌≡◌, ℕ, suc, ◌+◌, ◌-◌, ◌≤◌, ◌<◌, List, [], ◌∷◌, ◌++◌, length, take, drop, min, get_or, Some, refl, sym, ap, ◌∙◌, arith}
+use Rattle.std.proofs.Common.{length-append, length-drop, take_all}
 use Rattle.std.specs.List.{slice_get}
 use Rattle.std.proofs.lemmas.List.{take_more, take-take, length-take, append-nil}
 use Rattle.std.proofs.lemmas.List.Sums.{sum_by-append, sum_by-take-drop}
 use Rattle.std.proofs.lemmas.Option.{slice_get_within, get_or_from_slice_get}
 use Rattle.step_machine.specs.declared.events.Event.{Event}
-use Rattle.debugger.specs.declared.debugger.Source.{Source}
-use Rattle.debugger.specs.declared.debugger.Source.TheVariants.{Schedule, User}
-use Rattle.debugger.specs.Sessions.{Past, GoesBack}
-use Rattle.debugger.specs.DebuggerStates.{DebuggerState, IsWellFormed, GoesBackBy, scheduled, of_schedule}
+use Rattle.debugger.specs.{Source, Schedule, User, Past, GoesBack, DebuggerState, IsWellFormed, GoesBackBy, scheduled, of_schedule}
 
 pub scheduled-append : (xs ys : List Source) → scheduled (xs ++ ys) ≡ scheduled xs + scheduled ys
 scheduled-append xs ys = sum_by-append _ xs ys

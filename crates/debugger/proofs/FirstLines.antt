@@ -1,6 +1,6 @@
 -- The first line of an input, which ends through its first LF, and what is left after it.
-use Rattle.std.proofs.Common.{◌≡◌, ℕ, ◌+◌, ◌-◌, ◌<◌, Bool, true, false, List, [], ◌∷◌, length, take, drop, Option, Some, None}
-use Rattle.std.proofs.Common.{◌||◌, refl, sym, ap, ◌∙◌, inl, inr, arith, take_all}
+use Rattle.std.proofs.Common.{◌≡◌, ℕ, ◌+◌, ◌-◌, ◌<◌, Bool, true, false, List, [], ◌∷◌, length, take, drop, Option, Some, None, ◌||◌, refl, sym, ap, ◌∙◌, inl}
+use Rattle.std.proofs.Common.{inr, arith, take_all}
 use Rattle.std.specs.Prelude.{position, if◌then◌else◌, IfSome}
 use Rattle.std.specs.List.{concat, list_any, position_or_len}
 use Rattle.std.specs.Str.Lines.{lines, strip_carriage_return}
@@ -10,13 +10,8 @@ use Rattle.std.proofs.lemmas.List.{drop_all, take-take, length-take-le}
 use Rattle.texts.proofs.PieceLaws.{position_is, position_past, lines_found, lines_whole}
 use Rattle.litmus_reader.specs.Marks.{is_line_feed}
 use Rattle.engine_support.specs.WholeLines.{whole_lines}
-use Rattle.engine_support.proofs.LineReading.{first_whole, joined_whole}
-use Rattle.engine_support.proofs.Written.{no_byte}
-use Rattle.debugger.specs.Commands.{command_of}
-use Rattle.debugger.specs.Transcripts.{Leaves, after_last, is_last, quits, left_unread}
-use Rattle.debugger.specs.declared.debug.command.Command.{Command}
-use Rattle.debugger.specs.declared.debug.command.Command.TheVariants.{Quit}
-use Rattle.debugger.specs.inner.Asking.{AsksNext, TakesAsking}
+use Rattle.engine_support.proofs.{first_whole, joined_whole, no_byte}
+use Rattle.debugger.specs.{command_of, Leaves, after_last, is_last, quits, left_unread, Command, Quit, AsksNext, TakesAsking}
 
 abbrev line_len : List ℕ → ℕ
 line_len bytes = position_or_len is_line_feed bytes

@@ -8,22 +8,13 @@ use Rattle.step_machine.specs.declared.events.Outcome.{Outcome}
 use Rattle.step_machine.proofs.Running.{happens-one, run-one}
 use Rattle.std.specs.Str.Lines.{lines}
 use Rattle.litmus.specs.LitmusTests.{LitmusTest}
-use Rattle.recorder.specs.Versions.{events_of_schedule}
-use Rattle.debugger.specs.declared.debug.command.Command.{Command}
+use Rattle.recorder.specs.{events_of_schedule, outcome_line}
+use Rattle.debugger.specs.{Command, Source, Schedule, User, Past, DebuggerState, TakesEvent, GoesBackBy, debugger_at_opening, command_of, Breaks, DoesEvent}
+use Rattle.debugger.specs.{DoesAll, DoesCommand, DoesNext, Toggled, is_point, stop_before, DoesLine, IsDebugAnswer, IsTranscript, Transcript, quits}
 use Rattle.debugger.specs.declared.debug.command.Command.TheVariants as command
-use Rattle.debugger.specs.declared.debugger.Source.{Source}
-use Rattle.debugger.specs.declared.debugger.Source.TheVariants.{Schedule, User}
-use Rattle.debugger.specs.Sessions.{Past}
-use Rattle.debugger.specs.DebuggerStates.{DebuggerState, TakesEvent, GoesBackBy, debugger_at_opening}
-use Rattle.debugger.specs.Commands.{command_of}
-use Rattle.recorder.specs.Outcomes.{outcome_line}
-use Rattle.debugger.specs.Debugging.{Breaks, DoesEvent, DoesAll, DoesCommand, DoesNext, Toggled, is_point, stop_before}
-use Rattle.debugger.specs.Transcripts.{DoesLine, IsDebugAnswer, IsTranscript, Transcript, quits}
 use Rattle.engine_support.specs.declared.fault.Refusal.{Refusal}
-use Rattle.engine_support.specs.Engines.{AreOneAnswer, Output}
-use Rattle.engine_support.specs.Histories.{AnswersEvents}
-use Rattle.engine_support.proofs.InputLaws.{alike_by_schedule, one_made}
-use Rattle.engine_support.proofs.OneInput.{equal_alike}
+use Rattle.engine_support.specs.{AreOneAnswer, Output, AnswersEvents}
+use Rattle.engine_support.proofs.{alike_by_schedule, one_made, equal_alike}
 
 -- ---- each case of a choice
 

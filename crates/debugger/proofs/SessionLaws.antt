@@ -2,9 +2,7 @@
 use Rattle.std.proofs.Common.{◌≡◌, ℕ, List, [], ◌∷◌, ◌++◌, sym, subst}
 use Rattle.step_machine.specs.declared.events.Event.{Event}
 use Rattle.step_machine.specs.declared.events.Outcome.{Outcome}
-use Rattle.step_machine.specs.History.{OpeningValue, History, at_opening}
-use Rattle.step_machine.specs.Runs.{Happens, Run}
-use Rattle.step_machine.specs.Snapshots.{SnapshotView}
+use Rattle.step_machine.specs.Names.{OpeningValue, History, at_opening, Happens, Run, SnapshotView}
 use Rattle.step_machine.proofs.Running.{RunFrom-more}
 use Rattle.debugger.specs.inner.SnapshotsHeld.{HasSnapshots}
 

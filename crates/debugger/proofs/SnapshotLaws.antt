@@ -1,8 +1,7 @@
 -- A session's snapshots: each was taken where the run of the first events ended, and the session's own
 -- history began so.
-use Rattle.std.proofs.Common.{◌≡◌, ℕ, zero, suc, ◌+◌, ◌-◌, ◌*◌, ◌/◌, ◌%◌, ◌<◌, ◌≤◌, ◌⊎◌, inl, inr, List, [], ◌∷◌, ◌++◌}
-use Rattle.std.proofs.Common.{length, take, drop, get_or, Some, refl, sym, ◌∙◌, ap, subst, arith, append-nil}
-use Rattle.std.proofs.Common.{append_assoc, length-append, length-drop, length-take-le, take-append-drop, take_all}
+use Rattle.std.proofs.Common.{◌≡◌, ℕ, zero, suc, ◌+◌, ◌-◌, ◌*◌, ◌/◌, ◌%◌, ◌<◌, ◌≤◌, ◌⊎◌, inl, inr, List, [], ◌∷◌, ◌++◌, length, take, drop, get_or, Some, refl}
+use Rattle.std.proofs.Common.{sym, ◌∙◌, ap, subst, arith, append-nil, append_assoc, length-append, length-drop, length-take-le, take-append-drop, take_all}
 use Rattle.std.proofs.Common.{take-take}
 use Rattle.std.specs.List.{slice_get}
 use Rattle.std.proofs.Math.Seq.{take-append_seam}
@@ -12,14 +11,9 @@ use Rattle.std.proofs.lemmas.Option.{slice_get_within, get_or_from_slice_get}
 use Rattle.step_machine.specs.declared.events.Entry.{Entry}
 use Rattle.step_machine.specs.declared.events.Event.{Event}
 use Rattle.step_machine.specs.declared.events.Outcome.{Outcome}
-use Rattle.step_machine.specs.History.{OpeningValue, History, history_of, up_to}
-use Rattle.step_machine.specs.Runs.{Happens, RunFrom, Run}
-use Rattle.step_machine.specs.Snapshots.{SnapshotView, IsTakenAt}
+use Rattle.step_machine.specs.Names.{OpeningValue, History, history_of, up_to, Happens, RunFrom, Run, SnapshotView, IsTakenAt}
 use Rattle.step_machine.proofs.Running.{shape_of, run-one, RunFrom-append}
-use Rattle.debugger.specs.Sessions.{Past, GoesBack}
-use Rattle.debugger.specs.Nearest.{snapshot_before, IsNearest}
-use Rattle.debugger.specs.inner.SnapshotsHeld.{IsTakenAfter, HasSnapshots}
-use Rattle.debugger.specs.declared.session.TheConstants.{SNAPSHOT_EVENTS}
+use Rattle.debugger.specs.{Past, GoesBack, snapshot_before, IsNearest, IsTakenAfter, HasSnapshots, SNAPSHOT_EVENTS}
 
 -- ---- a run only adds at the end
 

@@ -1,6 +1,6 @@
 -- A user's lines, read one by one.
-use Rattle.std.proofs.Common.{◌≡◌, ℕ, ◌+◌, Bool, true, false, List, [], ◌∷◌, ◌++◌, Option}
-use Rattle.std.proofs.Common.{Some, None, Result, Ok, Err, refl, sym, ap, subst, ◌∙◌, ◌⊎◌, inl, inr, arith}
+use Rattle.std.proofs.Common.{◌≡◌, ℕ, ◌+◌, Bool, true, false, List, [], ◌∷◌, ◌++◌, Option, Some, None, Result, Ok, Err, refl, sym, ap, subst, ◌∙◌, ◌⊎◌, inl}
+use Rattle.std.proofs.Common.{inr, arith}
 use Rattle.std.specs.Prelude.{IfSome, IfOk, IfErr, OnOk, MatchBool}
 use Rattle.std.specs.Result.{result_and}
 use Rattle.std.specs.String.{string_bytes}
@@ -12,21 +12,13 @@ use Rattle.std.proofs.lemmas.List.{append-nil, append_assoc}
 use Rattle.litmus.specs.LitmusTests.{LitmusTest}
 use Rattle.step_machine.specs.declared.events.Event.{Event}
 use Rattle.recorder.specs.Versions.{events_of_schedule}
-use Rattle.debugger.specs.DebuggerStates.{DebuggerState, debugger_at_opening}
-use Rattle.debugger.specs.Commands.{command_of}
-use Rattle.debugger.specs.declared.debug.command.Command.{Command}
+use Rattle.debugger.specs.{DebuggerState, debugger_at_opening, command_of, Command, DoesLine, DoesAsked, EndsInteractive, IsDebugAnswer, IsDebugFront}
+use Rattle.debugger.specs.{IsDebugSome, IsTranscript, OnRefused, OnStopped, OnUnwritten, Prints, PrintsFront, PrintsSome, Transcript, quits, AsksNext}
+use Rattle.debugger.specs.{IsNextLine, IsFailure, IsAtStart}
 use Rattle.engine_support.specs.declared.fault.Fault.{Fault}
 use Rattle.engine_support.specs.declared.fault.Fault.TheVariants.{ReadFailed, WriteFailed, NoMemory, Refused}
-use Rattle.debugger.specs.Transcripts.{DoesLine, DoesAsked, EndsInteractive, IsDebugAnswer, IsDebugFront}
-use Rattle.debugger.specs.Transcripts.{IsDebugSome, IsTranscript, OnRefused, OnStopped, OnUnwritten, Prints}
-use Rattle.debugger.specs.Transcripts.{PrintsFront, PrintsSome, Transcript, quits}
-use Rattle.engine_support.specs.inner.Making.{FindsUpToReads, IsEndOf, text_and_value}
-use Rattle.debugger.specs.inner.Asking.{AsksNext, IsNextLine}
-use Rattle.debugger.specs.inner.Failures.{IsFailure, IsAtStart}
-use Rattle.engine_support.specs.Engines.{Output}
-use Rattle.engine_support.specs.Histories.{AnswersEvents, ByEvents}
-use Rattle.engine_support.proofs.Written.{appends_more, appends_nothing, stopped}
-use Rattle.engine_support.proofs.ScheduleLaws.{made_both, refused_both}
+use Rattle.engine_support.specs.{FindsUpToReads, IsEndOf, text_and_value, Output, AnswersEvents, ByEvents}
+use Rattle.engine_support.proofs.{appends_more, appends_nothing, stopped, made_both, refused_both}
 
 -- ---- what a writer holds, where that is known
 

@@ -2,8 +2,7 @@
 use Rattle.std.proofs.Common.{ℕ, List, [], ◌∷◌, ◌++◌, refl, sym, subst}
 use Rattle.step_machine.specs.declared.events.Event.{Event}
 use Rattle.step_machine.specs.declared.events.Outcome.{Outcome}
-use Rattle.step_machine.specs.History.{History}
-use Rattle.step_machine.specs.Runs.{Happens, RunFrom}
+use Rattle.step_machine.specs.Names.{History, Happens, RunFrom}
 
 -- the history before the last event, and what then happened
 pub record LastHappens (B M : ℕ) (t : History) (events : List Event) (event : Event) (new : History) : Type 0 where

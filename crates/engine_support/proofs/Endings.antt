@@ -1,17 +1,12 @@
 -- How an engine ends, from what it made of its inputs.
-use Rattle.std.proofs.Common.{◌≡◌, ℕ, ◌+◌, ◌<◌, ◌≤◌, List, ◌++◌, length, take, Result, Ok, Err, refl, sym, ap, ◌∙◌}
-use Rattle.std.proofs.Common.{subst, arith, append_assoc, length-append, length-take}
+use Rattle.std.proofs.Common.{◌≡◌, ℕ, ◌+◌, ◌<◌, ◌≤◌, List, ◌++◌, length, take, Result, Ok, Err, refl, sym, ap, ◌∙◌, subst, arith, append_assoc, length-append}
+use Rattle.std.proofs.Common.{length-take}
 use Rattle.std.specs.Prelude.{Option, Some, None, IfSome, IsErrAnd, replicate}
 use Rattle.std.specs.Io.KnownBytes.{Consumes}
 use Rattle.std.proofs.lemmas.List.{length-replicate}
 use Rattle.std.proofs.lemmas.Result.{err_from_is_err_and}
-use Rattle.engine_support.specs.declared.fault.Fault.{Fault}
-use Rattle.engine_support.specs.declared.fault.Fault.TheVariants.{ReadFailed, WriteFailed, NoMemory, Refused}
-use Rattle.engine_support.specs.declared.fault.Refusal.{Refusal}
-use Rattle.engine_support.specs.Faults.{too_large, AnswersAs}
-use Rattle.engine_support.specs.Input.{IsInput, TakesFew}
-use Rattle.engine_support.specs.Engines.{OfInput, Ends}
-use Rattle.engine_support.specs.inner.Making.{FindsUpToReads, IsEndOf}
+use Rattle.engine_support.specs.{Fault, ReadFailed, WriteFailed, NoMemory, Refused, Refusal, too_large, AnswersAs, IsInput, TakesFew, OfInput, Ends}
+use Rattle.engine_support.specs.{FindsUpToReads, IsEndOf}
 
 -- ---- what a reader tells
 

@@ -3,17 +3,9 @@ use Rattle.std.proofs.Common.{arith, ◌≡◌, ℕ, List, Result, Ok, Err, sym,
 use Rattle.std.specs.Prelude.{Option, Some, IsErrAnd, IsOkAnd}
 use Rattle.std.specs.Result.{IsErr}
 use Rattle.texts.specs.Results.{map_err}
-use Rattle.engine_support.specs.declared.fault.Fault.{Fault}
-use Rattle.engine_support.specs.declared.fault.Refusal.{Refusal}
-use Rattle.engine_support.specs.Engines.{AcceptedInput, decoded}
-use Rattle.engine_support.specs.Faults.{AnswersAs}
-use Rattle.engine_support.specs.Inputs.{After, Format, IsRefused, Reads, format}
-use Rattle.engine_support.specs.Inputs.After.{refused, read}
-use Rattle.engine_support.specs.inner.Making.{FindsUpToReads}
-use Rattle.engine_support.specs.Histories.{BySchedule}
+use Rattle.engine_support.specs.{Fault, Refusal, AcceptedInput, decoded, AnswersAs, After, Format, IsRefused, Reads, format, refused, read, FindsUpToReads}
+use Rattle.engine_support.specs.{BySchedule, schedules, litmus_texts, tests, tests_with}
 use Rattle.engine_support.proofs.Endings.{answered_by, handed_on, is_handed}
-use Rattle.engine_support.specs.Schedules.{schedules}
-use Rattle.engine_support.specs.Tests.{litmus_texts, tests, tests_with}
 use Rattle.engine_support.proofs.Judging.{decoded-text}
 use Rattle.engine_support.proofs.OneInput.{one_number, one_refusal, schedule-or_refusal, test_or_refusal, value_or_refusal}
 use Rattle.litmus.specs.LitmusTests.{LitmusTest}

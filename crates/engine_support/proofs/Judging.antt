@@ -3,9 +3,7 @@ use Rattle.std.proofs.Common.{arith, ◌≡◌, ℕ, ◌<◌, ◌≤◌, ltb, Li
 use Rattle.std.specs.Str.{IsUtf8}
 use Rattle.std.proofs.lemmas.Bool.{cases_Bool, le-ltb, lt-ltb, ltb-false}
 use Rattle.std.proofs.lemmas.Str.{IsUtf8-from_is_utf8, is_utf8-from_IsUtf8}
-use Rattle.engine_support.specs.declared.fault.Refusal.{Refusal}
-use Rattle.engine_support.specs.Faults.{not_text, too_large}
-use Rattle.engine_support.specs.Engines.{AcceptedInput, decoded}
+use Rattle.engine_support.specs.{Refusal, not_text, too_large, AcceptedInput, decoded}
 use Rattle.texts.proofs.ResultLaws.{guard_err, ok_is}
 
 -- a text within the limit is judged by its own rules

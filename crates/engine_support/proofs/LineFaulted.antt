@@ -4,10 +4,7 @@ use Rattle.std.specs.Prelude.{IfSome}
 use Rattle.texts.proofs.ResultLaws.{ok_is}
 use Rattle.texts.specs.Results.{refusal_of}
 use Rattle.texts.specs.declared.errors.TextError.{TextError}
-use Rattle.engine_support.specs.declared.fault.Fault.{Fault}
-use Rattle.engine_support.specs.declared.fault.Refusal.{Refusal}
-use Rattle.engine_support.specs.Faults.{Answers}
-use Rattle.engine_support.specs.LineFaults.{at_line, fault_at}
+use Rattle.engine_support.specs.{Fault, Refusal, Answers, at_line, fault_at}
 
 pub at_line-ok : {A : Type 0} (number : ℕ) (r : Result A ℕ) (x : A) → at_line number r ≡ Ok x → r ≡ Ok x
 at_line-ok {A = A} number (Ok y) x e = ap (λ (z : A). Ok z) (ok_is Refusal y x e)

@@ -1,6 +1,6 @@
 -- The lines of an input, and how one is read part by part, of which a front is kept.
-use Rattle.std.proofs.Common.{◌≡◌, ◌≢◌, ℕ, zero, suc, ◌+◌, ◌-◌, ◌≤◌, Bool, true, false, List, [], ◌∷◌, ◌++◌, length, take, Option, Some, None}
-use Rattle.std.proofs.Common.{Result, Ok, Err, refl, sym, ap, ◌∙◌, arith, take_all, true≢false}
+use Rattle.std.proofs.Common.{◌≡◌, ◌≢◌, ℕ, zero, suc, ◌+◌, ◌-◌, ◌≤◌, Bool, true, false, List, [], ◌∷◌, ◌++◌, length, take, Option, Some, None, Result, Ok, Err}
+use Rattle.std.proofs.Common.{refl, sym, ap, ◌∙◌, arith, take_all, true≢false}
 use Rattle.std.specs.Prelude.{◌==◌, is_ok, IfOk, IfSome, OnOk, if◌then◌else◌}
 use Rattle.std.specs.List.{concat}
 use Rattle.std.specs.Io.BufRead.{take_through, drop_through}
@@ -9,10 +9,7 @@ use Rattle.std.proofs.KnownBytes.{Consumes-nil, Consumes-kept}
 use Rattle.std.proofs.Math.Seq.{take-append-add}
 use Rattle.std.proofs.lemmas.List.{append-nil, length-take}
 use Rattle.std.proofs.lemmas.List.Elements.{All-nil}
-use Rattle.engine_support.specs.declared.fault.Fault.{Fault}
-use Rattle.engine_support.specs.Input.{kept_of}
-use Rattle.engine_support.specs.WholeLines.{before_lines, whole_lines}
-use Rattle.engine_support.specs.inner.LineParts.{IsPart}
+use Rattle.engine_support.specs.{Fault, kept_of, before_lines, whole_lines, IsPart}
 
 -- ---- whole lines
 

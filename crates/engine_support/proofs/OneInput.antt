@@ -7,15 +7,10 @@ use Rattle.recorder.specs.Versions.{ScheduleValue, SaysSchedule, schedule_at}
 use Rattle.recorder.proofs.HeadLaws.{value_settles}
 use Rattle.litmus.specs.LitmusTests.{LitmusTest}
 use Rattle.litmus_reader.specs.declared.faults.LitmusFault.{LitmusFault}
-use Rattle.litmus_reader.specs.Grammar.{IsTestOf}
-use Rattle.litmus_reader.specs.Reading.{Content, content_of, test_at}
+use Rattle.litmus_reader.specs.{IsTestOf, Content, content_of, test_at}
 use Rattle.litmus_reader.proofs.TestGrammar.{read_exactly}
-use Rattle.engine_support.specs.declared.fault.Refusal.{Refusal}
-use Rattle.engine_support.specs.Engines.{Output, AcceptedInput, AreOneAnswer, decoded}
-use Rattle.engine_support.specs.Faults.{too_large, not_text}
-use Rattle.engine_support.specs.Tests.{IsNoTest, refused_test, test_of}
-use Rattle.engine_support.specs.Schedules.{schedule_of}
-use Rattle.engine_support.specs.Histories.{AnswersRun}
+use Rattle.engine_support.specs.{Refusal, Output, AcceptedInput, AreOneAnswer, decoded, too_large, not_text, IsNoTest, refused_test, test_of, schedule_of}
+use Rattle.engine_support.specs.{AnswersRun}
 use Rattle.engine_support.proofs.Judging.{accepted-decoded, decoded-text}
 use Rattle.engine_support.proofs.RunLaws.{one_run}
 use Rattle.engine_support.proofs.TestTexts.{test_or_none}

@@ -1,6 +1,6 @@
 -- The rows of a table are the lines of what is counted.
-use Rattle.std.proofs.Common.{◌≡◌, ℕ, zero, suc, ◌<◌, Bool, true, false, cond, List, [], ◌∷◌, ◌++◌, length, map}
-use Rattle.std.proofs.Common.{get_or, All, Option, Some, option_map, refl, sym, ap, ◌∙◌, subst, arith}
+use Rattle.std.proofs.Common.{◌≡◌, ℕ, zero, suc, ◌<◌, Bool, true, false, cond, List, [], ◌∷◌, ◌++◌, length, map, get_or, All, Option, Some, option_map, refl}
+use Rattle.std.proofs.Common.{sym, ap, ◌∙◌, subst, arith}
 use Rattle.std.specs.Prelude.{is_some, Contains}
 use Rattle.std.specs.List.{flat_map, AllByRecursion}
 use Rattle.std.specs.List.Sorted.{IsStrictlySortedBy}
@@ -11,9 +11,7 @@ use Rattle.std.specs.Map.{keys_of, lookup}
 use Rattle.std.specs.Global.{Vec}
 use Rattle.std.proofs.lemmas.List.Elements.{All-tail}
 use Rattle.litmus.specs.LitmusTests.{LitmusTest}
-use Rattle.engine_support.specs.declared.outcomes.Row.{Row}
-use Rattle.engine_support.specs.Counting.{AreCountedLines, counted_by, counted_line, counted_of, is_key}
-use Rattle.engine_support.specs.inner.Rows.{AreFound, order, row_line}
+use Rattle.engine_support.specs.{Row, AreCountedLines, counted_by, counted_line, counted_of, is_key, AreFound, order, row_line}
 use Rattle.engine_support.proofs.Rows.{same_is, same_itself}
 
 abbrev Rows : Type 0 → Type 0

@@ -1,6 +1,6 @@
 -- Tables of runs: what is counted of them, and that they have one table.
-use Rattle.std.proofs.Common.{◌≡◌, ℕ, ◌+◌, ◌<◌, Bool, true, false, cond, ◌||◌, List, [], ◌∷◌, ◌++◌, length, count_by}
-use Rattle.std.proofs.Common.{All, Option, Some, None, refl, sym, ap, ap₂, ◌∙◌, arith}
+use Rattle.std.proofs.Common.{◌≡◌, ℕ, ◌+◌, ◌<◌, Bool, true, false, cond, ◌||◌, List, [], ◌∷◌, ◌++◌, length, count_by, All, Option, Some, None, refl, sym, ap}
+use Rattle.std.proofs.Common.{ap₂, ◌∙◌, arith}
 use Rattle.std.specs.Prelude.{◌↔◌, is_some, Contains, IfSome, IsTrue}
 use Rattle.std.specs.BTreeSet.{BTreeSet, contains}
 use Rattle.std.specs.List.{flat_map, list_any}
@@ -12,8 +12,7 @@ use Rattle.std.proofs.lemmas.List.Sums.{sum_by-append, sum_by-cons, count_by-le-
 use Rattle.std.proofs.lemmas.Map.Lookups.{btree_set_from_contains, exact_bytes}
 use Rattle.std.proofs.lemmas.Map.Views.{btree_set_contains_iff}
 use Rattle.litmus.specs.LitmusTests.{LitmusTest}
-use Rattle.engine_support.specs.Outcomes.{AreOutcomes, line_of}
-use Rattle.engine_support.specs.Counting.{AreCountedLines, Counted, counted_both, counted_line, seen_of}
+use Rattle.engine_support.specs.{AreOutcomes, line_of, AreCountedLines, Counted, counted_both, counted_line, seen_of}
 
 -- ---- counts of a list and one element more
 

@@ -2,19 +2,13 @@
 use Rattle.std.proofs.Common.{◌≡◌, ℕ, zero, suc, ◌<◌, List, [], ◌∷◌, length, take, Result, Ok, Err, refl, sym, ap, ap₂, subst, ◌∙◌, arith}
 use Rattle.std.specs.Prelude.{IfOk}
 use Rattle.std.specs.List.{slice_get}
-use Rattle.step_machine.specs.History.{OpeningValue, History, at_opening}
-use Rattle.step_machine.specs.Runs.{Happens, Run}
-use Rattle.step_machine.specs.Standing.{RepresentsHistory}
-use Rattle.step_machine.specs.inner.Config.{Config}
+use Rattle.step_machine.specs.Names.{OpeningValue, History, at_opening, Happens, Run, RepresentsHistory, Config}
 use Rattle.step_machine.specs.declared.events.Event.{Event}
 use Rattle.step_machine.proofs.Running.{happens-one, run-one, opening_kept}
-use Rattle.recorder.specs.Records.{Step, events_in}
-use Rattle.recorder.specs.Replaying.{RecordFrom, IsRunRecord, DiffersAt}
+use Rattle.recorder.specs.{Step, events_in, RecordFrom, IsRunRecord, DiffersAt}
 use Rattle.recorder.specs.Versions.{ScheduleValue, events_of_schedule, plain, recorded}
 use Rattle.recorder.proofs.RunRecords.{no_other, record_runs}
-use Rattle.engine_support.specs.declared.fault.Fault.{Fault}
-use Rattle.engine_support.specs.declared.fault.Refusal.{Refusal}
-use Rattle.engine_support.specs.Faults.{AnswersAs, AnswersBy}
+use Rattle.engine_support.specs.{Fault, Refusal, AnswersAs, AnswersBy}
 use Rattle.engine_support.specs.Runs.{Runs, Records, differing}
 
 -- the front of a front, and what stands in it

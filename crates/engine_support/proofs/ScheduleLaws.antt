@@ -4,14 +4,7 @@ use Rattle.std.specs.Prelude.{IsErrAnd, Option}
 use Rattle.texts.proofs.ResultLaws.{ok_is}
 use Rattle.litmus.specs.LitmusTests.{LitmusTest}
 use Rattle.recorder.specs.Versions.{ScheduleValue}
-use Rattle.engine_support.specs.declared.fault.Fault.{Fault}
-use Rattle.engine_support.specs.declared.fault.Refusal.{Refusal}
-use Rattle.engine_support.specs.Faults.{AnswersAs}
-use Rattle.engine_support.specs.Histories.{BySchedule}
-use Rattle.engine_support.specs.Schedules.{schedules}
-use Rattle.engine_support.specs.Tests.{tests}
-use Rattle.engine_support.specs.inner.Making.{FindsUpToReads}
-use Rattle.engine_support.specs.inner.Inputs.{AreRead, test_and_value}
+use Rattle.engine_support.specs.{Fault, Refusal, AnswersAs, BySchedule, schedules, tests, FindsUpToReads, AreRead, test_and_value}
 use Rattle.engine_support.proofs.Endings.{answered_by, handed_on, is_handed}
 use Rattle.engine_support.proofs.InputLaws.{made_more, refused_more}
 

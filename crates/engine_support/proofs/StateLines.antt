@@ -3,8 +3,7 @@ use Rattle.std.proofs.Common.{arith, ◌≡◌, ℕ, ◌+◌, ◌*◌, [], ◌++
 use Rattle.texts.proofs.ResultLaws.{some_is}
 use Rattle.hart.specs.State.{HartState}
 use Rattle.hart.specs.declared.status.Status.{Status}
-use Rattle.step_machine.specs.History.{History}
-use Rattle.step_machine.specs.Entries.{memory_word}
+use Rattle.step_machine.specs.Names.{History, memory_word}
 use Rattle.engine_support.specs.StateText.{hart_line, register_line, word_line, registers_shown, hart_text, hart_shown, harts_shown, words_shown}
 use Rattle.engine_support.proofs.Counted.{flat_map_counted}
 

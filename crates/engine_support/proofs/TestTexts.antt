@@ -6,17 +6,9 @@ use Rattle.litmus_reader.specs.declared.faults.LitmusFault.{LitmusFault}
 use Rattle.texts.specs.declared.errors.AtLine.{AtLine}
 use Rattle.texts.specs.declared.errors.TextError.{TextError}
 use Rattle.texts.specs.declared.errors.TextError.TheVariants as error
-use Rattle.litmus_reader.specs.Faults.{fault_of, litmus_number}
-use Rattle.litmus_reader.specs.Reading.{Content, test_at}
-use Rattle.engine_support.specs.declared.fault.Fault.{Fault}
-use Rattle.engine_support.specs.declared.fault.Fault.TheVariants.{ReadFailed, WriteFailed, NoMemory, Refused}
-use Rattle.engine_support.specs.declared.fault.Refusal.{Refusal}
-use Rattle.engine_support.specs.Faults.{Answers, AnswersAs, fault_for, refused_at}
-use Rattle.engine_support.specs.Engines.{decoded}
-use Rattle.engine_support.specs.Inputs.{IsReadAs, Reads}
-use Rattle.engine_support.specs.Tests.{litmus_texts, refused_test, test_of}
-use Rattle.engine_support.specs.inner.Inputs.{ReadsText}
-use Rattle.engine_support.specs.inner.Making.{FindsUpToReads}
+use Rattle.litmus_reader.specs.{fault_of, litmus_number, Content, test_at}
+use Rattle.engine_support.specs.{Fault, ReadFailed, WriteFailed, NoMemory, Refused, Refusal, Answers, AnswersAs, fault_for, refused_at, decoded, IsReadAs}
+use Rattle.engine_support.specs.{Reads, litmus_texts, refused_test, test_of, ReadsText, FindsUpToReads}
 use Rattle.engine_support.proofs.Judging.{decoded-text, decoded-well}
 use Rattle.engine_support.proofs.TextInputs.{answered_text}
 

@@ -2,15 +2,9 @@
 use Rattle.std.proofs.Common.{arith, ◌≡◌, ℕ, ◌≤◌, Bool, List, length, Result, Ok, Err, ◌∙◌}
 use Rattle.std.specs.Prelude.{Option, Some, None, IfOk, IsErrAnd, nat_lt, if◌then◌else◌}
 use Rattle.std.specs.Str.{IsUtf8, is_utf8}
-use Rattle.engine_support.specs.declared.fault.Fault.{Fault}
-use Rattle.engine_support.specs.declared.fault.Fault.TheVariants.{ReadFailed, WriteFailed, NoMemory, Refused}
-use Rattle.engine_support.specs.declared.fault.Refusal.{Refusal}
-use Rattle.engine_support.specs.Engines.{OfInput, decoded}
-use Rattle.engine_support.specs.Faults.{Answers, AnswersAs, not_text, too_large}
-use Rattle.engine_support.specs.Inputs.{After, Format, IsReadAs, Reads, format}
+use Rattle.engine_support.specs.{Fault, ReadFailed, WriteFailed, NoMemory, Refused, Refusal, OfInput, decoded, Answers, AnswersAs, not_text, too_large, After}
+use Rattle.engine_support.specs.{Format, IsReadAs, Reads, format, IsReadAsText, ReadsText, FindsUpToReads}
 use Rattle.engine_support.specs.Inputs as after
-use Rattle.engine_support.specs.inner.Inputs.{IsReadAsText, ReadsText}
-use Rattle.engine_support.specs.inner.Making.{FindsUpToReads}
 use Rattle.engine_support.proofs.Endings.{answered_by, handed_on, is_handed, weaker}
 use Rattle.engine_support.proofs.Judging.{decoded-as_text, decoded-no_text, decoded-text}
 

@@ -8,11 +8,7 @@ use Rattle.std.specs.Global.{Global}
 use Rattle.std.specs.Io.KnownBytes.{Appends}
 use Rattle.std.proofs.lemmas.Bool.{cases_Bool}
 use Rattle.std.proofs.lemmas.List.{append-nil}
-use Rattle.engine_support.specs.declared.fault.Fault.{Fault}
-use Rattle.engine_support.specs.declared.fault.Fault.TheVariants.{WriteFailed, NoMemory}
-use Rattle.engine_support.specs.Interactive.{OnStopped, OnUnwritten}
-use Rattle.engine_support.specs.inner.Failures.{IsFailure, IsReadFailure}
-use Rattle.engine_support.specs.inner.Making.{IsEndOf, text_and_value}
+use Rattle.engine_support.specs.{Fault, WriteFailed, NoMemory, OnStopped, OnUnwritten, IsFailure, IsReadFailure, IsEndOf, text_and_value}
 
 -- ---- what a writer holds, where that is known
 

@@ -5,16 +5,11 @@ use Rattle.std.proofs.lemmas.Bool.{cases_eq, and_parts}
 use Rattle.std.proofs.lemmas.Bool.Decides.{nat_tests}
 use Rattle.hart.specs.State.{HartState}
 use Rattle.hart.specs.declared.status.Status.TheVariants as status
-use Rattle.poll_close.proofs.Ring.{Decreases, runs, rank_of, next_by, SenderBlock, slot, slot_store}
-use Rattle.poll_close.proofs.Ring.{tail_store, unsent_of, unread_of, stands, SenderIs, Standing}
-use Rattle.poll_close.proofs.Ring.{none_left, singles-length, pairs-length, IsBlock, slot_at, stands_at}
-use Rattle.poll_close.proofs.Ring.{has_ended, nearer, BlockProgress, ranking_decreases, AllMayLoad}
-use Rattle.poll_close.proofs.Ring.{may_load}
-use Rattle.fastforward.specs.Listing.{fastforward}
-use Rattle.fastforward.specs.FastForward.{fastforward_blocks, fastforward_means, waits, fastforward_ranking}
-use Rattle.fastforward.specs.Invariant.Stores.{null_store, sender_stores, receiver_stores}
-use Rattle.fastforward.specs.Invariant.Counters.{Counters, sent, gone, taken_so_far, freed, CounterInvariant, Words}
-use Rattle.fastforward.specs.Invariant.Sender.{Marked, sender}
+use Rattle.poll_close.proofs.Ring.{Decreases, runs, rank_of, next_by, SenderBlock, slot, slot_store, tail_store, unsent_of, unread_of, stands, SenderIs}
+use Rattle.poll_close.proofs.Ring.{Standing, none_left, singles-length, pairs-length, IsBlock, slot_at, stands_at, has_ended, nearer, BlockProgress}
+use Rattle.poll_close.proofs.Ring.{ranking_decreases, AllMayLoad, may_load}
+use Rattle.fastforward.specs.{fastforward, fastforward_blocks, fastforward_means, waits, fastforward_ranking, null_store, sender_stores, receiver_stores}
+use Rattle.fastforward.specs.{Counters, sent, gone, taken_so_far, freed, CounterInvariant, Words, Marked, sender}
 use Rattle.fastforward.proofs.Sender.{fastforward_sender, reasons}
 use Rattle.fastforward.proofs.FastForwardLaws.{laws}
 

@@ -2,9 +2,7 @@
 use Rattle.std.proofs.Common.{ℕ, ◌≡◌, refl, arith, lit≤}
 use Rattle.std.proofs.Math.Nat.{zero-mod}
 use Rattle.poll_close.proofs.Ring.{SenderBlock, IsBlock, Within, word_of, slot_of, BlockLaws, Begins, opens_with, ◌&◌, sends, AllLaws, all_laws, words_of}
-use Rattle.fastforward.specs.Listing.{listing, fastforward}
-use Rattle.fastforward.specs.FastForward.{fastforward_blocks, fastforward_means}
-use Rattle.fastforward.specs.Invariant.Counters.{Counters, Landed, Words}
+use Rattle.fastforward.specs.{listing, fastforward, fastforward_blocks, fastforward_means, Counters, Landed, Words}
 use Rattle.fastforward.proofs.Means.{receiver_decoded}
 use Rattle.fastforward.proofs.Stores.{sender_stores_are, receiver_stores_are}
 use Rattle.fastforward.proofs.Landings.{sender_lands, receiver_lands}

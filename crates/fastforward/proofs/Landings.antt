@@ -7,9 +7,7 @@ use Rattle.poll_close.specs.Invariant.Blocks.{SenderBlock, offset, slot}
 use Rattle.poll_close.proofs.Writes.{IsWrite, hit, miss, same_write}
 use Rattle.poll_close.proofs.Blocks.{IsBlock}
 use Rattle.poll_close.proofs.BlockLaws.{Lands}
-use Rattle.fastforward.specs.FastForward.{fastforward_blocks}
-use Rattle.fastforward.specs.Invariant.Stores.{sender_stores, receiver_stores}
-use Rattle.fastforward.specs.Invariant.Counters.{Counters, sent, gone, nulls, taken_so_far, freed, CounterInvariant, Words}
+use Rattle.fastforward.specs.{fastforward_blocks, sender_stores, receiver_stores, Counters, sent, gone, nulls, taken_so_far, freed, CounterInvariant, Words}
 use Rattle.fastforward.proofs.Stores.{slots_apart, slot-again, store_word, store_mark, store_null, store_tail, store_done}
 
 -- a store of the sender

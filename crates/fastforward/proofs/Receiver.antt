@@ -1,26 +1,20 @@
 -- The reasons of the receiver's rows at its five lines between.
-use Rattle.std.proofs.Common.{ℕ, ◌+◌, ◌*◌, ◌<◌, ◌≤◌, ◌≡◌, ◌≢◌, ◌==◌, ◌⊎◌, inl, inr, Bool, true, false, not, ◌&&◌, []}
-use Rattle.std.proofs.Common.{◌∷◌, length, Some, refl, sym, ◌∙◌, ap, subst, arith}
+use Rattle.std.proofs.Common.{ℕ, ◌+◌, ◌*◌, ◌<◌, ◌≤◌, ◌≡◌, ◌≢◌, ◌==◌, ◌⊎◌, inl, inr, Bool, true, false, not, ◌&&◌, [], ◌∷◌, length, Some, refl, sym, ◌∙◌, ap}
+use Rattle.std.proofs.Common.{subst, arith}
 use Rattle.std.specs.Prelude.{map}
 use Rattle.std.specs.List.{slice_get}
 use Rattle.std.proofs.lemmas.Bool.{cases_lt, cases_eq, and_parts}
 use Rattle.std.proofs.lemmas.Bool.Decides.{nat_tests}
 use Rattle.rv_decode.specs.declared.instruction.Instr.{Instr}
 use Rattle.hart.proofs.Instructions.{IsAt}
-use Rattle.poll_close.specs.Rankings.{runs}
-use Rattle.poll_close.specs.Invariant.Blocks.{SenderBlock, offset, slot}
-use Rattle.poll_close.specs.Invariant.ReceiverState.{ReceiverRegisters, whole_of, receiving}
-use Rattle.poll_close.specs.Invariant.BlockInvariant.{Flag, unread_of}
+use Rattle.poll_close.specs.{runs, SenderBlock, offset, slot, ReceiverRegisters, whole_of, receiving, Flag, unread_of}
 use Rattle.step_machine.proofs.Lines.{loads, stores, sum_line, load_line, store_line, same_jumps, other_goes_on}
 use Rattle.poll_close.proofs.Blocks.{IsBlock, offset_low, word_of, word_from, slot_of, slot_at}
 use Rattle.poll_close.proofs.BlockLaws.{found_in, Changes, Right_at}
 use Rattle.poll_close.proofs.Distance.{flags, far_off}
 use Rattle.poll_close.proofs.ReceiverMoves as step
 use Rattle.rv_decode.specs.Listings.{lines_of}
-use Rattle.fastforward.specs.Listing.{ring_lines, listing}
-use Rattle.fastforward.specs.FastForward.{fastforward_blocks}
-use Rattle.fastforward.specs.Invariant.Counters.{Counters, nulls, CounterInvariant, Words}
-use Rattle.fastforward.specs.Invariant.RingLines.{Loaded, Empty}
+use Rattle.fastforward.specs.{ring_lines, listing, fastforward_blocks, Counters, nulls, CounterInvariant, Words, Loaded, Empty}
 use Rattle.fastforward.proofs.Means.{receiver_decoded}
 use Rattle.fastforward.proofs.ReceiverReads.{seen_tail, seen_word, seen_none}
 use Rattle.fastforward.proofs.ReceiverActs.{stores_null}

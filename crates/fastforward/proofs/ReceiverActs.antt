@@ -3,9 +3,7 @@
 use Rattle.std.proofs.Common.{ℕ, ◌+◌, ◌<◌, ◌≡◌, [], ◌∷◌, length, refl, arith, ◌≤◌}
 use Rattle.poll_close.specs.Invariant.Blocks.{SenderBlock, offset, slot}
 use Rattle.poll_close.proofs.BlockLaws.{Changes, Stepped}
-use Rattle.fastforward.specs.FastForward.{fastforward_blocks}
-use Rattle.fastforward.specs.Invariant.Counters.{Counters, nulls, taken_so_far, CounterInvariant}
-use Rattle.fastforward.specs.Invariant.RingLines.{Level, Filled}
+use Rattle.fastforward.specs.{fastforward_blocks, Counters, nulls, taken_so_far, CounterInvariant, Level, Filled}
 use Rattle.fastforward.proofs.Stores.{store_null, store_tail, store_done}
 
 -- the receiver's own numbers grow

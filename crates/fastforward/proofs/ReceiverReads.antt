@@ -3,14 +3,11 @@ use Rattle.std.proofs.Common.{ℕ, zero, suc, ◌+◌, ◌*◌, ◌<◌, ◌≤�
 use Rattle.std.specs.Prelude.{slice_index}
 use Rattle.std.specs.List.{slice_get}
 use Rattle.std.proofs.lemmas.Bool.{cases_lt, cases_eq}
-use Rattle.poll_close.specs.Invariant.Blocks.{SenderBlock, offset, slot}
-use Rattle.poll_close.specs.Invariant.BlockInvariant.{unread_of}
+use Rattle.poll_close.specs.{SenderBlock, offset, slot, unread_of}
 use Rattle.poll_close.proofs.Found.{in_memory, none_pending, newest_found, last_found}
 use Rattle.poll_close.proofs.Blocks.{IsBlock}
 use Rattle.poll_close.proofs.BlockLaws.{found_in}
-use Rattle.fastforward.specs.FastForward.{fastforward_blocks}
-use Rattle.fastforward.specs.Invariant.Stores.{receiver_stores}
-use Rattle.fastforward.specs.Invariant.Counters.{Counters, nulls, taken_so_far, freed, CounterInvariant, Words}
+use Rattle.fastforward.specs.{fastforward_blocks, receiver_stores, Counters, nulls, taken_so_far, freed, CounterInvariant, Words}
 use Rattle.fastforward.proofs.Stores.{slots_apart, slot-again, store_null, store_tail, store_done, Place, place_at}
 
 module _ (k : SenderBlock) (n : Counters) (word : ℕ → ℕ) (order : CounterInvariant k n) (words : Words k n.landed word) where

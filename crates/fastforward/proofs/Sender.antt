@@ -3,17 +3,11 @@ use Rattle.std.proofs.Common.{ℕ, suc, ◌+◌, ◌<◌, ◌≤◌, ◌≡◌, 
 use Rattle.std.specs.Prelude.{slice_index}
 use Rattle.std.specs.List.{slice_get}
 use Rattle.std.proofs.lemmas.Bool.{cases_eq, not-false}
-use Rattle.step_machine.proofs.Lines.{word-plus}
-use Rattle.step_machine.proofs.Modulo.{offset_step, offset_wrap}
-use Rattle.poll_close.proofs.Ring.{lines_of, SenderBlock, offset, slot, SenderRegisters, unsent_of}
-use Rattle.poll_close.proofs.Ring.{Reasons, in_memory, newest_found, IsBlock, base_plus, offset_low}
-use Rattle.poll_close.proofs.Ring.{word_of, slot_at, found_in, Sender, Right, ◌&◌, Rows, rows}
+use Rattle.step_machine.proofs.{word-plus, offset_step, offset_wrap}
+use Rattle.poll_close.proofs.Ring.{lines_of, SenderBlock, offset, slot, SenderRegisters, unsent_of, Reasons, in_memory, newest_found, IsBlock, base_plus}
+use Rattle.poll_close.proofs.Ring.{offset_low, word_of, slot_at, found_in, Sender, Right, ◌&◌, Rows, rows}
 use Rattle.poll_close.proofs.Outlines as outline
-use Rattle.fastforward.specs.Listing.{listing}
-use Rattle.fastforward.specs.FastForward.{fastforward_blocks}
-use Rattle.fastforward.specs.Invariant.Stores.{sender_stores}
-use Rattle.fastforward.specs.Invariant.Counters.{Counters, sent, gone, CounterInvariant, Words}
-use Rattle.fastforward.specs.Invariant.Sender.{sender}
+use Rattle.fastforward.specs.{listing, fastforward_blocks, sender_stores, Counters, sent, gone, CounterInvariant, Words, sender}
 use Rattle.fastforward.proofs.Means.{sender_decoded}
 use Rattle.fastforward.proofs.Stores.{slots_apart, slot-again, store_word, store_mark, word_at}
 

@@ -1,13 +1,11 @@
 -- Each event of a shortest schedule is an entry of its run.
-use Rattle.std.proofs.Common.{◌≡◌, ℕ, ◌<◌, ◌⊎◌, inl, inr, List, [], ◌∷◌, ◌++◌, length, map}
-use Rattle.std.proofs.Common.{refl, sym, ap, subst, ◌∙◌, arith, append_assoc}
+use Rattle.std.proofs.Common.{◌≡◌, ℕ, ◌<◌, ◌⊎◌, inl, inr, List, [], ◌∷◌, ◌++◌, length, map, refl, sym, ap, subst, ◌∙◌, arith, append_assoc}
 use Rattle.std.proofs.lemmas.List.{append-nil}
 use Rattle.step_machine.specs.declared.events.Event.{Event}
 use Rattle.step_machine.specs.declared.events.Entry.{Entry}
 use Rattle.step_machine.specs.declared.events.Outcome.{Outcome}
 use Rattle.step_machine.specs.declared.events.Outcome.TheVariants as outcome
-use Rattle.step_machine.specs.History.{History, at_opening}
-use Rattle.step_machine.specs.Runs.{Happens, RunFrom, event_of}
+use Rattle.step_machine.specs.Names.{History, at_opening, Happens, RunFrom, event_of}
 use Rattle.step_machine.proofs.Follows.{event_of-for}
 use Rattle.litmus.specs.LitmusTests.{LitmusTest}
 use Rattle.surveys.specs.Wanted.{Shows}

@@ -1,6 +1,6 @@
 -- Seats that come back with perhaps more in their diaries, and what is known of them by those given.
-use Rattle.std.proofs.Common.{arith, inl, inr, ◌≡◌, ℕ, ◌+◌, ◌<◌, Bool, true, not, ◌&&◌, eqb, cond, List, [], ◌∷◌, ◌++◌}
-use Rattle.std.proofs.Common.{length, get_or, refl, sym, ◌∙◌, ap, subst, append_assoc}
+use Rattle.std.proofs.Common.{arith, inl, inr, ◌≡◌, ℕ, ◌+◌, ◌<◌, Bool, true, not, ◌&&◌, eqb, cond, List, [], ◌∷◌, ◌++◌, length, get_or, refl, sym, ◌∙◌, ap}
+use Rattle.std.proofs.Common.{subst, append_assoc}
 use Rattle.std.specs.Prelude.{map, fold, count_by, All}
 use Rattle.std.specs.List.{AllZip, list_any, Contains}
 use Rattle.std.proofs.lemmas.Bool.{cases_lt, eq-eqb, true≢false}
@@ -9,13 +9,8 @@ use Rattle.std.proofs.lemmas.Slice.Zip.{all_zipped_more}
 use Rattle.std.proofs.lemmas.List.Folds.{list_any-from_Any}
 use Rattle.step_machine.specs.declared.events.Entry.{Entry}
 use Rattle.step_machine.specs.History.{OpeningValue}
-use Rattle.hart_threads.specs.Seats.{SeatView, Continues}
-use Rattle.hart_threads.specs.Missing.{is_missing, IsFirst, IsComplete, sits_at, acts_for, lands_for}
-use Rattle.hart_threads.specs.Parts.{HoldsPart, Merge}
-use Rattle.hart_threads.specs.Records.{Refuses}
-use Rattle.hart_threads.specs.Returns.{GrowsInto, IsMerged, Fails}
-use Rattle.hart_threads.specs.Faults.{fault_of}
-use Rattle.hart_threads.specs.declared.record.Gather.{Gather}
+use Rattle.hart_threads.specs.{SeatView, Continues, is_missing, IsFirst, IsComplete, sits_at, acts_for, lands_for, HoldsPart, Merge, Refuses, GrowsInto}
+use Rattle.hart_threads.specs.{IsMerged, Fails, fault_of, Gather}
 use Rattle.hart_threads.specs.declared.record.Gather.TheVariants as gather
 use Rattle.hart_threads.proofs.FirstMissing.{missing_past}
 

@@ -1,17 +1,14 @@
 -- A diary against its part of the entries, entry by entry.
-use Rattle.std.proofs.Common.{◌≡◌, ℕ, ◌+◌, ◌<◌, Bool, true, false, not, cond, List, [], ◌∷◌, ◌++◌, length, get_or, take}
-use Rattle.std.proofs.Common.{drop, Option, Some, None, refl, sym, ◌∙◌, ap, arith, append-nil, append_assoc}
+use Rattle.std.proofs.Common.{◌≡◌, ℕ, ◌+◌, ◌<◌, Bool, true, false, not, cond, List, [], ◌∷◌, ◌++◌, length, get_or, take, drop, Option, Some, None, refl, sym}
+use Rattle.std.proofs.Common.{◌∙◌, ap, arith, append-nil, append_assoc}
 use Rattle.std.specs.Prelude.{MatchBool, All, is_some}
 use Rattle.std.specs.List.{filter, slice_get}
 use Rattle.std.proofs.Math.Seq.{get_or-append_seam, take-length}
 use Rattle.std.proofs.lemmas.List.{take-append-drop, length-append}
 use Rattle.std.proofs.lemmas.List.Elements.{filter-append, filter_more}
 use Rattle.step_machine.specs.declared.events.Entry.{Entry}
-use Rattle.step_machine.specs.Entries.{own, is_own}
-use Rattle.hart_threads.specs.Seats.{SeatView}
-use Rattle.step_machine.specs.Placing.{IsOwn}
-use Rattle.hart_threads.specs.Parts.{HoldsPart, HasPart, part_of}
-use Rattle.hart_threads.specs.inner.Searches.{counting_entries, keeps}
+use Rattle.step_machine.specs.Names.{own, is_own, IsOwn}
+use Rattle.hart_threads.specs.{SeatView, HoldsPart, HasPart, part_of, counting_entries, keeps}
 
 own-filter : (h : ℕ) (es : List Entry) → own h es ≡ filter (is_own h) es
 own-filter h [] = refl

@@ -6,9 +6,7 @@ use Rattle.std.proofs.lemmas.Bool.{cases_lt, eq-eqb, le-ltb, lt-ltb, ne_eqb}
 use Rattle.std.proofs.lemmas.Bool.Decides.{nat_tests}
 use Rattle.std.proofs.lemmas.List.Elements.{All-weaker}
 use Rattle.std.proofs.lemmas.List.Folds.{list_any_none, list_any-from_Any}
-use Rattle.hart_threads.specs.Seats.{SeatView}
-use Rattle.hart_threads.specs.Missing.{is_missing, is_seated, IsFirst, IsComplete, sits_at}
-use Rattle.hart_threads.specs.inner.Searches.{Found}
+use Rattle.hart_threads.specs.{SeatView, is_missing, is_seated, IsFirst, IsComplete, sits_at, Found}
 
 pub missing_within : (n h : ℕ) (seats : List SeatView) → h < n → is_missing n seats h ≡ not (is_seated h seats)
 unfolding is_missing

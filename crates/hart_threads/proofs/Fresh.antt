@@ -6,10 +6,7 @@ use Rattle.std.proofs.lemmas.Bool.{cases_lt}
 use Rattle.std.proofs.lemmas.List.Elements.{All-nil, All-cons, All-append, All-contains, Contains-append_left, Contains-append_right}
 use Rattle.step_machine.specs.declared.events.Entry.{Entry}
 use Rattle.step_machine.specs.History.{OpeningValue, History}
-use Rattle.hart_threads.specs.Seats.{SeatView, acting_seat, landing_seat, seats_below, seats_of}
-use Rattle.hart_threads.specs.Parts.{part_of}
-use Rattle.hart_threads.specs.GettingOn.{OpensAs, AtMost, SeatGetsOn, AllGetOn}
-use Rattle.hart_threads.specs.Returns.{GrowsInto, IsMerged}
+use Rattle.hart_threads.specs.{SeatView, acting_seat, landing_seat, seats_below, seats_of, part_of, OpensAs, AtMost, SeatGetsOn, AllGetOn, GrowsInto, IsMerged}
 
 -- ---- each hart's seats are among them
 

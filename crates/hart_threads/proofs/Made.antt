@@ -5,12 +5,8 @@ use Rattle.step_machine.specs.declared.events.Entry.{Entry}
 use Rattle.step_machine.specs.declared.events.Event.{Event}
 use Rattle.step_machine.specs.declared.events.Outcome.{Outcome}
 use Rattle.step_machine.specs.declared.events.Outcome.TheVariants as outcome
-use Rattle.step_machine.specs.History.{OpeningValue, History, history_of}
-use Rattle.step_machine.specs.Entries.{hart_of}
-use Rattle.step_machine.specs.Legal.{WellFormed}
-use Rattle.step_machine.specs.Runs.{CanFollow, Happens, event_of}
-use Rattle.step_machine.proofs.OwnRuns.{kept-front, added}
-use Rattle.step_machine.proofs.Running.{happens-one}
+use Rattle.step_machine.specs.Names.{OpeningValue, History, history_of, hart_of, WellFormed, CanFollow, Happens, event_of}
+use Rattle.step_machine.proofs.{kept-front, added, happens-one}
 
 -- each of its entries can follow those before it
 follows : (B M : ℕ) (o : OpeningValue) (es : List Entry) (i : ℕ) (d : Entry) → i < length es

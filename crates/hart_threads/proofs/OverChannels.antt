@@ -1,14 +1,9 @@
 -- A record of a channel's opening is a run of it, so that the laws of channels speak of it.
 use Rattle.std.proofs.Common.{arith, ◌≡◌, ℕ, List, subst}
-use Rattle.step_machine.specs.History.{OpeningValue}
-use Rattle.step_machine.specs.Runs.{Run}
+use Rattle.step_machine.specs.Names.{OpeningValue, Run}
 use Rattle.poll_close.specs.Layout.{Layout}
 use Rattle.poll_close.specs.Laws.{Ring, opening_over, AcceptedAt}
-use Rattle.hart_threads.specs.declared.fault.ChannelFault.{ChannelFault}
-use Rattle.hart_threads.specs.declared.record.Record.{Record}
-use Rattle.hart_threads.specs.Records.{IsRecord}
-use Rattle.hart_threads.specs.Faults.{channel_fault_at}
-use Rattle.hart_threads.specs.Returns.{RecordFails, ChannelFailsAt}
+use Rattle.hart_threads.specs.{ChannelFault, Record, IsRecord, channel_fault_at, RecordFails, ChannelFailsAt}
 
 pub run_of : (B M : ℕ) (o p : OpeningValue) (r : Record B M) → o ≡ p → IsRecord B M o r → Run B M p r.events.items r.trace
 run_of B M o p r is made = subst (λ (q : OpeningValue). Run B M q r.events.items r.trace) is made.run

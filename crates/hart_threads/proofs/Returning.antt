@@ -6,18 +6,10 @@ use Rattle.std.proofs.lemmas.List.{get_or-map, length-map}
 use Rattle.std.proofs.lemmas.List.Elements.{All-contains}
 use Rattle.hart.specs.State.{HartState}
 use Rattle.step_machine.specs.declared.events.Entry.{Entry}
-use Rattle.step_machine.specs.History.{HartOpeningValue, OpeningValue, History}
-use Rattle.step_machine.specs.Entries.{own}
-use Rattle.step_machine.specs.Paths.{after_entries, opens_as, state_of}
-use Rattle.hart_threads.specs.Seats.{SeatView, AsksBank, Continues, state_in}
-use Rattle.hart_threads.specs.Missing.{IsComplete}
-use Rattle.hart_threads.specs.Parts.{HoldsPart, Merge, IsLeast, landings}
-use Rattle.hart_threads.specs.GettingOn.{GetsOn, SeatGetsOn, OpensAs}
-use Rattle.hart_threads.specs.GettingOn.GetsOn.{over, goes, waits}
-use Rattle.hart_threads.specs.declared.turns.Ending.{Ending}
-use Rattle.hart_threads.specs.declared.turns.Calls.{Calls}
+use Rattle.step_machine.specs.Names.{HartOpeningValue, OpeningValue, History, own, after_entries, opens_as, state_of}
+use Rattle.hart_threads.specs.{SeatView, AsksBank, Continues, state_in, IsComplete, HoldsPart, Merge, IsLeast, landings, GetsOn, SeatGetsOn, OpensAs, over}
+use Rattle.hart_threads.specs.{goes, waits, Ending, Calls, Ran, WhereDone, GotOn}
 use Rattle.hart_threads.specs.declared.turns.Ending.TheVariants as ending
-use Rattle.hart_threads.specs.inner.Threads.{Ran, WhereDone, GotOn}
 use Rattle.hart_threads.proofs.Coming.{zip_left, zip_right, zip_after, harts_within}
 use Rattle.hart_threads.proofs.GettingOn.{same_role}
 

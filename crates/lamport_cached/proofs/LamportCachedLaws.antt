@@ -3,11 +3,9 @@ use Rattle.std.proofs.Common.{◌≡◌, refl, ◌∙◌, ap, arith, lit≤}
 use Rattle.std.proofs.Math.Nat.{zero-mod}
 use Rattle.std.specs.Prelude.{slice_index}
 use Rattle.hart.specs.State.{HartState}
-use Rattle.poll_close.proofs.Ring.{Decreases, rank_of, next_by, SenderBlock, Standing, IsBlock}
-use Rattle.poll_close.proofs.Ring.{BlockLaws, opens_with, stands_at, AllLaws, all_laws, ranking_decreases}
-use Rattle.poll_close.proofs.Ring.{AllMayLoad}
-use Rattle.lamport_ring.specs.Invariant.Counters.{Sent}
-use Rattle.lamport_ring.specs.Invariant.Programs.{outline_of}
+use Rattle.poll_close.proofs.Ring.{Decreases, rank_of, next_by, SenderBlock, Standing, IsBlock, BlockLaws, opens_with, stands_at, AllLaws, all_laws}
+use Rattle.poll_close.proofs.Ring.{ranking_decreases, AllMayLoad}
+use Rattle.lamport_ring.specs.{Sent, outline_of}
 use Rattle.lamport_ring.proofs.Laws.{Reads, SenderLaws, block_laws, nothing}
 use Rattle.lamport_ring.proofs.Decreasing.{progress, loads_tail}
 use Rattle.lamport_ring.proofs.SenderSteps.{none_read}

@@ -5,13 +5,11 @@ use Rattle.std.specs.List.{slice_get}
 use Rattle.std.proofs.lemmas.Bool.{cases_lt, cases_eq}
 use Rattle.step_machine.proofs.Modulo.{mod_apart}
 use Rattle.poll_close.proofs.Writes.{IsWrite, hit, miss, same_write}
-use Rattle.lamport_ring.specs.Invariant.Stores.{sender_stores, receiver_stores}
+use Rattle.lamport_ring.specs.{sender_stores, receiver_stores, Counters, sent, gone, freed, taken_so_far, CounterInvariant, Words, Program, blocks_of}
 use Rattle.lamport_ring.proofs.Stores.{store_slot, store_head, store_mark, store_tail, store_done}
 use Rattle.poll_close.specs.Invariant.Blocks.{SenderBlock, offset, slot}
-use Rattle.lamport_ring.specs.Invariant.Counters.{Counters, sent, gone, freed, taken_so_far, CounterInvariant, Words}
 use Rattle.poll_close.proofs.Blocks.{IsBlock}
 use Rattle.poll_close.proofs.BlockLaws.{Lands}
-use Rattle.lamport_ring.specs.Invariant.Programs.{Program, blocks_of}
 
 module _ (p : Program) (k : SenderBlock) (is : IsBlock k) (n : Counters) (order : CounterInvariant k n) (word new : ℕ → ℕ)
     (words : Words k n.landed word) where

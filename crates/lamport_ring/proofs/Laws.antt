@@ -3,11 +3,9 @@ use Rattle.std.proofs.Common.{ℕ, ◌+◌, ◌<◌, ◌≤◌, ◌≡◌, [], �
 use Rattle.std.proofs.Math.Nat.{zero-mod}
 use Rattle.std.specs.Prelude.{slice_index}
 use Rattle.hart.specs.State.{HartState}
-use Rattle.poll_close.proofs.Ring.{SenderBlock, offset, SenderRegisters, Standing, Reasons, IsBlock, Within}
-use Rattle.poll_close.proofs.Ring.{base_word, word_of, slot_of, BlockLaws, Begins, Stepped}
-use Rattle.poll_close.proofs.Ring.{opens_with, Sender, Right, ◌&◌, sends}
-use Rattle.lamport_ring.specs.Invariant.Programs.{Program, outline_of, blocks_of}
-use Rattle.lamport_ring.specs.Invariant.Counters.{Sent, Counters, Landed, taken_so_far, CounterInvariant, Words}
+use Rattle.poll_close.proofs.Ring.{SenderBlock, offset, SenderRegisters, Standing, Reasons, IsBlock, Within, base_word, word_of, slot_of, BlockLaws, Begins}
+use Rattle.poll_close.proofs.Ring.{Stepped, opens_with, Sender, Right, ◌&◌, sends}
+use Rattle.lamport_ring.specs.{Program, outline_of, blocks_of, Sent, Counters, Landed, taken_so_far, CounterInvariant, Words}
 use Rattle.lamport_ring.proofs.Means.{receiver_decoded}
 use Rattle.lamport_ring.proofs.Stores.{store_tail, store_done, sender_stores_are, receiver_stores_are}
 use Rattle.lamport_ring.proofs.Landings.{sender_lands, receiver_lands}

@@ -1,7 +1,6 @@
 -- The tables mean the listings.
 use Rattle.std.specs.Prelude.{◌≡◌, refl, Some, map}
-use Rattle.rv_decode.specs.Meaning.{meaning}
-use Rattle.rv_decode.specs.Listings.{words_of, lines_of}
+use Rattle.rv_decode.specs.{meaning, words_of, lines_of}
 use Rattle.lamport_ring.specs.Listing.{listing}
 
 -- by the decoder's own function, on numerals

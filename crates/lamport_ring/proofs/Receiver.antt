@@ -1,27 +1,19 @@
 -- The reasons of the receiver's rows at its five lines between.
-use Rattle.std.proofs.Common.{ℕ, ◌+◌, ◌*◌, ◌%◌, ◌<◌, ◌≡◌, ◌≢◌, ◌==◌, ◌⊎◌, inl, inr, Bool, true, false, not, ◌&&◌}
-use Rattle.std.proofs.Common.{length, Some, refl, sym, ◌∙◌, ap, arith}
+use Rattle.std.proofs.Common.{ℕ, ◌+◌, ◌*◌, ◌%◌, ◌<◌, ◌≡◌, ◌≢◌, ◌==◌, ◌⊎◌, inl, inr, Bool, true, false, not, ◌&&◌, length, Some, refl, sym, ◌∙◌, ap, arith}
 use Rattle.std.specs.Prelude.{slice_index, map}
 use Rattle.std.specs.List.{slice_get}
 use Rattle.std.proofs.lemmas.Bool.{cases_eq, and_parts}
 use Rattle.std.proofs.lemmas.Bool.Decides.{nat_tests}
 use Rattle.rv_decode.specs.declared.instruction.Instr.{Instr}
 use Rattle.hart.proofs.Instructions.{IsAt}
-use Rattle.poll_close.specs.Reports.{taken}
-use Rattle.poll_close.specs.Rankings.{runs}
-use Rattle.poll_close.specs.Invariant.Blocks.{SenderBlock, offset, slot}
-use Rattle.poll_close.specs.Invariant.ReceiverState.{ReceiverRegisters, whole_of, receiving}
-use Rattle.poll_close.specs.Invariant.BlockInvariant.{Flag}
-use Rattle.step_machine.proofs.Lines.{loads, sum_line, load_line, same_jumps, other_goes_on}
-use Rattle.step_machine.proofs.Modulo.{same_offset}
+use Rattle.poll_close.specs.{taken, runs, SenderBlock, offset, slot, ReceiverRegisters, whole_of, receiving, Flag}
+use Rattle.step_machine.proofs.{loads, sum_line, load_line, same_jumps, other_goes_on, same_offset}
 use Rattle.poll_close.proofs.Blocks.{IsBlock, offset_low, base_word, word_of, word_from, slot_of, slot_at}
 use Rattle.poll_close.proofs.BlockLaws.{Right_at}
 use Rattle.poll_close.proofs.Distance.{flags, far_off}
 use Rattle.poll_close.proofs.ReceiverMoves as step
 use Rattle.rv_decode.specs.Listings.{lines_of}
-use Rattle.lamport_ring.specs.Listing.{ring_lines, listing}
-use Rattle.lamport_ring.specs.Invariant.Programs.{Program, blocks_of}
-use Rattle.lamport_ring.specs.Invariant.Counters.{Counters, CounterInvariant, Words}
+use Rattle.lamport_ring.specs.{ring_lines, listing, Program, blocks_of, Counters, CounterInvariant, Words}
 use Rattle.lamport_ring.proofs.Means.{receiver_decoded}
 use Rattle.lamport_ring.proofs.ReceiverReads.{seen_head, seen_tail, seen_slot}
 

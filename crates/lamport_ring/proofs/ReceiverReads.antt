@@ -7,9 +7,8 @@ use Rattle.poll_close.specs.Invariant.Blocks.{SenderBlock, offset, slot, tail_st
 use Rattle.poll_close.proofs.Windows.{singles-each}
 use Rattle.poll_close.proofs.Found.{in_memory, none_pending, last_found}
 use Rattle.poll_close.proofs.BlockLaws.{found_in}
-use Rattle.lamport_ring.specs.Invariant.Stores.{receiver_stores}
+use Rattle.lamport_ring.specs.{receiver_stores, Counters, CounterInvariant, Words, freed, taken_so_far}
 use Rattle.lamport_ring.proofs.Stores.{store_tail, store_done}
-use Rattle.lamport_ring.specs.Invariant.Counters.{Counters, CounterInvariant, Words, freed, taken_so_far}
 
 -- a tail store is none to the done word
 none_done : (k : SenderBlock) (t : ℕ) (x : ℕ × ℕ) → t < length k.list → slice_get (receiver_stores k) t ≡ Some x → x.0 ≢ k.base + 12

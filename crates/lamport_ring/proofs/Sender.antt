@@ -2,9 +2,7 @@
 use Rattle.std.proofs.Common.{ℕ, suc, ◌+◌, ◌≡◌, ◌==◌, false, refl, sym, ◌∙◌, ap, arith}
 use Rattle.poll_close.proofs.Ring.{lines_of, SenderBlock, SenderRegisters, IsBlock, base_plus, word_of, slot_at, Sender, Rows, rows}
 use Rattle.poll_close.proofs.Outlines as outline
-use Rattle.lamport_ring.specs.Listing.{listing}
-use Rattle.lamport_ring.specs.Lamport.{lamport_blocks}
-use Rattle.lamport_ring.specs.Invariant.Counters.{Counters, CounterInvariant, Words}
+use Rattle.lamport_ring.specs.{listing, lamport_blocks, Counters, CounterInvariant, Words}
 use Rattle.lamport_ring.proofs.Means.{sender_decoded}
 use Rattle.lamport_ring.proofs.SenderSteps as step
 

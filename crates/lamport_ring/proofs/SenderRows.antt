@@ -1,9 +1,7 @@
 -- All rows of the sender's outline. They stand apart from their reasons: what refuses an edit there is then that row alone.
 use Rattle.std.proofs.Common.{ℕ}
 use Rattle.poll_close.proofs.Ring.{SenderBlock, SenderRegisters, Reasons, IsBlock, Right, ◌&◌}
-use Rattle.lamport_ring.specs.Invariant.Counters.{Counters, CounterInvariant, Words}
-use Rattle.lamport_ring.specs.Lamport.{lamport_blocks}
-use Rattle.lamport_ring.specs.Invariant.Sender.{lamport_program}
+use Rattle.lamport_ring.specs.{Counters, CounterInvariant, Words, lamport_blocks, lamport_program}
 use Rattle.lamport_ring.proofs.Sender.{lamport_sender}
 use Rattle.lamport_ring.proofs.Sender as row
 

@@ -1,13 +1,9 @@
 -- The symbols that are taken are those with which a condition begins.
 use Rattle.std.proofs.Common.{arith, ◌≡◌, ◌∙◌, ap, List, [], ◌∷◌, ◌++◌, Option, Some, None, Ok, Err, refl}
 use Rattle.litmus.specs.declared.symbols.Place.TheVariants as place
-use Rattle.litmus.specs.declared.symbols.Symbol.{Symbol}
+use Rattle.litmus.specs.{Symbol, Formula, is, Begins, Group, Stage, awaits, has, empty_group, disjunction_of, negated_by, all_taken, stage_after, formula_at}
+use Rattle.litmus.specs.{or_misplaced, with_symbol, symbol_added, formula_of_symbols, Build, build_at}
 use Rattle.litmus.specs.declared.symbols.Symbol.TheVariants as symbol
-use Rattle.litmus.specs.Formulas.{Formula, is}
-use Rattle.litmus.specs.Grammar.{Begins}
-use Rattle.litmus.specs.Drafting.{Group, Stage, awaits, has, empty_group, disjunction_of, negated_by, all_taken}
-use Rattle.litmus.specs.Drafting.{stage_after, formula_at, or_misplaced, with_symbol, symbol_added, formula_of_symbols}
-use Rattle.litmus.specs.inner.Building.{Build, build_at}
 use Rattle.litmus.proofs.StageLaws.{all_taken-append}
 use Rattle.litmus.proofs.GrammarLaws.{finished_only}
 use Rattle.litmus.proofs.FrontLaws.{finished-found}

@@ -1,20 +1,14 @@
 -- What is built symbol by symbol is what stands built at the stage of the symbols.
-use Rattle.std.proofs.Common.{◌≡◌, ◌∙◌, ◌+◌, ◌-◌, sym, ap, ℕ, false, suc, zero, List, [], ◌∷◌, ◌++◌, length, replicate}
-use Rattle.std.proofs.Common.{slice_set, Option, Some, None, refl, arith, append_assoc, length-append}
+use Rattle.std.proofs.Common.{◌≡◌, ◌∙◌, ◌+◌, ◌-◌, sym, ap, ℕ, false, suc, zero, List, [], ◌∷◌, ◌++◌, length, replicate, slice_set, Option, Some, None, refl}
+use Rattle.std.proofs.Common.{arith, append_assoc, length-append}
 use Rattle.std.specs.List.{slice_get}
 use Rattle.std.proofs.Math.Seq.{take-append_seam, set-append_seam}
 use Rattle.std.proofs.lemmas.List.{append-nil}
-use Rattle.litmus.specs.declared.symbols.Symbol.{Symbol}
+use Rattle.litmus.specs.{Symbol, Step, Frame, Formula, is, steps_of, Group, Stage, awaits, has, negated_by, conjoined, disjoined, conjunction_of}
+use Rattle.litmus.specs.{disjunction_of, completed, next_stage, Build, and_closed, or_closed, all_closed, with_operand, with_and, with_or, with_close, built}
+use Rattle.litmus.specs.{empty_mark, or_steps, and_steps, steps_around, end_of, mark_of, marks_around, build_of, build_at}
 use Rattle.litmus.specs.declared.symbols.Symbol.TheVariants as symbol
-use Rattle.litmus.specs.declared.symbols.Step.{Step}
 use Rattle.litmus.specs.declared.symbols.Step.TheVariants as step
-use Rattle.litmus.specs.declared.symbols.Frame.{Frame}
-use Rattle.litmus.specs.Formulas.{Formula, is}
-use Rattle.litmus.specs.Steps.{steps_of}
-use Rattle.litmus.specs.Drafting.{Group, Stage, awaits, has, negated_by, conjoined, disjoined, conjunction_of, disjunction_of, completed, next_stage}
-use Rattle.litmus.specs.inner.Building.{Build, and_closed, or_closed, all_closed, with_operand, with_and, with_or}
-use Rattle.litmus.specs.inner.Building.{with_close, built, empty_mark, or_steps, and_steps, steps_around, end_of}
-use Rattle.litmus.specs.inner.Building.{mark_of, marks_around, build_of, build_at}
 
 pub replicate_last : (n : ℕ) (s : Step) → replicate n s ++ s ∷ [] ≡ s ∷ replicate n s
 replicate_last zero s = refl

@@ -1,14 +1,12 @@
 -- Words that are read as a formula are a condition: what each stage says of the symbols before it.
 use Rattle.std.proofs.Common.{◌≡◌, ◌∙◌, ◌+◌, sym, ap, subst, ℕ, suc, zero, List, [], ◌∷◌, ◌++◌, replicate, Option, Some, None, Ok, refl, arith, append_assoc}
 use Rattle.std.proofs.lemmas.List.{append-nil}
-use Rattle.litmus.specs.declared.symbols.Symbol.{Symbol}
+use Rattle.litmus.specs.{Symbol, Formula, is, both, either, operand, conjunction, disjunction, Stands, atom, negated, one_operand, joined, one_conjunction}
+use Rattle.litmus.specs.{parted, IsConditionOf, Group, Stage, awaits, has, empty_group, negated_by, conjoined, disjoined, conjunction_of, disjunction_of}
+use Rattle.litmus.specs.{next_stage, taken_from, all_taken, stage_after, formula_at, or_misplaced, formula_of_symbols}
 use Rattle.litmus.specs.declared.symbols.Symbol.TheVariants as symbol
-use Rattle.litmus.specs.Formulas.{Formula, is, both, either}
-use Rattle.litmus.specs.Grammar.{operand, conjunction, disjunction, Stands, atom, negated, enclosed, one_operand}
-use Rattle.litmus.specs.Grammar.{joined, one_conjunction, parted, IsConditionOf}
-use Rattle.litmus.specs.Drafting.{Group, Stage, awaits, has, empty_group, negated_by, conjoined, disjoined}
-use Rattle.litmus.specs.Drafting.{conjunction_of, disjunction_of, enclosed as closed_into, next_stage, taken_from, all_taken}
-use Rattle.litmus.specs.Drafting.{stage_after, formula_at, or_misplaced, formula_of_symbols}
+use Rattle.litmus.specs.Grammar.{enclosed}
+use Rattle.litmus.specs.Drafting.{enclosed as closed_into}
 
 -- the symbols in front of the last conjunct's disjunct, and in front of the last operand's conjunct
 abbrev OrFront : Option Formula → List Symbol → Type 0

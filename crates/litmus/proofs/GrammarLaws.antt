@@ -1,13 +1,11 @@
 -- The symbols of a condition are read as its formula, and as no other.
 use Rattle.std.proofs.Common.{◌≡◌, ◌∙◌, ◌+◌, ap, ℕ, suc, zero, List, [], ◌∷◌, ◌++◌, Option, Some, None, Ok, refl, arith, append_assoc}
 use Rattle.std.proofs.lemmas.List.{append-nil}
-use Rattle.litmus.specs.declared.symbols.Symbol.{Symbol}
+use Rattle.litmus.specs.{Symbol, Formula, negation, both, either, Level, operand, conjunction, disjunction, Stands, atom, negated, one_operand, joined}
+use Rattle.litmus.specs.{one_conjunction, parted, IsConditionOf, Group, Stage, awaits, has, empty_group, negated_by, conjoined, disjoined, completed, all_taken}
+use Rattle.litmus.specs.{stage_after, formula_of_symbols}
 use Rattle.litmus.specs.declared.symbols.Symbol.TheVariants as symbol
-use Rattle.litmus.specs.Formulas.{Formula, negation, both, either}
-use Rattle.litmus.specs.Grammar.{Level, operand, conjunction, disjunction, Stands, atom, negated, enclosed, one_operand}
-use Rattle.litmus.specs.Grammar.{joined, one_conjunction, parted, IsConditionOf}
-use Rattle.litmus.specs.Drafting.{Group, Stage, awaits, has, empty_group, negated_by}
-use Rattle.litmus.specs.Drafting.{conjoined, disjoined, completed, all_taken, stage_after, formula_of_symbols}
+use Rattle.litmus.specs.Grammar.{enclosed}
 
 abbrev group : Option Formula → Option Formula → Group
 group disjuncts conjuncts = record { disjuncts = disjuncts; conjuncts = conjuncts; negations = 0 }

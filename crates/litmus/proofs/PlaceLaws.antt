@@ -1,10 +1,8 @@
 -- A formula asks for the places of its symbols.
 use Rattle.std.proofs.Common.{◌≡◌, ◌∙◌, sym, ap, List, [], ◌∷◌, ◌++◌, refl}
 use Rattle.std.proofs.lemmas.List.{append-nil}
-use Rattle.litmus.specs.declared.symbols.Place.{Place}
-use Rattle.litmus.specs.declared.symbols.Symbol.{Symbol}
+use Rattle.litmus.specs.{Place, Symbol, Formula, places}
 use Rattle.litmus.specs.declared.symbols.Symbol.TheVariants as symbol
-use Rattle.litmus.specs.Formulas.{Formula, places}
 use Rattle.litmus.specs.Grammar.{Level, Stands, atom, negated, enclosed, one_operand, joined, one_conjunction, parted, places_in}
 
 pub places_in-append : (left right : List Symbol) → places_in (left ++ right) ≡ places_in left ++ places_in right

@@ -3,15 +3,10 @@ use Rattle.std.proofs.Common.{◌≡◌, ℕ, not, ◌&&◌, ◌||◌, List, [],
 use Rattle.std.specs.Prelude.{All, map, option_map, unwrap_or, slice_index, ◌==◌}
 use Rattle.std.proofs.lemmas.List.Elements.{All-nil, All-cons, All-head, All-tail}
 use Rattle.hart.specs.State.{HartState}
-use Rattle.step_machine.specs.History.{History}
-use Rattle.step_machine.specs.Positions.{Position, IsPositionOf}
-use Rattle.litmus.specs.declared.symbols.Place.{Place}
+use Rattle.step_machine.specs.Names.{History, Position, IsPositionOf}
+use Rattle.litmus.specs.{Place, Verdict, Holds, Fails, Unfinished, Formula, is, negation, both, either, truth, places, LitmusTest, IsThere, IsFinished}
+use Rattle.litmus.specs.{IsFinishedAt, IsVerdict, IsVerdictAt, final_value, is_satisfied, value_there}
 use Rattle.litmus.specs.declared.symbols.Place.TheVariants as place
-use Rattle.litmus.specs.declared.verdict.Verdict.{Verdict}
-use Rattle.litmus.specs.declared.verdict.Verdict.TheVariants.{Holds, Fails, Unfinished}
-use Rattle.litmus.specs.Formulas.{Formula, is, negation, both, either, truth, places}
-use Rattle.litmus.specs.LitmusTests.{LitmusTest, IsThere}
-use Rattle.litmus.specs.Verdicts.{IsFinished, IsFinishedAt, IsVerdict, IsVerdictAt, final_value, is_satisfied, value_there}
 
 value_ends : (harts M : ℕ) (t : History) (p : Position) (x : Place) → IsPositionOf M t p → IsThere harts M x → value_there p x ≡ final_value M t x
 value_ends harts M t p (place.Register h n) ends there =

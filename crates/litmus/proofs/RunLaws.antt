@@ -1,15 +1,10 @@
 -- The steps of a formula do what it says, and ask for its places.
-use Rattle.std.proofs.Common.{◌≡◌, ◌∙◌, sym, ap, subst, ℕ, Bool, true, ◌&&◌, ◌||◌, suc, zero, ◌≤◌, List, [], ◌∷◌, ◌++◌}
-use Rattle.std.proofs.Common.{length, refl, arith, append_assoc, All, get_or, drop, ◌<◌, ◌-◌, ◌+◌, drop-cons, add-one}
+use Rattle.std.proofs.Common.{◌≡◌, ◌∙◌, sym, ap, subst, ℕ, Bool, true, ◌&&◌, ◌||◌, suc, zero, ◌≤◌, List, [], ◌∷◌, ◌++◌, length, refl, arith, append_assoc, All}
+use Rattle.std.proofs.Common.{get_or, drop, ◌<◌, ◌-◌, ◌+◌, drop-cons, add-one}
 use Rattle.std.proofs.lemmas.List.Elements.{All-nil, All-cons, All-head, All-tail}
 use Rattle.std.proofs.lemmas.List.{append-nil}
-use Rattle.litmus.specs.declared.symbols.Place.{Place}
-use Rattle.litmus.specs.declared.symbols.Step.{Step}
+use Rattle.litmus.specs.{Place, Step, Formula, is, negation, both, either, truth, places, steps_of, IsThere, done, all_done, step_places, AsksThere}
 use Rattle.litmus.specs.declared.symbols.Step.TheVariants as step
-use Rattle.litmus.specs.Formulas.{Formula, is, negation, both, either, truth, places}
-use Rattle.litmus.specs.Steps.{steps_of}
-use Rattle.litmus.specs.LitmusTests.{IsThere}
-use Rattle.litmus.specs.inner.Running.{done, all_done, step_places, AsksThere}
 
 -- the steps that are skipped change nothing
 pub all_done-skipped : (value_of : Place → ℕ) (so_far : Bool) (skipped rest : List Step)

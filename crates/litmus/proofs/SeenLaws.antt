@@ -1,17 +1,12 @@
 -- Places are distinguished by their entries of the table, and each is seen first once.
-use Rattle.std.proofs.Common.{◌≡◌, ◌∙◌, ◌<◌, ◌+◌, ◌*◌, ◌/◌, ◌%◌, ◌==◌, ◌&&◌, ap, ℕ, Bool, true, false, not, cond, suc}
-use Rattle.std.proofs.Common.{zero, List, [], ◌∷◌, ◌++◌, length, replicate, drop, get_or, slice_set, filter, refl}
-use Rattle.std.proofs.Common.{arith, append_assoc, All, drop-cons, add-one}
+use Rattle.std.proofs.Common.{◌≡◌, ◌∙◌, ◌<◌, ◌+◌, ◌*◌, ◌/◌, ◌%◌, ◌==◌, ◌&&◌, ap, ℕ, Bool, true, false, not, cond, suc, zero, List, [], ◌∷◌, ◌++◌, length}
+use Rattle.std.proofs.Common.{replicate, drop, get_or, slice_set, filter, refl, arith, append_assoc, All, drop-cons, add-one}
 use Rattle.std.proofs.lemmas.Bool.{eqb-true, eqb-false, eq-eqb, ne_eqb}
 use Rattle.std.proofs.lemmas.List.{get_or-set_same, get_or-set_other, length-set, length-replicate}
 use Rattle.std.proofs.lemmas.List.Elements.{All-cons, All-head, All-tail, All-filter}
-use Rattle.litmus.specs.declared.symbols.Place.{Place}
-use Rattle.litmus.specs.declared.symbols.Step.{Step}
+use Rattle.litmus.specs.{Place, Step, IsThere, is_same, firsts, step_places, AsksThere, index_of, is_seen, after_place, after_seen, left_to_see}
 use Rattle.litmus.specs.declared.symbols.Step.TheVariants as step
-use Rattle.litmus.specs.LitmusTests.{IsThere, is_same, firsts}
-use Rattle.litmus.specs.inner.Running.{step_places, AsksThere}
 use Rattle.litmus.proofs.RunLaws.{step_places-AsksThere}
-use Rattle.litmus.specs.inner.Seen.{index_of, is_seen, after_place, after_seen, left_to_see}
 
 -- two places that are there have one entry exactly where they are the same
 index-register : (h n i m : ℕ) (a b : Bool) → n < 32 → m < 32 → h == i ≡ a → n == m ≡ b → (h * 32 + n == i * 32 + m) ≡ (a && b)

@@ -1,18 +1,11 @@
 -- One more symbol, and the end of the symbols: stages against what is built.
-use Rattle.std.proofs.Common.{◌≡◌, ◌∙◌, ◌≤◌, ◌<◌, ◌+◌, sym, ap, subst, ℕ, true, false, List, [], ◌∷◌, ◌++◌, length}
-use Rattle.std.proofs.Common.{Option, Some, None, Ok, Err, IfSome, refl, arith, length-append}
-use Rattle.litmus.specs.declared.symbols.Symbol.{Symbol}
-use Rattle.litmus.specs.declared.symbols.Step.{Step}
-use Rattle.litmus.specs.declared.symbols.Frame.{Frame}
-use Rattle.litmus.specs.declared.draft.ConditionError.{ConditionError}
-use Rattle.litmus.specs.Formulas.{Formula}
-use Rattle.litmus.specs.Steps.{steps_of, formula_of}
-use Rattle.litmus.specs.inner.StepLaws.{formula_of-steps_of}
-use Rattle.litmus.specs.Faults.{fault_of}
-use Rattle.litmus.specs.Drafting.{Group, Stage, awaits, has, empty_group, disjunction_of, enclosed, next_stage, taken_from}
-use Rattle.litmus.specs.Drafting.{all_taken, stage_after, formula_at, or_misplaced, with_symbol, symbol_added, formula_of_symbols}
-use Rattle.litmus.specs.inner.Building.{Build, all_closed, built, is_empty, is_finished, IsWithin, or_steps, and_steps}
-use Rattle.litmus.specs.inner.Building.{steps_around, end_of, mark_of, marks_around, build_of, build_at}
+use Rattle.std.proofs.Common.{◌≡◌, ◌∙◌, ◌≤◌, ◌<◌, ◌+◌, sym, ap, subst, ℕ, true, false, List, [], ◌∷◌, ◌++◌, length, Option, Some, None, Ok, Err, IfSome, refl}
+use Rattle.std.proofs.Common.{arith, length-append}
+use Rattle.litmus.specs.{Symbol, Step, Frame, ConditionError, Formula, steps_of, formula_of, formula_of-steps_of, fault_of, Group, Stage, awaits, has}
+use Rattle.litmus.specs.{empty_group, disjunction_of, next_stage, taken_from, all_taken, stage_after, formula_at, or_misplaced, with_symbol, symbol_added}
+use Rattle.litmus.specs.{formula_of_symbols, Build, all_closed, built, is_empty, is_finished, IsWithin, or_steps, and_steps, steps_around, end_of, mark_of}
+use Rattle.litmus.specs.{marks_around, build_of, build_at}
+use Rattle.litmus.specs.Drafting.{enclosed}
 use Rattle.litmus.proofs.BuildLaws.{built-law, all_closed-law}
 
 pub all_taken-append : (stage : Option Stage) (left right : List Symbol) → all_taken stage (left ++ right) ≡ all_taken (all_taken stage left) right

@@ -1,11 +1,6 @@
 -- What a test asks for is there: among all harts and locations, and in its machine.
 use Rattle.std.proofs.Common.{◌≡◌, ◌∙◌, ◌≤◌, sym, ap, subst, ℕ, List, length, All, arith}
-use Rattle.litmus.specs.declared.symbols.Place.{Place}
-use Rattle.litmus.specs.declared.symbols.Step.{Step}
-use Rattle.litmus.specs.Formulas.{Formula, places}
-use Rattle.litmus.specs.Steps.{steps_of}
-use Rattle.litmus.specs.LitmusTests.{LitmusTest, IsThere, IsTest, firsts, left_sides}
-use Rattle.litmus.specs.inner.Running.{AsksThere, step_places}
+use Rattle.litmus.specs.{Place, Step, Formula, places, steps_of, LitmusTest, IsThere, IsTest, firsts, left_sides, AsksThere, step_places}
 use Rattle.litmus.proofs.RunLaws.{AsksThere-steps_of, AreThere-more, step_places-steps_of}
 use Rattle.litmus.proofs.SeenLaws.{firsts-all}
 

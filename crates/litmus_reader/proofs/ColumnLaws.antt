@@ -1,24 +1,17 @@
 -- The columns of a table, and the rows that their cells stand in.
-use Rattle.std.proofs.Common.{◌≡◌, ℕ, suc, zero, ◌+◌, ◌≤◌, List, [], ◌∷◌, ◌++◌, length, replicate, Option, Some, None}
-use Rattle.std.proofs.Common.{Ok, refl, sym, ap, subst, ◌∙◌, inl, inr, ◌⊎◌, arith}
+use Rattle.std.proofs.Common.{◌≡◌, ℕ, suc, zero, ◌+◌, ◌≤◌, List, [], ◌∷◌, ◌++◌, length, replicate, Option, Some, None, Ok, refl, sym, ap, subst, ◌∙◌, inl, inr}
+use Rattle.std.proofs.Common.{◌⊎◌, arith}
 use Rattle.std.specs.Prelude.{unwrap_or}
 use Rattle.std.specs.List.{slice_index_or, AllByRecursion}
 use Rattle.std.proofs.lemmas.Bool.{cases_Bool, le-ltb, eq-eqb, eqb-true}
 use Rattle.std.proofs.lemmas.List.{length-replicate}
-use Rattle.texts.specs.Results.{◌>>=◌}
-use Rattle.texts.specs.Cutting.{before, after, is_byte, AreBlanks}
+use Rattle.texts.specs.{◌>>=◌, before, after, is_byte, AreBlanks, pieces, pieces_after}
 use Rattle.texts.proofs.ResultLaws.{ok_is, bind_ok}
-use Rattle.assembler.specs.Faults.{Refusal}
-use Rattle.assembler.specs.Drafts.{Line, word_count, drafted, all_drafted, all_instructions}
+use Rattle.assembler.specs.{Refusal, Line, word_count, drafted, all_drafted, all_instructions}
 use Rattle.assembler.proofs.ProgramGrammar.{all_found, all_only, finished-found, finished_only, none_above}
-use Rattle.litmus_reader.specs.declared.faults.LitmusFault.{LitmusFault}
-use Rattle.litmus_reader.specs.Table.{Column, Code, as_instr, cell_added, cells_added, line_added, lines_added, table_from, table_at, codes_of}
+use Rattle.litmus_reader.specs.{LitmusFault, Column, Code, as_instr, cell_added, cells_added, line_added, lines_added, table_from, table_at, codes_of}
+use Rattle.litmus_reader.specs.{before_line, from_line, harts_in, IsVisible, Cells, IsRow, AreRows, IsTable, column_of, IsColumnCode}
 use Rattle.litmus_reader.specs.declared.marks.Mark.TheVariants as mark
-use Rattle.litmus_reader.specs.Marks.{before_line, from_line}
-use Rattle.texts.specs.Pieces.{pieces, pieces_after}
-use Rattle.litmus_reader.specs.Rows.{harts_in}
-use Rattle.litmus_reader.specs.Layout.{IsVisible}
-use Rattle.litmus_reader.specs.Columns.{Cells, IsRow, AreRows, IsTable, column_of, IsColumnCode}
 use Rattle.litmus_reader.specs.Columns.AreRows.{none, blank, row}
 use Rattle.litmus_reader.proofs.TableLaws.{as_instr-ok}
 use Rattle.litmus_reader.proofs.ShapeLaws.{cut_found, cut_only, visible_matches, line_found, line_only}

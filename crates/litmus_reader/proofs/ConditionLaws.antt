@@ -1,21 +1,17 @@
 -- The condition: what is read of it is what its text asks, and what the text asks is read.
-use Rattle.std.proofs.Common.{◌≡◌, ◌∙◌, ℕ, ◌*◌, ◌≤◌, Bool, true, false, List, [], ◌∷◌, ◌++◌, length, drop, Option, Some}
-use Rattle.std.proofs.Common.{None, Ok, Err, refl, sym, ap, subst, append_assoc, ltb-true, ltb-false, arith}
+use Rattle.std.proofs.Common.{◌≡◌, ◌∙◌, ℕ, ◌*◌, ◌≤◌, Bool, true, false, List, [], ◌∷◌, ◌++◌, length, drop, Option, Some, None, Ok, Err, refl, sym, ap, subst}
+use Rattle.std.proofs.Common.{append_assoc, ltb-true, ltb-false, arith}
 use Rattle.std.specs.Prelude.{nat_lt, if◌then◌else◌, codes}
 use Rattle.std.proofs.lemmas.List.{append-nil}
-use Rattle.texts.specs.Cutting.{without_front, AreBlanks}
-use Rattle.texts.specs.Results.{◌>>=◌}
-use Rattle.texts.proofs.ResultLaws.{bind_ok, ok_is}
-use Rattle.texts.proofs.TrimLaws.{leading_past, leading_split}
+use Rattle.texts.specs.{without_front, AreBlanks, ◌>>=◌, is_blank}
+use Rattle.texts.proofs.{bind_ok, ok_is, leading_past, leading_split}
 use Rattle.rv_decode.specs.declared.instruction.Reg.{Reg}
 use Rattle.litmus.specs.declared.verdict.Quantifier.{Quantifier}
 use Rattle.litmus.specs.declared.verdict.Quantifier.TheVariants.{Exists, NotExists, ForAll}
 use Rattle.litmus.specs.declared.symbols.Place.TheVariants as place
 use Rattle.litmus.specs.declared.symbols.Symbol.{Symbol}
 use Rattle.litmus.specs.declared.symbols.Symbol.TheVariants as symbol
-use Rattle.litmus.specs.Formulas.{Formula}
-use Rattle.litmus.specs.Grammar.{IsConditionOf, Begins}
-use Rattle.litmus.specs.Drafting.{Stage, stage_after, with_symbol, or_misplaced, symbol_added, formula_of_symbols}
+use Rattle.litmus.specs.{Formula, IsConditionOf, Begins, Stage, stage_after, with_symbol, or_misplaced, symbol_added, formula_of_symbols}
 use Rattle.litmus.proofs.GrammarLaws.{finished_only}
 use Rattle.litmus.proofs.FrontLaws.{finished-found}
 use Rattle.litmus.proofs.BeginLaws.{refused_begins}
@@ -23,21 +19,14 @@ use Rattle.litmus_tokens.specs.Assignments as assigned
 use Rattle.litmus_tokens.specs.Tokens as token
 use Rattle.litmus_tokens.specs.Tokens.{Tokens, tokens_of, AreTokens, listed}
 use Rattle.litmus_tokens.proofs.Spelling.{tokens_are, are_tokens}
-use Rattle.litmus_reader.specs.declared.faults.LitmusFault.{LitmusFault}
-use Rattle.litmus_reader.specs.declared.faults.LitmusFault.TheVariants.{BadCondition}
-use Rattle.litmus_reader.specs.declared.marks.Mark.TheVariants.{Unread}
-use Rattle.litmus_reader.specs.Marks.{has_token, before_line, from_line}
-use Rattle.litmus_reader.specs.Locations.{Names}
-use Rattle.litmus_reader.specs.Condition.{Quantified, ConditionSoFar, Condition, quantifier_of, quantifier_in}
-use Rattle.litmus_reader.specs.Condition.{place_resolved, atom_resolved, token_resolved, as_condition, tokens_added}
-use Rattle.litmus_reader.specs.Condition.{none_unread, after_quantifier, condition_in}
-use Rattle.litmus_reader.specs.Layout.{BeginsUnread}
-use Rattle.litmus_reader.specs.Openings.{names_of, names_in, name_of_place}
-use Rattle.litmus_reader.specs.ConditionGrammar.{token_for, IsFinalCondition, atoms_in, IsPlaceOf, IsKnown, AreKnown}
+use Rattle.litmus_reader.specs.{LitmusFault, BadCondition, Unread, has_token, before_line, from_line, Names, Quantified, ConditionSoFar, quantifier_of}
+use Rattle.litmus_reader.specs.{quantifier_in, place_resolved, atom_resolved, token_resolved, as_condition, tokens_added, none_unread, after_quantifier}
+use Rattle.litmus_reader.specs.{condition_in, BeginsUnread, names_of, names_in, name_of_place, token_for, IsFinalCondition, atoms_in, IsPlaceOf, IsKnown}
+use Rattle.litmus_reader.specs.{AreKnown}
+use Rattle.litmus_reader.specs.Condition.{Condition}
 use Rattle.litmus_reader.proofs.ShapeLaws.{unread_matches, line_found, line_only, none_begins, token_cut}
-use Rattle.litmus_reader.proofs.FirstAppearances.{Distinct, met, met-append, IsAnswer, Resolves, found_by, only_by}
-use Rattle.litmus_reader.proofs.FirstAppearances.{resolves_known, resolves_named, resolves_both, value_resolves}
-use Rattle.texts.specs.Pieces.{is_blank}
+use Rattle.litmus_reader.proofs.FirstAppearances.{Distinct, met, met-append, IsAnswer, Resolves, found_by, only_by, resolves_known, resolves_named}
+use Rattle.litmus_reader.proofs.FirstAppearances.{resolves_both, value_resolves}
 
 -- ---- the quantifier
 

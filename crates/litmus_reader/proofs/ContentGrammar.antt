@@ -2,25 +2,17 @@
 use Rattle.std.proofs.Common.{◌≡◌, ℕ, suc, ◌+◌, ◌<◌, ◌≤◌, List, [], ◌∷◌, ◌++◌, length, map, All, Option, Some, Ok, refl, sym, ap, subst, ◌∙◌, arith}
 use Rattle.std.specs.List.{slice_index_or}
 use Rattle.std.proofs.lemmas.List.{length-map}
-use Rattle.texts.specs.Cutting.{before, after, is_byte}
+use Rattle.texts.specs.{before, after, is_byte, pieces}
 use Rattle.texts.proofs.ResultLaws.{bind_ok, ok_is}
 use Rattle.litmus_tokens.specs.Cleaning.{cleaned_text}
 use Rattle.litmus_tokens.specs.Assignments.{AssignmentValue}
 use Rattle.litmus_tokens.proofs.CommentLaws.{is_cleaned, only_cleaned}
 use Rattle.litmus_reader.specs.declared.marks.Mark.TheVariants as mark
-use Rattle.litmus_reader.specs.Marks.{before_line, from_line}
-use Rattle.litmus_reader.specs.Header.{after_header, after_brace}
-use Rattle.texts.specs.Pieces.{pieces}
-use Rattle.litmus_reader.specs.Locations.{Names}
-use Rattle.litmus_reader.specs.Init.{InitItems, items_at, no_items, pieces_added}
-use Rattle.litmus_reader.specs.Table.{Code, Column, table_at, codes_of}
+use Rattle.litmus_reader.specs.{before_line, from_line, after_header, after_brace, Names, InitItems, items_at, no_items, pieces_added, Code, Column, table_at}
+use Rattle.litmus_reader.specs.{codes_of, HartContent, Content, with_registers, content, content_below, content_after, content_at, test_at, names_in, each_once}
+use Rattle.litmus_reader.specs.{AreRegisters, IsHartThere, Cells, IsTable, atoms_in, AreKnown, AreHarts, IsContent}
 use Rattle.litmus_reader.specs.Values.{Values, values_at, padded}
 use Rattle.litmus_reader.specs.Condition.{Condition, condition_in}
-use Rattle.litmus_reader.specs.Reading.{HartContent, Content, with_registers, content, content_below, content_after, content_at, test_at}
-use Rattle.litmus_reader.specs.Openings.{names_in, each_once, AreRegisters, IsHartThere}
-use Rattle.litmus_reader.specs.Columns.{Cells, IsTable}
-use Rattle.litmus_reader.specs.ConditionGrammar.{atoms_in, AreKnown}
-use Rattle.litmus_reader.specs.Grammar.{AreHarts, IsContent}
 use Rattle.litmus_reader.proofs.FirstAppearances.{Distinct, once_distinct, met, met-once, fewer}
 use Rattle.litmus_reader.proofs.HeadingLaws.{init-some}
 use Rattle.litmus_reader.proofs.LayoutLaws.{layout_found, layout_only}

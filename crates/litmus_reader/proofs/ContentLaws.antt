@@ -9,13 +9,9 @@ use Rattle.std.specs.declared.alloc.Global.{Global}
 use Rattle.rv_decode.specs.Meaning.{meaning}
 use Rattle.step_machine.specs.History.{IsShort}
 use Rattle.litmus.specs.declared.verdict.Quantifier.{Quantifier}
-use Rattle.litmus.specs.Formulas.{Formula, places}
-use Rattle.litmus.specs.LitmusTests.{LitmusTest, IsThere, IsTest, litmus_test_of}
-use Rattle.litmus_reader.specs.Locations.{Names}
-use Rattle.litmus_reader.specs.Table.{instructions_of, IsPlainCode, ArePlain, AreShort}
-use Rattle.litmus_reader.specs.Values.{starts_of}
-use Rattle.litmus_reader.specs.Reading.{HartContent, Content, hart_content, with_registers, content_of}
-use Rattle.litmus_reader.specs.Grammar.{HasPlainCode}
+use Rattle.litmus.specs.{Formula, places, LitmusTest, IsThere, IsTest, litmus_test_of}
+use Rattle.litmus_reader.specs.{Names, instructions_of, IsPlainCode, ArePlain, AreShort, starts_of, HartContent, Content, hart_content, with_registers}
+use Rattle.litmus_reader.specs.{content_of, HasPlainCode}
 
 pub starts_content : (codes : List (Vec ℕ Global)) (registers : List (List ℕ))
     → map hart_content (starts_of codes registers) ≡ with_registers (instructions_of codes) registers

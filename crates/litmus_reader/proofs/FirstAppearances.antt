@@ -1,7 +1,6 @@
 -- Names in order of first appearance, and steps that look them up.
-use Rattle.std.proofs.Common.{◌≡◌, ℕ, zero, suc, ◌+◌, ◌*◌, ◌<◌, ◌≤◌, Bool, true, false, not, cond, List, [], ◌∷◌, ◌++◌}
-use Rattle.std.proofs.Common.{length, filter, Option, Some, None, Result, Ok, Err, refl, sym, ap, subst, ◌∙◌, inl, inr}
-use Rattle.std.proofs.Common.{append_assoc, length-append, ltb-true, ltb-false, arith}
+use Rattle.std.proofs.Common.{◌≡◌, ℕ, zero, suc, ◌+◌, ◌*◌, ◌<◌, ◌≤◌, Bool, true, false, not, cond, List, [], ◌∷◌, ◌++◌, length, filter, Option, Some, None}
+use Rattle.std.proofs.Common.{Result, Ok, Err, refl, sym, ap, subst, ◌∙◌, inl, inr, append_assoc, length-append, ltb-true, ltb-false, arith}
 use Rattle.std.specs.Prelude.{nat_lt, ◌||◌}
 use Rattle.std.specs.Str.{bytes_eq}
 use Rattle.std.proofs.lemmas.Bool.{cases_Bool}
@@ -12,9 +11,7 @@ use Rattle.texts.specs.Results.{◌>>=◌}
 use Rattle.texts.proofs.ResultLaws.{some_is}
 use Rattle.litmus_tokens.specs.Assignments.{NamedValue}
 use Rattle.litmus_tokens.specs.Assignments.NamedValue.{number, address_of}
-use Rattle.litmus_reader.specs.declared.faults.LitmusFault.{LitmusFault}
-use Rattle.litmus_reader.specs.Locations.{Names, index_from, name_added, resolved, value_resolved}
-use Rattle.litmus_reader.specs.Openings.{each_once, name_of_value, IsAt, IsNamedValue}
+use Rattle.litmus_reader.specs.{LitmusFault, Names, index_from, name_added, resolved, value_resolved, each_once, name_of_value, IsAt, IsNamedValue}
 
 -- the name is one of these
 abbrev pub has : Names → List ℕ → Bool

@@ -1,28 +1,21 @@
 -- First values: registers and words begin with what the items put there last.
-use Rattle.std.proofs.Common.{◌≡◌, ℕ, ◌-◌, ◌<◌, ◌≤◌, ◌==◌, ◌&&◌, Bool, true, false, if◌then◌else◌, List, [], ◌∷◌}
-use Rattle.std.proofs.Common.{length, get_or, replicate, slice_index_or, Option, Some, None, Ok}
-use Rattle.std.proofs.Common.{All, refl, sym, ap, subst, ◌∙◌, inl, inr, arith, ext_get_or}
+use Rattle.std.proofs.Common.{◌≡◌, ℕ, ◌-◌, ◌<◌, ◌≤◌, ◌==◌, ◌&&◌, Bool, true, false, if◌then◌else◌, List, [], ◌∷◌, length, get_or, replicate, slice_index_or}
+use Rattle.std.proofs.Common.{Option, Some, None, Ok, All, refl, sym, ap, subst, ◌∙◌, inl, inr, arith, ext_get_or}
 use Rattle.std.specs.Bool.{Decides}
 use Rattle.std.specs.List.{AllByRecursion}
 use Rattle.std.specs.Str.{bytes_eq}
 use Rattle.std.proofs.lemmas.Bool.Decides.{Decides-ltb}
 use Rattle.std.proofs.lemmas.Bool.{ltb-true, eqb-false, eq-eqb, ne_eqb, cases_Bool, cases_eq, cases_lt, both_ways}
 use Rattle.std.proofs.lemmas.Slice.Eq.{bytes_eq-Decides}
-use Rattle.std.proofs.lemmas.List.{length-append, get_or_append_left, get_or-append_right, length-set, length-replicate}
-use Rattle.std.proofs.lemmas.List.{get_or-replicate, get_or-set_same, get_or-set_other}
+use Rattle.std.proofs.lemmas.List.{length-append, get_or_append_left, get_or-append_right, length-set, length-replicate, get_or-replicate, get_or-set_same}
+use Rattle.std.proofs.lemmas.List.{get_or-set_other}
 use Rattle.std.proofs.lemmas.List.Elements.{All-cons, All-nil, All-head, All-tail, All-replicate, All-set}
 use Rattle.texts.proofs.ResultLaws.{bind_ok, ok_is}
 use Rattle.litmus_tokens.specs.Assignments.{NamedLocation, NamedValue, AssignmentValue}
 use Rattle.litmus_tokens.specs.Assignments.NamedLocation.{in_register, at_location}
-use Rattle.litmus_reader.specs.declared.faults.LitmusFault.{LitmusFault}
-use Rattle.litmus_reader.specs.declared.init.Target.{Target}
-use Rattle.litmus_reader.specs.declared.init.Target.TheVariants.{Register, Word}
-use Rattle.litmus_reader.specs.Locations.{Names}
-use Rattle.litmus_reader.specs.Init.{InitItem, InitItems}
+use Rattle.litmus_reader.specs.{LitmusFault, Target, Register, Word, Names, InitItem, InitItems, IsAt, IsNamedValue, or_else, last_put, is_register}
+use Rattle.litmus_reader.specs.{is_location, IsFirstValue, AreRegisters, AreFirstWords, IsHartThere}
 use Rattle.litmus_reader.specs.Values.{Values, zeros, with_register, with_value, is_there, item_put, items_put, values_at, padded}
-use Rattle.litmus_reader.specs.Openings.{IsAt, IsNamedValue, or_else, last_put}
-use Rattle.litmus_reader.specs.Openings.{is_register, is_location, IsFirstValue, AreRegisters, AreFirstWords}
-use Rattle.litmus_reader.specs.Openings.{IsHartThere}
 use Rattle.litmus_reader.proofs.FirstAppearances.{Distinct, met, fewer, one_index, one_name, at_any, at_below, one_named_value}
 use Rattle.litmus_reader.proofs.ItemLaws.{IsTarget, AreAssignments, AreRead, assignments_later}
 

@@ -4,21 +4,12 @@ use Rattle.std.specs.Prelude.{IfOk, nat_lt, codes}
 use Rattle.std.specs.List.{filter, flat_map, join_with_byte}
 use Rattle.std.proofs.lemmas.Bool.{ne_eqb}
 use Rattle.texts.specs.declared.pieces.Separators.TheVariants.{Gaps}
-use Rattle.texts.specs.Pieces.{pieces, pieces_after}
-use Rattle.texts.specs.Cutting.{before, after, is_byte, tokens}
-use Rattle.texts.specs.Results.{GivesUpToMemory}
-use Rattle.texts.proofs.ResultLaws.{bind_ok, ok_is}
-use Rattle.texts.proofs.TokenLaws.{filter_kept}
+use Rattle.texts.specs.{pieces, pieces_after, before, after, is_byte, tokens, GivesUpToMemory}
+use Rattle.texts.proofs.{bind_ok, ok_is, filter_kept}
 use Rattle.litmus_tokens.specs.Cleaning.{cleaned_text}
 use Rattle.litmus_tokens.proofs.CommentLaws.{is_cleaned, only_cleaned}
-use Rattle.litmus_reader.specs.declared.faults.LitmusFault.{LitmusFault}
+use Rattle.litmus_reader.specs.{LitmusFault, before_line, from_line, after_header, after_brace, after_init, IsVisible, IsLaidOut, Content, IsContent}
 use Rattle.litmus_reader.specs.declared.marks.Mark.TheVariants as mark
-use Rattle.litmus_reader.specs.Marks.{before_line, from_line}
-use Rattle.litmus_reader.specs.Header.{after_header, after_brace}
-use Rattle.litmus_reader.specs.Init.{after_init}
-use Rattle.litmus_reader.specs.Layout.{IsVisible, IsLaidOut}
-use Rattle.litmus_reader.specs.Reading.{Content}
-use Rattle.litmus_reader.specs.Grammar.{IsContent}
 use Rattle.litmus_reader.specs.Headings.{HeadingOf, in_one_line, with_word, IsHeading, name_in, condition_of, heading_in, heading_at}
 use Rattle.litmus_reader.proofs.ShapeLaws.{cut_only, visible_matches, line_only}
 use Rattle.litmus_reader.proofs.LayoutLaws.{layout_found, layout_only}

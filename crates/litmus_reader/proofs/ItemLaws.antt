@@ -1,29 +1,22 @@
 -- Items of the init part: what is read stands there, and what stands there is read.
-use Rattle.std.proofs.Common.{◌≡◌, ℕ, ◌≤◌, true, false, List, [], ◌∷◌, ◌++◌, length, Option, Some, None, Ok}
-use Rattle.std.proofs.Common.{refl, sym, ap, subst, ◌∙◌, ◌⊎◌, inl, inr, append_assoc, arith}
+use Rattle.std.proofs.Common.{◌≡◌, ℕ, ◌≤◌, true, false, List, [], ◌∷◌, ◌++◌, length, Option, Some, None, Ok, refl, sym, ap, subst, ◌∙◌, ◌⊎◌, inl, inr}
+use Rattle.std.proofs.Common.{append_assoc, arith}
 use Rattle.std.specs.List.{list_all}
 use Rattle.std.proofs.lemmas.Bool.{cases_Bool, and_right, false_from_ne_true}
 use Rattle.std.proofs.lemmas.List.{append-nil}
 use Rattle.std.proofs.lemmas.List.Folds.{list_all-append}
-use Rattle.texts.proofs.ResultLaws.{bind_ok, ok_is}
-use Rattle.texts.specs.Pieces.{is_gap}
+use Rattle.texts.proofs.{bind_ok, ok_is, stripped-all, all_by_test, test_of_all}
+use Rattle.texts.specs.{is_gap, AllPass}
 use Rattle.litmus_tokens.specs.Names.{core}
-use Rattle.texts.specs.Cutting.{AllPass}
 use Rattle.litmus_tokens.specs.Assignments.{NamedLocation, AssignmentValue, declared, item as an_item}
 use Rattle.litmus_tokens.specs.Assignments.NamedLocation.{in_register, at_location}
 use Rattle.litmus_tokens.specs.Assignments.NamedValue.{number, address_of}
-use Rattle.texts.proofs.TrimLaws.{stripped-all}
 use Rattle.litmus_tokens.proofs.AssignmentLaws.{item_settles}
-use Rattle.texts.proofs.GrammarLaws.{all_by_test, test_of_all}
-use Rattle.litmus_reader.specs.declared.faults.LitmusFault.{LitmusFault}
-use Rattle.litmus_reader.specs.declared.init.Target.{Target}
-use Rattle.litmus_reader.specs.declared.init.Target.TheVariants.{Register, Word}
-use Rattle.litmus_reader.specs.Locations.{Names}
-use Rattle.litmus_reader.specs.Init.{InitItem, InitItems, no_items, target_resolved, item_resolved, item_added, piece_added, pieces_added}
-use Rattle.litmus_reader.specs.Openings.{AreItems, IsAt, IsNamedValue, each_once, name_of_place, names_of, names_in}
+use Rattle.litmus_reader.specs.{LitmusFault, Target, Register, Word, Names, InitItem, InitItems, no_items, target_resolved, item_resolved, item_added}
+use Rattle.litmus_reader.specs.{piece_added, pieces_added, AreItems, IsAt, IsNamedValue, each_once, name_of_place, names_of, names_in}
 use Rattle.litmus_reader.specs.Openings.AreItems.{none, empty, item}
-use Rattle.litmus_reader.proofs.FirstAppearances.{met, met-once, met-append, fewer, IsMet, Resolves, found_by, some_by}
-use Rattle.litmus_reader.proofs.FirstAppearances.{resolves_known, resolves_named, resolves_both, value_resolves}
+use Rattle.litmus_reader.proofs.FirstAppearances.{met, met-once, met-append, fewer, IsMet, Resolves, found_by, some_by, resolves_known, resolves_named}
+use Rattle.litmus_reader.proofs.FirstAppearances.{resolves_both, value_resolves}
 
 -- ---- items with indices for names
 

@@ -2,18 +2,13 @@
 use Rattle.std.proofs.Common.{◌≡◌, ℕ, ◌<◌, true, not, List, [], ◌∷◌, ◌++◌, length, drop, Option, Some, None, Ok, refl, sym, ap, subst, ◌∙◌, arith}
 use Rattle.std.specs.Prelude.{◌==◌, codes, unwrap_or}
 use Rattle.std.proofs.lemmas.Bool.{cases_Bool, and_parts, eqb-false, ne_eqb, not-true}
-use Rattle.texts.specs.Pieces.{is_blank}
-use Rattle.texts.specs.Cutting.{before, after, is_byte, fails, without_front, tokens, cut_at_blank, first_cut, AreBlanks, NonePass}
-use Rattle.texts.proofs.CuttingLaws.{before-stop, after-stop, cut_byte, cut_whole, before-passes_not, length-from_first}
-use Rattle.texts.proofs.TokenLaws.{first_is, tokens-cut, tokens-first}
+use Rattle.texts.specs.{is_blank, before, after, is_byte, fails, without_front, tokens, cut_at_blank, first_cut, AreBlanks, NonePass}
+use Rattle.texts.proofs.{before-stop, after-stop, cut_byte, cut_whole, before-passes_not, length-from_first, first_is, tokens-cut, tokens-first}
 use Rattle.litmus_reader.specs.declared.marks.Mark.TheVariants as mark
-use Rattle.litmus_reader.specs.Marks.{has_token, before_line, from_line}
-use Rattle.litmus_reader.specs.Header.{has_name, is_header, after_header, after_front, after_brace}
-use Rattle.litmus_reader.specs.Shapes.{IsCut, IsFirst}
+use Rattle.litmus_reader.specs.{has_token, before_line, from_line, has_name, is_header, after_header, after_front, after_brace, IsCut, IsFirst, IsVisible}
+use Rattle.litmus_reader.specs.{BeginsWith, BeginsCondition, IsHeader, IsLaidOut}
 use Rattle.litmus_reader.specs.Shapes.IsLineCut.{here, below as further}
-use Rattle.litmus_reader.specs.Layout.{IsVisible, BeginsWith, BeginsCondition, IsHeader, IsLaidOut}
-use Rattle.litmus_reader.proofs.ShapeLaws.{cut_found, cut_only, front_of, token_cut}
-use Rattle.litmus_reader.proofs.ShapeLaws.{visible_matches, brace_matches, condition_matches, line_found, line_only}
+use Rattle.litmus_reader.proofs.ShapeLaws.{cut_found, cut_only, front_of, token_cut, visible_matches, brace_matches, condition_matches, line_found, line_only}
 
 -- the text from that line on begins so
 pub first_begins : (B : List ℕ → Type 0) (text above from : List ℕ) → IsFirst B text above from → B from

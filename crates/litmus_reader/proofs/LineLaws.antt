@@ -1,10 +1,8 @@
 -- The lines and rows at which faults are reported.
 use Rattle.std.proofs.Common.{◌≡◌, ◌∙◌, ℕ, zero, suc, ◌+◌, ◌-◌, false, List, ◌∷◌, length, ap, sym, arith}
-use Rattle.texts.specs.Pieces.{span, pieces}
-use Rattle.texts.specs.Cutting.{is_byte}
+use Rattle.texts.specs.{span, pieces, is_byte}
 use Rattle.texts.proofs.PieceLaws.{span-slice_split}
-use Rattle.litmus_reader.specs.Rows.{indent, is_blank_line}
-use Rattle.litmus_reader.specs.Lines.{left_from}
+use Rattle.litmus_reader.specs.{indent, is_blank_line, left_from}
 use Rattle.texts.specs.declared.pieces.Separators.TheVariants.{Byte}
 
 -- the last line that isn't empty, where this number of lines was seen, the last such among them was this one,

@@ -8,13 +8,9 @@ use Rattle.texts.specs.declared.errors.TextError.TheVariants.{NoMemory, Refused}
 use Rattle.litmus.specs.LitmusTests.{LitmusTest}
 use Rattle.litmus_tokens.specs.Cleaning.{cleaned_text}
 use Rattle.litmus_tokens.proofs.CommentLaws.{only_cleaned}
-use Rattle.litmus_reader.specs.declared.faults.LitmusFault.{LitmusFault}
+use Rattle.litmus_reader.specs.{LitmusFault, fault_of, before_line, Content, content_of, IsContent, IsTestOf, ListedRowOf, table_rows, after_items, listing_in}
+use Rattle.litmus_reader.specs.{listing_at}
 use Rattle.litmus_reader.specs.declared.marks.Mark.TheVariants.{Condition}
-use Rattle.litmus_reader.specs.Faults.{fault_of}
-use Rattle.litmus_reader.specs.Marks.{before_line}
-use Rattle.litmus_reader.specs.Reading.{Content, content_of}
-use Rattle.litmus_reader.specs.Grammar.{IsContent, IsTestOf}
-use Rattle.litmus_reader.specs.Listings.{ListedRowOf, table_rows, after_items, listing_in, listing_at}
 use Rattle.litmus_reader.proofs.LayoutLaws.{layout_only}
 
 pub test_listed : (text : List ℕ) (content : Content) → IsContent text content → (rows : List ListedRowOf) × (listing_at text ≡ Ok rows)

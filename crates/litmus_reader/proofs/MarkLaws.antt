@@ -1,14 +1,12 @@
 -- Where the next line begins.
-use Rattle.std.proofs.Common.{◌≡◌, ℕ, ◌+◌, ◌<◌, ◌≤◌, true, false, List, [], ◌∷◌, length, take, drop, Some}
-use Rattle.std.proofs.Common.{None, refl, sym, ap, subst, ◌∙◌, append_assoc, arith}
+use Rattle.std.proofs.Common.{◌≡◌, ℕ, ◌+◌, ◌<◌, ◌≤◌, true, false, List, [], ◌∷◌, length, take, drop, Some, None, refl, sym, ap, subst, ◌∙◌, append_assoc, arith}
 use Rattle.std.proofs.Math.Seq.{take-add}
 use Rattle.std.proofs.lemmas.List.{append-nil, drop-drop, length-drop, take-append-drop}
 use Rattle.std.specs.Prelude.{position}
 use Rattle.std.specs.List.{position_or_len}
 use Rattle.std.proofs.lemmas.Bool.{cases_Bool}
 use Rattle.texts.proofs.PieceLaws.{position_is, position_past}
-use Rattle.litmus_reader.specs.declared.marks.Mark.{Mark}
-use Rattle.litmus_reader.specs.Marks.{is_line_feed, begins, Cut, onto_front, next_cut, line_cut}
+use Rattle.litmus_reader.specs.{Mark, is_line_feed, begins, Cut, onto_front, next_cut, line_cut}
 
 pub begun_cut : (mark : Mark) (xs : List ℕ) → begins mark xs ≡ true → line_cut mark xs ≡ ([], Some xs)
 unfolding line_cut

@@ -4,13 +4,10 @@ use Rattle.std.proofs.Common.{arith, ◌≡◌, ℕ, List, Option, Some, None, r
 use Rattle.std.specs.Prelude.{IsTrue}
 use Rattle.litmus_tokens.specs.Assignments.{NamedLocation, NamedValue, AssignmentValue, location, place, value, declared, an_assignment, item_place, item}
 use Rattle.litmus_tokens.specs.Names.{is_name}
-use Rattle.litmus_tokens.specs.Tokens.{Token, Beginning, nothing, begins, no_token, is_mark, after_not}
-use Rattle.litmus_tokens.specs.Tokens.{atom_from, negation_or, unmarked, begun, beginning_of}
-use Rattle.texts.specs.Cutting.{before, from_first, without_leading}
+use Rattle.litmus_tokens.specs.Tokens.{Token, Beginning, nothing, begins, no_token, is_mark, after_not, atom_from, negation_or, unmarked, begun, beginning_of}
+use Rattle.texts.specs.{before, from_first, without_leading, is_gap}
 use Rattle.litmus_tokens.proofs.AssignmentLaws.{assignment_settles}
-use Rattle.litmus_reader.specs.Locations.{HasLocation, HasName, HasNames}
-use Rattle.litmus_reader.specs.Condition.{TokenHasNames}
-use Rattle.texts.specs.Pieces.{is_gap}
+use Rattle.litmus_reader.specs.{HasLocation, HasName, HasNames, TokenHasNames}
 
 location_names : (text name : List ℕ) → location.Says text name → IsTrue (is_name name)
 location_names text name (inl (rest, whole, (inner, closed, (is, same)))) = rw same at is

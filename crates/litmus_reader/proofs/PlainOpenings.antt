@@ -1,29 +1,23 @@
 -- Each test of a text opens plainly.
-use Rattle.std.proofs.Common.{◌≡◌, ℕ, zero, suc, ◌+◌, ◌*◌, ◌<◌, ◌≤◌, Bool, List, [], ◌∷◌, length, map, get_or, All, Option, Some, None}
-use Rattle.std.proofs.Common.{sym, ap, subst, ◌∙◌, inl, inr, length-append, arith, ℤ}
+use Rattle.std.proofs.Common.{◌≡◌, ℕ, zero, suc, ◌+◌, ◌*◌, ◌<◌, ◌≤◌, Bool, List, [], ◌∷◌, length, map, get_or, All, Option, Some, None, sym, ap, subst, ◌∙◌}
+use Rattle.std.proofs.Common.{inl, inr, length-append, arith, ℤ}
 use Rattle.std.proofs.lemmas.Bool.{cases_Bool, ltb-true}
 use Rattle.std.specs.List.{AllByRecursion}
 use Rattle.std.proofs.lemmas.List.{length-map}
 use Rattle.std.proofs.lemmas.List.Elements.{recursion_from_All, All-head, All-tail}
-use Rattle.rv_decode.specs.Meaning.{meaning}
+use Rattle.rv_decode.specs.{meaning, IsWord}
 use Rattle.assembler.specs.Drafts.{word_count}
 use Rattle.step_machine.specs.History.{HartOpeningValue}
 use Rattle.litmus.specs.LitmusTests.{LitmusTest}
 use Rattle.litmus_tokens.specs.Names.{word_from, a_word}
 use Rattle.litmus_tokens.specs.Assignments.{NamedLocation, NamedValue, AssignmentValue, value, item as an_item}
 use Rattle.litmus_tokens.specs.Assignments.NamedValue.{number, address_of}
-use Rattle.litmus_reader.specs.Locations.{Names}
+use Rattle.litmus_reader.specs.{Names, AreItems, IsAt, last_put, is_register, is_location, IsFirstValue, AreRegisters, AreFirstWords, Cells, IsTable}
+use Rattle.litmus_reader.specs.{hart_content, AreHarts, HasPlainCode, IsTestOf, IsPlainHart, IsPlainOpening}
 use Rattle.std.proofs.lemmas.List.Splits.{length-slice_split}
-use Rattle.texts.specs.Pieces.{pieces}
-use Rattle.texts.specs.Cutting.{is_byte}
+use Rattle.texts.specs.{pieces, is_byte}
 use Rattle.texts.specs.declared.pieces.Separators.TheVariants.{Byte}
-use Rattle.litmus_reader.specs.Openings.{AreItems, IsAt, last_put, is_register, is_location, IsFirstValue, AreRegisters, AreFirstWords}
 use Rattle.litmus_reader.specs.Openings.AreItems.{none, empty, item}
-use Rattle.litmus_reader.specs.Columns.{Cells, IsTable}
-use Rattle.litmus_reader.specs.Reading.{hart_content}
-use Rattle.litmus_reader.specs.Grammar.{AreHarts, HasPlainCode, IsTestOf}
-use Rattle.litmus_reader.specs.PlainOpenings.{IsPlainHart, IsPlainOpening}
-use Rattle.rv_decode.specs.Word.{IsWord}
 use Rattle.litmus_reader.proofs.FirstAppearances.{at_any}
 use Rattle.litmus_reader.proofs.TableLaws.{lines_size}
 

@@ -1,17 +1,14 @@
 -- A table's rows are those of the grammar.
-use Rattle.std.proofs.Common.{◌≡◌, ℕ, ◌+◌, ◌≤◌, true, false, ltb, List, [], ◌∷◌, ◌++◌, length, Option, Some}
-use Rattle.std.proofs.Common.{None, Ok, refl, subst, inl, inr, arith}
+use Rattle.std.proofs.Common.{◌≡◌, ℕ, ◌+◌, ◌≤◌, true, false, ltb, List, [], ◌∷◌, ◌++◌, length, Option, Some, None, Ok, refl, subst, inl, inr, arith}
 use Rattle.std.specs.Fmt.{decimal}
 use Rattle.std.proofs.lemmas.Bool.{cases_Bool, eqb-true, le-ltb, ltb-false, false_from_ne_true}
 use Rattle.std.specs.Bool.{Decides}
 use Rattle.std.proofs.lemmas.Bool.Decides.{Decides-and}
 use Rattle.std.proofs.lemmas.Slice.Eq.{bytes_eq-Decides}
-use Rattle.texts.specs.Pieces.{is_blank}
-use Rattle.texts.specs.Cutting.{before, after, is_byte, trimmed, AreBlanks}
+use Rattle.texts.specs.{is_blank, before, after, is_byte, trimmed, AreBlanks}
 use Rattle.texts.proofs.ResultLaws.{ok_is, some_is, bind_ok, guard_ok}
 use Rattle.texts.proofs.CuttingLaws.{before-stop, after-stop, cut_byte, before-passes_not}
-use Rattle.litmus_reader.specs.Rows.{is_blank_line, ended_by, row_in, cells_of, name_harts, harts_within, all_named, harts_in}
-use Rattle.litmus_reader.specs.Columns.{Cells, IsRow, AreNames}
+use Rattle.litmus_reader.specs.{is_blank_line, ended_by, row_in, cells_of, name_harts, harts_within, all_named, harts_in, Cells, IsRow, AreNames}
 
 -- ---- lines
 

@@ -5,16 +5,12 @@ use Rattle.std.proofs.lemmas.Bool.{cases_Bool, eqb-true, not-true, false_from_ne
 use Rattle.std.proofs.lemmas.Slice.Eq.{starts_is}
 use Rattle.std.specs.Bool.{Decides}
 use Rattle.std.proofs.lemmas.Bool.Decides.{Decides-eqb, Decides-or, not_from_Decides}
-use Rattle.texts.specs.Pieces.{is_blank}
-use Rattle.texts.specs.Cutting.{before, after, is_byte, without_front, AreBlanks}
-use Rattle.texts.proofs.CuttingLaws.{before-none, after-none, before-stop, after-stop, cut_byte, uncut, before-passes_not}
-use Rattle.texts.proofs.TrimLaws.{leading_first, leading_past, leading_split}
-use Rattle.litmus_reader.specs.declared.marks.Mark.{Mark}
+use Rattle.texts.specs.{is_blank, before, after, is_byte, without_front, AreBlanks}
+use Rattle.texts.proofs.{before-none, after-none, before-stop, after-stop, cut_byte, uncut, before-passes_not, leading_first, leading_past, leading_split}
+use Rattle.litmus_reader.specs.{Mark, HasNo, IsCut, IsLineCut, NoneBegins, IsVisible, BeginsWith, BeginsUnread, BeginsCondition}
 use Rattle.litmus_reader.specs.declared.marks.Mark.TheVariants as mark
 use Rattle.litmus_reader.specs.Marks.{has_token, is_visible, is_brace, begins, Cut, onto_front, next_cut, line_cut, before_line, from_line}
-use Rattle.litmus_reader.specs.Shapes.{HasNo, IsCut, IsLineCut, NoneBegins}
 use Rattle.litmus_reader.specs.Shapes.IsLineCut.{here, below as further, nowhere}
-use Rattle.litmus_reader.specs.Layout.{IsVisible, BeginsWith, BeginsUnread, BeginsCondition}
 use Rattle.litmus_reader.proofs.MarkLaws.{begun_cut, other_cut}
 
 -- ---- the first line

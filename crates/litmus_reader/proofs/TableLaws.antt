@@ -1,6 +1,6 @@
 -- The columns' instructions, one column after the other.
-use Rattle.std.proofs.Common.{◌≡◌, ℕ, suc, ◌+◌, ◌≤◌, List, [], ◌∷◌, ◌++◌, length, Option, Some, None}
-use Rattle.std.proofs.Common.{Result, Ok, Err, refl, ap, sym, subst, ◌∙◌, append_assoc, length-append, map, arith}
+use Rattle.std.proofs.Common.{◌≡◌, ℕ, suc, ◌+◌, ◌≤◌, List, [], ◌∷◌, ◌++◌, length, Option, Some, None, Result, Ok, Err, refl, ap, sym, subst, ◌∙◌, append_assoc}
+use Rattle.std.proofs.Common.{length-append, map, arith}
 use Rattle.std.specs.Prelude.{IfOk}
 use Rattle.std.proofs.lemmas.List.{map-append, length-map}
 use Rattle.std.proofs.lemmas.List.Elements.{All-append, All-cons, All-nil}
@@ -8,20 +8,14 @@ use Rattle.std.specs.declared.vec.Vec.{Vec}
 use Rattle.std.specs.declared.alloc.Global.{Global}
 use Rattle.texts.specs.Results.{◌>>=◌, GivesUpToMemory}
 use Rattle.rv_decode.specs.Meaning.{meaning}
-use Rattle.assembler.specs.Faults.{Refusal}
-use Rattle.assembler.specs.Statements.{Made}
-use Rattle.assembler.specs.Drafts.{Line, onto, all_instructions, size_of, word_count}
-use Rattle.assembler.specs.Program.{IsPlaced, ArePlaced}
+use Rattle.assembler.specs.{Refusal, Made, Line, onto, all_instructions, size_of, word_count, IsPlaced, ArePlaced}
 use Rattle.assembler.specs.Program.IsPlaced.{nothing}
 use Rattle.assembler.proofs.ProgramGrammar.{some_instr, finished-found}
 use Rattle.rv_decode.specs.declared.instruction.Instr.{Instr}
 use Rattle.texts.proofs.ResultLaws.{ok_is, bind_ok}
-use Rattle.litmus_reader.specs.declared.faults.LitmusFault.{LitmusFault}
-use Rattle.litmus_reader.specs.declared.faults.LitmusFault.TheVariants.{BadInstr}
+use Rattle.litmus_reader.specs.{LitmusFault, BadInstr, AtLeft, fault_in, Code, Column, codes_of, as_instr, instructions, instructions_of, IsPlainCode, ArePlain}
+use Rattle.litmus_reader.specs.{AreShort}
 use Rattle.texts.specs.declared.errors.TextError.{TextError}
-use Rattle.litmus_reader.specs.declared.refusals.AtLeft.{AtLeft}
-use Rattle.litmus_reader.specs.Faults.{fault_in}
-use Rattle.litmus_reader.specs.Table.{Code, Column, codes_of, as_instr, instructions, instructions_of, IsPlainCode, ArePlain, AreShort}
 
 -- what is answered where these columns are done, of which the first faulty row may be one, and this is
 -- the answer of the others

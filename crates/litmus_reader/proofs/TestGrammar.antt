@@ -7,18 +7,13 @@ use Rattle.texts.specs.Results.{GivesUpToMemory}
 use Rattle.texts.proofs.ResultLaws.{ok_is, refused_without}
 use Rattle.step_machine.specs.History.{HartOpeningValue}
 use Rattle.litmus.specs.declared.verdict.Quantifier.{Quantifier}
-use Rattle.litmus.specs.Formulas.{Formula}
-use Rattle.litmus.specs.LitmusTests.{LitmusTest, litmus_test_of}
+use Rattle.litmus.specs.{Formula, LitmusTest, litmus_test_of}
 use Rattle.litmus_tokens.specs.Assignments.{AssignmentValue}
-use Rattle.litmus_reader.specs.declared.faults.LitmusFault.{LitmusFault}
+use Rattle.litmus_reader.specs.{LitmusFault, fault_of, Names, HartContent, Content, hart_content, content_of, test_at, Cells, AreHarts, IsContent, HasPlainCode}
+use Rattle.litmus_reader.specs.{IsTestOf}
 use Rattle.texts.specs.declared.errors.AtLine.{AtLine}
 use Rattle.texts.specs.declared.errors.TextError.{TextError}
 use Rattle.texts.specs.declared.errors.TextError.TheVariants.{NoMemory, Refused}
-use Rattle.litmus_reader.specs.Faults.{fault_of}
-use Rattle.litmus_reader.specs.Locations.{Names}
-use Rattle.litmus_reader.specs.Reading.{HartContent, Content, hart_content, content_of, test_at}
-use Rattle.litmus_reader.specs.Columns.{Cells}
-use Rattle.litmus_reader.specs.Grammar.{AreHarts, IsContent, HasPlainCode, IsTestOf}
 use Rattle.litmus_reader.proofs.PlainWords.{one_code}
 use Rattle.litmus_reader.proofs.ContentGrammar.{content_found, content_only}
 

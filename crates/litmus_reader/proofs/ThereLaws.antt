@@ -6,19 +6,12 @@ use Rattle.texts.specs.Results.{GivesUpToMemory}
 use Rattle.texts.specs.declared.errors.TextError.{TextError}
 use Rattle.litmus.specs.declared.symbols.Place.{Place}
 use Rattle.litmus.specs.declared.symbols.Symbol.{Symbol}
-use Rattle.litmus.specs.Formulas.{places}
-use Rattle.litmus.specs.Grammar.{disjunction, places_in}
-use Rattle.litmus.specs.LitmusTests.{IsThere}
+use Rattle.litmus.specs.{places, disjunction, places_in, IsThere}
 use Rattle.litmus.proofs.PlaceLaws.{places-symbols}
 use Rattle.litmus_tokens.specs.Assignments as assigned
 use Rattle.litmus_tokens.specs.Tokens as token
-use Rattle.litmus_reader.specs.declared.condition.FinalCondition.{FinalCondition}
-use Rattle.litmus_reader.specs.declared.refusals.AtLeft.{AtLeft}
-use Rattle.litmus_reader.specs.Faults.{fault_in}
-use Rattle.litmus_reader.specs.Locations.{Names}
+use Rattle.litmus_reader.specs.{FinalCondition, AtLeft, fault_in, Names, names_in, atoms_in, IsPlaceOf, IsKnown, AreKnown}
 use Rattle.litmus_reader.specs.Condition.{condition_in, condition_of}
-use Rattle.litmus_reader.specs.Openings.{names_in}
-use Rattle.litmus_reader.specs.ConditionGrammar.{atoms_in, IsPlaceOf, IsKnown, AreKnown}
 use Rattle.litmus_reader.proofs.FirstAppearances.{fewer, at_below}
 use Rattle.litmus_reader.proofs.ConditionLaws.{condition_found}
 

@@ -5,16 +5,12 @@ use Rattle.std.specs.Option.{option_and_then}
 use Rattle.std.proofs.lemmas.Bool.{eqb-true, and_parts, or_right, cases_Bool}
 use Rattle.std.proofs.lemmas.Bool.Decides.{Decides-eqb}
 use Rattle.std.proofs.lemmas.Slice.Eq.{starts_is}
-use Rattle.texts.specs.Cutting.{AllPass, stripped}
-use Rattle.texts.specs.Pieces.{is_gap}
-use Rattle.texts.specs.Grammars.{mapped, parted, integer, numeral}
-use Rattle.texts.proofs.GrammarLaws.{Settles, settles_mapped, settles_parted, settles_begun, settles_ended, settles_padded}
-use Rattle.texts.proofs.GrammarLaws.{settles_filter_mapped, integer_settles, all_by_test, all_weaker}
-use Rattle.texts.proofs.GrammarLaws.{settles_either, settles_by_byte, HasByte, apart_by, numeral_settles}
+use Rattle.texts.specs.{AllPass, stripped, is_gap, mapped, parted, integer, numeral}
+use Rattle.texts.proofs.GrammarLaws.{Settles, settles_mapped, settles_parted, settles_begun, settles_ended, settles_padded, settles_filter_mapped}
+use Rattle.texts.proofs.GrammarLaws.{integer_settles, all_by_test, all_weaker, settles_either, settles_by_byte, HasByte, apart_by, numeral_settles}
 use Rattle.litmus_tokens.specs.Names.{core, goes_on_name, is_name, word_from, a_word}
-use Rattle.litmus_tokens.specs.Assignments.{NamedLocation, NamedValue, named_text, begins_with_gap, after_int, IsDeclaration}
-use Rattle.litmus_tokens.specs.Assignments.{a_name, a_register, a_declaration, spaced, bracketed, location, register_at}
-use Rattle.litmus_tokens.specs.Assignments.{register_place, place, value, declared, an_assignment, item_place, item}
+use Rattle.litmus_tokens.specs.Assignments.{NamedLocation, NamedValue, named_text, begins_with_gap, after_int, IsDeclaration, a_name, a_register, a_declaration}
+use Rattle.litmus_tokens.specs.Assignments.{spaced, bracketed, location, register_at, register_place, place, value, declared, an_assignment, item_place, item}
 use Rattle.litmus_tokens.specs.Assignments.NamedLocation.{at_location}
 use Rattle.litmus_tokens.specs.Assignments.NamedValue.{number, address_of}
 use Rattle.litmus_tokens.proofs.Bytes.{name_bytes, register_bytes}

@@ -3,9 +3,7 @@ use Rattle.std.proofs.Common.{◌≡◌, ℕ, ◌<◌, ◌≤◌, Bool, true, fa
 use Rattle.std.specs.List.{list_all}
 use Rattle.std.specs.Char.{digit_value}
 use Rattle.std.proofs.lemmas.Bool.{cases_Bool, and_parts, ne_eqb, le-ltb}
-use Rattle.rv_decode.specs.Registers.{register_named, register_names}
-use Rattle.rv_decode.specs.Tables.{row_of}
-use Rattle.rv_decode.specs.Meaning.{reg_of}
+use Rattle.rv_decode.specs.{register_named, register_names, row_of, reg_of}
 use Rattle.rv_decode.specs.declared.instruction.Reg.{Reg}
 use Rattle.std.specs.Prelude.{option_map}
 use Rattle.std.proofs.lemmas.Slice.Eq.{bytes_eq-Decides}

@@ -4,13 +4,11 @@ use Rattle.std.specs.Prelude.{codes}
 use Rattle.std.proofs.lemmas.Bool.{and_parts, eqb-true}
 use Rattle.std.proofs.lemmas.Bool.Decides.{Decides-eqb}
 use Rattle.std.proofs.lemmas.Slice.Eq.{starts_is}
-use Rattle.texts.specs.Cutting.{before, AllPass, NonePass, from_first, without_leading}
+use Rattle.texts.specs.{before, AllPass, NonePass, from_first, without_leading, is_gap}
 use Rattle.texts.proofs.TrimLaws.{leading_all, leading_past, leading_split, leading_first, leading_gone}
-use Rattle.texts.specs.Pieces.{is_gap}
 use Rattle.litmus_tokens.specs.Assignments.{AssignmentValue, an_assignment}
-use Rattle.litmus_tokens.specs.Tokens.{Token, Beginning, Tokens, is_mark, ends_name, after_not, paired, atom_from}
-use Rattle.litmus_tokens.specs.Tokens.{negation_or, unmarked, begun, beginning_of, tokens_from, tokens_of, EndsAtom}
-use Rattle.litmus_tokens.specs.Tokens.{Spells, AreTokens, listed}
+use Rattle.litmus_tokens.specs.Tokens.{Token, Beginning, Tokens, is_mark, ends_name, after_not, paired, atom_from, negation_or, unmarked, begun, beginning_of}
+use Rattle.litmus_tokens.specs.Tokens.{tokens_from, tokens_of, EndsAtom, Spells, AreTokens, listed}
 use Rattle.litmus_tokens.specs.Tokens.Token.{atom, negation, conjunction, disjunction, opening, closing}
 use Rattle.litmus_tokens.specs.Tokens.Beginning.{nothing, begins, no_token}
 use Rattle.litmus_tokens.specs.Tokens.Tokens.{ended, goes_on}

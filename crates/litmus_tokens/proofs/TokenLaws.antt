@@ -1,14 +1,12 @@
 -- The tokens of a text are its first one and those of the rest.
 use Rattle.std.proofs.Common.{◌≡◌, ℕ, suc, ◌<◌, ◌≤◌, false, List, ◌∷◌, length, Option, refl, ap, arith, length-drop}
-use Rattle.texts.specs.Cutting.{before, fails, from_first, without_leading}
-use Rattle.litmus_tokens.specs.Assignments.{AssignmentValue}
-use Rattle.litmus_tokens.specs.Assignments.{an_assignment}
-use Rattle.litmus_tokens.specs.Tokens.{Token, Beginning, Tokens, is_mark, after_not, paired, atom_from, negation_or}
-use Rattle.litmus_tokens.specs.Tokens.{unmarked, begun, beginning_of, tokens_from, tokens_within, tokens_of, LeavesLess}
+use Rattle.texts.specs.{before, fails, from_first, without_leading, is_gap}
+use Rattle.litmus_tokens.specs.Assignments.{AssignmentValue, an_assignment}
+use Rattle.litmus_tokens.specs.Tokens.{Token, Beginning, Tokens, is_mark, after_not, paired, atom_from, negation_or, unmarked, begun, beginning_of, tokens_from}
+use Rattle.litmus_tokens.specs.Tokens.{tokens_within, tokens_of, LeavesLess}
 use Rattle.litmus_tokens.specs.Tokens.Beginning.{nothing, begins, no_token}
 use Rattle.litmus_tokens.specs.Tokens.Tokens.{goes_on}
 use Rattle.texts.proofs.CuttingLaws.{length-from_first}
-use Rattle.texts.specs.Pieces.{is_gap}
 
 -- ---- what follows a token is shorter than the text
 

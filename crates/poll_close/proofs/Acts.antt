@@ -1,11 +1,9 @@
 -- What one entry changes of all that is read off a history: an act by its hart's need, a landing by
 -- the store that lands. All rings go by these two records and by nothing else of the machine.
-use Rattle.std.proofs.Common.{ℕ, ◌≡◌, ◌≢◌, ◌==◌, Bool, true, false, List, [], ◌∷◌, ◌++◌, Some}
-use Rattle.std.proofs.Common.{if◌then◌else◌, refl, sym, subst, arith, eq-eqb, append-nil}
+use Rattle.std.proofs.Common.{ℕ, ◌≡◌, ◌≢◌, ◌==◌, Bool, true, false, List, [], ◌∷◌, ◌++◌, Some, if◌then◌else◌, refl, sym, subst, arith, eq-eqb, append-nil}
 use Rattle.std.specs.Prelude.{T}
 use Rattle.std.proofs.lemmas.Bool.Decides.{nat_tests}
-use Rattle.hart.specs.State.{HartState}
-use Rattle.hart.specs.Steps.{need_of, advanced}
+use Rattle.hart.specs.{HartState, need_of, advanced}
 use Rattle.hart.specs.declared.status.Status.TheVariants as status
 use Rattle.hart.specs.declared.need.Need.{Need}
 use Rattle.hart.specs.declared.need.Need.TheVariants as need
@@ -14,25 +12,14 @@ use Rattle.hart.specs.declared.need.Report.TheVariants as report
 use Rattle.step_machine.specs.declared.events.Entry.{Entry}
 use Rattle.step_machine.specs.declared.events.Entry.TheVariants as entry
 use Rattle.poll_close.specs.Layout.{Layout}
-use Rattle.poll_close.specs.Touching.{StaysWithin, Touches}
-use Rattle.poll_close.specs.Going.{GoesOn}
-use Rattle.poll_close.specs.Invariant.Blocks.{as_write, as_writes}
-use Rattle.step_machine.proofs.Lines.{loads}
-use Rattle.step_machine.specs.History.{History, with_entry}
-use Rattle.step_machine.specs.Entries.{hart_of, is_land, own_store, land_of, write_of, report_of, pending, read, reported}
-use Rattle.step_machine.specs.Access.{access_of}
-use Rattle.step_machine.specs.WordReads.{WritesWord, word_in_memory}
-use Rattle.step_machine.proofs.WordReads.{word_in_memory-other, word_in_memory-write}
+use Rattle.poll_close.specs.{StaysWithin, Touches, GoesOn, as_write, as_writes}
+use Rattle.step_machine.proofs.{loads, word_in_memory-other, word_in_memory-write, pending-last, reported-last, balanced, some_first, act_only, state_of-mine}
+use Rattle.step_machine.proofs.{state_of-other, Legal-last, states_land, pending-land, pending-other, land_of-other}
+use Rattle.step_machine.specs.Names.{History, with_entry, hart_of, is_land, own_store, land_of, write_of, report_of, pending, read, reported, access_of}
+use Rattle.step_machine.specs.Names.{WritesWord, word_in_memory, Allowed, Legal, CanFollow}
 use Rattle.memory.specs.declared.writes.Write.{Write}
 use Rattle.memory.specs.Writes.{write, IsWholeWord}
 use Rattle.step_machine.specs.Paths.{entry_of, number_read, state_of}
-use Rattle.step_machine.specs.Legal.{Allowed, Legal}
-use Rattle.step_machine.specs.Runs.{CanFollow}
-use Rattle.step_machine.proofs.Appended.{pending-last, reported-last}
-use Rattle.step_machine.proofs.Balanced.{balanced}
-use Rattle.step_machine.proofs.Lists.{some_first}
-use Rattle.step_machine.proofs.Follows.{act_only, state_of-mine, state_of-other, Legal-last}
-use Rattle.step_machine.proofs.Stays.{states_land, pending-land, pending-other, land_of-other}
 
 -- the word that a need stores, with its address, and what it reports
 abbrev pub stored_by : Need → List (ℕ × ℕ)

@@ -1,12 +1,11 @@
 -- What a sender's act, and the landing of any store, make of all blocks.
-use Rattle.std.proofs.Common.{ℕ, suc, ◌+◌, ◌%◌, ◌<◌, ◌≡◌, ◌≢◌, ◌==◌, ◌⊎◌, inl, inr, Bool, true, false, List, ◌∷◌, ◌++◌}
-use Rattle.std.proofs.Common.{length, None, if◌then◌else◌, refl, sym, ◌∙◌, ap, subst, arith}
+use Rattle.std.proofs.Common.{ℕ, suc, ◌+◌, ◌%◌, ◌<◌, ◌≡◌, ◌≢◌, ◌==◌, ◌⊎◌, inl, inr, Bool, true, false, List, ◌∷◌, ◌++◌, length, None, if◌then◌else◌, refl, sym}
+use Rattle.std.proofs.Common.{◌∙◌, ap, subst, arith}
 use Rattle.std.specs.Prelude.{unwrap_or}
 use Rattle.std.proofs.lemmas.Bool.{cases_eq}
 use Rattle.std.proofs.lemmas.List.{map-append}
 use Rattle.std.proofs.lemmas.Bool.Decides.{nat_tests}
-use Rattle.hart.specs.State.{HartState}
-use Rattle.hart.specs.Steps.{need_of, advanced}
+use Rattle.hart.specs.{HartState, need_of, advanced}
 use Rattle.hart.specs.declared.status.Status.TheVariants as status
 use Rattle.hart.specs.declared.need.Need.{Need}
 use Rattle.hart.specs.declared.need.Need.TheVariants as need
@@ -14,20 +13,12 @@ use Rattle.memory.specs.declared.writes.Write.{Write}
 use Rattle.memory.specs.Writes.{newest_word}
 use Rattle.step_machine.specs.declared.events.Entry.{Entry}
 use Rattle.step_machine.specs.declared.events.Entry.TheVariants as entry
-use Rattle.step_machine.specs.History.{History, with_entry}
-use Rattle.step_machine.specs.Entries.{hart_of, is_land, pending, read}
-use Rattle.step_machine.specs.Access.{access_of}
-use Rattle.step_machine.specs.WordReads.{WritesWord, AllWriteWords, OpensWithWords, word_in_memory}
+use Rattle.step_machine.specs.Names.{History, with_entry, hart_of, is_land, pending, read, access_of, WritesWord, AllWriteWords, OpensWithWords, word_in_memory}
+use Rattle.step_machine.specs.Names.{number_read, state_of, Legal, CanFollow}
 use Rattle.step_machine.proofs.WordReads.{read-word}
-use Rattle.step_machine.specs.Paths.{number_read, state_of}
-use Rattle.step_machine.specs.Legal.{Legal}
-use Rattle.step_machine.specs.Runs.{CanFollow}
 use Rattle.poll_close.specs.Layout.{Layout}
-use Rattle.poll_close.specs.Going.{GoesOn}
-use Rattle.poll_close.specs.Touching.{Touches}
+use Rattle.poll_close.specs.{GoesOn, Touches, BlockInvariant, Count, unsent_of, unread_of, BlockPart}
 use Rattle.poll_close.specs.Invariant.Blocks.{SenderBlock, block_of, is_within, as_write, as_writes, to_block, window, AreNext}
-use Rattle.poll_close.specs.Invariant.BlockInvariant.{BlockInvariant, Count, unsent_of, unread_of}
-use Rattle.poll_close.specs.Invariant.Channels.{BlockPart}
 use Rattle.poll_close.proofs.Acts.{Acted, Landed, acted, landed, Plain, going, stored_by}
 use Rattle.poll_close.proofs.Windows.{window-made, window-head}
 use Rattle.poll_close.proofs.Writes.{IsWrite}

@@ -3,23 +3,16 @@
 use Rattle.std.proofs.Common.{ℕ, suc, ◌+◌, ◌*◌, ◌<◌, ◌≤◌, ◌≡◌, ◌≢◌, ◌⊎◌, true, false, not, List, [], ◌∷◌, length, Option, Some, None}
 use Rattle.std.specs.Prelude.{slice_index, unwrap_or, map}
 use Rattle.std.specs.List.{slice_get}
-use Rattle.rv_decode.specs.Meaning.{meaning}
-use Rattle.hart.specs.State.{HartState}
-use Rattle.hart.specs.Steps.{need_of, advanced, first_state}
+use Rattle.rv_decode.specs.{meaning, lines_of}
+use Rattle.hart.specs.{HartState, need_of, advanced, first_state}
 use Rattle.hart.specs.declared.status.Status.TheVariants as status
 use Rattle.hart.specs.declared.need.Need.{Need}
 use Rattle.hart.specs.declared.need.Report.{Report}
 use Rattle.hart.specs.declared.need.Report.TheVariants as report
-use Rattle.rv_decode.specs.Listings.{lines_of}
-use Rattle.poll_close.specs.Listing.{RingLines, receiver_with}
-use Rattle.poll_close.specs.Reports.{taken}
-use Rattle.poll_close.specs.Plans.{is_closed}
-use Rattle.poll_close.specs.Rankings.{runs, some_open, receiver_rank}
+use Rattle.poll_close.specs.{RingLines, receiver_with, taken, is_closed, runs, some_open, receiver_rank, SenderBlock, offset, AreNext, ReceiverRegisters}
+use Rattle.poll_close.specs.{receiver_of, whole_of, receives, closings_due, BlockInvariant, ReceiverCounts, Count, unsent_of, unread_of, AllReported}
+use Rattle.poll_close.specs.{ReceiverRow, ReceiverIs, opened_rows, ranking_of}
 use Rattle.poll_close.specs.Invariant.Outlines.{Standing, Reasons}
-use Rattle.poll_close.specs.Invariant.Blocks.{SenderBlock, offset, AreNext}
-use Rattle.poll_close.specs.Invariant.ReceiverState.{ReceiverRegisters, receiver_of, whole_of, receives, closings_due}
-use Rattle.poll_close.specs.Invariant.BlockInvariant.{BlockInvariant, ReceiverCounts, Count, unsent_of, unread_of, AllReported}
-use Rattle.poll_close.specs.Invariant.BlockInvariant.{ReceiverRow, ReceiverIs, opened_rows, ranking_of}
 use Rattle.poll_close.proofs.Acts.{stored_by, reports_of_need, IsNoAmo}
 use Rattle.step_machine.proofs.Lines.{loads}
 use Rattle.poll_close.proofs.Windows.{Each, newest_to}

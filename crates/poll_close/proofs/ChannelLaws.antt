@@ -1,7 +1,7 @@
 -- From the laws of one block to the laws of a ring: the opening has the meaning, every entry keeps it,
 -- it gives clean reports, and no hart is stopped.
-use Rattle.std.proofs.Common.{ℕ, zero, suc, ◌+◌, ◌-◌, ◌*◌, ◌<◌, ◌≤◌, ◌≡◌, ◌==◌, ◌⊎◌, inl, inr, false, List, [], ◌∷◌}
-use Rattle.std.proofs.Common.{◌++◌, length, take, Some, refl, sym, ◌∙◌, ap, subst, arith, append-nil, add-one}
+use Rattle.std.proofs.Common.{ℕ, zero, suc, ◌+◌, ◌-◌, ◌*◌, ◌<◌, ◌≤◌, ◌≡◌, ◌==◌, ◌⊎◌, inl, inr, false, List, [], ◌∷◌, ◌++◌, length, take, Some, refl, sym, ◌∙◌}
+use Rattle.std.proofs.Common.{ap, subst, arith, append-nil, add-one}
 use Rattle.std.specs.Prelude.{◌/◌, slice_index}
 use Rattle.std.specs.List.{slice_get, slice_index_or}
 use Rattle.std.proofs.lemmas.Bool.Decides.{nat_tests}
@@ -10,24 +10,12 @@ use Rattle.std.proofs.lemmas.Option.{slice_get_past}
 use Rattle.std.proofs.Math.Nat.{mul_assoc}
 use Rattle.step_machine.specs.declared.events.Entry.{Entry}
 use Rattle.step_machine.specs.declared.events.Entry.TheVariants as entry
-use Rattle.step_machine.specs.History.{History, at_opening, with_entry}
-use Rattle.step_machine.specs.Entries.{hart_of, is_land, reported}
-use Rattle.step_machine.specs.Access.{access_of}
-use Rattle.step_machine.specs.WordReads.{WritesWord, AllWriteWords, OpensWithWords}
-use Rattle.step_machine.proofs.WordReads.{AllWriteWords-append}
-use Rattle.step_machine.specs.Paths.{state_of}
-use Rattle.step_machine.specs.Runs.{CanFollow}
-use Rattle.step_machine.proofs.Appended.{reported-last}
-use Rattle.step_machine.proofs.Follows.{Path-hart, state_of-other}
-use Rattle.step_machine.proofs.Stays.{report_of-other, states_land}
+use Rattle.step_machine.specs.Names.{History, at_opening, with_entry, hart_of, is_land, reported, access_of, WritesWord, AllWriteWords, OpensWithWords}
+use Rattle.step_machine.specs.Names.{state_of, CanFollow}
+use Rattle.step_machine.proofs.{AllWriteWords-append, reported-last, Path-hart, state_of-other, report_of-other, states_land}
 use Rattle.poll_close.specs.Layout.{Layout, sender_registers, senders_from, opening_at}
-use Rattle.poll_close.specs.Laws.{Ring, Meaning, AreWords, AcceptedAt, FitsHart, Opens, Keeps, Cleans, Goes, Stays}
-use Rattle.poll_close.specs.Going.{GoesOn, AllGoOn}
-use Rattle.poll_close.specs.Touching.{Touches, AllTouch}
-use Rattle.poll_close.specs.Invariant.Blocks.{block_of, as_writes}
-use Rattle.poll_close.specs.Invariant.ReceiverState.{receiver_of}
-use Rattle.poll_close.specs.Invariant.BlockInvariant.{BlockInvariant}
-use Rattle.poll_close.specs.Invariant.Channels.{BlockPart, all_closings, Channel, means_by}
+use Rattle.poll_close.specs.{Ring, Meaning, AreWords, AcceptedAt, FitsHart, Opens, Keeps, Cleans, Goes, Stays, GoesOn, AllGoOn, Touches, AllTouch, block_of}
+use Rattle.poll_close.specs.{as_writes, receiver_of, BlockInvariant, BlockPart, all_closings, Channel, means_by}
 use Rattle.poll_close.proofs.Blocks.{IsBlock, Within}
 use Rattle.poll_close.proofs.CleanReports.{clean-none}
 use Rattle.poll_close.proofs.Windows.{each_more}

@@ -1,7 +1,6 @@
 -- One report more keeps reports clean.
-use Rattle.std.proofs.Common.{ℕ, zero, suc, ◌+◌, ◌<◌, ◌≡◌, ◌≢◌, ◌==◌, ◌⊎◌, inl, inr, if◌then◌else◌}
-use Rattle.std.proofs.Common.{List, [], ◌∷◌, ◌++◌, length, take, drop, Some, refl, sym, ◌∙◌, ap, arith}
-use Rattle.std.proofs.Common.{append-nil, length-append, eq-eqb}
+use Rattle.std.proofs.Common.{ℕ, zero, suc, ◌+◌, ◌<◌, ◌≡◌, ◌≢◌, ◌==◌, ◌⊎◌, inl, inr, if◌then◌else◌, List, [], ◌∷◌, ◌++◌, length, take, drop, Some, refl, sym}
+use Rattle.std.proofs.Common.{◌∙◌, ap, arith, append-nil, length-append, eq-eqb}
 use Rattle.std.specs.Prelude.{slice_index}
 use Rattle.std.specs.List.{slice_get, slice_index_or}
 use Rattle.std.proofs.lemmas.Bool.Decides.{nat_tests}
@@ -9,8 +8,7 @@ use Rattle.std.proofs.lemmas.List.{take-append-le, take-append-drop, take_more}
 use Rattle.std.proofs.Math.Seq.{take-append_seam}
 use Rattle.hart.specs.declared.need.Report.{Report}
 use Rattle.hart.specs.declared.need.Report.TheVariants as report
-use Rattle.poll_close.specs.Reports.{taken, sender_of, IsPrefixOf, Clean}
-use Rattle.poll_close.specs.Invariant.Channels.{ReportsOf}
+use Rattle.poll_close.specs.{taken, sender_of, IsPrefixOf, Clean, ReportsOf}
 use Rattle.poll_close.proofs.Windows.{get_end}
 
 get_last : (xs : List Report) (x y : Report) (k : ℕ) → slice_get (xs ++ x ∷ []) k ≡ Some y

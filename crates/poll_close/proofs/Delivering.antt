@@ -5,14 +5,10 @@ use Rattle.std.proofs.lemmas.List.Elements.{All-nil, All-cons}
 use Rattle.hart.specs.declared.need.Report.{Report}
 use Rattle.step_machine.specs.declared.events.Event.{Event}
 use Rattle.step_machine.specs.declared.events.Outcome.{Outcome}
-use Rattle.step_machine.specs.History.{OpeningValue, History, FitsIn, IsShort, at_opening}
-use Rattle.step_machine.specs.Entries.{reported}
-use Rattle.step_machine.specs.Legal.{WellFormed}
-use Rattle.step_machine.specs.Runs.{Happens, Run, RunFrom}
+use Rattle.step_machine.specs.Names.{OpeningValue, History, FitsIn, IsShort, at_opening, reported, WellFormed, Happens, Run, RunFrom}
 use Rattle.step_machine.proofs.Running.{shape_of, kept-happens, kept-at_opening}
 use Rattle.poll_close.specs.Layout.{Layout, senders_from}
-use Rattle.poll_close.specs.Laws.{Ring, opening_over, Meaning, AcceptedAt, FitsHart, Opens, Keeps, Cleans}
-use Rattle.poll_close.specs.Delivery.{Delivers}
+use Rattle.poll_close.specs.{Ring, opening_over, Meaning, AcceptedAt, FitsHart, Opens, Keeps, Cleans, Delivers}
 
 -- what has been known of a history since its opening
 pub record Known (ring : Ring) (means : Meaning) (B M : ℕ) (lists : List (List ℕ)) (S : Layout) (t : History) : Type 0 where

@@ -1,10 +1,6 @@
 -- The dense layout: its place is never why lists are refused.
 use Rattle.std.proofs.Common.{ℕ, ◌+◌, ◌-◌, ◌*◌, ◌≤◌, ◌≡◌, List, ap, arith}
-use Rattle.poll_close.specs.Layout.{dense}
-use Rattle.poll_close.specs.Laws.{Ring}
-use Rattle.poll_close.specs.Refusals.{RefusesAt, IsOfLists}
-use Rattle.poll_close.specs.declared.faults.RefusedAt.{RefusedAt}
-use Rattle.poll_close.specs.declared.faults.RefusedAt.TheVariants.{Lists, UnevenBase, UnevenStride, BlocksMeet, FilledBlock}
+use Rattle.poll_close.specs.{dense, Ring, RefusesAt, IsOfLists, RefusedAt, Lists, UnevenBase, UnevenStride, BlocksMeet, FilledBlock}
 
 pub rows_before : (n T : ℕ) → 1 ≤ n → (n - 1) * T + T ≡ n * T
 rows_before n T some =

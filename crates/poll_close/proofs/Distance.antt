@@ -1,20 +1,16 @@
 -- How far the receiver is from its next report: the lemmas by which each line's reason shows that it comes nearer,
 -- and what a ring shows of one block for the plan.
-use Rattle.std.proofs.Common.{ℕ, suc, ◌+◌, ◌-◌, ◌*◌, ◌<◌, ◌≤◌, ◌≡◌, ◌==◌, Bool, true, false, not, ◌&&◌, ◌||◌}
-use Rattle.std.proofs.Common.{if◌then◌else◌, List, [], ◌∷◌, Some, refl, sym, ◌∙◌, ap, arith, add-one}
+use Rattle.std.proofs.Common.{ℕ, suc, ◌+◌, ◌-◌, ◌*◌, ◌<◌, ◌≤◌, ◌≡◌, ◌==◌, Bool, true, false, not, ◌&&◌, ◌||◌, if◌then◌else◌, List, [], ◌∷◌, Some, refl, sym}
+use Rattle.std.proofs.Common.{◌∙◌, ap, arith, add-one}
 use Rattle.std.specs.Prelude.{nat_lt}
 use Rattle.std.proofs.lemmas.Bool.{and_parts}
 use Rattle.std.proofs.lemmas.Bool.Decides.{nat_tests}
-use Rattle.hart.specs.State.{HartState}
-use Rattle.hart.specs.Steps.{need_of, advanced}
+use Rattle.hart.specs.{HartState, need_of, advanced}
 use Rattle.hart.specs.declared.status.Status.TheVariants as status
 use Rattle.hart.specs.declared.need.Report.{Report}
-use Rattle.poll_close.specs.Rankings.{Around, some_open, rest_from, runs}
-use Rattle.poll_close.specs.Plans.{is_closed}
-use Rattle.poll_close.specs.Invariant.Blocks.{SenderBlock}
+use Rattle.poll_close.specs.{Around, some_open, rest_from, runs, is_closed, SenderBlock, BlockInvariant, Count, unsent_of, unread_of, DistanceToReport, Near}
+use Rattle.poll_close.specs.{Round, Over, Visit, length_of, opened_rows}
 use Rattle.poll_close.specs.Invariant.Outlines.{OutlineRow, Standing, rank_in, left_of}
-use Rattle.poll_close.specs.Invariant.BlockInvariant.{BlockInvariant, Count, unsent_of, unread_of, DistanceToReport}
-use Rattle.poll_close.specs.Invariant.BlockInvariant.{Near, Round, Over, Visit, length_of, opened_rows}
 use Rattle.step_machine.proofs.Lines.{loads}
 use Rattle.poll_close.proofs.Blocks.{IsBlock, IsWordOf}
 

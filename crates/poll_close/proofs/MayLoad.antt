@@ -3,13 +3,8 @@ use Rattle.std.proofs.Common.{ℕ, ◌+◌, ◌<◌, ◌≤◌, ◌≡◌, Some,
 use Rattle.std.specs.Prelude.{slice_index}
 use Rattle.hart.specs.State.{HartState}
 use Rattle.step_machine.specs.History.{History}
-use Rattle.poll_close.specs.Laws.{Ring, Meaning}
-use Rattle.poll_close.specs.Standing.{Stands}
-use Rattle.poll_close.specs.Waiting.{MayLoad}
-use Rattle.poll_close.specs.Invariant.Blocks.{SenderBlock}
+use Rattle.poll_close.specs.{Ring, Meaning, Stands, MayLoad, SenderBlock, BlockInvariant, Count, means_by}
 use Rattle.poll_close.specs.Invariant.Outlines.{Standing}
-use Rattle.poll_close.specs.Invariant.BlockInvariant.{BlockInvariant, Count}
-use Rattle.poll_close.specs.Invariant.Channels.{means_by}
 use Rattle.poll_close.proofs.Blocks.{IsBlock, IsWordOf}
 use Rattle.poll_close.proofs.Standing.{Sender, sender_at}
 

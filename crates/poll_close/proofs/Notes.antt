@@ -1,7 +1,6 @@
 -- What is noted of senders, report by report.
-use Rattle.std.proofs.Common.{ℕ, ◌+◌, ◌<◌, ◌≤◌, ◌≡◌, ◌≢◌, ◌==◌, ◌||◌, Bool, true, false, List, [], ◌∷◌, ◌++◌, length, get_or, Some, None}
-use Rattle.std.proofs.Common.{refl, sym, ◌∙◌, ap, subst, arith, append_assoc, append-nil, length-append, take, drop, set}
-use Rattle.std.proofs.Common.{drop_of_length-le}
+use Rattle.std.proofs.Common.{ℕ, ◌+◌, ◌<◌, ◌≤◌, ◌≡◌, ◌≢◌, ◌==◌, ◌||◌, Bool, true, false, List, [], ◌∷◌, ◌++◌, length, get_or, Some, None, refl, sym, ◌∙◌, ap}
+use Rattle.std.proofs.Common.{subst, arith, append_assoc, append-nil, length-append, take, drop, set, drop_of_length-le}
 use Rattle.std.specs.Prelude.{◌↔◌, IsTrue, if◌then◌else◌}
 use Rattle.std.specs.List.{slice_get}
 use Rattle.std.proofs.lemmas.Bool.Decides.{nat_tests}
@@ -12,14 +11,10 @@ use Rattle.hart.specs.declared.need.Report.{Report}
 use Rattle.hart.specs.declared.need.Report.TheVariants as report
 use Rattle.step_machine.specs.declared.events.Entry.{Entry}
 use Rattle.step_machine.specs.Entries.{report_of, reported}
-use Rattle.step_machine.proofs.Appended.{reported-last}
-use Rattle.step_machine.proofs.Stays.{slice_get-set_same, slice_get-set_other}
+use Rattle.step_machine.proofs.{reported-last, slice_get-set_same, slice_get-set_other}
 use Rattle.poll_close.specs.Layout.{block_size, Layout, base_of}
-use Rattle.poll_close.specs.Reports.{taken, Clean}
-use Rattle.poll_close.specs.Plans.{is_closed}
+use Rattle.poll_close.specs.{taken, Clean, is_closed, Violation, Share}
 use Rattle.poll_close.specs.Violations.{AreNotes, IsNoted, report_violation, is_within}
-use Rattle.poll_close.specs.declared.clean.Violation.{Violation}
-use Rattle.poll_close.specs.declared.clean.Share.{Share}
 use Rattle.poll_close.proofs.CleanReports.{taken-took, taken-closed, clean-none}
 use Rattle.poll_close.proofs.ViolationLaws.{clean_front, next_clean, clean_next}
 

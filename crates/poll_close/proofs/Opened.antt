@@ -1,13 +1,12 @@
 -- An opening is made: one sender more at the end, and the lists are looked through for a zero.
-use Rattle.std.proofs.Common.{◌≡◌, ℕ, ◌+◌, ◌<◌, List, [], ◌∷◌, ◌++◌, length, take, get_or, map, Vec, Global, refl, sym}
-use Rattle.std.proofs.Common.{◌∙◌, ap, arith, ◌≢◌, ◌^◌, ◌≤◌, All, subst}
+use Rattle.std.proofs.Common.{◌≡◌, ℕ, ◌+◌, ◌<◌, List, [], ◌∷◌, ◌++◌, length, take, get_or, map, Vec, Global, refl, sym, ◌∙◌, ap, arith, ◌≢◌, ◌^◌, ◌≤◌, All}
+use Rattle.std.proofs.Common.{subst}
 use Rattle.std.proofs.lemmas.List.{take_more, map-append, length-map, length-take-le, take_all, get_or-map, take-map}
 use Rattle.step_machine.specs.History.{HartOpeningValue}
 use Rattle.poll_close.specs.Layout.{Layout, sender_registers, senders_from}
 use Rattle.std.specs.Prelude.{slice_index}
 use Rattle.std.proofs.lemmas.List.Elements.{All-push}
-use Rattle.poll_close.specs.Laws.{AreWords}
-use Rattle.poll_close.specs.Refusals.{ZeroAt, ZeroWordAt}
+use Rattle.poll_close.specs.{AreWords, ZeroAt, ZeroWordAt}
 
 pub senders-last : (code : List ℕ) (S : Layout) (j : ℕ) (lists : List (List ℕ)) (ws : List ℕ) (i : ℕ)
     → i ≡ j + length lists

@@ -1,22 +1,18 @@
 -- A sender whose outline is right keeps its block's meaning: from each row's assertion, whatever it reads,
 -- its act leads to the row where it goes on, and nearer to its end where it doesn't wait.
-use Rattle.std.proofs.Common.{ℕ, ◌≡◌, ◌≢◌, ◌+◌, ◌-◌, ◌*◌, ◌<◌, ◌≤◌, ◌==◌, Bool, true, false, List, [], ◌∷◌, drop}
-use Rattle.std.proofs.Common.{Some, if◌then◌else◌, refl, sym, ◌∙◌, ap, subst, arith}
+use Rattle.std.proofs.Common.{ℕ, ◌≡◌, ◌≢◌, ◌+◌, ◌-◌, ◌*◌, ◌<◌, ◌≤◌, ◌==◌, Bool, true, false, List, [], ◌∷◌, drop, Some, if◌then◌else◌, refl, sym, ◌∙◌, ap}
+use Rattle.std.proofs.Common.{subst, arith}
 use Rattle.std.specs.Prelude.{slice_index, map}
 use Rattle.std.specs.List.{slice_get}
 use Rattle.std.proofs.lemmas.Bool.Decides.{nat_tests}
 use Rattle.rv_decode.specs.Meaning.{meaning}
 use Rattle.rv_decode.specs.declared.instruction.Instr.{Instr}
-use Rattle.hart.specs.State.{HartState}
-use Rattle.hart.specs.Steps.{need_of, advanced}
+use Rattle.hart.specs.{HartState, need_of, advanced}
 use Rattle.hart.specs.declared.status.Status.TheVariants as status
 use Rattle.hart.specs.declared.need.Need.{Need}
 use Rattle.hart.specs.declared.need.Need.TheVariants as need
 use Rattle.hart.proofs.Instructions.{IsAt}
-use Rattle.poll_close.specs.Rankings.{runs}
-use Rattle.poll_close.specs.Invariant.Blocks.{SenderBlock, AreNext}
-use Rattle.poll_close.specs.Invariant.SenderState.{SenderRegisters, fixed, running, ended}
-use Rattle.poll_close.specs.Invariant.BlockInvariant.{BlockInvariant, Count, unsent_of}
+use Rattle.poll_close.specs.{runs, SenderBlock, AreNext, SenderRegisters, fixed, running, ended, BlockInvariant, Count, unsent_of}
 use Rattle.poll_close.specs.Invariant.Outlines.{OutlineRow, SenderRow, Reasons, Outline, either, stands, HoldsIn, SenderIs, Standing, left_of}
 use Rattle.poll_close.proofs.Acts.{stored_by, IsNoAmo}
 use Rattle.step_machine.proofs.Lines.{Line, loads, at_line}

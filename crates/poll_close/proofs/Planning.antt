@@ -1,7 +1,6 @@
 -- What each step of the plan's loop keeps.
-use Rattle.std.proofs.Common.{◌≡◌, ◌≢◌, ℕ, zero, suc, ◌+◌, ◌-◌, ◌==◌, ◌≤◌, ◌<◌, inl, inr, ◌⊎◌, Bool, true, false}
-use Rattle.std.proofs.Common.{if◌then◌else◌, ◌||◌, Some, None, List, [], ◌∷◌, ◌++◌, length, drop, refl, sym, ◌∙◌}
-use Rattle.std.proofs.Common.{ap, subst, arith}
+use Rattle.std.proofs.Common.{◌≡◌, ◌≢◌, ℕ, zero, suc, ◌+◌, ◌-◌, ◌==◌, ◌≤◌, ◌<◌, inl, inr, ◌⊎◌, Bool, true, false, if◌then◌else◌, ◌||◌, Some, None, List, []}
+use Rattle.std.proofs.Common.{◌∷◌, ◌++◌, length, drop, refl, sym, ◌∙◌, ap, subst, arith}
 use Rattle.std.proofs.lemmas.Bool.{cases_eq, cases_lt}
 use Rattle.std.proofs.lemmas.Bool.Decides.{nat_tests}
 use Rattle.step_machine.specs.declared.events.Event.{Event}
@@ -10,30 +9,20 @@ use Rattle.step_machine.specs.declared.events.Entry.{Entry}
 use Rattle.step_machine.specs.declared.events.Entry.TheVariants as entry
 use Rattle.step_machine.specs.declared.events.Outcome.{Outcome}
 use Rattle.std.proofs.lemmas.List.{length-map, length-drop}
-use Rattle.step_machine.specs.History.{HartOpeningValue, OpeningValue, History, at_opening, with_entry}
-use Rattle.step_machine.specs.Entries.{hart_of, is_land, pending, reported, own_store, land_of}
-use Rattle.step_machine.specs.Legal.{WellFormed}
-use Rattle.step_machine.specs.Runs.{Happens, Run, RunFrom, IsOwnRun, event_of}
-use Rattle.step_machine.proofs.Running.{shape_of, RunFrom-more, run-one, opening-run, opening_kept}
-use Rattle.step_machine.proofs.Follows.{land_follows}
-use Rattle.step_machine.proofs.Acts.{happens_some}
-use Rattle.step_machine.proofs.Balanced.{balanced}
-use Rattle.step_machine.proofs.Appended.{pending-last}
-use Rattle.step_machine.proofs.Stays.{pending-land, pending-other, land_of-other, store_of-other}
+use Rattle.step_machine.specs.Names.{HartOpeningValue, OpeningValue, History, at_opening, with_entry, hart_of, is_land, pending, reported, own_store, land_of}
+use Rattle.step_machine.specs.Names.{WellFormed, Happens, Run, RunFrom, IsOwnRun, event_of}
+use Rattle.step_machine.proofs.{shape_of, RunFrom-more, run-one, opening-run, opening_kept, land_follows, happens_some, balanced, pending-last, pending-land}
+use Rattle.step_machine.proofs.{pending-other, land_of-other, store_of-other}
 use Rattle.memory.specs.declared.writes.Write.{Write}
 use Rattle.hart.specs.declared.need.Report.{Report}
 use Rattle.hart.specs.declared.need.Report.TheVariants as report
 use Rattle.std.specs.Prelude.{map}
 use Rattle.std.specs.List.{slice_get}
-use Rattle.poll_close.specs.Laws.{Ring, opening_over, Meaning, AcceptedAt, Opens, Keeps, Cleans}
-use Rattle.poll_close.specs.Reports.{Clean}
-use Rattle.poll_close.specs.Standing.{Stands, opening_lists}
+use Rattle.poll_close.specs.{Ring, opening_over, Meaning, AcceptedAt, Opens, Keeps, Cleans, Clean, Stands, opening_lists, DeliversWhole, DeliversWholeOver}
+use Rattle.poll_close.specs.{Nearer, Decreases, AllLanded, Finished, Finishes, CanFinish, is_closed, all_closed, ends_in_word, is_word, is_done, senders_of}
 use Rattle.poll_close.proofs.Standing.{inboxes, stands-opens, stands-happens, stands-run, stands-clean}
 use Rattle.poll_close.specs.Layout.{Layout}
-use Rattle.poll_close.specs.Delivery.{DeliversWhole, DeliversWholeOver}
 use Rattle.poll_close.proofs.CleanReports.{closed_whole}
-use Rattle.poll_close.specs.Rankings.{Nearer, Decreases}
-use Rattle.poll_close.specs.Plans.{AllLanded, Finished, Finishes, CanFinish, is_closed, all_closed, ends_in_word, is_word, is_done, senders_of}
 
 pub record Planned (ring : Ring) (means : Meaning) (B M : ℕ) (start : History) (evs : List Event) (t : History) : Type 0 where
   pub run : RunFrom B M start evs t

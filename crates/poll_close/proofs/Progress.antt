@@ -1,13 +1,11 @@
 -- From what a ring shows of one block to the law of the plan: where nothing is pending and some sender is
 -- not reported closed, the hart that comes next can act, and less is left after its act.
-use Rattle.std.proofs.Common.{◌==◌, ℕ, zero, suc, ◌+◌, ◌-◌, ◌%◌, ◌<◌, ◌≤◌, ◌≡◌, ◌≢◌, ◌⊎◌, inl, inr, Bool, true, false}
-use Rattle.std.proofs.Common.{not, ◌&&◌, List, [], ◌∷◌, ◌++◌, length, length-take, Some}
-use Rattle.std.proofs.Common.{refl, sym, ◌∙◌, ap, subst, arith, add-one, append-nil, lit<}
+use Rattle.std.proofs.Common.{◌==◌, ℕ, zero, suc, ◌+◌, ◌-◌, ◌%◌, ◌<◌, ◌≤◌, ◌≡◌, ◌≢◌, ◌⊎◌, inl, inr, Bool, true, false, not, ◌&&◌, List, [], ◌∷◌, ◌++◌, length}
+use Rattle.std.proofs.Common.{length-take, Some, refl, sym, ◌∙◌, ap, subst, arith, add-one, append-nil, lit<}
 use Rattle.std.specs.Prelude.{slice_index}
 use Rattle.std.proofs.lemmas.Bool.{cases_eq, and_parts, not-true, not-false}
 use Rattle.std.proofs.Math.Nat.{mul-div_cancel_left}
-use Rattle.hart.specs.State.{HartState}
-use Rattle.hart.specs.Steps.{need_of, advanced}
+use Rattle.hart.specs.{HartState, need_of, advanced}
 use Rattle.hart.specs.declared.status.Status.{Status}
 use Rattle.hart.specs.declared.status.Status.TheVariants as status
 use Rattle.hart.specs.declared.need.Need.{Need}
@@ -17,27 +15,15 @@ use Rattle.memory.specs.declared.writes.Write.{Write}
 use Rattle.step_machine.specs.declared.events.Event.TheVariants as event
 use Rattle.step_machine.specs.declared.events.Entry.{Entry}
 use Rattle.step_machine.specs.declared.events.Entry.TheVariants as entry
-use Rattle.step_machine.specs.History.{OpeningValue, History, with_entry}
-use Rattle.step_machine.specs.Entries.{pending, read, reported}
-use Rattle.step_machine.specs.WordReads.{OpensWithWords, word_in_memory}
+use Rattle.step_machine.specs.Names.{OpeningValue, History, with_entry, pending, read, reported, OpensWithWords, word_in_memory, WellFormed, IsFor, CanFollow}
+use Rattle.step_machine.specs.Names.{NoEntry}
 use Rattle.step_machine.specs.Paths.{entry_of, number_read, state_of}
-use Rattle.step_machine.specs.Legal.{WellFormed}
-use Rattle.step_machine.specs.Runs.{IsFor, CanFollow, NoEntry}
-use Rattle.step_machine.proofs.Appended.{reported-last}
-use Rattle.step_machine.proofs.Stays.{states_land}
-use Rattle.step_machine.proofs.Acts.{HasToWait, decide, does}
+use Rattle.step_machine.proofs.{reported-last, states_land, HasToWait, decide, does}
 use Rattle.poll_close.specs.Layout.{Layout, opening_at}
-use Rattle.poll_close.specs.Reports.{taken, sender_of, Clean}
-use Rattle.poll_close.specs.Laws.{AcceptedAt, Keeps}
-use Rattle.poll_close.specs.Standing.{opening_lists}
-use Rattle.poll_close.specs.Rankings.{Ranking, Around, around, Nearer, Decreases, some_open, visited_by, is_running}
-use Rattle.poll_close.specs.Rankings.{runs, receiver_rank, receiver_rank_if, rank_by_states, rank_of, ring_size}
-use Rattle.poll_close.specs.Rankings.{ready_if, is_ready, next_of, next_by}
-use Rattle.poll_close.specs.Plans.{AllLanded, is_closed, is_done, senders_of}
-use Rattle.poll_close.specs.Invariant.Blocks.{SenderBlock, block_of, as_writes}
-use Rattle.poll_close.specs.Invariant.ReceiverState.{ReceiverRegisters, whole_of, receiver_of, receives, closings_due}
-use Rattle.poll_close.specs.Invariant.BlockInvariant.{BlockInvariant, unsent_of, unread_of, rows_of, ranking_of}
-use Rattle.poll_close.specs.Invariant.Channels.{Channel, means_by}
+use Rattle.poll_close.specs.{taken, sender_of, Clean, AcceptedAt, Keeps, opening_lists, Ranking, Around, around, Nearer, Decreases, some_open, visited_by}
+use Rattle.poll_close.specs.{is_running, runs, receiver_rank, receiver_rank_if, rank_by_states, rank_of, ring_size, ready_if, is_ready, next_of, next_by}
+use Rattle.poll_close.specs.{AllLanded, is_closed, is_done, senders_of, SenderBlock, block_of, as_writes, ReceiverRegisters, whole_of, receiver_of, receives}
+use Rattle.poll_close.specs.{closings_due, BlockInvariant, unsent_of, unread_of, rows_of, ranking_of, Channel, means_by}
 use Rattle.poll_close.proofs.Acts.{Acted, acted, reports_of_need}
 use Rattle.poll_close.proofs.Blocks.{IsBlock}
 use Rattle.poll_close.proofs.BlockLaws.{BlockLaws, Receives, Says, Finds, Idle}
@@ -48,9 +34,8 @@ use Rattle.poll_close.proofs.Delivering.{senders-length}
 use Rattle.poll_close.proofs.Standing.{inboxes}
 use Rattle.poll_close.proofs.ChannelLaws.{blocks, ring_by, keeps}
 use Rattle.poll_close.proofs.Distance.{BlockProgress, rank_short}
-use Rattle.poll_close.proofs.Shares.{share_same, share_acts, sum_decreases, receiver_rank_decreases, rank_same}
-use Rattle.poll_close.proofs.Shares.{receiver_rank_small, closed_from, closed_other, report_decreases, open_from, some_from}
-use Rattle.poll_close.proofs.Shares.{shuts_less}
+use Rattle.poll_close.proofs.Shares.{share_same, share_acts, sum_decreases, receiver_rank_decreases, rank_same, receiver_rank_small, closed_from, closed_other}
+use Rattle.poll_close.proofs.Shares.{report_decreases, open_from, some_from, shuts_less}
 use Rattle.std.proofs.lemmas.Bool.Decides.{nat_tests}
 
 -- which hart comes next

@@ -1,40 +1,28 @@
 -- An act of the receiver, over the whole channel.
-use Rattle.std.proofs.Common.{ℕ, zero, suc, ◌+◌, ◌<◌, ◌≤◌, ◌≡◌, ◌≢◌, ◌⊎◌, inl, inr}
-use Rattle.std.proofs.Common.{false, List, [], ◌∷◌, ◌++◌, length, take, Some, None, refl, sym, ◌∙◌, ap, subst, arith}
-use Rattle.std.proofs.Common.{append-nil}
+use Rattle.std.proofs.Common.{ℕ, zero, suc, ◌+◌, ◌<◌, ◌≤◌, ◌≡◌, ◌≢◌, ◌⊎◌, inl, inr, false, List, [], ◌∷◌, ◌++◌, length, take, Some, None, refl, sym, ◌∙◌, ap}
+use Rattle.std.proofs.Common.{subst, arith, append-nil}
 use Rattle.std.specs.Prelude.{slice_index, unwrap_or}
 use Rattle.std.specs.List.{slice_get, slice_index_or}
 use Rattle.std.proofs.lemmas.Bool.{cases_eq}
 use Rattle.std.proofs.Math.Seq.{take-length}
 use Rattle.std.proofs.lemmas.List.{map-append}
-use Rattle.hart.specs.State.{HartState}
-use Rattle.hart.specs.Steps.{need_of}
+use Rattle.hart.specs.{HartState, need_of}
 use Rattle.hart.specs.declared.status.Status.TheVariants as status
 use Rattle.hart.specs.declared.need.Need.{Need}
 use Rattle.hart.specs.declared.need.Report.{Report}
 use Rattle.hart.specs.declared.need.Report.TheVariants as report
 use Rattle.step_machine.specs.declared.events.Entry.{Entry}
-use Rattle.step_machine.specs.History.{History, with_entry}
-use Rattle.step_machine.specs.Entries.{hart_of, is_land, pending, read, reported}
-use Rattle.step_machine.specs.Access.{access_of}
-use Rattle.step_machine.specs.WordReads.{WritesWord, AllWriteWords, OpensWithWords, word_in_memory}
+use Rattle.step_machine.specs.Names.{History, with_entry, hart_of, is_land, pending, read, reported, access_of, WritesWord, AllWriteWords, OpensWithWords}
+use Rattle.step_machine.specs.Names.{word_in_memory, number_read, Legal, CanFollow}
 use Rattle.memory.specs.Writes.{newest_word}
-use Rattle.step_machine.specs.Paths.{number_read}
-use Rattle.step_machine.specs.Legal.{Legal}
-use Rattle.step_machine.specs.Runs.{CanFollow}
 use Rattle.poll_close.specs.Layout.{Layout}
-use Rattle.poll_close.specs.Reports.{taken, sender_of, IsPrefixOf}
-use Rattle.poll_close.specs.Going.{GoesOn}
-use Rattle.poll_close.specs.Touching.{Touches}
-use Rattle.poll_close.specs.Invariant.Blocks.{block_of, as_write, as_writes, to_block, AreNext}
-use Rattle.poll_close.specs.Invariant.ReceiverState.{ReceiverRegisters, whole_of, receives, closings_due}
-use Rattle.poll_close.specs.Invariant.BlockInvariant.{BlockInvariant, Count, unread_of, AllReported, ReceiverIs}
-use Rattle.poll_close.specs.Invariant.Channels.{BlockPart, ReceiverPart, ReportsOf, ReportPart, all_closings}
+use Rattle.poll_close.specs.{taken, sender_of, IsPrefixOf, GoesOn, Touches, block_of, as_write, as_writes, to_block, AreNext, ReceiverRegisters, whole_of}
+use Rattle.poll_close.specs.{receives, closings_due, BlockInvariant, Count, unread_of, AllReported, ReceiverIs, BlockPart, ReceiverPart, ReportsOf, ReportPart}
+use Rattle.poll_close.specs.{all_closings}
 use Rattle.poll_close.proofs.Acts.{Acted, Plain, acted, going, stored_by, reports_of_need}
 use Rattle.poll_close.proofs.Windows.{window-made}
-use Rattle.poll_close.proofs.Blocks.{IsBlock, Within, IsWordOf, word_end, IsStore, IsStore-whole, newest-as_writes}
-use Rattle.poll_close.proofs.Blocks.{apart, to_block-stored, to_block-elsewhere, newest-to_block, put, put_same}
-use Rattle.poll_close.proofs.Blocks.{put_other}
+use Rattle.poll_close.proofs.Blocks.{IsBlock, Within, IsWordOf, word_end, IsStore, IsStore-whole, newest-as_writes, apart, to_block-stored, to_block-elsewhere}
+use Rattle.poll_close.proofs.Blocks.{newest-to_block, put, put_same, put_other}
 use Rattle.poll_close.proofs.BlockLaws.{BlockLaws, seen_at, Says, Comes, Receives, Finds}
 use Rattle.poll_close.proofs.ReceiverMoves.{receives_on}
 use Rattle.poll_close.proofs.ReceiverStays.{shuts_same}

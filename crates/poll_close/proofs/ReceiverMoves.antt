@@ -1,8 +1,7 @@
 -- The reasons of the receiver's rows, whatever the ring: from what holds at each line to what holds where it goes
 -- on, and nearer to its next report.
-use Rattle.std.proofs.Common.{ℕ, ◌+◌, ◌*◌, ◌≡◌, ◌⊎◌, inl, [], ◌∷◌, Some, refl, ◌∙◌, ap}
-use Rattle.std.proofs.Common.{◌-◌, ◌<◌, ◌≤◌, ◌≢◌, ◌==◌, inr, true, false, not, ◌&&◌, length, sym, subst}
-use Rattle.std.proofs.Common.{add-zero, arith, lit<}
+use Rattle.std.proofs.Common.{ℕ, ◌+◌, ◌*◌, ◌≡◌, ◌⊎◌, inl, [], ◌∷◌, Some, refl, ◌∙◌, ap, ◌-◌, ◌<◌, ◌≤◌, ◌≢◌, ◌==◌, inr, true, false, not, ◌&&◌, length, sym}
+use Rattle.std.proofs.Common.{subst, add-zero, arith, lit<}
 use Rattle.std.specs.Prelude.{map, slice_index}
 use Rattle.std.specs.List.{slice_get}
 use Rattle.rv_decode.specs.declared.instruction.Instr.{Instr}
@@ -11,21 +10,17 @@ use Rattle.hart.specs.declared.need.Need.{Need}
 use Rattle.hart.specs.declared.need.Need.TheVariants as need
 use Rattle.hart.proofs.Instructions.{IsAt, took_need, took_after, closed_need, closed_after, exit_need, exit_after}
 use Rattle.rv_decode.specs.Listings.{lines_of}
-use Rattle.poll_close.specs.Listing.{RingLines, receiver_with}
-use Rattle.poll_close.specs.Invariant.Blocks.{SenderBlock, offset}
-use Rattle.poll_close.specs.Invariant.ReceiverState.{ReceiverRegisters, ReceiverConstants, whole_of, receiving, receives, closings_due}
-use Rattle.poll_close.specs.Invariant.BlockInvariant.{BlockInvariant, ReceiverCounts, Count, ReceiverIs, Flag, rows_of}
+use Rattle.poll_close.specs.{RingLines, receiver_with, SenderBlock, offset, ReceiverRegisters, ReceiverConstants, whole_of, receiving, receives, closings_due}
+use Rattle.poll_close.specs.{BlockInvariant, ReceiverCounts, Count, ReceiverIs, Flag, rows_of, rest_from, runs, is_closed}
 use Rattle.poll_close.proofs.Acts.{stored_by, reports_of_need, IsNoAmo}
-use Rattle.step_machine.proofs.Lines.{Line, loads, at_line, stores, word-plus, word-minus, add_line, sum_line, load_line}
-use Rattle.step_machine.proofs.Lines.{store_line, jump_line, same_jumps, other_goes_on, other_jumps, same_goes_on}
+use Rattle.step_machine.proofs.Lines.{Line, loads, at_line, stores, word-plus, word-minus, add_line, sum_line, load_line, store_line, jump_line, same_jumps}
+use Rattle.step_machine.proofs.Lines.{other_goes_on, other_jumps, same_goes_on}
 use Rattle.poll_close.proofs.BlockLaws.{Changes, Comes, Says, Nearer, Receives, Decodes, BlockLaws, Runs, Right_at}
 use Rattle.std.proofs.lemmas.Bool.{cases_eq, cases_lt}
 use Rattle.std.proofs.lemmas.Bool.Decides.{nat_tests}
 use Rattle.std.proofs.lemmas.Nat.{row_fits}
 use Rattle.hart.specs.declared.status.Status.TheVariants as status
 use Rattle.hart.specs.declared.need.Report.TheVariants as report
-use Rattle.poll_close.specs.Rankings.{rest_from, runs}
-use Rattle.poll_close.specs.Plans.{is_closed}
 use Rattle.step_machine.proofs.Modulo.{offset_step, offset_wrap}
 use Rattle.poll_close.proofs.Blocks.{IsBlock, IsWordOf, offset_low, word_of, word_from}
 use Rattle.poll_close.proofs.Outlines.{◌&◌, found}

@@ -1,12 +1,9 @@
 -- What holds of the receiver goes on holding as others act and stores land.
 use Rattle.std.proofs.Common.{ℕ, zero, suc, ◌<◌, ◌≡◌, refl, List, length, sym, ◌∙◌, ap, subst, arith}
 use Rattle.hart.specs.declared.need.Report.{Report}
-use Rattle.step_machine.specs.History.{History}
-use Rattle.step_machine.specs.Paths.{state_of}
+use Rattle.step_machine.specs.Names.{History, state_of}
 use Rattle.poll_close.specs.Layout.{Layout}
-use Rattle.poll_close.specs.Invariant.Blocks.{block_of}
-use Rattle.poll_close.specs.Invariant.BlockInvariant.{BlockInvariant, ReceiverCounts, Count, AllReported, ReceiverIs}
-use Rattle.poll_close.specs.Invariant.Channels.{ReceiverPart, ReportPart, all_closings}
+use Rattle.poll_close.specs.{block_of, BlockInvariant, ReceiverCounts, Count, AllReported, ReceiverIs, ReceiverPart, ReportPart, all_closings}
 use Rattle.poll_close.proofs.AllBlocks.{BlocksAfter}
 
 -- sums over all senders

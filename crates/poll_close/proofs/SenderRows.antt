@@ -1,7 +1,7 @@
 -- The rows of a sender's outline by the instruction of their line. A ring shows of a row what holds after its line; where
 -- that leads, what it leaves in the registers and that it is inside of the code is computed, and given as `refl`.
-use Rattle.std.proofs.Common.{ℕ, suc, ℤ, pos, ◌+◌, ◌*◌, ◌%◌, ◌<◌, ◌≤◌, ◌≡◌, ◌≢◌, ◌==◌, inl, inr, Bool, true, false, List, []}
-use Rattle.std.proofs.Common.{◌∷◌, length, drop, length-drop, Some, None, refl, sym, ◌∙◌, ap, subst, arith, eq-eqb, ne_eqb}
+use Rattle.std.proofs.Common.{ℕ, suc, ℤ, pos, ◌+◌, ◌*◌, ◌%◌, ◌<◌, ◌≤◌, ◌≡◌, ◌≢◌, ◌==◌, inl, inr, Bool, true, false, List, [], ◌∷◌, length, drop, length-drop}
+use Rattle.std.proofs.Common.{Some, None, refl, sym, ◌∙◌, ap, subst, arith, eq-eqb, ne_eqb}
 use Rattle.std.specs.Prelude.{nat_lt, slice_index, map}
 use Rattle.std.specs.List.{slice_get}
 use Rattle.std.proofs.lemmas.Bool.{cases_lt, cases_eq}
@@ -12,18 +12,13 @@ use Rattle.rv_decode.specs.declared.instruction.LoadOp.TheVariants as load
 use Rattle.rv_decode.specs.declared.instruction.StoreOp.TheVariants as store
 use Rattle.rv_decode.specs.declared.instruction.Instr.{Instr}
 use Rattle.rv_decode.specs.declared.instruction.Instr.TheVariants.{Branch, Load, Store, Ecall}
-use Rattle.hart.specs.State.{HartState}
+use Rattle.hart.specs.{HartState, register_value, register_written, next_pc, address, registers_after, pc_after, need_of, need_for, advanced, after_instruction}
 use Rattle.hart.specs.declared.need.Need.{Need}
 use Rattle.hart.specs.declared.need.Need.TheVariants as need
-use Rattle.hart.specs.Effects.{register_value, register_written, next_pc, address, registers_after, pc_after}
-use Rattle.hart.specs.Steps.{need_of, need_for, advanced, after_instruction}
 use Rattle.hart.proofs.Instructions.{IsAt, need_at, after-at, load_need, load_after, store_need, store_after, exit_need, exit_after}
-use Rattle.step_machine.proofs.Lines.{Line, loads, stores, word-plus, goes_to, leaves_in}
-use Rattle.step_machine.proofs.Lines.{same_jumps, other_goes_on, other_jumps, same_goes_on}
-use Rattle.poll_close.specs.Invariant.Blocks.{SenderBlock, AreNext}
-use Rattle.poll_close.specs.Invariant.SenderState.{SenderRegisters, fixed, file, running, ended}
-use Rattle.poll_close.specs.Invariant.BlockInvariant.{BlockInvariant, Count, unsent_of}
-use Rattle.poll_close.specs.Invariant.Outlines.{stands, SenderIs, rank_in, left_of}
+use Rattle.step_machine.proofs.Lines.{Line, loads, stores, word-plus, goes_to, leaves_in, same_jumps, other_goes_on, other_jumps, same_goes_on}
+use Rattle.poll_close.specs.{SenderBlock, AreNext, SenderRegisters, fixed, file, running, ended, BlockInvariant, Count, unsent_of, stands, SenderIs, rank_in}
+use Rattle.poll_close.specs.{left_of}
 use Rattle.poll_close.proofs.Acts.{stored_by, IsNoAmo}
 use Rattle.poll_close.proofs.Blocks.{IsBlock, IsWordOf}
 use Rattle.poll_close.proofs.BlockLaws.{found_in}

@@ -1,8 +1,7 @@
 -- How much is left for the plan to do: each sender's share, their sum, and what acts and reports make of
 -- them.
-use Rattle.std.proofs.Common.{ℕ, zero, suc, ◌+◌, ◌-◌, ◌*◌, ◌<◌, ◌≤◌, ◌≡◌, ◌≢◌, ◌==◌, inl, inr, Bool, true, false}
-use Rattle.std.proofs.Common.{◌||◌, List, [], ◌∷◌, ◌++◌, length, length-append, Option, Some, None}
-use Rattle.std.proofs.Common.{refl, sym, ◌∙◌, ap, arith, eq-eqb}
+use Rattle.std.proofs.Common.{ℕ, zero, suc, ◌+◌, ◌-◌, ◌*◌, ◌<◌, ◌≤◌, ◌≡◌, ◌≢◌, ◌==◌, inl, inr, Bool, true, false, ◌||◌, List, [], ◌∷◌, ◌++◌, length}
+use Rattle.std.proofs.Common.{length-append, Option, Some, None, refl, sym, ◌∙◌, ap, arith, eq-eqb}
 use Rattle.std.specs.List.{slice_get, slice_index_or}
 use Rattle.std.proofs.Math.Bool.{or-false}
 use Rattle.std.proofs.lemmas.Bool.{cases_eq, cases_lt}
@@ -12,12 +11,8 @@ use Rattle.std.proofs.lemmas.Option.{slice_get_past}
 use Rattle.hart.specs.State.{HartState}
 use Rattle.hart.specs.declared.need.Report.{Report}
 use Rattle.hart.specs.declared.need.Report.TheVariants as report
-use Rattle.poll_close.specs.Reports.{taken, sender_of, Clean}
-use Rattle.poll_close.specs.Rankings.{Ranking, some_open, receiver_rank_if}
-use Rattle.poll_close.specs.Rankings.{sender_if, one_if, share, total, round, rank_by_states, Around}
-use Rattle.poll_close.specs.Plans.{is_closed, all_closed}
-use Rattle.poll_close.specs.Invariant.BlockInvariant.{BlockInvariant, Count}
-use Rattle.poll_close.specs.Invariant.Channels.{all_closings}
+use Rattle.poll_close.specs.{taken, sender_of, Clean, Ranking, some_open, receiver_rank_if, sender_if, one_if, share, total, round, rank_by_states, Around}
+use Rattle.poll_close.specs.{is_closed, all_closed, BlockInvariant, Count, all_closings}
 use Rattle.poll_close.proofs.Windows.{get_end}
 use Rattle.poll_close.proofs.CleanReports.{taken-took, taken-closed, get_front}
 use Rattle.poll_close.proofs.ReceiverActs.{shuts_most}

@@ -1,29 +1,19 @@
 -- A channel stands at its opening, and goes on standing over every event; and what is known then of a
 -- sender's hart.
-use Rattle.std.proofs.Common.{◌≡◌, ℕ, ◌+◌, ◌<◌, Result, Ok, Err, List, [], ◌∷◌, length, take, map, refl, sym, ◌∙◌, ap}
-use Rattle.std.proofs.Common.{subst, arith, suc, ◌-◌, ◌%◌, ◌≤◌, Some}
+use Rattle.std.proofs.Common.{◌≡◌, ℕ, ◌+◌, ◌<◌, Result, Ok, Err, List, [], ◌∷◌, length, take, map, refl, sym, ◌∙◌, ap, subst, arith, suc, ◌-◌, ◌%◌, ◌≤◌, Some}
 use Rattle.std.specs.Prelude.{IfOk, IfErr, OnOk, OnErr}
 use Rattle.hart.specs.declared.need.Report.{Report}
 use Rattle.step_machine.specs.declared.events.Event.{Event}
 use Rattle.step_machine.specs.declared.events.Outcome.{Outcome}
-use Rattle.step_machine.specs.History.{HartOpeningValue, OpeningValue, History, HistoryWithRoom, at_opening}
-use Rattle.step_machine.specs.Entries.{reported, memory_word}
-use Rattle.step_machine.specs.Runs.{Happens, RunFrom}
-use Rattle.step_machine.proofs.Running.{kept-at_opening}
+use Rattle.step_machine.specs.Names.{HartOpeningValue, OpeningValue, History, HistoryWithRoom, at_opening, reported, memory_word, Happens, RunFrom, state_of}
+use Rattle.step_machine.specs.Names.{OpensWithWords, word_in_memory}
+use Rattle.step_machine.proofs.{kept-at_opening, memory-word}
 use Rattle.poll_close.specs.Layout.{Layout, senders_from}
-use Rattle.poll_close.specs.Laws.{Ring, opening_over, Meaning, AcceptedAt, Opens, Keeps, Cleans, Goes}
-use Rattle.poll_close.specs.Going.{AllGoOn}
-use Rattle.poll_close.specs.Reports.{Clean}
-use Rattle.poll_close.specs.Standing.{Stands, opening_lists}
+use Rattle.poll_close.specs.{Ring, opening_over, Meaning, AcceptedAt, Opens, Keeps, Cleans, Goes, AllGoOn, Clean, Stands, opening_lists, SenderBlock, block_of}
+use Rattle.poll_close.specs.{BlockInvariant, Count, means_by}
 use Rattle.poll_close.proofs.Delivering.{Known, known-happens, known-run, senders-length}
 use Rattle.hart.specs.State.{HartState}
-use Rattle.step_machine.specs.Paths.{state_of}
-use Rattle.step_machine.specs.WordReads.{OpensWithWords, word_in_memory}
-use Rattle.step_machine.proofs.WordReads.{memory-word}
 use Rattle.poll_close.specs.Invariant.Outlines.{Standing}
-use Rattle.poll_close.specs.Invariant.Blocks.{SenderBlock, block_of}
-use Rattle.poll_close.specs.Invariant.BlockInvariant.{BlockInvariant, Count}
-use Rattle.poll_close.specs.Invariant.Channels.{means_by}
 use Rattle.poll_close.proofs.Blocks.{IsBlock}
 use Rattle.poll_close.proofs.ChannelLaws.{blocks}
 

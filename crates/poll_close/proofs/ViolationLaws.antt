@@ -1,6 +1,6 @@
 -- That the first violation of a run is none exactly where the run keeps what a ring must.
-use Rattle.std.proofs.Common.{ℕ, zero, suc, ◌+◌, ◌<◌, ◌≤◌, ◌≡◌, ◌≢◌, ◌==◌, ◌⊎◌, inl, inr, Bool, true, false, ◌||◌, if◌then◌else◌}
-use Rattle.std.proofs.Common.{List, [], ◌∷◌, ◌++◌, length, take, Option, Some, None, refl, sym, ◌∙◌, ap, subst, arith, append_assoc, append-nil, length-append}
+use Rattle.std.proofs.Common.{ℕ, zero, suc, ◌+◌, ◌<◌, ◌≤◌, ◌≡◌, ◌≢◌, ◌==◌, ◌⊎◌, inl, inr, Bool, true, false, ◌||◌, if◌then◌else◌, List, [], ◌∷◌, ◌++◌, length}
+use Rattle.std.proofs.Common.{take, Option, Some, None, refl, sym, ◌∙◌, ap, subst, arith, append_assoc, append-nil, length-append}
 use Rattle.std.specs.Prelude.{◌↔◌}
 use Rattle.std.specs.List.{slice_get, slice_index_or}
 use Rattle.std.proofs.lemmas.Bool.Decides.{nat_tests}
@@ -14,13 +14,9 @@ use Rattle.step_machine.specs.declared.events.Entry.TheVariants as entry
 use Rattle.step_machine.specs.Entries.{report_of, reported}
 use Rattle.step_machine.proofs.Appended.{reported-last}
 use Rattle.poll_close.specs.Layout.{block_size, Layout, base_of}
-use Rattle.poll_close.specs.Reports.{taken, sender_of, IsPrefixOf, Clean}
-use Rattle.poll_close.specs.Plans.{is_closed}
-use Rattle.poll_close.specs.Going.{GoesOn}
-use Rattle.poll_close.specs.Touching.{StaysWithin, Touches}
-use Rattle.poll_close.specs.Violations.{word_violation, took_violation, closed_violation, report_violation, is_within, stays_within, violation_of}
-use Rattle.poll_close.specs.Violations.{or_later, violation_after, first_violation, IsKept}
-use Rattle.poll_close.specs.declared.clean.Violation.{Violation}
+use Rattle.poll_close.specs.{taken, sender_of, IsPrefixOf, Clean, is_closed, GoesOn, StaysWithin, Touches, word_violation, took_violation, closed_violation}
+use Rattle.poll_close.specs.{report_violation, stays_within, violation_of, or_later, violation_after, first_violation, IsKept, Violation}
+use Rattle.poll_close.specs.Violations.{is_within}
 use Rattle.poll_close.proofs.CleanReports.{get_front, taken-append, taken-took, taken-closed, clean_more, taken-other, nothing_left, clean-none}
 use Rattle.poll_close.proofs.Planning.{closed_at}
 use Rattle.poll_close.proofs.Windows.{get_end, each_more}

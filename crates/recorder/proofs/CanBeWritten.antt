@@ -5,31 +5,24 @@ use Rattle.std.specs.List.{All}
 use Rattle.std.proofs.lemmas.Bool.{eqb-true}
 use Rattle.std.proofs.lemmas.List.Elements.{All-nil, All-cons, All-head, All-tail, All-replicate}
 use Rattle.hart.specs.declared.status.Stop.{Stop}
-use Rattle.hart.specs.State.{HartState}
-use Rattle.hart.specs.Steps.{need_of}
+use Rattle.hart.specs.{HartState, need_of}
 use Rattle.hart.specs.declared.need.Need.{Need}
 use Rattle.hart.proofs.Needs.{IsTrueOf, need_is_true}
-use Rattle.step_machine.specs.History.{OpeningValue, History, at_opening}
+use Rattle.step_machine.specs.Names.{OpeningValue, History, at_opening, IsFor, CanFollow, idle, Happens}
 use Rattle.step_machine.specs.Entries.{is_land, hart_of as hart_of_entry}
 use Rattle.step_machine.specs.Paths.{entry_of, number_read, CanMake}
-use Rattle.step_machine.specs.Runs.{IsFor, CanFollow, idle, Happens}
 use Rattle.step_machine.specs.declared.events.Event.{Event}
 use Rattle.step_machine.specs.declared.events.Event.TheVariants.{Act, Land}
 use Rattle.step_machine.specs.declared.events.Entry.{Entry}
 use Rattle.step_machine.specs.declared.events.Entry.TheVariants as entry
 use Rattle.step_machine.specs.declared.events.Outcome.{Outcome}
 use Rattle.step_machine.specs.declared.events.Outcome.TheVariants.{Did, Waited, NothingToLand, Over, NoHart}
-use Rattle.step_machine.proofs.Follows.{act_only}
-use Rattle.step_machine.proofs.Running.{hart_follows}
-use Rattle.step_machine.proofs.OwnRuns.{state_there}
-use Rattle.texts.specs.Cutting.{tokens}
-use Rattle.texts.specs.Rows.{RowPlace, fixed, any, Made, Row, Fill, IsRowOf}
+use Rattle.step_machine.proofs.{act_only, hart_follows, state_there}
+use Rattle.texts.specs.{tokens, RowPlace, fixed, any, Made, Row, Fill, IsRowOf}
 use Rattle.texts.proofs.ResultLaws.{some_is}
 use Rattle.texts.proofs.FormatLaws.{stand_all}
-use Rattle.recorder.specs.Schedule.{hart_of_event, OfHarts}
-use Rattle.recorder.specs.Outcomes.{HartOutcome, stopped, outcome_rows, IsWidth, IsEntryOf, OutcomeFits, IsOutcomeOf}
-use Rattle.recorder.specs.Records.{Step, events_in, IsStepsOf, SizedLine, IsLineOf, record_lines, IsRecordOf, CanBeWritten}
-use Rattle.recorder.specs.Replaying.{RecordFrom, IsRunRecord}
+use Rattle.recorder.specs.{hart_of_event, OfHarts, HartOutcome, stopped, outcome_rows, IsWidth, IsEntryOf, OutcomeFits, IsOutcomeOf, Step, events_in, IsStepsOf}
+use Rattle.recorder.specs.{SizedLine, IsLineOf, record_lines, IsRecordOf, CanBeWritten, RecordFrom, IsRunRecord}
 
 -- ---- a run's outcomes
 

@@ -4,8 +4,7 @@ use Rattle.std.proofs.lemmas.Bool.{lt-ltb, le-ltb}
 use Rattle.std.proofs.lemmas.List.Elements.{All-nil, All-cons}
 use Rattle.rand_core.specs.Stream.{Stream, next_u32}
 use Rattle.step_machine.specs.declared.events.Event.{Event}
-use Rattle.recorder.specs.Schedule.{hart_of_event, OfHarts}
-use Rattle.recorder.specs.Drawing.{drawn, drawn_words, left_after}
+use Rattle.recorder.specs.{hart_of_event, OfHarts, drawn, drawn_words, left_after}
 
 left_after-suc : (i : ℕ) (stream : Stream) → left_after (suc i) stream ≡ (next_u32 (left_after i stream)).1
 unfolding left_after

@@ -1,7 +1,6 @@
 -- The texts of outcomes: what is read of words, against what they say, and what is written, read again.
-use Rattle.std.proofs.Common.{◌≡◌, ◌↔◌, inl, inr, ℕ, ◌<◌, ◌≤◌, ◌==◌, Bool, true, false, cond, ◌&&◌, List, [], ◌∷◌, ◌++◌}
-use Rattle.std.proofs.Common.{length, map, take, append_assoc, suc, Option, Some, None, refl, sym, ap, subst, ◌∙◌}
-use Rattle.std.proofs.Common.{arith, rules, ltb, not}
+use Rattle.std.proofs.Common.{◌≡◌, ◌↔◌, inl, inr, ℕ, ◌<◌, ◌≤◌, ◌==◌, Bool, true, false, cond, ◌&&◌, List, [], ◌∷◌, ◌++◌, length, map, take, append_assoc, suc}
+use Rattle.std.proofs.Common.{Option, Some, None, refl, sym, ap, subst, ◌∙◌, arith, rules, ltb, not}
 use Rattle.std.specs.Prelude.{codes, Decides, if◌then◌else◌}
 use Rattle.std.specs.Fmt.{decimal}
 use Rattle.std.specs.Str.{bytes_eq}
@@ -16,21 +15,14 @@ use Rattle.step_machine.specs.declared.events.Entry.{Entry}
 use Rattle.step_machine.specs.declared.events.Entry.TheVariants as entry
 use Rattle.step_machine.specs.declared.events.Outcome.{Outcome}
 use Rattle.step_machine.specs.declared.events.Outcome.TheVariants.{Did, Waited, NothingToLand, Over, NoHart}
-use Rattle.texts.specs.Numbers.{word_of}
-use Rattle.texts.specs.Cutting.{tokens}
-use Rattle.texts.specs.Formats.{DecidesGrammar, or_fault}
-use Rattle.texts.specs.Rows.{RowPlace, fixed, any, Made, Row, Fill, or_next, IsRowOf, rows_at, of_length, chain_at}
-use Rattle.texts.specs.Rows.{are_apart, Written, plain, number, word_text, row_text}
+use Rattle.texts.specs.{word_of, tokens, DecidesGrammar, or_fault, RowPlace, fixed, any, Made, Row, Fill, or_next, IsRowOf, rows_at, of_length, chain_at}
+use Rattle.texts.specs.{are_apart, Written, word_text, row_text}
+use Rattle.texts.specs.Rows.{plain, number}
 use Rattle.texts.proofs.ResultLaws.{some, some_is}
 use Rattle.texts.proofs.RowLaws.{is_low, rows-settle, rows-of_length, rows-by_name, AreSolid, decimal_says, decimal_solid, solid_by_test, row-again}
-use Rattle.recorder.specs.declared.faults.AtByte.{AtByte}
-use Rattle.recorder.specs.declared.faults.ScheduleFault.TheVariants.{BadOutcome}
-use Rattle.recorder.specs.Schedule.{hart_of_event}
-use Rattle.recorder.specs.Reading.{at_byte}
-use Rattle.recorder.specs.Outcomes.{HartOutcome, stop_of, outcome_rows, may_have, event_outcome, SaysOutcome}
-use Rattle.recorder.specs.Outcomes.{entry_row, outcome_row, outcome_text, IsEntryOf, OutcomeFits, IsOutcomeOf}
+use Rattle.recorder.specs.{AtByte, BadOutcome, hart_of_event, at_byte, HartOutcome, stop_of, outcome_rows, may_have, event_outcome, SaysOutcome, entry_row}
+use Rattle.recorder.specs.{outcome_row, outcome_text, IsEntryOf, OutcomeFits, IsOutcomeOf, HasWords, OutcomeHasWords, is_same_outcome}
 use Rattle.rv_decode.specs.Word.{IsWord}
-use Rattle.recorder.specs.Outcomes.{HasWords, OutcomeHasWords, is_same_outcome}
 
 -- no two rows of the table are filled by the same words
 rows_apart : are_apart outcome_rows ≡ true

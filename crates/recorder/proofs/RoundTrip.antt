@@ -1,6 +1,6 @@
 -- What the writer writes is a schedule of its events.
-use Rattle.std.proofs.Common.{◌≡◌, ℕ, ◌+◌, ◌^◌, ◌<◌, ◌≤◌, Bool, false, List, [], ◌∷◌, ◌++◌, length, replicate}
-use Rattle.std.proofs.Common.{refl, sym, ap, subst, ◌∙◌, inl, inr, append_assoc, length-append, arith}
+use Rattle.std.proofs.Common.{◌≡◌, ℕ, ◌+◌, ◌^◌, ◌<◌, ◌≤◌, Bool, false, List, [], ◌∷◌, ◌++◌, length, replicate, refl, sym, ap, subst, ◌∙◌, inl, inr}
+use Rattle.std.proofs.Common.{append_assoc, length-append, arith}
 use Rattle.std.specs.List.{AllByRecursion}
 use Rattle.std.specs.Fmt.{decimal}
 use Rattle.std.proofs.lemmas.Bool.{cases_lt, lt-ltb, le-ltb, ne_eqb}
@@ -8,19 +8,11 @@ use Rattle.std.proofs.lemmas.List.{append-nil, length-replicate}
 use Rattle.std.proofs.lemmas.List.Elements.{recursion_from_All}
 use Rattle.step_machine.specs.declared.events.Event.{Event}
 use Rattle.texts.specs.declared.pieces.Separators.TheVariants.{BlanksAndLineEnds}
-use Rattle.texts.specs.Pieces.{separates, pieces}
-use Rattle.texts.specs.Grammars.{numeral}
-use Rattle.texts.proofs.GrammarLaws.{decimal_numeral}
-use Rattle.texts.specs.Cutting.{NonePass}
-use Rattle.texts.specs.Formats.{Stand}
-use Rattle.texts.proofs.CuttingLaws.{none-append, split_none, split_stop}
-use Rattle.texts.proofs.RowLaws.{is_low, Solid, none_of, decimal_solid}
-use Rattle.recorder.specs.Schedule.{letter, hart_of_event, numbers, token, IsPieceOf, OfHarts, IsTokensOf, EndsLine, IsPlainOf}
+use Rattle.texts.specs.{separates, pieces, numeral, NonePass, Stand, Repetition, repetitions_of, expanded}
+use Rattle.texts.proofs.{decimal_numeral, none-append, split_none, split_stop, is_low, Solid, none_of, decimal_solid, expanded-runs_of, all-runs_of}
+use Rattle.recorder.specs.{letter, hart_of_event, numbers, token, IsPieceOf, OfHarts, IsTokensOf, EndsLine, IsPlainOf, head, is_same, repetition_text}
+use Rattle.recorder.specs.{tokens_text, schedule_tokens, canon}
 use Rattle.step_machine.specs.declared.events.Event.TheVariants.{Act, Land}
-use Rattle.recorder.specs.Reading.{head}
-use Rattle.texts.specs.Runs.{Repetition, repetitions_of, expanded}
-use Rattle.texts.proofs.RunLaws.{expanded-runs_of, all-runs_of}
-use Rattle.recorder.specs.Writing.{is_same, repetition_text, tokens_text, schedule_tokens, canon}
 use Rattle.recorder.specs.Versions.{plain, IsScheduleOf}
 use Rattle.recorder.proofs.Runs.{decides}
 

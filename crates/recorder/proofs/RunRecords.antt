@@ -3,14 +3,12 @@ use Rattle.std.proofs.Common.{arith, ◌≡◌, ◌≢◌, ℕ, zero, suc, ◌+�
 use Rattle.std.specs.List.{slice_get}
 use Rattle.std.proofs.lemmas.List.{take_more}
 use Rattle.std.proofs.lemmas.Option.{slice_get-get_or}
-use Rattle.step_machine.specs.History.{OpeningValue, History, at_opening}
-use Rattle.step_machine.specs.Runs.{Happens, RunFrom, Run}
+use Rattle.step_machine.specs.Names.{OpeningValue, History, at_opening, Happens, RunFrom, Run}
 use Rattle.step_machine.specs.declared.events.Event.{Event}
 use Rattle.step_machine.specs.declared.events.Outcome.{Outcome}
 use Rattle.step_machine.proofs.Running.{happens-one}
 use Rattle.texts.proofs.ResultLaws.{some_is}
-use Rattle.recorder.specs.Records.{Step, events_in}
-use Rattle.recorder.specs.Replaying.{RecordFrom, IsRunRecord, DiffersAt}
+use Rattle.recorder.specs.{Step, events_in, RecordFrom, IsRunRecord, DiffersAt}
 
 -- one more step at the end
 pub RecordFrom-more : (B M : ℕ) (t : History) (steps : List Step) (mid : History) (step : Step) (new : History)

@@ -1,16 +1,12 @@
 -- One event more of a run that is judged.
-use Rattle.std.proofs.Common.{ℕ, ◌≡◌, ◌+◌, ◌<◌, List, [], ◌∷◌, ◌++◌, length, take, get_or, Option, Some, None, refl, sym, ap, subst, ◌∙◌}
-use Rattle.std.proofs.Common.{append_assoc, append-nil}
+use Rattle.std.proofs.Common.{ℕ, ◌≡◌, ◌+◌, ◌<◌, List, [], ◌∷◌, ◌++◌, length, take, get_or, Option, Some, None, refl, sym, ap, subst, ◌∙◌, append_assoc}
+use Rattle.std.proofs.Common.{append-nil}
 use Rattle.std.proofs.lemmas.List.{take_more}
 use Rattle.step_machine.specs.declared.events.Event.{Event}
 use Rattle.step_machine.specs.declared.events.Entry.{Entry}
 use Rattle.step_machine.specs.declared.events.Outcome.{Outcome}
 use Rattle.step_machine.specs.declared.events.Outcome.TheVariants as outcome
-use Rattle.step_machine.specs.History.{OpeningValue, History, at_opening}
-use Rattle.step_machine.specs.Entries.{reported}
-use Rattle.step_machine.specs.Runs.{Happens}
-use Rattle.step_machine.specs.Standing.{RepresentsHistory, MovesBy, BeginsAnew, RepresentsRunFrom}
-use Rattle.step_machine.specs.inner.Config.{Config}
+use Rattle.step_machine.specs.Names.{OpeningValue, History, at_opening, reported, Happens, RepresentsHistory, MovesBy, BeginsAnew, RepresentsRunFrom, Config}
 use Rattle.step_machine.proofs.Running.{RunFrom-more}
 use Rattle.poll_close.specs.Layout.{Layout}
 use Rattle.poll_close.specs.Violations.{violation_of, or_later, violation_after, first_violation, AreNotes}

@@ -1,21 +1,16 @@
 -- The totals of runs, one more, and those of two parts together.
-use Rattle.std.proofs.Common.{ℕ, suc, ◌≡◌, ◌+◌, ◌<◌, ◌≤◌, inl, inr, List, [], ◌∷◌, ◌++◌, length, take, set, max, Bool, true}
-use Rattle.std.proofs.Common.{false, Option, Some, None, refl, sym, ap, subst, ◌∙◌, arith, append-nil, drop}
-use Rattle.std.proofs.Common.{drop_of_length-le}
+use Rattle.std.proofs.Common.{ℕ, suc, ◌≡◌, ◌+◌, ◌<◌, ◌≤◌, inl, inr, List, [], ◌∷◌, ◌++◌, length, take, set, max, Bool, true, false, Option, Some, None, refl}
+use Rattle.std.proofs.Common.{sym, ap, subst, ◌∙◌, arith, append-nil, drop, drop_of_length-le}
 use Rattle.std.specs.Prelude.{if◌then◌else◌}
 use Rattle.std.specs.List.{slice_get}
 use Rattle.std.proofs.Math.Nat.{eq-or-lt_of_le}
 use Rattle.std.proofs.Math.Seq.{take-length}
 use Rattle.std.proofs.lemmas.Bool.Decides.{nat_tests}
 use Rattle.std.proofs.lemmas.Option.{slice_get_within}
-use Rattle.step_machine.specs.History.{History, at_opening}
-use Rattle.step_machine.specs.Entries.{reported}
-use Rattle.step_machine.proofs.Running.{run-one}
-use Rattle.step_machine.proofs.Stays.{slice_get-set_same, slice_get-set_other}
+use Rattle.step_machine.specs.Names.{History, at_opening, reported}
+use Rattle.step_machine.proofs.{run-one, slice_get-set_same, slice_get-set_other}
 use Rattle.step_machine.specs.declared.events.Event.{Event}
-use Rattle.poll_close.specs.Reports.{taken}
-use Rattle.poll_close.specs.Plans.{is_closed}
-use Rattle.poll_close.specs.Violations.{first_violation, AreNotes}
+use Rattle.poll_close.specs.{taken, is_closed, first_violation, AreNotes}
 use Rattle.poll_close.specs.declared.clean.Violation.{Violation}
 use Rattle.poll_close.specs.declared.clean.Share.{Share}
 use Rattle.poll_close.proofs.ViolationLaws.{first_law}

@@ -1,7 +1,7 @@
 -- Which faults of threads the command `threads` refuses with: `threads_refused`. The seats that it opens are complete,
 -- one of each role for each hart and no other. So `Missing` can only mean that the bank has lost a hart.
-use Rattle.std.proofs.Common.{◌≡◌, inl, inr, ℕ, zero, suc, ◌+◌, ◌≤◌, Bool, true, false, ltb, eqb, cond, List, [], ◌∷◌}
-use Rattle.std.proofs.Common.{length, count_by, Err, refl, sym, ◌∙◌, ap, subst, arith}
+use Rattle.std.proofs.Common.{◌≡◌, inl, inr, ℕ, zero, suc, ◌+◌, ◌≤◌, Bool, true, false, ltb, eqb, cond, List, [], ◌∷◌, length, count_by, Err, refl, sym, ◌∙◌}
+use Rattle.std.proofs.Common.{ap, subst, arith}
 use Rattle.std.specs.List.{list_any}
 use Rattle.std.proofs.lemmas.Bool.{cases_Bool, le-ltb, ltb-false, ne_eqb}
 use Rattle.std.proofs.lemmas.Bool.Decides.{nat_tests}
@@ -9,14 +9,11 @@ use Rattle.std.proofs.lemmas.List.Folds.{list_any-append}
 use Rattle.std.proofs.lemmas.List.Sums.{sum_by-append}
 use Rattle.step_machine.specs.History.{OpeningValue}
 use Rattle.litmus.specs.LitmusTests.{LitmusTest}
-use Rattle.hart_threads.specs.Seats.{SeatView, acting_seat, landing_seat, seats_below, seats_of}
-use Rattle.hart_threads.specs.Missing.{is_missing, sits_at, acts_for, lands_for}
-use Rattle.hart_threads.specs.Returns.{Fails, IsLost}
+use Rattle.hart_threads.specs.{SeatView, acting_seat, landing_seat, seats_below, seats_of, is_missing, sits_at, acts_for, lands_for, Fails, IsLost}
 use Rattle.hart_threads.specs.declared.fault.Fault.{Fault}
 use Rattle.hart_threads.specs.declared.fault.Fault.TheVariants as fault
-use Rattle.engine_support.specs.Faults.{AnswersAs}
+use Rattle.engine_support.specs.{AnswersAs, text_and_value}
 use Rattle.run_engines.specs.Threads.{IsThreadsGiven, fault_of_threads}
-use Rattle.engine_support.specs.inner.Making.{text_and_value}
 
 -- one more hart
 one_more : (n h c : ℕ) → c ≡ cond (ltb h n) 1 0 → c + cond (eqb n h) 1 0 ≡ cond (ltb h (suc n)) 1 0

@@ -4,10 +4,8 @@ use Rattle.std.specs.Prelude.{map, All}
 use Rattle.std.proofs.lemmas.List.Elements.{All-map, All-weaker}
 use Rattle.step_machine.specs.declared.events.Event.{Event}
 use Rattle.step_machine.specs.declared.events.Entry.{Entry}
-use Rattle.step_machine.specs.History.{OpeningValue}
+use Rattle.step_machine.specs.Names.{OpeningValue, IsOfHarts, event_of}
 use Rattle.step_machine.specs.Entries as entries
-use Rattle.step_machine.specs.Legal.{IsOfHarts}
-use Rattle.step_machine.specs.Runs.{event_of}
 use Rattle.recorder.specs.Schedule.{OfHarts, hart_of_event}
 
 event_hart : (e : Entry) → hart_of_event (event_of e) ≡ entries.hart_of e

@@ -2,12 +2,8 @@
 use Rattle.std.proofs.Common.{◌≡◌, ℕ, ◌+◌, ◌*◌, ◌/◌, ◌^◌, ◌<◌, List, [], ◌∷◌, sym, ap, ◌∙◌, arith}
 use Rattle.std.proofs.lemmas.Int.{ints}
 use Rattle.std.proofs.lemmas.Nat.{shr-shr, shr_split}
-use Rattle.rv_decode.specs.Word.{field, imm_i, imm_s, imm_b, imm_j}
-use Rattle.rv_decode.specs.Fits.{IsPlainWord}
-use Rattle.rv_decode.specs.declared.instruction.Instr.{Instr}
-use Rattle.rv_decode.specs.declared.instruction.Instr.TheVariants.{Lui, Auipc, Jal, Jalr, Branch, Load, Store}
-use Rattle.rv_decode.specs.declared.instruction.Instr.TheVariants.{Immediate, Shift, Register, Fence, FenceTso, Ecall}
-use Rattle.rv_decode.specs.declared.instruction.Instr.TheVariants.{Ebreak, Amo}
+use Rattle.rv_decode.specs.{field, imm_i, imm_s, imm_b, imm_j, IsPlainWord, Instr, Lui, Auipc, Jal, Jalr, Branch, Load, Store, Immediate, Shift, Register}
+use Rattle.rv_decode.specs.{Fence, FenceTso, Ecall, Ebreak, Amo}
 
 -- ---- words with the same fields are one
 

@@ -1,7 +1,6 @@
 -- Names looked up in a table.
 use Rattle.std.proofs.Common.{◌≡◌, ℕ, true, List, [], ◌∷◌, Option, Some, None, refl, sym, ◌∙◌, ap, subst, inl, inr, ◌<◌}
-use Rattle.std.specs.Prelude.{find, option_map, bytes_eq}
-use Rattle.std.specs.Prelude.{IfSome, nat_lt}
+use Rattle.std.specs.Prelude.{find, option_map, bytes_eq, IfSome, nat_lt}
 use Rattle.std.specs.List.{list_all}
 use Rattle.std.proofs.lemmas.Bool.{cases_Bool, ltb-true, and_parts}
 use Rattle.rv_decode.specs.Tables.{row_of}

@@ -2,25 +2,18 @@
 use Rattle.std.proofs.Common.{◌≡◌, ℕ, Bool, List, [], ◌∷◌, ◌++◌, map, All, Some, Result, refl, sym, ap, ◌∙◌, subst, arith}
 use Rattle.std.specs.List.{flat_map}
 use Rattle.std.proofs.lemmas.List.Elements.{All-tail}
-use Rattle.step_machine.specs.History.{History, at_opening}
-use Rattle.step_machine.specs.Runs.{Run}
+use Rattle.step_machine.specs.Names.{History, at_opening, Run}
 use Rattle.step_machine.specs.declared.events.Event.{Event}
 use Rattle.step_machine.proofs.Running.{run-one}
-use Rattle.litmus.specs.LitmusTests.{LitmusTest, left_sides}
-use Rattle.litmus.specs.Verdicts.{IsVerdict, final_value}
+use Rattle.litmus.specs.{LitmusTest, left_sides, IsVerdict, final_value}
 use Rattle.litmus.specs.declared.verdict.Verdict.{Verdict}
 use Rattle.litmus.proofs.VerdictLaws.{one_verdict}
 use Rattle.engine_support.specs.declared.fault.Refusal.{Refusal}
-use Rattle.engine_support.specs.Engines.{AreOneAnswer}
-use Rattle.engine_support.specs.Outcomes.{AreOutcomes}
-use Rattle.engine_support.specs.Tests.{tests}
-use Rattle.engine_support.proofs.InputLaws.{alike_after, one_litmus_text, one_made}
-use Rattle.engine_support.proofs.OneInput.{equal_alike}
-use Rattle.engine_support.proofs.OutcomeTables.{one_outcomes}
-use Rattle.sampling.specs.Trials.{Trial, IsTrial, are_good, gave}
+use Rattle.engine_support.specs.{AreOneAnswer, AreOutcomes, tests}
+use Rattle.engine_support.proofs.{alike_after, one_litmus_text, one_made, equal_alike, one_outcomes}
+use Rattle.sampling.specs.{Trial, IsTrial, are_good, gave, Unfinished, first_unfinished, last_line, shown_by, outcome_with_count, unfinished, IsTried}
+use Rattle.sampling.specs.{IsTryAnswer}
 use Rattle.drawn_runs.specs.Samples.{DrawnRuns}
-use Rattle.sampling.specs.declared.trials.outcomes.Unfinished.{Unfinished}
-use Rattle.sampling.specs.Outcomes.{first_unfinished, last_line, shown_by, outcome_with_count, unfinished, IsTried, IsTryAnswer}
 
 -- ---- one run of each schedule
 

@@ -6,12 +6,9 @@ use Rattle.litmus.specs.LitmusTests.{LitmusTest}
 use Rattle.litmus.specs.declared.verdict.Quantifier.{Quantifier}
 use Rattle.engine_support.specs.Counting.{AreCountedLines, counted}
 use Rattle.engine_support.proofs.OutcomeTables.{are_outcomes, table_is}
-use Rattle.sampling.specs.declared.trials.tally.Tally.{Tally}
+use Rattle.sampling.specs.{Tally, Trial, AreDrawnTrials, is_holds, is_fails, gave, are_good, Unfinished, first_schedule, last_line, shown_by}
+use Rattle.sampling.specs.{outcome_with_count, unfinished, IsTried, IsTallyOf, good_by, left_name}
 use Rattle.drawn_runs.specs.Samples.{DrawnRuns}
-use Rattle.sampling.specs.Trials.{Trial, AreDrawnTrials, is_holds, is_fails, gave, are_good}
-use Rattle.sampling.specs.declared.trials.outcomes.Unfinished.{Unfinished}
-use Rattle.sampling.specs.Outcomes.{first_schedule, last_line, shown_by, outcome_with_count, unfinished, IsTried}
-use Rattle.sampling.specs.inner.Tallies.{IsTallyOf, good_by, left_name}
 
 good_is : (quantifier : Quantifier) (trials : List Trial)
     → good_by quantifier (list_any (λ (t : Trial). is_holds t.verdict) trials)

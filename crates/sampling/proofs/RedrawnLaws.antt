@@ -5,8 +5,7 @@ use Rattle.rand_core.specs.Stream.{Stream, next_u32}
 use Rattle.step_machine.specs.declared.events.Event.{Event}
 use Rattle.texts.specs.Runs.{repetitions_of}
 use Rattle.texts.proofs.RunLaws.{turn-same, turn-other, turns-end}
-use Rattle.recorder.specs.Drawing.{drawn, drawn_words}
-use Rattle.recorder.specs.Writing.{is_same, repetition_text, schedule_tokens, tokens_text}
+use Rattle.recorder.specs.{drawn, drawn_words, is_same, repetition_text, schedule_tokens, tokens_text}
 use Rattle.recorder.proofs.Runs.{before_others, decides, to_write, token_before}
 use Rattle.drawn_runs.specs.declared.draws.Burst.{Burst}
 use Rattle.drawn_runs.specs.declared.draws.Draw.{Draw}

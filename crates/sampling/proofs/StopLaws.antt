@@ -6,8 +6,7 @@ use Rattle.std.proofs.lemmas.Bool.Decides.{nat_tests}
 use Rattle.std.proofs.lemmas.List.{take_more, get_or-set_same, get_or-set_other}
 use Rattle.step_machine.specs.Positions.{Position}
 use Rattle.engine_support.proofs.OutcomeTables.{count_more}
-use Rattle.sampling.specs.declared.stops.Stopped.{Stopped}
-use Rattle.sampling.specs.inner.Stops.{MOST_TIMES, first_stopped, is_at, stop_place, stopped_by}
+use Rattle.sampling.specs.{Stopped, MOST_TIMES, first_stopped, is_at, stop_place, stopped_by}
 
 noted_at : (times : List ℕ) (place p old seen : ℕ) → p < length times → slice_index times p ≡ min (old + seen) MOST_TIMES
     → slice_index (slice_set times place (min (slice_index times place + 1) MOST_TIMES)) p ≡ min (old + (seen + cond (place == p) 1 0)) MOST_TIMES

@@ -1,6 +1,6 @@
 -- A tally of runs, and one run more.
-use Rattle.std.proofs.Common.{◌≡◌, ℕ, ◌+◌, ◌<◌, Bool, true, false, cond, ◌&&◌, ◌||◌, not, List, [], ◌∷◌, ◌++◌, length, find}
-use Rattle.std.proofs.Common.{Option, Some, None, refl, sym, ap, ap₂, ◌∙◌, arith}
+use Rattle.std.proofs.Common.{◌≡◌, ℕ, ◌+◌, ◌<◌, Bool, true, false, cond, ◌&&◌, ◌||◌, not, List, [], ◌∷◌, ◌++◌, length, find, Option, Some, None, refl, sym, ap}
+use Rattle.std.proofs.Common.{ap₂, ◌∙◌, arith}
 use Rattle.std.specs.Prelude.{IfSome, OnOk, Result, is_some, ◌==◌}
 use Rattle.std.specs.List.{list_any}
 use Rattle.std.specs.Option.{option_or}
@@ -11,10 +11,8 @@ use Rattle.step_machine.specs.declared.events.Event.{Event}
 use Rattle.litmus.specs.declared.verdict.Verdict.{Verdict}
 use Rattle.engine_support.specs.Counting.{Counted, counted, counted_both, Counts, seen_of}
 use Rattle.engine_support.proofs.OutcomeTables.{any_more, count_more, seen_few, seen_more, seen_none}
-use Rattle.sampling.specs.declared.trials.tally.Tally.{Tally}
-use Rattle.sampling.specs.Trials.{Trial, is_finished, is_holds, is_fails, gave}
-use Rattle.sampling.specs.Outcomes.{first_schedule, first_schedule_text, first_unfinished, is_left, schedule_text, unfinished}
-use Rattle.sampling.specs.inner.Tallies.{IsTallyOf, Tallies, end_after, left_name}
+use Rattle.sampling.specs.{Tally, Trial, is_finished, is_holds, is_fails, gave, first_schedule, first_schedule_text, first_unfinished, is_left, schedule_text}
+use Rattle.sampling.specs.{unfinished, IsTallyOf, Tallies, end_after, left_name}
 
 -- ---- the first run with an outcome
 

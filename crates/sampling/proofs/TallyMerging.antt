@@ -1,6 +1,6 @@
 -- Runs after runs: their schedules, and the tally of them all from the tallies of the two parts.
-use Rattle.std.proofs.Common.{◌≡◌, ℕ, zero, suc, ◌+◌, ◌*◌, Bool, cond, ◌||◌, not, List, [], ◌++◌, length, map}
-use Rattle.std.proofs.Common.{Option, sym, ap, ap₂, ◌∙◌, arith, append-nil, append_assoc, subst, ◌-◌, ◌≤◌, ◌<◌}
+use Rattle.std.proofs.Common.{◌≡◌, ℕ, zero, suc, ◌+◌, ◌*◌, Bool, cond, ◌||◌, not, List, [], ◌++◌, length, map, Option, sym, ap, ap₂, ◌∙◌, arith, append-nil}
+use Rattle.std.proofs.Common.{append_assoc, subst, ◌-◌, ◌≤◌, ◌<◌}
 use Rattle.std.specs.List.{list_any, range_with_len}
 use Rattle.std.specs.Prelude.{IfSome, ◌==◌}
 use Rattle.std.proofs.lemmas.List.{map-append, length-map}
@@ -14,13 +14,10 @@ use Rattle.recorder.specs.Drawing.{left_after}
 use Rattle.drawn_runs.specs.declared.draws.Draw.{Draw}
 use Rattle.drawn_runs.specs.Draws.{schedule_by}
 use Rattle.recorder.proofs.Drawn.{left_after-sum}
-use Rattle.sampling.specs.declared.trials.tally.Tally.{Tally}
+use Rattle.sampling.specs.{Tally, Trial, IsTrial, AreTrials, gave, is_finished, is_holds, is_fails, first_schedule, unfinished, IsTallyOf, left_name}
+use Rattle.sampling.specs.{AreRunsFrom, IsTallyFrom, Merges, TestSource}
 use Rattle.engine_support.specs.Counting.{Counted, counted, counted_both, seen_of}
 use Rattle.engine_support.proofs.OutcomeTables.{seen_both, seen_few}
-use Rattle.sampling.specs.Trials.{Trial, IsTrial, AreTrials, gave, is_finished, is_holds, is_fails}
-use Rattle.sampling.specs.Outcomes.{first_schedule, unfinished}
-use Rattle.sampling.specs.inner.Tallies.{IsTallyOf, left_name}
-use Rattle.sampling.specs.inner.Merging.{AreRunsFrom, IsTallyFrom, Merges, TestSource}
 use Rattle.sampling.proofs.TrialLaws.{no_trials}
 use Rattle.sampling.proofs.TallyLaws.{first_of_both, first_of_later, left_of_both}
 

@@ -2,10 +2,8 @@
 use Rattle.std.proofs.Common.{arith, ◌≡◌, ◌↔◌, ◌<◌, ℕ, Bool, IsTrue, List, length, sym, ap, subst, ◌∙◌}
 use Rattle.std.specs.Prelude.{map}
 use Rattle.step_machine.specs.declared.events.Event.{Event}
-use Rattle.step_machine.specs.History.{OpeningValue, History}
-use Rattle.step_machine.specs.Runs.{Run, event_of}
-use Rattle.litmus.specs.LitmusTests.{LitmusTest, left_sides}
-use Rattle.litmus.specs.Verdicts.{IsFinished, final_value}
+use Rattle.step_machine.specs.Names.{OpeningValue, History, Run, event_of}
+use Rattle.litmus.specs.{LitmusTest, left_sides, IsFinished, final_value}
 use Rattle.shrink.specs.Shrinking.{EndsWith, IsPartOf, IsShrunk, without}
 use Rattle.shrink.proofs.PartLaws.{part_of_part, part_of_run}
 

@@ -6,8 +6,7 @@ use Rattle.step_machine.specs.declared.events.Event.{Event}
 use Rattle.step_machine.specs.declared.events.Entry.{Entry}
 use Rattle.step_machine.specs.declared.events.Outcome.{Outcome}
 use Rattle.step_machine.specs.declared.events.Outcome.TheVariants as outcome
-use Rattle.step_machine.specs.History.{OpeningValue, History}
-use Rattle.step_machine.specs.Runs.{Happens, RunFrom, Run, event_of}
+use Rattle.step_machine.specs.Names.{OpeningValue, History, Happens, RunFrom, Run, event_of}
 use Rattle.step_machine.proofs.Follows.{event_of-for}
 use Rattle.shrink.specs.Shrinking.{IsPartOf, empty, with_first, without_first, without}
 

@@ -1,7 +1,6 @@
 -- One pass over a list, in which pieces of one size are left out: what holds at the place it has come to.
 use Rattle.std.proofs.Common.{◌≡◌, ℕ, suc, ◌+◌, ◌-◌, ◌*◌, ◌<◌, ◌≤◌, Bool, true, false, List, length, subst, arith, min, inl, inr}
-use Rattle.std.proofs.lemmas.List.{drop_min}
-use Rattle.std.proofs.lemmas.List.{length-append, length-take, length-drop}
+use Rattle.std.proofs.lemmas.List.{drop_min, length-append, length-take, length-drop}
 use Rattle.std.proofs.Math.Nat.{suc-mul, eq-or-lt_of_le}
 use Rattle.step_machine.specs.declared.events.Event.{Event}
 use Rattle.shrink.specs.Shrinking.{IsPartOf, without}

@@ -7,8 +7,7 @@ use Rattle.spsc_queue.proofs.Common.{FollowsSpscProtocol, Block, SpscQueue, part
 use Rattle.spsc_queue.proofs.Common.{is_in_call_with, completed_at, completed_by_entry, HasArguments, CallerObligation, SharesQueue, UsesAsSpscQueue}
 use Rattle.spsc_queue.proofs.Common.{completed_word}
 use Rattle.hart.specs.Steps.{advanced}
-use Rattle.step_machine.specs.Paths.{CanMake}
-use Rattle.step_machine.specs.Legal.{IsOfHarts}
+use Rattle.step_machine.specs.Names.{CanMake, IsOfHarts}
 use Rattle.step_machine.proofs.Placing.{land_other, own_other}
 use Rattle.spsc_queue.specs.Calls.{Party, the_sender, the_receiver}
 use Rattle.spsc_queue.proofs.Growing.{protocol-append}

@@ -1,6 +1,6 @@
 -- Lines that several of the functions have: each leads to a line `to`, whose row is what the line makes of its own.
 use Rattle.spsc_queue.proofs.Common.{ℕ, pos, ◌+◌, ◌*◌, ◌%◌, ◌^◌, ◌<◌, ◌≤◌, ◌≡◌, ◌≢◌, ◌⊎◌, inl, inr, true, false, Some, List, [], ◌∷◌, ◌++◌, refl, Bool, Option}
-use Rattle.spsc_queue.proofs.Common.{Some, sym, ◌∙◌, ap, subst, arith, slice_index, slice_set, map, slice_get, cases_eq, reg_of, Immediate, Instr, Write, write}
+use Rattle.spsc_queue.proofs.Common.{sym, ◌∙◌, ap, subst, arith, slice_index, slice_set, map, slice_get, cases_eq, reg_of, Immediate, Instr, Write, write}
 use Rattle.spsc_queue.proofs.Common.{next_pc, address, IsAt, nothing, load, store, Kind, lamport, fastforward, RingBuffer, IsWordIn, next, overlaps, roomy}
 use Rattle.spsc_queue.proofs.Common.{filled, ProtocolState, next_by, IsWordAt, IsSendable, IsSenderStore, lines_of, Block, copy_in, listing_of, ring_at}
 use Rattle.spsc_queue.proofs.Common.{sees_full, look_accesses, send_accesses, word-plus, add_line, load_line, other_jumps, same_goes_on, goes_to, leaves_in}

@@ -10,10 +10,8 @@ use Rattle.spsc_queue.proofs.Common.{access_of, hart_of, stored_by, own_store, w
 use Rattle.spsc_queue.proofs.Common.{Kind, lamport, fastforward, RingBuffer, IsRingBuffer, overlaps, publishes, releases, slot_address, SenderState, renewing}
 use Rattle.spsc_queue.proofs.Common.{roomy, filled, ReceiverState, holding, cleared, ProtocolState, role_of, next_by, send_store, send_load, receive_load}
 use Rattle.spsc_queue.proofs.Common.{receive_store, IsCopyStore, IsSenderStore, IsReceiverStore, WritesNothingTo, KeepsProtocolBy, available_of}
-use Rattle.step_machine.specs.Access.{fence}
-use Rattle.step_machine.specs.Entries.{landed_by, written_by}
-use Rattle.step_machine.proofs.Appended.{lands-append}
-use Rattle.step_machine.proofs.Lists.{some_first}
+use Rattle.step_machine.specs.Names.{fence, landed_by, written_by}
+use Rattle.step_machine.proofs.{lands-append, some_first}
 use Rattle.store_buffers.proofs.Effects.{pending-quiet, pending-first}
 use Rattle.queue_parties.specs.Parties.{Party, the_sender, the_receiver, hart_among, party_among}
 use Rattle.spsc_queue.specs.RingBuffers.{is_in_slots}

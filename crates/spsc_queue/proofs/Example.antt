@@ -10,12 +10,9 @@ use Rattle.rv_decode.specs.Meaning.{meaning}
 use Rattle.hart.specs.Steps.{need_of, advanced}
 use Rattle.hart.specs.declared.status.Status.{Status}
 use Rattle.step_machine.specs.declared.events.Event.{Event}
-use Rattle.step_machine.specs.History.{with_entry}
-use Rattle.step_machine.specs.Legal.{IsOfHarts}
+use Rattle.step_machine.specs.Names.{with_entry, IsOfHarts}
 use Rattle.step_machine.proofs.Acts.{does, land_happens}
-use Rattle.step_machine.proofs.Running.{kept-happens, kept-at_opening}
-use Rattle.step_machine.proofs.Lists.{some_first}
-use Rattle.step_machine.proofs.OwnRuns.{kept-front}
+use Rattle.step_machine.proofs.{kept-happens, kept-at_opening, some_first, kept-front}
 use Rattle.spsc_queue.specs.Calls.{Party, the_sender, the_receiver, sent_words}
 use Rattle.spsc_queue.specs.CallEffects.{IsWholeCall}
 use Rattle.spsc_queue.specs.Example.{value_at, entry_in, entry_by, entries_by, fast, kind_of, caches_of, Variant, caching, waiting_of, Scenario, sends, hits}

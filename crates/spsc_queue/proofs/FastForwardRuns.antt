@@ -8,7 +8,7 @@ use Rattle.spsc_queue.proofs.Common.{LegalAfter-front, LegalAfter-back, balanced
 use Rattle.spsc_queue.proofs.Common.{slot_offset, slot_address, ProtocolState, at_start, parties_after, role_of, next_by, protocol_next, protocol_after}
 use Rattle.spsc_queue.proofs.Common.{KeepsProtocolBy, KeepsProtocol, SenderState, roomy, ReceiverState, asked, waiting, holding, FollowsSpscProtocol}
 use Rattle.spsc_queue.proofs.Common.{known_by_state, ready_by_state, counts_at_start, QueueCounts, count, other, All, All-nil, All-cons}
-use Rattle.step_machine.proofs.Appended.{LegalAfter-append}
+use Rattle.step_machine.proofs.{LegalAfter-append, mod_apart}
 use Rattle.spsc_queue.specs.Instances.{ring_slots_of}
 use Rattle.spsc_queue.proofs.OwnWords.{Own, own-rest, all-off}
 use Rattle.spsc_queue.proofs.Counts.{Steady, steady-off, steady-next, number_of, publishes_to, releases_to, counted, party-is, store-of, counted-released}
@@ -24,7 +24,6 @@ use Rattle.slots_that_tell.proofs.Steps.{one-on, next-mine, next-other}
 use Rattle.slots_that_tell.proofs.Runs.{at-rest}
 use Rattle.spsc_queue.proofs.FastForwardRings.{is_slots, off-keeps, rests, placed-of, asked-of, Agrees, keeps-one, tag_word, Sending, Receiving, no_copy}
 use Rattle.spsc_queue.proofs.FastForwardRings.{sent_place, taken_place}
-use Rattle.step_machine.proofs.Modulo.{mod_apart}
 use Rattle.store_buffers.specs.StoreBuffers.{LeavesByte}
 use Rattle.spsc_queue.proofs.States.{IsAsked, Taking}
 use Rattle.spsc_queue.proofs.Points.{At}

@@ -3,8 +3,7 @@ use Rattle.std.specs.Prelude.{option_map}
 use Rattle.spsc_queue.proofs.Common.{ℕ, ◌≡◌, false, List, [], ◌∷◌, ◌++◌, Some, sym, ◌∙◌, ap, subst, HartState, Entry, OpeningValue, history_of, hart_of}
 use Rattle.spsc_queue.proofs.Common.{is_land, is_own, own, number_read, state_of, Listed, StandsIn, HasFunction}
 use Rattle.hart.specs.Steps.{advanced}
-use Rattle.step_machine.proofs.Follows.{state_after}
-use Rattle.step_machine.proofs.States.{state_keeps}
+use Rattle.step_machine.proofs.{state_after, state_keeps}
 use Rattle.spsc_queue.proofs.Courses.{Equipped}
 pub use Rattle.store_buffers.proofs.OwnEntries.{joined_on, path_upto, made_by, known_hart, same_state, next_state, own_parts, land_is, own_is}
 

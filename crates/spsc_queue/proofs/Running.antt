@@ -4,8 +4,7 @@ use Rattle.std.proofs.lemmas.Option.{slice_get_within}
 use Rattle.spsc_queue.proofs.Common.{arith, ℕ, ◌*◌, ◌≡◌, ◌==◌, ◌⊎◌, inl, inr, false, if◌then◌else◌, List, [], ◌∷◌, length, Option, Some, None, refl, sym, subst}
 use Rattle.spsc_queue.proofs.Common.{eqb-true, nat_tests, Instr, HartState, Need, Entry, OpeningValue, history_of, own, number_read, WellFormed, Listed}
 use Rattle.spsc_queue.proofs.Common.{HasFunction, IsPlainNeed}
-use Rattle.hart.specs.Steps.{need_of, settled, after_meaning, given, advanced_by, advanced, fetched}
-use Rattle.hart.specs.Effects.{registers_after, pc_after}
+use Rattle.hart.specs.{need_of, settled, after_meaning, given, advanced_by, advanced, fetched, registers_after, pc_after}
 use Rattle.hart.specs.declared.status.Status.{Status}
 use Rattle.step_machine.specs.Paths.{after_entries, MakesEntries, opens_as, PathOf}
 use Rattle.spsc_queue.proofs.Cases.{by-bool}

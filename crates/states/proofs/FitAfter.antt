@@ -6,9 +6,7 @@ use Rattle.std.proofs.lemmas.List.Elements.{All-append, All-cons, All-drop, All-
 use Rattle.std.proofs.lemmas.Option.{slice_get_within}
 use Rattle.memory.specs.Writes.{write}
 use Rattle.memory.specs.declared.writes.Write.{Write}
-use Rattle.hart.specs.State.{HartView}
-use Rattle.hart.specs.Steps.{need_of}
-use Rattle.hart.specs.Effects.{updated}
+use Rattle.hart.specs.{HartView, need_of, updated}
 use Rattle.hart.specs.declared.need.Need.{Need}
 use Rattle.hart.specs.declared.need.Need.TheVariants as need
 use Rattle.hart.specs.declared.need.Report.TheVariants as report
@@ -20,16 +18,10 @@ use Rattle.step_machine.specs.declared.events.Entry.{Entry}
 use Rattle.step_machine.specs.declared.events.Entry.TheVariants as entry
 use Rattle.step_machine.specs.declared.events.Outcome.{Outcome}
 use Rattle.step_machine.specs.declared.events.Outcome.TheVariants as outcome
-use Rattle.step_machine.specs.Entries.{hart_of}
-use Rattle.step_machine.specs.Paths.{number_read}
-use Rattle.step_machine.specs.Banks.{is_over}
-use Rattle.step_machine.specs.Ranges.{IsInRange}
-use Rattle.step_machine.specs.inner.Stored.{Stored, buffer_of, word_at, if_waits, outcome_for, land_in, write_first}
-use Rattle.step_machine.specs.inner.Stored.{stored_after, stored_after_outcome, HasAddress, InMemory, FitStored}
-use Rattle.step_machine.specs.inner.Config.{Config, Fit, act_in, act_outcome, land_outcome, outcome_of, after_outcome}
-use Rattle.step_machine.proofs.Decides.{need_of-in_range}
-use Rattle.step_machine.proofs.Fitting.{fit_step}
-use Rattle.step_machine.proofs.Standings.{hart_at}
+use Rattle.step_machine.specs.Names.{hart_of, number_read, is_over, IsInRange, Stored, buffer_of, word_at, if_waits, outcome_for, land_in, write_first}
+use Rattle.step_machine.specs.Names.{stored_after, stored_after_outcome, HasAddress, InMemory, FitStored, Config, Fit, act_in, act_outcome, land_outcome}
+use Rattle.step_machine.specs.Names.{outcome_of, after_outcome}
+use Rattle.step_machine.proofs.{need_of-in_range, fit_step, hart_at}
 
 -- ---- buffers and memory
 

@@ -1,6 +1,5 @@
 -- Words among those that were numbered. Keys stand for them: `says` gives the words of a key.
-use Rattle.std.proofs.Common.{◌≡◌, ℕ, ◌<◌, Bool, false, List, [], ◌∷◌, ◌++◌, length, get_or}
-use Rattle.std.proofs.Common.{inl, inr, Option, Some, sym, ◌∙◌, ap, subst, arith, length-append}
+use Rattle.std.proofs.Common.{◌≡◌, ℕ, ◌<◌, Bool, false, List, [], ◌∷◌, ◌++◌, length, get_or, inl, inr, Option, Some, sym, ◌∙◌, ap, subst, arith, length-append}
 use Rattle.std.specs.Global.{Vec}
 use Rattle.std.specs.Prelude.{All, map, option_map, position, if◌then◌else◌}
 use Rattle.std.specs.List.{slice_get, list_any}

@@ -1,36 +1,27 @@
 -- A hart's act and a landing, by what the hart needs and what is pending: it does what it needs, or
 -- waits at a store, an AMO or a full fence. So every event of a kept history has an outcome. The law of
 -- each need is for the crates above, and for proofs about further programs.
-use Rattle.std.proofs.Common.{inl, inr, ◌⊎◌, ◌≡◌, ◌≢◌, ℕ, ◌<◌, ◌≤◌, Bool, true, false, List, [], ◌∷◌, length, Option}
-use Rattle.std.proofs.Common.{Some, None, refl, sym, ◌∙◌, ap, subst, arith}
+use Rattle.std.proofs.Common.{inl, inr, ◌⊎◌, ◌≡◌, ◌≢◌, ℕ, ◌<◌, ◌≤◌, Bool, true, false, List, [], ◌∷◌, length, Option, Some, None, refl, sym, ◌∙◌, ap, subst}
+use Rattle.std.proofs.Common.{arith}
 use Rattle.std.specs.Prelude.{IsTrue}
 use Rattle.std.proofs.lemmas.Bool.Decides.{nat_tests}
 use Rattle.rv_decode.specs.declared.instruction.AmoOp.{AmoOp}
 use Rattle.memory.specs.declared.writes.Write.{Write}
-use Rattle.hart.specs.State.{HartState}
-use Rattle.hart.specs.Steps.{need_of}
-use Rattle.hart.specs.Effects.{updated}
+use Rattle.hart.specs.{HartState, need_of, updated}
 use Rattle.hart.specs.declared.status.Status.{Status}
 use Rattle.hart.specs.declared.status.Status.TheVariants as status
 use Rattle.hart.specs.declared.status.Stop.{Stop}
 use Rattle.hart.specs.declared.need.Need.{Need}
 use Rattle.hart.specs.declared.need.Need.TheVariants as need
 use Rattle.hart.specs.declared.need.Report.TheVariants as report
-use Rattle.step_machine.specs.declared.events.Event.{Event}
+use Rattle.step_machine.specs.Names.{Event, Entry, Outcome, OpeningValue, History, at_opening, with_entry, hart_of, is_land, pending, read, Allowed, WellFormed}
+use Rattle.step_machine.specs.Names.{CanFollow, Happens, RunFrom, Run, idle_of, idle_in, land_in, is_over}
 use Rattle.step_machine.specs.declared.events.Event.TheVariants as event
-use Rattle.step_machine.specs.declared.events.Entry.{Entry}
 use Rattle.step_machine.specs.declared.events.Entry.TheVariants as entry
-use Rattle.step_machine.specs.declared.events.Outcome.{Outcome}
 use Rattle.step_machine.specs.declared.events.Outcome.TheVariants as outcome
-use Rattle.step_machine.specs.History.{OpeningValue, History, at_opening, with_entry}
-use Rattle.step_machine.specs.Entries.{hart_of, is_land, pending, read}
 use Rattle.step_machine.specs.Paths.{entry_of, number_read, CanMake, state_of}
-use Rattle.step_machine.specs.Legal.{Allowed, WellFormed}
-use Rattle.step_machine.specs.Runs.{CanFollow, Happens, RunFrom, Run, idle_of, idle_in}
 use Rattle.step_machine.proofs.Follows.{act_only, follows}
 use Rattle.step_machine.proofs.Running.{kept-happens, kept-at_opening}
-use Rattle.step_machine.specs.inner.Stored.{land_in}
-use Rattle.step_machine.specs.Banks.{is_over}
 use Rattle.step_machine.proofs.Happening.{history_after, none-no_hart, over_happens, state_of-hart, some_land}
 use Rattle.step_machine.proofs.OwnRuns.{only_act}
 

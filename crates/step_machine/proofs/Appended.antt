@@ -1,16 +1,12 @@
 -- What one more entry at the end does to a hart's own entries, its stores and landings, its pending
 -- stores, what landed, and its path.
-use Rattle.std.proofs.Common.{◌≡◌, ℕ, ◌+◌, ◌≤◌, List, [], ◌∷◌, ◌++◌, length, drop, Some, refl, sym, ◌∙◌, ap}
-use Rattle.std.proofs.Common.{append_assoc, add_assoc, zero-add, arith, append-nil}
+use Rattle.std.proofs.Common.{◌≡◌, ℕ, ◌+◌, ◌≤◌, List, [], ◌∷◌, ◌++◌, length, drop, Some, refl, sym, ◌∙◌, ap, append_assoc, add_assoc, zero-add, arith}
+use Rattle.std.proofs.Common.{append-nil}
 use Rattle.std.specs.List.{slice_get}
 use Rattle.std.proofs.lemmas.List.{drop-append-le, drop-drop}
-use Rattle.hart.specs.State.{HartState}
-use Rattle.hart.specs.Steps.{advanced}
-use Rattle.step_machine.specs.declared.events.Entry.{Entry}
-use Rattle.step_machine.specs.History.{OpeningValue}
-use Rattle.step_machine.specs.Entries.{own, own_store, own_stores, land_of, lands, pending, write_of, landed_after, landed, report_of, reported}
-use Rattle.step_machine.specs.Paths.{number_read, after_entries, MakesEntries}
-use Rattle.step_machine.specs.Legal.{LegalAfter}
+use Rattle.hart.specs.{HartState, advanced}
+use Rattle.step_machine.specs.Names.{Entry, OpeningValue, own, own_store, own_stores, land_of, lands, pending, write_of, landed_after, landed, report_of}
+use Rattle.step_machine.specs.Names.{reported, number_read, after_entries, MakesEntries, LegalAfter}
 
 -- the entry after others is at the place of their number
 pub entry_there : (before : List Entry) (e : Entry) (es : List Entry) → slice_get (before ++ e ∷ es) (length before) ≡ Some e

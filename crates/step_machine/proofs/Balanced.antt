@@ -1,11 +1,8 @@
 -- On a legal list no hart has more landings than stores, and none more than B pending.
-use Rattle.std.proofs.Common.{◌≡◌, ℕ, ◌≤◌, ◌<◌, ◌==◌, Bool, if◌then◌else◌, List, [], ◌∷◌, ◌++◌, length, arith}
-use Rattle.std.proofs.Common.{length-append, length-drop, append-nil, append_assoc}
+use Rattle.std.proofs.Common.{◌≡◌, ℕ, ◌≤◌, ◌<◌, ◌==◌, Bool, if◌then◌else◌, List, [], ◌∷◌, ◌++◌, length, arith, length-append, length-drop, append-nil}
+use Rattle.std.proofs.Common.{append_assoc}
 use Rattle.std.proofs.lemmas.Bool.{eqb-true}
-use Rattle.step_machine.specs.declared.events.Entry.{Entry}
-use Rattle.step_machine.specs.History.{OpeningValue, History}
-use Rattle.step_machine.specs.Entries.{own_stores, land_of, lands, pending}
-use Rattle.step_machine.specs.Legal.{Allowed, LegalAfter, Legal}
+use Rattle.step_machine.specs.Names.{Entry, OpeningValue, History, own_stores, land_of, lands, pending, Allowed, LegalAfter, Legal}
 use Rattle.step_machine.proofs.Appended.{stores-append, lands-append}
 
 land_of_allowed : (B : ℕ) (o : OpeningValue) (before : List Entry) (h g : ℕ) (b : Bool) → (g == h) ≡ b

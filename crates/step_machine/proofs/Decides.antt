@@ -5,26 +5,17 @@ use Rattle.std.proofs.lemmas.Bool.{eqb-true, eq-eqb}
 use Rattle.std.proofs.lemmas.Bool.Decides.{nat_tests}
 use Rattle.memory.specs.Writes.{newest_of, joined}
 use Rattle.memory.proofs.Bytes.{joined-same}
-use Rattle.hart.specs.State.{HartState}
-use Rattle.hart.specs.Steps.{need_of}
+use Rattle.hart.specs.{HartState, need_of, updated}
 use Rattle.rv_decode.specs.declared.instruction.AmoOp.{AmoOp}
-use Rattle.hart.specs.Effects.{updated}
 use Rattle.hart.specs.declared.need.Need.{Need}
 use Rattle.hart.specs.declared.need.Need.TheVariants as need
 use Rattle.hart.specs.declared.need.Report.TheVariants as report
 use Rattle.hart.proofs.Needs.{IsTrueOf, need_is_true}
-use Rattle.step_machine.specs.declared.events.Entry.{Entry}
+use Rattle.step_machine.specs.Names.{Entry, Outcome, OpeningValue, History, hart_of, is_land, pending, memory_byte, memory_word, read_byte, read, Allowed, Does}
+use Rattle.step_machine.specs.Names.{IsPlace, IsInRange, Stored, buffer_of, word_at, found_byte, found, is_empty, if_waits, outcome_for, StoresRepresent}
 use Rattle.step_machine.specs.declared.events.Entry.TheVariants as entry
-use Rattle.step_machine.specs.declared.events.Outcome.{Outcome}
 use Rattle.step_machine.specs.declared.events.Outcome.TheVariants as outcome
-use Rattle.step_machine.specs.History.{OpeningValue, History}
-use Rattle.step_machine.specs.Entries.{hart_of, is_land, pending, memory_byte, memory_word, read_byte, read}
 use Rattle.step_machine.specs.Paths.{entry_of, number_read}
-use Rattle.step_machine.specs.Legal.{Allowed}
-use Rattle.step_machine.specs.Banks.{Does}
-use Rattle.step_machine.specs.Ranges.{IsPlace, IsInRange}
-use Rattle.step_machine.specs.inner.Stored.{Stored, buffer_of, word_at, found_byte, found, is_empty, if_waits, outcome_for}
-use Rattle.step_machine.specs.inner.Representation.{StoresRepresent}
 use Rattle.memory.specs.declared.writes.Write.{Write}
 
 in_range_true : (s : HartState) (n : Need) → IsTrueOf s n → IsInRange s.words n

@@ -6,16 +6,13 @@ use Rattle.std.proofs.lemmas.Option.{slice_get_within, slice_get_read, get_or_fr
 use Rattle.std.proofs.lemmas.List.{length-set}
 use Rattle.std.proofs.lemmas.List.Elements.{All-set, All-drop}
 use Rattle.memory.specs.declared.writes.Write.{Write}
-use Rattle.step_machine.specs.declared.events.Outcome.{Outcome}
-use Rattle.hart.specs.State.{HartView}
-use Rattle.hart.specs.Steps.{need_of, stepped}
+use Rattle.step_machine.specs.Names.{Outcome, IsInRange, Stored, HasAddress, InMemory, FitStored, stored_after_outcome, land_in, outcome_for, after_outcome}
+use Rattle.step_machine.specs.Names.{Config, step_at, step_hart, Fit, IsNext, act_in, act_outcome}
+use Rattle.hart.specs.{HartView, need_of, stepped}
 use Rattle.hart.specs.declared.need.Need.{Need}
 use Rattle.hart.specs.declared.status.Status.{Status}
 use Rattle.hart.specs.declared.status.Status.TheVariants as status
 use Rattle.hart.proofs.Advances.{advanced-words}
-use Rattle.step_machine.specs.Ranges.{IsInRange}
-use Rattle.step_machine.specs.inner.Stored.{Stored, HasAddress, InMemory, FitStored, stored_after_outcome, land_in, outcome_for}
-use Rattle.step_machine.specs.inner.Config.{after_outcome, Config, step_at, step_hart, Fit, IsNext, act_in, act_outcome}
 use Rattle.step_machine.proofs.Decides.{need_of-in_range}
 
 -- the element x of the list, stepped in its place

@@ -2,16 +2,10 @@
 use Rattle.std.proofs.Common.{arith, ◌≡◌, ℕ, false, List, [], ◌∷◌, ◌++◌, Option, Some, None, sym, ◌∙◌, ap, subst, eq-eqb, append-nil}
 use Rattle.std.specs.List.{slice_get}
 use Rattle.std.specs.Prelude.{option_map, if◌then◌else◌}
-use Rattle.hart.specs.State.{HartState}
-use Rattle.hart.specs.Steps.{advanced}
-use Rattle.step_machine.specs.declared.events.Entry.{Entry}
+use Rattle.hart.specs.{HartState, advanced}
+use Rattle.step_machine.specs.Names.{Entry, HartOpeningValue, History, with_entry, hart_of, is_land, is_own, own, number_read, CanMake, after_entries, opens_as}
+use Rattle.step_machine.specs.Names.{state_of, PathOf, Path, Allowed, Legal, Event, CanFollow, IsFor, event_of}
 use Rattle.step_machine.specs.declared.events.Entry.TheVariants as entry
-use Rattle.step_machine.specs.History.{HartOpeningValue, History, with_entry}
-use Rattle.step_machine.specs.Entries.{hart_of, is_land, is_own, own}
-use Rattle.step_machine.specs.Paths.{number_read, CanMake, after_entries, opens_as, state_of, PathOf, Path}
-use Rattle.step_machine.specs.Legal.{Allowed, Legal}
-use Rattle.step_machine.specs.declared.events.Event.{Event}
-use Rattle.step_machine.specs.Runs.{CanFollow, IsFor, event_of}
 use Rattle.step_machine.proofs.Appended.{own-append, after_entries-append, Makes-append, Makes-front, Makes-back, LegalAfter-append, LegalAfter-back}
 
 pub event_of-for : (ev : Event) (e : Entry) → IsFor ev e → event_of e ≡ ev

@@ -3,25 +3,14 @@ use Rattle.std.proofs.Common.{◌≡◌, ℕ, ◌<◌, List, [], length, Option,
 use Rattle.std.specs.Prelude.{option_map}
 use Rattle.std.specs.List.{slice_get}
 use Rattle.std.proofs.lemmas.Option.{slice_get_within}
-use Rattle.hart.specs.State.{HartState, HartView}
-use Rattle.hart.specs.Steps.{need_of}
+use Rattle.hart.specs.{HartState, HartView, need_of}
 use Rattle.hart.specs.declared.status.Status.{Status}
 use Rattle.hart.specs.declared.status.Status.TheVariants as status
-use Rattle.step_machine.specs.declared.events.Event.{Event}
+use Rattle.step_machine.specs.Names.{Event, Entry, Outcome, History, hart_of, pending, state_of, WellFormed, is_over, CanFollow, NoEntry, idle_in, Happens}
+use Rattle.step_machine.specs.Names.{IsInRange, outcome_for, land_in, Config, entries_after, act_in, act_outcome, land_outcome, outcome_of, view_state}
+use Rattle.step_machine.specs.Names.{Represents}
 use Rattle.step_machine.specs.declared.events.Event.TheVariants as event
-use Rattle.step_machine.specs.declared.events.Entry.{Entry}
-use Rattle.step_machine.specs.declared.events.Outcome.{Outcome}
 use Rattle.step_machine.specs.declared.events.Outcome.TheVariants as outcome
-use Rattle.step_machine.specs.History.{History}
-use Rattle.step_machine.specs.Entries.{hart_of, pending}
-use Rattle.step_machine.specs.Paths.{state_of}
-use Rattle.step_machine.specs.Legal.{WellFormed}
-use Rattle.step_machine.specs.Banks.{is_over}
-use Rattle.step_machine.specs.Runs.{CanFollow, NoEntry, idle_in, Happens}
-use Rattle.step_machine.specs.Ranges.{IsInRange}
-use Rattle.step_machine.specs.inner.Stored.{outcome_for, land_in}
-use Rattle.step_machine.specs.inner.Config.{Config, entries_after, act_in, act_outcome, land_outcome, outcome_of, view_state}
-use Rattle.step_machine.specs.inner.Representation.{Represents}
 use Rattle.step_machine.proofs.Follows.{state_after, follows, act_only, land_follows, Path-hart, Legal-last}
 use Rattle.step_machine.proofs.Decides.{need_of-in_range, Decided, StoresRepresent-sees, outcome_for-decided}
 use Rattle.memory.specs.declared.writes.Write.{Write}

@@ -2,10 +2,8 @@
 use Rattle.std.proofs.Common.{◌≡◌, ℕ, zero, suc, ◌<◌, List, [], ◌∷◌, ◌++◌, length, take, drop, refl, ◌∙◌, ap, arith, append_assoc, length-drop}
 use Rattle.std.specs.Prelude.{option_to_list}
 use Rattle.std.specs.List.{slice_get}
-use Rattle.step_machine.specs.declared.events.Entry.{Entry}
-use Rattle.step_machine.specs.History.{OpeningValue, History}
-use Rattle.step_machine.specs.Entries.{write_of, landed_after, landed, write_by_count, landed_by_count_after, landed_by_count}
-use Rattle.step_machine.specs.Legal.{Allowed, LegalAfter, Legal}
+use Rattle.step_machine.specs.Names.{Entry, OpeningValue, History, write_of, landed_after, landed, write_by_count, landed_by_count_after, landed_by_count}
+use Rattle.step_machine.specs.Names.{Allowed, LegalAfter, Legal}
 use Rattle.step_machine.proofs.Appended.{stores-append}
 use Rattle.memory.specs.declared.writes.Write.{Write}
 

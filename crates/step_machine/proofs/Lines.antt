@@ -1,6 +1,6 @@
 -- One line of a program: what a hart wants there, and the state that it leaves.
-use Rattle.std.proofs.Common.{ℕ, ℤ, pos, negsuc, zero, suc, ◌+◌, ◌*◌, ◌/◌, ◌%◌, ◌^◌, ◌<◌, ◌≤◌, ◌≡◌, ◌≢◌, ◌==◌, ◌+ℤ◌}
-use Rattle.std.proofs.Common.{true, false, not, List, [], ◌∷◌, length, Some, refl, add-zero, ◌∙◌, ap, arith}
+use Rattle.std.proofs.Common.{ℕ, ℤ, pos, negsuc, zero, suc, ◌+◌, ◌*◌, ◌/◌, ◌%◌, ◌^◌, ◌<◌, ◌≤◌, ◌≡◌, ◌≢◌, ◌==◌, ◌+ℤ◌, true, false, not, List, [], ◌∷◌, length}
+use Rattle.std.proofs.Common.{Some, refl, add-zero, ◌∙◌, ap, arith}
 use Rattle.std.specs.Prelude.{map, slice_index}
 use Rattle.std.specs.List.{slice_get}
 use Rattle.std.proofs.lemmas.Int.{ints}
@@ -14,14 +14,11 @@ use Rattle.rv_decode.specs.declared.instruction.LoadOp.TheVariants as load
 use Rattle.rv_decode.specs.declared.instruction.StoreOp.TheVariants as store
 use Rattle.rv_decode.specs.declared.instruction.Instr.{Instr}
 use Rattle.rv_decode.specs.declared.instruction.Instr.TheVariants.{Jal, Jalr, Branch, Load, Store, Immediate, Register}
-use Rattle.hart.specs.State.{HartState}
+use Rattle.hart.specs.{HartState, register_value, register_written, next_pc, address, word, need_of, advanced, settled, jump_need}
 use Rattle.hart.specs.declared.need.Need.{Need}
 use Rattle.hart.specs.declared.need.Need.TheVariants as need
-use Rattle.hart.specs.Effects.{register_value, register_written, next_pc, address, word}
-use Rattle.hart.specs.Steps.{need_of, advanced, settled, jump_need}
-use Rattle.hart.proofs.Instructions.{IsAt, load_need, load_after, store_need, store_after, immediate_need}
-use Rattle.hart.proofs.Instructions.{immediate_after, branch_on_need, branch_on_after, branch_taken_need}
-use Rattle.hart.proofs.Instructions.{branch_taken_after, register_need, register_after, jal_need, jal_after, need_at, after-at}
+use Rattle.hart.proofs.Instructions.{IsAt, load_need, load_after, store_need, store_after, immediate_need, immediate_after, branch_on_need, branch_on_after}
+use Rattle.hart.proofs.Instructions.{branch_taken_need, branch_taken_after, register_need, register_after, jal_need, jal_after, need_at, after-at}
 
 -- a state, what it wants, and the state that it leaves when it reads v
 pub record Line (s : HartState) (n : Need) (next : ℕ → HartState) : Type 0 where

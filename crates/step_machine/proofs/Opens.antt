@@ -1,18 +1,14 @@
 -- What an opening gives is fit, and is what the history of no entry says.
-use Rattle.std.proofs.Common.{◌≡◌, ℕ, zero, suc, ◌+◌, ◌-◌, ◌≤◌, List, [], ◌∷◌, ◌++◌, length, drop, get_or, replicate}
-use Rattle.std.proofs.Common.{Option, Some, refl, sym, ◌∙◌, subst, arith, length-append, length-drop}
+use Rattle.std.proofs.Common.{◌≡◌, ℕ, zero, suc, ◌+◌, ◌-◌, ◌≤◌, List, [], ◌∷◌, ◌++◌, length, drop, get_or, replicate, Option, Some, refl, sym, ◌∙◌, subst}
+use Rattle.std.proofs.Common.{arith, length-append, length-drop}
 use Rattle.std.specs.Prelude.{option_map}
 use Rattle.std.proofs.lemmas.List.{length-map, length-replicate, drop-replicate}
 use Rattle.std.proofs.lemmas.List.Elements.{All-map, All-nil, All-replicate}
 use Rattle.std.proofs.lemmas.Option.{slice_get-map}
 use Rattle.memory.specs.Words.{opened_words}
 use Rattle.hart.specs.State.{HartView}
-use Rattle.step_machine.specs.History.{HartOpeningValue, OpeningValue, at_opening, FitsIn}
-use Rattle.step_machine.specs.Paths.{opens_as}
-use Rattle.step_machine.specs.inner.Opened.{opened_hart}
-use Rattle.step_machine.specs.inner.Stored.{HasAddress, InMemory, FitStored, opened_stored}
-use Rattle.step_machine.specs.inner.Config.{Config, Fit, beginning, opened_config, view_state}
-use Rattle.step_machine.specs.inner.Representation.{StoresRepresent, Represents}
+use Rattle.step_machine.specs.Names.{HartOpeningValue, OpeningValue, at_opening, FitsIn, opens_as, opened_hart, HasAddress, InMemory, FitStored, opened_stored}
+use Rattle.step_machine.specs.Names.{Config, Fit, beginning, opened_config, view_state, StoresRepresent, Represents}
 use Rattle.memory.specs.declared.writes.Write.{Write}
 
 pub fit_stored : (M : ℕ) (first : List ℕ) (harts : ℕ) → length first ≤ M → FitStored M (opened_stored M first harts)

@@ -1,23 +1,17 @@
 -- A kept history is the run of its own entries' events, and each front of it is kept.
-use Rattle.std.proofs.Common.{arith, ◌≡◌, ℕ, ◌<◌, true, false, List, [], ◌∷◌, ◌++◌, length, Option, Some, None, refl}
-use Rattle.std.proofs.Common.{sym, ◌∙◌, ap, subst, append-nil, append_assoc}
+use Rattle.std.proofs.Common.{arith, ◌≡◌, ℕ, ◌<◌, true, false, List, [], ◌∷◌, ◌++◌, length, Option, Some, None, refl, sym, ◌∙◌, ap, subst, append-nil}
+use Rattle.std.proofs.Common.{append_assoc}
 use Rattle.std.specs.Prelude.{map, option_map, All}
 use Rattle.std.specs.List.{slice_get}
 use Rattle.std.proofs.lemmas.List.Elements.{All-nil, All-cons, All-head, All-tail}
 use Rattle.std.proofs.lemmas.Option.{slice_get-get_or}
-use Rattle.hart.specs.State.{HartState}
-use Rattle.hart.specs.Steps.{need_of}
+use Rattle.hart.specs.{HartState, need_of}
 use Rattle.hart.specs.declared.need.Need.{Need}
-use Rattle.step_machine.specs.declared.events.Entry.{Entry}
+use Rattle.step_machine.specs.Names.{Entry, HartOpeningValue, OpeningValue, History, history_of, HistoryWithRoom, with_entry, hart_of, is_land, own, Allowed}
+use Rattle.step_machine.specs.Names.{IsOfHarts, WellFormed, CanFollow, Adds, RunFrom, event_of, IsOwnRun, Config, IsMachineAt}
 use Rattle.step_machine.specs.declared.events.Entry.TheVariants as entry
 use Rattle.step_machine.specs.declared.events.Outcome.TheVariants as outcome
-use Rattle.step_machine.specs.History.{HartOpeningValue, OpeningValue, History, history_of, HistoryWithRoom, with_entry}
-use Rattle.step_machine.specs.Entries.{hart_of, is_land, own}
 use Rattle.step_machine.specs.Paths.{entry_of, number_read, CanMake, after_entries, opens_as, state_of, PathOf}
-use Rattle.step_machine.specs.Legal.{Allowed, IsOfHarts, WellFormed}
-use Rattle.step_machine.specs.Runs.{CanFollow, Adds, RunFrom, event_of, IsOwnRun}
-use Rattle.step_machine.specs.inner.Config.{Config}
-use Rattle.step_machine.specs.inner.Representation.{IsMachineAt}
 use Rattle.step_machine.proofs.Appended.{own-append, Makes-front, LegalAfter-front}
 use Rattle.step_machine.proofs.Follows.{act_only}
 use Rattle.step_machine.proofs.Running.{hart_follows}

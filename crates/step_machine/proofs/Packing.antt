@@ -1,29 +1,23 @@
 -- The words that say where a machine stands lead back there.
-use Rattle.std.proofs.Common.{◌≡◌, ℕ, zero, suc, ◌+◌, ◌-◌, ◌/◌, ◌%◌, ◌<◌, ◌≤◌, Bool, true, false, List, [], ◌∷◌}
-use Rattle.std.proofs.Common.{◌++◌, length, take, drop, get_or, set, refl, sym, ◌∙◌, ap, subst, arith, append-nil}
-use Rattle.std.proofs.Common.{append_assoc, length-append, eqb-true, lt-ltb, le-leb}
+use Rattle.std.proofs.Common.{◌≡◌, ℕ, zero, suc, ◌+◌, ◌-◌, ◌/◌, ◌%◌, ◌<◌, ◌≤◌, Bool, true, false, List, [], ◌∷◌, ◌++◌, length, take, drop, get_or, set, refl}
+use Rattle.std.proofs.Common.{sym, ◌∙◌, ap, subst, arith, append-nil, append_assoc, length-append, eqb-true, lt-ltb, le-leb}
 use Rattle.std.specs.Prelude.{◌==◌, ◌&&◌, nat_lt, nat_le, if◌then◌else◌, map, slice_index, slice_set, All}
 use Rattle.std.specs.List.{flat_map}
 use Rattle.std.proofs.lemmas.List.{length-map, take_all, drop_all, set_at, set-get_or, length-take-le}
 use Rattle.std.proofs.Math.Seq.{take-suc, drop-cons}
 use Rattle.std.proofs.lemmas.List.Elements.{All-nil, All-cons, All-head, All-tail}
-use Rattle.hart.specs.Saved.{IsOfItsOpening}
+use Rattle.hart.specs.{IsOfItsOpening, HartState, HartView}
 use Rattle.memory.specs.declared.writes.Write.{Write}
 use Rattle.memory.specs.Words.{written_since}
 use Rattle.memory.proofs.Written.{written_back, written_few}
-use Rattle.hart.specs.State.{HartState, HartView}
 use Rattle.hart.proofs.PutBack.{same_state}
 use Rattle.hart.specs.declared.status.Status.{Status}
 use Rattle.hart.specs.declared.status.Status.TheVariants as status
 use Rattle.hart.specs.declared.status.Stop.TheVariants as stop
-use Rattle.step_machine.specs.inner.Stored.{Stored, HasAddress, InMemory}
-use Rattle.step_machine.specs.inner.Config.{Config, Fit, beginning, view_state}
-use Rattle.step_machine.specs.Positions.{position_of, Change, unless_same, changed, pair_words}
-use Rattle.step_machine.specs.Positions.{packed_hart, packed_buffer, packed_stored, packed, store_words}
-use Rattle.step_machine.specs.Positions.{status_number, status_named, unpacked_changes, unpacked_hart, unpacked_harts}
-use Rattle.step_machine.specs.Positions.{with_store, unpacked_stores, unpacked_buffer, unpacked_buffers, with_words}
-use Rattle.step_machine.specs.Positions.{unpacked_stored, put_at}
-use Rattle.step_machine.specs.Positions.{IsSoundHart, IsSoundMachine, AreOfOneOpening}
+use Rattle.step_machine.specs.Names.{Stored, HasAddress, InMemory, Config, Fit, beginning, view_state, position_of, Change, unless_same, changed, pair_words}
+use Rattle.step_machine.specs.Names.{packed_hart, packed_buffer, packed_stored, packed, store_words, status_number, status_named, unpacked_changes}
+use Rattle.step_machine.specs.Names.{unpacked_hart, unpacked_harts, with_store, unpacked_stores, unpacked_buffer, unpacked_buffers, with_words, unpacked_stored}
+use Rattle.step_machine.specs.Names.{put_at, IsSoundHart, IsSoundMachine, AreOfOneOpening}
 
 -- ---- registers
 

@@ -5,27 +5,17 @@ use Rattle.std.specs.List.{slice_get}
 use Rattle.std.proofs.lemmas.List.{length-map}
 use Rattle.std.proofs.lemmas.Option.{slice_get-map}
 use Rattle.std.proofs.lemmas.Simd.{map-map}
-use Rattle.hart.specs.State.{HartState, HartView}
-use Rattle.hart.specs.Steps.{restarted}
+use Rattle.hart.specs.{HartState, HartView, restarted}
 use Rattle.hart.specs.declared.need.Report.{Report}
 use Rattle.memory.proofs.Bytes.{joined-same}
 use Rattle.memory.specs.Words.{IsAddress}
 use Rattle.memory.specs.Writes.{byte_of}
-use Rattle.step_machine.specs.History.{History}
-use Rattle.step_machine.specs.Standing.{RepresentsHistory}
-use Rattle.step_machine.specs.inner.Representation.{StoresRepresent}
-use Rattle.step_machine.specs.Entries.{hart_of, memory_byte, memory_word}
-use Rattle.step_machine.specs.Paths.{number_read}
-use Rattle.step_machine.specs.declared.events.Event.{Event}
-use Rattle.step_machine.specs.declared.events.Entry.{Entry}
+use Rattle.step_machine.specs.Names.{History, RepresentsHistory, StoresRepresent, hart_of, memory_byte, memory_word, number_read, Event, Entry, Outcome}
+use Rattle.step_machine.specs.Names.{word_at, Stored, stored_after, restarted_stored, Config, SameButRoom, without_room, beginning, view_state, after_outcome}
+use Rattle.step_machine.specs.Names.{harts_after, outcome_of, restarted_config, IsPositionOf, AreOfOneOpening, position_of, opening_position, outcome_at}
+use Rattle.step_machine.specs.Names.{next_position, unpacked_hart, unpacked_harts, put_at}
 use Rattle.step_machine.specs.declared.events.Entry.TheVariants as entry
-use Rattle.step_machine.specs.declared.events.Outcome.{Outcome}
 use Rattle.step_machine.specs.declared.events.Outcome.TheVariants as outcome
-use Rattle.step_machine.specs.inner.Stored.{word_at, Stored, stored_after, restarted_stored}
-use Rattle.step_machine.specs.inner.Config.{Config, SameButRoom, without_room, beginning, view_state, after_outcome, harts_after}
-use Rattle.step_machine.specs.inner.Config.{outcome_of, restarted_config}
-use Rattle.step_machine.specs.Positions.{IsPositionOf, AreOfOneOpening, position_of, opening_position, outcome_at}
-use Rattle.step_machine.specs.Positions.{next_position, unpacked_hart, unpacked_harts, put_at}
 use Rattle.step_machine.proofs.Nexts.{outcome_is, next_is}
 use Rattle.step_machine.proofs.Stays.{firsts_step_at}
 

@@ -6,13 +6,9 @@ use Rattle.std.proofs.lemmas.List.{length-map}
 use Rattle.std.proofs.lemmas.List.Elements.{All-nil, All-map}
 use Rattle.std.proofs.lemmas.Option.{slice_get-map}
 use Rattle.memory.specs.Writes.{WritesInWord}
-use Rattle.hart.specs.State.{HartView}
-use Rattle.hart.specs.Steps.{restarted}
-use Rattle.step_machine.specs.declared.events.Entry.{Entry}
-use Rattle.step_machine.specs.History.{OpeningValue, History, at_opening}
-use Rattle.step_machine.specs.inner.Stored.{Stored, HasAddress, InMemory, FitStored, no_stores, restarted_stored}
-use Rattle.step_machine.specs.inner.Config.{Config, Fit, beginning, restarted_config, view_state}
-use Rattle.step_machine.specs.inner.Representation.{StoresRepresent, Represents, IsMachineAt}
+use Rattle.hart.specs.{HartView, restarted}
+use Rattle.step_machine.specs.Names.{Entry, OpeningValue, History, at_opening, Stored, HasAddress, InMemory, FitStored, no_stores, restarted_stored, Config}
+use Rattle.step_machine.specs.Names.{Fit, beginning, restarted_config, view_state, StoresRepresent, Represents, IsMachineAt}
 use Rattle.step_machine.proofs.Opens.{holds_opened}
 use Rattle.step_machine.proofs.Running.{kept-at_opening}
 use Rattle.memory.specs.declared.writes.Write.{Write}

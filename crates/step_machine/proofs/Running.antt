@@ -7,15 +7,9 @@ use Rattle.std.proofs.lemmas.List.{take_more}
 use Rattle.std.specs.Prelude.{All}
 use Rattle.std.proofs.lemmas.List.Elements.{All-nil, All-push}
 use Rattle.std.proofs.lemmas.Option.{slice_get-get_or, slice_get_within}
-use Rattle.step_machine.specs.declared.events.Event.{Event}
-use Rattle.step_machine.specs.declared.events.Entry.{Entry}
-use Rattle.step_machine.specs.declared.events.Outcome.{Outcome}
+use Rattle.step_machine.specs.Names.{Event, Entry, Outcome, HartOpeningValue, OpeningValue, History, at_opening, with_entry, hart_of, is_own, PathOf, IsOfHarts}
+use Rattle.step_machine.specs.Names.{WellFormed, CanFollow, Adds, Idles, Happens, RunFrom, Run}
 use Rattle.step_machine.specs.declared.events.Outcome.TheVariants as outcome
-use Rattle.step_machine.specs.History.{HartOpeningValue, OpeningValue, History, at_opening, with_entry}
-use Rattle.step_machine.specs.Entries.{hart_of, is_own}
-use Rattle.step_machine.specs.Paths.{PathOf}
-use Rattle.step_machine.specs.Legal.{IsOfHarts, WellFormed}
-use Rattle.step_machine.specs.Runs.{CanFollow, Adds, Idles, Happens, RunFrom, Run}
 use Rattle.step_machine.proofs.Follows.{Path-other}
 
 -- an outcome is an entry added, or nothing

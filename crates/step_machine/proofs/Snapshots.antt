@@ -1,27 +1,20 @@
 -- A machine that is put back to a snapshot of its own holds what it held then.
-use Rattle.std.proofs.Common.{◌≡◌, ℕ, zero, suc, ◌≤◌, ◌<◌, List, [], ◌∷◌, ◌++◌, ◌+◌, length, get_or, take, drop, Option}
-use Rattle.std.proofs.Common.{Some, None, refl, sym, ◌∙◌, ap, subst, arith, length-append, length-drop}
+use Rattle.std.proofs.Common.{◌≡◌, ℕ, zero, suc, ◌≤◌, ◌<◌, List, [], ◌∷◌, ◌++◌, ◌+◌, length, get_or, take, drop, Option, Some, None, refl, sym, ◌∙◌, ap, subst}
+use Rattle.std.proofs.Common.{arith, length-append, length-drop}
 use Rattle.std.specs.Prelude.{map, option_map, All}
 use Rattle.std.specs.List.{slice_get}
 use Rattle.std.proofs.Math.Seq.{take-append_seam}
 use Rattle.std.proofs.lemmas.Option.{slice_get_read}
 use Rattle.std.proofs.lemmas.List.{take-append-drop}
-use Rattle.hart.specs.State.{HartState, HartView}
-use Rattle.hart.specs.Saved.{SavedView, IsSavedOf, put_back}
+use Rattle.hart.specs.{HartState, HartView, SavedView, IsSavedOf, put_back}
 use Rattle.hart.specs.declared.need.Report.{Report}
 use Rattle.hart.proofs.PutBack.{HasGoneOn, state_again, reports_again}
 use Rattle.memory.specs.declared.writes.Write.{Write}
 use Rattle.memory.specs.Words.{written_since}
 use Rattle.memory.proofs.Written.{written_back, written_few}
-use Rattle.step_machine.specs.declared.events.Entry.{Entry}
-use Rattle.step_machine.specs.History.{HartOpeningValue, OpeningValue, History, up_to}
-use Rattle.step_machine.specs.Entries.{own, reported}
-use Rattle.step_machine.specs.Paths.{state_of}
-use Rattle.step_machine.specs.Snapshots.{SnapshotView, AreSaved, IsSavedFrom, IsTakenAt}
-use Rattle.step_machine.specs.inner.Stored.{Stored, InMemory, FitStored}
-use Rattle.step_machine.specs.inner.Config.{Config, Fit, SameButRoom, without_room, beginning, view_state}
-use Rattle.step_machine.specs.inner.Restored.{restored_harts, restored_stored, restored_config, AreWithin}
-use Rattle.step_machine.specs.inner.Representation.{IsMachineAt}
+use Rattle.step_machine.specs.Names.{Entry, HartOpeningValue, OpeningValue, History, up_to, own, reported, state_of, SnapshotView, AreSaved, IsSavedFrom}
+use Rattle.step_machine.specs.Names.{IsTakenAt, Stored, InMemory, FitStored, Config, Fit, SameButRoom, without_room, beginning, view_state, restored_harts}
+use Rattle.step_machine.specs.Names.{restored_stored, restored_config, AreWithin, IsMachineAt}
 use Rattle.step_machine.proofs.Appended.{reported-append}
 use Rattle.step_machine.proofs.Changed.{length-changed, kept_at, all_kept}
 use Rattle.step_machine.proofs.Follows.{state_after}

@@ -4,18 +4,11 @@ use Rattle.std.specs.Prelude.{map, option_map, All}
 use Rattle.std.specs.List.{slice_get}
 use Rattle.std.proofs.lemmas.List.{length-map}
 use Rattle.std.proofs.lemmas.Option.{slice_get_within, slice_get-get_or, get_or_from_slice_get, slice_get-map}
-use Rattle.hart.specs.State.{HartState, HartView}
-use Rattle.hart.specs.Steps.{stepped}
+use Rattle.hart.specs.{HartState, HartView, stepped}
 use Rattle.hart.specs.declared.need.Report.{Report}
-use Rattle.step_machine.specs.declared.events.Event.{Event}
-use Rattle.step_machine.specs.declared.events.Entry.{Entry}
-use Rattle.step_machine.specs.declared.events.Outcome.{Outcome}
-use Rattle.step_machine.specs.History.{OpeningValue, History, at_opening, FitsIn}
-use Rattle.step_machine.specs.Runs.{Happens}
-use Rattle.step_machine.specs.inner.Stored.{Stored, FitStored}
-use Rattle.step_machine.specs.inner.Config.{Config, Fit, AllHaveRoom, SameButRoom, without_room, beginning, step_at, view_state}
-use Rattle.step_machine.specs.inner.Config.{after_entry, after_outcome, entries_after, outcome_of, opened_config}
-use Rattle.step_machine.specs.inner.Representation.{Represents, IsMachineAt}
+use Rattle.step_machine.specs.Names.{Event, Entry, Outcome, OpeningValue, History, at_opening, FitsIn, Happens, Stored, FitStored, Config, Fit, AllHaveRoom}
+use Rattle.step_machine.specs.Names.{SameButRoom, without_room, beginning, step_at, view_state, after_entry, after_outcome, entries_after, outcome_of}
+use Rattle.step_machine.specs.Names.{opened_config, Represents, IsMachineAt}
 use Rattle.step_machine.proofs.Carried.{carried}
 use Rattle.step_machine.proofs.Fitting.{length-step_at}
 use Rattle.step_machine.proofs.Happening.{history_after, outcome_of-happens}

@@ -4,13 +4,9 @@ use Rattle.std.proofs.Common.{arith, ◌≡◌, ℕ, List, [], ◌∷◌, length
 use Rattle.std.specs.Prelude.{option_map, slice_index, slice_set}
 use Rattle.std.specs.List.{slice_get}
 use Rattle.std.proofs.Math.ListN.{length-set}
-use Rattle.hart.specs.State.{HartState}
-use Rattle.hart.specs.Steps.{advanced}
+use Rattle.hart.specs.{HartState, advanced}
 use Rattle.hart.proofs.Advances.{advanced-code, advanced-words, registers-are_kept}
-use Rattle.step_machine.specs.declared.events.Entry.{Entry}
-use Rattle.step_machine.specs.History.{HartOpeningValue, History}
-use Rattle.step_machine.specs.Entries.{own}
-use Rattle.step_machine.specs.Paths.{number_read, after_entries, opens_as, state_of}
+use Rattle.step_machine.specs.Names.{Entry, HartOpeningValue, History, own, number_read, after_entries, opens_as, state_of}
 use Rattle.step_machine.proofs.Follows.{state_after}
 
 -- its code, the number of words of memory, how many registers it has, and that x0 is 0

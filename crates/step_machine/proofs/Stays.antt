@@ -1,7 +1,6 @@
 -- What the machine holds stays what its history says, over one more entry.
-use Rattle.std.proofs.Common.{◌≡◌, ℕ, zero, suc, ◌*◌, ◌<◌, ◌==◌, Bool, false, not, ◌&&◌, if◌then◌else◌, List, [], ◌∷◌}
-use Rattle.std.proofs.Common.{◌++◌, length, drop, set, get_or, Option, Some, None, refl, sym, ◌∙◌, ap, subst, arith}
-use Rattle.std.proofs.Common.{append-nil, get_or-set_same, get_or-set_other}
+use Rattle.std.proofs.Common.{◌≡◌, ℕ, zero, suc, ◌*◌, ◌<◌, ◌==◌, Bool, false, not, ◌&&◌, if◌then◌else◌, List, [], ◌∷◌, ◌++◌, length, drop, set, get_or, Option}
+use Rattle.std.proofs.Common.{Some, None, refl, sym, ◌∙◌, ap, subst, arith, append-nil, get_or-set_same, get_or-set_other}
 use Rattle.std.specs.Prelude.{map, option_map, unwrap_or, All}
 use Rattle.std.proofs.lemmas.List.Elements.{All-nil, All-cons, All-append}
 use Rattle.std.specs.List.{slice_get}
@@ -10,19 +9,14 @@ use Rattle.std.proofs.lemmas.Option.{slice_get_within, slice_get-map, get_or_fro
 use Rattle.std.proofs.Math.Seq.{map-set_same}
 use Rattle.memory.specs.Writes.{WritesInWord, write, byte_after, newest_of, byte_of}
 use Rattle.memory.proofs.MemoryBytes.{byte_of-write}
-use Rattle.hart.specs.State.{HartState, HartView}
-use Rattle.hart.specs.Steps.{need_of, advanced, stepped, reports_after}
+use Rattle.hart.specs.{HartState, HartView, need_of, advanced, stepped, reports_after}
 use Rattle.hart.specs.declared.need.Need.{Need}
 use Rattle.hart.specs.declared.need.Report.{Report}
-use Rattle.step_machine.specs.declared.events.Entry.{Entry}
+use Rattle.step_machine.specs.Names.{Entry, OpeningValue, History, with_entry, hart_of, is_land, is_own, own_store, land_of, report_of, reported, pending}
+use Rattle.step_machine.specs.Names.{write_of, landed, opening_byte, memory_byte, Legal, Stored, HasAddress, written, Config, beginning, step_at, step_hart}
+use Rattle.step_machine.specs.Names.{view_state, StoresRepresent, Represents}
 use Rattle.step_machine.specs.declared.events.Entry.TheVariants as entry
-use Rattle.step_machine.specs.History.{OpeningValue, History, with_entry}
-use Rattle.step_machine.specs.Entries.{hart_of, is_land, is_own, own_store, land_of, report_of, reported, pending, write_of, landed, opening_byte, memory_byte}
 use Rattle.step_machine.specs.Paths.{entry_of, number_read, opens_as, state_of}
-use Rattle.step_machine.specs.Legal.{Legal}
-use Rattle.step_machine.specs.inner.Stored.{Stored, HasAddress, written}
-use Rattle.step_machine.specs.inner.Config.{Config, beginning, step_at, step_hart, view_state}
-use Rattle.step_machine.specs.inner.Representation.{StoresRepresent, Represents}
 use Rattle.memory.proofs.Newest.{newest_of-append}
 use Rattle.step_machine.proofs.Appended.{pending-last, landed-last, reported-last}
 use Rattle.step_machine.proofs.Balanced.{balanced}

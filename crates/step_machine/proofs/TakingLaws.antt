@@ -1,19 +1,16 @@
 -- Loops that pack, and loops that take elements from the front of words.
-use Rattle.std.proofs.Common.{◌≡◌, ℕ, zero, suc, ◌+◌, ◌-◌, ◌/◌, ◌%◌, ◌<◌, ◌≤◌, Bool, true, false, List, [], ◌∷◌}
-use Rattle.std.proofs.Common.{◌++◌, length, take, drop, get_or, set, refl, sym, ◌∙◌, ap, subst, arith, append_assoc}
-use Rattle.std.proofs.Common.{length-append, eq-eqb, ne_eqb, ltb-true, leb-true}
+use Rattle.std.proofs.Common.{◌≡◌, ℕ, zero, suc, ◌+◌, ◌-◌, ◌/◌, ◌%◌, ◌<◌, ◌≤◌, Bool, true, false, List, [], ◌∷◌, ◌++◌, length, take, drop, get_or, set, refl}
+use Rattle.std.proofs.Common.{sym, ◌∙◌, ap, subst, arith, append_assoc, length-append, eq-eqb, ne_eqb, ltb-true, leb-true}
 use Rattle.std.specs.Prelude.{◌&&◌, nat_lt, nat_le, if◌then◌else◌, slice_index, slice_set, All}
 use Rattle.std.specs.List.{flat_map}
-use Rattle.std.proofs.lemmas.List.{append-nil, take_more, drop_more, take_more_set, take_all, drop_all}
-use Rattle.std.proofs.lemmas.List.{drop-set-lt, drop-drop, length-take, length-drop, flat_map_more}
+use Rattle.std.proofs.lemmas.List.{append-nil, take_more, drop_more, take_more_set, take_all, drop_all, drop-set-lt, drop-drop, length-take, length-drop}
+use Rattle.std.proofs.lemmas.List.{flat_map_more}
 use Rattle.std.proofs.lemmas.List.Elements.{All-append, All-cons, All-nil, All-head, All-tail}
 use Rattle.memory.specs.declared.writes.Write.{Write}
 use Rattle.memory.specs.Writes.{write}
 use Rattle.hart.specs.State.{HartView}
-use Rattle.step_machine.specs.inner.Stored.{Stored, HasAddress, InMemory, FitStored}
-use Rattle.step_machine.specs.inner.Config.{Config, Fit}
-use Rattle.step_machine.specs.Positions.{unpacked_hart, unpacked_harts, unpacked_buffer, unpacked_buffers, unpacked_stored, put_at, with_words}
-use Rattle.step_machine.specs.Positions.{changed, unpacked_changes, with_store, unpacked_stores}
+use Rattle.step_machine.specs.Names.{Stored, HasAddress, InMemory, FitStored, Config, Fit, unpacked_hart, unpacked_harts, unpacked_buffer, unpacked_buffers}
+use Rattle.step_machine.specs.Names.{unpacked_stored, put_at, with_words, changed, unpacked_changes, with_store, unpacked_stores}
 
 -- ---- registers that changed
 

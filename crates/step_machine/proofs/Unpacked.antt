@@ -1,11 +1,10 @@
 -- What packed entries stand for once a head comes at their end, their last row grows by an entry, or a last head goes.
-use Rattle.std.proofs.Common.{◌≡◌, ℕ, ◌+◌, ◌≤◌, ◌-◌, List, [], ◌∷◌, ◌++◌, sym, ◌∙◌, ap, ap₂, subst, arith, append-nil}
-use Rattle.std.proofs.Common.{append_assoc, length, take, drop, length-append, length-drop}
+use Rattle.std.proofs.Common.{◌≡◌, ℕ, ◌+◌, ◌≤◌, ◌-◌, List, [], ◌∷◌, ◌++◌, sym, ◌∙◌, ap, ap₂, subst, arith, append-nil, append_assoc, length, take, drop}
+use Rattle.std.proofs.Common.{length-append, length-drop}
 use Rattle.std.proofs.Math.ListN.{get_or-append}
 use Rattle.std.proofs.lemmas.List.{length-take-le, drop-append-le, take-append-drop, take_at, replicate_more, nil_from_length, length_push}
 use Rattle.std.proofs.lemmas.List.Sums.{sum_by-cons, sum_by_push}
-use Rattle.step_machine.specs.declared.events.Entry.{Entry}
-use Rattle.step_machine.specs.declared.packed.Head.{Head}
+use Rattle.step_machine.specs.Names.{Entry, Head}
 use Rattle.step_machine.specs.inner.Packed.{IsBalanced, IsSingle, IsLonger, numbers_of, plain_of, further_of, entry_of, packed_entries, unpacked}
 
 -- a head's entry stays where more numbers and plain entries come after its own

@@ -9,13 +9,10 @@ use Rattle.memory.specs.Writes.{newest_of, newest_word, IsWholeWord}
 use Rattle.memory.proofs.Bytes.{joined-same}
 use Rattle.memory.proofs.Newest.{newest_word-last}
 use Rattle.memory.proofs.WholeWords.{word_reads}
-use Rattle.step_machine.specs.declared.events.Entry.{Entry}
-use Rattle.step_machine.specs.Access.{Access, access_of}
-use Rattle.step_machine.specs.History.{OpeningValue}
-use Rattle.step_machine.specs.Entries.{hart_of, stored_by, written_by, own_store, own_stores, lands, pending, write_of}
-use Rattle.step_machine.specs.Entries.{landed_after, landed, opening_byte, memory_byte, memory_word, read}
+use Rattle.step_machine.specs.Names.{Entry, Access, access_of, OpeningValue, hart_of, stored_by, written_by, own_store, own_stores, lands, pending, write_of}
+use Rattle.step_machine.specs.Names.{landed_after, landed, opening_byte, memory_byte, memory_word, read, WritesWord, AllWriteWords, OpensWithWords}
+use Rattle.step_machine.specs.Names.{word_in_memory, word_read}
 use Rattle.step_machine.proofs.Appended.{landed-last}
-use Rattle.step_machine.specs.WordReads.{WritesWord, AllWriteWords, OpensWithWords, word_in_memory, word_read}
 
 store_whole : (b : Bool) (x : Access) → WritesWord x → All IsWholeWord (stored_by b x)
 store_whole b x is = grind (arith, All-cons, All-nil)

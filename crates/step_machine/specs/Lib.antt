@@ -14,3 +14,4 @@ pub mod Standing
 pub mod Positions
 pub mod Snapshots
 pub mod Parts
+pub mod Names

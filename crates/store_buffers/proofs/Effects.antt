@@ -1,20 +1,15 @@
 -- What an entry does to the bytes of memory and to what is pending of a hart.
-use Rattle.std.proofs.Common.{ℕ, ◌+◌, ◌-◌, ◌/◌, ◌%◌, ◌<◌, ◌≤◌, ◌≡◌, Bool, true, false, if◌then◌else◌, Option, Some}
-use Rattle.std.proofs.Common.{None, List, [], ◌∷◌, ◌++◌, length, take, drop}
-use Rattle.std.proofs.Common.{refl, ◌∙◌, ap, subst, arith, append-nil}
+use Rattle.std.proofs.Common.{ℕ, ◌+◌, ◌-◌, ◌/◌, ◌%◌, ◌<◌, ◌≤◌, ◌≡◌, Bool, true, false, if◌then◌else◌, Option, Some, None, List, [], ◌∷◌, ◌++◌, length, take}
+use Rattle.std.proofs.Common.{drop, refl, ◌∙◌, ap, subst, arith, append-nil}
 use Rattle.std.specs.Prelude.{unwrap_or, slice_index}
 use Rattle.std.specs.Int.{byte_at}
 use Rattle.memory.specs.declared.writes.Write.{Write}
 use Rattle.memory.specs.Writes.{write, covers, byte_after, newest_of, joined}
 use Rattle.memory.proofs.Bytes.{joined-same, byte_below, byte_of_joined, covers-from}
 use Rattle.step_machine.specs.declared.events.Entry.{Entry}
-use Rattle.step_machine.specs.History.{OpeningValue}
-use Rattle.step_machine.specs.Access.{Access, store, exchange, access_of}
-use Rattle.step_machine.specs.Entries.{hart_of, stored_by, written_by, own_store, land_of, write_of, pending, landed}
-use Rattle.step_machine.specs.Entries.{opening_byte, memory_byte, read_byte, own_stores, lands, read}
-use Rattle.step_machine.specs.Legal.{AllowedBy, Allowed}
-use Rattle.step_machine.proofs.Appended.{pending-last}
-use Rattle.step_machine.proofs.Stays.{memory_byte-other, memory_byte-write}
+use Rattle.step_machine.specs.Names.{OpeningValue, Access, store, exchange, access_of, hart_of, stored_by, written_by, own_store, land_of, write_of, pending}
+use Rattle.step_machine.specs.Names.{landed, opening_byte, memory_byte, read_byte, own_stores, lands, read, AllowedBy, Allowed}
+use Rattle.step_machine.proofs.{pending-last, memory_byte-other, memory_byte-write}
 use Rattle.store_buffers.specs.StoreBuffers.{memory_number}
 
 pub stored_none : (x : Access) → stored_by false x ≡ []

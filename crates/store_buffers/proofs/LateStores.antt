@@ -1,14 +1,13 @@
 -- Where a pending store came from: what holds of each store that a hart made late enough holds of all that are pending.
-use Rattle.std.proofs.Common.{ℕ, ◌+◌, ◌<◌, ◌≤◌, ◌≡◌, ◌==◌, ◌⊎◌, inl, inr, if◌then◌else◌}
-use Rattle.std.proofs.Common.{List, [], ◌∷◌, ◌++◌, length, drop, refl, sym, ◌∙◌, ap, subst, arith, append-nil, append_assoc, length-append}
+use Rattle.std.proofs.Common.{ℕ, ◌+◌, ◌<◌, ◌≤◌, ◌≡◌, ◌==◌, ◌⊎◌, inl, inr, if◌then◌else◌, List, [], ◌∷◌, ◌++◌, length, drop, refl, sym, ◌∙◌, ap, subst, arith}
+use Rattle.std.proofs.Common.{append-nil, append_assoc, length-append}
 use Rattle.std.specs.Prelude.{All}
 use Rattle.std.proofs.lemmas.Bool.{cases_eq, cases_lt, eq-eqb, ne_eqb}
 use Rattle.std.proofs.lemmas.List.{drop-append-le, drop_all}
 use Rattle.std.proofs.lemmas.List.Elements.{All-nil, All-cons, All-append}
 use Rattle.memory.specs.declared.writes.Write.{Write}
 use Rattle.step_machine.specs.declared.events.Entry.{Entry}
-use Rattle.step_machine.specs.Access.{Access, nothing, load, store, exchange, fence, land, access_of}
-use Rattle.step_machine.specs.Entries.{hart_of, stored_by, own_store, own_stores}
+use Rattle.step_machine.specs.Names.{Access, nothing, load, store, exchange, fence, land, access_of, hart_of, stored_by, own_store, own_stores}
 use Rattle.step_machine.proofs.Appended.{stores-append}
 use Rattle.store_buffers.specs.StoreBuffers.{LeavesByteBy, LeavesByteAt, AllLeaveByte}
 

@@ -1,6 +1,6 @@
 -- What a hart would read at an address, once its stores have landed, is what every hart reads there.
-use Rattle.std.proofs.Common.{ℕ, zero, suc, ◌<◌, ◌≤◌, ◌≡◌, ◌≢◌, ◌==◌, ◌⊎◌, inl, inr, Bool, true, false, Option, None, List, [], ◌∷◌}
-use Rattle.std.proofs.Common.{◌++◌, length, take, drop, refl, sym, ◌∙◌, ap, subst, arith, append-nil, append_assoc}
+use Rattle.std.proofs.Common.{ℕ, zero, suc, ◌<◌, ◌≤◌, ◌≡◌, ◌≢◌, ◌==◌, ◌⊎◌, inl, inr, Bool, true, false, Option, None, List, [], ◌∷◌, ◌++◌, length, take, drop}
+use Rattle.std.proofs.Common.{refl, sym, ◌∙◌, ap, subst, arith, append-nil, append_assoc}
 use Rattle.std.specs.Prelude.{All, unwrap_or}
 use Rattle.std.proofs.lemmas.Bool.{cases_eq, eqb-true, eq-eqb}
 use Rattle.std.proofs.lemmas.List.Elements.{All-nil, All-cons, All-append, All-take, All-drop}
@@ -8,14 +8,10 @@ use Rattle.memory.specs.declared.writes.Write.{Write}
 use Rattle.memory.specs.Writes.{write, covers, newest_of}
 use Rattle.memory.proofs.Newest.{newest_of-append}
 use Rattle.step_machine.specs.declared.events.Entry.{Entry}
-use Rattle.step_machine.specs.History.{OpeningValue, history_of}
-use Rattle.step_machine.specs.Access.{Access, nothing, load, store, exchange, fence, land, access_of}
-use Rattle.step_machine.specs.Entries.{hart_of, stored_by, landed_by, written_by, own_store, land_of}
-use Rattle.step_machine.specs.Entries.{own_stores, lands, pending, write_of, landed, opening_byte}
-use Rattle.step_machine.specs.Entries.{memory_byte, read_byte}
-use Rattle.step_machine.specs.Legal.{AllowedBy, Allowed, LegalAfter, Legal}
-use Rattle.step_machine.proofs.Appended.{stores-append, landed-last, pending-last, LegalAfter-back, LegalAfter-front}
-use Rattle.step_machine.proofs.Balanced.{balanced-last, balanced}
+use Rattle.step_machine.specs.Names.{OpeningValue, history_of, Access, nothing, load, store, exchange, fence, land, access_of, hart_of, stored_by, landed_by}
+use Rattle.step_machine.specs.Names.{written_by, own_store, land_of, own_stores, lands, pending, write_of, landed, opening_byte, memory_byte, read_byte}
+use Rattle.step_machine.specs.Names.{AllowedBy, Allowed, LegalAfter, Legal}
+use Rattle.step_machine.proofs.{stores-append, landed-last, pending-last, LegalAfter-back, LegalAfter-front, balanced-last, balanced}
 use Rattle.store_buffers.specs.StoreBuffers.{LeavesByte, LeavesByteBy, AllLeaveByte, IsOnlyWriter}
 use Rattle.store_buffers.proofs.Reading.{passed_over, view}
 use Rattle.store_buffers.proofs.Effects.{pending-quiet, same-memory}

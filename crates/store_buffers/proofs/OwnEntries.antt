@@ -1,21 +1,15 @@
 -- A hart's own entries in a run: what its state makes, and what other entries leave.
-use Rattle.std.proofs.Common.{ℕ, ◌<◌, ◌≡◌, ◌==◌, not, ◌&&◌, Bool, true, false, List, [], ◌∷◌, ◌++◌, length, Some, refl, sym, ◌∙◌, ap, subst}
-use Rattle.std.proofs.Common.{append_assoc}
+use Rattle.std.proofs.Common.{ℕ, ◌<◌, ◌≡◌, ◌==◌, not, ◌&&◌, Bool, true, false, List, [], ◌∷◌, ◌++◌, length, Some, refl, sym, ◌∙◌, ap, subst, append_assoc}
 use Rattle.std.specs.Prelude.{All, option_map}
 use Rattle.std.specs.List.{slice_get}
 use Rattle.std.proofs.Math.Seq.{drop-append_seam}
 use Rattle.std.proofs.lemmas.List.Elements.{All-head, All-drop}
 use Rattle.std.proofs.lemmas.Bool.{eq-eqb, eqb-true}
-use Rattle.hart.specs.State.{HartState}
-use Rattle.hart.specs.Steps.{advanced}
+use Rattle.hart.specs.{HartState, advanced}
 use Rattle.step_machine.specs.declared.events.Entry.{Entry}
-use Rattle.step_machine.specs.History.{OpeningValue, history_of}
-use Rattle.step_machine.specs.Access.{Access, land}
-use Rattle.step_machine.specs.Entries.{hart_of, is_landing, is_land, is_own, own}
-use Rattle.step_machine.specs.Paths.{number_read, CanMake, state_of, PathOf, Path}
-use Rattle.step_machine.specs.Legal.{WellFormed, IsOfHarts}
-use Rattle.step_machine.proofs.Appended.{own-append}
-use Rattle.step_machine.proofs.Follows.{advance_by, state_of-mine, state_of-other, Path-last}
+use Rattle.step_machine.specs.Names.{OpeningValue, history_of, Access, land, hart_of, is_landing, is_land, is_own, own, number_read, CanMake, state_of, PathOf}
+use Rattle.step_machine.specs.Names.{Path, WellFormed, IsOfHarts}
+use Rattle.step_machine.proofs.{own-append, advance_by, state_of-mine, state_of-other, Path-last}
 use Rattle.step_machine.proofs.OwnRuns.{path_front}
 
 pub joined_on : (before done : List Entry) (e : Entry) (more : List Entry) → before ++ (done ++ e ∷ more) ≡ ((before ++ done) ++ e ∷ []) ++ more

@@ -6,12 +6,9 @@ use Rattle.std.specs.List.{slice_get}
 use Rattle.std.proofs.lemmas.Bool.{cases_eq, eqb-true}
 use Rattle.memory.specs.declared.writes.Write.{Write}
 use Rattle.step_machine.specs.declared.events.Entry.{Entry}
-use Rattle.step_machine.specs.History.{OpeningValue, history_of}
-use Rattle.step_machine.specs.Access.{Access, land, access_of}
-use Rattle.step_machine.specs.Entries.{hart_of, landed_by, written_by, land_of, own_stores, lands, landed_after, write_by_count, landed_by_count_after}
-use Rattle.step_machine.specs.Legal.{Legal}
-use Rattle.step_machine.proofs.Appended.{lands-append, landed_after-append}
-use Rattle.step_machine.proofs.Landings.{landed-counted}
+use Rattle.step_machine.specs.Names.{OpeningValue, history_of, Access, land, access_of, hart_of, landed_by, written_by, land_of, own_stores, lands}
+use Rattle.step_machine.specs.Names.{landed_after, write_by_count, landed_by_count_after, Legal}
+use Rattle.step_machine.proofs.{lands-append, landed_after-append, landed-counted}
 use Rattle.store_buffers.specs.StoreBuffers.{IsGloballyPerformed}
 
 reached_after : (whole : List Entry) (h n : ℕ) (w : Write) (before es : List Entry) → slice_get (own_stores h whole) n ≡ Some w

@@ -7,8 +7,7 @@ use Rattle.memory.specs.declared.writes.Write.{Write}
 use Rattle.memory.specs.Writes.{covers, byte_after, newest_of}
 use Rattle.memory.proofs.Newest.{newest_of-append}
 use Rattle.step_machine.specs.declared.events.Entry.{Entry}
-use Rattle.step_machine.specs.History.{OpeningValue}
-use Rattle.step_machine.specs.Entries.{pending, landed, opening_byte, memory_byte, read_byte}
+use Rattle.step_machine.specs.Names.{OpeningValue, pending, landed, opening_byte, memory_byte, read_byte}
 use Rattle.store_buffers.specs.StoreBuffers.{IsGloballyPerformed, LeavesByte}
 
 pub passed_over : (x : ℕ) (found : Option ℕ) (ws : List Write) → All (LeavesByte x) ws → newest_of x found ws ≡ found

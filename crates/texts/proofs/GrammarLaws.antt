@@ -1,6 +1,6 @@
 -- Grammars that settle: what is read is what the text says, what it says is read, and only its bytes stand in it.
-use Rattle.std.proofs.Common.{◌≡◌, ℕ, Bool, true, false, ◌||◌, List, [], ◌∷◌, ◌++◌, Option, Some, None, refl, sym, ap}
-use Rattle.std.proofs.Common.{◌∙◌, inl, inr, arith, pos, ℤ, ◌⊎◌, ◌<◌, ◌^◌}
+use Rattle.std.proofs.Common.{◌≡◌, ℕ, Bool, true, false, ◌||◌, List, [], ◌∷◌, ◌++◌, Option, Some, None, refl, sym, ap, ◌∙◌, inl, inr, arith, pos, ℤ, ◌⊎◌, ◌<◌}
+use Rattle.std.proofs.Common.{◌^◌}
 use Rattle.std.specs.Prelude.{IfSome, neg_ℤ}
 use Rattle.std.specs.List.{list_all}
 use Rattle.std.specs.Char.{is_digit, digit_value}
@@ -9,11 +9,9 @@ use Rattle.std.specs.Fmt.{decimal}
 use Rattle.std.proofs.lemmas.Fmt.{decimal_is_IsNumeral}
 use Rattle.std.specs.Option.{option_map, option_and_then, option_or, option_zip}
 use Rattle.std.proofs.lemmas.Bool.{and_parts, cases_Bool, eqb-true, or_right, lt-ltb}
-use Rattle.texts.specs.Formats.{DecidesGrammar, or_fault}
-use Rattle.texts.specs.Cutting.{before, after, is_byte, AllPass, NonePass, stripped}
-use Rattle.texts.specs.Grammars.{Grammar, mapped, filter_mapped, parted, prefixed_at, prefixed, suffixed_at, suffixed, absent_at}
-use Rattle.texts.specs.Grammars.{absent, surrounded, EitherSays, choice, by_byte_at, by_byte}
-use Rattle.texts.specs.Grammars.{numeral, hex_magnitude, magnitude, positive, negative, integer}
+use Rattle.texts.specs.{DecidesGrammar, or_fault, before, after, is_byte, AllPass, NonePass, stripped, Grammar, mapped, filter_mapped, parted, prefixed_at}
+use Rattle.texts.specs.{prefixed, suffixed_at, suffixed, absent_at, absent, surrounded, EitherSays, choice, by_byte_at, by_byte, numeral, hex_magnitude}
+use Rattle.texts.specs.{magnitude, positive, negative, integer}
 use Rattle.texts.proofs.CuttingLaws.{after-none, before-stop, after-stop, cut_byte, uncut}
 use Rattle.texts.proofs.TrimLaws.{all-append, padded_stripped}
 use Rattle.texts.proofs.FormatLaws.{settles_or_fault}

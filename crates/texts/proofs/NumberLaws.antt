@@ -1,6 +1,6 @@
 -- Digits and what they say.
-use Rattle.std.proofs.Common.{◌≡◌, ℕ, ◌+◌, ◌*◌, ◌^◌, ◌<◌, ◌≤◌, Bool, true, false, cond, List, [], ◌∷◌, length}
-use Rattle.std.proofs.Common.{take, get_or, Option, Some, None, refl, ◌∙◌, subst, arith, inl, inr, ltb}
+use Rattle.std.proofs.Common.{◌≡◌, ℕ, ◌+◌, ◌*◌, ◌^◌, ◌<◌, ◌≤◌, Bool, true, false, cond, List, [], ◌∷◌, length, take, get_or, Option, Some, None, refl, ◌∙◌}
+use Rattle.std.proofs.Common.{subst, arith, inl, inr, ltb}
 use Rattle.std.specs.Prelude.{IfSome}
 use Rattle.std.specs.List.{list_all}
 use Rattle.std.specs.Char.{digit_value, is_digit}
@@ -9,9 +9,7 @@ use Rattle.std.proofs.lemmas.Bool.{ltb-true, lt-ltb, le-ltb, cases_lt, eqb-true,
 use Rattle.std.proofs.lemmas.List.Folds.{list_all_more, list_all_at}
 use Rattle.std.proofs.lemmas.Int.Digits.{digits_value_more, digits_value-lt}
 use Rattle.std.proofs.Math.Nat.{mul-le-mul_left, mul-le-mul_right}
-use Rattle.texts.specs.Numbers.{SaysDecimal, IsHexWord, capped, is_numeral}
-use Rattle.texts.specs.Numbers.{capped_value, number_of, hex_number_of, below_cap_of, word_of}
-use Rattle.texts.specs.Numbers.{hex_word_of}
+use Rattle.texts.specs.Numbers.{SaysDecimal, IsHexWord, capped, is_numeral, capped_value, number_of, hex_number_of, below_cap_of, word_of, hex_word_of}
 
 AllDigits-from_list_all : (radix : ℕ) (digits : List ℕ) → list_all (λ c. is_digit c radix) digits ≡ true → AllDigits radix digits
 AllDigits-from_list_all radix [] e = tt

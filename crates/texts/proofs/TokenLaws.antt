@@ -3,8 +3,7 @@ use Rattle.std.proofs.Common.{◌≡◌, ℕ, ◌<◌, Bool, true, false, ltb, L
 use Rattle.std.specs.Prelude.{unwrap_or}
 use Rattle.std.specs.List.{filter, slice_split}
 use Rattle.std.proofs.lemmas.Bool.{lt-ltb}
-use Rattle.texts.specs.Pieces.{is_blank}
-use Rattle.texts.specs.Cutting.{before, after, without_front, tokens, first_cut}
+use Rattle.texts.specs.{is_blank, before, after, without_front, tokens, first_cut}
 use Rattle.texts.proofs.CuttingLaws.{split_after, split_cut}
 
 abbrev pub is_word : List ℕ → Bool

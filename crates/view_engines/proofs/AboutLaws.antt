@@ -4,8 +4,7 @@ use Rattle.step_machine.specs.History.{History}
 use Rattle.litmus.specs.declared.verdict.Verdict.{Verdict}
 use Rattle.litmus.specs.LitmusTests.{LitmusTest, left_sides}
 use Rattle.litmus_reader.specs.Headings.{HeadingOf}
-use Rattle.chart.specs.Pictures.{shown_byte}
-use Rattle.chart.specs.Layout.{AboutOf}
+use Rattle.chart.specs.{shown_byte, AboutOf}
 use Rattle.view_engines.specs.LeastWidths.{least_widths}
 use Rattle.view_engines.specs.About.{row_instructions, last_value, verdict_name, about_of}
 

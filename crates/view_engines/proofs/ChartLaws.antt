@@ -2,35 +2,27 @@
 use Rattle.std.proofs.Common.{◌≡◌, ℕ, ◌<◌, ◌≤◌, List, length, map, All, Some, Result, Ok, Err, refl, sym, ap, ◌∙◌, subst, arith}
 use Rattle.std.proofs.lemmas.List.{length-map}
 use Rattle.step_machine.specs.declared.events.Entry.{Entry}
-use Rattle.step_machine.specs.Entries.{hart_of}
-use Rattle.step_machine.specs.History.{OpeningValue, History, at_opening}
+use Rattle.step_machine.specs.Names.{hart_of, OpeningValue, History, at_opening}
 use Rattle.step_machine.proofs.Running.{kept-run, kept-at_opening}
 use Rattle.litmus.specs.LitmusTests.{LitmusTest}
 use Rattle.litmus.proofs.VerdictLaws.{one_verdict}
-use Rattle.litmus_reader.specs.Grammar.{IsTestOf}
-use Rattle.litmus_reader.specs.Headings.{HeadingOf, IsHeading}
-use Rattle.litmus_reader.specs.Reading.{hart_content}
+use Rattle.litmus_reader.specs.{IsTestOf, HeadingOf, IsHeading, hart_content}
 use Rattle.litmus_reader.proofs.HeadingLaws.{one_heading}
 use Rattle.recorder.specs.Versions.{ScheduleValue, events_of_schedule}
 use Rattle.chart.specs.declared.scenes.Form.{Form}
 use Rattle.chart.specs.declared.scenes.Selection.{Selection}
-use Rattle.chart.specs.Layout.{AboutOf, FitsColumns, layout, scene_of_run}
-use Rattle.chart.specs.Pictures.{IsClear}
+use Rattle.chart.specs.{AboutOf, FitsColumns, layout, scene_of_run, IsClear}
 use Rattle.chart.proofs.ColumnLaws.{same_heads}
 use Rattle.chart.proofs.PictureLaws.{picture_clear, heads_of_picture}
 use Rattle.engine_support.specs.declared.fault.Fault.{Fault}
 use Rattle.engine_support.specs.declared.fault.Fault.TheVariants.{Refused}
 use Rattle.engine_support.specs.declared.fault.Refusal.{Refusal}
-use Rattle.engine_support.specs.Engines.{Output, AreOneAnswer}
-use Rattle.engine_support.specs.Faults.{AnswersAs, too_large}
+use Rattle.engine_support.specs.{Output, AreOneAnswer, AnswersAs, too_large, schedules, tests_with}
 use Rattle.engine_support.specs.Runs.{Runs}
-use Rattle.engine_support.proofs.RunLaws.{one_difference, one_run, opening_stays, runs_events, runs_or_differs}
+use Rattle.engine_support.proofs.{one_difference, one_run, opening_stays, runs_events, runs_or_differs, alike_after, one_litmus_with, one_schedule}
 use Rattle.view_engines.specs.About.{IsAbout}
 use Rattle.view_engines.specs.LeastWidths.{least_widths}
 use Rattle.view_engines.specs.Chart.{Drawing, IsChartOf, IsNotCharted, differs, too_long, IsChart, IsChartAnswer}
-use Rattle.engine_support.specs.Schedules.{schedules}
-use Rattle.engine_support.specs.Tests.{tests_with}
-use Rattle.engine_support.proofs.InputLaws.{alike_after, one_litmus_with, one_schedule}
 
 one_about : (M : ℕ) (q : LitmusTest) (heading : HeadingOf) (t : History) (a b : AboutOf)
     → IsAbout M q heading t a → IsAbout M q heading t b → a ≡ b

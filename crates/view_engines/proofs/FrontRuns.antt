@@ -11,11 +11,8 @@ use Rattle.std.proofs.lemmas.Option.{slice_get-get_or}
 use Rattle.step_machine.specs.declared.events.Entry.{Entry}
 use Rattle.step_machine.specs.declared.events.Event.{Event}
 use Rattle.step_machine.specs.declared.events.Outcome.{Outcome}
-use Rattle.step_machine.specs.History.{OpeningValue, History, history_of, at_opening}
-use Rattle.step_machine.specs.Legal.{WellFormed}
-use Rattle.step_machine.specs.Runs.{Happens, Run, event_of}
-use Rattle.step_machine.proofs.OwnRuns.{kept-front, own_run}
-use Rattle.step_machine.proofs.Running.{RunFrom-more, run-one}
+use Rattle.step_machine.specs.Names.{OpeningValue, History, history_of, at_opening, WellFormed, Happens, Run, event_of}
+use Rattle.step_machine.proofs.{kept-front, own_run, RunFrom-more, run-one}
 use Rattle.view_engines.specs.About.{instruction_of, instruction_after, instruction_of_row}
 
 module _ (B M : ℕ) (o : OpeningValue) (es : List Entry) (kept : WellFormed B M (history_of o es)) where

@@ -2,10 +2,8 @@
 use Rattle.std.proofs.Common.{◌≡◌, ℕ, List, length, Result, Ok, Err}
 use Rattle.std.specs.Prelude.{IfOk, Option}
 use Rattle.litmus.specs.LitmusTests.{LitmusTest}
-use Rattle.litmus_reader.specs.Grammar.{IsTestOf}
-use Rattle.litmus_reader.specs.Headings.{HeadingOf, IsHeading}
-use Rattle.engine_support.specs.Inputs.{Reads}
-use Rattle.engine_support.specs.Tests.{tests_with}
+use Rattle.litmus_reader.specs.{IsTestOf, HeadingOf, IsHeading}
+use Rattle.engine_support.specs.{Reads, tests_with}
 use Rattle.engine_support.proofs.TextInputs.{some_bytes}
 
 -- two things that hold of a result

@@ -3,23 +3,15 @@ use Rattle.std.proofs.Common.{◌≡◌, ℕ, ◌≤◌, List, length, Result, O
 use Rattle.std.specs.Prelude.{Some}
 use Rattle.std.specs.Str.{IsUtf8}
 use Rattle.litmus.specs.LitmusTests.{LitmusTest}
-use Rattle.litmus_reader.specs.Grammar.{IsTestOf}
-use Rattle.litmus_reader.specs.Reading.{Content}
-use Rattle.litmus_reader.specs.Headings.{HeadingOf}
-use Rattle.litmus_reader.specs.Listings.{ListedRowOf}
+use Rattle.litmus_reader.specs.{IsTestOf, Content, HeadingOf, ListedRowOf}
 use Rattle.litmus_reader.specs.declared.faults.LitmusFault.{LitmusFault}
 use Rattle.litmus_reader.proofs.HeadingLaws.{one_heading}
 use Rattle.texts.proofs.ResultLaws.{ok_is}
 use Rattle.engine_support.specs.declared.fault.Fault.{Fault}
 use Rattle.engine_support.specs.declared.fault.Fault.TheVariants.{ReadFailed, WriteFailed, NoMemory, Refused}
 use Rattle.engine_support.specs.declared.fault.Refusal.{Refusal}
-use Rattle.engine_support.specs.Engines.{Output, AreOneAnswer}
-use Rattle.engine_support.specs.Faults.{AnswersAs, Answers}
-use Rattle.engine_support.specs.Tests.{test_of, tests_with}
-use Rattle.engine_support.specs.Inputs.After.{read, refused}
-use Rattle.engine_support.proofs.Judging.{decoded-text}
-use Rattle.engine_support.proofs.InputLaws.{alike_after, one_litmus_with}
-use Rattle.engine_support.proofs.OneInput.{same_output}
+use Rattle.engine_support.specs.{Output, AreOneAnswer, AnswersAs, Answers, test_of, tests_with, read, refused}
+use Rattle.engine_support.proofs.{decoded-text, alike_after, one_litmus_with, same_output}
 use Rattle.view_engines.specs.declared.showing.Form.{Form}
 use Rattle.view_engines.specs.declared.showing.Form.TheVariants.{Table, Steps}
 use Rattle.view_engines.specs.TestLines.{test_lines}

@@ -2,16 +2,14 @@
 use Rattle.std.proofs.Common.{arith, ◌≡◌, ℕ, Result, Ok, Err, refl, subst}
 use Rattle.step_machine.specs.History.{History, at_opening}
 use Rattle.step_machine.proofs.Running.{run-one}
-use Rattle.litmus.specs.LitmusTests.{LitmusTest}
-use Rattle.litmus.specs.Verdicts.{IsFinished}
+use Rattle.litmus.specs.{LitmusTest, IsFinished}
 use Rattle.recorder.specs.Versions.{ScheduleValue, events_of_schedule}
 use Rattle.shrink.specs.Shrinking.{RefusesRun}
 use Rattle.shrink.specs.declared.faults.ShrinkError.{ShrinkError}
 use Rattle.shrink.specs.declared.faults.ShrinkError.TheVariants as error
 use Rattle.engine_support.specs.declared.fault.Fault.{Fault}
 use Rattle.engine_support.specs.declared.fault.Refusal.{Refusal}
-use Rattle.engine_support.specs.Engines.{Output, AreAlike}
-use Rattle.engine_support.specs.Faults.{AnswersAs}
+use Rattle.engine_support.specs.{Output, AreAlike, AnswersAs}
 use Rattle.engine_support.specs.Runs.{Runs}
 use Rattle.engine_support.proofs.RunLaws.{one_difference, runs_events, runs_or_differs}
 use Rattle.view_engines.specs.Shrink.{AreOfOneKind, IsNotShrunk, IsShrink, IsShrinkOf, differs, fault_of_shrink, unfinished}

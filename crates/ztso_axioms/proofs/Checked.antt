@@ -1,7 +1,6 @@
 -- What the checks of a list establish.
-use Rattle.std.proofs.Common.{◌≡◌, ℕ, ◌+◌, ◌-◌, ◌≤◌, ◌<◌, Bool, true, false, ◌||◌, if◌then◌else◌, nat_lt, List, [], ◌∷◌}
-use Rattle.std.proofs.Common.{◌++◌, length, take, drop, get_or, Option, Some, None, refl, sym, ◌∙◌, ap, subst, arith}
-use Rattle.std.proofs.Common.{length-drop, get_or-drop}
+use Rattle.std.proofs.Common.{◌≡◌, ℕ, ◌+◌, ◌-◌, ◌≤◌, ◌<◌, Bool, true, false, ◌||◌, if◌then◌else◌, nat_lt, List, [], ◌∷◌, ◌++◌, length, take, drop, get_or}
+use Rattle.std.proofs.Common.{Option, Some, None, refl, sym, ◌∙◌, ap, subst, arith, length-drop, get_or-drop}
 use Rattle.std.specs.Prelude.{All, filter, unwrap_or}
 use Rattle.std.proofs.lemmas.Bool.{and_parts, ltb-true, ltb-false, lt-ltb, le-ltb, cond_both, false_from_ne_true, true_from_ne_false}
 use Rattle.std.proofs.lemmas.List.{take_rest, get_or_default, get_or_read, drop_more}
@@ -10,8 +9,8 @@ use Rattle.std.proofs.lemmas.Option.{slice_get_past}
 use Rattle.step_machine.specs.History.{OpeningValue}
 use Rattle.step_machine.specs.declared.events.Entry.{Entry}
 use Rattle.ztso_axioms.specs.Operations.{is_operation, is_at, read_at, written_at}
-use Rattle.ztso_axioms.specs.Axioms.{times_named, is_named, is_before, in_program_order, is_preserved, is_seen}
-use Rattle.ztso_axioms.specs.Axioms.{last_written, NamesEachOnce, KeepsProgramOrder, HasLoadValue}
+use Rattle.ztso_axioms.specs.Axioms.{times_named, is_named, is_before, in_program_order, is_preserved, is_seen, last_written, NamesEachOnce, KeepsProgramOrder}
+use Rattle.ztso_axioms.specs.Axioms.{HasLoadValue}
 use Rattle.ztso_axioms.proofs.Listing.{Once, times-none, times-some, named-some, named_at, index_of, split_at, is_before-index}
 
 pub once_of : (es : List Entry) (gs : List ℕ) → NamesEachOnce es gs → Once gs

@@ -1,17 +1,13 @@
 -- The front of a trace, and what it has performed.
-use Rattle.std.proofs.Common.{◌≡◌, ℕ, zero, suc, ◌≤◌, ◌<◌, Bool, true, false, List, [], ◌∷◌, ◌++◌, length, take, drop}
-use Rattle.std.proofs.Common.{Some, refl, sym, ◌∙◌, ap, subst, arith, append_assoc, length-append, length-drop}
+use Rattle.std.proofs.Common.{◌≡◌, ℕ, zero, suc, ◌≤◌, ◌<◌, Bool, true, false, List, [], ◌∷◌, ◌++◌, length, take, drop, Some, refl, sym, ◌∙◌, ap, subst, arith}
+use Rattle.std.proofs.Common.{append_assoc, length-append, length-drop}
 use Rattle.std.specs.List.{slice_get, AllZip}
 use Rattle.std.proofs.lemmas.Bool.{eqb-true, and_parts, or_left, false_from_ne_true}
 use Rattle.std.proofs.lemmas.List.{take-append-drop, take-append-le, take_all}
 use Rattle.std.proofs.lemmas.Option.{slice_get_past}
-use Rattle.step_machine.specs.History.{OpeningValue}
-use Rattle.step_machine.specs.Entries.{own_store, own_stores, lands, pending}
-use Rattle.step_machine.specs.Legal.{Allowed, LegalAfter}
+use Rattle.step_machine.specs.Names.{OpeningValue, own_store, own_stores, lands, pending, Allowed, LegalAfter}
 use Rattle.step_machine.specs.declared.events.Entry.{Entry}
-use Rattle.step_machine.proofs.Appended.{LegalAfter-front, LegalAfter-back}
-use Rattle.step_machine.proofs.Balanced.{balanced-after}
-use Rattle.step_machine.proofs.Appended.{entry_there}
+use Rattle.step_machine.proofs.{LegalAfter-front, LegalAfter-back, entry_there, balanced-after}
 use Rattle.ztso_axioms.specs.Operations.{passes, is_at, byte_in, written_at}
 use Rattle.ztso_axioms.specs.Axioms.{is_named, is_barrier}
 use Rattle.ztso_axioms.specs.Performed.{places_of, is_store_of, store_places, performed_after, left_below, hart_bound}

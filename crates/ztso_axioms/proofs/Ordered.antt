@@ -1,15 +1,12 @@
 -- The order of performing names each operation once and keeps the preserved program order.
-use Rattle.std.proofs.Common.{◌≡◌, ℕ, suc, ◌+◌, ◌≤◌, ◌<◌, ◌==◌, Bool, true, false, not, ◌&&◌, ◌||◌, if◌then◌else◌}
-use Rattle.std.proofs.Common.{nat_lt, ◌⊎◌, inl, inr, List, [], ◌∷◌, ◌++◌, length, take, drop, Some, refl, sym, ◌∙◌, ap}
-use Rattle.std.proofs.Common.{subst, arith, append_assoc, length-append}
+use Rattle.std.proofs.Common.{◌≡◌, ℕ, suc, ◌+◌, ◌≤◌, ◌<◌, ◌==◌, Bool, true, false, not, ◌&&◌, ◌||◌, if◌then◌else◌, nat_lt, ◌⊎◌, inl, inr, List, [], ◌∷◌, ◌++◌}
+use Rattle.std.proofs.Common.{length, take, drop, Some, refl, sym, ◌∙◌, ap, subst, arith, append_assoc, length-append}
 use Rattle.std.specs.List.{slice_get, list_any}
 use Rattle.std.specs.Option.{option_map_or}
 use Rattle.std.proofs.lemmas.Bool.{eqb-true, eq-eqb, and_parts, or_cases, ltb-true, not-true, not-false, false_from_ne_true}
 use Rattle.std.proofs.lemmas.List.{take-append-drop, length-take-le}
 use Rattle.std.proofs.lemmas.Option.{slice_get_within}
-use Rattle.step_machine.specs.History.{OpeningValue}
-use Rattle.step_machine.specs.Entries.{hart_of}
-use Rattle.step_machine.specs.Legal.{LegalAfter}
+use Rattle.step_machine.specs.Names.{OpeningValue, hart_of, LegalAfter}
 use Rattle.step_machine.specs.declared.events.Entry.{Entry}
 use Rattle.ztso_axioms.specs.Operations.{is_load, is_store, is_amo, is_full_fence, is_operation, is_at, hart_at}
 use Rattle.ztso_axioms.specs.Axioms.{times_named, is_named, is_before, is_barrier, is_fenced, may_be_reordered, NamesEachOnce, KeepsProgramOrder}
@@ -17,8 +14,8 @@ use Rattle.ztso_axioms.specs.Performed.{places_of, is_store_of, store_places, pe
 use Rattle.ztso_axioms.proofs.Listing.{times-none}
 use Rattle.ztso_axioms.proofs.Members.{named_passes, times-filter, times-all_places, named-places, before-split, is_before-filter}
 use Rattle.ztso_axioms.proofs.Performs.{is_reader, stores_at, reads_at, order-stores, order-reads, order-operations}
-use Rattle.ztso_axioms.proofs.Fronts.{some_at, split_entry, at_front, at_past, order-front, read_in_front, front_stores}
-use Rattle.ztso_axioms.proofs.Fronts.{front_allows, store_performed, store_not_yet, barrier_waits}
+use Rattle.ztso_axioms.proofs.Fronts.{some_at, split_entry, at_front, at_past, order-front, read_in_front, front_stores, front_allows, store_performed}
+use Rattle.ztso_axioms.proofs.Fronts.{store_not_yet, barrier_waits}
 
 -- the operations of entries in the order of performing
 abbrev pub performed_order : List Entry → List ℕ

@@ -1,7 +1,6 @@
 -- In the order of performing, a read has the value of the Load Value Axiom.
-use Rattle.std.proofs.Common.{◌≡◌, ℕ, zero, suc, ◌+◌, ◌-◌, ◌≤◌, ◌<◌, Bool, true, false, not, ◌&&◌, ◌||◌, if◌then◌else◌}
-use Rattle.std.proofs.Common.{nat_lt, List, [], ◌∷◌, ◌++◌, length, take, drop, Option, Some, None, unwrap_or, refl, sym}
-use Rattle.std.proofs.Common.{◌∙◌, ap, subst, arith, append-nil, append_assoc, length-drop, ◌^◌}
+use Rattle.std.proofs.Common.{◌≡◌, ℕ, zero, suc, ◌+◌, ◌-◌, ◌≤◌, ◌<◌, Bool, true, false, not, ◌&&◌, ◌||◌, if◌then◌else◌, nat_lt, List, [], ◌∷◌, ◌++◌, length}
+use Rattle.std.proofs.Common.{take, drop, Option, Some, None, unwrap_or, refl, sym, ◌∙◌, ap, subst, arith, append-nil, append_assoc, length-drop, ◌^◌}
 use Rattle.std.specs.Prelude.{filter, option_to_list, option_and_then, slice_index, ◌%◌, ◌/◌}
 use Rattle.std.specs.List.{AllPass, slice_get}
 use Rattle.std.specs.Option.{option_map_or}
@@ -12,14 +11,12 @@ use Rattle.std.proofs.lemmas.Option.{slice_get_within}
 use Rattle.std.specs.Int.{byte_at}
 use Rattle.memory.specs.Writes.{write, covers, newest_of}
 use Rattle.memory.proofs.Bytes.{joined-same, byte_below}
-use Rattle.step_machine.specs.History.{OpeningValue, History}
-use Rattle.step_machine.specs.Entries.{hart_of, own_stores, lands, write_of, landed_after, opening_byte, memory_byte, read_byte, read}
-use Rattle.step_machine.specs.Legal.{Allowed, LegalAfter, Legal}
+use Rattle.step_machine.specs.Names.{OpeningValue, History, hart_of, own_stores, lands, write_of, landed_after, opening_byte, memory_byte, read_byte, read}
+use Rattle.step_machine.specs.Names.{Allowed, LegalAfter, Legal}
 use Rattle.step_machine.specs.declared.events.Entry.{Entry}
 use Rattle.step_machine.specs.declared.events.Entry.TheVariants as entry
 use Rattle.memory.proofs.Newest.{newest_of-append}
-use Rattle.step_machine.proofs.Appended.{LegalAfter-front}
-use Rattle.step_machine.proofs.Appended.{entry_there}
+use Rattle.step_machine.proofs.Appended.{LegalAfter-front, entry_there}
 use Rattle.ztso_axioms.specs.Operations.{is_operation, passes, is_at, hart_at, read_of, written_to, written_at, byte_in}
 use Rattle.ztso_axioms.specs.Axioms.{times_named, before_first, is_named, in_program_order, is_seen, last_written, byte_for, value_for, HasLoadValue, Ztso}
 use Rattle.ztso_axioms.specs.Performed.{places_of, is_store_of, store_places, performed_by, performed_after, left_below, hart_bound, order}
@@ -27,8 +24,8 @@ use Rattle.ztso_axioms.proofs.Listing.{times-append, times-none, times-some, nam
 use Rattle.ztso_axioms.proofs.Checked.{once_of, last_written-append}
 use Rattle.ztso_axioms.proofs.Members.{IsPassed, passes_by_name, named_passes, AllPass-places, filter-every, filter-none, filter-same, filter-both, times-low}
 use Rattle.ztso_axioms.proofs.Performs.{is_reader, stores_at, reads_at, stores_performed, order-stores, order-operations}
-use Rattle.ztso_axioms.proofs.Fronts.{split_entry, at_past, order-front, AreWritten, AreWritten-length, AreWritten-drop}
-use Rattle.ztso_axioms.proofs.Fronts.{front_written, front_balanced, front_stores, front_allows}
+use Rattle.ztso_axioms.proofs.Fronts.{split_entry, at_past, order-front, AreWritten, AreWritten-length, AreWritten-drop, front_written, front_balanced}
+use Rattle.ztso_axioms.proofs.Fronts.{front_stores, front_allows}
 use Rattle.ztso_axioms.proofs.Ordered.{performed_order, kind_at, order-once, order-program, read_performed, read_not_yet}
 use Rattle.memory.specs.declared.writes.Write.{Write}
 use Rattle.std.proofs.Math.Nat.{pow-le-pow_right}

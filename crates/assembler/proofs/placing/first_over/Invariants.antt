@@ -1,6 +1,5 @@
 use Rattle.std.proofs.Common.{◌≡◌, ◌+◌, ◌≤◌, map, drop}
-use Rattle.assembler.specs.Drafts.{line_over}
-use Rattle.assembler.specs.Kept.{kept_line}
+use Rattle.assembler.specs.{line_over, kept_line}
 use Rattle.assembler.proofs.placing.first_over.Given as goal
 
 abbrev pub invariant-loop-index : goal.invariant-loop-index

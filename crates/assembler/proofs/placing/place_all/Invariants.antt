@@ -1,7 +1,6 @@
 use Rattle.std.proofs.Common.{◌≡◌, ◌+◌, ◌≤◌, map, drop, vec_len}
 use Rattle.rv_decode.specs.Meaning.{meaning}
-use Rattle.assembler.specs.Drafts.{all_placed, onto, word_count, AllFit, AllPlain}
-use Rattle.assembler.specs.Kept.{kept_line, place_in}
+use Rattle.assembler.specs.{all_placed, onto, word_count, AllFit, AllPlain, kept_line, place_in}
 use Rattle.assembler.proofs.placing.place_all.Given as goal
 
 abbrev pub invariant-loop-index : goal.invariant-loop-index

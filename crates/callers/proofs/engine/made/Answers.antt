@@ -1,7 +1,6 @@
 use Rattle.drawn_runs.specs.Samples.{runs_of}
 use Rattle.litmus.specs.LitmusTests.{LitmusTest}
-use Rattle.engine_support.specs.Tests.{tests}
-use Rattle.engine_support.specs.inner.Making.{text_and_value}
+use Rattle.engine_support.specs.{tests, text_and_value}
 use Rattle.engine_support.proofs.InputLaws.{made_after, read_after, refused_after}
 use Rattle.callers.specs.Answers.{IsCallersGiven}
 use Rattle.callers.proofs.engine.made.Goals as goal

@@ -1,7 +1,6 @@
 use Rattle.std.proofs.Common.{◌≡◌, take}
 use Rattle.step_machine.specs.Runs.{Run}
-use Rattle.callers.specs.Queues.{spsc_of}
-use Rattle.callers.specs.inner.Noting.{AreCallNotes}
+use Rattle.callers.specs.{spsc_of, AreCallNotes}
 use Rattle.callers.proofs.judging.judge.Given as goal
 
 abbrev pub invariant-loop-event : goal.invariant-loop-event

@@ -5,10 +5,8 @@ use Rattle.recorder.specs.Writing.{canon}
 use Rattle.drawn_runs.specs.Samples.{runs_of}
 use Rattle.judged_runs.specs.declared.telling.Told.{Told}
 use Rattle.judged_runs.specs.declared.telling.Told.TheVariants.{Good, Flawed}
-use Rattle.callers.specs.Answers.{violation_line}
-use Rattle.callers.specs.Runs.{HasNoCallerViolation}
+use Rattle.callers.specs.{violation_line, HasNoCallerViolation, CallerViolation}
 use Rattle.callers.specs.declared.counts.Counts.{Counts}
-use Rattle.callers.specs.declared.violations.CallerViolation.{CallerViolation}
 use Rattle.callers.proofs.Alike.{kept_output}
 use Rattle.callers.proofs.Judged.{AreTold, told_kept}
 use Rattle.callers.proofs.run_output.output_of_runs.Goals as goal

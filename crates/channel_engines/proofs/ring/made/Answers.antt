@@ -4,8 +4,7 @@ use Rattle.std.specs.declared.string.String.{String}
 use Rattle.drawn_runs.specs.Samples.{runs_of}
 use Rattle.engine_support.specs.declared.fault.Fault.{Fault}
 use Rattle.engine_support.specs.declared.fault.Role.TheVariants.{Sender, Receiver}
-use Rattle.engine_support.specs.Inputs.After.{read}
-use Rattle.engine_support.specs.inner.Making.{text_and_value}
+use Rattle.engine_support.specs.{read, text_and_value}
 use Rattle.engine_support.proofs.InputLaws.{read_after, refused_after}
 use Rattle.channel_engines.specs.Lists.{list_texts}
 use Rattle.channel_engines.specs.Programs.{programs}

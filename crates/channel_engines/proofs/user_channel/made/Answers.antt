@@ -5,9 +5,7 @@ use Rattle.hart.specs.declared.need.Report.{Report}
 use Rattle.recorder.specs.Versions.{ScheduleValue, schedule_value}
 use Rattle.poll_close.specs.Places.{layout_of}
 use Rattle.engine_support.specs.declared.fault.Role.TheVariants.{Sender, Receiver}
-use Rattle.engine_support.specs.Inputs.After.{read}
-use Rattle.engine_support.specs.Schedules.{schedules}
-use Rattle.engine_support.specs.inner.Making.{text_and_value}
+use Rattle.engine_support.specs.{read, schedules, text_and_value}
 use Rattle.engine_support.proofs.InputLaws.{read_after, refused_after, unmade}
 use Rattle.channel_engines.specs.Channels.{report_line}
 use Rattle.channel_engines.specs.Lists.{list_texts}

@@ -1,6 +1,5 @@
 use Rattle.std.proofs.Common.{◌≡◌, take}
-use Rattle.chart.specs.Sources.{landed_by_row}
-use Rattle.chart.specs.Rows.{rows_of}
+use Rattle.chart.specs.{landed_by_row, rows_of}
 use Rattle.chart.proofs.rows.rows_of.Given as goal
 
 abbrev pub invariant-loop-i : goal.invariant-loop-i

@@ -1,12 +1,10 @@
 use Rattle.std.proofs.Common.{arith, lit<, refl}
 use Rattle.step_machine.specs.History.{at_opening}
-use Rattle.engine_support.proofs.Endings.{is_handed}
-use Rattle.checking.specs.declared.tally.Tally.{Tally}
+use Rattle.engine_support.proofs.{is_handed, hands_failure, hands_stop, hands_unwritten, stopped, unwritten, write_fails, write_stops}
+use Rattle.checking.specs.{Tally, first_name, table_text}
 use Rattle.checking.proofs.Answering.{all_checked, all_written, none_written}
 use Rattle.checking.proofs.Differences.{ok_more}
 use Rattle.engine_support.specs.inner.Rows.{lines_in}
-use Rattle.engine_support.proofs.Written.{hands_failure, hands_stop, hands_unwritten, stopped, unwritten, write_fails, write_stops}
-use Rattle.checking.specs.inner.Tallies.{first_name, table_text}
 use Rattle.checking.proofs.OutcomeLaws.{tabled}
 use Rattle.checking.proofs.check.check_all.Goals as goal
 

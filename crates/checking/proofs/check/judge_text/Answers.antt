@@ -1,8 +1,7 @@
-use Rattle.engine_support.proofs.Endings.{is_handed}
+use Rattle.engine_support.proofs.{is_handed, end_fails, end_stopped, hands_no_memory, wrote}
 use Rattle.checking.specs.inner.Tallies.{judged_by}
 use Rattle.checking.proofs.Answering.{written_by}
 use Rattle.checking.proofs.Differences.{ok_some}
-use Rattle.engine_support.proofs.Written.{end_fails, end_stopped, hands_no_memory, wrote}
 use Rattle.checking.proofs.check.judge_text.Goals as goal
 
 pub returns-in_err-judgement-clause-err : goal.returns-in_err-judgement-clause-err

@@ -1,9 +1,7 @@
 use Rattle.std.proofs.Common.{List, refl, sym, ◌∙◌, subst, true≢false}
 use Rattle.std.proofs.lemmas.List.{take_all}
-use Rattle.recorder.specs.Records.{Step}
-use Rattle.recorder.specs.Replaying.{RecordFrom}
-use Rattle.step_machine.specs.History.{OpeningValue, at_opening}
-use Rattle.step_machine.specs.Standing.{RepresentsHistory}
+use Rattle.recorder.specs.{Step, RecordFrom}
+use Rattle.step_machine.specs.Names.{OpeningValue, at_opening, RepresentsHistory}
 use Rattle.step_machine.proofs.Running.{opening-happens}
 use Rattle.recorder.proofs.RunRecords.{checked_more}
 use Rattle.checking.proofs.Differences.{differing_here}

@@ -1,6 +1,5 @@
 use Rattle.std.proofs.Common.{◌≡◌, take}
-use Rattle.step_machine.specs.History.{OpeningValue, History, at_opening}
-use Rattle.step_machine.specs.Standing.{RepresentsHistory, RepresentsRunFrom}
+use Rattle.step_machine.specs.Names.{OpeningValue, History, at_opening, RepresentsHistory, RepresentsRunFrom}
 use Rattle.recorder.specs.Replaying.{RecordFrom}
 use Rattle.checking.proofs.judging.first_difference.Given as goal
 

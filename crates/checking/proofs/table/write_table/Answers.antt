@@ -1,10 +1,8 @@
 use Rattle.std.proofs.Common.{◌++◌, rules}
 use Rattle.std.specs.Io.KnownBytes.{Appends}
-use Rattle.engine_support.specs.Outcomes.{unfinished_line}
-use Rattle.engine_support.specs.inner.Rows.{lines_in}
+use Rattle.engine_support.specs.{unfinished_line, lines_in}
 use Rattle.engine_support.proofs.Written.{appends_more}
-use Rattle.checking.specs.Outcomes.{refused_line}
-use Rattle.checking.specs.inner.Tallies.{first_name}
+use Rattle.checking.specs.{refused_line, first_name}
 use Rattle.checking.proofs.table.write_table.Goals as goal
 
 pub returns : goal.returns

@@ -1,7 +1,6 @@
 use Rattle.std.proofs.Common.{ℕ}
 use Rattle.std.specs.Global.{Vec}
-use Rattle.engine_support.specs.Inputs.After.{read}
-use Rattle.engine_support.specs.inner.Making.{text_and_value}
+use Rattle.engine_support.specs.{read, text_and_value}
 use Rattle.engine_support.proofs.InputLaws.{refused_after}
 use Rattle.code_engines.specs.Asm.{assembly_texts}
 use Rattle.code_engines.proofs.asm.made.Goals as goal

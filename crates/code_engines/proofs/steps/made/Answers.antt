@@ -1,5 +1,4 @@
-use Rattle.engine_support.specs.Inputs.After.{read}
-use Rattle.engine_support.specs.inner.Making.{text_and_value}
+use Rattle.engine_support.specs.{read, text_and_value}
 use Rattle.engine_support.proofs.InputLaws.{refused_after}
 use Rattle.code_engines.specs.ScriptValue.{script_value}
 use Rattle.code_engines.specs.Steps.{steps_texts}

@@ -1,9 +1,7 @@
-use Rattle.engine_support.proofs.Endings.{is_handed}
+use Rattle.engine_support.proofs.{is_handed, made_of_read, read_fault}
 use Rattle.recorder.specs.Versions.{schedule_value}
 use Rattle.engine_support.specs.Histories.{AnswersEvents}
-use Rattle.engine_support.proofs.ScheduleLaws.{made_of_read, read_fault}
-use Rattle.debugger.specs.DebuggerStates.{DebuggerState}
-use Rattle.debugger.specs.inner.Failures.{IsAtStart}
+use Rattle.debugger.specs.{DebuggerState, IsAtStart}
 use Rattle.debugger.proofs.debug.open_debugger.Goals as goal
 
 pub returns-in_err-test-clause-debugger : goal.returns-in_err-test-clause-debugger

@@ -1,10 +1,7 @@
 use Rattle.std.proofs.Common.{refl}
 use Rattle.litmus.specs.LitmusTests.{LitmusTest}
 use Rattle.recorder.specs.Versions.{schedule_value}
-use Rattle.engine_support.specs.Inputs.After.{read}
-use Rattle.engine_support.specs.Schedules.{schedules}
-use Rattle.engine_support.specs.Tests.{tests}
-use Rattle.engine_support.specs.inner.Inputs.{test_and_value}
+use Rattle.engine_support.specs.{read, schedules, tests, test_and_value}
 use Rattle.engine_support.proofs.InputLaws.{read_after, refused_after}
 use Rattle.engine_support.proofs.running.read_both.Goals as goal
 

@@ -1,7 +1,6 @@
 use Rattle.std.proofs.Common.{◌≡◌, ◌++◌}
 use Rattle.std.specs.String.{string_bytes}
-use Rattle.step_machine.specs.Paths.{state_of}
-use Rattle.step_machine.specs.Standing.{ForEachHistory}
+use Rattle.step_machine.specs.Names.{state_of, ForEachHistory}
 use Rattle.engine_support.specs.StateText.{registers_shown}
 use Rattle.engine_support.proofs.state_text.push_registers.Given as goal
 

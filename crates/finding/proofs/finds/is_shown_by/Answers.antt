@@ -1,6 +1,5 @@
 use Rattle.std.proofs.Common.{◌∙◌, ap, subst}
-use Rattle.step_machine.specs.History.{History, at_opening}
-use Rattle.step_machine.specs.Runs.{Run, RunFrom}
+use Rattle.step_machine.specs.Names.{History, at_opening, Run, RunFrom}
 use Rattle.surveys.specs.Wanted.{EndsAsWanted}
 use Rattle.finding.proofs.finds.is_shown_by.Goals as goal
 

@@ -1,6 +1,5 @@
 use Rattle.litmus.specs.LitmusTests.{LitmusTest}
-use Rattle.engine_support.specs.Tests.{tests}
-use Rattle.engine_support.specs.inner.Making.{text_and_value}
+use Rattle.engine_support.specs.{tests, text_and_value}
 use Rattle.engine_support.proofs.InputLaws.{made_after, read_after, refused_after}
 use Rattle.finding.specs.Find.{IsFindGiven}
 use Rattle.finding.proofs.finds.made.Goals as goal

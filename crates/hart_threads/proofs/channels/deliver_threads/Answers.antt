@@ -1,9 +1,7 @@
 -- The place is the dense one.
 use Rattle.std.proofs.Common.{ℕ, Vec, Global, length, map, subst}
-use Rattle.poll_close.specs.Laws.{opening_over}
-use Rattle.poll_close.specs.Touching.{AllTouch}
-use Rattle.hart_threads.specs.Records.{IsRecord}
-use Rattle.hart_threads.specs.Returns.{ChannelFailsAt}
+use Rattle.poll_close.specs.{opening_over, AllTouch}
+use Rattle.hart_threads.specs.{IsRecord, ChannelFailsAt}
 use Rattle.hart_threads.specs.declared.fault.ChannelFaultAt.TheVariants as channel_at
 use Rattle.hart_threads.proofs.channels.deliver_threads.Goals as goal
 

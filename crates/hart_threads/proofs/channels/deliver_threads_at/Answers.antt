@@ -5,9 +5,7 @@ use Rattle.std.proofs.lemmas.Result.{err_from_is_err_and}
 use Rattle.std.specs.Prelude.{map}
 use Rattle.hart.specs.declared.need.Report.{Report}
 use Rattle.step_machine.specs.History.{OpeningValue, FitsIn}
-use Rattle.poll_close.specs.Places.{layout_of}
-use Rattle.poll_close.specs.Reports.{Clean}
-use Rattle.poll_close.specs.Touching.{AllTouch}
+use Rattle.poll_close.specs.{layout_of, Clean, AllTouch}
 use Rattle.hart_threads.specs.Records.{IsRecord}
 use Rattle.hart_threads.proofs.OverChannels.{run_of, channel_fails_at}
 use Rattle.hart_threads.proofs.channels.deliver_threads_at.Goals as goal

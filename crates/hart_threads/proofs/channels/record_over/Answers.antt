@@ -2,9 +2,7 @@
 use Rattle.std.proofs.Common.{List, lit<, sym, ◌∙◌, ap, subst}
 use Rattle.std.proofs.lemmas.Result.{err_from_is_err_and}
 use Rattle.step_machine.specs.History.{OpeningValue}
-use Rattle.hart_threads.specs.Seats.{SeatView, seats_of}
-use Rattle.hart_threads.specs.Records.{IsRecord}
-use Rattle.hart_threads.specs.Returns.{Fails}
+use Rattle.hart_threads.specs.{SeatView, seats_of, IsRecord, Fails}
 use Rattle.hart_threads.proofs.Fresh.{fresh_opens, fresh_few, fresh_get_on}
 use Rattle.hart_threads.proofs.channels.record_over.Goals as goal
 

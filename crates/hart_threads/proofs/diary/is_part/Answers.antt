@@ -1,8 +1,7 @@
 use Rattle.std.proofs.Common.{◌≡◌, Bool, List, Some, None, ◌++◌, take, sym, ap, ◌∙◌, arith}
 use Rattle.std.specs.List.{filter, slice_get}
 use Rattle.step_machine.specs.declared.events.Entry.{Entry}
-use Rattle.hart_threads.specs.Seats.{SeatView}
-use Rattle.hart_threads.specs.inner.Searches.{counting_entries, keeps}
+use Rattle.hart_threads.specs.{SeatView, counting_entries, keeps}
 use Rattle.hart_threads.proofs.Diaries.{too_short, another, at_the_end, first_left}
 use Rattle.hart_threads.proofs.diary.is_part.Goals as goal
 

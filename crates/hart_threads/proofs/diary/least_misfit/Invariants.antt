@@ -1,6 +1,5 @@
 use Rattle.std.proofs.Common.{take}
-use Rattle.hart_threads.specs.Parts.{Belongs}
-use Rattle.hart_threads.specs.inner.Searches.{Found}
+use Rattle.hart_threads.specs.{Belongs, Found}
 use Rattle.hart_threads.proofs.diary.least_misfit.Given as goal
 
 abbrev pub invariant-loop-seat : goal.invariant-loop-seat

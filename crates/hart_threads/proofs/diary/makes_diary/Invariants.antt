@@ -1,7 +1,6 @@
 use Rattle.std.proofs.Common.{◌≡◌, take}
 use Rattle.std.specs.Prelude.{All}
-use Rattle.step_machine.specs.Placing.{IsOwn}
-use Rattle.step_machine.specs.Paths.{MakesEntries, after_entries}
+use Rattle.step_machine.specs.Names.{IsOwn, MakesEntries, after_entries}
 use Rattle.hart_threads.proofs.diary.makes_diary.Given as goal
 
 abbrev pub invariant-loop-entry : goal.invariant-loop-entry

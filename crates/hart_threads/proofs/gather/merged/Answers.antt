@@ -3,12 +3,8 @@ use Rattle.std.proofs.Common.{◌≡◌, ℕ, List, length, lit<, Option, Some, 
 use Rattle.std.specs.Prelude.{All, IfOk, MatchOption, Result, Ok, Err}
 use Rattle.std.proofs.lemmas.Bool.{MatchBool-at_true}
 use Rattle.step_machine.specs.declared.events.Entry.{Entry}
-use Rattle.step_machine.specs.History.{OpeningValue, history_of}
-use Rattle.step_machine.specs.Legal.{WellFormed}
-use Rattle.step_machine.specs.Placing.{placed}
-use Rattle.hart_threads.specs.Seats.{SeatView}
-use Rattle.hart_threads.specs.Parts.{ArePlaced, HasPart, Merge}
-use Rattle.hart_threads.specs.Diaries.{diaries_of}
+use Rattle.step_machine.specs.Names.{OpeningValue, history_of, WellFormed, placed}
+use Rattle.hart_threads.specs.{SeatView, ArePlaced, HasPart, Merge, diaries_of}
 use Rattle.hart_threads.proofs.Gathering.{ArePuttable, are_placed, diaries_in, merged, whole_kept}
 use Rattle.hart_threads.proofs.gather.merged.Goals as goal
 

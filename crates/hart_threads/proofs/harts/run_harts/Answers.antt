@@ -3,11 +3,7 @@ use Rattle.std.proofs.Common.{◌≡◌, inr, ℕ, List, length, subst, sym}
 use Rattle.std.specs.Prelude.{map, Result, Err}
 use Rattle.std.specs.List.{AllZip}
 use Rattle.std.proofs.lemmas.Result.{err_from_is_err_and}
-use Rattle.hart_threads.specs.Seats.{SeatView, Continues}
-use Rattle.hart_threads.specs.Parts.{Merge}
-use Rattle.hart_threads.specs.declared.turns.Ending.{Ending}
-use Rattle.hart_threads.specs.declared.turns.Calls.{Calls}
-use Rattle.hart_threads.specs.inner.Threads.{Ran}
+use Rattle.hart_threads.specs.{SeatView, Continues, Merge, Ending, Calls, Ran}
 use Rattle.hart_threads.proofs.Coming.{none_is_first, merged_from, fails_from}
 use Rattle.hart_threads.proofs.Returning.{came, all_get_on, lost_within, lost_asks}
 use Rattle.hart_threads.proofs.harts.run_harts.Goals as goal

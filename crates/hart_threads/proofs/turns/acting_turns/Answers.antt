@@ -1,6 +1,5 @@
 use Rattle.std.proofs.Common.{◌≡◌, ℕ, ◌+◌, sym, subst, arith, ◌∙◌}
-use Rattle.hart_threads.specs.Seats.{Continues}
-use Rattle.hart_threads.specs.inner.Threads.{Goes}
+use Rattle.hart_threads.specs.{Continues, Goes}
 use Rattle.hart_threads.proofs.GettingOn.{notes_on, same_role, goes_on}
 use Rattle.hart_threads.proofs.turns.acting_turns.Goals as goal
 

@@ -1,6 +1,5 @@
 use Rattle.std.proofs.Common.{◌≡◌, ◌-◌, ◌≤◌, true}
-use Rattle.hart_threads.specs.Seats.{Continues}
-use Rattle.hart_threads.specs.inner.Threads.{Goes}
+use Rattle.hart_threads.specs.{Continues, Goes}
 use Rattle.hart_threads.proofs.turns.acting_turns.Given as goal
 
 abbrev pub invariant-loop-calls : goal.invariant-loop-calls

@@ -1,6 +1,5 @@
 use Rattle.std.proofs.Common.{◌≡◌, ◌-◌, ◌<◌, ◌≤◌, false, None}
-use Rattle.hart_threads.specs.Seats.{SeatView, Continues}
-use Rattle.hart_threads.specs.inner.Threads.{ending_by}
+use Rattle.hart_threads.specs.{SeatView, Continues, ending_by}
 use Rattle.hart_threads.proofs.turns.land_calls.Given as goal
 
 abbrev pub invariant-loop-calls : goal.invariant-loop-calls

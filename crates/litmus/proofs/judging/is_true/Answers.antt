@@ -1,8 +1,6 @@
 use Rattle.std.proofs.Common.{◌∙◌, subst, sym, List, All, lit<, true, ap, length}
-use Rattle.litmus.specs.declared.symbols.Step.{Step}
+use Rattle.litmus.specs.{Step, AsksThere, all_done, value_there}
 use Rattle.step_machine.specs.Positions.{position_of}
-use Rattle.litmus.specs.inner.Running.{AsksThere, all_done}
-use Rattle.litmus.specs.Verdicts.{value_there}
 use Rattle.litmus.proofs.RunLaws.{all_done-condition, AsksThere-steps_of}
 use Rattle.litmus.proofs.judging.is_true.Goals as goal
 

@@ -1,7 +1,6 @@
 use Rattle.std.proofs.Common.{◌≡◌, true, drop}
 use Rattle.step_machine.specs.Positions.{position_of}
-use Rattle.litmus.specs.inner.Running.{all_done}
-use Rattle.litmus.specs.Verdicts.{value_there}
+use Rattle.litmus.specs.{all_done, value_there}
 use Rattle.litmus.proofs.judging.run_steps.Given as goal
 
 abbrev pub invariant-loop-step : goal.invariant-loop-step

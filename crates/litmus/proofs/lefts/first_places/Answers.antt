@@ -1,5 +1,4 @@
-use Rattle.litmus.specs.LitmusTests.{firsts}
-use Rattle.litmus.specs.inner.Running.{step_places}
+use Rattle.litmus.specs.{firsts, step_places}
 use Rattle.litmus.proofs.SeenLaws.{none_seen_yet, next_seen}
 use Rattle.litmus.proofs.lefts.first_places.Goals as goal
 

@@ -1,7 +1,5 @@
 use Rattle.std.proofs.Common.{◌≡◌, ◌++◌, drop, length}
-use Rattle.litmus.specs.LitmusTests.{firsts}
-use Rattle.litmus.specs.inner.Running.{step_places}
-use Rattle.litmus.specs.inner.Seen.{left_to_see}
+use Rattle.litmus.specs.{firsts, step_places, left_to_see}
 use Rattle.litmus.proofs.lefts.first_places.Given as goal
 
 abbrev pub invariant-loop-step : goal.invariant-loop-step

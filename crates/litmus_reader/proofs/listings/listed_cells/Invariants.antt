@@ -2,8 +2,7 @@ use Rattle.std.proofs.Common.{◌≡◌, ◌++◌, map}
 use Rattle.std.specs.Option.{option_copied}
 use Rattle.texts.specs.Pieces.{bytes_left, pieces_after}
 use Rattle.texts.specs.declared.pieces.Separators.TheVariants.{Byte}
-use Rattle.litmus_reader.specs.Listings.{cell_of}
-use Rattle.litmus_reader.specs.Rows.{cells_of}
+use Rattle.litmus_reader.specs.{cell_of, cells_of}
 use Rattle.litmus_reader.proofs.listings.listed_cells.Given as goal
 
 abbrev pub invariant-loop-rest : goal.invariant-loop-rest

@@ -1,6 +1,5 @@
 use Rattle.std.proofs.Common.{◌≡◌, map, drop, vec_len}
-use Rattle.litmus_reader.specs.Init.{item_of}
-use Rattle.litmus_reader.specs.Values.{zeros, items_put, values_in}
+use Rattle.litmus_reader.specs.{item_of, zeros, items_put, values_in}
 use Rattle.litmus_reader.proofs.opening.values_of.Given as goal
 
 abbrev pub invariant-loop-item : goal.invariant-loop-item

@@ -1,9 +1,7 @@
 use Rattle.std.proofs.Common.{◌≡◌, ◌-◌, ◌++◌, ℕ, List, length, map, replicate, All, ap, subst, ◌∙◌, arith}
 use Rattle.step_machine.specs.History.{HartOpeningValue}
-use Rattle.litmus.specs.Formulas.{places}
-use Rattle.litmus.specs.LitmusTests.{IsThere}
-use Rattle.litmus_reader.specs.Reading.{hart_content}
-use Rattle.litmus_reader.specs.Values.{starts_of}
+use Rattle.litmus.specs.{places, IsThere}
+use Rattle.litmus_reader.specs.{hart_content, starts_of}
 use Rattle.litmus_reader.proofs.ContentLaws.{is_test, starts_content, starts_plain, same_content, made_content, made_plain}
 use Rattle.litmus_reader.proofs.reading.assemble.Goals as goal
 

@@ -1,7 +1,6 @@
 -- The second machine ran the events of the first one's entries, and so has its history.
 use Rattle.std.proofs.Common.{◌∙◌, ap, subst, map}
-use Rattle.step_machine.specs.History.{History}
-use Rattle.step_machine.specs.Runs.{RunFrom, event_of}
+use Rattle.step_machine.specs.Names.{History, RunFrom, event_of}
 use Rattle.poll_close.proofs.Planning.{same_run}
 use Rattle.poll_close.proofs.channel.run_again.Goals as goal
 

@@ -1,7 +1,6 @@
-use Rattle.std.proofs.Common.{length}
+use Rattle.std.proofs.Common.{length, sym, subst, ap, ◌∙◌, arith, take}
 use Rattle.poll_close.specs.Violations.{AreNotes}
 use Rattle.poll_close.proofs.clean.is_clean.Goals as goal
-use Rattle.std.proofs.Common.{sym, subst, ap, ◌∙◌, arith, take}
 use Rattle.poll_close.proofs.Notes.{unclean_found, noted_at, whole_new}
 
 -- src/clean.rt:155:24

@@ -1,6 +1,5 @@
-use Rattle.std.proofs.Common.{false}
+use Rattle.std.proofs.Common.{false, refl, sym, arith}
 use Rattle.poll_close.proofs.clean.note_word.Goals as goal
-use Rattle.std.proofs.Common.{refl, sym, arith}
 use Rattle.std.proofs.lemmas.Option.{slice_get-get_or}
 use Rattle.poll_close.proofs.Notes.{notes_word}
 

@@ -1,7 +1,6 @@
-use Rattle.std.proofs.Common.{[]}
+use Rattle.std.proofs.Common.{[], sym, arith}
 use Rattle.poll_close.specs.Places.{layout_of}
 use Rattle.poll_close.proofs.clean.stays_within.Goals as goal
-use Rattle.std.proofs.Common.{sym, arith}
 use Rattle.std.proofs.lemmas.Bool.Decides.{nat_tests}
 use Rattle.poll_close.proofs.ViolationLaws.{stays_more}
 use Rattle.poll_close.proofs.Notes.{within_here}

@@ -1,7 +1,5 @@
 use Rattle.std.proofs.Common.{◌≡◌, false, []}
-use Rattle.poll_close.specs.Layout.{base_of}
-use Rattle.poll_close.specs.Places.{layout_of}
-use Rattle.poll_close.specs.Violations.{stays_within}
+use Rattle.poll_close.specs.{base_of, layout_of, stays_within}
 use Rattle.poll_close.proofs.clean.stays_within.Given as goal
 
 abbrev pub invariant-loop-block : goal.invariant-loop-block

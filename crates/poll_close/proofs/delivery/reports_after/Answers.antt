@@ -1,6 +1,5 @@
 use Rattle.std.proofs.Common.{lit<, sym, subst, ap}
-use Rattle.step_machine.specs.History.{OpeningValue, at_opening}
-use Rattle.step_machine.specs.Runs.{Run}
+use Rattle.step_machine.specs.Names.{OpeningValue, at_opening, Run}
 use Rattle.poll_close.proofs.Delivering.{channel-fits, delivers-as, if_ok}
 use Rattle.poll_close.proofs.Standing.{stands-opens, stands-run}
 use Rattle.poll_close.proofs.delivery.reports_after.Goals as goal

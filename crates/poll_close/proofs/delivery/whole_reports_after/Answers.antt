@@ -1,6 +1,5 @@
 use Rattle.std.proofs.Common.{lit<, sym, subst}
-use Rattle.step_machine.specs.History.{OpeningValue, History, FitsIn}
-use Rattle.step_machine.specs.Runs.{Run, RunFrom}
+use Rattle.step_machine.specs.Names.{OpeningValue, History, FitsIn, Run, RunFrom}
 use Rattle.poll_close.proofs.Delivering.{if_ok}
 use Rattle.poll_close.proofs.Planning.{whole-as}
 use Rattle.poll_close.proofs.delivery.whole_reports_after.Goals as goal

@@ -1,7 +1,6 @@
 -- Each list that was passed has no zero.
 use Rattle.std.proofs.Common.{subst, arith}
-use Rattle.poll_close.specs.Laws.{AreWords}
-use Rattle.poll_close.specs.Refusals.{ZeroAt}
+use Rattle.poll_close.specs.{AreWords, ZeroAt}
 use Rattle.poll_close.proofs.Opened.{lists-more, lists-all, list-found}
 use Rattle.poll_close.proofs.openings.zero_word.Goals as goal
 

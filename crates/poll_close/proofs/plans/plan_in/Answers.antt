@@ -1,9 +1,8 @@
 use Rattle.std.proofs.Common.{◌≡◌, true, false, [], ◌∷◌, ◌++◌, lit<, sym, ◌∙◌, ap, subst, arith}
 use Rattle.step_machine.specs.declared.events.Event.TheVariants as event
-use Rattle.poll_close.specs.Rankings.{rank_of, next_by}
-use Rattle.poll_close.specs.Plans.{is_done}
-use Rattle.poll_close.proofs.Planning.{Planned, planned-none, planned-more, planned-done, lands_one, turned, turn_over}
-use Rattle.poll_close.proofs.Planning.{turn_quiet, some_left, none_left, landed_more}
+use Rattle.poll_close.specs.{rank_of, next_by, is_done}
+use Rattle.poll_close.proofs.Planning.{Planned, planned-none, planned-more, planned-done, lands_one, turned, turn_over, turn_quiet, some_left, none_left}
+use Rattle.poll_close.proofs.Planning.{landed_more}
 use Rattle.poll_close.proofs.plans.plan_in.Goals as goal
 
 pub is_finished-requires-in-loop-machine-2 : goal.is_finished-requires-in-loop-machine-2

@@ -1,7 +1,6 @@
 use Rattle.std.proofs.Common.{◌≡◌, ◌<◌, ℕ, [], length}
 use Rattle.step_machine.specs.Entries.{pending}
-use Rattle.poll_close.specs.Rankings.{rank_of}
-use Rattle.poll_close.specs.Plans.{AllLanded}
+use Rattle.poll_close.specs.{rank_of, AllLanded}
 use Rattle.poll_close.proofs.Planning.{Planned}
 use Rattle.poll_close.proofs.plans.plan_in.Given as goal
 

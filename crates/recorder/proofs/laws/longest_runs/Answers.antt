@@ -1,6 +1,5 @@
 use Rattle.texts.proofs.RunLaws.{expanded-runs_of, AreLongest-runs_of, runs_of-expanded}
-use Rattle.recorder.specs.Writing.{is_same}
-use Rattle.recorder.specs.Records.{is_same_step}
+use Rattle.recorder.specs.{is_same, is_same_step}
 use Rattle.recorder.proofs.Runs.{decides}
 use Rattle.recorder.proofs.RecordLaws.{decides_steps}
 use Rattle.recorder.proofs.laws.longest_runs.Goals as goal

@@ -1,8 +1,7 @@
 use Rattle.std.proofs.Common.{◌≡◌, ◌+◌, ◌-◌, ◌≤◌, length, vec_len}
 use Rattle.std.specs.Option.{option_copied}
 use Rattle.texts.specs.declared.pieces.Separators.TheVariants.{BlanksAndLineEnds}
-use Rattle.texts.specs.Pieces.{pieces_after, bytes_left}
-use Rattle.texts.specs.Formats.{read_in_turn}
+use Rattle.texts.specs.{pieces_after, bytes_left, read_in_turn}
 use Rattle.texts.proofs.FormatLaws.{following}
 use Rattle.recorder.specs.Reading.{piece_at, step_over, tokens_from}
 use Rattle.recorder.proofs.reading.tokens_within.Given as goal

@@ -2,8 +2,7 @@ use Rattle.std.proofs.Common.{sym, ◌∙◌, arith}
 use Rattle.std.specs.String.{string_bytes}
 use Rattle.texts.proofs.RunLaws.{write-start, turn-same, turn-other, turns-end}
 use Rattle.std.proofs.lemmas.List.Elements.{All-nil}
-use Rattle.recorder.specs.Outcomes.{OutcomeHasWords}
-use Rattle.recorder.specs.Records.{Step, is_same_step, record_line}
+use Rattle.recorder.specs.{OutcomeHasWords, Step, is_same_step, record_line}
 use Rattle.recorder.proofs.RecordLaws.{decides_steps, lines_text, line_first, lines-none, one_line, words-more, no_step, all_words}
 use Rattle.recorder.proofs.records.lines.Goals as goal
 use Rattle.recorder.proofs.records.lines.Goals.{then-goes_on, else-goes_on+in_ok-push_record_line}

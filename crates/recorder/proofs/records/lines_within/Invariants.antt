@@ -1,7 +1,6 @@
 use Rattle.std.proofs.Common.{◌≡◌, ◌+◌, ◌-◌, ◌≤◌, length, vec_len}
 use Rattle.std.specs.Option.{option_copied}
-use Rattle.texts.specs.Pieces.{bytes_left}
-use Rattle.texts.specs.Formats.{read_in_turn}
+use Rattle.texts.specs.{bytes_left, read_in_turn}
 use Rattle.texts.proofs.FormatLaws.{following}
 use Rattle.recorder.specs.Records.{steps_at, line_size, records_from}
 use Rattle.recorder.proofs.RecordLaws.{lines_after}

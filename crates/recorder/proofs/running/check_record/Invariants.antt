@@ -1,6 +1,5 @@
 use Rattle.std.proofs.Common.{take}
-use Rattle.step_machine.specs.History.{History, at_opening}
-use Rattle.step_machine.specs.Standing.{RepresentsHistory}
+use Rattle.step_machine.specs.Names.{History, at_opening, RepresentsHistory}
 use Rattle.recorder.specs.Replaying.{RecordFrom}
 use Rattle.recorder.proofs.running.check_record.Given as goal
 

@@ -1,8 +1,6 @@
 use Rattle.std.proofs.Common.{◌≡◌, take}
-use Rattle.step_machine.specs.History.{History, at_opening}
-use Rattle.step_machine.specs.Standing.{RepresentsHistory}
-use Rattle.recorder.specs.Records.{events_in}
-use Rattle.recorder.specs.Replaying.{RecordFrom}
+use Rattle.step_machine.specs.Names.{History, at_opening, RepresentsHistory}
+use Rattle.recorder.specs.{events_in, RecordFrom}
 use Rattle.recorder.proofs.running.record.Given as goal
 
 abbrev pub invariant-loop-event : goal.invariant-loop-event

@@ -1,8 +1,7 @@
-use Rattle.std.proofs.Common.{[], ◌∷◌, ◌++◌}
+use Rattle.std.proofs.Common.{[], ◌∷◌, ◌++◌, sym, subst, ap, ◌∙◌, map, Option, Some}
 use Rattle.ring_trials.specs.UserChannel.{layout_from}
 use Rattle.ring_trials.specs.Trials.{AreNoted, entries_with}
 use Rattle.ring_trials.proofs.judging.note_outcome.Goals as goal
-use Rattle.std.proofs.Common.{sym, subst, ap, ◌∙◌, map, Option, Some}
 use Rattle.step_machine.specs.declared.events.Outcome.{Outcome}
 use Rattle.poll_close.specs.Violations.{violation_of}
 use Rattle.poll_close.specs.declared.clean.Violation.{Violation}

@@ -1,8 +1,7 @@
 use Rattle.std.proofs.Common.{refl, arith, length-set}
 use Rattle.std.proofs.lemmas.Option.{slice_get-get_or}
 use Rattle.ring_trials.specs.declared.runs.Total.{Total}
-use Rattle.ring_trials.proofs.RunsLaws.{taken_more}
-use Rattle.ring_trials.proofs.RunsLaws.{Both, totals_both}
+use Rattle.ring_trials.proofs.RunsLaws.{taken_more, Both, totals_both}
 use Rattle.ring_trials.proofs.runs.join.Goals as goal
 
 pub overflow_add-totals : goal.overflow_add-totals

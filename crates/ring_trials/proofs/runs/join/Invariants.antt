@@ -1,6 +1,5 @@
 use Rattle.ring_trials.specs.declared.runs.Total.{Total}
-use Rattle.ring_trials.proofs.RunsLaws.{TakenIn}
-use Rattle.ring_trials.proofs.RunsLaws.{Both}
+use Rattle.ring_trials.proofs.RunsLaws.{TakenIn, Both}
 use Rattle.ring_trials.proofs.runs.join.Given as goal
 
 abbrev pub invariant-loop-index : goal.invariant-loop-index

@@ -1,6 +1,5 @@
-use Rattle.std.proofs.Common.{false}
+use Rattle.std.proofs.Common.{false, refl, arith, length-set}
 use Rattle.ring_trials.proofs.runs.take_in.Goals as goal
-use Rattle.std.proofs.Common.{refl, arith, length-set}
 use Rattle.std.proofs.lemmas.Option.{slice_get-get_or}
 use Rattle.poll_close.specs.declared.clean.Share.{Share}
 use Rattle.ring_trials.proofs.RunsLaws.{OneMore, taken_more, totals_more}

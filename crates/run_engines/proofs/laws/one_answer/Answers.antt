@@ -1,17 +1,13 @@
 -- What answers `run`, `replay` and `move` is one answer.
 use Rattle.std.proofs.Common.{arith, ◌≡◌, ℕ, List, Some, Result, Ok, Err, sym, ap, ◌∙◌}
 use Rattle.step_machine.specs.History.{History}
-use Rattle.recorder.specs.Records.{record_text}
-use Rattle.recorder.specs.Versions.{ScheduleValue}
+use Rattle.recorder.specs.{record_text, ScheduleValue}
 use Rattle.litmus.specs.LitmusTests.{LitmusTest}
 use Rattle.litmus.specs.declared.verdict.Verdict.{Verdict}
 use Rattle.litmus.proofs.VerdictLaws.{one_verdict}
 use Rattle.engine_support.specs.declared.fault.Refusal.{Refusal}
-use Rattle.engine_support.specs.Engines.{Output, AreOneAnswer}
-use Rattle.engine_support.specs.Histories.{AnswersRun}
-use Rattle.engine_support.proofs.InputLaws.{alike_by_schedule}
-use Rattle.engine_support.proofs.OneInput.{equal_alike, one_of_history, same_output}
-use Rattle.engine_support.proofs.RunLaws.{one_record}
+use Rattle.engine_support.specs.{Output, AreOneAnswer, AnswersRun}
+use Rattle.engine_support.proofs.{alike_by_schedule, equal_alike, one_of_history, same_output, one_record}
 use Rattle.run_engines.specs.Run.{IsJudged, IsRunAnswer}
 use Rattle.run_engines.specs.Move.{IsMoved, IsMoveAnswer}
 use Rattle.run_engines.specs.Replay.{IsReplay, IsReplayAnswer}

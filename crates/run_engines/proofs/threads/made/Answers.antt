@@ -1,6 +1,5 @@
 use Rattle.litmus.specs.LitmusTests.{LitmusTest}
-use Rattle.engine_support.specs.Tests.{tests}
-use Rattle.engine_support.specs.inner.Making.{text_and_value}
+use Rattle.engine_support.specs.{tests, text_and_value}
 use Rattle.engine_support.proofs.InputLaws.{made_after, read_after, refused_after}
 use Rattle.run_engines.specs.Threads.{IsThreadsGiven}
 use Rattle.run_engines.proofs.threads.made.Goals as goal

@@ -1,8 +1,7 @@
 use Rattle.std.proofs.Common.{ℕ, ◌≤◌, List, length, sym, ap, subst, ◌∙◌, arith}
 use Rattle.std.specs.String.{string_bytes}
 use Rattle.step_machine.specs.History.{History}
-use Rattle.recorder.specs.Schedule.{OfHarts}
-use Rattle.recorder.specs.Writing.{canon}
+use Rattle.recorder.specs.{OfHarts, canon}
 use Rattle.run_engines.specs.Run.{IsJudged}
 use Rattle.run_engines.proofs.ThreadRuns.{of_64, joined}
 use Rattle.run_engines.proofs.threads.record_text.Goals as goal

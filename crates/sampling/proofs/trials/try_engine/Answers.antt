@@ -1,7 +1,6 @@
 use Rattle.drawn_runs.specs.Samples.{runs_of}
 use Rattle.engine_support.proofs.Endings.{ended}
-use Rattle.sampling.specs.Outcomes.{IsTryAnswer}
-use Rattle.sampling.specs.inner.Tallies.{name_of_run, text_and_good}
+use Rattle.sampling.specs.{IsTryAnswer, name_of_run, text_and_good}
 use Rattle.sampling.proofs.trials.try_engine.Goals as goal
 
 pub returns : goal.returns

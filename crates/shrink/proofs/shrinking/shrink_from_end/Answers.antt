@@ -1,6 +1,5 @@
 use Rattle.std.proofs.Common.{subst, sym}
-use Rattle.step_machine.specs.History.{OpeningValue}
-use Rattle.step_machine.specs.Runs.{Run}
+use Rattle.step_machine.specs.Names.{OpeningValue, Run}
 use Rattle.shrink.proofs.EndLaws.{shrunk_of_run}
 use Rattle.shrink.proofs.shrinking.shrink_from_end.Goals as goal
 

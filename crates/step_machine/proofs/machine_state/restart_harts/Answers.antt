@@ -1,7 +1,6 @@
 use Rattle.std.proofs.Common.{◌<◌, length, set, sym, ap, ◌∙◌, arith}
 use Rattle.std.proofs.lemmas.List.Edits.{map_over_more}
-use Rattle.hart.specs.State.{HartView}
-use Rattle.hart.specs.Steps.{restarted}
+use Rattle.hart.specs.{HartView, restarted}
 use Rattle.step_machine.proofs.machine_state.restart_harts.Goals as goal
 
 pub loop-hart-preserved : goal.loop-hart-preserved

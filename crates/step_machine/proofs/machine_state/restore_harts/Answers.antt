@@ -2,8 +2,7 @@
 use Rattle.std.proofs.Common.{◌≡◌, ◌<◌, ℕ, List, length, take, get_or, set, Some, sym, ◌∙◌, ap, arith}
 use Rattle.std.specs.List.{slice_get}
 use Rattle.std.proofs.lemmas.Option.{slice_get-get_or}
-use Rattle.hart.specs.State.{HartView}
-use Rattle.hart.specs.Saved.{SavedView, put_back}
+use Rattle.hart.specs.{HartView, SavedView, put_back}
 use Rattle.step_machine.specs.inner.Restored.{restored_harts}
 use Rattle.step_machine.proofs.Changed.{by_none, changed_at, changed_all, still_at}
 use Rattle.step_machine.proofs.machine_state.restore_harts.Goals as goal

@@ -1,11 +1,8 @@
 use Rattle.std.proofs.Common.{rules, ℕ, ◌≤◌, length, Option, Result, Ok, Err, refl, arith}
 use Rattle.std.specs.Global.{Vec}
 use Rattle.std.specs.Prelude.{IfOk, IfSome}
-use Rattle.step_machine.specs.History.{at_opening}
+use Rattle.step_machine.specs.Names.{at_opening, AreOfOneOpening, position_of, RepresentsHistory, Config}
 use Rattle.step_machine.specs.declared.events.Event.{Event}
-use Rattle.step_machine.specs.Positions.{AreOfOneOpening, position_of}
-use Rattle.step_machine.specs.Standing.{RepresentsHistory}
-use Rattle.step_machine.specs.inner.Config.{Config}
 use Rattle.litmus.specs.LitmusTests.{IsTest, LitmusTest}
 use Rattle.surveys.specs.inner.Levels.{AreFewestFor}
 use Rattle.surveys.specs.Surveys.{AreShortest}

@@ -1,6 +1,5 @@
 use Rattle.std.proofs.Common.{◌<◌, ◌≤◌, Some, None, length, rules, arith}
-use Rattle.texts.specs.Pieces.{is_blank}
-use Rattle.texts.specs.Cutting.{fails}
+use Rattle.texts.specs.{is_blank, fails}
 use Rattle.texts.proofs.CuttingLaws.{length-from_first}
 use Rattle.texts.proofs.TokenLaws.{first_is, tokens-cut}
 use Rattle.texts.proofs.cutting.first_token.Goals as goal

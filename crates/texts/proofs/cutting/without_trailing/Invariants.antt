@@ -1,6 +1,5 @@
 use Rattle.std.proofs.Common.{◌≡◌, ◌≤◌, length, take}
-use Rattle.texts.specs.Pieces.{separates}
-use Rattle.texts.specs.Cutting.{without_trailing}
+use Rattle.texts.specs.{separates, without_trailing}
 use Rattle.texts.proofs.cutting.without_trailing.Given as goal
 
 abbrev pub invariant-loop-end : goal.invariant-loop-end

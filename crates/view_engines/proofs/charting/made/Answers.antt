@@ -2,9 +2,7 @@ use Rattle.litmus.specs.LitmusTests.{LitmusTest}
 use Rattle.litmus_reader.specs.Headings.{HeadingOf, IsHeading, heading_of}
 use Rattle.litmus_reader.specs.declared.headings.Heading.{Heading}
 use Rattle.recorder.specs.Versions.{schedule_value}
-use Rattle.engine_support.specs.Schedules.{schedules}
-use Rattle.engine_support.specs.Tests.{tests_with}
-use Rattle.engine_support.specs.inner.Making.{text_and_value}
+use Rattle.engine_support.specs.{schedules, tests_with, text_and_value}
 use Rattle.engine_support.proofs.InputLaws.{made_after, read_after, refused_after}
 use Rattle.view_engines.specs.Chart.{IsChart, drawing}
 use Rattle.view_engines.proofs.HeadedLaws.{words_named}

@@ -4,8 +4,7 @@ use Rattle.litmus_reader.specs.Headings.{heading_of}
 use Rattle.recorder.specs.Versions.{schedule_value}
 use Rattle.engine_support.specs.Runs.{Runs}
 use Rattle.engine_support.specs.inner.Making.{text_and_value}
-use Rattle.engine_support.proofs.RunLaws.{opening_stays}
-use Rattle.engine_support.proofs.ScheduleLaws.{stopped_by}
+use Rattle.engine_support.proofs.{opening_stays, stopped_by}
 use Rattle.view_engines.specs.Chart.{IsChart, differs, drawing}
 use Rattle.view_engines.proofs.charting.picture.Goals as goal
 

@@ -1,8 +1,7 @@
 use Rattle.litmus.specs.LitmusTests.{LitmusTest}
 use Rattle.litmus_reader.specs.Reading.{content_of}
 use Rattle.litmus_reader.specs.declared.headings.Heading.{Heading}
-use Rattle.engine_support.proofs.Endings.{is_handed}
-use Rattle.engine_support.proofs.TestTexts.{answered_refusal}
+use Rattle.engine_support.proofs.{is_handed, answered_refusal}
 use Rattle.view_engines.proofs.heading.headed_of_text.Goals as goal
 
 pub returns-in_err-test-clause-exact : goal.returns-in_err-test-clause-exact

@@ -1,9 +1,7 @@
 use Rattle.std.proofs.Common.{◌≡◌}
 use Rattle.std.specs.String.{string_bytes}
 use Rattle.litmus.specs.LitmusTests.{LitmusTest}
-use Rattle.litmus_reader.specs.Grammar.{IsTestOf}
-use Rattle.litmus_reader.specs.Headings.{HeadingOf, IsHeading, heading_of}
-use Rattle.litmus_reader.specs.Reading.{content_of}
+use Rattle.litmus_reader.specs.{IsTestOf, HeadingOf, IsHeading, heading_of, content_of}
 use Rattle.litmus_reader.specs.declared.headings.Heading.{Heading}
 use Rattle.litmus_reader.proofs.HeadingLaws.{one_heading}
 use Rattle.engine_support.specs.Tests.{tests_with}

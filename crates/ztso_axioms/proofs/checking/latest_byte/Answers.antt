@@ -1,7 +1,6 @@
 use Rattle.std.proofs.Common.{◌≡◌, ℕ, Bool, ◌+◌, ◌-◌, List, get_or, drop, sym, ◌∙◌, ap, subst, arith}
 use Rattle.step_machine.specs.declared.events.Entry.{Entry}
-use Rattle.step_machine.specs.Entries.{opening_byte}
-use Rattle.step_machine.specs.History.{History}
+use Rattle.step_machine.specs.Names.{opening_byte, History}
 use Rattle.ztso_axioms.specs.Axioms.{is_seen, last_written}
 use Rattle.ztso_axioms.proofs.Checked.{NoneWrites, written_if, none_more, last_found}
 use Rattle.ztso_axioms.proofs.checking.latest_byte.Goals as goal

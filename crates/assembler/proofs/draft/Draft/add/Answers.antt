@@ -1,8 +1,6 @@
 use Rattle.std.proofs.Common.{◌≡◌, ℕ, List, Some, cond, false, map, arith}
 use Rattle.std.proofs.lemmas.List.{length-map}
-use Rattle.assembler.specs.declared.kept.KeptLine.{KeptLine}
-use Rattle.assembler.specs.Drafts.{is_twice, is_label, Fitting}
-use Rattle.assembler.specs.Kept.{kept_line, place_in}
+use Rattle.assembler.specs.{KeptLine, is_twice, is_label, Fitting, kept_line, place_in}
 use Rattle.assembler.proofs.DraftLaws.{words_le, kept_more, lines-push}
 use Rattle.assembler.proofs.draft.Draft.add.Goals as goal
 

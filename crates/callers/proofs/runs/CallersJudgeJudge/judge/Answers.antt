@@ -1,8 +1,6 @@
 use Rattle.std.proofs.Common.{sym, subst, ◌∙◌}
-use Rattle.step_machine.specs.History.{OpeningValue}
-use Rattle.step_machine.specs.Runs.{Run}
-use Rattle.callers.specs.Queues.{spsc_of}
-use Rattle.callers.specs.inner.Noting.{AreCallNotes}
+use Rattle.step_machine.specs.Names.{OpeningValue, Run}
+use Rattle.callers.specs.{spsc_of, AreCallNotes}
 use Rattle.callers.proofs.Judged.{none_or_one, one_violation}
 use Rattle.callers.proofs.runs.CallersJudgeJudge.judge.Goals as goal
 

@@ -1,9 +1,7 @@
 use Rattle.std.proofs.Common.{◌≡◌, ℕ, List, ◌++◌, drop, true, None, Some, sym, ap, subst, ◌∙◌, append_assoc}
 use Rattle.std.specs.String.{string_bytes}
 use Rattle.step_machine.specs.History.{History}
-use Rattle.debugger.specs.Sessions.{Past}
-use Rattle.debugger.specs.DebugText.{end_line, break_line}
-use Rattle.debugger.specs.Debugging.{stop_before, DoesAll}
+use Rattle.debugger.specs.{Past, end_line, break_line, stop_before, DoesAll}
 use Rattle.debugger.proofs.DebugLaws.{runs_out, held_up, runs_more, ends_with}
 use Rattle.debugger.proofs.debug.answers.go.Goals as goal
 

@@ -1,7 +1,6 @@
 use Rattle.std.proofs.Common.{◌≡◌, ℕ, ◌-◌, List, ◌++◌, length, drop, true}
 use Rattle.std.specs.String.{string_bytes}
-use Rattle.debugger.specs.DebuggerStates.{DebuggerState}
-use Rattle.debugger.specs.Debugging.{DoesAll}
+use Rattle.debugger.specs.{DebuggerState, DoesAll}
 use Rattle.debugger.proofs.debug.answers.go.Given as goal
 
 -- what is done from here on belongs to what was done so far

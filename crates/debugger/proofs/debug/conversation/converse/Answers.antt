@@ -1,10 +1,8 @@
-use Rattle.engine_support.proofs.Endings.{is_handed}
+use Rattle.engine_support.proofs.{is_handed, hands_failure, hands_read_failure, hands_unwritten, keeps_written, reads_alone, stopped}
 use Rattle.std.proofs.Common.{[], sym, ◌∙◌}
-use Rattle.engine_support.proofs.Written.{hands_failure, hands_read_failure, hands_unwritten, keeps_written, reads_alone, stopped}
-use Rattle.debugger.specs.DebuggerStates.{DebuggerState}
+use Rattle.debugger.specs.{DebuggerState, PrintsFront}
 use Rattle.debugger.proofs.FirstLines.{leaves_here, leaves_itself, leaves_on}
 use Rattle.debugger.proofs.TranscriptLaws.{Printed, talked_enough, talked_nothing, talked_on, talked_so_far, talked_some}
-use Rattle.debugger.specs.Transcripts.{PrintsFront}
 use Rattle.debugger.proofs.debug.conversation.converse.Goals as goal
 
 pub loop-init : goal.loop-init

@@ -1,7 +1,6 @@
 use Rattle.std.proofs.Common.{◌≡◌, ◌+◌, [], ◌∷◌, Some, sym, subst, refl, arith}
 use Rattle.std.specs.List.{slice_get}
-use Rattle.debugger.specs.DebuggerStates.{DebuggerState, scheduled}
-use Rattle.debugger.specs.declared.debugger.Source.TheVariants.{Schedule}
+use Rattle.debugger.specs.{DebuggerState, scheduled, Schedule}
 use Rattle.debugger.proofs.DebuggerLaws.{kept_taken}
 use Rattle.debugger.proofs.debugger.Debugger.event.Goals.{in-Schedule, in-User}
 use Rattle.debugger.proofs.debugger.Debugger.event.Goals as goal

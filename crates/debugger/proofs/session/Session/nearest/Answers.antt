@@ -1,9 +1,7 @@
 use Rattle.std.proofs.Common.{◌≡◌, ◌/◌, ◌≤◌, List, length, take, Some, sym, ap, subst}
 use Rattle.std.specs.List.{slice_get}
 use Rattle.step_machine.specs.Snapshots.{SnapshotView}
-use Rattle.debugger.specs.Sessions.{Past}
-use Rattle.debugger.specs.Nearest.{IsNearest}
-use Rattle.debugger.specs.declared.session.TheConstants.{SNAPSHOT_EVENTS}
+use Rattle.debugger.specs.{Past, IsNearest, SNAPSHOT_EVENTS}
 use Rattle.debugger.proofs.SnapshotLaws.{nearest_of}
 use Rattle.debugger.proofs.session.Session.nearest.Goals as goal
 

@@ -1,10 +1,7 @@
 -- A session begins with a snapshot of its opening.
 use Rattle.std.proofs.Common.{◌<◌, ◌*◌, ℕ, zero, suc, [], ◌∷◌, take, get_or, refl, arith}
-use Rattle.step_machine.specs.History.{History}
-use Rattle.step_machine.specs.Runs.{Run}
-use Rattle.step_machine.specs.Snapshots.{SnapshotView, IsTakenAt}
-use Rattle.debugger.specs.declared.session.TheConstants.{SNAPSHOT_EVENTS}
-use Rattle.debugger.specs.inner.SnapshotsHeld.{IsTakenAfter, HasSnapshots}
+use Rattle.step_machine.specs.Names.{History, Run, SnapshotView, IsTakenAt}
+use Rattle.debugger.specs.{SNAPSHOT_EVENTS, IsTakenAfter, HasSnapshots}
 use Rattle.debugger.proofs.session.Session.open.Goals as goal
 
 -- after no event, and none before

@@ -3,8 +3,7 @@ use Rattle.std.specs.Map.{keys_of}
 use Rattle.std.specs.List.Sorted.{IsStrictlySortedBy}
 use Rattle.std.specs.Global.{Vec}
 use Rattle.std.proofs.lemmas.Map.Keys.{sorted_tail}
-use Rattle.engine_support.specs.declared.outcomes.Row.{Row}
-use Rattle.engine_support.specs.inner.Rows.{order}
+use Rattle.engine_support.specs.{Row, order}
 use Rattle.engine_support.proofs.Rows.{row_taken, row_few, rows_done}
 use Rattle.engine_support.proofs.outcomes.Outcomes.take_in.Goals as goal
 

@@ -1,8 +1,7 @@
 use Rattle.std.proofs.Common.{◌≡◌, ℕ, List, [], ◌∷◌, ◌++◌, rules, subst}
 use Rattle.std.specs.Io.KnownBytes.{Appends}
 use Rattle.std.specs.Global.{Vec}
-use Rattle.engine_support.specs.declared.outcomes.Row.{Row}
-use Rattle.engine_support.specs.inner.Rows.{row_line}
+use Rattle.engine_support.specs.{Row, row_line}
 use Rattle.engine_support.proofs.OutcomeLines.{line_written, lines_written}
 use Rattle.engine_support.proofs.Written.{appends_more, appends_nothing}
 use Rattle.engine_support.proofs.outcomes.Outcomes.write_lines.Goals as goal

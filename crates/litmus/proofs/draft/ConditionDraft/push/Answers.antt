@@ -1,11 +1,6 @@
 use Rattle.std.proofs.Common.{◌≡◌, ◌≤◌, List, [], ◌∷◌, ◌++◌, Err, IfSome, length, arith}
 use Rattle.litmus.proofs.StageLaws.{few_negations, is_within, push_laid, push_added, push_refused}
-use Rattle.litmus.specs.declared.symbols.Symbol.{Symbol}
-use Rattle.litmus.specs.declared.draft.ConditionError.{ConditionError}
-use Rattle.litmus.specs.declared.draft.ConditionError.TheVariants.{NoMemory, Misplaced}
-use Rattle.litmus.specs.Faults.{fault_of}
-use Rattle.litmus.specs.Drafting.{symbol_added}
-use Rattle.litmus.specs.Grammar.{Begins}
+use Rattle.litmus.specs.{Symbol, ConditionError, NoMemory, Misplaced, fault_of, symbol_added, Begins}
 use Rattle.litmus.proofs.BeginLaws.{begins_built, refused_begins}
 use Rattle.litmus.proofs.draft.ConditionDraft.push.Goals as goal
 

@@ -2,8 +2,7 @@
 use Rattle.std.proofs.Common.{◌≡◌, List, ◌∙◌, lit<, ap, length, All}
 use Rattle.std.proofs.lemmas.Result.{on_ok_weaker}
 use Rattle.step_machine.specs.Positions.{position_of}
-use Rattle.litmus.specs.declared.symbols.Place.{Place}
-use Rattle.litmus.specs.LitmusTests.{LitmusTest, IsThere, left_sides}
+use Rattle.litmus.specs.{Place, LitmusTest, IsThere, left_sides}
 use Rattle.litmus.proofs.PositionLaws.{values_read}
 use Rattle.litmus.proofs.TestLaws.{lefts_there}
 use Rattle.litmus.proofs.litmus_test.Test.values_into.Goals as goal

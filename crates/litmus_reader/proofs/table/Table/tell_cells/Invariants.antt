@@ -2,8 +2,7 @@ use Rattle.std.proofs.Common.{◌≡◌, ◌+◌, length, take, drop, vec_len}
 use Rattle.std.specs.Option.{option_copied}
 use Rattle.texts.specs.Pieces.{bytes_left, pieces_after}
 use Rattle.assembler.specs.Drafts.{onto}
-use Rattle.litmus_reader.specs.Rows.{cells_of}
-use Rattle.litmus_reader.specs.Table.{cells_added}
+use Rattle.litmus_reader.specs.{cells_of, cells_added}
 use Rattle.litmus_reader.proofs.table.Table.tell_cells.Given as goal
 use Rattle.texts.specs.declared.pieces.Separators.TheVariants.{Byte}
 

@@ -1,11 +1,8 @@
 use Rattle.std.proofs.Common.{◌≤◌, length, sym, ap, subst, arith}
 use Rattle.std.proofs.lemmas.List.{length-map}
 use Rattle.std.specs.Global.{Vec}
-use Rattle.recorder.specs.Records.{Step}
-use Rattle.recorder.specs.Schedule.{OfHarts}
-use Rattle.recorder.specs.Versions.{schedule_value}
-use Rattle.engine_support.specs.Runs.{Records}
-use Rattle.engine_support.specs.inner.Making.{text_and_value}
+use Rattle.recorder.specs.{Step, OfHarts, schedule_value}
+use Rattle.engine_support.specs.{Records, text_and_value}
 use Rattle.engine_support.proofs.ScheduleLaws.{stopped_by}
 use Rattle.run_engines.specs.Move.{IsMoved}
 use Rattle.run_engines.proofs.moving.MoveScheduleCommand.answer.Goals as goal

@@ -1,11 +1,9 @@
 use Rattle.std.proofs.Common.{ap, ◌∙◌}
 use Rattle.std.specs.List.{flat_map}
 use Rattle.step_machine.specs.History.{HistoryWithRoom}
-use Rattle.recorder.specs.Outcomes.{entry_line}
-use Rattle.recorder.specs.Versions.{schedule_value}
-use Rattle.engine_support.specs.Histories.{AnswersRun}
+use Rattle.recorder.specs.{entry_line, schedule_value}
+use Rattle.engine_support.specs.{AnswersRun, text_and_value}
 use Rattle.engine_support.specs.Runs.{Runs}
-use Rattle.engine_support.specs.inner.Making.{text_and_value}
 use Rattle.engine_support.proofs.ScheduleLaws.{stopped_by}
 use Rattle.run_engines.specs.Replay.{IsReplay}
 use Rattle.run_engines.proofs.replay.ReplayScheduleCommand.answer.Goals as goal

@@ -1,8 +1,7 @@
 use Rattle.step_machine.specs.History.{History}
 use Rattle.recorder.specs.Versions.{schedule_value}
-use Rattle.engine_support.specs.Histories.{AnswersRun}
+use Rattle.engine_support.specs.{AnswersRun, text_and_value}
 use Rattle.engine_support.specs.Runs.{Runs}
-use Rattle.engine_support.specs.inner.Making.{text_and_value}
 use Rattle.engine_support.proofs.ScheduleLaws.{stopped_by}
 use Rattle.run_engines.specs.Run.{IsJudged}
 use Rattle.run_engines.proofs.run.RunScheduleCommand.answer.Goals as goal

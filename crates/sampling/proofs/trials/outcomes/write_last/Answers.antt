@@ -3,8 +3,7 @@ use Rattle.std.specs.Prelude.{OnOk, codes}
 use Rattle.std.specs.Fmt.{decimal}
 use Rattle.std.specs.Io.KnownBytes.{Appends}
 use Rattle.engine_support.proofs.Written.{appends_more, ends_written}
-use Rattle.sampling.specs.Outcomes.{shown_by}
-use Rattle.sampling.specs.inner.Tallies.{left_name}
+use Rattle.sampling.specs.{shown_by, left_name}
 use Rattle.sampling.proofs.trials.outcomes.write_last.Goals as goal
 
 pub returns : goal.returns

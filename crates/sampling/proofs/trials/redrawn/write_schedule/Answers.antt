@@ -2,8 +2,7 @@ use Rattle.std.proofs.Common.{◌≡◌, ◌-◌, ◌+◌, ℕ, zero, suc, List,
 use Rattle.std.specs.Prelude.{OnOk, codes}
 use Rattle.std.specs.Io.KnownBytes.{Appends}
 use Rattle.step_machine.specs.declared.events.Event.{Event}
-use Rattle.recorder.specs.Drawing.{drawn_words}
-use Rattle.recorder.specs.Writing.{is_same, repetition_text}
+use Rattle.recorder.specs.{drawn_words, is_same, repetition_text}
 use Rattle.drawn_runs.specs.Draws.{events_by, no_burst}
 use Rattle.engine_support.proofs.Written.{appends_more, appends_nothing, ends_written}
 use Rattle.sampling.specs.Outcomes.{schedule_text}

@@ -1,6 +1,5 @@
 use Rattle.std.proofs.Common.{◌∙◌, subst}
-use Rattle.step_machine.specs.History.{OpeningValue, at_opening}
-use Rattle.step_machine.specs.Runs.{Run}
+use Rattle.step_machine.specs.Names.{OpeningValue, at_opening, Run}
 use Rattle.step_machine.proofs.Running.{opening-run}
 use Rattle.sampling.proofs.trials.tally.run_anew.Goals as goal
 

@@ -1,8 +1,7 @@
 -- A bank opens as its opening says.
 use Rattle.std.proofs.Common.{◌≡◌, length, arith}
 use Rattle.std.proofs.lemmas.Grind.{common_steps}
-use Rattle.step_machine.specs.Banks.{BankView, opened_bank}
-use Rattle.step_machine.specs.inner.Stored.{opened_stored}
+use Rattle.step_machine.specs.Names.{BankView, opened_bank, opened_stored}
 use Rattle.step_machine.proofs.Banking.{sound_opening}
 use Rattle.step_machine.proofs.bank.Bank.open.Goals as goal
 

@@ -1,8 +1,6 @@
 -- A sound machine that is put back to a snapshot of its own is sound.
 use Rattle.std.proofs.Common.{◌≡◌, List, take, sym, ◌∙◌, ap, subst, arith, lit<}
-use Rattle.step_machine.specs.History.{OpeningValue, HistoryWithRoom, history_of, up_to}
-use Rattle.step_machine.specs.Snapshots.{SnapshotView, IsTakenAt}
-use Rattle.step_machine.specs.declared.events.Entry.{Entry}
+use Rattle.step_machine.specs.Names.{OpeningValue, HistoryWithRoom, history_of, up_to, SnapshotView, IsTakenAt, Entry}
 use Rattle.step_machine.proofs.Snapshots.{within_back, buffers_back, pending_back, words_few, sound_put_to}
 use Rattle.step_machine.proofs.machine.Machine.back_to.Goals as goal
 

@@ -1,9 +1,6 @@
 -- A step of a sound machine is what happens to its history, and leaves a sound machine.
 use Rattle.std.proofs.Common.{◌≡◌, List, ◌∙◌, ap, subst, arith}
-use Rattle.step_machine.specs.declared.events.Entry.{Entry}
-use Rattle.step_machine.specs.History.{History, HistoryWithRoom}
-use Rattle.step_machine.specs.Runs.{Happens}
-use Rattle.step_machine.specs.inner.Representation.{IsMachineAt}
+use Rattle.step_machine.specs.Names.{Entry, History, HistoryWithRoom, Happens, IsMachineAt}
 use Rattle.step_machine.proofs.Standings.{sound_moved, sound_stepped, happens_stepped}
 use Rattle.step_machine.proofs.machine.Machine.step.Goals as goal
 

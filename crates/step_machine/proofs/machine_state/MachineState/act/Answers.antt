@@ -1,9 +1,7 @@
 -- The hart in its place, its status and what it needs.
 use Rattle.std.proofs.Common.{◌≡◌, ◌<◌, ◌∙◌, length, get_or, refl, sym, ap, subst, arith, lit<}
 use Rattle.hart.specs.declared.status.Status.TheVariants as status
-use Rattle.step_machine.specs.Ranges.{IsInRange}
-use Rattle.step_machine.specs.inner.Stored.{outcome_for}
-use Rattle.step_machine.specs.inner.Config.{Config, Fit, IsNext}
+use Rattle.step_machine.specs.Names.{IsInRange, outcome_for, Config, Fit, IsNext}
 use Rattle.step_machine.proofs.Fitting.{ready_in_place, act_outcome-status}
 use Rattle.step_machine.proofs.machine_state.MachineState.act.Goals as goal
 

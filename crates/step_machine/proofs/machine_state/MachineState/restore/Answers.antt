@@ -1,8 +1,7 @@
 -- Harts, buffers and words are those of the snapshot, which fit each other.
 use Rattle.std.proofs.Common.{◌≡◌, ◌++◌, length, take, drop, arith, subst, sym}
 use Rattle.std.proofs.lemmas.Grind.{common_steps}
-use Rattle.step_machine.specs.inner.Config.{Config, Fit}
-use Rattle.step_machine.specs.inner.Restored.{restored_config}
+use Rattle.step_machine.specs.Names.{Config, Fit, restored_config}
 use Rattle.step_machine.proofs.Snapshots.{fit_back}
 use Rattle.step_machine.proofs.machine_state.MachineState.restore.Goals as goal
 

@@ -2,10 +2,7 @@
 -- position it is at, the next one.
 use Rattle.std.proofs.Common.{◌≡◌, List, length, refl, ◌∙◌, ap, arith}
 use Rattle.hart.specs.State.{HartView}
-use Rattle.step_machine.specs.declared.events.Entry.{Entry}
-use Rattle.step_machine.specs.declared.events.Outcome.{Outcome}
-use Rattle.step_machine.specs.inner.Config.{Config, AllHaveRoom, after_outcome, entries_after}
-use Rattle.step_machine.specs.inner.Representation.{IsMachineAt}
+use Rattle.step_machine.specs.Names.{Entry, Outcome, Config, AllHaveRoom, after_outcome, entries_after, IsMachineAt}
 use Rattle.step_machine.proofs.PositionLaws.{answer_is, position_is_next, opening_stepped}
 use Rattle.step_machine.proofs.Rooms.{same-length}
 use Rattle.step_machine.proofs.Standings.{entry_count, sound_same, sound_stepped, happens_stepped}

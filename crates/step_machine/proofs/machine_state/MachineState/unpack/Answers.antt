@@ -2,10 +2,8 @@
 use Rattle.std.proofs.Common.{◌≡◌, ℕ, List, ◌++◌, length, take, drop, arith, ap, ◌∙◌, subst, sym}
 use Rattle.std.specs.Prelude.{All}
 use Rattle.std.proofs.lemmas.Grind.{common_steps}
-use Rattle.step_machine.specs.inner.Config.{Config, Fit}
-use Rattle.hart.specs.Saved.{IsOfItsOpening}
-use Rattle.hart.specs.State.{HartView}
-use Rattle.step_machine.specs.Positions.{AreOfOneOpening, position_of, put_at, unpacked_harts}
+use Rattle.step_machine.specs.Names.{Config, Fit, AreOfOneOpening, position_of, put_at, unpacked_harts}
+use Rattle.hart.specs.{IsOfItsOpening, HartView}
 use Rattle.step_machine.proofs.Packing.{HasOwnCode, own_codes, position_put}
 use Rattle.step_machine.proofs.PositionLaws.{opening_unpacked}
 use Rattle.step_machine.proofs.TakingLaws.{harts_count, fit_unpacked}

@@ -1,8 +1,7 @@
 -- Only where the hart stands changes, not where it opened.
 use Rattle.std.proofs.Common.{◌≡◌, List, sym, ap, ◌∙◌, map}
 use Rattle.hart.specs.State.{HartView}
-use Rattle.step_machine.specs.inner.Stored.{Stored}
-use Rattle.step_machine.specs.inner.Config.{Config, beginning}
+use Rattle.step_machine.specs.Names.{Stored, Config, beginning}
 use Rattle.step_machine.proofs.PartLaws.{firsts_put}
 use Rattle.step_machine.proofs.machine_state.MachineState.unpack_hart.Goals as goal
 

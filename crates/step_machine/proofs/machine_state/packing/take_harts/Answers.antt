@@ -2,8 +2,7 @@ use Rattle.std.proofs.Common.{get_or, refl, ap, subst, arith}
 use Rattle.std.specs.Prelude.{All}
 use Rattle.std.proofs.lemmas.List.{take_all}
 use Rattle.std.proofs.lemmas.List.Elements.{All-nil}
-use Rattle.hart.specs.Saved.{IsOfItsOpening}
-use Rattle.hart.specs.State.{HartView}
+use Rattle.hart.specs.{IsOfItsOpening, HartView}
 use Rattle.step_machine.specs.Positions.{unpacked_hart, unpacked_harts}
 use Rattle.step_machine.proofs.TakingLaws.{taken_none, taken_more, taken_all, all_written}
 use Rattle.step_machine.proofs.machine_state.packing.take_harts.Goals as goal

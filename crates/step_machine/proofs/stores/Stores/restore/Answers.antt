@@ -1,8 +1,7 @@
 -- The buffers and the words are those of the copies.
 use Rattle.std.proofs.Common.{◌≡◌, ◌++◌, length, take, drop, arith, subst, sym}
 use Rattle.std.proofs.lemmas.Grind.{common_steps}
-use Rattle.step_machine.specs.inner.Stored.{Stored, FitStored}
-use Rattle.step_machine.specs.inner.Restored.{restored_stored}
+use Rattle.step_machine.specs.Names.{Stored, FitStored, restored_stored}
 use Rattle.step_machine.proofs.Snapshots.{fit_stored_back}
 use Rattle.step_machine.proofs.stores.Stores.restore.Goals as goal
 

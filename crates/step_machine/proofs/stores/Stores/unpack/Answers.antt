@@ -2,8 +2,7 @@
 use Rattle.std.proofs.Common.{◌≡◌, ◌++◌, length, take, drop, arith, subst, sym}
 use Rattle.std.proofs.lemmas.Grind.{common_steps}
 use Rattle.std.proofs.lemmas.List.{take_min}
-use Rattle.step_machine.specs.inner.Stored.{Stored, FitStored}
-use Rattle.step_machine.specs.Positions.{unpacked_stored}
+use Rattle.step_machine.specs.Names.{Stored, FitStored, unpacked_stored}
 use Rattle.step_machine.proofs.TakingLaws.{buffers_count, fit_unpacked_stored}
 use Rattle.step_machine.proofs.stores.Stores.unpack.Goals as goal
 

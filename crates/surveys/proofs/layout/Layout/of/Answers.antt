@@ -6,8 +6,7 @@ use Rattle.std.proofs.lemmas.Slice.Zip.{all_zipped_more}
 use Rattle.surveys.specs.inner.Digits.{Digits, HasRoomBelow, digits_of}
 use Rattle.surveys.proofs.LayoutLaws.{IsBegun, IsPlaced, in_next_word, in_same_word, one_more, small_count}
 use Rattle.surveys.proofs.layout.Layout.of.Goals as goal
-use Rattle.surveys.proofs.layout.Layout.of.Goals.{then-shift-width-gt64, else-shift-width-gt64}
-use Rattle.surveys.proofs.layout.Layout.of.Goals.{then-word-via-then-word, then-word-via-else-word+then-word-2}
+use Rattle.surveys.proofs.layout.Layout.of.Goals.{then-shift-width-gt64, else-shift-width-gt64, then-word-via-then-word, then-word-via-else-word+then-word-2}
 use Rattle.surveys.proofs.layout.Layout.of.Goals.{then-word-via-else-word+else-word-2+then-not-holds}
 
 pub loop-count-preserved : goal.loop-count-preserved

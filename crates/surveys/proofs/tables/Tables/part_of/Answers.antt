@@ -1,8 +1,7 @@
 use Rattle.std.proofs.Common.{◌≡◌, ◌∙◌, ℕ, List, ◌++◌, length, Some, refl, sym, ap, subst}
 use Rattle.std.specs.List.{slice_get}
 use Rattle.std.proofs.lemmas.Option.{slice_get_read}
-use Rattle.step_machine.specs.Parts.{packed_part}
-use Rattle.step_machine.specs.Positions.{IsSoundMachine}
+use Rattle.step_machine.specs.Names.{packed_part, IsSoundMachine}
 use Rattle.surveys.specs.inner.Parts.{PartWords}
 use Rattle.surveys.proofs.PartTables.{part_found}
 use Rattle.surveys.proofs.tables.Tables.part_of.Goals as goal

@@ -1,7 +1,6 @@
 use Rattle.std.proofs.Common.{◌≡◌, List, subst, arith}
 use Rattle.std.specs.List.{AllZip}
-use Rattle.hart_threads.specs.Seats.{SeatView}
-use Rattle.hart_threads.specs.inner.Threads.{Ran}
+use Rattle.hart_threads.specs.{SeatView, Ran}
 use Rattle.hart_threads.proofs.Coming.{zip_before}
 use Rattle.hart_threads.proofs.GettingOn.{same_run}
 use Rattle.hart_threads.proofs.harts.fn.run_all.scope.Goals as goal
