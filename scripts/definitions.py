@@ -6,34 +6,54 @@ A name is looked up as `use` lines bring it; if a variable is spelled like a def
 import re
 from functools import lru_cache
 from pathlib import Path
+from typing import NamedTuple
 
 ROOT = Path(__file__).resolve().parent.parent
 
 USE = re.compile(r"^(?:(?:unfoldable )?pub )?use (?P<module>[\w.]+?)(?:\.\{(?P<names>[^}]*)\})?(?: as (?P<alias>\w+))?$")
 HEAD = re.compile(r"^(?:(?:abbrev|unfoldable|opaque|pub|record|data)\s+)+(?P<name>[^\s:({]+)")
+MADE_BY = re.compile(r"^(?:pub )?(?P<names>[^:({]+) :")  # constructors of a `data`
+OTHER = re.compile(r"^(?:pub mod|infix[lr]?) ")  # what defines nothing: a file of a folder, and how an operator binds
 NAME = re.compile(r"[^\W\d][\w'-]*(?:\.[^\W\d][\w'-]*)*")
 DECLARED = re.compile(r"^Rattle\.(?P<crate>\w+)\.specs\.declared\.(?P<module>[\w.]+)$")
+DEEPER = 2  # how much further a definition in a `module _ (..) where` is indented
 
 
 # ---- definitions
 
+class Definition(NamedTuple):
+    """The numbers, from 0 on, of a definition's lines and of the `module` lines around it, without those of comments."""
+    lines: list
+    around: list
+
+
 class Definitions:
-    """A file of specs/: what its `use` lines bring, and its definitions with their lines."""
+    """A file of specs/: what its `use` lines bring; its definitions, also those in a `module _ (..) where`; which `data` each
+    constructor makes; and the numbers of the lines that are of no definition."""
 
     def __init__(self, path):
-        self.path, self.names, self.modules, self.items = path, {}, {}, {}
-        name, started = None, None
-        for number, line in enumerate(path.read_text().split("\n")):
-            used = USE.match(line)
-            if used:
-                self.take(used)
-            elif HEAD.match(line):
-                name = HEAD.match(line)["name"]
-                self.items.setdefault(name, []).append(line)
-            elif line.startswith("--") or not line.strip():
-                name = name if line.strip() == "" and name is None else None
-            elif name:
-                self.items[name].append(line)
+        self.path, self.lines = path, path.read_text().split("\n")
+        self.names, self.modules, self.items, self.makes, self.unknown = {}, {}, {}, {}, []
+        name, around = None, []  # the definition that may go on, and the modules, each with how far it is indented
+        for numbers, indent, text in code_of(self.lines):
+            around = [module for module in around if module[0] < indent]
+            depth = indent - DEEPER * len(around)
+            if depth == 0 and text.startswith("module "):
+                name, around = None, [*around, (indent, numbers)]
+            elif depth == 0 and USE.match(text):
+                self.take(USE.match(text))
+            elif depth == 0 and HEAD.match(text) and not OTHER.match(text):
+                name = HEAD.match(text)["name"]
+                self.items[name] = Definition(numbers, [number for _, lines in around for number in lines])
+            elif name and (depth > 0 or depth == 0 and (text.startswith("}") or is_of(name, text))):
+                self.items[name].lines.extend(numbers)
+                if depth == DEEPER and MADE_BY.match(text) and self.is_data(name):
+                    self.makes.update(dict.fromkeys(MADE_BY.match(text)["names"].split(), name))
+            elif not (depth == 0 and OTHER.match(text)):
+                self.unknown.extend(numbers)
+
+    def is_data(self, name):
+        return " data " in f" {self.lines[self.items[name].lines[0]].partition(name)[0]}"
 
     def take(self, used):
         if used["names"] is None:
@@ -43,33 +63,80 @@ class Definitions:
             name, _, alias = word.partition(" as ")
             self.names[alias or name] = (used["module"], name)
 
+    def text(self, name):
+        """A definition and the `module` lines around it, without comments."""
+        item = self.items[name]
+        return "\n".join(re.sub(r"--.*", "", self.lines[number]) for number in (*item.around, *item.lines))
+
     def reached(self, name):
-        """The places, module and name, that a definition of this file names."""
-        text = "\n".join(re.sub(r"--.*", "", line) for line in self.items[name])
+        """What a definition of this file names, as `source_of` finds it."""
+        text = self.text(name)
         for word in set(NAME.findall(text)):
             first, _, rest = word.partition(".")
             if first in self.modules and rest:
-                yield self.modules[first], rest.split(".")[0]
+                yield source_of(self.modules[first], rest.split(".")[0])
             elif first in self.names:
-                yield self.names[first]
+                yield source_of(*self.names[first])
             elif first in self.items and first != name:
-                yield None, first
+                yield self.path, first
         for known in (*self.names, *self.items):
-            if "◌" in known and all(part in text for part in known.split("◌") if part) and known != name:
-                yield self.names.get(known, (None, known))
+            if "◌" in known and known != name and is_of(known, text):
+                yield source_of(*self.names[known]) if known in self.names else (self.path, known)
+
+
+def code_of(lines):
+    """The lines without empty ones and comments: the numbers of each, how far it is indented, and its text. The lines of one
+    `module _ (..) where` are one."""
+    numbers, indent, text = [], 0, ""
+    for number, line in enumerate(lines):
+        if line.strip() and not line.strip().startswith("--"):
+            indent = indent if numbers else len(line) - len(line.lstrip())
+            numbers, text = [*numbers, number], f"{text} {line.strip()}".strip()
+            if text.endswith("where") or not text.startswith("module "):
+                yield numbers, indent, text
+                numbers, text = [], ""
+
+
+def is_of(name, text):
+    """Whether a text has all parts of an operator, or begins with another name, as the clauses of a definition do."""
+    if "◌" in name:
+        return all(part in text for part in name.split("◌") if part)
+    return text.partition(" ")[0] == name
 
 
 @lru_cache(None)
 def path_of(module):
-    """The file of specs/ that a module is, or None: one of std, or what Rust declares."""
+    """The file of specs/ that a module is, or that specs/Lib.antt passes on by this name; or None: one of std, or what Rust declares."""
     parts = module.split(".")
-    path = ROOT / "crates" / parts[1] / "specs" / ("/".join(parts[3:]) + ".antt")
-    return path if len(parts) > 3 and parts[2] == "specs" and path.exists() else None
+    if parts[2:3] != ["specs"]:
+        return None
+    folder = ROOT / "crates" / parts[1] / "specs"
+    path, all_files = folder / ("/".join(parts[3:] or ["Lib"]) + ".antt"), folder / "Lib.antt"
+    if path.exists():
+        return path
+    passed = definitions(all_files).modules.get(parts[3]) if len(parts) == 4 and all_files.exists() else None
+    return passed and path_of(passed)
 
 
 @lru_cache(None)
 def definitions(path):
     return Definitions(path)
+
+
+@lru_cache(None)
+def source_of(module, name):
+    """The file and the item that a name of a module stands for, through the files that pass it on, or None where it is std's. Of a
+    constructor it is its `data`, as of a module with the name of that."""
+    path, (front, _, last) = path_of(module), module.rpartition(".")
+    if path is None and path_of(front) and last in definitions(path_of(front)).items:
+        return path_of(front), last
+    if path is None:
+        declared = declared_at(module)
+        return declared and (declared[0], declared[1] or name)
+    known = definitions(path)
+    if name in known.names and name not in known.items:
+        return source_of(*known.names[name])
+    return path, name if name in known.items else known.makes.get(name, name)
 
 
 @lru_cache(None)
@@ -81,24 +148,24 @@ def declared_at(module):
     words = [word for word in found["module"].split(".") if word != "TheVariants"]
     name = words[-1] if words[-1][0].isupper() and words[-1] != "TheConstants" else None
     modules = [word for word in words if word[0].islower()]
-    path = ROOT / "crates" / found["crate"] / "src" / ("/".join(modules) + ".rt")
+    path = ROOT / "crates" / found["crate"] / "src" / ("/".join(modules or ["lib"]) + ".rt")
     return (path, name) if path.exists() else None
 
 
 @lru_cache(None)
 def rust_lines(path, name):
-    """The lines of a struct, an enum or a constant, its comments aside."""
-    lines, taken = path.read_text().split("\n"), []
-    for line in lines:
+    """The numbers, from 0 on, of the lines of a struct, an enum or a constant."""
+    taken = []
+    for number, line in enumerate(path.read_text().split("\n")):
         if not taken and re.match(rf"\s*pub (?:struct|enum|const) {re.escape(name)}\b", line):
-            taken.append(line)
+            taken.append(number)
             if line.rstrip().endswith((";", "}")) or "{" not in line:
                 break
         elif taken:
-            taken.append(line)
+            taken.append(number)
             if line.startswith("}"):
                 break
-    return [line for line in taken if not line.strip().startswith("//")]
+    return taken
 
 
 def order_of_crates():
@@ -110,27 +177,52 @@ def crate_of(path):
     return path.relative_to(ROOT / "crates").parts[0]
 
 
+# ---- what has to be read
+
+def reading(begin):
+    """Each file to read for these definitions, with the names in it and the numbers of the lines of each, comments aside."""
+    waiting, found = [source_of(module, name) for module, name in begin], {}
+    while waiting:
+        path, name = waiting.pop()
+        if name in found.get(path, {}):
+            continue
+        if path.suffix == ".rt":
+            lines = path.read_text().split("\n")
+            read = {number for number in rust_lines(path, name) if not lines[number].strip().startswith("//")}
+        elif name in definitions(path).items:
+            known = definitions(path)
+            read = {*known.items[name].lines, *known.items[name].around}
+            waiting += filter(None, known.reached(name))
+        else:
+            continue
+        if read:
+            found.setdefault(path, {})[name] = read
+    return found
+
+
+def how_long(found):
+    """How many lines these files have to read."""
+    return sum(len(set().union(*names.values())) for names in found.values())
+
+
 # ---- comments
 
-# What begins a definition, and a line of its comment.
-BEGINS = {".antt": (r"^(?:(?:abbrev|unfoldable|opaque|pub|record|data)\s+)+NAME(?=[\s:({])", "--"),
-          ".rt": (r"^\s*pub (?:const )?(?:struct|enum|trait|const|type|fn) NAME\b", "///")}
+def line_of(path, name):
+    """The number, from 0 on, of the line with which a definition or a type of Rust begins."""
+    if path.suffix == ".antt":
+        return definitions(path).items[name].lines[0]
+    begins = re.compile(rf"\s*pub (?:struct|enum|trait|const|type) {re.escape(name)}\b")
+    return next(number for number, line in enumerate(path.read_text().split("\n")) if begins.match(line))
 
 
-def comment_of(path, name):
-    """The comment above a definition, or beside it, with the line at which it stands."""
-    lines = path.read_text().split("\n")
-    begins, mark = BEGINS[path.suffix]
-    begins = begins.replace("NAME", re.escape(name))
-    at = next((number for number, line in enumerate(lines) if re.match(begins, line)), None)
-    if at is None:
-        return None
-    above = []
+def comment_of(path, at):
+    """The comment above the definition that begins in this line, or beside it."""
+    lines, mark, above = path.read_text().split("\n"), {".antt": "--", ".rt": "///"}[path.suffix], []
     for line in (line.strip() for line in reversed(lines[:at])):
         if not line.startswith((mark, "#[")):
             break
         above += [line.removeprefix(mark).strip()] * line.startswith(mark)
-    return at, " ".join(reversed(above)) or lines[at].partition(f" {mark} ")[2]
+    return " ".join(reversed(above)) or lines[at].partition(f" {mark} ")[2]
 
 
 # ---- clauses

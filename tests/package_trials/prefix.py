@@ -12,15 +12,54 @@ from . import NOT_KNOWN, NOT_PROVED, SB, below, call, install, said_of, workplac
 
 # the lines that explain a name in a checkout begin with these, where N stands for the number of a line
 WINDOWS = ["poll_close::Invariant::Blocks::window: crates/poll_close/specs/Invariant/Blocks.antt:N, a definition",
+           "  the stores of one", "  abbrev pub window : ", "  window xs k n = ",
            "slot_queue::laws_of_ownership::window: crates/slot_queue/src/lib.rt:N, a clause",
            "slots_that_tell::laws_of_telling::window: crates/slots_that_tell/src/lib.rt:N, a clause",
            "Ask for one by its whole name: tools/explain slots_that_tell::laws_of_telling::window"]
-NAMES = (("window", WINDOWS), ("slot_queue.window", [WINDOWS[1], "  `window`: neither party", "  ensures window {", "      → "]),
-         (WINDOWS[2].partition(":N,")[0].split(": ")[0], [WINDOWS[2], "  `window`: "]),
+NAMES = (("window", WINDOWS), ("slot_queue.window", [WINDOWS[-3], "  `window`: neither party", "  ensures window {", "      → "]),
+         (WINDOWS[-2].partition(":N,")[0].split(": ")[0], [WINDOWS[-2], "  `window`: "]),
          ("slot_queue", ["slot_queue: crates/slot_queue/src/lib.rt:N, a crate", "  A queue between two harts"]),
          ("publication", ["slot_queue::laws_of_ownership::publication: "]),
-         ("Happens", ["step_machine::Runs::Happens: crates/step_machine/specs/Runs.antt:N, a definition", "  the event has", "named by:"]),
+         ("Happens", ["step_machine::Runs::Happens: crates/step_machine/specs/Runs.antt:N, a definition", "  the event has",
+                      *["  abbrev pub Happens : ", *["  Happens B M t ev "] * 5], "named by:"]),
+         ("follow", ["queue_certificates::Steps::follow: crates/queue_certificates/specs/Steps.antt:N, a definition", "  module _ (queues : ",
+                     "    abbrev pub follow : "]),
+         ("KnownValue", ["queue_certificates::States::KnownValue: "]),
          ("step_machine::Machine::step", ["step_machine::machine::Machine::step: crates/step_machine/src/machine.rt:N, a function"]))
+# a small tree of crates: a definition in a module, whose name a second crate passes on and a third has too
+LENT = """-- shelves of n books
+module _ (n : ℕ) where
+
+  -- how many are lent,
+  -- at most n
+  abbrev pub lent : ℕ → ℕ
+  lent zero = zero
+
+  -- one more
+  lent (suc k) = n
+  abbrev pub all : ℕ
+  all = lent 2
+"""
+MADE = {"crates.txt": "low\nmid: low\ntop: mid\n", "docs/errors.md": "", "docs/errors-of-queues.md": "",
+        "crates/low/specs/Shelf.antt": LENT, "crates/mid/specs/Lib.antt": "pub mod Desk\npub use Rattle.low.specs.Shelf.{lent}\n",
+        "crates/mid/specs/Desk.antt": "use Rattle.mid.specs.{lent as given}\n\nabbrev pub asked : ℕ\nasked = given 3 4\n",
+        "crates/mid/src/lib.rt": "ghost use Rattle.mid.specs.Lib.{lent};\n\npub fn lend(n: u32) -> u32\n    ensures counted { result ≡ lent n 1 }\n{\n",
+        "crates/top/specs/Long.antt": "pub data long : Type 0 where\n" + "".join(f"  c{number} : long\n" for number in range(40)),
+        "crates/top/specs/Lent.antt": "use Rattle.top.specs.Long.{c7}\nabbrev pub lent : ℕ\nlent = f c7 -- none is\n"}
+LENT_TEXT = ["  how many are lent, at most n", "  module _ (n : ℕ) where", "    abbrev pub lent : ℕ → ℕ", "    lent zero = zero", "", "    -- one more",
+             "    lent (suc k) = n"]
+HEADS = ["low::Shelf::lent: crates/low/specs/Shelf.antt:6, a definition", "top::Lent::lent: crates/top/specs/Lent.antt:2, a definition"]
+EXPLAINED = {
+    "low::lent": [HEADS[0], *LENT_TEXT, "named by:", "  all (crates/low/specs/Shelf.antt)", "  asked (crates/mid/specs/Desk.antt)",
+                  "in clauses of:", "  lend: counted (crates/mid/src/lib.rt)"],
+    "lent": [HEADS[0], *LENT_TEXT, HEADS[1], "  abbrev pub lent : ℕ", "  lent = f c7 -- none is",
+             "Ask for one by its whole name: tools/explain top::Lent::lent"],
+    "long": ["top::Long::long: crates/top/specs/Long.antt:1, a definition", "  pub data long : Type 0 where",
+             *(f"    c{number} : long" for number in range(29)), "  .. and 11 lines more: crates/top/specs/Long.antt:31",
+             "named by:", "  lent (crates/top/specs/Lent.antt)"]}
+# how many lines are to be read for a definition: its own, the `module` line of what it names, the `data` of a constructor
+READ = {("Rattle.mid.specs.Desk", "asked"): 6, ("Rattle.low.specs.Shelf", "all"): 6, ("Rattle.top.specs.Lent", "lent"): 43}
+COUNTING = f"from definitions import how_long, reading; print(*(how_long(reading([begin])) for begin in {list(READ)}))"
 NO_SECTION = "explain: docs/errors.md has no section on "
 NO_NAME = ", and crates/ has no definition, function, clause or crate of this name\n"
 
@@ -36,6 +75,7 @@ def part(count, program):
         runs(count, prefix, elsewhere, alone, said_of(program))
         marks(count, folder, prefix)
         explains_names(count, prefix, elsewhere)
+        explains_made(count, folder / "made")
         manual(count, prefix / "share/man", elsewhere)
         page(count, prefix, elsewhere)
         whole_parts(count, prefix / "share/ztso")
@@ -119,6 +159,21 @@ def explains_names(count, prefix, elsewhere):
     count.same("explains no words", call(explain, "no", "words", folder=elsewhere), (1, "", f"{NO_SECTION}no words\n"))
     count.same("explains no name where it is installed", call(prefix / "bin/ztso-explain", "window", folder=elsewhere),
                (1, "", f"{NO_SECTION}window\n"))
+
+
+def explains_made(count, folder):
+    """In a small tree of crates names are explained to the last line, and what has to be read is counted."""
+    copied = {name: (tree.TOP / name).read_text() for name in ("tools/explain", "tools/reference/faults.py", "scripts/definition", "scripts/definitions.py")}
+    for name, text in {**copied, **MADE}.items():
+        (folder / name).parent.mkdir(parents=True, exist_ok=True)
+        (folder / name).write_text(text)
+    for name in ("tools/explain", "scripts/definition"):
+        (folder / name).chmod(0o755)
+    for name, wanted in EXPLAINED.items():
+        status, said, faults = call(folder / "tools/explain", name)
+        count.same(f"explains {name} of a small tree", (status, said.splitlines(), faults), (0, wanted, ""))
+    count.same("counts what has to be read", call("python3", "-c", COUNTING, folder=folder / "scripts"),
+               (0, " ".join(map(str, READ.values())) + "\n", ""))
 
 
 def manual(count, folder, elsewhere):
