@@ -41,7 +41,7 @@ module _ (n : ℕ) where
   all = lent 2
 """
 MADE = {"crates.txt": "low\nmid: low\ntop: mid\n", "docs/errors.md": "", "docs/errors-of-queues.md": "",
-        "crates/low/specs/Shelf.antt": LENT, "crates/mid/specs/Lib.antt": "pub mod Desk\npub use Rattle.low.specs.Shelf.{lent}\n",
+        "crates/low/specs/Shelf.antt": LENT, "crates/mid/specs/Lib.antt": "pub mod Desk\nunfoldable pub use Rattle.low.specs.Shelf.{lent}\n",
         "crates/mid/specs/Desk.antt": "use Rattle.mid.specs.{lent as given}\n\nabbrev pub asked : ℕ\nasked = given 3 4\n",
         "crates/mid/src/lib.rt": "ghost use Rattle.mid.specs.Lib.{lent};\n\npub fn lend(n: u32) -> u32\n    ensures counted { result ≡ lent n 1 }\n{\n",
         "crates/top/specs/Long.antt": "pub data long : Type 0 where\n" + "".join(f"  c{number} : long\n" for number in range(40)),
