@@ -1,8 +1,9 @@
 """Values as linear forms: a number and multiples of variables, modulo 2^32.
 
-A variable is a pair: ("n", i) is the party's own count of queue i, ("A", i) how many of its positions it owns, ("w", k) a word that a tag's store
-may hand over (handed.py), ("z", k) any other number of a range. A value is None (anything), a `Form`, a `Word`: what an index of a queue holds
-that stands for a count, or `Bits`, a word of which some bits are known.
+A variable is a pair: ("n", i) is the party's own count of queue i, ("p", i) that count's place in its period, ("t", i) the period's place in a turn
+of the index, ("A", i) how many positions the party owns, ("w", k) a word that a tag's store may hand over (handed.py), ("z", k) any other number of
+a range. A value is None (anything), a `Form`, a `Word`: what an index of a queue holds that stands for a count, or `Bits`, a word of which some bits
+are known.
 """
 
 from typing import NamedTuple

@@ -11,8 +11,12 @@ MOST, MOST_LOW = (255, 65535, SIZE - 1), 16
 
 
 class Hands(Exception):
-    """The pcs of stores of tags, and of stores to own words, and the places of those words, of which a tag's store may hand over what is stored;
-    and the places of those of which an address is made."""
+    """What a search is to know of words that a tag's store may hand over.
+
+    pcs        where they are stored, to tags and to own words
+    places     the own words that hold them
+    addresses  the own words of which an address is made
+    """
 
     def __init__(self, pcs=(), places=(), addresses=()):
         super().__init__(pcs, places, addresses)

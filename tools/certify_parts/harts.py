@@ -9,7 +9,7 @@ from .forms import SIZE
 from .handed import Hands
 from .live import flow_of, needed_of
 from .progress import goes_on
-from .search import APART, Mode, Search, told_apart_of
+from .search import APART, Mode, Order, Search, told_apart_of
 from .steps import LOAD, Matters, Program, Refused
 from .values import Parts
 
@@ -24,14 +24,14 @@ class Way(NamedTuple):
     work: tuple
     loosens: bool = True
     with_bytes: bool = False
-    order: str = "npA"
+    order: Order = Order.COUNTS_FIRST
     opens_full: bool = False
     apart: int = APART
 
 
 FEW_APART = 6
 # of a queue with tags a party mostly counts slots, which the positions spell: it goes that way first, and so far
-BY_SLOTS, WORK_BY_SLOTS = Way(Mode.TOGETHER, (0.5, 5), order="pnA"), (4, 15)
+BY_SLOTS, WORK_BY_SLOTS = Way(Mode.TOGETHER, (0.5, 5), order=Order.POSITIONS_FIRST), (4, 15)
 # the ways that tell soon whether a hart may be covered
 SOON = BY_SLOTS, Way(Mode.BY_PATH, (12, 45)), Way(Mode.BY_POSITION, (1.5, 30), loosens=False)
 # ways that take little and join less, so that their states sooner show that the hart goes on
@@ -41,7 +41,7 @@ TELLING = Way(Mode.TOGETHER, (2, 5), loosens=False), Way(Mode.BY_ROOM, (8, 20), 
 WAYS = (Way(Mode.TOGETHER, (1, 5), apart=FEW_APART), Way(Mode.TOGETHER, (2, 5)), *TELLING, *SOON[1:], Way(Mode.BY_PATH, (9, 45), loosens=False), BY_SLOTS,
         Way(Mode.TOGETHER, (0.5, 5), with_bytes=True), Way(Mode.BY_PATH, (3, 30), with_bytes=True),
         Way(Mode.BY_PATH, (3, 30), loosens=False, with_bytes=True), Way(Mode.BY_OWNED, (3, 45), loosens=False),
-        Way(Mode.TOGETHER, (2, 5), order="pnA", opens_full=True), Way(Mode.BY_POSITION, (6, 30), loosens=False, opens_full=True),
+        Way(Mode.TOGETHER, (2, 5), order=Order.POSITIONS_FIRST, opens_full=True), Way(Mode.BY_POSITION, (6, 30), loosens=False, opens_full=True),
         Way(Mode.BY_PATH, (6, 15), opens_full=True))
 # a way's work is counted in so many states, instructions and comparisons, not in seconds, so that a search finds the same on each machine; it
 # takes a third of a second to one and a half

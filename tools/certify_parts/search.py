@@ -50,6 +50,13 @@ class Mode(Enum):
     BY_ROOM = 4
 
 
+class Order(Enum):
+    """By which kinds of variables (forms.py) values are spelled first."""
+
+    COUNTS_FIRST = "npA"
+    POSITIONS_FIRST = "pnA"
+
+
 # where positions aren't told apart
 TOGETHER = (Mode.TOGETHER, Mode.BY_PATH, Mode.BY_ROOM)
 
@@ -61,7 +68,7 @@ def told_apart_of(queue, is_short):
 
 class Search:
     def __init__(self, program, way, copies, work, clock, flow, is_short):
-        self.program, self.mode, self.order, self.left, self.clock = program, way.mode, way.order, work, clock
+        self.program, self.mode, self.order, self.left, self.clock = program, way.mode, way.order.value, work, clock
         # up to which count numbers of it are told apart between the outermost joins
         self.far = [queue.start + told_apart_of(queue, is_short) for queue in program.queues]
         self.groups = {}
