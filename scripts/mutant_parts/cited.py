@@ -18,6 +18,8 @@ PATH = re.compile(r"\bRattle\.(\w+\.specs(?:\.\w+)+)")
 DECLARED = re.compile(r"^\s*(?:pub(?:\([^)]*\))?\s+)?(?:const\s+)?(?:unsafe\s+)?(?:struct|enum|union|trait|type|const|static|fn|macro_rules!)\s+(\w+)", re.M)
 IMPORT = re.compile(r"^[ \t]*(?:pub(?:\([^)]*\))?\s+)?use ([^;{]+)(?:\{([^}]*)\})?[^;]*;", re.M)
 GHOST = re.compile(r"^[ \t]*(?:pub(?:\([^)]*\))?\s+)?ghost use ([\w.+]+?)(?:\.\{([^}]*)\})?(?: as (\w+))?;", re.M)
+INLINE = re.compile(r"\b(\w+)::(specs|proofs)(?:::[A-Z]\w*)+(?=::)")
+NAMED = re.compile(r"\b(\w+)::specs::(\w+)")
 VARIANT = re.compile(r"^[ \t]+([A-Z]\w*)", re.M)
 MODULE = re.compile(r"^[ \t]*(?:pub(?:\([^)]*\))?\s+)?mod \w+;", re.M)
 
@@ -35,6 +37,16 @@ def words(text):
     """The words of a text, and the names of specs/ that it has whole."""
     paths = (path.split(".") for path in PATH.findall(text))
     return frozenset((*WORD.findall(text), *(f"{path[0]}.specs.{path[-1]}" for path in paths)))
+
+
+def plain(code):
+    """A source's text on one line, without the files of the definitions and lemmas that it names in attributes."""
+    return " ".join(INLINE.sub(r"\1::\2", code).split())
+
+
+def inline(crate, said):
+    """The names of specs/ that a crate's source has in attributes."""
+    return {f"{crate if of == 'crate' else of}.specs.{name}" for of, name in NAMED.findall(said)}
 
 
 def imports(code):
@@ -68,16 +80,16 @@ def items(crate, name, text):
     for names, piece in found:
         used, named = words(piece), [one for one in stated if one.serves(tokens(piece))]
         brought = sorted([*(path for imported, path in known if not imported or imported & used), *(one.said() for one in named)])
-        said = f"{crate} {name} {' '.join(piece.split())} {' '.join(brought)}"
+        said = f"{crate} {name} {plain(piece)} {' '.join(brought)}"
         cites = (*names, *(f"{crate}.specs.{word}" for word in names), *(variants if names is declared else ()))
-        yield Item(frozenset(cites), said, words(said).union(*(one.cites() for one in named)))
+        yield Item(frozenset(cites), said, words(said).union(inline(crate, said), *(one.cites() for one in named)))
 
 
 def definitions(crate, name, text):
     """The pieces of a crate's file of specs/: its declarations, and what it passes on of other files."""
     place, file = f"{crate}.specs", parsed(text)
     modules = name.split("/")
-    above = [".".join((place, *modules[:end])) for end in range(1, len(modules) + 1)]
+    above = [f"{place}/{'.'.join(modules[:end])}" for end in range(1, len(modules) + 1)]
     for one in file.passed_on:
         yield Item(frozenset((f"{place}.{one.called}", *above)), "" if one.is_within(place) else f"{place} {one.said()}", one.cites())
     for names, said in file.declarations:

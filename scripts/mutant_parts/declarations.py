@@ -14,6 +14,7 @@ REMARK = re.compile(r"^[ \t]*--.*\n", re.M)
 USE = re.compile(r"^(?:(?:unfoldable )?pub )?use (?P<path>[\w.+]+?)(?:\.\{(?P<names>[^}]*)\})?(?: as (?P<alias>\w+))?$")
 INLINE = re.compile(r"\bRattle\.(\w+)\.(specs|proofs)(?:\.\w+)*\.(?=[^\W\d])")
 TOKEN = re.compile(r"\[\]|[^\s(){}\[\];,.]+")
+BEFORE_POINT = re.compile(r"[^\s(){}\[\];,.]+\.(?=[^\W\d])")
 MADE = ("Goals", "Given")  # the modules that the kit makes of a function's proof
 
 
@@ -56,10 +57,12 @@ class Import(NamedTuple):
             return frozenset(f"{self.place}.{word}" for word in (*self.modules[1:], self.name) if word)
         if self.name:
             return frozenset((f"{self.place}.{self.name}",))
-        return frozenset((self.path, f"{self.place}.{''.join(self.modules[-1:])}"))
+        return frozenset((f"{self.place}/{'.'.join(self.modules)}", f"{self.place}.{''.join(self.modules[-1:])}"))
 
     def serves(self, tokens):
-        """Whether a text of these tokens can name it; an operator is named by all its parts."""
+        """Whether a text of these tokens can name it: an operator by all its parts, a module before a point."""
+        if not self.name:
+            return f"{self.called}." in tokens
         return self.called in tokens or "◌" in self.called and all(part in tokens for part in self.called.split("◌") if part)
 
 
@@ -93,7 +96,8 @@ def imported(path, names="", alias=""):
 
 
 def tokens(text):
-    return frozenset(TOKEN.findall(text))
+    """The names in a text, and those before a point together with it."""
+    return frozenset((*TOKEN.findall(text), *BEFORE_POINT.findall(text)))
 
 
 def names_of(lines):

@@ -13,7 +13,7 @@ import subprocess
 
 from crates import SOURCES, TOP
 
-from .cited import GHOST, cited, ghosts, stated, words
+from .cited import GHOST, cited, ghosts, inline, plain, stated, words
 from .declarations import parsed
 from .functions import bare
 
@@ -42,12 +42,12 @@ def files(folder, suffix=""):
     return [(path.relative_to(folder).as_posix(), path) for path in sorted(folder.rglob(f"*{suffix}")) if path.is_file()]
 
 
-def of_source(name, text):
+def of_source(crate, name, text):
     """What a source says, with the names that it imports of specs/ and proofs/ after all, and the words by which it cites."""
     code = bare(text)
     found = ghosts(code)
-    said = " ".join(GHOST.sub("", code).split())
-    return f"{name} {said} {' '.join(sorted({one.said() for one in found}))}", words(said).union(*(one.cites() for one in found))
+    said = plain(GHOST.sub("", code))
+    return f"{name} {said} {' '.join(sorted({one.said() for one in found}))}", words(said).union(inline(crate, said), *(one.cites() for one in found))
 
 
 def of_definitions(place, text):
@@ -68,7 +68,7 @@ def read_by(name, crates, logic, top=TOP):
                 declared += found
                 imports |= brought
             else:
-                found, cites = of_source(f"{part}/{at}", path.read_text())
+                found, cites = of_source(name, f"{part}/{at}", path.read_text())
                 sources.append(found)
             known |= cites
     line = [line for line in (top / "crates.txt").read_text().splitlines() if line.partition(":")[0].split()[:1] == [name]]
