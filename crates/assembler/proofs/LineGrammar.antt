@@ -5,8 +5,8 @@ use Rattle.std.proofs.lemmas.Bool.{cases_Bool, and_parts}
 use Rattle.texts.specs.{before, after, is_byte, without_front, trimmed, AreBlanks, NonePass, is_blank}
 use Rattle.texts.proofs.{ok_is, none-append, before-none, before-stop, after-stop, before-passes_not, cut_byte, uncut, leading_none, leading_past}
 use Rattle.texts.proofs.{leading_split, all_by_test, none_of_all, other_byte}
-use Rattle.assembler.specs.{AsmFault, is_label_name, begins_label_name, goes_on_label_name, Made, code_of, label_and_rest, parts_of, label_of, statement_text}
-use Rattle.assembler.specs.{made_in, Line, HasNoLabel, IsUncommented, IsLine, bare, labelled, code, commented}
+use Rattle.assembler.specs.{AsmFault, is_label_name, begins_label_name, goes_on_label_name, code_of, label_and_rest, parts_of, label_of, statement_text}
+use Rattle.assembler.specs.{made_in, Made, Line, HasNoLabel, IsUncommented, IsLine, bare, labelled, code, commented}
 use Rattle.assembler.proofs.StatementGrammar.{body_found, body_only}
 
 -- ---- the parts of what stands before a comment

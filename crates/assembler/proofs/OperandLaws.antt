@@ -10,9 +10,8 @@ use Rattle.std.proofs.lemmas.Bool.{and_parts, not-true, cases_Bool, eqb-true, ne
 use Rattle.std.proofs.lemmas.Str.Parse.{digit_from_value}
 use Rattle.std.proofs.lemmas.Int.{ints}
 use Rattle.texts.specs.{is_blank, AllPass, before, after, is_byte, trimmed, ◌>>=◌, mapped, filter_mapped, suffixed_at, absent, choice, magnitude, integer}
-use Rattle.texts.proofs.GrammarLaws.{Settles, all_by_test, settles_mapped, settles_filter_mapped, settles_parted, settles_ended, settles_absent, settles_padded}
-use Rattle.texts.proofs.GrammarLaws.{settles_either, integer_settles, integer_first}
-use Rattle.texts.proofs.ResultLaws.{some_is}
+use Rattle.texts.proofs.{Settles, all_by_test, settles_mapped, settles_filter_mapped, settles_parted, settles_ended, settles_absent, settles_padded}
+use Rattle.texts.proofs.{settles_either, integer_settles, integer_first, some_is}
 use Rattle.rv_decode.specs.{IsEven, reg_of, register_names, register_named}
 use Rattle.rv_decode.proofs.Meanings.{reg_of-number}
 use Rattle.rv_decode.proofs.TableLaws.{row_below}

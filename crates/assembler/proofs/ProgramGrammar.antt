@@ -12,10 +12,10 @@ use Rattle.texts.specs.Results.{GivesUpToMemory}
 use Rattle.texts.proofs.ResultLaws.{ok_is, bind_ok, some_is}
 use Rattle.rv_decode.specs.declared.instruction.Instr.{Instr}
 use Rattle.rv_decode.specs.declared.instruction.Instr.TheVariants as instr
-use Rattle.assembler.specs.{AsmFault, Refusal, bytes, is_reached, IsInReach, Made, one, two, jump, branch, label_of, statement_text, made_in, Line, size_of}
-use Rattle.assembler.specs.{word_count, is_label, place_from, label_place, is_twice, refused_at_line, drafted, all_drafted, in_bytes, distance}
-use Rattle.assembler.specs.{placed_statement, onto, all_placed, all_instructions, assembled, IsLine, AreLines, AreApart, EachOnce, IsFresh, Defines, IsPlaced}
-use Rattle.assembler.specs.{ArePlaced, AreInstrs, IsProgram, AreWordsOf}
+use Rattle.assembler.specs.{AsmFault, Refusal, Line, size_of, word_count, is_label, place_from, label_place, is_twice, refused_at_line, drafted, all_drafted}
+use Rattle.assembler.specs.{in_bytes, distance, placed_statement, onto, all_placed, all_instructions, assembled, bytes, is_reached, IsInReach, Made, one, two}
+use Rattle.assembler.specs.{jump, branch, label_of, statement_text, made_in, IsLine, AreLines, AreApart, EachOnce, IsFresh, Defines, IsPlaced, ArePlaced}
+use Rattle.assembler.specs.{AreInstrs, IsProgram, AreWordsOf}
 use Rattle.rv_decode.specs.Meaning.{meaning}
 use Rattle.rv_decode.proofs.Meanings.{meaning_iff}
 use Rattle.assembler.specs.Program.IsPlaced.{nothing, single, double, jumping, branching}

@@ -5,7 +5,7 @@ use Rattle.std.specs.List.{Contains, list_all}
 use Rattle.std.specs.Str.{bytes_eq}
 use Rattle.std.proofs.lemmas.Bool.{cases_Bool, cases_lt, and_parts, not-true}
 use Rattle.std.proofs.lemmas.Slice.Eq.{bytes_eq-Decides}
-use Rattle.rv_decode.specs.Tables.{row_of}
+use Rattle.rv_decode.specs.Registers.{row_of}
 
 abbrev pub found_in : {V : Type 0} → List (List ℕ × V) → List ℕ → Option V
 found_in rows text = row_of (λ row. row.0) (λ row. row.1) rows text

@@ -1,7 +1,10 @@
--- A text, given line by line, and the first fault of it: those of the lines from the top, then a text
--- that is too long, and then the places of labels, from the top again.
-use Rattle.std.specs.Prelude.{ℕ, ℤ, pos, ◌-ℤ◌, ◌+◌, ◌*◌, Bool, false, nat_lt, List, [], ◌∷◌, ◌++◌, length, Option, Some}
-use Rattle.std.specs.Prelude.{None, Result, Ok, Err, if◌then◌else◌, IfSome}
+-- The faults of an assembly text. A text, given line by line, and the first fault of it: those of the lines
+-- from the top, then a text that is too long, and then the places of labels, from the top again.
+use Rattle.std.specs.Prelude.{ℕ, ℤ, pos, ◌-ℤ◌, ◌+◌, ◌*◌, Bool, false, nat_lt, List, [], ◌∷◌, ◌++◌, length, Option, Some, None, Result, Ok, Err, if◌then◌else◌}
+use Rattle.std.specs.Prelude.{IfSome}
+use Rattle.texts.specs.declared.errors.AtLine.{AtLine}
+use Rattle.assembler.specs.declared.faults.AsmFault.{AsmFault}
+use Rattle.assembler.specs.declared.faults.AsmFault.TheVariants.{UnknownName, BadOperand, OutOfRange, NoSuchLabel, LabelTwice, TooLong}
 use Rattle.std.specs.Str.{bytes_eq}
 use Rattle.std.specs.Option.{is_some}
 use Rattle.std.specs.Str.Lines.{lines}
@@ -11,12 +14,21 @@ use Rattle.rv_decode.specs.Fits.{HasPlainFence}
 use Rattle.rv_decode.specs.declared.instruction.Instr.{Instr}
 use Rattle.rv_decode.specs.declared.instruction.Instr.TheVariants as instr
 use Rattle.rv_decode.specs.declared.instruction.TheConstants.{MAX_CODE}
-use Rattle.assembler.specs.declared.faults.AsmFault.{AsmFault}
-use Rattle.assembler.specs.declared.faults.AsmFault.TheVariants.{OutOfRange, NoSuchLabel, LabelTwice, TooLong}
-use Rattle.assembler.specs.Faults.{Refusal}
 use Rattle.assembler.specs.Operands.{is_reached}
 use Rattle.assembler.specs.Statements.{Made, one, two, jump, branch, MadeFits}
 use Rattle.assembler.specs.Lines.{label_of, statement_text, made_in}
+
+abbrev pub asm_number : AsmFault → ℕ
+asm_number UnknownName = 2
+asm_number BadOperand = 3
+asm_number OutOfRange = 4
+asm_number NoSuchLabel = 5
+asm_number LabelTwice = 6
+asm_number TooLong = 7
+
+-- a fault and its line, counted from 1
+abbrev pub Refusal : Type 0
+Refusal = AtLine AsmFault
 
 -- what a line defines and makes
 pub record Line : Type 0 where

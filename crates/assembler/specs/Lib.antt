@@ -1,6 +1,4 @@
-pub mod Faults
 pub mod Mnemonics
-pub mod Names
 pub mod Sets
 pub mod Operands
 pub mod Statements
@@ -12,10 +10,8 @@ pub mod Spelled
 pub mod Grammar
 pub mod Program
 pub mod Loading
-pub use Rattle.assembler.specs.Faults.{Refusal, asm_number}
 pub use Rattle.assembler.specs.Mnemonics.{mnemonics}
 unfoldable pub use Rattle.assembler.specs.Mnemonics.{form_named}
-pub use Rattle.assembler.specs.Names.{begins_label_name, goes_on_label_name, is_label_name}
 pub use Rattle.assembler.specs.Sets.{set_names}
 unfoldable pub use Rattle.assembler.specs.Sets.{set_named}
 pub use Rattle.assembler.specs.Operands.{IsInReach, OperandKind, OperandValue, Target, address, amount, bytes, closed, far, in_parentheses, in_range, in_reach}
@@ -23,10 +19,11 @@ pub use Rattle.assembler.specs.Operands.{is_reached, known_register, known_set, 
 pub use Rattle.assembler.specs.Operands.{word}
 pub use Rattle.assembler.specs.Statements.{Made, Maker, branch, high_of, is_short, jump, loaded, low_of, one, read_operands, statement_of, two, wrapped}
 unfoldable pub use Rattle.assembler.specs.Statements.{operand_row}
-pub use Rattle.assembler.specs.Lines.{between_commas, code_of, is_pair, label_and_rest, made_for, operands_of, parts_of, some_text}
+pub use Rattle.assembler.specs.Lines.{begins_label_name, between_commas, code_of, goes_on_label_name, is_label_name, is_pair, label_and_rest, made_for}
+pub use Rattle.assembler.specs.Lines.{operands_of, parts_of, some_text}
 unfoldable pub use Rattle.assembler.specs.Lines.{label_of, made_in, statement_text}
-pub use Rattle.assembler.specs.Drafts.{AllFit, AllPlain, Fitting, IsPlain, Line, all_drafted, all_placed, distance, in_bytes, is_label, is_twice, line_over}
-pub use Rattle.assembler.specs.Drafts.{onto, place_from, placed_statement, refused_at_line, size_of, word_count}
+pub use Rattle.assembler.specs.Drafts.{AllFit, AllPlain, Fitting, IsPlain, Line, Refusal, all_drafted, all_placed, asm_number, distance, in_bytes, is_label}
+pub use Rattle.assembler.specs.Drafts.{is_twice, line_over, onto, place_from, placed_statement, refused_at_line, size_of, word_count}
 unfoldable pub use Rattle.assembler.specs.Drafts.{all_instructions, assembled, drafted, label_place, line_below}
 pub use Rattle.assembler.specs.Kept.{AreKeptLines, kept_line, place_in}
 pub use Rattle.assembler.specs.Writing.{address_text, amo_name, branch_name, immediate_name, load_name, order_name, register_name, register_text, set_text}

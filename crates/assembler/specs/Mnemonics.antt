@@ -10,7 +10,7 @@ use Rattle.assembler.specs.declared.form.Form.TheVariants.{Lui, Auipc, Jal, Jalr
 use Rattle.assembler.specs.declared.form.Form.TheVariants.{Register, Fence, FenceTso, Ecall, Ebreak, Amo, Nop, Move}
 use Rattle.assembler.specs.declared.form.Form.TheVariants.{Invert, Negate, IsZero, IsNotZero, BranchZero, Jump, Return}
 use Rattle.assembler.specs.declared.form.Form.TheVariants.{LoadImmediate}
-use Rattle.rv_decode.specs.Tables.{row_of}
+use Rattle.rv_decode.specs.Registers.{row_of}
 
 -- a mnemonic for each operation
 abbrev named : {Op : Type 0} → (Op → List ℕ) → (Op → Form) → List Op → List (List ℕ × Form)

@@ -13,7 +13,7 @@ use Rattle.assembler.specs.declared.operands.JumpTarget.{JumpTarget}
 use Rattle.assembler.specs.declared.operands.JumpTarget.TheVariants.{Bytes, Label}
 use Rattle.rv_decode.specs.Registers.{register_named}
 use Rattle.assembler.specs.Sets.{set_named}
-use Rattle.assembler.specs.Names.{is_label_name}
+use Rattle.assembler.specs.Lines.{is_label_name}
 
 -- ---- registers
 

@@ -1,6 +1,6 @@
 -- The sets of accesses that a fence orders.
 use Rattle.std.specs.Prelude.{ℕ, List, [], ◌∷◌, codes, Option}
-use Rattle.rv_decode.specs.Tables.{row_of}
+use Rattle.rv_decode.specs.Registers.{row_of}
 
 -- input, output, reads and writes from bit 3 down, and 0 for none of them
 abbrev pub set_names : List (List ℕ × ℕ)

@@ -7,7 +7,7 @@ use Rattle.texts.specs.Grammars.{Grammar, mapped, filter_mapped, parted, suffixe
 use Rattle.rv_decode.specs.declared.instruction.Reg.{Reg}
 use Rattle.rv_decode.specs.Registers.{register_names, register_named}
 use Rattle.assembler.specs.Sets.{set_names, set_named}
-use Rattle.assembler.specs.Names.{is_label_name, goes_on_label_name}
+use Rattle.assembler.specs.Lines.{is_label_name, goes_on_label_name}
 use Rattle.assembler.specs.Operands.{Target, bytes, label, is_reached}
 use Rattle.assembler.specs.Operands.{OperandKind, register, upper, amount, short, word, address, pointer, near, far, set, OperandValue}
 

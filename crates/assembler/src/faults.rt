@@ -27,7 +27,7 @@ pub enum AsmFault {
 }
 
 impl Numbered for AsmFault {
-    ghost use Rattle.assembler.specs.Faults.{asm_number};
+    ghost use Rattle.assembler.specs.Drafts.{asm_number};
 
     ghost number = { asm_number };
 

@@ -1,7 +1,7 @@
 //! Names and what they stand for: mnemonics and the sets of a fence.
 
 ghost use Rattle.std.specs.Prelude.{◌≡◌, ◌<◌, ◌^◌, IfSome};
-ghost use Rattle.rv_decode.specs.Tables.{row_of};
+ghost use Rattle.rv_decode.specs.Registers.{row_of};
 ghost use Rattle.assembler.specs.Sets.{set_named};
 ghost use Rattle.assembler.specs.Mnemonics.{form_named};
 

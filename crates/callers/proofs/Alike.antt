@@ -15,7 +15,7 @@ use Rattle.callers.specs.{IsOpeningViolation, first_caller_violation, KeepsOblig
 use Rattle.callers.specs.{kept_text, Calls, CallerViolation, QueueKind, Queue, Located}
 use Rattle.drawn_runs.specs.Samples.{DrawnRuns}
 use Rattle.judged_runs.specs.Finding.{AreAllGood}
-use Rattle.judged_runs.specs.Histories.{MOST, summed}
+use Rattle.judged_runs.specs.Telling.{MOST, summed}
 use Rattle.judged_runs.proofs.Histories.{runs_one}
 use Rattle.callers.specs.Counts.{AreCountsOf, are_none, sends as sends_in, receives as receives_in}
 use Rattle.callers.specs.declared.counts.Counts.{Counts}

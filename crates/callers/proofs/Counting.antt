@@ -17,7 +17,7 @@ use Rattle.spsc_queue.proofs.OwnEntries.{own_is}
 use Rattle.judged_runs.proofs.Histories.{capped_both, runs_both, runs_count, total_both}
 use Rattle.callers.specs.{spsc_of, returns_now, returns_in, returned_by, returned_from, returned, sends, receives, AreCalls, HasCalls, HaveUnfinished}
 use Rattle.callers.specs.{AreTotalCalls, AreCountsOf, calls_both, unfinished_by, counted_by, Calls, Located}
-use Rattle.judged_runs.specs.Histories.{MOST}
+use Rattle.judged_runs.specs.Telling.{MOST}
 use Rattle.callers.specs.declared.counts.Counts.{Counts}
 
 -- ---- one entry more

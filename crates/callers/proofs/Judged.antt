@@ -1,5 +1,5 @@
 -- What the judgement of runs says of them.
-use Rattle.std.proofs.Common.{ℕ, ◌≡◌, List, Some, sym, ap, subst, ◌∙◌}
+use Rattle.std.proofs.Common.{ℕ, ◌≡◌, List, Some, sym, ap, subst, ◌∙◌, ◌++◌, Result, append_assoc}
 use Rattle.step_machine.specs.declared.events.Event.{Event}
 use Rattle.step_machine.specs.Names.{OpeningValue, History, history_of, at_opening, WellFormed}
 use Rattle.step_machine.proofs.Running.{kept-at_opening, kept-run, opening_kept, run-one}
@@ -11,6 +11,8 @@ use Rattle.callers.specs.{call_schedule, AreCountsOf, spsc_of, IsLocated, first_
 use Rattle.callers.specs.{CallerViolation, Located}
 use Rattle.callers.specs.declared.counts.Counts.{Counts}
 use Rattle.callers.proofs.Sound.{keeps_all}
+use Rattle.std.specs.Prelude.{OnOk}
+use Rattle.std.proofs.lemmas.Result.{on_ok_weaker}
 
 module _ (B M : ℕ) (o : OpeningValue) (l : Located) (events : List Event) where
   -- a run has one first violation, or none
@@ -45,3 +47,12 @@ module _ (d : DrawnRuns) (o : OpeningValue) (l : Located) where
       → AreTold (KeepsObligations d.B d.M o l) told
   told_kept located = told_better (HasNoCallerViolation d.B d.M o l) (KeepsObligations d.B d.M o l) (HasCallerViolation d.B d.M o l)
       (λ found other. found ≡ other) (AreCountsOf d.B d.M o l) (call_schedule d o) d.number (λ events. kept d.B d.M o l events located)
+
+-- ---- a text in five pieces, which are written from the right
+
+pub five_written : {E : Type 0} (written : Result (Unit {0}) E) (old new a b c d e : List ℕ)
+    → OnOk written (new ≡ old ++ (a ++ (b ++ (c ++ (d ++ e))))) → OnOk written (new ≡ old ++ (a ++ b ++ c ++ d ++ e))
+five_written written old new a b c d e put = on_ok_weaker written
+    (λ is.
+    is ∙ ap (λ xs. old ++ xs) (sym (append_assoc a b (c ++ (d ++ e))) ∙ sym (append_assoc (a ++ b) c (d ++ e))
+    ∙ sym (append_assoc (a ++ b ++ c) d e))) put

@@ -4,6 +4,5 @@ mod Noting
 mod Sound
 mod Counting
 mod Judged
-mod Pieces
 mod Exact
 mod Alike

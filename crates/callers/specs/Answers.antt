@@ -9,8 +9,7 @@ use Rattle.drawn_runs.specs.Samples.{DrawnRuns, schedule_in}
 use Rattle.judged_runs.specs.Finding.{AreAllGood}
 use Rattle.judged_runs.specs.Telling.{IsFlawTold}
 use Rattle.engine_support.specs.declared.fault.Refusal.{Refusal}
-use Rattle.engine_support.specs.Inputs.{After}
-use Rattle.engine_support.specs.Tests.{tests}
+use Rattle.engine_support.specs.Inputs.{After, tests}
 use Rattle.callers.specs.Queues.{IsLocated}
 use Rattle.callers.specs.Violations.{IsFirstOpeningViolation}
 use Rattle.callers.specs.Counts.{AreCountsOf, are_none}

@@ -11,7 +11,7 @@ use Rattle.litmus.specs.Verdicts.{IsFinished}
 use Rattle.litmus.specs.declared.verdict.Verdict.{Verdict}
 use Rattle.litmus.specs.declared.verdict.Verdict.TheVariants.{Holds, Fails, Unfinished}
 use Rattle.spsc_queue.specs.Calls.{Block, SpscQueue, returns_at, is_in_call_with}
-use Rattle.judged_runs.specs.Histories.{AreRuns, MOST, summed}
+use Rattle.judged_runs.specs.Telling.{AreRuns, MOST, summed}
 use Rattle.callers.specs.Queues.{spsc_of}
 use Rattle.callers.specs.declared.counts.Counts.{Counts}
 use Rattle.callers.specs.declared.judging.Calls.{Calls}

@@ -13,8 +13,7 @@ pub use Rattle.callers.specs.Counts.{AreCalls, AreCountsOf, AreTotalCalls, HasCa
 pub use Rattle.callers.specs.Counts.{returns_in, returns_now, sends, unfinished_by}
 pub use Rattle.callers.specs.Runs.{HasCallerViolation, HasNoCallerViolation, KeepsObligations}
 pub use Rattle.callers.specs.Answers.{IsCallersOutput, IsOutputOfRuns, call_schedule, kept_text, violation_line}
-pub use Rattle.callers.specs.inner.Locating.{StandsAt}
-pub use Rattle.callers.specs.inner.Noting.{AreCallNotes, IsCallState, IsEventNoted, counted_by, found_by, noted_call, notes_by}
+pub use Rattle.callers.specs.inner.{AreCallNotes, IsCallState, IsEventNoted, StandsAt, counted_by, found_by, noted_call, notes_by}
 pub use Rattle.callers.specs.declared.judging.CallState.{CallState}
 pub use Rattle.callers.specs.declared.judging.Calls.{Calls}
 pub use Rattle.callers.specs.declared.judging.Notes.{Notes}

@@ -11,7 +11,7 @@ ghost use Rattle.spsc_queue.specs.Calls.{Party, buffer, enters, is_in_call_after
 ghost use Rattle.spsc_queue.specs.Obligations.{is_sendable, may_pass};
 ghost use Rattle.callers.specs.Queues.{kind_of, block_of, spsc_of};
 ghost use Rattle.callers.specs.Violations.{idle_violation, met_by, party_violation, written_at, arguments_violation, entering_violation};
-ghost use Rattle.callers.specs.inner.Noting.{AreCallNotes, IsCallState, IsEventNoted, calls_by, counted_by, found_by, notes_by, noted_call};
+ghost use Rattle.callers.specs.inner.{AreCallNotes, IsCallState, IsEventNoted, calls_by, counted_by, found_by, notes_by, noted_call};
 
 use crate::queue::{Located, QueueKind};
 use crate::violations::CallerViolation;

@@ -9,7 +9,7 @@ ghost use Rattle.spsc_queue.specs.Calls.{IsBlock};
 ghost use Rattle.callers.specs.Queues.{kind_of, caches_tail, block_at, slots_after, waiting_between, sends_by, receives_by, HasNoCopy, HasFirstCopy};
 ghost use Rattle.callers.specs.Queues.{IsLocated};
 ghost use Rattle.callers.specs.Violations.{IsOffset, waits_in, IsOldTail, AreAsOwedBelow, IsOpeningViolation, IsFirstOpeningViolation};
-ghost use Rattle.callers.specs.inner.Locating.{StandsAt, IsFirstOfIndices, IsFirstOfRest, IsWaiting};
+ghost use Rattle.callers.specs.inner.{StandsAt, IsFirstOfIndices, IsFirstOfRest, IsWaiting};
 
 use crate::queue::{Located, Queue, QueueKind};
 use crate::violations::CallerViolation;

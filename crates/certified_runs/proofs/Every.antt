@@ -14,7 +14,7 @@ use Rattle.step_machine.specs.Entries.{hart_of, is_land, is_own, own, own_stores
 use Rattle.step_machine.specs.Paths.{number_read, opens_as, state_of, PathOf}
 use Rattle.step_machine.specs.Legal.{WellFormed, Allowed, AllowedBy}
 use Rattle.step_machine.proofs.Appended.{LegalAfter-back, LegalAfter-front}
-use Rattle.step_machine.proofs.Balanced.{balanced}
+use Rattle.step_machine.proofs.Landings.{balanced}
 use Rattle.step_machine.proofs.Follows.{state_after}
 use Rattle.step_machine.proofs.OwnRuns.{kept-front}
 use Rattle.step_machine.proofs.States.{state_keeps}

@@ -7,7 +7,7 @@ use Rattle.step_machine.specs.Entries.{hart_of, is_land, own_stores, lands}
 use Rattle.step_machine.specs.Legal.{Legal, WellFormed}
 use Rattle.step_machine.specs.Paths.{state_of}
 use Rattle.step_machine.proofs.Appended.{LegalAfter-back, LegalAfter-front}
-use Rattle.step_machine.proofs.Balanced.{balanced}
+use Rattle.step_machine.proofs.Landings.{balanced}
 use Rattle.hart.specs.State.{HartState}
 use Rattle.store_buffers.specs.StoreBuffers.{IsOnlyWriter}
 use Rattle.certified_runs.specs.Views.{View, view_of, view_then}

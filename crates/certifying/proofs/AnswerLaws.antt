@@ -22,7 +22,7 @@ use Rattle.queue_checker.specs.Flaws.{first_flaw, first_unowned, first_unowned_r
 use Rattle.drawn_runs.specs.Samples.{DrawnRuns}
 use Rattle.engine_support.specs.declared.fault.Refusal.{Refusal}
 use Rattle.engine_support.specs.Inputs.After.{read}
-use Rattle.engine_support.specs.Tests.{tests}
+use Rattle.engine_support.specs.Inputs.{tests}
 use Rattle.engine_support.proofs.InputLaws.{IsOne, alike_after, is_one, one_litmus_text}
 use Rattle.certifying.specs.Answers.{IsAnswerTo, IsCertificateAnswer, IsFlawAnswer, IsQueueAnswer, IsTrialAnswer, IsUseAnswer, is_of_queue}
 use Rattle.certifying.specs.Answers.{all_shown, asks_endings, judged_reads, kept_answer, kept_judgement}

@@ -41,8 +41,7 @@ use Rattle.queue_progress.specs.declared.pace.ToldProgress.TheVariants.{Within}
 use Rattle.queue_progress.specs.Progress.{progress_of}
 use Rattle.queue_progress.specs.Told.{IsToldStuck, TagsHaveLanded, ToldArrives, ToldArrivesOrEnds, teller_at, told_counts_at, told_progress_of}
 use Rattle.engine_support.specs.declared.fault.Refusal.{Refusal}
-use Rattle.engine_support.specs.Inputs.{Reads}
-use Rattle.engine_support.specs.Tests.{tests}
+use Rattle.engine_support.specs.Inputs.{Reads, tests}
 use Rattle.certifying.specs.Answers.{kept_answer, undecided}
 use Rattle.certifying.specs.Endings.{always_runs, both_run, endings_in, endings_of, neither_stops}
 use Rattle.certifying.specs.Questions.{Questions}

@@ -4,9 +4,8 @@ ghost use Rattle.std.specs.Prelude.{◌≡◌, ◌≤◌, ◌<◌, ◌++◌, ℕ
 ghost use Rattle.std.specs.String.{string_bytes};
 ghost use Rattle.engine_support.specs.Engines.{Ends};
 ghost use Rattle.engine_support.specs.Faults.{AnswersAs};
-ghost use Rattle.engine_support.specs.Inputs.{IsRefused};
-ghost use Rattle.engine_support.specs.Tests.{tests};
-ghost use Rattle.engine_support.specs.inner.Making.{FindsUpToReads, text_and_value};
+ghost use Rattle.engine_support.specs.Inputs.{IsRefused, tests};
+ghost use Rattle.engine_support.specs.inner.{FindsUpToReads, text_and_value};
 ghost use Rattle.engine_support.specs.OpeningTexts.{numbered};
 ghost use Rattle.litmus.specs.declared.litmus_test.TheConstants.{MAX_LOCATIONS};
 ghost use Rattle.drawn_runs.specs.Samples.{runs_of};

@@ -4,7 +4,7 @@ ghost use Rattle.std.specs.Prelude.{◌≡◌, IfOk};
 ghost use Rattle.certifying.specs.Inputs.{certificate_of, certificates};
 ghost use Rattle.engine_support.specs.Faults.{Answers};
 ghost use Rattle.engine_support.specs.Inputs.{Reads};
-ghost use Rattle.engine_support.specs.inner.Making.{FindsUpToReads};
+ghost use Rattle.engine_support.specs.inner.{FindsUpToReads};
 
 use certificate_reader::read_certificate as read;
 use engine_support::fault::Fault;

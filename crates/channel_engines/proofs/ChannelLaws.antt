@@ -4,8 +4,8 @@ use Rattle.std.specs.Prelude.{IsErrAnd}
 use Rattle.hart.specs.declared.need.Report.{Report}
 use Rattle.step_machine.specs.Names.{OpeningValue, History, Run, reported}
 use Rattle.recorder.specs.Versions.{ScheduleValue, events_of_schedule}
-use Rattle.poll_close.specs.Layout.{Layout}
-use Rattle.poll_close.specs.{AcceptedAt, Ring, opening_over, layout_of, RefusesAt}
+use Rattle.poll_close.specs.Layout.{Layout, layout_of}
+use Rattle.poll_close.specs.{AcceptedAt, Ring, opening_over, RefusesAt}
 use Rattle.poll_close.specs.declared.faults.Refused.TheVariants as refused
 use Rattle.poll_close.specs.declared.faults.RefusedAt.{RefusedAt}
 use Rattle.poll_close.specs.declared.faults.RefusedAt.TheVariants as why

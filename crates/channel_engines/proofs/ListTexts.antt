@@ -4,7 +4,7 @@ use Rattle.std.specs.Str.Lines.{lines}
 use Rattle.texts.specs.{word_of, SaysWord, pieces, DecidesGrammar}
 use Rattle.texts.specs.declared.pieces.Separators.TheVariants.{Spaces}
 use Rattle.texts.proofs.FormatLaws.{settled_found, settled_only, settled_one, settles_each, settles_each_at, settles_map_err, settles_word}
-use Rattle.engine_support.specs.LineFaults.{bad_line, or_bad, at_line, refused_on}
+use Rattle.engine_support.specs.Faults.{bad_line, or_bad, at_line, refused_on}
 use Rattle.channel_engines.specs.Lists.{list_texts, with_bytes, SaysList, SaysLists, list_at, list_of, lists_of_lines, lists_at}
 use Rattle.engine_support.proofs.InputLaws.{IsOne, is_one}
 

@@ -1,21 +1,23 @@
--- What answers `ring` is one answer where all runs are clean, and where they aren't each answer tells of that.
-use Rattle.std.proofs.Common.{◌≡◌, ℕ, suc, ◌+◌, ◌-◌, Bool, true, false, List, [], ◌∷◌, ◌++◌, length, Result, Ok, refl, sym, ap, ap₂, subst, ◌∙◌, arith}
+-- What answers `ring` is one answer where all runs are clean, and where they aren't each answer tells of
+-- that.
+use Rattle.std.proofs.Common.{◌≡◌, ℕ, suc, ◌+◌, ◌-◌, Bool, true, false, List, [], ◌∷◌, ◌++◌, length, Result, Ok, refl, sym, ap, ap₂, subst, ◌∙◌, arith, inl}
+use Rattle.std.proofs.Common.{inr, Err}
 use Rattle.std.specs.Prelude.{Some, None, codes}
 use Rattle.std.specs.Fmt.{decimal}
 use Rattle.std.specs.List.{slice_get}
 use Rattle.step_machine.specs.Names.{History, OpeningValue, at_opening, Run}
 use Rattle.step_machine.proofs.Running.{run-one}
 use Rattle.drawn_runs.specs.Samples.{DrawnRuns, schedule_in}
-use Rattle.poll_close.specs.{first_violation, opening_over, layout_of}
-use Rattle.poll_close.specs.Layout.{Layout}
+use Rattle.poll_close.specs.{first_violation, opening_over, RefusesAt}
+use Rattle.poll_close.specs.Layout.{layout_of, Layout}
 use Rattle.poll_close.specs.declared.place.BlockPlace.{BlockPlace}
 use Rattle.poll_close.proofs.ViolationLaws.{first_law}
 use Rattle.engine_support.specs.declared.fault.Refusal.{Refusal}
 use Rattle.engine_support.specs.declared.fault.Role.TheVariants.{Sender, Receiver}
-use Rattle.engine_support.specs.Inputs.{After, Format}
+use Rattle.engine_support.specs.{After, Format, FindsUpToReads}
 use Rattle.engine_support.proofs.InputLaws.{IsOne, alike_after}
 use Rattle.judged_runs.specs.Finding.{schedules_from}
-use Rattle.judged_runs.specs.Histories.{AreRuns}
+use Rattle.judged_runs.specs.Telling.{AreRuns}
 use Rattle.judged_runs.proofs.Histories.{runs_one}
 use Rattle.ring_trials.specs.Answers.{IsTrialsOutput, IsCleanOutput, IsUncleanOutput, clean_text, sender_line, sender_lines}
 use Rattle.ring_trials.specs.UserChannel.{ring_of, lists_of, layout_from, start_of}
@@ -23,12 +25,15 @@ use Rattle.ring_trials.specs.Trials.{AreTotals, channel_schedule, closed_in, mos
 use Rattle.ring_trials.specs.declared.user_channel.UserChannel.{UserChannel}
 use Rattle.ring_trials.specs.declared.runs.Total.{Total}
 use Rattle.channel_engines.specs.Lists.{list_texts}
-use Rattle.channel_engines.specs.UserChannels.{ring_over}
-use Rattle.channel_engines.specs.Programs.{programs}
+use Rattle.channel_engines.specs.UserChannels.{ring_over, programs}
 use Rattle.channel_engines.specs.Rings.{AreAlikeRuns, AreDrawn, IsUserChannel, IsRingAnswer}
 use Rattle.channel_engines.proofs.ListTexts.{one_list_text}
 use Rattle.channel_engines.proofs.OneChannel.{channel_or_refusal, one_channel_refusal}
-use Rattle.channel_engines.proofs.ProgramLaws.{one_program}
+use Rattle.channel_engines.proofs.OneUserChannel.{one_program}
+use Rattle.poll_close.specs.declared.faults.RefusedAt.{RefusedAt}
+use Rattle.engine_support.specs.declared.fault.Fault.{Fault}
+use Rattle.channel_engines.specs.Channels.{fault_from}
+use Rattle.channel_engines.proofs.ChannelLaws.{refusal_as}
 
 -- ---- the lines of totals
 
@@ -141,3 +146,17 @@ one_ring d place sender receiver input =
         → ((v : V) (a b : Result (List ℕ × Bool) Refusal) → Next v a → Next v b → AreAlikeRuns a b)
         → (a b : Result (List ℕ × Bool) Refusal) → After form (Some bytes) Next a → After form (Some bytes) Next b → AreAlikeRuns a b
     after form is = alike_after form (λ r s. r ≡ s) is AreAlikeRuns (λ r s e. e)
+
+-- ---- why no runs are drawn
+
+-- there is no channel
+pub not_drawn : (d : DrawnRuns) (place : BlockPlace) (sends receives : List ℕ) (lists : List (List ℕ)) {Y : Type 0} (seen : Y → List ℕ × Bool)
+    (because : RefusedAt) (fault : Fault) → fault ≡ fault_from because → RefusesAt (ring_over sends receives) d.M lists (layout_of place []) because
+    → FindsUpToReads {X = Y} (AreDrawn d place sends receives lists) seen (Err fault)
+not_drawn d place sends receives lists {Y = Y} seen because fault holds refuses =
+    elim (refusal_as (ring_over sends receives) d.B d.M place lists because refuses) [
+      | inl none ↦ subst (λ (f : Fault). FindsUpToReads {X = Y} (AreDrawn d place sends receives lists) seen (Err f)) (sym (holds ∙ none)) tt
+      | inr is ↦
+          subst (λ (f : Fault). FindsUpToReads {X = Y} (AreDrawn d place sends receives lists) seen (Err f)) (sym (holds ∙ is.1))
+          (record { why = because; unfilled = is.2; refuses = refuses; is_fault = is.1 })
+    ]

@@ -1,5 +1,12 @@
--- What answers `channel own` is one answer.
-use Rattle.std.proofs.Common.{◌≡◌, ℕ, List, Result, Ok, Err, sym, ap, ◌∙◌}
+-- Inputs that are a user's own programs. What answers `channel own` is one answer.
+use Rattle.std.proofs.Common.{arith, ◌≡◌, ℕ, ◌≤◌, List, [], ◌∷◌, length, sym, ap, Result, Ok, Err, ◌∙◌}
+use Rattle.rv_decode.specs.declared.instruction.Instr.{Instr}
+use Rattle.assembler.specs.{assembled, AreWordsOf, IsCode, IsProgram}
+use Rattle.assembler.proofs.OneCode.{one_code, refused_without_program}
+use Rattle.litmus_reader.proofs.TableLaws.{lines_size}
+use Rattle.engine_support.specs.declared.fault.Role.{Role}
+use Rattle.engine_support.proofs.{IsOne, is_one_without, one_after, one_schedule, same_output, one_run}
+use Rattle.channel_engines.specs.UserChannels.{program_at, programs, refused_in, IsUserAnswer, IsUserDelivery, IsUserRun, ring_over}
 use Rattle.std.specs.Prelude.{Some}
 use Rattle.std.specs.List.{flat_map}
 use Rattle.step_machine.specs.Names.{reported, History}
@@ -9,14 +16,25 @@ use Rattle.poll_close.specs.Layout.{Layout}
 use Rattle.engine_support.specs.declared.fault.Refusal.{Refusal}
 use Rattle.engine_support.specs.declared.fault.Role.TheVariants.{Sender, Receiver}
 use Rattle.engine_support.specs.{Output, schedules}
-use Rattle.engine_support.proofs.{one_after, one_schedule, same_output, one_run}
 use Rattle.channel_engines.specs.Channels.{report_line}
 use Rattle.channel_engines.specs.Lists.{list_texts}
-use Rattle.channel_engines.specs.UserChannels.{IsUserAnswer, IsUserDelivery, IsUserRun, ring_over}
-use Rattle.channel_engines.specs.Programs.{programs}
 use Rattle.channel_engines.proofs.ListTexts.{one_list_text}
 use Rattle.channel_engines.proofs.OneChannel.{one_reason, ran_or_reason}
-use Rattle.channel_engines.proofs.ProgramLaws.{one_program}
+
+words-count : (words : List ℕ) (instrs : List Instr) → AreWordsOf words instrs → length words ≡ length instrs
+words-count [] instrs is = ap length (sym is)
+words-count (word ∷ words) instrs (i, rest, is, means, others) = omega (arith, ap length is, words-count words rest others)
+
+-- a program has room in a hart
+pub program_short : (text words : List ℕ) (instrs : List Instr) → IsProgram text instrs → AreWordsOf words instrs → length words ≤ 4096
+program_short text words instrs is meant =
+    omega (arith, words-count words instrs meant, lines_size is.all 0 is.all instrs is.made.placed, is.made.few)
+
+-- an input is one program, or is refused where it says none
+pub one_program : (role : Role) → IsOne (programs role) (λ r s. r ≡ s)
+unfolding program_at
+one_program role = is_one_without IsCode (refused_in role) assembled one_code
+    (λ text refused words is. (refused_without_program text).0 refused is.instrs is.program)
 
 one_delivery : (ring : Ring) (B M : ℕ) (l : Layout) (parsed : ScheduleValue) (lists : List (List ℕ)) (a b : Output)
     → IsUserDelivery ring B M l parsed lists a → IsUserDelivery ring B M l parsed lists b → a ≡ b

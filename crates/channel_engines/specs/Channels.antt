@@ -20,8 +20,7 @@ use Rattle.engine_support.specs.declared.fault.Position.TheVariants as place
 use Rattle.engine_support.specs.declared.fault.Refusal.{Refusal}
 use Rattle.engine_support.specs.Engines.{Output}
 use Rattle.engine_support.specs.Runs.{Runs}
-use Rattle.engine_support.specs.Inputs.{After}
-use Rattle.engine_support.specs.Schedules.{schedules}
+use Rattle.engine_support.specs.Inputs.{After, schedules}
 use Rattle.channel_engines.specs.Lists.{list_texts}
 
 -- `took I W` or `closed I`, and a line end

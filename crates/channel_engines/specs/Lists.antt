@@ -8,7 +8,7 @@ use Rattle.texts.specs.declared.pieces.Separators.TheVariants.{Spaces}
 use Rattle.texts.specs.Formats.{each, each_at}
 use Rattle.engine_support.specs.declared.fault.Refusal.{Refusal}
 use Rattle.engine_support.specs.Inputs.{Format, format}
-use Rattle.engine_support.specs.LineFaults.{or_bad, at_line}
+use Rattle.engine_support.specs.Faults.{or_bad, at_line}
 use Rattle.texts.specs.Numbers.{SaysWord}
 
 -- the pieces that have a byte

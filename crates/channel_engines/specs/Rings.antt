@@ -2,7 +2,7 @@
 use Rattle.std.specs.Prelude.{ℕ, ◌≡◌, Bool, true, false, List, [], Option, Result, Ok, Err}
 use Rattle.drawn_runs.specs.Samples.{DrawnRuns}
 use Rattle.poll_close.specs.Laws.{AcceptedAt as IsWithin}
-use Rattle.poll_close.specs.Places.{layout_of}
+use Rattle.poll_close.specs.Layout.{layout_of}
 use Rattle.poll_close.specs.declared.place.BlockPlace.{BlockPlace}
 use Rattle.engine_support.specs.declared.fault.Refusal.{Refusal}
 use Rattle.engine_support.specs.declared.fault.Role.TheVariants.{Sender, Receiver}
@@ -12,8 +12,7 @@ use Rattle.ring_trials.specs.UserChannel.{lists_of}
 use Rattle.ring_trials.specs.declared.user_channel.UserChannel.{UserChannel}
 use Rattle.channel_engines.specs.Channels.{HasNoChannel}
 use Rattle.channel_engines.specs.Lists.{list_texts}
-use Rattle.channel_engines.specs.UserChannels.{ring_over}
-use Rattle.channel_engines.specs.Programs.{programs}
+use Rattle.channel_engines.specs.UserChannels.{ring_over, programs}
 
 -- the channel of these programs and lists at this place
 pub record IsUserChannel (place : BlockPlace) (sends receives : List ℕ) (lists : List (List ℕ)) (channel : UserChannel) : Type 0 where

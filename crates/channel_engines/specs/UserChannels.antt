@@ -1,5 +1,15 @@
--- The command `channel own`: two programs, a schedule and the senders' lists in, what the receiver reports out.
-use Rattle.std.specs.Prelude.{ℕ, ◌≡◌, List, Option, Result, Ok, Err}
+-- A user's own programs of a channel, one that each sender runs and one that the receiver runs, as assembly.
+-- The command `channel own`: two programs, a schedule and the senders' lists in, what the receiver reports
+-- out.
+use Rattle.std.specs.Prelude.{ℕ, List, Option, Result, ◌≡◌, Ok, Err}
+use Rattle.texts.specs.Results.{map_err}
+use Rattle.rv_decode.specs.declared.instruction.Instr.{Instr}
+use Rattle.assembler.specs.Drafts.{assembled, asm_number, Refusal as AsmRefusal}
+use Rattle.assembler.specs.Program.{IsCode}
+use Rattle.engine_support.specs.declared.fault.Position.TheVariants.{ProgramLine}
+use Rattle.engine_support.specs.declared.fault.Refusal.{Refusal}
+use Rattle.engine_support.specs.declared.fault.Role.{Role}
+use Rattle.engine_support.specs.Inputs.{Format, format, After, schedules}
 use Rattle.std.specs.List.{flat_map}
 use Rattle.hart.specs.declared.need.Report.{Report}
 use Rattle.step_machine.specs.Entries.{reported}
@@ -7,15 +17,23 @@ use Rattle.step_machine.specs.History.{History}
 use Rattle.recorder.specs.Versions.{ScheduleValue}
 use Rattle.poll_close.specs.Laws.{Ring, AcceptedAt as IsWithin, opening_over}
 use Rattle.poll_close.specs.Layout.{Layout}
-use Rattle.engine_support.specs.declared.fault.Refusal.{Refusal}
 use Rattle.engine_support.specs.declared.fault.Role.TheVariants.{Sender, Receiver}
 use Rattle.engine_support.specs.Engines.{Output}
 use Rattle.engine_support.specs.Runs.{Runs}
-use Rattle.engine_support.specs.Inputs.{After}
-use Rattle.engine_support.specs.Schedules.{schedules}
 use Rattle.channel_engines.specs.Channels.{IsUnreported, report_line}
 use Rattle.channel_engines.specs.Lists.{list_texts}
-use Rattle.channel_engines.specs.Programs.{programs}
+
+-- a fault of a program's text, refused by its number at its line of this program
+abbrev pub refused_in : Role → AsmRefusal → Refusal
+refused_in role refusal = record { number = asm_number refusal.fault; place = ProgramLine role refusal.line }
+
+-- the instructions of a program's text, or its refusal
+unfoldable pub program_at : Role → List ℕ → Result (List (Option Instr)) Refusal
+program_at role text = map_err (refused_in role) (assembled text)
+
+-- inputs that are programs, with the words of their code
+abbrev pub programs : Role → Format (List ℕ)
+programs role = format IsCode (program_at role)
 
 -- the two programs, as rings of one slot or more
 abbrev pub ring_over : (sends receives : List ℕ) → Ring

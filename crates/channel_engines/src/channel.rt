@@ -5,13 +5,12 @@ ghost use Rattle.std.specs.List.{flat_map};
 ghost use Rattle.std.specs.String.{string_bytes};
 ghost use Rattle.engine_support.specs.Engines.{Ends};
 ghost use Rattle.engine_support.specs.Faults.{AnswersAs};
-ghost use Rattle.poll_close.specs.Places.{layout_of};
+ghost use Rattle.poll_close.specs.Layout.{layout_of};
 ghost use Rattle.recorder.specs.Versions.{schedule_value};
 ghost use Rattle.channel_engines.specs.Channels.{report_line, fault_from, IsChannelAnswer};
-ghost use Rattle.engine_support.specs.Inputs.{IsRefused};
-ghost use Rattle.engine_support.specs.Schedules.{schedules};
-ghost use Rattle.engine_support.specs.inner.Making.{FindsUpToReads, text_and_value};
-ghost use Rattle.channel_engines.specs.inner.Reporting.{Reports};
+ghost use Rattle.engine_support.specs.Inputs.{IsRefused, schedules};
+ghost use Rattle.engine_support.specs.inner.{FindsUpToReads, text_and_value};
+ghost use Rattle.channel_engines.specs.inner.{Reports};
 
 use crate::lists::read_lists;
 use engine_support::fault::{Fault, Position};

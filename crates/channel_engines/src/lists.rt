@@ -2,11 +2,10 @@
 
 ghost use Rattle.std.specs.Prelude.{map};
 ghost use Rattle.texts.specs.Results.{GivesUpToMemory, refusal_of};
-ghost use Rattle.engine_support.specs.Faults.{Answers};
-ghost use Rattle.engine_support.specs.LineFaults.{at_line as line_at};
+ghost use Rattle.engine_support.specs.Faults.{Answers, at_line as line_at};
 ghost use Rattle.channel_engines.specs.Lists.{list_of as list_parsed, list_texts, lists_at};
 ghost use Rattle.engine_support.specs.Inputs.{Reads};
-ghost use Rattle.engine_support.specs.inner.Making.{FindsUpToReads};
+ghost use Rattle.engine_support.specs.inner.{FindsUpToReads};
 
 use engine_support::fault::{BAD, Fault, LineFault, at_line};
 use engine_support::input::read_text;
@@ -32,7 +31,7 @@ fn list_of(alloc: Global, line: &[u8]) -> Result<Vec<u32>, LineFault>
 }
 
 /// The words of the line of this number.
-#[tactic(auto, using(engine_support::proofs::LineFaulted::refused_at_line))]
+#[tactic(auto, using(engine_support::proofs::LineReading::refused_at_line))]
 fn list_of_line(alloc: Global, line: &[u8], number: usize) -> Result<Vec<u32>, Fault>
     ensures { Answers (λ list. list.items) result (line_at number (list_parsed line.now)) }
 {

@@ -7,8 +7,8 @@ ghost use Rattle.rv_decode.specs.declared.instruction.TheConstants.{MAX_CODE};
 ghost use Rattle.assembler.specs.Program.{IsCode};
 ghost use Rattle.engine_support.specs.Faults.{Answers};
 ghost use Rattle.engine_support.specs.Inputs.{IsRefused, Reads};
-ghost use Rattle.engine_support.specs.inner.Making.{FindsUpToReads};
-ghost use Rattle.channel_engines.specs.Programs.{program_at, programs};
+ghost use Rattle.engine_support.specs.inner.{FindsUpToReads};
+ghost use Rattle.channel_engines.specs.UserChannels.{program_at, programs};
 
 use assembler::{AsmError, assemble};
 use engine_support::fault::{Fault, Position, Role};
@@ -19,7 +19,7 @@ use std::io::Read;
 use texts::{AtLine, Numbered};
 
 /// The code of a program's text.
-#[tactic(auto, unfolding(crate::specs::Programs::program_at))]
+#[tactic(auto, unfolding(crate::specs::UserChannels::program_at))]
 fn code_of_program(alloc: Global, role: Role, text: &str) -> Result<Vec<u32>, Fault>
     ensures code { IfOk result (λ code. IsCode text.now code.items) }
     ensures exact { Answers (λ code. map meaning code.items) result (program_at role text.now) }

@@ -4,9 +4,9 @@ ghost use Rattle.std.specs.Prelude.{◌≡◌, ◌≤◌, ◌⊎◌};
 ghost use Rattle.drawn_runs.specs.Samples.{runs_of};
 ghost use Rattle.engine_support.specs.declared.fault.Role.TheVariants.{Sender, Receiver};
 ghost use Rattle.engine_support.specs.Engines.{Ends};
-ghost use Rattle.engine_support.specs.inner.Making.{FindsUpToReads, text_and_value};
+ghost use Rattle.engine_support.specs.inner.{FindsUpToReads, text_and_value};
 ghost use Rattle.engine_support.specs.Inputs.{IsRefused};
-ghost use Rattle.channel_engines.specs.Programs.{programs};
+ghost use Rattle.channel_engines.specs.UserChannels.{programs};
 ghost use Rattle.channel_engines.specs.Rings.{IsRingAnswer};
 
 use crate::channel::channel_fault;

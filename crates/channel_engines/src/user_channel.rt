@@ -3,17 +3,15 @@
 ghost use Rattle.std.specs.Prelude.{◌≡◌, ◌≤◌, ◌⊎◌, []};
 ghost use Rattle.recorder.specs.Versions.{schedule_value};
 ghost use Rattle.poll_close.specs.Laws.{FitsHart};
-ghost use Rattle.poll_close.specs.Places.{layout_of};
+ghost use Rattle.poll_close.specs.Layout.{layout_of};
 ghost use Rattle.engine_support.specs.Engines.{Ends};
 ghost use Rattle.engine_support.specs.Faults.{AnswersAs};
-ghost use Rattle.engine_support.specs.Inputs.{IsRefused};
-ghost use Rattle.engine_support.specs.Schedules.{schedules};
+ghost use Rattle.engine_support.specs.Inputs.{IsRefused, schedules};
 ghost use Rattle.engine_support.specs.declared.fault.Role.TheVariants.{Sender, Receiver};
-ghost use Rattle.engine_support.specs.inner.Making.{FindsUpToReads, text_and_value};
+ghost use Rattle.engine_support.specs.inner.{FindsUpToReads, text_and_value};
 ghost use Rattle.ring_trials.specs.UserChannel.{layout_from, lists_of, ring_of};
-ghost use Rattle.channel_engines.specs.UserChannels.{IsUserAnswer};
-ghost use Rattle.channel_engines.specs.Programs.{programs};
-ghost use Rattle.channel_engines.specs.inner.Reporting.{UserReports};
+ghost use Rattle.channel_engines.specs.UserChannels.{IsUserAnswer, programs};
+ghost use Rattle.channel_engines.specs.inner.{UserReports};
 
 use crate::channel::{channel_fault, reports_text};
 use crate::lists::read_lists;

@@ -1,6 +1,5 @@
 pub mod ByRow
 pub mod Given
-pub mod RowLaws
 pub mod TagLaws
 pub mod LaneLaws
 pub mod Apart
@@ -9,9 +8,5 @@ pub mod Placed
 pub mod HeadLaws
 pub mod PictureLaws
 pub mod ColumnLaws
-pub mod CellLaws
-pub mod PlaceLaws
-pub mod SceneLaws
-pub mod LineLaws
-pub mod FootLaws
+pub mod StepLaws
 pub mod SvgLaws

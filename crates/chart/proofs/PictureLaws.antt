@@ -14,7 +14,7 @@ use Rattle.chart.specs.declared.places.Places.{Places}
 use Rattle.chart.proofs.Clear.{row_clear}
 use Rattle.chart.proofs.Placed.{RowFits, row_fits, columns_there}
 use Rattle.chart.proofs.HeadLaws.{heads_clear}
-use Rattle.chart.proofs.RowLaws.{entries_of_rows}
+use Rattle.chart.proofs.StepLaws.{entries_of_rows}
 
 -- ---- a line
 

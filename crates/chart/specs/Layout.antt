@@ -8,7 +8,7 @@ use Rattle.chart.specs.declared.sources.RowWrite.{RowWrite}
 use Rattle.chart.specs.declared.least_widths.LeastWidths.{LeastWidths}
 use Rattle.chart.specs.declared.scenes.Form.{Form}
 use Rattle.chart.specs.declared.scenes.Selection.{Selection}
-use Rattle.chart.specs.Names.{part_name}
+use Rattle.chart.specs.Sayings.{part_name}
 use Rattle.chart.specs.Sources.{pending_by_row}
 use Rattle.chart.specs.Lanes.{held_at_end}
 use Rattle.chart.specs.Pictures.{LineOf, PictureOf, picture_text}

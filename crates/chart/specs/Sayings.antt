@@ -1,13 +1,30 @@
--- What a picture says of an entry: its effect beside its instruction, and what it leaves in memory.
-use Rattle.std.specs.Prelude.{ℕ, if◌then◌else◌, Bool, List, [], ◌++◌, codes, Option, None, Some}
+-- How a picture names places of memory. The word of location i stands at address 4 i. What a picture says of
+-- an entry: its effect beside its instruction, and what it leaves in memory.
+use Rattle.std.specs.Prelude.{ℕ, ◌*◌, ◌/◌, ◌%◌, ◌==◌, nat_lt, if◌then◌else◌, List, ◌++◌, length, codes, Option, None, Some, Bool, []}
 use Rattle.std.specs.List.{slice_get}
 use Rattle.std.specs.Fmt.{decimal}
+use Rattle.chart.specs.declared.naming.TheConstants.{LONGEST_NAME}
 use Rattle.hart.specs.Steps.{stop_number}
 use Rattle.hart.specs.declared.status.Stop.{Stop}
 use Rattle.hart.specs.declared.status.Stop.TheVariants as stop
 use Rattle.step_machine.specs.declared.events.Entry.{Entry}
 use Rattle.step_machine.specs.declared.events.Entry.TheVariants as entry
-use Rattle.chart.specs.Names.{word_name, part_name}
+
+abbrev pub address_name : ℕ → List ℕ
+address_name a = codes "@" ++ decimal a
+
+-- a word by its location's name, if it has one that isn't too long, else by its address
+abbrev pub named_word : Option (List ℕ) → ℕ → List ℕ
+named_word None a = address_name a
+named_word (Some name) a = if nat_lt LONGEST_NAME (length name) then address_name a else name
+
+-- the word in which address a is
+abbrev pub word_name : List (List ℕ) → ℕ → List ℕ
+word_name names a = named_word (slice_get names (a / 4)) (a / 4 * 4)
+
+-- `width` bytes from address a on: a whole word by its name, else with the offset in its word
+abbrev pub part_name : List (List ℕ) → (a width : ℕ) → List ℕ
+part_name names a width = if width == 4 then word_name names a else word_name names a ++ codes "+" ++ decimal (a % 4)
 
 -- why a hart stopped
 abbrev pub stop_name : Stop → List ℕ

@@ -1,9 +1,15 @@
--- What a picture is drawn of: a run's rows, and what they say in a form of it.
-use Rattle.std.specs.Prelude.{ℕ, zero, suc, ◌+◌, ◌-◌, ◌==◌, nat_lt, min, max, if◌then◌else◌, Bool, true, false}
-use Rattle.std.specs.Prelude.{List, [], ◌∷◌, ◌++◌, length, codes, Option, None, Some, unwrap_or}
+-- The texts of a row: what it says beside its instruction, with the tag of its sources, and in memory's
+-- column. The row's hart is that of its entry. What a picture is drawn of: a run's rows, and what they say in
+-- a form of it.
+use Rattle.std.specs.Prelude.{ℕ, List, map, zero, suc, ◌+◌, ◌-◌, ◌==◌, nat_lt, min, max, if◌then◌else◌, Bool, true, false, [], ◌∷◌, ◌++◌, length, codes, Option}
+use Rattle.std.specs.Prelude.{None, Some, unwrap_or}
+use Rattle.step_machine.specs.declared.events.Entry.{Entry}
+use Rattle.step_machine.specs.Entries.{hart_of}
+use Rattle.chart.specs.Rows.{RowOf, rows_of}
+use Rattle.chart.specs.Sayings.{effect_text, memory_text}
+use Rattle.chart.specs.Tags.{tag_text}
 use Rattle.std.specs.List.{slice_get}
 use Rattle.std.specs.Fmt.{decimal}
-use Rattle.step_machine.specs.declared.events.Entry.{Entry}
 use Rattle.step_machine.specs.declared.events.Entry.TheVariants as entry
 use Rattle.chart.specs.declared.lanes.Held.{Held}
 use Rattle.chart.specs.declared.lanes.Shape.{Shape}
@@ -13,9 +19,20 @@ use Rattle.chart.specs.declared.scenes.Form.{Form}
 use Rattle.chart.specs.declared.scenes.Selection.{Selection}
 use Rattle.chart.specs.declared.scenes.Selection.TheVariants.{EveryRow, MemoryRows}
 use Rattle.chart.specs.declared.scenes.TheConstants.{LONGEST_TEXT}
-use Rattle.chart.specs.Rows.{RowOf, rows_of}
-use Rattle.chart.specs.RowTexts.{RowTextOf, text_of_row}
 use Rattle.chart.specs.Lanes.{LanedOf, lanes_of}
+
+pub record RowTextOf : Type 0 where
+  pub hart : ℕ
+  pub effect : List ℕ
+  pub tag : List ℕ
+  pub memory : List ℕ
+
+abbrev pub text_of_row : List (List ℕ) → List Entry → RowOf → RowTextOf
+text_of_row names es r =
+    record { hart = hart_of r.entry; effect = effect_text names r.entry; tag = tag_text r.sources; memory = memory_text names es r.landed r.entry }
+
+abbrev pub row_texts : List (List ℕ) → List Entry → List RowOf → List RowTextOf
+row_texts names es rows = map (text_of_row names es) rows
 
 -- an instruction that neither touches memory nor waits for it, ends its hart or reports
 abbrev pub is_inner : Entry → Bool

@@ -109,7 +109,7 @@ fn pending_text(
     }
 }
 
-#[tactic(auto, using(crate::proofs::FootLaws::first_more))]
+#[tactic(auto, using(crate::proofs::StepLaws::first_more))]
 fn push_each(
     alloc: Global,
     out: &mut Vec<String>,
@@ -139,7 +139,7 @@ fn push_pending(
     push_each(alloc, out, about, hart, &pending)
 }
 
-#[tactic(auto, using(crate::proofs::FootLaws::pending_more))]
+#[tactic(auto, using(crate::proofs::StepLaws::pending_more))]
 fn pending_lines(alloc: Global, about: &About, entries: &[Entry]) -> Result<Vec<String>, AllocError>
     ensures { IfOk result (λ lines. map string_bytes lines.items ≡ pending_of_run about.now entries.now) }
 {

@@ -19,7 +19,7 @@ ghost use Rattle.chart.specs.Layout.{AboutOf, FitsColumns, layout, scene_of_run}
 /// The laws of rows and sources. A byte that a hart reads after some entries is the one that its source
 /// gives, and so the value of a load and the old word of an AMO are what their sources give. A landing
 /// writes what its own hart stored in the row that it is joined to. It does nothing.
-#[tactic(auto, using(crate::proofs::Given::byte_given, crate::proofs::Given::load_given, crate::proofs::Given::amo_given, crate::proofs::RowLaws::entries_of_rows))]
+#[tactic(auto, using(crate::proofs::Given::byte_given, crate::proofs::Given::load_given, crate::proofs::Given::amo_given, crate::proofs::StepLaws::entries_of_rows))]
 pub fn laws_of_sources()
     ensures bytes { (o : OpeningValue) (es : List Entry) (h a : ℕ) → read_byte o es h a ≡ byte_from o es h a (source_of es h a) }
     ensures loads { (B : ℕ) (o : OpeningValue) (before : List Entry) (h a width v : ℕ)

@@ -149,7 +149,7 @@ fn push_drawn(
     Ok(out.push(line)?)
 }
 
-#[tactic(auto, using(crate::proofs::LineLaws::lines_more))]
+#[tactic(auto, using(crate::proofs::StepLaws::lines_more))]
 fn row_lines(
     alloc: Global,
     form: Form,
@@ -201,7 +201,7 @@ fn head_mark(alloc: Global, places: &Places, hart: u32) -> Result<Mark, AllocErr
     Ok(text_at(places.begins(hart) as usize, Weight::Bold, name))
 }
 
-#[tactic(auto, using(crate::proofs::LineLaws::heads_more))]
+#[tactic(auto, using(crate::proofs::StepLaws::heads_more))]
 fn head_marks(alloc: Global, places: &Places) -> Result<Vec<Mark>, AllocError>
     ensures { IfOk result (λ marks. marks.items ≡ marks_of_heads places.now places.now.harts) }
 {
@@ -345,7 +345,7 @@ fn push_bare_hint(alloc: Global, out: &mut Vec<String>, scene: &Scene) -> Result
 }
 
 /// What stands below all else: that the form leaves out the instructions, and how rows go that then show nothing.
-#[tactic(auto, using(crate::proofs::FootLaws::hints_more))]
+#[tactic(auto, using(crate::proofs::StepLaws::hints_more))]
 fn push_hints(
     alloc: Global,
     out: &mut Vec<String>,

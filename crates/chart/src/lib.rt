@@ -3,7 +3,7 @@
 //! The contract: [`rows_of`] answers a row for each entry of a run, with the source of each byte that it
 //! read (`specs/Sources.antt`) and, for a landing, the row of the store that landed; [`laws_of_sources`]
 //! states that what is read is what the named sources give, and that a landing lands its own hart's
-//! oldest pending store. [`naming`] names places of memory (`specs/Names.antt`), [`saying`] writes what an
+//! oldest pending store. [`naming`] names places of memory, [`saying`] writes what an
 //! entry did and what it leaves in memory (`specs/Sayings.antt`), and [`tags`] its sources
 //! (`specs/Tags.antt`); [`row_texts::row_texts`] lists all of them by rows. [`lanes`] gives each pending
 //! store the lane in which its line stands (`specs/Lanes.antt`); [`laws_of_lanes`] states that no two lines

@@ -4,7 +4,7 @@ ghost use Rattle.std.specs.Prelude.{◌≡◌, ◌++◌, ◌/◌, ◌*◌, map, 
 ghost use Rattle.std.specs.List.{slice_get};
 ghost use Rattle.std.specs.Option.{option_copied};
 ghost use Rattle.std.specs.String.{string_bytes};
-ghost use Rattle.chart.specs.Names.{named_word, word_name, part_name};
+ghost use Rattle.chart.specs.Sayings.{named_word, word_name, part_name};
 
 use std::alloc::AllocError;
 

@@ -23,7 +23,7 @@ fn capped(count: u32) -> u8
 }
 
 /// A column's first cell, where `rank` columns stand to its left.
-#[tactic(auto, using(crate::proofs::PlaceLaws::product_most))]
+#[tactic(auto, using(crate::proofs::StepLaws::product_most))]
 fn columns_on(rank: u8, pitch: u16) -> u32
     ensures value { result ≡ rank * pitch }
     ensures most { result < 2 ^ 24 }

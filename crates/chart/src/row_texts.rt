@@ -4,7 +4,7 @@ ghost use Rattle.std.specs.Prelude.{◌≡◌, map, IfOk};
 ghost use Rattle.std.specs.String.{string_bytes};
 ghost use Rattle.step_machine.specs.Entries.{hart_of};
 ghost use Rattle.chart.specs.Sayings.{effect_text, memory_text};
-ghost use Rattle.chart.specs.RowTexts.{text_of_row, row_texts as texts_of_rows};
+ghost use Rattle.chart.specs.Scenes.{text_of_row, row_texts as texts_of_rows};
 
 use crate::rows::Row;
 use crate::saying::{push_effect, push_memory};
@@ -24,7 +24,7 @@ pub struct RowText {
 
 impl Model for RowText {
     ghost use Rattle.std.specs.String.{string_bytes};
-    ghost use Rattle.chart.specs.RowTexts.{RowTextOf};
+    ghost use Rattle.chart.specs.Scenes.{RowTextOf};
 
     ghost Value = { RowTextOf };
 

@@ -104,7 +104,7 @@ fn row_after(
 }
 
 /// The rows of a run: one for each of its entries, in their order.
-#[tactic(auto, using(crate::proofs::RowLaws::rows_next, crate::proofs::ByRow::landed_next))]
+#[tactic(auto, using(crate::proofs::StepLaws::rows_next, crate::proofs::ByRow::landed_next))]
 pub fn rows_of(alloc: Global, entries: &[Entry]) -> Result<Vec<Row>, AllocError>
     ensures { IfOk result (λ rows. rows.items ≡ rows_of_entries entries.now) }
 {

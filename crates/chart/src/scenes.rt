@@ -274,7 +274,7 @@ fn least_label(alloc: Global, form: Form, scene: &Scene) -> Result<u8, AllocErro
     Ok((caller + usize::from(own)).min(255) as u8)
 }
 
-#[tactic(auto, using(crate::proofs::SceneLaws::label_more))]
+#[tactic(auto, using(crate::proofs::StepLaws::label_more))]
 fn widest_label(alloc: Global, form: Form, scene: &Scene) -> Result<u8, AllocError>
     ensures { IfOk result (λ cells. cells ≡ label_cells form scene.now) }
 {
@@ -286,7 +286,7 @@ fn widest_label(alloc: Global, form: Form, scene: &Scene) -> Result<u8, AllocErr
     Ok(widest)
 }
 
-#[tactic(auto, using(crate::proofs::SceneLaws::kept_more))]
+#[tactic(auto, using(crate::proofs::StepLaws::kept_more))]
 pub(crate) fn widest_kept(alloc: Global, form: Form, scene: &Scene) -> Result<u8, AllocError>
     ensures { IfOk result (λ cells. cells ≡ kept_cells form scene.now) }
 {
@@ -326,7 +326,7 @@ fn least_lanes(form: Form, least: LeastWidths) -> u8
 }
 
 /// The lanes that lines use, and no fewer than `least`.
-#[tactic(auto, using(crate::proofs::SceneLaws::used_next))]
+#[tactic(auto, using(crate::proofs::StepLaws::used_next))]
 fn used_lanes(least: u8, lanes: &[Laned]) -> u8
     ensures { result ≡ used_after least lanes.now }
 {

@@ -21,7 +21,7 @@ fn with_stroke(stroke: Stroke, cell: usize, found: u8) -> u8
     }
 }
 
-#[tactic(auto, using(crate::proofs::CellLaws::struck_next))]
+#[tactic(auto, using(crate::proofs::StepLaws::struck_next))]
 fn struck(strokes: &[Stroke], cell: usize) -> u8
     ensures { result ≡ struck_by cell 32 strokes.now }
 {
@@ -42,7 +42,7 @@ fn byte_of_mark(mark: &Mark, cell: usize) -> Option<u8>
     }
 }
 
-#[tactic(auto, using(crate::proofs::CellLaws::marked_next))]
+#[tactic(auto, using(crate::proofs::StepLaws::marked_next))]
 fn marked(marks: &[Mark], cell: usize, stroke: u8) -> u8
     ensures { result ≡ marked_by cell stroke marks.now }
 {
@@ -80,7 +80,7 @@ fn end_after(line: &Line, cell: usize, end: usize) -> usize
 }
 
 /// The end of what isn't blank in the line's first cells.
-#[tactic(auto, using(crate::proofs::CellLaws::end_more))]
+#[tactic(auto, using(crate::proofs::StepLaws::end_more))]
 fn end_of(line: &Line, width: usize) -> usize
     ensures { result ≡ end_of_line line.now width }
 {
@@ -98,7 +98,7 @@ pub(crate) fn push_byte(out: &mut String, byte: u8) -> Result<(), AllocError>
     out.push(char::from(byte))
 }
 
-#[tactic(auto, using(crate::proofs::CellLaws::cells_more))]
+#[tactic(auto, using(crate::proofs::StepLaws::cells_more))]
 fn push_cells(out: &mut String, line: &Line, end: usize) -> Result<(), AllocError>
     ensures { OnOk result (string_bytes out.new ≡ string_bytes out.old ++ first_cells line.now end) }
 {

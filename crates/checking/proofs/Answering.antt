@@ -1,5 +1,6 @@
 -- What answers a test and records, from what was judged and written.
-use Rattle.std.proofs.Common.{◌≡◌, ℕ, ◌++◌, Bool, false, List, [], Option, Some, None, Result, Ok, Err, refl, sym, ap, subst, ◌∙◌, ◌⊎◌, inl, inr}
+use Rattle.std.proofs.Common.{◌≡◌, ℕ, ◌++◌, Bool, false, List, [], Option, Some, None, Result, Ok, Err, refl, sym, ap, subst, ◌∙◌, ◌⊎◌, inl, inr, arith}
+use Rattle.std.proofs.Common.{append_assoc}
 use Rattle.std.specs.Prelude.{◌==◌, IfErr, IfOk}
 use Rattle.std.specs.Io.KnownBytes.{Appends}
 use Rattle.std.proofs.lemmas.List.{append-nil}
@@ -7,7 +8,7 @@ use Rattle.litmus.specs.LitmusTests.{LitmusTest}
 use Rattle.engine_support.specs.declared.fault.Fault.{Fault}
 use Rattle.engine_support.specs.declared.fault.Fault.TheVariants.{ReadFailed, WriteFailed, NoMemory, Refused}
 use Rattle.engine_support.specs.declared.fault.Refusal.{Refusal}
-use Rattle.engine_support.specs.{Reads, read, refused, EndsInteractive, OnStopped, OnUnwritten, tests, IsFailure, FindsUpToReads, whole_lines}
+use Rattle.engine_support.specs.{Reads, tests, whole_lines, read, refused, EndsInteractive, OnStopped, OnUnwritten, IsFailure, FindsUpToReads}
 use Rattle.checking.specs.{Tally, texts_in, Judged, IsTextJudged, judgement_line, judgement_lines, IsOutcomeTable, IsCheckAnswer, IsChecked, IsCheckFront}
 use Rattle.checking.specs.{IsFront, OfLines, AllWritten, OneWritten, SomeWritten, IsTallyOfTexts, TalliesText}
 use Rattle.engine_support.proofs.Written.{appends_more, appends_nothing}
@@ -149,3 +150,8 @@ nothing_left (Err (Refused r)) known Q = tt
 nothing_left (Err WriteFailed) known Q = tt
 nothing_left (Err ReadFailed) known Q = ([], appends_nothing known, inl refl)
 nothing_left (Err NoMemory) known Q = ([], appends_nothing known, inl refl)
+
+-- ---- a text that was written in two parts
+
+pub two_written : (old a b s1 s2 : List ℕ) → s1 ≡ old ++ a → s2 ≡ s1 ++ b → s2 ≡ old ++ (a ++ b)
+two_written old a b s1 s2 e f = grind (arith, append_assoc)

@@ -8,9 +8,9 @@ use Rattle.std.proofs.lemmas.List.{append-nil}
 use Rattle.litmus.specs.LitmusTests.{LitmusTest}
 use Rattle.engine_support.proofs.{appends_more, appends_nothing, no_byte, first_whole}
 use Rattle.checking.specs.{Tally, begins_record, is_left_out, unless_blank, texts_in, Judged, IsTextJudged, AreTextsJudged, judgement_line, judgement_lines}
-use Rattle.checking.specs.{IsFront, OfLines, IsHeld, AllWritten, Closes, OneWritten, SomeWritten, TakesLine, judged, left_out, belongs, begins, HasRoomForText}
-use Rattle.checking.specs.{IsTallyOfTexts}
-use Rattle.engine_support.specs.{kept_of, whole_lines}
+use Rattle.checking.specs.{IsFront, OfLines, IsHeld, AllWritten, Closes, OneWritten, SomeWritten, TakesLine, HasRoomForText, IsTallyOfTexts, judged, left_out}
+use Rattle.checking.specs.{belongs, begins}
+use Rattle.engine_support.specs.Inputs.{kept_of, whole_lines}
 use Rattle.checking.proofs.TallyLaws.{has_room, tally_more}
 use Rattle.checking.proofs.TextLaws.{begins_kept, texts_from, text_ends, text_goes_on, text_is_last, held_judged, held_kept, held_left_out}
 

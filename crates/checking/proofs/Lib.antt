@@ -1,8 +1,5 @@
 pub mod Differences
-pub mod EventLineLaws
 pub mod TallyLaws
-pub mod Written
-pub mod OutcomeLaws
 pub mod TextLaws
 pub mod Goings
 pub mod Answering

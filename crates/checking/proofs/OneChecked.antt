@@ -2,13 +2,12 @@
 use Rattle.std.proofs.Common.{◌≡◌, ℕ, Bool, List, [], ◌∷◌, ◌++◌, map, take, count_by, Some, Result, Ok, refl, sym, ap, ap₂, ◌∙◌, subst}
 use Rattle.std.specs.Prelude.{◌==◌}
 use Rattle.std.specs.List.{flat_map, slice_get}
-use Rattle.texts.proofs.FormatLaws.{settled_one, settled_only}
-use Rattle.texts.proofs.ResultLaws.{some_is}
+use Rattle.texts.proofs.{settled_one, settled_only, some_is}
 use Rattle.step_machine.specs.Names.{OpeningValue, History, at_opening, Happens}
 use Rattle.step_machine.proofs.Running.{happens-one, run-one}
 use Rattle.litmus.specs.{LitmusTest, left_sides, final_value}
 use Rattle.litmus.specs.declared.verdict.Verdict.{Verdict}
-use Rattle.litmus.proofs.VerdictLaws.{one_verdict}
+use Rattle.litmus.proofs.TestLaws.{one_verdict}
 use Rattle.recorder.specs.{Step, events_in, IsRecordOf, record_at, IsRunRecord, DiffersAt}
 use Rattle.recorder.proofs.HeadLaws.{record_settles}
 use Rattle.recorder.proofs.RunRecords.{no_other, record_runs}

@@ -1,14 +1,15 @@
 -- A tally of judgements, and one judgement more.
 use Rattle.std.proofs.Common.{◌≡◌, ℕ, ◌+◌, ◌<◌, Bool, true, false, cond, List, [], ◌∷◌, ◌++◌, length, length-append, Option, Some, None, refl, sym, ap, ◌∙◌}
-use Rattle.std.proofs.Common.{arith}
+use Rattle.std.proofs.Common.{arith, count_by}
 use Rattle.std.specs.Prelude.{is_some, unwrap_or}
 use Rattle.std.specs.List.{list_any, position_from}
 use Rattle.std.specs.Option.{option_or}
 use Rattle.std.proofs.lemmas.List.Sums.{count_by-le-length}
-use Rattle.engine_support.specs.Counting.{counted, counted_both, seen_of}
-use Rattle.engine_support.proofs.OutcomeTables.{count_more, seen_few, seen_more, seen_none}
-use Rattle.checking.specs.{Tally, Judged, first_record, finished_with, is_refused, is_unfinished, record_end, HasRoomForText, IsTallyOfTexts, TalliesText}
-use Rattle.checking.specs.{first_name}
+use Rattle.engine_support.specs.{counted, counted_both, seen_of, AreCountedLines, unfinished_line}
+use Rattle.engine_support.proofs.OutcomeTables.{count_more, seen_few, seen_more, seen_none, are_outcomes, table_is}
+use Rattle.checking.specs.{Tally, Judged, first_record, finished_with, is_refused, is_unfinished, record_end, refused_line, IsOutcomeTable, HasRoomForText}
+use Rattle.checking.specs.{IsTallyOfTexts, TalliesText, first_name}
+use Rattle.litmus.specs.LitmusTests.{LitmusTest}
 
 -- ---- the first record with an outcome
 
@@ -73,3 +74,17 @@ nothing_counted tally nothing none unfinished refused =
       unfinished_are = unfinished;
       refused_are = refused;
     }
+
+-- ---- the text of a tally is the table of what was judged
+
+pub tabled : (test : LitmusTest) (answers : List Judged) (tally : Tally) (lines text : List ℕ) → IsTallyOfTexts answers tally
+    → AreCountedLines test (counted first_name tally.outcomes) lines → text ≡ lines ++ unfinished_line tally.unfinished ++ refused_line tally.refused
+    → IsOutcomeTable test answers text
+tabled test answers tally lines text is made written = record {
+  outcomes = made.outcomes;
+  shown = are_outcomes finished_with first_record test answers (counted first_name tally.outcomes) lines is.counts made;
+  is = written
+      ∙ (rw (is.unfinished_are, is.refused_are)
+      (ap (λ (xs : List ℕ). xs ++ unfinished_line (count_by is_unfinished answers) ++ refused_line (count_by is_refused answers))
+      (table_is finished_with first_record test answers (counted first_name tally.outcomes) lines is.counts made)));
+}

@@ -1,21 +1,21 @@
 -- The texts in an input, line by line.
 use Rattle.std.proofs.Common.{arith, ◌≡◌, ℕ, zero, suc, ◌-◌, ◌<◌, ◌==◌, true, false, List, [], ◌∷◌, ◌++◌, length, take, drop, Option, Some, None, length-append}
-use Rattle.std.proofs.Common.{refl, sym, ap, subst, ◌∙◌, ◌⊎◌, ◌≤◌, append_assoc, inl, inr, lit≤, take_all, take-take}
+use Rattle.std.proofs.Common.{refl, sym, ap, subst, ◌∙◌, ◌⊎◌, ◌≤◌, append_assoc, inl, inr, lit≤, take_all, take-take, ◌+◌}
 use Rattle.std.specs.Prelude.{nat_eq, nat_le, position}
 use Rattle.std.specs.List.{list_all}
 use Rattle.std.specs.Str.Lines.{lines, strip_carriage_return}
 use Rattle.texts.specs.Pieces.{is_blank}
 use Rattle.texts.proofs.PieceLaws.{lines_found, lines_whole, position_is}
 use Rattle.std.proofs.Math.Bool.{and-false}
-use Rattle.std.proofs.lemmas.Bool.{cases_Bool, cases_lt, eqb-true, lt-leb}
+use Rattle.std.proofs.lemmas.Bool.{cases_Bool, cases_lt, eqb-true, lt-leb, lt-ltb, le-ltb}
 use Rattle.std.proofs.lemmas.List.{append-nil, drop-take, length-take-le}
 use Rattle.step_machine.proofs.Placing.{and_left}
 use Rattle.litmus.specs.LitmusTests.{LitmusTest}
 use Rattle.recorder.specs.{ends_line, has_head, record_head}
-use Rattle.engine_support.specs.Input.{kept_of}
+use Rattle.engine_support.specs.Inputs.{kept_of}
 use Rattle.engine_support.proofs.Judging.{judged-large}
 use Rattle.checking.specs.{are_blank_lines, begins_record, before_record, records_in, is_left_out, texts_with, unless_blank, Judged, IsTextJudged, record_of}
-use Rattle.checking.specs.{none, record_is, held_with, IsHeld}
+use Rattle.checking.specs.{none, record_is, held_with, IsHeld, events_on, line_holding}
 
 -- ---- a line more
 
@@ -113,3 +113,21 @@ held_judged B M test text held answer (inl same) is = subst (λ (xs : List ℕ).
 held_judged B M test text held answer (inr (long, longer)) (none refusal refused) =
     none refusal (judged-large record_of text longer ∙ sym (judged-large record_of held long) ∙ refused)
 held_judged B M test text held answer (inr (long, longer)) (record_is steps other accepted judged) = absurd (omega (arith, long, accepted.few))
+
+-- ---- the line on which an event stands, line by line
+
+-- it is this one
+pub stands_here : (event line place : ℕ) (rest others : List (List ℕ)) (bytes : List ℕ) → rest ≡ bytes ∷ others → event < events_on bytes
+    → line_holding event rest + line ≡ place → line ≡ place
+stands_here event line place rest others bytes is below so_far =
+    let e = rw (is, lt-ltb event (events_on bytes) below) at so_far in omega (arith, e)
+
+-- or a later one
+pub stands_later : (event line place : ℕ) (rest others : List (List ℕ)) (bytes : List ℕ) → rest ≡ bytes ∷ others → events_on bytes ≤ event
+    → line_holding event rest + line ≡ place → line_holding (event - events_on bytes) others + (line + 1) ≡ place
+stands_later event line place rest others bytes is past so_far =
+    let e = rw (is, le-ltb event (events_on bytes) past) at so_far in omega (arith, e)
+
+-- or none is left
+pub stands_nowhere : (event line place : ℕ) (rest : List (List ℕ)) → rest ≡ [] → line_holding event rest + line ≡ place → line ≡ place
+stands_nowhere event line place rest is so_far = let e = rw is at so_far in omega (arith, e)

@@ -2,9 +2,7 @@
 use Rattle.std.specs.Prelude.{ℕ, ◌≡◌, ◌==◌, Bool, List, ◌++◌, count_by, Option, None, Some, IsOkAnd, Result}
 use Rattle.litmus.specs.LitmusTests.{LitmusTest}
 use Rattle.engine_support.specs.declared.fault.Refusal.{Refusal}
-use Rattle.engine_support.specs.Inputs.{After}
-use Rattle.engine_support.specs.Tests.{tests}
-use Rattle.engine_support.specs.WholeLines.{whole_lines}
+use Rattle.engine_support.specs.Inputs.{After, tests, whole_lines}
 use Rattle.checking.specs.RecordTexts.{texts_in}
 use Rattle.checking.specs.Judgements.{Judged, AreTextsJudged}
 use Rattle.checking.specs.Reports.{judgement_lines}

@@ -10,7 +10,7 @@ use Rattle.recorder.specs.Records.{Step, IsRecordOf, record_at}
 use Rattle.recorder.specs.Replaying.{IsRunRecord, DiffersAt}
 use Rattle.engine_support.specs.declared.fault.Refusal.{Refusal}
 use Rattle.engine_support.specs.Engines.{AcceptedInput, decoded}
-use Rattle.engine_support.specs.Schedules.{refused_schedule}
+use Rattle.engine_support.specs.Inputs.{refused_schedule}
 use Rattle.checking.specs.EventLines.{line_of_event}
 
 -- an event of a record, counted from 0, and its line; the step that the record has there, and the run's outcome

@@ -5,12 +5,10 @@ ghost use Rattle.std.specs.Io.KnownBytes.{Appends};
 ghost use Rattle.step_machine.specs.Standing.{RepresentsRunFrom};
 ghost use Rattle.litmus.specs.declared.litmus_test.TheConstants.{MAX_LOCATIONS};
 ghost use Rattle.engine_support.specs.Interactive.{EndsInteractive, OnStopped, OnUnwritten};
-ghost use Rattle.engine_support.specs.Inputs.{IsRefused};
-ghost use Rattle.engine_support.specs.Tests.{tests};
-ghost use Rattle.engine_support.specs.inner.Failures.{IsFailure};
+ghost use Rattle.engine_support.specs.Inputs.{IsRefused, tests};
+ghost use Rattle.engine_support.specs.inner.{IsFailure};
 ghost use Rattle.checking.specs.Checking.{IsCheckAnswer, IsChecked, IsCheckFront, IsFront, OfLines};
-ghost use Rattle.checking.specs.inner.Reporting.{AllWritten, Closes, OneWritten, SomeWritten, TakesLine};
-ghost use Rattle.checking.specs.inner.Tallies.{HasRoomForText};
+ghost use Rattle.checking.specs.inner.{AllWritten, Closes, OneWritten, SomeWritten, TakesLine, HasRoomForText};
 
 use crate::judging::judge;
 use crate::reading::{begins_record, hold, is_left_out};

@@ -28,7 +28,7 @@ fn events_on(line: &[u8]) -> u64
 }
 
 /// The line on which an event stands, counted from 1.
-#[tactic(auto, using(crate::proofs::EventLineLaws::stands_here, crate::proofs::EventLineLaws::stands_later, crate::proofs::EventLineLaws::stands_nowhere))]
+#[tactic(auto, using(crate::proofs::TextLaws::stands_here, crate::proofs::TextLaws::stands_later, crate::proofs::TextLaws::stands_nowhere))]
 pub fn line_of_event(text: &[u8], event: usize) -> usize
     ensures { result ≡ line_of_event text.now event }
 {

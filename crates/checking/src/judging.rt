@@ -9,8 +9,7 @@ ghost use Rattle.engine_support.specs.Engines.{AcceptedInput, decoded};
 ghost use Rattle.engine_support.specs.Faults.{Answers};
 ghost use Rattle.engine_support.specs.declared.fault.Fault.TheVariants.{NoMemory};
 ghost use Rattle.checking.specs.Judgements.{EndsAs, IsTextJudged, IsRecordJudged, record_of};
-ghost use Rattle.checking.specs.inner.Holding.{Follows};
-ghost use Rattle.checking.specs.inner.Tallies.{judged_by};
+ghost use Rattle.checking.specs.inner.{Follows, judged_by};
 
 use crate::event_lines::line_of_event;
 use engine_support::fault::{Fault, NOT_TEXT, Position, Refusal, TOO_LARGE};

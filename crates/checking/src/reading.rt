@@ -2,7 +2,7 @@
 
 ghost use Rattle.std.specs.Prelude.{◌≡◌, OnErr, OnOk};
 ghost use Rattle.checking.specs.RecordTexts.{are_blank_lines, begins_record, is_left_out};
-ghost use Rattle.checking.specs.inner.Holding.{held_with};
+ghost use Rattle.checking.specs.inner.{held_with};
 
 use engine_support::input::INPUT_BYTES;
 use recorder::{RECORD_HEAD, has_head};

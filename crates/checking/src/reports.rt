@@ -3,7 +3,7 @@
 ghost use Rattle.std.specs.Prelude.{◌≡◌, ◌++◌, List, ℕ, IfOk, OnOk};
 ghost use Rattle.std.specs.String.{string_bytes};
 ghost use Rattle.checking.specs.Reports.{difference_place, difference_text, judged_text, position_text, refusal_text, judgement_line};
-ghost use Rattle.checking.specs.inner.Tallies.{difference_of, judged_by};
+ghost use Rattle.checking.specs.inner.{difference_of, judged_by};
 
 use crate::judging::{Difference, Judgement};
 use engine_support::fault::{Position, Refusal, Role};

@@ -3,7 +3,7 @@
 ghost use Rattle.std.specs.Prelude.{◌≡◌, ◌==◌, IfErr, IfOk, OnOk};
 ghost use Rattle.std.specs.Io.KnownBytes.{Appends};
 ghost use Rattle.engine_support.specs.declared.fault.Fault.TheVariants.{WriteFailed};
-ghost use Rattle.checking.specs.inner.Tallies.{table_text};
+ghost use Rattle.checking.specs.inner.{table_text};
 
 use crate::tally::Tally;
 use engine_support::fault::Fault;

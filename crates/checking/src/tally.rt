@@ -3,7 +3,7 @@
 ghost use Rattle.std.specs.Prelude.{◌≡◌, ◌<◌, ℕ, List, [], IfSome, OnErr, OnOk};
 ghost use Rattle.engine_support.specs.Counting.{counted, Counts};
 ghost use Rattle.checking.specs.Outcomes.{record_end};
-ghost use Rattle.checking.specs.inner.Tallies.{CountsAlike, HasRoomForText, IsTallyOfTexts, first_name, judged_by, TalliesText};
+ghost use Rattle.checking.specs.inner.{CountsAlike, HasRoomForText, IsTallyOfTexts, first_name, judged_by, TalliesText};
 
 use crate::judging::Judgement;
 use engine_support::outcomes::{FirstRun, Outcomes};

@@ -7,7 +7,7 @@ use Rattle.texts.proofs.{bind_ok, ok_is, settled_found, settled_only}
 use Rattle.engine_support.specs.declared.fault.Refusal.{Refusal}
 use Rattle.code_engines.specs.Dis.{SaysCode, code_of_lines, dis_at}
 use Rattle.code_engines.proofs.NumberWords.{code_settles}
-use Rattle.engine_support.proofs.LineFaulted.{at_line-ok}
+use Rattle.engine_support.proofs.LineReading.{at_line-ok}
 
 -- ---- two lists, element by element, in front of two others
 

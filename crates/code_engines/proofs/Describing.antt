@@ -5,10 +5,10 @@ use Rattle.texts.proofs.ResultLaws.{bind_ok, guard_ok, ok_is}
 use Rattle.engine_support.specs.declared.fault.Refusal.{Refusal}
 use Rattle.code_engines.specs.ScriptValue.{ScriptValue, Statement, with_statement, MayCome}
 use Rattle.code_engines.specs.StepsText.{LinesDescribe, Describes}
-use Rattle.engine_support.specs.LineFaults.{at_line}
+use Rattle.engine_support.specs.Faults.{at_line}
 use Rattle.code_engines.specs.StepsReading.{after_line, after_lines, script_at}
 use Rattle.code_engines.proofs.Lines.{line-made, statement_read, blank_read}
-use Rattle.engine_support.proofs.LineFaulted.{at_line-ok}
+use Rattle.engine_support.proofs.LineReading.{at_line-ok}
 
 -- the events stay within their limit
 few_stay : (t : ScriptValue) (s : Statement) → length t.events ≤ 1048576 → MayCome t s → length (with_statement t s).events ≤ 1048576

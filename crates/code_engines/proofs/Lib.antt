@@ -1,4 +1,3 @@
-pub mod Registers
 pub mod NumberWords
 pub mod Lines
 pub mod Describing

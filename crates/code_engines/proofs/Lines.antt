@@ -18,7 +18,7 @@ use Rattle.code_engines.specs.declared.steps.line.Keyword.{Keyword}
 use Rattle.code_engines.specs.declared.steps.line.Keyword.TheVariants as keyword
 use Rattle.code_engines.specs.ScriptValue.{ScriptValue, Statement, hart, reg, word, steps, fresh, register_set, with_statement, MayCome}
 use Rattle.code_engines.specs.StepsText.{LineSays}
-use Rattle.engine_support.specs.LineFaults.{bad_line}
+use Rattle.engine_support.specs.Faults.{bad_line}
 use Rattle.code_engines.specs.StepsReading.{two_numbers, three_numbers, with_hart, with_register, with_word, with_steps, keyword_named, by_keyword, by_cut}
 use Rattle.code_engines.specs.StepsReading.{after_line}
 use Rattle.code_engines.proofs.NumberWords.{code_settles, SayTwo, two_settles, Three, SayThree, three_settles}

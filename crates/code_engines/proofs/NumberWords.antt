@@ -3,8 +3,8 @@ use Rattle.std.proofs.Common.{arith, ◌≡◌, ℕ, List, [], ◌∷◌, Ok, re
 use Rattle.std.specs.List.{AllZip}
 use Rattle.texts.specs.{SaysWord, IsHexWord, hex_word_of, ◌>>=◌, DecidesGrammar}
 use Rattle.texts.proofs.FormatLaws.{settles_as, settles_then, settles_ok, settles_word, settles_each, settles_hex_word}
-use Rattle.engine_support.specs.LineFaults.{bad_line, or_bad}
-use Rattle.code_engines.specs.Code.{code_at}
+use Rattle.engine_support.specs.Faults.{bad_line, or_bad}
+use Rattle.code_engines.specs.Asm.{code_at}
 use Rattle.code_engines.specs.StepsReading.{number_at, with_no_more, two_numbers, three_numbers}
 
 -- ---- instruction words

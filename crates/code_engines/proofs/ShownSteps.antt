@@ -1,6 +1,6 @@
 -- The steps text of an opening, read as a steps text, is that opening.
 use Rattle.std.proofs.Common.{◌≡◌, ℕ, zero, suc, ◌+◌, ◌*◌, ◌-◌, ◌/◌, ◌<◌, ◌≤◌, eqb, ltb, false, List, [], ◌∷◌, ◌++◌, length, map, set, drop, refl, sym, ap}
-use Rattle.std.proofs.Common.{subst, ◌∙◌, inr, append_assoc, length-append, arith}
+use Rattle.std.proofs.Common.{subst, ◌∙◌, inr, append_assoc, length-append, arith, leb, get_or, Ok}
 use Rattle.std.specs.Prelude.{codes, replicate}
 use Rattle.std.specs.List.{AllByRecursion, AllZip, flat_map, slice_index_or}
 use Rattle.std.specs.Char.{digit_value}
@@ -17,11 +17,13 @@ use Rattle.texts.proofs.{split_stop, lines_of_parts-cons, is_low, Solid, solid_b
 use Rattle.texts.proofs.HexWords.{hex_word-said}
 use Rattle.step_machine.specs.History.{HartOpeningValue, OpeningValue}
 use Rattle.step_machine.specs.declared.events.Event.{Event}
-use Rattle.litmus_reader.specs.PlainOpenings.{IsPlainHart, IsPlainOpening}
+use Rattle.litmus_reader.specs.Openings.{IsPlainHart, IsPlainOpening}
 use Rattle.rv_decode.specs.Word.{IsWord}
 use Rattle.engine_support.specs.OpeningTexts.{numbered, code_line, register_line, registers_text, hart_steps, word_line, steps_text}
 use Rattle.code_engines.specs.ScriptValue.{ScriptValue, no_script, script_from, Statement, hart, reg, word, steps, register_set, with_statement, MayCome}
 use Rattle.code_engines.specs.StepsText.{LineSays, LinesDescribe, Describes}
+use Rattle.std.proofs.lemmas.Bool.Decides.{nat_tests}
+use Rattle.code_engines.specs.StepsReading.{three_numbers, with_register}
 
 -- ---- texts that lead from one script to another
 
@@ -261,3 +263,21 @@ opens_with M o more line events is room one says few =
           (subst (λ (read : List (List ℕ)). LinesDescribe t read (script_from M o events)) (sym one) last);
       some_hart = is.some_hart;
     }
+
+-- ---- a register set in a list of harts
+
+-- the hart x, with v in register n
+abbrev pub with_value : HartOpeningValue → (n v : ℕ) → HartOpeningValue
+with_value x n v = record x { registers = set x.registers n v }
+
+pub register_set-is : (harts : List HartOpeningValue) (h n v : ℕ) (x : HartOpeningValue) → h < length harts → x ≡ get_or harts h x
+    → register_set harts h n v ≡ set harts h (with_value x n v)
+register_set-is [] h n v x lt e = absurd (omega arith)
+register_set-is (first ∷ others) zero n v x lt e = ap (λ (y : HartOpeningValue). with_value y n v ∷ others) (sym e)
+register_set-is (first ∷ others) (suc h) n v x lt e = ap (λ (ys : List HartOpeningValue). first ∷ ys) (register_set-is others h n v x (omega arith) e)
+
+pub with_register-done : (harts : List HartOpeningValue) (text : List (List ℕ)) (h n v : ℕ) (x : HartOpeningValue)
+    → three_numbers text ≡ Ok (h, n, v) → h < length harts → (n ≡ 0 → ⊥) → n < 32 → x ≡ get_or harts h x
+    → with_register harts text ≡ Ok (set harts h (with_value x n v))
+unfolding with_register
+with_register-done harts text h n v x parsed lt some below e = grind (arith, leb, eqb, nat_tests, register_set-is)

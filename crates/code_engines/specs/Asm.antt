@@ -1,16 +1,16 @@
 -- The command `asm`: the words of an assembly text, a line each.
 use Rattle.std.specs.Prelude.{ℕ, ◌≡◌, List, ◌∷◌, [], ◌++◌, IsOkAnd, Option, Result}
 use Rattle.std.specs.List.{flat_map}
-use Rattle.texts.specs.Numbers.{hex_word}
+use Rattle.texts.specs.Numbers.{hex_word, hex_word_of}
 use Rattle.texts.specs.Results.{map_err}
 use Rattle.rv_decode.specs.declared.instruction.Instr.{Instr}
-use Rattle.assembler.specs.Drafts.{assembled}
+use Rattle.assembler.specs.Drafts.{assembled, asm_number, Refusal as AsmRefusal}
 use Rattle.assembler.specs.Program.{IsCode}
-use Rattle.assembler.specs.Faults.{asm_number, Refusal as AsmRefusal}
 use Rattle.engine_support.specs.declared.fault.Refusal.{Refusal}
-use Rattle.engine_support.specs.Faults.{refused_at}
+use Rattle.engine_support.specs.Faults.{refused_at, or_bad}
 use Rattle.engine_support.specs.Engines.{Output}
 use Rattle.engine_support.specs.Inputs.{After, Format, format}
+use Rattle.texts.specs.Formats.{each}
 
 -- a fault of an assembly text, refused by its number at its line
 abbrev pub refused_program : {V : Type 0} → Result V AsmRefusal → Result V Refusal
@@ -31,3 +31,9 @@ assembly_texts = format IsCode asm_at
 -- What answers an input: the lines of the words that it is assembled to.
 abbrev pub IsAsmAnswer : (input : Option (List ℕ)) → Result Output Refusal → Type 0
 IsAsmAnswer input = After assembly_texts input (λ words given. IsOkAnd given (λ answer. answer.0 ≡ flat_map hex_line words))
+
+-- ---- instruction words in hex
+
+-- the instruction words that all of the words say
+unfoldable pub code_at : List (List ℕ) → Result (List ℕ) ℕ
+code_at words = each (λ digits. or_bad (hex_word_of digits)) words

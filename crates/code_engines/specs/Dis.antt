@@ -10,8 +10,8 @@ use Rattle.assembler.specs.Drafts.{onto}
 use Rattle.assembler.specs.Writing.{text_of}
 use Rattle.engine_support.specs.declared.fault.Refusal.{Refusal}
 use Rattle.texts.specs.Cutting.{tokens}
-use Rattle.engine_support.specs.LineFaults.{at_line}
-use Rattle.code_engines.specs.Code.{code_at}
+use Rattle.engine_support.specs.Faults.{at_line}
+use Rattle.code_engines.specs.Asm.{code_at}
 use Rattle.engine_support.specs.Engines.{Output}
 use Rattle.engine_support.specs.Inputs.{After, Format, format}
 

@@ -1,4 +1,3 @@
-pub mod Code
 pub mod ScriptValue
 pub mod StepsText
 pub mod StepsReading

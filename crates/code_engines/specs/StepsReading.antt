@@ -10,15 +10,14 @@ use Rattle.step_machine.specs.History.{HartOpeningValue}
 use Rattle.step_machine.specs.declared.events.Event.{Event}
 use Rattle.step_machine.specs.declared.opening.TheConstants.{MAX_HARTS}
 use Rattle.recorder.specs.declared.faults.AtByte.{AtByte}
-use Rattle.recorder.specs.Faults.{schedule_number}
-use Rattle.recorder.specs.Reading.{tokens_after}
+use Rattle.recorder.specs.Reading.{schedule_number, tokens_after}
 use Rattle.engine_support.specs.declared.fault.Refusal.{Refusal}
 use Rattle.engine_support.specs.declared.fault.Position.TheVariants.{Nowhere}
 use Rattle.code_engines.specs.declared.steps.line.Keyword.{Keyword}
 use Rattle.code_engines.specs.declared.steps.line.Keyword.TheVariants as keyword
 use Rattle.texts.specs.Cutting.{tokens, first_cut}
-use Rattle.engine_support.specs.LineFaults.{bad_line, or_bad, at_line}
-use Rattle.code_engines.specs.Code.{code_at}
+use Rattle.engine_support.specs.Faults.{bad_line, or_bad, at_line}
+use Rattle.code_engines.specs.Asm.{code_at}
 use Rattle.code_engines.specs.ScriptValue.{ScriptValue, no_script, fresh, register_set}
 use Rattle.rv_decode.specs.declared.instruction.TheConstants.{MAX_CODE}
 

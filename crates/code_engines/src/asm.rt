@@ -9,7 +9,7 @@ ghost use Rattle.engine_support.specs.Faults.{Answers};
 ghost use Rattle.engine_support.specs.Engines.{Ends};
 ghost use Rattle.engine_support.specs.Inputs.{Reads};
 ghost use Rattle.code_engines.specs.Asm.{asm_at, assembly_texts, hex_line, IsAsmAnswer};
-ghost use Rattle.engine_support.specs.inner.Making.{FindsUpToReads, text_and_value};
+ghost use Rattle.engine_support.specs.inner.{FindsUpToReads, text_and_value};
 
 use assembler::assemble;
 use engine_support::fault::Fault;

@@ -4,14 +4,13 @@ ghost use Rattle.std.specs.Prelude.{◌≡◌, ◌++◌, IfOk, OnOk};
 ghost use Rattle.std.specs.List.{flat_map};
 ghost use Rattle.std.specs.String.{string_bytes};
 ghost use Rattle.rv_decode.specs.Meaning.{meaning};
-ghost use Rattle.engine_support.specs.Faults.{Answers};
+ghost use Rattle.engine_support.specs.Faults.{Answers, at_line as line_at};
 ghost use Rattle.engine_support.specs.Engines.{Ends};
 ghost use Rattle.engine_support.specs.Inputs.{Reads};
 ghost use Rattle.texts.specs.Cutting.{tokens};
-ghost use Rattle.engine_support.specs.LineFaults.{at_line as line_at};
-ghost use Rattle.code_engines.specs.Code.{code_at};
+ghost use Rattle.code_engines.specs.Asm.{code_at};
 ghost use Rattle.code_engines.specs.Dis.{code_texts, dis_at, meant_text, instr_line, IsDisAnswer};
-ghost use Rattle.engine_support.specs.inner.Making.{FindsUpToReads, text_and_value};
+ghost use Rattle.engine_support.specs.inner.{FindsUpToReads, text_and_value};
 
 use crate::code::code_of;
 use assembler::write_instr;
@@ -24,7 +23,7 @@ use std::io::{Read, Write};
 use texts::first_line;
 
 /// The instruction words of the line of this number.
-#[tactic(auto, using(engine_support::proofs::LineFaulted::refused_at_line))]
+#[tactic(auto, using(engine_support::proofs::LineReading::refused_at_line))]
 fn code_of_line(alloc: Global, line: &[u8], number: usize) -> Result<Vec<u32>, Fault>
     ensures { Answers (λ code. code.items) result (line_at number (code_at (tokens line.now))) }
 {

@@ -7,7 +7,7 @@ ghost use Rattle.engine_support.specs.Engines.{Ends};
 ghost use Rattle.code_engines.specs.ScriptValue.{script_value, opening_of_script};
 ghost use Rattle.engine_support.specs.Inputs.{Reads};
 ghost use Rattle.code_engines.specs.Steps.{IsStateText, IsStepsAnswer, steps_texts};
-ghost use Rattle.engine_support.specs.inner.Making.{FindsUpToReads, text_and_value};
+ghost use Rattle.engine_support.specs.inner.{FindsUpToReads, text_and_value};
 
 use crate::steps::script::{Script, read_script};
 use engine_support::fault::Fault;

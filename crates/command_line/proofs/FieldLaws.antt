@@ -1,8 +1,7 @@
 -- Each field of the records of numbers is what its option says.
 use Rattle.std.proofs.Common.{◌≡◌, refl, Option, Some, None}
 use Rattle.std.specs.Prelude.{option_and_then}
-use Rattle.command_line.specs.CommandLines.{Found, place_in, queue_in, runs_in}
-use Rattle.command_line.specs.Fields.{SayPlace, SayQueue, SayRuns}
+use Rattle.command_line.specs.CommandLines.{Found, place_in, queue_in, runs_in, SayPlace, SayQueue, SayRuns}
 
 -- a property of the value, where there is one
 module _ {T : Type 0} (P : T → Type 0) where

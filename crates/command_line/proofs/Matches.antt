@@ -8,8 +8,7 @@ use Rattle.clap.specs.declared.error.kind.ErrorKind.TheVariants.{OutOfMemory}
 use Rattle.clap.proofs.OnLiterals.{clap_on_literals}
 use Rattle.command_line.specs.CommandLines.{GivesJob, job_at, job_given, job_without}
 use Rattle.command_line.specs.Descriptions.{ztso_command}
-use Rattle.command_line.specs.Jobs.{wanted_by}
-use Rattle.command_line.specs.Faults.{IsErrorFor}
+use Rattle.command_line.specs.Jobs.{wanted_by, IsErrorFor}
 use Rattle.command_line.specs.declared.fault.CommandLineError.{CommandLineError}
 use Rattle.command_line.specs.declared.fault.CommandLineError.TheVariants.{BadCommandLine}
 use Rattle.command_line.specs.declared.job.Job.{Job}

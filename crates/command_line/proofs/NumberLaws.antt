@@ -6,7 +6,7 @@ use Rattle.std.proofs.lemmas.Bool.{and_parts}
 use Rattle.std.specs.Str.Parse.{ParsesUnsigned, IsNumeral, digits_value, without_leading_plus}
 use Rattle.texts.specs.Numbers.{is_numeral}
 use Rattle.texts.proofs.NumberLaws.{IsNumeral-from_test, is_numeral-from_IsNumeral}
-use Rattle.command_line.specs.Numbers.{number_within}
+use Rattle.command_line.specs.CommandLines.{number_within}
 
 abbrev digits_of : List ℕ → List ℕ
 digits_of text = without_leading_plus text

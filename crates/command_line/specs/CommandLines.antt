@@ -1,5 +1,8 @@
--- The job that words ask for.
-use Rattle.std.specs.Prelude.{ℕ, ◌≡◌, ◌⊎◌, Bool, List, [], ◌∷◌, Option, Some, None, Result, Ok, Err, codes, if◌then◌else◌, option_and_then, option_map}
+-- The numbers of a command line. The job that words ask for.
+use Rattle.std.specs.Prelude.{ℕ, List, ◌&&◌, nat_le, if◌then◌else◌, Option, Some, None, ◌≡◌, ◌⊎◌, Bool, [], ◌∷◌, Result, Ok, Err, codes, option_and_then}
+use Rattle.std.specs.Prelude.{option_map}
+use Rattle.std.specs.Str.Parse.{digits_value, without_leading_plus}
+use Rattle.texts.specs.Numbers.{is_numeral}
 use Rattle.std.specs.Str.{bytes_eq}
 use Rattle.clap.specs.Words.{Kinds, Row, Text, fault_of, first_of, found_of, rows_of, subcommand_of}
 use Rattle.clap.specs.declared.parser.matches.ArgMatches.{ArgMatches}
@@ -31,7 +34,14 @@ use Rattle.chart.specs.declared.scenes.Style.TheVariants as style
 use Rattle.command_line.specs.declared.job.MachineCommand.TheVariants.{Steps, Run, Replay, Move, Shrink, Chart, Show, Check, Debug, Try, Callers, Channel}
 use Rattle.command_line.specs.Jobs.{Input, Wanted, four_inputs, one_input, three_inputs, two_inputs, wanted_by}
 use Rattle.command_line.specs.Jobs.Input.{Standard, File}
-use Rattle.command_line.specs.Numbers.{number_within}
+
+-- What Rust's parser of unsigned numbers reads, from `least` to `most`: decimal digits, before which a
+-- plus may stand.
+unfoldable pub number_within : (least most : ℕ) → List ℕ → Option ℕ
+number_within least most text =
+    let digits = without_leading_plus text in
+    let number = digits_value 10 digits in
+    if is_numeral 10 digits && (nat_le least number && nat_le number most) then Some number else None
 
 infixl 10 ◌>>=◌
 abbrev pub ◌>>=◌ : {A B : Type 0} → Option A → (A → Option B) → Option B
@@ -336,3 +346,21 @@ job_given words = job_without (fault_of ztso_command words) (subcommand_of ztso_
 abbrev pub GivesJob : Option Wanted → Result Job CommandLineError → Type 0
 GivesJob asked (Ok job) = asked ≡ Some (wanted_by job)
 GivesJob asked (Err error) = (error ≡ NoMemory) ⊎ ((error ≡ BadCommandLine) × (asked ≡ None))
+
+-- ---- which option says which field of the records of numbers
+-- The table of commands has them as they are read; here they stand by field, so that no two change places
+-- unseen.
+
+module _ (options : Found) where
+  abbrev pub SayRuns : Runs → Type 0
+  SayRuns runs = (number_at options (codes "skip") 0 18446744073709551615 ≡ Some runs.skip) × (number_at options (codes "runs") 1 100000 ≡ Some runs.number)
+      × (number_at options (codes "length") 0 MAX_EVENTS ≡ Some runs.length) × (number_at options (codes "jobs") 1 64 ≡ Some runs.jobs)
+
+  abbrev pub SayPlace : BlockPlace → Type 0
+  SayPlace place = (number_at options (codes "ring") 0 4294967295 ≡ Some place.slots) × (number_at options (codes "base") 0 4294967295 ≡ Some place.base)
+      × (number_if_given (options (codes "stride")) ≡ Some place.stride)
+
+  abbrev pub SayQueue : CalledQueue → Type 0
+  SayQueue queue = (options (codes "kind") >>= queue_kind_given ≡ Some queue.kind) × (number_at options (codes "base") 0 4294967295 ≡ Some queue.base)
+      × (number_at options (codes "slots") 0 4294967295 ≡ Some queue.slots) × (number_at options (codes "sender") 0 63 ≡ Some queue.sender)
+      × (number_at options (codes "receiver") 0 63 ≡ Some queue.receiver)

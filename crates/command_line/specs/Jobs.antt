@@ -1,10 +1,12 @@
 -- What a command line asks for, with its words as texts.
-use Rattle.std.specs.Prelude.{ℕ, List, Option, Some, None, option_map}
+use Rattle.std.specs.Prelude.{ℕ, List, Option, Some, None, option_map, ◌≡◌, ◌⊎◌}
 use Rattle.command_line.specs.declared.job.Input.{Input as JobInput}
 use Rattle.command_line.specs.declared.job.Input.TheVariants as input
 use Rattle.command_line.specs.declared.job.Capacity.{Capacity}
 use Rattle.command_line.specs.declared.job.Job.{Job}
 use Rattle.command_line.specs.declared.job.Command.{Command}
+use Rattle.command_line.specs.declared.fault.CommandLineError.{CommandLineError}
+use Rattle.command_line.specs.declared.fault.CommandLineError.TheVariants.{BadCommandLine, NoMemory}
 
 -- where an input comes from: standard input, or the file of this path
 pub data Input : Type 0 where
@@ -56,3 +58,9 @@ wanted_by job = record {
   written = option_map (λ bytes. bytes.now) job.written;
   read = option_map (λ bytes. bytes.now) job.read;
 }
+
+-- ---- why a command line gives no job
+
+-- want of memory is reported as such, and every other error as a bad command line
+abbrev pub IsErrorFor : Type 0 → CommandLineError → Type 0
+IsErrorFor WantOfMemory error = (WantOfMemory × (error ≡ NoMemory)) ⊎ ((WantOfMemory → ⊥) × (error ≡ BadCommandLine))

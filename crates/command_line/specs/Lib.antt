@@ -1,10 +1,6 @@
 pub mod CommandLines
 pub mod Commands
 pub mod Descriptions
-pub mod Faults
-pub mod Fields
 pub mod Jobs
-pub mod Numbers
 pub mod Parameters
-pub mod Rows
 pub mod Uses

@@ -1,8 +1,11 @@
 -- What a command takes: its words and its options.
-use Rattle.std.specs.Prelude.{ℕ, Bool, true, false, zero, suc, List, [], ◌∷◌, Option, Some, None, find}
+use Rattle.std.specs.Prelude.{ℕ, Bool, true, false, zero, suc, List, [], ◌∷◌, Option, Some, None, find, map}
 use Rattle.std.specs.Str.{bytes_eq}
 use Rattle.clap.specs.Words.{Rule, Text, new_rule}
 use Rattle.clap.specs.declared.builder.ArgAction.TheVariants.{Set, SetTrue}
+use Rattle.std.specs.Borrow.{Bor}
+use Rattle.command_line.specs.declared.table.Parameter.{Parameter as TableParameter}
+use Rattle.command_line.specs.declared.table.Parameter.TheVariants as table
 
 -- A word that has to stand in its place; `--name VALUE`, which has to be given, or has a default, or may be left out; and
 -- `--name`, without a value.
@@ -58,3 +61,15 @@ pub record CommandRow : Type 0 where
 
 abbrev pub row : (name : Text) → List Parameter → CommandRow
 row name parameters = record { name = name; parameters = parameters }
+
+-- ---- the code's rows, with their words as texts
+
+abbrev pub parameter_by : TableParameter → Parameter
+parameter_by (table.Positional id) = positional id.now
+parameter_by (table.Required name) = required name.now
+parameter_by (table.Defaulted name value) = defaulted name.now value.now
+parameter_by (table.Optional name) = optional name.now
+parameter_by (table.Flag name) = flag name.now
+
+abbrev pub row_by : Bor Text × Bor (List TableParameter) → CommandRow
+row_by r = record { name = r.0.now; parameters = map parameter_by r.1.now }

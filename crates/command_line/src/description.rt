@@ -3,8 +3,7 @@
 ghost use Rattle.std.specs.Prelude.{◌≡◌, ◌++◌, List, IfOk, map};
 ghost use Rattle.clap.specs.Words.{App, new_app};
 ghost use Rattle.command_line.specs.Descriptions.{HasRule, IsDescribed, app_for, with_commands, with_rules, ztso_command};
-ghost use Rattle.command_line.specs.Parameters.{rule_for};
-ghost use Rattle.command_line.specs.Rows.{parameter_by, row_by};
+ghost use Rattle.command_line.specs.Parameters.{rule_for, parameter_by, row_by};
 
 use crate::table::{Parameter, Row, commands};
 use clap::{Arg, ArgAction, Command};

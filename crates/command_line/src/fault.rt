@@ -5,7 +5,7 @@ ghost use Rattle.clap.specs.Words.{kind_of};
 ghost use Rattle.clap.specs.declared.error.kind.ErrorKind.TheVariants as kind;
 ghost use Rattle.std.specs.IoError.{error_kind};
 ghost use Rattle.std.specs.declared.io.ErrorKind.TheVariants as io_kind;
-ghost use Rattle.command_line.specs.Faults.{IsErrorFor};
+ghost use Rattle.command_line.specs.Jobs.{IsErrorFor};
 
 use clap::error::ErrorKind;
 use std::io;

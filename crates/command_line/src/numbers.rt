@@ -1,7 +1,7 @@
 //! The numbers of a command line.
 
 ghost use Rattle.std.specs.Prelude.{◌≡◌};
-ghost use Rattle.command_line.specs.Numbers.{number_within};
+ghost use Rattle.command_line.specs.CommandLines.{number_within};
 
 /// The number that the text says, if it is below 2^64.
 pub fn number_of(text: &str) -> Option<u64>

@@ -3,14 +3,12 @@
 ghost use Rattle.std.specs.Prelude.{◌≡◌, ◌∷◌, ℕ, List, IfOk, map, option_and_then, option_map, Some};
 ghost use Rattle.clap.specs.Words.{FailsBy, fault_of, subcommand_of, subcommand_rows_of};
 ghost use Rattle.command_line.specs.CommandLines.{GivesJob, found_by, job_by, capacity_given, capacity_in, job_at, channel_in, chart_in, find_in, flag_given};
-ghost use Rattle.command_line.specs.CommandLines.{bytes_if_given, callers_in, certified_in, draw_given, queue_in, queue_kind_given};
-ghost use Rattle.command_line.specs.CommandLines.{show_in, style_given, selection_given, job_given, number_if_given};
-ghost use Rattle.command_line.specs.CommandLines.{number_at, own_in, on_file, on_file_and_schedule, on_channel};
+ghost use Rattle.command_line.specs.CommandLines.{bytes_if_given, callers_in, certified_in, draw_given, queue_in, queue_kind_given, show_in, style_given};
+ghost use Rattle.command_line.specs.CommandLines.{selection_given, job_given, number_if_given, number_at, own_in, on_file, on_file_and_schedule, on_channel};
 ghost use Rattle.command_line.specs.CommandLines.{on_file_and_certificate, on_file_and_standard, on_own_channel, on_programs_and_standard};
-ghost use Rattle.command_line.specs.CommandLines.{on_schedule_and_standard, on_standard, place_in, ring_in, ring_given, runs_in};
-ghost use Rattle.command_line.specs.CommandLines.{scheduled_in, seed_in, threads_in, try_in};
+ghost use Rattle.command_line.specs.CommandLines.{on_schedule_and_standard, on_standard, place_in, ring_in, ring_given, runs_in, scheduled_in, seed_in};
+ghost use Rattle.command_line.specs.CommandLines.{threads_in, try_in, SayPlace, SayQueue, SayRuns};
 ghost use Rattle.command_line.specs.Descriptions.{ztso_command};
-ghost use Rattle.command_line.specs.Fields.{SayPlace, SayQueue, SayRuns};
 ghost use Rattle.command_line.specs.Uses.{IsSpelling};
 ghost use Rattle.command_line.specs.Jobs.{Wanted, wanted_by};
 

@@ -2,7 +2,7 @@
 
 ghost use Rattle.std.specs.Prelude.{◌≡◌, map};
 ghost use Rattle.command_line.specs.Commands.{commands as stated_commands};
-ghost use Rattle.command_line.specs.Rows.{row_by};
+ghost use Rattle.command_line.specs.Parameters.{row_by};
 
 use crate::commands::COMMANDS;
 

@@ -9,7 +9,7 @@ use Rattle.std.proofs.lemmas.Bool.{cases_Bool, lt-ltb}
 use Rattle.std.proofs.lemmas.List.{drop_all, take-take, length-take-le}
 use Rattle.texts.proofs.PieceLaws.{position_is, position_past, lines_found, lines_whole}
 use Rattle.litmus_reader.specs.Marks.{is_line_feed}
-use Rattle.engine_support.specs.WholeLines.{whole_lines}
+use Rattle.engine_support.specs.Inputs.{whole_lines}
 use Rattle.engine_support.proofs.{first_whole, joined_whole, no_byte}
 use Rattle.debugger.specs.{command_of, Leaves, after_last, is_last, quits, left_unread, Command, Quit, AsksNext, TakesAsking}
 

@@ -1,4 +1,3 @@
-pub mod SessionLaws
 pub mod SnapshotLaws
 pub mod DebuggerLaws
 pub mod DebugLaws

@@ -11,8 +11,8 @@ use Rattle.std.proofs.lemmas.Option.{slice_get_within, get_or_from_slice_get}
 use Rattle.step_machine.specs.declared.events.Entry.{Entry}
 use Rattle.step_machine.specs.declared.events.Event.{Event}
 use Rattle.step_machine.specs.declared.events.Outcome.{Outcome}
-use Rattle.step_machine.specs.Names.{OpeningValue, History, history_of, up_to, Happens, RunFrom, Run, SnapshotView, IsTakenAt}
-use Rattle.step_machine.proofs.Running.{shape_of, run-one, RunFrom-append}
+use Rattle.step_machine.specs.Names.{OpeningValue, History, history_of, up_to, at_opening, Happens, RunFrom, Run, SnapshotView, IsTakenAt}
+use Rattle.step_machine.proofs.Running.{shape_of, run-one, RunFrom-append, RunFrom-more}
 use Rattle.debugger.specs.{Past, GoesBack, snapshot_before, IsNearest, IsTakenAfter, HasSnapshots, SNAPSHOT_EVENTS}
 
 -- ---- a run only adds at the end
@@ -157,3 +157,14 @@ module _ (B M : ℕ) (t : History) (evs : List Event) (ss : List SnapshotView) (
         subst (λ (o : OpeningValue). Run B M o (take n evs) new) (sym opening) again,
         subst (λ (o : OpeningValue). HasSnapshots B M o (take n evs) (take (n / SNAPSHOT_EVENTS + 1) ss)) (sym opening) held,
       )
+
+-- ---- what a session's history and snapshots are after one event more
+
+-- the run of all events, and the snapshots that are held for it
+pub went_on : (B M : ℕ) (t : History) (evs : List Event) (ev : Event) (o : Outcome) (new : History) (ss : List SnapshotView)
+    → Run B M t.opening evs t → Happens B M t ev o new → new.opening ≡ t.opening
+    → (Run B M t.opening (evs ++ ev ∷ []) new → HasSnapshots B M t.opening (evs ++ ev ∷ []) ss)
+    → Run B M new.opening (evs ++ ev ∷ []) new × HasSnapshots B M new.opening (evs ++ ev ∷ []) ss
+went_on B M t evs ev o new ss ran happens kept held =
+    let on = RunFrom-more B M (at_opening t.opening) evs t ev o new ran happens in
+    subst (λ (opening : OpeningValue). Run B M opening (evs ++ ev ∷ []) new × HasSnapshots B M opening (evs ++ ev ∷ []) ss) (sym kept) (on, held on)

@@ -1,13 +1,11 @@
 pub mod Sessions
-pub mod Nearest
 pub mod DebuggerStates
 pub mod Commands
 pub mod DebugText
 pub mod Debugging
 pub mod Transcripts
 pub mod inner
-pub use Rattle.debugger.specs.Sessions.{GoesBack, Past}
-pub use Rattle.debugger.specs.Nearest.{IsNearest, snapshot_before}
+pub use Rattle.debugger.specs.Sessions.{GoesBack, IsNearest, Past, snapshot_before}
 pub use Rattle.debugger.specs.DebuggerStates.{DebuggerState, GoesBackBy, IsWellFormed, TakesEvent, debugger_at_opening, of_schedule, scheduled}
 pub use Rattle.debugger.specs.Commands.{command_of}
 pub use Rattle.debugger.specs.DebugText.{break_line, end_line}
@@ -15,9 +13,7 @@ pub use Rattle.debugger.specs.Debugging.{Breaks, DoesAll, DoesCommand, DoesEvent
 pub use Rattle.debugger.specs.Transcripts.{DoesAsked, DoesLine, EndsInteractive, IsDebugAnswer, IsDebugFront, IsDebugSome, IsTranscript, Leaves, OnRefused}
 pub use Rattle.debugger.specs.Transcripts.{OnStopped, OnUnwritten, Prints, PrintsFront, PrintsSome, Transcript, after_last, is_last, quits}
 unfoldable pub use Rattle.debugger.specs.Transcripts.{left_unread}
-pub use Rattle.debugger.specs.inner.Asking.{AsksNext, IsNextLine, TakesAsking}
-pub use Rattle.debugger.specs.inner.Failures.{IsAtStart, IsFailure}
-pub use Rattle.debugger.specs.inner.SnapshotsHeld.{HasSnapshots, IsTakenAfter}
+pub use Rattle.debugger.specs.inner.{AsksNext, HasSnapshots, IsAtStart, IsFailure, IsNextLine, IsTakenAfter, TakesAsking}
 pub use Rattle.debugger.specs.declared.debug.command.Command.{Command}
 pub use Rattle.debugger.specs.declared.debug.command.Command.TheVariants.{Quit}
 pub use Rattle.debugger.specs.declared.debugger.Source.{Source}

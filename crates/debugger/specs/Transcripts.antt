@@ -13,7 +13,7 @@ use Rattle.debugger.specs.Commands.{command_of}
 use Rattle.debugger.specs.DebugText.{unknown_line}
 use Rattle.debugger.specs.Debugging.{DoesCommand}
 use Rattle.engine_support.specs.Engines.{Output}
-use Rattle.engine_support.specs.WholeLines.{whole_lines}
+use Rattle.engine_support.specs.Inputs.{whole_lines}
 pub use Rattle.engine_support.specs.Interactive.{EndsInteractive, OnRefused, OnStopped, OnUnwritten}
 
 -- whether a line ends the transcript

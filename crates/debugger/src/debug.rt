@@ -3,13 +3,12 @@
 ghost use Rattle.std.specs.Prelude.{◌≡◌, ◌≤◌, ◌⊎◌, ℕ, List, [], Ok, OnOk};
 ghost use Rattle.std.specs.Io.KnownBytes.{Appends};
 ghost use Rattle.recorder.specs.Versions.{schedule_value};
-ghost use Rattle.engine_support.specs.Inputs.{IsRefused};
-ghost use Rattle.engine_support.specs.Tests.{tests};
+ghost use Rattle.engine_support.specs.Inputs.{IsRefused, tests};
 ghost use Rattle.engine_support.specs.Faults.{AnswersAs};
 ghost use Rattle.engine_support.specs.Histories.{AnswersEvents, ByEvents};
 ghost use Rattle.debugger.specs.Transcripts.{EndsInteractive, IsDebugAnswer, IsDebugFront, IsDebugSome, Leaves, OnRefused, OnStopped, OnUnwritten};
-ghost use Rattle.engine_support.specs.inner.Making.{FindsUpToReads};
-ghost use Rattle.debugger.specs.inner.Failures.{IsAtStart};
+ghost use Rattle.engine_support.specs.inner.{FindsUpToReads};
+ghost use Rattle.debugger.specs.inner.{IsAtStart};
 ghost use Rattle.litmus.specs.declared.litmus_test.TheConstants.{MAX_LOCATIONS};
 
 use crate::debug::conversation::converse;

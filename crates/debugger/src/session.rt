@@ -4,9 +4,9 @@ ghost use Rattle.std.specs.Prelude.{◌≡◌, ◌≤◌, ◌<◌, ◌/◌, ◌�
 ghost use Rattle.std.specs.List.{slice_get};
 ghost use Rattle.step_machine.specs.History.{FitsIn};
 ghost use Rattle.step_machine.specs.Runs.{Happens, Run};
-ghost use Rattle.debugger.specs.inner.SnapshotsHeld.{HasSnapshots};
+ghost use Rattle.debugger.specs.inner.{HasSnapshots};
 ghost use Rattle.debugger.specs.Sessions.{past_at_opening, GoesForward, GoesBack};
-ghost use Rattle.debugger.specs.Nearest.{snapshot_before, IsNearest};
+ghost use Rattle.debugger.specs.Sessions.{snapshot_before, IsNearest};
 ghost use Rattle.debugger.specs.declared.session.TheConstants.{SNAPSHOT_EVENTS};
 
 use std::alloc::{AllocError, Global};
@@ -29,7 +29,7 @@ pub struct Session<const B: usize, const M: usize> {
 impl<const B: usize, const M: usize> Model for Session<B, M> {
     ghost use Rattle.step_machine.specs.Runs.{Run};
     ghost use Rattle.debugger.specs.Sessions.{Past};
-    ghost use Rattle.debugger.specs.inner.SnapshotsHeld.{HasSnapshots};
+    ghost use Rattle.debugger.specs.inner.{HasSnapshots};
 
     ghost Value = { Past };
 

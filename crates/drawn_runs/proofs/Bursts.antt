@@ -1,11 +1,13 @@
 -- Events that are drawn in bursts, one more at a time.
-use Rattle.std.proofs.Common.{◌≡◌, ℕ, ◌+◌, List, [], ◌∷◌, ◌++◌, refl, sym, ap, ap₂, ◌∙◌, add-one}
+use Rattle.std.proofs.Common.{◌≡◌, ℕ, ◌+◌, List, [], ◌∷◌, ◌++◌, refl, sym, ap, ap₂, ◌∙◌, add-one, subst}
 use Rattle.rand_core.specs.Stream.{Stream, next_u32}
 use Rattle.step_machine.specs.declared.events.Event.{Event}
 use Rattle.recorder.specs.Drawing.{drawn_words, left_after}
 use Rattle.recorder.proofs.Drawn.{words-suc}
 use Rattle.drawn_runs.specs.declared.draws.Burst.{Burst}
 use Rattle.drawn_runs.specs.Draws.{burst_event, burst_after, burst_events, no_burst}
+use Rattle.step_machine.specs.declared.events.Outcome.{Outcome}
+use Rattle.step_machine.specs.Names.{History, Happens, RunFrom}
 
 -- the burst after these words
 abbrev pub burst_in : (harts : ℕ) → Burst → List ℕ → Burst
@@ -50,3 +52,20 @@ bursts-more harts i word first before after old new burst one so_far was given d
       burst_is = ap (λ (p : Event × Burst). p.1) drawn ∙ ap (λ (b : Burst). burst_after harts b word) so_far.burst_is
           ∙ sym (burst-more harts no_burst (drawn_words i first) word) ∙ ap (burst_in harts no_burst) (sym words);
     }
+
+-- ---- a run and its last event
+
+-- the history before the last event, and what then happened
+pub record LastHappens (B M : ℕ) (t : History) (events : List Event) (event : Event) (new : History) : Type 0 where
+  pub before : History
+  pub outcome : Outcome
+  pub ran : RunFrom B M t events before
+  pub happens : Happens B M before event outcome new
+
+pub last_happens : (B M : ℕ) (t : History) (events : List Event) (event : Event) (new : History) → RunFrom B M t (events ++ event ∷ []) new
+    → LastHappens B M t events event new
+last_happens B M t [] event new run =
+    record { before = t; outcome = run.0; ran = refl; happens = subst (λ (u : History). Happens B M t event run.0 u) (sym run.3) run.2 }
+last_happens B M t (e ∷ events) event new run =
+    let rest = last_happens B M run.1 events event new run.3 in
+    record { before = rest.before; outcome = rest.outcome; ran = (run.0, run.1, run.2, rest.ran); happens = rest.happens }

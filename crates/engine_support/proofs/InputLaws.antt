@@ -3,8 +3,8 @@ use Rattle.std.proofs.Common.{arith, ◌≡◌, ℕ, List, Result, Ok, Err, sym,
 use Rattle.std.specs.Prelude.{Option, Some, IsErrAnd, IsOkAnd}
 use Rattle.std.specs.Result.{IsErr}
 use Rattle.texts.specs.Results.{map_err}
-use Rattle.engine_support.specs.{Fault, Refusal, AcceptedInput, decoded, AnswersAs, After, Format, IsRefused, Reads, format, refused, read, FindsUpToReads}
-use Rattle.engine_support.specs.{BySchedule, schedules, litmus_texts, tests, tests_with}
+use Rattle.engine_support.specs.{Fault, Refusal, AcceptedInput, decoded, AnswersAs, After, Format, IsRefused, Reads, format, schedules, litmus_texts, tests}
+use Rattle.engine_support.specs.{tests_with, refused, read, FindsUpToReads, BySchedule}
 use Rattle.engine_support.proofs.Endings.{answered_by, handed_on, is_handed}
 use Rattle.engine_support.proofs.Judging.{decoded-text}
 use Rattle.engine_support.proofs.OneInput.{one_number, one_refusal, schedule-or_refusal, test_or_refusal, value_or_refusal}

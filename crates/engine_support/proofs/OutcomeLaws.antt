@@ -1,8 +1,8 @@
 -- The rows of a table are the lines of what is counted.
 use Rattle.std.proofs.Common.{◌≡◌, ℕ, zero, suc, ◌<◌, Bool, true, false, cond, List, [], ◌∷◌, ◌++◌, length, map, get_or, All, Option, Some, option_map, refl}
-use Rattle.std.proofs.Common.{sym, ap, ◌∙◌, subst, arith}
+use Rattle.std.proofs.Common.{sym, ap, ◌∙◌, subst, arith, ◌+◌, append_assoc}
 use Rattle.std.specs.Prelude.{is_some, Contains}
-use Rattle.std.specs.List.{flat_map, AllByRecursion}
+use Rattle.std.specs.List.{flat_map, AllByRecursion, range_with_len}
 use Rattle.std.specs.List.Sorted.{IsStrictlySortedBy}
 use Rattle.std.specs.declared.cmp.Ordering.TheVariants.{Less}
 use Rattle.std.specs.Ordering.{nat_cmp}
@@ -13,6 +13,7 @@ use Rattle.std.proofs.lemmas.List.Elements.{All-tail}
 use Rattle.litmus.specs.LitmusTests.{LitmusTest}
 use Rattle.engine_support.specs.{Row, AreCountedLines, counted_by, counted_line, counted_of, is_key, AreFound, order, row_line}
 use Rattle.engine_support.proofs.Rows.{same_is, same_itself}
+use Rattle.std.proofs.lemmas.List.{append-nil}
 
 abbrev Rows : Type 0 → Type 0
 Rows F = List (Vec ℕ × Row F)
@@ -88,3 +89,23 @@ module _ {F : Type 0} (name : F → List ℕ) where
     );
     text_is = rows-are test rows rows found;
   }
+
+-- ---- lists made number by number
+
+flat_map_from : (f : ℕ → List ℕ) (a n : ℕ) → flat_map f (range_with_len a (suc n)) ≡ flat_map f (range_with_len a n) ++ f (a + n)
+flat_map_from f a zero = append-nil (f a) ∙ ap f (let e : a ≡ a + 0 = omega arith in e)
+flat_map_from f a (suc n) = grind (arith, append_assoc, flat_map_from f (a + 1) n)
+
+-- one number more
+pub flat_map_counted : (f : ℕ → List ℕ) (n : ℕ) → flat_map f (range_with_len 0 (n + 1)) ≡ flat_map f (range_with_len 0 n) ++ f n
+flat_map_counted f n = grind (arith, flat_map_from)
+
+-- ---- a text to which line by line is added
+
+-- nothing yet
+pub none_added : (old shown : List ℕ) → shown ≡ [] → old ≡ old ++ shown
+none_added old shown none = sym (append-nil old) ∙ ap (λ (xs : List ℕ). old ++ xs) (sym none)
+
+-- one line more
+pub one_added : (old mid new shown more line : List ℕ) → mid ≡ old ++ shown → new ≡ mid ++ line → more ≡ shown ++ line → new ≡ old ++ more
+one_added old mid new shown more line before added is = grind (arith, append_assoc)

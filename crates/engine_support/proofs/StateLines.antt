@@ -5,7 +5,7 @@ use Rattle.hart.specs.State.{HartState}
 use Rattle.hart.specs.declared.status.Status.{Status}
 use Rattle.step_machine.specs.Names.{History, memory_word}
 use Rattle.engine_support.specs.StateText.{hart_line, register_line, word_line, registers_shown, hart_text, hart_shown, harts_shown, words_shown}
-use Rattle.engine_support.proofs.Counted.{flat_map_counted}
+use Rattle.engine_support.proofs.OutcomeLaws.{flat_map_counted}
 
 pub registers_shown-none : (o : Option HartState) → registers_shown o 0 ≡ []
 unfolding registers_shown

@@ -1,5 +1,5 @@
 -- Faults, their exit statuses and the refusals that all inputs share.
-use Rattle.std.specs.Prelude.{ℕ, ◌≡◌, Result, Ok, Err}
+use Rattle.std.specs.Prelude.{ℕ, ◌≡◌, Result, Ok, Err, Option}
 use Rattle.texts.specs.declared.errors.AtLine.{AtLine}
 use Rattle.texts.specs.declared.errors.TextError.{TextError}
 use Rattle.texts.specs.declared.errors.TextError.TheVariants as error
@@ -7,6 +7,8 @@ use Rattle.engine_support.specs.declared.fault.Fault.{Fault}
 use Rattle.engine_support.specs.declared.fault.Fault.TheVariants.{ReadFailed, WriteFailed, NoMemory, Refused}
 use Rattle.engine_support.specs.declared.fault.Refusal.{Refusal}
 use Rattle.engine_support.specs.declared.fault.Position.TheVariants.{Nowhere, Line}
+use Rattle.texts.specs.Results.{map_err}
+use Rattle.texts.specs.Formats.{or_fault}
 
 -- the exit status of a program that ends with a fault
 abbrev pub status_of : Fault → ℕ
@@ -49,3 +51,23 @@ AnswersBy IsAnswer IsOf (Err fault) = AnswersAs IsAnswer (λ y. y) (Err fault)
 -- and is this answer
 abbrev pub Answers : {X Y : Type 0} → (X → Y) → Result X Fault → Result Y Refusal → Type 0
 Answers view result answer = AnswersAs (λ given. answer ≡ given) view result
+
+-- ---- faults of a line: the numbers of their refusals, and the refusals of the input
+
+-- a line that no rule allows
+abbrev pub bad_line : ℕ
+bad_line = 34
+
+abbrev pub or_bad : {A : Type 0} → Option A → Result A ℕ
+or_bad option = or_fault bad_line option
+
+-- a line's fault, by its number, is refused at the line
+abbrev pub refused_on : (line number : ℕ) → Refusal
+refused_on line number = record { number = number; place = Line line }
+
+abbrev pub at_line : {A : Type 0} → ℕ → Result A ℕ → Result A Refusal
+at_line line result = map_err (refused_on line) result
+
+-- the input's fault where the line of this number has this fault
+abbrev pub fault_at : ℕ → TextError ℕ → Fault
+fault_at line fault = fault_for (refused_on line) fault

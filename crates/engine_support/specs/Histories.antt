@@ -5,10 +5,8 @@ use Rattle.step_machine.specs.declared.events.Event.{Event}
 use Rattle.litmus.specs.LitmusTests.{LitmusTest}
 use Rattle.recorder.specs.Versions.{ScheduleValue, events_of_schedule}
 use Rattle.engine_support.specs.declared.fault.Refusal.{Refusal}
-use Rattle.engine_support.specs.Inputs.{After}
+use Rattle.engine_support.specs.Inputs.{After, schedules, tests}
 use Rattle.engine_support.specs.Runs.{Runs}
-use Rattle.engine_support.specs.Schedules.{schedules}
-use Rattle.engine_support.specs.Tests.{tests}
 
 -- What answers a litmus text and a schedule of either version, where this holds of their test, of what the
 -- schedule says and of the answer. The test is judged first, then the schedule's text.

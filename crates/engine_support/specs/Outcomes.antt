@@ -1,13 +1,19 @@
--- The table of outcomes: how often each came, and what names the first run that gave it.
-use Rattle.std.specs.Prelude.{ℕ, ◌↔◌, IsTrue, Bool, List, ◌∷◌, [], ◌++◌, zip, Contains, codes}
+-- The places that a test asks for, as texts. The table of outcomes: how often each came, and what names the
+-- first run that gave it.
+use Rattle.std.specs.Prelude.{ℕ, ◌/◌, List, [], ◌++◌, slice_index_or, codes, ◌↔◌, IsTrue, Bool, ◌∷◌, zip, Contains}
+use Rattle.std.specs.Fmt.{decimal}
+use Rattle.litmus.specs.declared.symbols.Place.{Place}
+use Rattle.litmus.specs.declared.symbols.Place.TheVariants as place
 use Rattle.std.specs.List.{flat_map, list_any}
 use Rattle.std.specs.List.Sorted.{IsStrictlySortedBy}
 use Rattle.std.specs.Ordering.{nat_cmp}
 use Rattle.std.specs.Cmp.Lexicographic.{slice_cmp}
-use Rattle.std.specs.Fmt.{decimal}
 use Rattle.litmus.specs.LitmusTests.{LitmusTest, left_sides}
-use Rattle.litmus.specs.declared.symbols.Place.{Place}
-use Rattle.engine_support.specs.Places.{place_text}
+
+-- a register as `H:xN`, a word as the name of its location
+abbrev pub place_text : (names : List (List ℕ)) → Place → List ℕ
+place_text names (place.Register h n) = decimal h ++ codes ":x" ++ decimal n
+place_text names (place.Word a) = slice_index_or names (a / 4) []
 
 -- ` LEFT=VALUE`, a place and its value
 abbrev pub value_text : (names : List (List ℕ)) → Place × ℕ → List ℕ

@@ -2,7 +2,7 @@
 
 ghost use Rattle.std.specs.Prelude.{◌≡◌};
 ghost use Rattle.engine_support.specs.Faults.{status_of};
-ghost use Rattle.engine_support.specs.LineFaults.{fault_at};
+ghost use Rattle.engine_support.specs.Faults.{fault_at};
 ghost use Rattle.engine_support.specs.declared.fault.Fault.TheVariants.{NoMemory, Refused};
 
 use std::alloc::{AllocError, AllocFailed};

@@ -4,9 +4,8 @@ ghost use Rattle.std.specs.Prelude.{◌≤◌, IfOk, length};
 ghost use Rattle.std.specs.String.{string_bytes};
 ghost use Rattle.std.specs.Io.KnownBytes.{IsAtEnd};
 ghost use Rattle.engine_support.specs.Engines.{OfInput};
-ghost use Rattle.engine_support.specs.Input.{IsInput, TakesFew};
-ghost use Rattle.engine_support.specs.inner.Inputs.{ReadsText};
-ghost use Rattle.engine_support.specs.inner.Making.{FindsUpToReads};
+ghost use Rattle.engine_support.specs.Inputs.{IsInput, TakesFew};
+ghost use Rattle.engine_support.specs.inner.{ReadsText, FindsUpToReads};
 ghost use Rattle.engine_support.specs.declared.input.TheConstants.{INPUT_BYTES};
 
 use crate::fault::{Fault, NOT_TEXT, Position, TOO_LARGE};

@@ -2,9 +2,8 @@
 
 ghost use Rattle.std.specs.Prelude.{◌≡◌, ◌≢◌, ◌<◌, ◌≤◌, ◌+◌, ◌-◌, ◌++◌, ℕ, List, All, false, IfErr, IfOk, IfSome, OnErr, OnOk, length, take};
 ghost use Rattle.std.specs.Io.BufRead.{take_through, DropsThrough};
-ghost use Rattle.engine_support.specs.Input.{kept_of};
-ghost use Rattle.engine_support.specs.inner.Failures.{IsReadFailure};
-ghost use Rattle.engine_support.specs.inner.LineParts.{IsPart};
+ghost use Rattle.engine_support.specs.Inputs.{kept_of};
+ghost use Rattle.engine_support.specs.inner.{IsReadFailure, IsPart};
 ghost use Rattle.engine_support.specs.declared.input.TheConstants.{INPUT_BYTES};
 
 use crate::fault::Fault;

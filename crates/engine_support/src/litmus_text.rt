@@ -5,10 +5,8 @@ ghost use Rattle.std.specs.Io.KnownBytes.{IsAtEnd};
 ghost use Rattle.litmus_reader.specs.Reading.{content_of};
 ghost use Rattle.litmus_reader.specs.Grammar.{IsTestOf};
 ghost use Rattle.engine_support.specs.Faults.{Answers};
-ghost use Rattle.engine_support.specs.Tests.{test_of, tests};
-ghost use Rattle.engine_support.specs.Input.{TakesFew};
-ghost use Rattle.engine_support.specs.Inputs.{IsRefused, Reads};
-ghost use Rattle.engine_support.specs.inner.Making.{FindsUpToReads};
+ghost use Rattle.engine_support.specs.Inputs.{test_of, tests, TakesFew, IsRefused, Reads};
+ghost use Rattle.engine_support.specs.inner.{FindsUpToReads};
 
 use crate::fault::Fault;
 use crate::input::read_text;
@@ -17,7 +15,7 @@ use std::alloc::Global;
 use std::io::Read;
 
 /// A refusal has its line, which the clause leaves open.
-#[tactic(auto, unfolding(crate::specs::Tests::test_of))]
+#[tactic(auto, unfolding(crate::specs::Inputs::test_of))]
 fn test_of_text(alloc: Global, text: &str) -> Result<Test, Fault>
     ensures found { IfOk result (λ test. IsTestOf text.now test) }
     ensures exact { (line : ℕ) × Answers content_of result (test_of line text.now) }

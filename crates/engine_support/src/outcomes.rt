@@ -6,7 +6,7 @@ ghost use Rattle.std.specs.Io.KnownBytes.{Appends};
 ghost use Rattle.litmus.specs.LitmusTests.{IsThere, left_sides};
 ghost use Rattle.engine_support.specs.Outcomes.{line_of, value_text};
 ghost use Rattle.engine_support.specs.Counting.{AreCountedLines, counted, counted_both, counted_by, counted_of, Counts, rows_in};
-ghost use Rattle.engine_support.specs.inner.Rows.{lines_in};
+ghost use Rattle.engine_support.specs.inner.{lines_in};
 
 use crate::places::write_place;
 use litmus::{Place, Test};

@@ -1,6 +1,6 @@
 //! How each command ends.
 
-ghost use Rattle.engine_support.specs.inner.Making.{IsEndOf, text_and_value};
+ghost use Rattle.engine_support.specs.inner.{IsEndOf, text_and_value};
 
 use crate::fault::Fault;
 use std::io::Write;

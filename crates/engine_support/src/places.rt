@@ -4,7 +4,7 @@ ghost use Rattle.std.specs.Prelude.{◌≡◌, ◌++◌, length, OnErr, OnOk};
 ghost use Rattle.std.specs.String.{string_bytes};
 ghost use Rattle.std.specs.Io.KnownBytes.{Appends};
 ghost use Rattle.litmus.specs.LitmusTests.{IsThere};
-ghost use Rattle.engine_support.specs.Places.{place_text};
+ghost use Rattle.engine_support.specs.Outcomes.{place_text};
 
 use litmus::{Place, Test};
 use std::alloc::AllocError;

@@ -9,12 +9,10 @@ ghost use Rattle.recorder.specs.Versions.{ScheduleValue, events_of_schedule, sch
 ghost use Rattle.recorder.specs.declared.reading.TheConstants.{MAX_EVENTS};
 ghost use Rattle.engine_support.specs.Faults.{AnswersAs, AnswersBy};
 ghost use Rattle.engine_support.specs.Histories.{BySchedule};
-ghost use Rattle.engine_support.specs.Inputs.{IsRefused};
-ghost use Rattle.engine_support.specs.Tests.{tests};
+ghost use Rattle.engine_support.specs.Inputs.{IsRefused, tests};
 ghost use Rattle.engine_support.specs.Runs.{Records, Runs, fault_of_check};
 ghost use Rattle.engine_support.specs.declared.fault.Refusal.{Refusal};
-ghost use Rattle.engine_support.specs.inner.Making.{FindsUpToReads};
-ghost use Rattle.engine_support.specs.inner.Inputs.{AreRead, test_and_value};
+ghost use Rattle.engine_support.specs.inner.{FindsUpToReads, AreRead, test_and_value};
 ghost use Rattle.litmus.specs.declared.litmus_test.TheConstants.{MAX_LOCATIONS};
 
 use crate::fault::{DIFFERS, Fault, Position};

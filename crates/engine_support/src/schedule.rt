@@ -6,10 +6,8 @@ ghost use Rattle.recorder.specs.Schedule.{OfHarts};
 ghost use Rattle.recorder.specs.Versions.{SaysSchedule, events_of_schedule, schedule_value};
 ghost use Rattle.recorder.specs.declared.reading.TheConstants.{MAX_EVENTS};
 ghost use Rattle.engine_support.specs.Faults.{Answers, fault_for};
-ghost use Rattle.engine_support.specs.Schedules.{refused_at_byte, schedule_of as schedule_in_text, schedules};
-ghost use Rattle.engine_support.specs.Input.{TakesFew};
-ghost use Rattle.engine_support.specs.Inputs.{IsRefused, Reads};
-ghost use Rattle.engine_support.specs.inner.Making.{FindsUpToReads};
+ghost use Rattle.engine_support.specs.Inputs.{refused_at_byte, schedule_of as schedule_in_text, schedules, TakesFew, IsRefused, Reads};
+ghost use Rattle.engine_support.specs.inner.{FindsUpToReads};
 
 use crate::fault::{Fault, Position};
 use crate::input::read_text;
@@ -32,7 +30,7 @@ impl From<ScheduleError> for Fault {
 }
 
 /// What a text says as a schedule of either version.
-#[tactic(auto, unfolding(crate::specs::Schedules::schedule_of))]
+#[tactic(auto, unfolding(crate::specs::Inputs::schedule_of))]
 fn schedule_of_text(alloc: Global, text: &str) -> Result<Schedule, Fault>
     ensures found { IfOk result (λ schedule. SaysSchedule text.now (schedule_value schedule)) }
     ensures exact { Answers schedule_value result (schedule_in_text text.now) }

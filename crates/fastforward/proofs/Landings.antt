@@ -4,8 +4,7 @@ use Rattle.std.specs.Prelude.{slice_index}
 use Rattle.std.specs.List.{slice_get}
 use Rattle.std.proofs.lemmas.Bool.{cases_lt, cases_eq}
 use Rattle.poll_close.specs.Invariant.Blocks.{SenderBlock, offset, slot}
-use Rattle.poll_close.proofs.Writes.{IsWrite, hit, miss, same_write}
-use Rattle.poll_close.proofs.Blocks.{IsBlock}
+use Rattle.poll_close.proofs.Blocks.{IsWrite, hit, miss, same_write, IsBlock}
 use Rattle.poll_close.proofs.BlockLaws.{Lands}
 use Rattle.fastforward.specs.{fastforward_blocks, sender_stores, receiver_stores, Counters, sent, gone, nulls, taken_so_far, freed, CounterInvariant, Words}
 use Rattle.fastforward.proofs.Stores.{slots_apart, slot-again, store_word, store_mark, store_null, store_tail, store_done}

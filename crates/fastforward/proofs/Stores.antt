@@ -7,7 +7,7 @@ use Rattle.poll_close.specs.Invariant.Blocks.{SenderBlock, offset, slot, slot_st
 use Rattle.step_machine.proofs.Modulo.{mod_apart}
 use Rattle.poll_close.proofs.Windows.{Each, single_at, single_last, first_at, second_at, pair_last, pair_is, singles-each, pairs-each}
 use Rattle.poll_close.proofs.Blocks.{IsBlock, IsStore, offset_small, word_of, slot_of}
-use Rattle.fastforward.specs.Invariant.Stores.{null_store, sender_stores, receiver_stores}
+use Rattle.fastforward.specs.Invariant.{null_store, sender_stores, receiver_stores}
 
 -- words less than a round apart have different slots, and a round on is the same slot
 pub slots_apart : (S b i j : ℕ) → 0 < S → i < j → j < i + S → slot S b i ≢ slot S b j

@@ -7,10 +7,8 @@ use Rattle.poll_close.specs.Waiting.{waits_at}
 use Rattle.poll_close.specs.Invariant.BlockInvariant.{BlockInvariant, ranking_of}
 use Rattle.poll_close.specs.Invariant.Channels.{means_by}
 use Rattle.fastforward.specs.Listing.{ring_lines}
-use Rattle.fastforward.specs.Invariant.Stores.{sender_stores, receiver_stores}
-use Rattle.fastforward.specs.Invariant.Counters.{Landed, sent, gone, taken_so_far, freed, CounterInvariant, Words}
+use Rattle.fastforward.specs.Invariant.{sender_stores, receiver_stores, Landed, sent, gone, taken_so_far, freed, CounterInvariant, Words, Level, Filled, rows}
 use Rattle.fastforward.specs.Invariant.Sender.{sender}
-use Rattle.fastforward.specs.Invariant.RingLines.{Level, Filled, rows}
 
 -- it is about to read its slot, and will find a word there
 abbrev pub waits : HartState → (ℕ → ℕ) → Bool

@@ -8,7 +8,7 @@
 
 ghost use Rattle.rv_decode.specs.Listings.{lines_of};
 ghost use Rattle.fastforward.specs.Listing.{listing, fastforward};
-ghost use Rattle.poll_close.specs.Means.{AllMean};
+ghost use Rattle.poll_close.specs.Listing.{AllMean};
 
 use poll_close::{Finish, RingKind, is_ready_at, receiver};
 use step_machine::Machine;
@@ -62,7 +62,7 @@ impl<const B: usize, const M: usize> Finish<B, M> for FastForward {
 }
 
 /// Each word of the ring's tables means its line's instruction. It does nothing.
-#[tactic(auto, using(crate::proofs::Means::sender_decoded, crate::proofs::Means::receiver_decoded, poll_close::proofs::Means::all_mean))]
+#[tactic(auto, using(crate::proofs::Means::sender_decoded, crate::proofs::Means::receiver_decoded, poll_close::proofs::SenderLines::all_mean))]
 pub fn tables_mean()
     ensures sender { AllMean fastforward.sender (lines_of listing.sender) }
     ensures receiver { AllMean fastforward.receiver (lines_of listing.receiver) }

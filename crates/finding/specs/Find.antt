@@ -9,8 +9,7 @@ use Rattle.recorder.specs.declared.reading.TheConstants.{MAX_EVENTS}
 use Rattle.surveys.specs.Wanted.{EndsAsWanted, IsCutShort, Shows}
 use Rattle.engine_support.specs.declared.fault.Refusal.{Refusal}
 use Rattle.engine_support.specs.Faults.{too_large}
-use Rattle.engine_support.specs.Inputs.{After}
-use Rattle.engine_support.specs.Tests.{tests}
+use Rattle.engine_support.specs.Inputs.{After, tests}
 use Rattle.engine_support.specs.declared.input.TheConstants.{INPUT_BYTES}
 use Rattle.finding.specs.declared.finds.Found.{Found}
 use Rattle.finding.specs.declared.finds.Found.TheVariants.{Shown, AllSeen, Cut}

@@ -3,7 +3,7 @@
 ghost use Rattle.std.specs.Prelude.{◌≡◌, ◌≤◌, ◌↔◌, if◌then◌else◌, IsTrue, IfOk};
 ghost use Rattle.engine_support.specs.Engines.{Ends};
 ghost use Rattle.engine_support.specs.Faults.{AnswersAs};
-ghost use Rattle.engine_support.specs.inner.Making.{FindsUpToReads, text_and_value};
+ghost use Rattle.engine_support.specs.inner.{FindsUpToReads, text_and_value};
 ghost use Rattle.finding.specs.declared.finds.Found.TheVariants.{AllSeen, Cut};
 ghost use Rattle.finding.specs.Find.{IsFindAnswer, IsFindGiven};
 ghost use Rattle.surveys.specs.Wanted.{Shows};

@@ -1,4 +1,3 @@
 pub mod Needs
 pub mod Advances
 pub mod Instructions
-pub mod PutBack

@@ -12,7 +12,7 @@ use Rattle.step_machine.specs.History.{OpeningValue}
 use Rattle.hart_threads.specs.{SeatView, Continues, is_missing, IsFirst, IsComplete, sits_at, acts_for, lands_for, HoldsPart, Merge, Refuses, GrowsInto}
 use Rattle.hart_threads.specs.{IsMerged, Fails, fault_of, Gather}
 use Rattle.hart_threads.specs.declared.record.Gather.TheVariants as gather
-use Rattle.hart_threads.proofs.FirstMissing.{missing_past}
+use Rattle.hart_threads.proofs.Least.{missing_past}
 
 -- ---- two lists, element by element
 

@@ -1,5 +1,4 @@
 pub mod Least
-pub mod FirstMissing
 pub mod Diaries
 pub mod Coming
 pub mod OnPaths
@@ -8,6 +7,5 @@ pub mod GettingOn
 pub mod Replays
 pub mod SeatsBelow
 pub mod Fresh
-pub mod OverChannels
 pub mod Returning
 pub mod Made

@@ -5,8 +5,11 @@ use Rattle.step_machine.specs.declared.events.Entry.{Entry}
 use Rattle.step_machine.specs.declared.events.Event.{Event}
 use Rattle.step_machine.specs.declared.events.Outcome.{Outcome}
 use Rattle.step_machine.specs.declared.events.Outcome.TheVariants as outcome
-use Rattle.step_machine.specs.Names.{OpeningValue, History, history_of, hart_of, WellFormed, CanFollow, Happens, event_of}
+use Rattle.step_machine.specs.Names.{OpeningValue, History, history_of, hart_of, WellFormed, CanFollow, Happens, event_of, Run}
 use Rattle.step_machine.proofs.{kept-front, added, happens-one}
+use Rattle.poll_close.specs.Layout.{Layout}
+use Rattle.poll_close.specs.Laws.{Ring, opening_over, AcceptedAt}
+use Rattle.hart_threads.specs.{ChannelFault, Record, IsRecord, channel_fault_at, RecordFails, ChannelFailsAt}
 
 -- each of its entries can follow those before it
 follows : (B M : ℕ) (o : OpeningValue) (es : List Entry) (i : ℕ) (d : Entry) → i < length es
@@ -24,3 +27,14 @@ pub other_made : (B M : ℕ) (o : OpeningValue) (es : List Entry) (i : ℕ) (d :
     (out : Outcome) → i < length es → t ≡ history_of o (take i es) → ev ≡ event_of (get_or es i d)
     → Happens B M t ev out new → (out ≡ outcome.Did (get_or es i d) → ⊥) → WellFormed B M (history_of o es) → ⊥
 other_made B M o es i d t new ev out within is next happens other kept = grind (arith, get_or, happens-one, added, follows)
+
+-- ---- a record of a channel's opening is a run of it, so that the laws of channels speak of it
+
+pub run_of : (B M : ℕ) (o p : OpeningValue) (r : Record B M) → o ≡ p → IsRecord B M o r → Run B M p r.events.items r.trace
+run_of B M o p r is made = subst (λ (q : OpeningValue). Run B M q r.events.items r.trace) is made.run
+
+-- a channel that opens and gives no record has a fault of threads, or memory ran out
+pub channel_fails_at : (ring : Ring) (B M n : ℕ) (l : Layout) (lists : List (List ℕ)) (o : OpeningValue) (e : ChannelFault)
+    → o ≡ opening_over ring lists l → AcceptedAt ring M lists l → RecordFails B M n o e
+    → ChannelFailsAt ring B M n lists l (channel_fault_at e)
+channel_fails_at ring B M n l lists o e is accepted fails = grind arith

@@ -4,11 +4,9 @@ ghost use Rattle.std.specs.Prelude.{◌≡◌, ◌≤◌, IfOk, IfErr, OnOk, map
 ghost use Rattle.step_machine.specs.History.{FitsIn};
 ghost use Rattle.step_machine.specs.Entries.{reported};
 ghost use Rattle.poll_close.specs.Laws.{opening_of, opening_over, Accepted, AcceptedAt};
-ghost use Rattle.poll_close.specs.Layout.{dense};
-ghost use Rattle.poll_close.specs.Places.{layout_of};
-ghost use Rattle.poll_close.specs.Going.{AllGoOn};
-ghost use Rattle.poll_close.specs.Reports.{Clean};
-ghost use Rattle.poll_close.specs.Touching.{AllTouch};
+ghost use Rattle.poll_close.specs.Layout.{dense, layout_of, AllTouch};
+ghost use Rattle.poll_close.specs.Standing.{AllGoOn};
+ghost use Rattle.poll_close.specs.Delivery.{Clean};
 ghost use Rattle.hart_threads.specs.Records.{IsRecord};
 ghost use Rattle.hart_threads.specs.GettingOn.{AllGetOn, AtMost};
 ghost use Rattle.hart_threads.specs.Returns.{RecordFails, ChannelFails, ChannelFailsAt};
@@ -95,7 +93,7 @@ pub fn deliver_threads_at<
 
 /// The same through rings of `ring` slots in the dense layout, where all memory is zero. Lists are refused as
 /// [`opening`](poll_close::opening) refuses them.
-#[tactic(auto, using(poll_close::proofs::Dense::dense_refusal))]
+#[tactic(auto, using(poll_close::proofs::Opened::dense_refusal))]
 pub fn deliver_threads<
     K: RingKind,
     const B: usize,

@@ -6,8 +6,8 @@ ghost use Rattle.hart_threads.specs.Missing.{is_missing, IsComplete, IsFirst};
 ghost use Rattle.hart_threads.specs.Records.{IsRecord};
 ghost use Rattle.hart_threads.specs.GettingOn.{SeatGetsOn, OpensAs};
 ghost use Rattle.hart_threads.specs.Returns.{IsMerged, Fails};
-ghost use Rattle.hart_threads.specs.inner.Searches.{Found};
-ghost use Rattle.hart_threads.specs.inner.Threads.{Ran};
+ghost use Rattle.hart_threads.specs.inner.{Found};
+ghost use Rattle.hart_threads.specs.inner.{Ran};
 ghost use Rattle.hart_threads.specs.declared.turns.Ending.TheVariants as ending;
 
 use crate::fault::Fault;
@@ -41,7 +41,7 @@ struct Pledge<G: Gate, const M: usize> {
 }
 
 impl<G: Gate, const M: usize> Promise<Returned<M>> for Pledge<G, M> {
-    ghost use Rattle.hart_threads.specs.inner.Threads.{Ran};
+    ghost use Rattle.hart_threads.specs.inner.{Ran};
 
     ghost kept_by = { λ p r. Ran (G.is_open p.gate.value) p.turns p.given.value.seat r.1 r.2 r.0.seat };
 }

@@ -2,7 +2,7 @@
 
 ghost use Rattle.std.specs.Prelude.{◌≡◌, ◌≤◌, ◌<◌, MatchOption};
 ghost use Rattle.hart_threads.specs.Missing.{is_missing, is_seated, IsFirst, IsComplete};
-ghost use Rattle.hart_threads.specs.inner.Searches.{lesser, Found};
+ghost use Rattle.hart_threads.specs.inner.{lesser, Found};
 
 use crate::seat::Seat;
 

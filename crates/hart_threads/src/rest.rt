@@ -1,7 +1,7 @@
 //! A diary as it is read.
 
 ghost use Rattle.std.specs.Prelude.{◌≡◌, drop, slice_get};
-ghost use Rattle.hart_threads.specs.inner.Searches.{counting_entries};
+ghost use Rattle.hart_threads.specs.inner.{counting_entries};
 
 use std::marker::Model;
 use step_machine::Entry;

@@ -4,14 +4,14 @@
 //! lander has no gate, so it never ends so: that is its clause `free`. Else a thread ends by what its last call
 //! answered, or once its turns are done.
 //!
-//! The clauses' words are in `specs/inner/Threads.antt`. `IsEnding n e calls`: a thread with n turns ends as e after
+//! The clauses' words are in `specs/inner.antt`. `IsEnding n e calls`: a thread with n turns ends as e after
 //! these calls. `GotOn n s t`: from seat s to seat t the hart did n instructions, or is over, or came to one that may
 //! have to wait. `WhereDone e P`: P holds unless e is for want of memory or of the hart in the bank. `ActsAlone`: what
 //! needs no memory is done whatever the bank answers. `Ran` is what a whole thread makes of its seat.
 
 ghost use Rattle.std.specs.Prelude.{◌≡◌, ◌<◌, ◌≤◌, ◌+◌, ◌-◌, ◌^◌, true, false, IfOk, IsSomeAnd};
 ghost use Rattle.hart_threads.specs.Seats.{SeatView, AnswersAct, AsksBank, Continues, Notes, state_in};
-ghost use Rattle.hart_threads.specs.inner.Threads.{ActsAlone, GotOn, IsEnding, Ran, WhereDone, ending_by, ending_of, last_answer, no_calls};
+ghost use Rattle.hart_threads.specs.inner.{ActsAlone, GotOn, IsEnding, Ran, WhereDone, ending_by, ending_of, last_answer, no_calls};
 ghost use Rattle.hart_threads.specs.declared.turns.Ending.TheVariants.{HeldBack, NoHart};
 
 use crate::gate::Gate;

@@ -3,7 +3,7 @@ use Rattle.std.proofs.Common.{ℕ, suc, ◌≡◌, ◌+◌, min, List, [], ◌�
 use Rattle.step_machine.specs.declared.events.Event.{Event}
 use Rattle.step_machine.specs.History.{OpeningValue, History, at_opening}
 use Rattle.step_machine.proofs.Running.{run-one}
-use Rattle.judged_runs.specs.Histories.{AreRuns, MOST, summed}
+use Rattle.judged_runs.specs.Telling.{AreRuns, MOST, summed}
 
 module _ (B M : ℕ) (o : OpeningValue) where
   pub runs_both : (all more : List (List Event)) (ts us : List History) → AreRuns B M o all ts → AreRuns B M o more us → AreRuns B M o (all ++ more) (ts ++ us)

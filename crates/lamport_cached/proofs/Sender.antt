@@ -2,11 +2,11 @@
 use Rattle.std.proofs.Common.{ℕ, suc, ◌+◌, ◌≡◌, ◌==◌, false, refl, sym, ◌∙◌, ap, arith}
 use Rattle.poll_close.proofs.Ring.{lines_of, SenderBlock, SenderRegisters, IsBlock, base_plus, word_of, slot_at, Sender, Rows, rows}
 use Rattle.poll_close.proofs.Outlines as outline
-use Rattle.lamport_ring.specs.Invariant.Counters.{Counters, CounterInvariant, Words}
+use Rattle.lamport_ring.specs.Invariant.{Counters, CounterInvariant, Words}
 use Rattle.lamport_ring.proofs.SenderSteps as step
 use Rattle.lamport_cached.specs.Listing.{listing}
 use Rattle.lamport_cached.specs.LamportCached.{lamport_cached_blocks}
-use Rattle.lamport_cached.proofs.Means.{sender_decoded}
+use Rattle.lamport_cached.proofs.LamportCachedLaws.{sender_decoded}
 
 abbrev pub sender : Sender lamport_cached_blocks
 sender = record { lines = lines_of listing.sender; decoded = sender_decoded }

@@ -1,7 +1,7 @@
 -- All rows of the sender's outline. They stand apart from their reasons: what refuses an edit there is then that row alone.
 use Rattle.std.proofs.Common.{ℕ}
 use Rattle.poll_close.proofs.Ring.{SenderBlock, SenderRegisters, Reasons, IsBlock, Right, ◌&◌}
-use Rattle.lamport_ring.specs.Invariant.Counters.{Counters, CounterInvariant, Words}
+use Rattle.lamport_ring.specs.Invariant.{Counters, CounterInvariant, Words}
 use Rattle.lamport_cached.specs.LamportCached.{lamport_cached_blocks}
 use Rattle.lamport_cached.specs.Invariant.Sender.{program}
 use Rattle.lamport_cached.proofs.Sender.{sender}

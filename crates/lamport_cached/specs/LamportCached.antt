@@ -3,7 +3,7 @@ use Rattle.poll_close.specs.Laws.{Meaning}
 use Rattle.poll_close.specs.Rankings.{Ranking}
 use Rattle.poll_close.specs.Invariant.BlockInvariant.{BlockInvariant, ranking_of}
 use Rattle.poll_close.specs.Invariant.Channels.{means_by}
-use Rattle.lamport_ring.specs.Invariant.Programs.{blocks_of}
+use Rattle.lamport_ring.specs.Invariant.{blocks_of}
 use Rattle.lamport_cached.specs.Invariant.Sender.{program}
 
 abbrev pub lamport_cached_blocks : BlockInvariant

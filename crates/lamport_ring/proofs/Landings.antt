@@ -4,11 +4,10 @@ use Rattle.std.specs.Prelude.{slice_index}
 use Rattle.std.specs.List.{slice_get}
 use Rattle.std.proofs.lemmas.Bool.{cases_lt, cases_eq}
 use Rattle.step_machine.proofs.Modulo.{mod_apart}
-use Rattle.poll_close.proofs.Writes.{IsWrite, hit, miss, same_write}
-use Rattle.lamport_ring.specs.{sender_stores, receiver_stores, Counters, sent, gone, freed, taken_so_far, CounterInvariant, Words, Program, blocks_of}
+use Rattle.poll_close.proofs.Blocks.{IsWrite, hit, miss, same_write, IsBlock}
+use Rattle.lamport_ring.specs.Invariant.{sender_stores, receiver_stores, Counters, sent, gone, freed, taken_so_far, CounterInvariant, Words, Program, blocks_of}
 use Rattle.lamport_ring.proofs.Stores.{store_slot, store_head, store_mark, store_tail, store_done}
 use Rattle.poll_close.specs.Invariant.Blocks.{SenderBlock, offset, slot}
-use Rattle.poll_close.proofs.Blocks.{IsBlock}
 use Rattle.poll_close.proofs.BlockLaws.{Lands}
 
 module _ (p : Program) (k : SenderBlock) (is : IsBlock k) (n : Counters) (order : CounterInvariant k n) (word new : ℕ → ℕ)

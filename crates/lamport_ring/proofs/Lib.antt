@@ -1,4 +1,3 @@
-pub mod Means
 pub mod Stores
 pub mod Landings
 pub mod ReceiverReads

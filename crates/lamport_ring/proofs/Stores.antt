@@ -5,7 +5,7 @@ use Rattle.std.specs.List.{slice_get}
 use Rattle.poll_close.specs.Invariant.Blocks.{SenderBlock, offset, slot, slot_store, tail_store}
 use Rattle.poll_close.proofs.Windows.{Each, single_at, single_last, first_at, second_at, pair_last, singles-each, pairs-each}
 use Rattle.poll_close.proofs.Blocks.{IsBlock, IsStore, offset_small, base_word, word_of, slot_of}
-use Rattle.lamport_ring.specs.Invariant.Stores.{head_store, sender_stores, receiver_stores}
+use Rattle.lamport_ring.specs.Invariant.{head_store, sender_stores, receiver_stores}
 
 module _ (k : SenderBlock) where
   pub store_slot : (i n : ℕ) → i < length k.list → n ≡ 2 * i → slice_get (sender_stores k) n ≡ Some (slot k.size k.base i, slice_index k.list i)

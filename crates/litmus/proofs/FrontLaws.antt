@@ -4,9 +4,9 @@ use Rattle.std.proofs.lemmas.List.{append-nil}
 use Rattle.litmus.specs.{Symbol, Formula, is, both, either, operand, conjunction, disjunction, Stands, atom, negated, one_operand, joined, one_conjunction}
 use Rattle.litmus.specs.{parted, IsConditionOf, Group, Stage, awaits, has, empty_group, negated_by, conjoined, disjoined, conjunction_of, disjunction_of}
 use Rattle.litmus.specs.{next_stage, taken_from, all_taken, stage_after, formula_at, or_misplaced, formula_of_symbols}
-use Rattle.litmus.specs.declared.symbols.Symbol.TheVariants as symbol
 use Rattle.litmus.specs.Grammar.{enclosed}
 use Rattle.litmus.specs.Drafting.{enclosed as closed_into}
+use Rattle.litmus.specs.declared.symbols.Symbol.TheVariants as symbol
 
 -- the symbols in front of the last conjunct's disjunct, and in front of the last operand's conjunct
 abbrev OrFront : Option Formula → List Symbol → Type 0

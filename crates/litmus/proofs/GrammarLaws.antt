@@ -4,8 +4,8 @@ use Rattle.std.proofs.lemmas.List.{append-nil}
 use Rattle.litmus.specs.{Symbol, Formula, negation, both, either, Level, operand, conjunction, disjunction, Stands, atom, negated, one_operand, joined}
 use Rattle.litmus.specs.{one_conjunction, parted, IsConditionOf, Group, Stage, awaits, has, empty_group, negated_by, conjoined, disjoined, completed, all_taken}
 use Rattle.litmus.specs.{stage_after, formula_of_symbols}
-use Rattle.litmus.specs.declared.symbols.Symbol.TheVariants as symbol
 use Rattle.litmus.specs.Grammar.{enclosed}
+use Rattle.litmus.specs.declared.symbols.Symbol.TheVariants as symbol
 
 abbrev group : Option Formula → Option Formula → Group
 group disjuncts conjuncts = record { disjuncts = disjuncts; conjuncts = conjuncts; negations = 0 }

@@ -7,5 +7,4 @@ pub mod BeginLaws
 pub mod SeenLaws
 pub mod TestLaws
 pub mod PlaceLaws
-pub mod VerdictLaws
 pub mod PositionLaws

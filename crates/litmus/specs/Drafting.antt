@@ -3,6 +3,8 @@ use Rattle.std.specs.Prelude.{ℕ, suc, zero, ◌+◌, List, [], ◌∷◌, ◌+
 use Rattle.litmus.specs.declared.symbols.Symbol.{Symbol}
 use Rattle.litmus.specs.declared.symbols.Symbol.TheVariants as symbol
 use Rattle.litmus.specs.Formulas.{Formula, is, negation, both, either}
+use Rattle.litmus.specs.declared.draft.ConditionError.{ConditionError}
+use Rattle.litmus.specs.declared.draft.ConditionError.TheVariants.{NoMemory, Misplaced}
 
 -- what stands open between two parentheses (or in the whole condition) in front of the operand that
 -- comes next: the disjuncts that are complete, the conjuncts of the last one, and the negations
@@ -92,3 +94,10 @@ symbol_added symbols next = or_misplaced (with_symbol symbols next (stage_after 
 -- what all the symbols are, where they are a condition
 unfoldable pub formula_of_symbols : List Symbol → Result Formula (Unit {0})
 formula_of_symbols symbols = or_misplaced (formula_at (stage_after symbols))
+
+-- ---- what a condition's reader answers that is no condition
+
+-- the one fault of the words; memory that ran out is none
+abbrev pub fault_of : ConditionError → Option (Unit {0})
+fault_of NoMemory = None
+fault_of Misplaced = Some tt

@@ -1,19 +1,15 @@
 pub mod Formulas
 pub mod Grammar
-pub mod Steps
 pub mod Drafting
-pub mod Faults
 pub mod LitmusTests
 pub mod Verdicts
 pub mod inner
-pub use Rattle.litmus.specs.Formulas.{Formula, both, either, is, negation, places, truth}
+pub use Rattle.litmus.specs.Formulas.{Formula, both, either, formula_of, is, negation, places, steps_of, truth}
 pub use Rattle.litmus.specs.Grammar.{Begins, IsConditionOf, Level, Stands, atom, conjunction, disjunction, joined, negated, one_conjunction, one_operand}
 pub use Rattle.litmus.specs.Grammar.{operand, parted, places_in}
-pub use Rattle.litmus.specs.Steps.{formula_of, steps_of}
-pub use Rattle.litmus.specs.Drafting.{Group, Stage, all_taken, awaits, completed, conjoined, conjunction_of, disjoined, disjunction_of, empty_group, formula_at}
-pub use Rattle.litmus.specs.Drafting.{has, negated_by, next_stage, or_misplaced, taken_from, with_symbol}
+pub use Rattle.litmus.specs.Drafting.{Group, Stage, all_taken, awaits, completed, conjoined, conjunction_of, disjoined, disjunction_of, empty_group, fault_of}
+pub use Rattle.litmus.specs.Drafting.{formula_at, has, negated_by, next_stage, or_misplaced, taken_from, with_symbol}
 unfoldable pub use Rattle.litmus.specs.Drafting.{formula_of_symbols, stage_after, symbol_added}
-pub use Rattle.litmus.specs.Faults.{fault_of}
 pub use Rattle.litmus.specs.LitmusTests.{IsTest, IsThere, LitmusTest, firsts, is_same, left_sides, litmus_test_of}
 pub use Rattle.litmus.specs.Verdicts.{IsFinished, IsFinishedAt, IsVerdict, IsVerdictAt, final_value, is_satisfied, value_there}
 pub use Rattle.litmus.specs.inner.Building.{Build, IsWithin, all_closed, and_closed, and_steps, build_at, build_of, empty_mark, end_of, is_empty, is_finished}

@@ -84,8 +84,7 @@ fn innermost(around: &[Frame]) -> Option<Frame>
 
 impl Builder {
     ghost use Rattle.litmus.specs.inner.Building.{empty_build, built, with_group, with_and, with_or, with_close, with_operand, is_finished, IsWithin};
-    ghost use Rattle.litmus.specs.Drafting.{or_misplaced};
-    ghost use Rattle.litmus.specs.Faults.{fault_of};
+    ghost use Rattle.litmus.specs.Drafting.{or_misplaced, fault_of};
     ghost use Rattle.std.specs.Prelude.{◌∷◌, [], take};
     ghost use Rattle.litmus.specs.declared.symbols.Step.TheVariants as step;
 

@@ -1,7 +1,7 @@
 //! A condition, as steps that are evaluated from the left.
 
 ghost use Rattle.std.specs.Prelude.{◌≡◌};
-ghost use Rattle.litmus.specs.Steps.{steps_of, formula_of};
+ghost use Rattle.litmus.specs.Formulas.{steps_of, formula_of};
 
 use crate::symbols::Step;
 use std::marker::Model;
@@ -15,7 +15,7 @@ pub struct Condition {
 impl Model for Condition {
     ghost use Rattle.std.specs.Prelude.{◌≡◌};
     ghost use Rattle.litmus.specs.Formulas.{Formula};
-    ghost use Rattle.litmus.specs.Steps.{steps_of, formula_of};
+    ghost use Rattle.litmus.specs.Formulas.{steps_of, formula_of};
     ghost use Rattle.litmus.specs.inner.Codes.{formula_code};
 
     ghost Value = { Formula };

@@ -4,7 +4,7 @@ ghost use Rattle.std.specs.Prelude.{◌≡◌, ◌≢◌, ◌↔◌, [], ◌∷�
 ghost use Rattle.texts.specs.Results.{GivesUpToMemory};
 ghost use Rattle.litmus.specs.declared.draft.ConditionError.TheVariants.{NoMemory, Misplaced};
 ghost use Rattle.litmus.specs.Drafting.{symbol_added, formula_of_symbols};
-ghost use Rattle.litmus.specs.Faults.{fault_of};
+ghost use Rattle.litmus.specs.Drafting.{fault_of};
 
 use crate::builder::Builder;
 use crate::condition::Condition;

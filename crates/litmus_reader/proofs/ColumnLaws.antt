@@ -7,7 +7,7 @@ use Rattle.std.proofs.lemmas.Bool.{cases_Bool, le-ltb, eq-eqb, eqb-true}
 use Rattle.std.proofs.lemmas.List.{length-replicate}
 use Rattle.texts.specs.{◌>>=◌, before, after, is_byte, AreBlanks, pieces, pieces_after}
 use Rattle.texts.proofs.ResultLaws.{ok_is, bind_ok}
-use Rattle.assembler.specs.{Refusal, Line, word_count, drafted, all_drafted, all_instructions}
+use Rattle.assembler.specs.Drafts.{Refusal, Line, word_count, drafted, all_drafted, all_instructions}
 use Rattle.assembler.proofs.ProgramGrammar.{all_found, all_only, finished-found, finished_only, none_above}
 use Rattle.litmus_reader.specs.{LitmusFault, Column, Code, as_instr, cell_added, cells_added, line_added, lines_added, table_from, table_at, codes_of}
 use Rattle.litmus_reader.specs.{before_line, from_line, harts_in, IsVisible, Cells, IsRow, AreRows, IsTable, column_of, IsColumnCode}

@@ -7,7 +7,7 @@ use Rattle.texts.proofs.{before-stop, after-stop, cut_byte, cut_whole, before-pa
 use Rattle.litmus_reader.specs.declared.marks.Mark.TheVariants as mark
 use Rattle.litmus_reader.specs.{has_token, before_line, from_line, has_name, is_header, after_header, after_front, after_brace, IsCut, IsFirst, IsVisible}
 use Rattle.litmus_reader.specs.{BeginsWith, BeginsCondition, IsHeader, IsLaidOut}
-use Rattle.litmus_reader.specs.Shapes.IsLineCut.{here, below as further}
+use Rattle.litmus_reader.specs.Layout.IsLineCut.{here, below as further}
 use Rattle.litmus_reader.proofs.ShapeLaws.{cut_found, cut_only, front_of, token_cut, visible_matches, brace_matches, condition_matches, line_found, line_only}
 
 -- the text from that line on begins so

@@ -1,4 +1,3 @@
-pub mod LineLaws
 pub mod MarkLaws
 pub mod TableLaws
 pub mod NameLaws
@@ -12,7 +11,6 @@ pub mod FirstValueLaws
 pub mod RowGrammar
 pub mod ColumnLaws
 pub mod ConditionLaws
-pub mod PlainWords
 pub mod ContentGrammar
 pub mod TestGrammar
 pub mod HeadingLaws

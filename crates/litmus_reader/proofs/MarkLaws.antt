@@ -1,12 +1,15 @@
 -- Where the next line begins.
 use Rattle.std.proofs.Common.{◌≡◌, ℕ, ◌+◌, ◌<◌, ◌≤◌, true, false, List, [], ◌∷◌, length, take, drop, Some, None, refl, sym, ap, subst, ◌∙◌, append_assoc, arith}
+use Rattle.std.proofs.Common.{zero, suc, ◌-◌}
 use Rattle.std.proofs.Math.Seq.{take-add}
 use Rattle.std.proofs.lemmas.List.{append-nil, drop-drop, length-drop, take-append-drop}
 use Rattle.std.specs.Prelude.{position}
 use Rattle.std.specs.List.{position_or_len}
 use Rattle.std.proofs.lemmas.Bool.{cases_Bool}
-use Rattle.texts.proofs.PieceLaws.{position_is, position_past}
-use Rattle.litmus_reader.specs.{Mark, is_line_feed, begins, Cut, onto_front, next_cut, line_cut}
+use Rattle.texts.proofs.PieceLaws.{position_is, position_past, span-slice_split}
+use Rattle.litmus_reader.specs.{Mark, is_line_feed, begins, Cut, onto_front, next_cut, line_cut, indent, is_blank_line, left_from}
+use Rattle.texts.specs.{span, pieces, is_byte}
+use Rattle.texts.specs.declared.pieces.Separators.TheVariants.{Byte}
 
 pub begun_cut : (mark : Mark) (xs : List ℕ) → begins mark xs ≡ true → line_cut mark xs ≡ ([], Some xs)
 unfolding line_cut
@@ -58,3 +61,19 @@ pub end_cut : (mark : Mark) (xs : List ℕ) (whole : Cut) (at : ℕ) → begins 
 end_cut mark xs whole at other ends so_far =
     let last = other_cut mark (drop at xs) other ∙ next_whole mark (drop at xs) (position_past is_line_feed (drop at xs) ends) in
     ap (λ (front : List ℕ). (front, None)) (sym (take-append-drop at xs)) ∙ ap (onto_front (take at xs)) (sym last) ∙ so_far
+
+-- ---- the lines and rows at which faults are reported
+
+-- the last line that isn't empty, where this number of lines was seen, the last such among them was this one,
+-- and the others have one there
+abbrev pub reached : (seen last others : ℕ) → ℕ
+reached seen last zero = last
+reached seen last (suc line) = seen + suc line
+
+-- the whole text is left at its first row, except that row's indent
+pub row_here : (text line : List ℕ) (below : List (List ℕ)) → pieces (Byte 10) text ≡ line ∷ below
+    → is_blank_line line ≡ false → left_from 0 (line ∷ below) ≡ length text - indent line
+row_here text line below cut solid =
+    let whole : span (line ∷ below) - 1 ≡ length text =
+    ap (λ (lines : List (List ℕ)). span lines - 1) (sym cut) ∙ rw (span-slice_split (is_byte 10) text) (omega arith) in
+    rw solid (ap (λ (n : ℕ). n - indent line) whole)

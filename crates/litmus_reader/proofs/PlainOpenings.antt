@@ -1,6 +1,6 @@
 -- Each test of a text opens plainly.
 use Rattle.std.proofs.Common.{◌≡◌, ℕ, zero, suc, ◌+◌, ◌*◌, ◌<◌, ◌≤◌, Bool, List, [], ◌∷◌, length, map, get_or, All, Option, Some, None, sym, ap, subst, ◌∙◌}
-use Rattle.std.proofs.Common.{inl, inr, length-append, arith, ℤ}
+use Rattle.std.proofs.Common.{inl, inr, length-append, arith, ℤ, ◌^◌, refl}
 use Rattle.std.proofs.lemmas.Bool.{cases_Bool, ltb-true}
 use Rattle.std.specs.List.{AllByRecursion}
 use Rattle.std.proofs.lemmas.List.{length-map}
@@ -12,14 +12,17 @@ use Rattle.litmus.specs.LitmusTests.{LitmusTest}
 use Rattle.litmus_tokens.specs.Names.{word_from, a_word}
 use Rattle.litmus_tokens.specs.Assignments.{NamedLocation, NamedValue, AssignmentValue, value, item as an_item}
 use Rattle.litmus_tokens.specs.Assignments.NamedValue.{number, address_of}
-use Rattle.litmus_reader.specs.{Names, AreItems, IsAt, last_put, is_register, is_location, IsFirstValue, AreRegisters, AreFirstWords, Cells, IsTable}
-use Rattle.litmus_reader.specs.{hart_content, AreHarts, HasPlainCode, IsTestOf, IsPlainHart, IsPlainOpening}
+use Rattle.litmus_reader.specs.{Names, AreItems, IsAt, last_put, is_register, is_location, IsFirstValue, AreRegisters, AreFirstWords, IsPlainHart}
+use Rattle.litmus_reader.specs.{IsPlainOpening, Cells, IsTable, hart_content, AreHarts, HasPlainCode, IsTestOf, IsPlainCode}
 use Rattle.std.proofs.lemmas.List.Splits.{length-slice_split}
 use Rattle.texts.specs.{pieces, is_byte}
 use Rattle.texts.specs.declared.pieces.Separators.TheVariants.{Byte}
 use Rattle.litmus_reader.specs.Openings.AreItems.{none, empty, item}
 use Rattle.litmus_reader.proofs.FirstAppearances.{at_any}
 use Rattle.litmus_reader.proofs.TableLaws.{lines_size}
+use Rattle.rv_decode.specs.declared.instruction.Instr.{Instr}
+use Rattle.rv_decode.proofs.Meanings.{meaning_iff}
+use Rattle.rv_decode.proofs.PlainWords.{one_plain_word}
 
 -- ---- values
 
@@ -130,3 +133,20 @@ plain_opening text test (is, are_plain) =
       locations = omega (arith, few, is.first_words.count);
       words = words-small test.names is.assignments test.opening.words few small is.first_words;
     }
+
+-- ---- plain code is determined by its instructions
+
+pub one_code : (a b : List ℕ) (instrs : List Instr) → IsPlainCode a → IsPlainCode b → map meaning a ≡ map Some instrs → map meaning b ≡ map Some instrs → a ≡ b
+one_code [] [] instrs p q m n = refl
+one_code (x ∷ xs) (y ∷ ys) (i ∷ instrs) p q m n =
+    let first : meaning x ≡ Some i = cc in
+    let second : meaning y ≡ Some i = cc in
+    let rest : map meaning xs ≡ map Some instrs = cc in
+    let others : map meaning ys ≡ map Some instrs = cc in
+    let below : ℕ → Type 0 = λ w. w < 2 ^ 32 in
+    let here : x ≡ y =
+    one_plain_word i x y
+    (All-head below x xs p.1, (meaning_iff x i).0 first, rw first at p.0.0)
+    (All-head below y ys q.1, (meaning_iff y i).0 second, rw second at q.0.0) in
+    rw (here, one_code xs ys instrs (p.0.1, All-tail below x xs p.1) (q.0.1, All-tail below y ys q.1) rest others) refl
+one_code z other u p q m n = absurd cc

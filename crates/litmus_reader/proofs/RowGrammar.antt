@@ -6,8 +6,7 @@ use Rattle.std.specs.Bool.{Decides}
 use Rattle.std.proofs.lemmas.Bool.Decides.{Decides-and}
 use Rattle.std.proofs.lemmas.Slice.Eq.{bytes_eq-Decides}
 use Rattle.texts.specs.{is_blank, before, after, is_byte, trimmed, AreBlanks}
-use Rattle.texts.proofs.ResultLaws.{ok_is, some_is, bind_ok, guard_ok}
-use Rattle.texts.proofs.CuttingLaws.{before-stop, after-stop, cut_byte, before-passes_not}
+use Rattle.texts.proofs.{ok_is, some_is, bind_ok, guard_ok, before-stop, after-stop, cut_byte, before-passes_not}
 use Rattle.litmus_reader.specs.{is_blank_line, ended_by, row_in, cells_of, name_harts, harts_within, all_named, harts_in, Cells, IsRow, AreNames}
 
 -- ---- lines

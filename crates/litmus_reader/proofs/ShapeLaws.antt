@@ -10,7 +10,7 @@ use Rattle.texts.proofs.{before-none, after-none, before-stop, after-stop, cut_b
 use Rattle.litmus_reader.specs.{Mark, HasNo, IsCut, IsLineCut, NoneBegins, IsVisible, BeginsWith, BeginsUnread, BeginsCondition}
 use Rattle.litmus_reader.specs.declared.marks.Mark.TheVariants as mark
 use Rattle.litmus_reader.specs.Marks.{has_token, is_visible, is_brace, begins, Cut, onto_front, next_cut, line_cut, before_line, from_line}
-use Rattle.litmus_reader.specs.Shapes.IsLineCut.{here, below as further, nowhere}
+use Rattle.litmus_reader.specs.Layout.IsLineCut.{here, below as further, nowhere}
 use Rattle.litmus_reader.proofs.MarkLaws.{begun_cut, other_cut}
 
 -- ---- the first line

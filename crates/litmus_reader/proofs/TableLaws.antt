@@ -8,7 +8,7 @@ use Rattle.std.specs.declared.vec.Vec.{Vec}
 use Rattle.std.specs.declared.alloc.Global.{Global}
 use Rattle.texts.specs.Results.{◌>>=◌, GivesUpToMemory}
 use Rattle.rv_decode.specs.Meaning.{meaning}
-use Rattle.assembler.specs.{Refusal, Made, Line, onto, all_instructions, size_of, word_count, IsPlaced, ArePlaced}
+use Rattle.assembler.specs.{Refusal, Line, onto, all_instructions, size_of, word_count, Made, IsPlaced, ArePlaced}
 use Rattle.assembler.specs.Program.IsPlaced.{nothing}
 use Rattle.assembler.proofs.ProgramGrammar.{some_instr, finished-found}
 use Rattle.rv_decode.specs.declared.instruction.Instr.{Instr}

@@ -14,7 +14,7 @@ use Rattle.litmus_reader.specs.{IsTestOf}
 use Rattle.texts.specs.declared.errors.AtLine.{AtLine}
 use Rattle.texts.specs.declared.errors.TextError.{TextError}
 use Rattle.texts.specs.declared.errors.TextError.TheVariants.{NoMemory, Refused}
-use Rattle.litmus_reader.proofs.PlainWords.{one_code}
+use Rattle.litmus_reader.proofs.PlainOpenings.{one_code}
 use Rattle.litmus_reader.proofs.ContentGrammar.{content_found, content_only}
 
 -- ---- one test

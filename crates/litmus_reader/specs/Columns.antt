@@ -9,8 +9,7 @@ use Rattle.assembler.specs.Program.{AreLines, AreInstrs}
 use Rattle.litmus_reader.specs.Table.{Code}
 use Rattle.texts.specs.Pieces.{pieces}
 use Rattle.texts.specs.declared.pieces.Separators.TheVariants.{Byte}
-use Rattle.litmus_reader.specs.Shapes.{HasNo, IsCut, IsFirst}
-use Rattle.litmus_reader.specs.Layout.{IsVisible}
+use Rattle.litmus_reader.specs.Layout.{HasNo, IsCut, IsFirst, IsVisible}
 use Rattle.step_machine.specs.declared.opening.TheConstants.{MAX_HARTS}
 
 abbrev pub Cells : Type 0

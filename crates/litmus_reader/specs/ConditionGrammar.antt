@@ -12,8 +12,7 @@ use Rattle.litmus_tokens.specs.Assignments.{AssignmentValue}
 use Rattle.litmus_tokens.specs.Tokens as token
 use Rattle.litmus_tokens.specs.Tokens.{AreTokens}
 use Rattle.litmus_reader.specs.Locations.{Names}
-use Rattle.litmus_reader.specs.Shapes.{NoneBegins}
-use Rattle.litmus_reader.specs.Layout.{BeginsUnread}
+use Rattle.litmus_reader.specs.Layout.{NoneBegins, BeginsUnread}
 use Rattle.litmus_reader.specs.Openings.{IsAt, IsNamedValue}
 
 abbrev pub token_for : Quantifier → List ℕ

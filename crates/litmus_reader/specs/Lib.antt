@@ -9,7 +9,6 @@ pub mod Table
 pub mod Condition
 pub mod Values
 pub mod Reading
-pub mod Shapes
 pub mod Layout
 pub mod Openings
 pub mod Columns
@@ -17,7 +16,6 @@ pub mod ConditionGrammar
 pub mod Grammar
 pub mod Headings
 pub mod Listings
-pub mod PlainOpenings
 pub use Rattle.litmus_reader.specs.Faults.{fault_in, fault_of, litmus_number}
 pub use Rattle.litmus_reader.specs.Lines.{left_from}
 pub use Rattle.litmus_reader.specs.Marks.{Cut, before_line, from_line, has_token, is_line_feed, next_cut, onto_front}
@@ -39,10 +37,10 @@ unfoldable pub use Rattle.litmus_reader.specs.Condition.{atom_resolved, conditio
 pub use Rattle.litmus_reader.specs.Values.{items_put, starts_of, values_in, zeros}
 pub use Rattle.litmus_reader.specs.Reading.{Content, HartContent, content, content_of, hart_content, with_registers}
 unfoldable pub use Rattle.litmus_reader.specs.Reading.{content_after, content_at, content_below, test_at}
-pub use Rattle.litmus_reader.specs.Shapes.{HasNo, IsCut, IsFirst, IsLineCut, NoneBegins}
-pub use Rattle.litmus_reader.specs.Layout.{BeginsCondition, BeginsUnread, BeginsWith, IsHeader, IsLaidOut, IsVisible}
-pub use Rattle.litmus_reader.specs.Openings.{AreFirstWords, AreItems, AreRegisters, IsAt, IsFirstValue, IsHartThere, IsNamedValue, each_once, is_location}
-pub use Rattle.litmus_reader.specs.Openings.{is_register, last_put, name_of_place, name_of_value, names_in, names_of, or_else}
+pub use Rattle.litmus_reader.specs.Layout.{BeginsCondition, BeginsUnread, BeginsWith, HasNo, IsCut, IsFirst, IsHeader, IsLaidOut, IsLineCut, IsVisible}
+pub use Rattle.litmus_reader.specs.Layout.{NoneBegins}
+pub use Rattle.litmus_reader.specs.Openings.{AreFirstWords, AreItems, AreRegisters, IsAt, IsFirstValue, IsHartThere, IsNamedValue, IsPlainHart, IsPlainOpening}
+pub use Rattle.litmus_reader.specs.Openings.{each_once, is_location, is_register, last_put, name_of_place, name_of_value, names_in, names_of, or_else}
 pub use Rattle.litmus_reader.specs.Columns.{AreNames, AreRows, Cells, IsColumnCode, IsRow, IsTable, column_of}
 pub use Rattle.litmus_reader.specs.ConditionGrammar.{AreKnown, IsFinalCondition, IsKnown, IsPlaceOf, atoms_in, token_for}
 pub use Rattle.litmus_reader.specs.Grammar.{AreHarts, HasPlainCode, IsContent}
@@ -50,7 +48,6 @@ unfoldable pub use Rattle.litmus_reader.specs.Grammar.{IsTestOf}
 pub use Rattle.litmus_reader.specs.Headings.{HeadingOf, IsHeading, heading_of}
 pub use Rattle.litmus_reader.specs.Listings.{ListedRowOf, cell_of, table_rows}
 unfoldable pub use Rattle.litmus_reader.specs.Listings.{after_items, listing_at, listing_in}
-pub use Rattle.litmus_reader.specs.PlainOpenings.{IsPlainHart, IsPlainOpening}
 pub use Rattle.litmus_reader.specs.declared.condition.FinalCondition.{FinalCondition}
 pub use Rattle.litmus_reader.specs.declared.faults.LitmusFault.{LitmusFault}
 pub use Rattle.litmus_reader.specs.declared.faults.LitmusFault.TheVariants.{BadCondition, BadInstr}

@@ -5,9 +5,8 @@ use Rattle.texts.specs.Results.{◌>>=◌}
 use Rattle.texts.specs.Cutting.{after, is_byte}
 use Rattle.texts.specs.Pieces.{pieces}
 use Rattle.texts.specs.declared.pieces.Separators.TheVariants.{Byte}
-use Rattle.assembler.specs.Faults.{Refusal}
+use Rattle.assembler.specs.Drafts.{Refusal, Line, word_count, drafted}
 use Rattle.assembler.specs.Lines.{label_of}
-use Rattle.assembler.specs.Drafts.{Line, word_count, drafted}
 use Rattle.litmus_tokens.specs.Cleaning.{cleaned_text}
 use Rattle.litmus_reader.specs.declared.faults.LitmusFault.{LitmusFault}
 use Rattle.litmus_reader.specs.declared.marks.Mark.TheVariants.{Condition}

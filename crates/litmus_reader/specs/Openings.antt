@@ -1,6 +1,6 @@
 -- The init part: which values registers and words begin with.
 use Rattle.std.specs.Prelude.{◌≡◌, ℕ, ◌*◌, ◌<◌, ◌≤◌, ◌==◌, ◌&&◌, Bool, false, not, List, [], ◌∷◌, ◌++◌, length, filter, Option, Some, None, if◌then◌else◌}
-use Rattle.std.specs.List.{slice_index_or}
+use Rattle.std.specs.List.{slice_index_or, AllByRecursion}
 use Rattle.std.specs.Str.{bytes_eq}
 use Rattle.litmus_tokens.specs.Assignments.{NamedLocation, NamedValue, AssignmentValue, item as an_item}
 use Rattle.litmus_tokens.specs.Assignments.NamedLocation.{in_register, at_location}
@@ -8,6 +8,11 @@ use Rattle.litmus_tokens.specs.Assignments.NamedValue.{number, address_of}
 use Rattle.texts.specs.Pieces.{is_gap}
 use Rattle.texts.specs.Cutting.{AllPass}
 use Rattle.litmus_reader.specs.Locations.{Names}
+use Rattle.step_machine.specs.History.{HartOpeningValue, OpeningValue}
+use Rattle.step_machine.specs.declared.opening.TheConstants.{MAX_HARTS}
+use Rattle.rv_decode.specs.Word.{IsWord}
+use Rattle.rv_decode.specs.declared.instruction.TheConstants.{MAX_CODE}
+use Rattle.litmus.specs.declared.litmus_test.TheConstants.{MAX_LOCATIONS}
 
 -- The items that stand between `;`; blanks and line ends alone are none.
 pub data AreItems : List (List ℕ) → List AssignmentValue → Type 0 where
@@ -88,3 +93,21 @@ pub record AreFirstWords (names : Names) (assignments : List AssignmentValue) (w
 abbrev pub IsHartThere : (harts : ℕ) → AssignmentValue → Type 0
 IsHartThere harts (in_register hart register, value) = hart < harts
 IsHartThere harts (at_location name, value) = Unit {0}
+
+-- ---- what each test of a text opens with: harts of words of 32 bits, whose x0 is 0 and whose inbox is empty
+
+pub record IsPlainHart (hart : HartOpeningValue) : Type 0 where
+  pub short : length hart.code ≤ MAX_CODE
+  pub code : AllByRecursion IsWord hart.code
+  pub count : length hart.registers ≡ 32
+  pub zero : slice_index_or hart.registers 0 0 ≡ 0
+  pub registers : AllByRecursion IsWord hart.registers
+  pub inbox : hart.inbox ≡ []
+
+-- a hart at least, and the limits of a test
+pub record IsPlainOpening (opening : OpeningValue) : Type 0 where
+  pub some_hart : 1 ≤ length opening.harts
+  pub few : length opening.harts ≤ MAX_HARTS
+  pub harts : AllByRecursion IsPlainHart opening.harts
+  pub locations : length opening.words ≤ MAX_LOCATIONS
+  pub words : AllByRecursion IsWord opening.words

@@ -7,8 +7,7 @@ use Rattle.texts.specs.Cutting.{before, after, is_byte}
 use Rattle.rv_decode.specs.declared.instruction.Instr.{Instr}
 use Rattle.rv_decode.specs.Meaning.{meaning}
 use Rattle.rv_decode.specs.declared.instruction.TheConstants.{MAX_CODE}
-use Rattle.assembler.specs.Faults.{Refusal}
-use Rattle.assembler.specs.Drafts.{Line, word_count, drafted, all_instructions, AllPlain}
+use Rattle.assembler.specs.Drafts.{Refusal, Line, word_count, drafted, all_instructions, AllPlain}
 use Rattle.litmus_reader.specs.declared.faults.LitmusFault.{LitmusFault}
 use Rattle.litmus_reader.specs.declared.faults.LitmusFault.TheVariants.{BadTable, BadInstr, TooMany}
 use Rattle.litmus_reader.specs.declared.marks.Mark.TheVariants.{Visible}

@@ -7,7 +7,7 @@ ghost use Rattle.litmus_reader.specs.Reading.{Content, test_at};
 ghost use Rattle.litmus_reader.specs.Grammar.{IsContent, IsTestOf};
 ghost use Rattle.litmus_reader.specs.Headings.{HeadingOf, IsHeading, heading_at};
 ghost use Rattle.litmus_reader.specs.Listings.{ListedRowOf, listing_at};
-ghost use Rattle.litmus_reader.specs.PlainOpenings.{IsPlainOpening};
+ghost use Rattle.litmus_reader.specs.Openings.{IsPlainOpening};
 
 /// A text stands for one test at most, the words of its code among it. It does nothing.
 pub fn one_test()

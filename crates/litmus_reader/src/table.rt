@@ -170,7 +170,7 @@ fn earlier(so_far: Option<usize>, row: usize) -> usize
 
 /// How many bytes of the table's text are left at the row, from its first byte on that is no blank; rows count from 0.
 /// It serves the line of a fault alone.
-#[tactic(auto, using(crate::proofs::LineLaws::row_here), unfolding(crate::specs::Lines::left_at_row))]
+#[tactic(auto, using(crate::proofs::MarkLaws::row_here), unfolding(crate::specs::Lines::left_at_row))]
 fn left_at_row(text: &[u8], row: usize) -> usize
     ensures { result ≡ left_at_row text.now row }
 {

@@ -14,7 +14,7 @@ use Rattle.litmus_tokens.specs.Assignments.{spaced, bracketed, location, registe
 use Rattle.litmus_tokens.specs.Assignments.NamedLocation.{at_location}
 use Rattle.litmus_tokens.specs.Assignments.NamedValue.{number, address_of}
 use Rattle.litmus_tokens.proofs.Bytes.{name_bytes, register_bytes}
-use Rattle.litmus_tokens.proofs.NumberTexts.{word_no_name}
+use Rattle.litmus_tokens.proofs.TokenLaws.{word_no_name}
 
 -- ---- the leaves
 

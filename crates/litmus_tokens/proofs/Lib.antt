@@ -2,6 +2,5 @@ pub mod CleaningLaws
 pub mod CommentLaws
 pub mod TokenLaws
 pub mod Bytes
-pub mod NumberTexts
 pub mod AssignmentLaws
 pub mod Spelling

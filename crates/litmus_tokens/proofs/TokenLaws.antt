@@ -6,7 +6,9 @@ use Rattle.litmus_tokens.specs.Tokens.{Token, Beginning, Tokens, is_mark, after_
 use Rattle.litmus_tokens.specs.Tokens.{tokens_within, tokens_of, LeavesLess}
 use Rattle.litmus_tokens.specs.Tokens.Beginning.{nothing, begins, no_token}
 use Rattle.litmus_tokens.specs.Tokens.Tokens.{goes_on}
-use Rattle.texts.proofs.CuttingLaws.{length-from_first}
+use Rattle.texts.proofs.{length-from_first, integer_first}
+use Rattle.litmus_tokens.specs.Names.{is_name, a_word}
+use Rattle.litmus_tokens.proofs.Bytes.{digit_begins_none}
 
 -- ---- what follows a token is shorter than the text
 
@@ -55,3 +57,9 @@ same_tokens x text y lt lt' = absurd (omega arith)
 pub tokens-cut : (text : List ℕ) → tokens_of text ≡ tokens_from tokens_of (beginning_of text)
 unfolding tokens_of tokens_within
 tokens-cut text = grind (arith, leaves_less, same_tokens)
+
+-- ---- no number is a name
+
+pub word_no_name : (text : List ℕ) (w : ℕ) → a_word.Says text w → is_name text ≡ false
+unfolding a_word
+word_no_name text w (z, says, is) = grind (arith, integer_first text z says, digit_begins_none)

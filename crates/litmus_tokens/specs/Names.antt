@@ -2,9 +2,8 @@
 use Rattle.std.specs.Prelude.{ℕ, ◌-◌, ◌^◌, ◌==◌, ℤ, pos, negsuc, Bool, false, not, ◌&&◌, ◌||◌, nat_lt}
 use Rattle.std.specs.Prelude.{nat_eq, List, [], ◌∷◌, length, codes, Option, None, Some, if◌then◌else◌}
 use Rattle.std.specs.List.{list_all, starts_with}
-use Rattle.texts.specs.Letters.{is_letter, is_digit}
+use Rattle.texts.specs.Cutting.{is_letter, is_digit, stripped}
 use Rattle.texts.specs.Pieces.{is_gap}
-use Rattle.texts.specs.Cutting.{stripped}
 use Rattle.texts.specs.Grammars.{Grammar, filter_mapped, integer}
 
 -- What is left of a text without the blanks and LFs round it. A CR that ends a line is a space in a

@@ -1,6 +1,6 @@
 -- Bytes of numbers below 2 ^ 32, and of words after a write.
 use Rattle.std.proofs.Common.{◌≡◌, ℕ, zero, suc, ◌+◌, ◌-◌, ◌*◌, ◌/◌, ◌%◌, ◌^◌, ◌<◌, ◌≤◌, ◌==◌, Bool, true, false, List, [], ◌∷◌, Option, Some, None, refl, sym}
-use Rattle.std.proofs.Common.{◌∙◌, ap, arith}
+use Rattle.std.proofs.Common.{◌∙◌, ap, arith, length, set, get_or}
 use Rattle.std.specs.Prelude.{if◌then◌else◌, unwrap_or, All, slice_index}
 use Rattle.std.specs.Int.{byte_at}
 use Rattle.std.proofs.lemmas.Bool.{le-leb, lt-ltb, leb-true, ltb-true, eqb-true, eqb-false}
@@ -8,6 +8,7 @@ use Rattle.std.proofs.lemmas.Nat.{mod_below}
 use Rattle.std.proofs.lemmas.List.Elements.{All-head, All-tail}
 use Rattle.memory.specs.declared.writes.Write.{Write}
 use Rattle.memory.specs.Writes.{covers, byte_after, newest_of, joined, over, overlaid, byte_of, IsInWord, WritesInWord}
+use Rattle.std.proofs.lemmas.List.{get_or-set_same, get_or-set_other}
 
 -- two numbers of bytes that agree are one
 pub joined-same : (f g : ℕ → ℕ) (n : ℕ) → ((i : ℕ) → i < n → f i ≡ g i) → joined f n ≡ joined g n
@@ -96,3 +97,14 @@ pub overlaid-part : (a n : ℕ) (words : List ℕ) (ws : List Write) → All Wri
     → joined (λ i. byte_at (a % 4 + i) (overlaid a (slice_index words (a / 4)) ws)) n
     ≡ joined (λ i. unwrap_or (newest_of (a + i) None ws) (byte_of words (a + i))) n
 overlaid-part a n words ws small within = grind (arith, joined-same, overlaid-byte)
+
+-- ---- the bytes of a memory after a write
+
+-- a write to a list of words changes the bytes that it covers, and no other
+pub byte_of-write : (words : List ℕ) (w : Write) (a : ℕ) → WritesInWord w → w.addr / 4 < length words
+    → byte_of (set words (w.addr / 4) (over w (slice_index words (w.addr / 4)))) a ≡ byte_after w a (byte_of words a)
+byte_of-write words w a small within = grind (arith, eqb-true, get_or, get_or-set_same, over-byte, mod_below, eqb-false, covers-other, get_or-set_other)
+
+-- a word of the list is the number of its bytes
+pub word_in : (words : List ℕ) (a : ℕ) → a % 4 ≡ 0 → slice_index words (a / 4) < 2 ^ 32 → joined (λ i. byte_of words (a + i)) 4 ≡ slice_index words (a / 4)
+word_in words a aligned small = grind (arith, joined-same, word_of_bytes)

@@ -1,6 +1,6 @@
--- Where all writes are of whole words, the bytes that a word access finds are those of the last write at
--- its address.
-use Rattle.std.proofs.Common.{◌≡◌, ℕ, ◌+◌, ◌-◌, ◌%◌, ◌^◌, ◌<◌, ◌==◌, Bool, true, false, List, [], ◌∷◌, Option, Some, None, refl, ◌∙◌, ap, arith}
+-- Where all writes are of whole words, the bytes that a word access finds are those of the last write at its
+-- address.
+use Rattle.std.proofs.Common.{◌≡◌, ℕ, ◌+◌, ◌-◌, ◌%◌, ◌^◌, ◌<◌, ◌==◌, Bool, true, false, List, [], ◌∷◌, Option, Some, None, refl, ◌∙◌, ap, arith, ◌++◌}
 use Rattle.std.specs.Prelude.{if◌then◌else◌, unwrap_or, All}
 use Rattle.std.specs.Option.{option_map}
 use Rattle.std.specs.Int.{byte_at}
@@ -67,3 +67,20 @@ word_reads a word early late aligned small all_early all_late =
     ∙ word_of_bytes (unwrap_or (newest_word a None late) (unwrap_or (newest_word a None early) word))
     (newest_word-small a (unwrap_or (newest_word a None early) word) None late
     (newest_word-small a word None early small all_early) all_late)
+
+-- ---- the last write of a list to an address: over a list with more at its end, and where none is there
+-- What nothing cites here is for proofs about further programs.
+
+pub newest_of-append : (a : ℕ) (found : Option ℕ) (ws vs : List Write) → newest_of a found (ws ++ vs) ≡ newest_of a (newest_of a found ws) vs
+newest_of-append a found [] vs = refl
+newest_of-append a found (w ∷ ws) vs = newest_of-append a (if covers w a then Some (byte_at (a - w.addr) w.value) else found) ws vs
+
+-- the same of whole words
+
+pub newest_word-append : (a : ℕ) (found : Option ℕ) (ws vs : List Write) → newest_word a found (ws ++ vs) ≡ newest_word a (newest_word a found ws) vs
+newest_word-append a found [] vs = refl
+newest_word-append a found (w ∷ ws) vs = newest_word-append a (if w.addr == a then Some w.value else found) ws vs
+
+pub newest_word-last : (a : ℕ) (found : Option ℕ) (ws : List Write) (w : Write)
+    → newest_word a found (ws ++ w ∷ []) ≡ (if w.addr == a then Some w.value else newest_word a found ws)
+newest_word-last a found ws w = newest_word-append a found ws (w ∷ [])

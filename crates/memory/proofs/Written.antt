@@ -1,7 +1,9 @@
 -- The words up to the last that differs from the opening's.
 use Rattle.std.proofs.Common.{◌≡◌, ℕ, zero, suc, ◌≤◌, Bool, true, false, List, [], ◌∷◌, ◌++◌, length, take, drop, refl, sym, ◌∙◌, ap, arith, eq-eqb, eqb-true}
+use Rattle.std.proofs.Common.{◌+◌, ◌-◌, ◌<◌, set, subst}
 use Rattle.std.specs.Prelude.{◌==◌, slice_index}
-use Rattle.memory.specs.Words.{unless_untouched, written_since}
+use Rattle.memory.specs.Words.{unless_untouched, written_since, IsMemory}
+use Rattle.std.proofs.lemmas.List.{drop-set-lt, drop-drop, length-set}
 
 -- before the opening's words that they leave, they are all words
 
@@ -61,3 +63,15 @@ written_is (f ∷ first) (w ∷ words) (suc n) same le after last =
     (written_is first words n (omega arith) (omega arith) after (λ m is. last (suc m) (ap suc is)))
     (λ none is. last zero (ap suc none) is)
 written_is x y n same le after last = cc
+
+-- ---- from some place on the words are those of the opening: so it stays
+
+later : (n m : ℕ) (xs ys : List ℕ) → n ≤ m → drop n xs ≡ drop n ys → drop m xs ≡ drop m ys
+later n m xs ys le same =
+    let k : ℕ = m - n in
+    let is : n + k ≡ m = omega arith in
+    subst (λ j. drop j xs ≡ drop j ys) is (sym (drop-drop k n xs) ∙ ap (drop k) same ∙ drop-drop k n ys)
+
+-- a word before the place is written
+pub written_before : (M : ℕ) (words first : List ℕ) (n m i v : ℕ) → IsMemory M words first n → n ≤ m → i < m → m ≤ M → IsMemory M (set words i v) first m
+written_before M words first n m i v kept le within fits = grind (arith, length-set, drop-set-lt, later)

@@ -14,7 +14,7 @@ use Rattle.step_machine.proofs.Running.{shape_of, hart_follows, opening_kept}
 use Rattle.queue_parties.specs.Parties.{QueueCounts}
 use Rattle.queue_layouts.specs.declared.AnyQueue.{AnyQueue}
 use Rattle.shrink.specs.Shrinking.{without}
-use Rattle.drawn_runs.proofs.LastEvents.{LastHappens, last_happens}
+use Rattle.drawn_runs.proofs.Bursts.{LastHappens, last_happens}
 use Rattle.judged_runs.specs.Telling.{IsFlawTold}
 use Rattle.ownership_runs.specs.declared.violations.Violation.{Violation}
 use Rattle.ownership_runs.specs.declared.deciding.RunNotes.{RunNotes}

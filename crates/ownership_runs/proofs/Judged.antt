@@ -9,7 +9,7 @@ use Rattle.step_machine.proofs.Running.{kept-at_opening, kept-run as well_formed
 use Rattle.queue_parties.specs.Parties.{QueueCounts}
 use Rattle.queue_layouts.specs.declared.AnyQueue.{AnyQueue}
 use Rattle.queue_layouts.specs.declared.AnyQueue.TheVariants.{Indexed, Tagged}
-use Rattle.judged_runs.specs.Histories.{MOST, summed}
+use Rattle.judged_runs.specs.Telling.{MOST, summed}
 use Rattle.judged_runs.proofs.Histories.{capped_both, runs_both, runs_one, total_both}
 use Rattle.ownership_runs.specs.declared.violations.Violation.{Violation}
 use Rattle.ownership_runs.specs.declared.runs.Moved.{Moved}

@@ -5,7 +5,7 @@ use Rattle.step_machine.specs.History.{OpeningValue, History}
 use Rattle.step_machine.specs.Runs.{Run}
 use Rattle.queue_parties.specs.Parties.{QueueCounts}
 use Rattle.queue_layouts.specs.declared.AnyQueue.{AnyQueue}
-use Rattle.judged_runs.specs.Histories.{AreRuns, MOST, summed}
+use Rattle.judged_runs.specs.Telling.{AreRuns, MOST, summed}
 use Rattle.ownership_runs.specs.declared.violations.Violation.{Violation}
 use Rattle.ownership_runs.specs.declared.runs.Moved.{Moved}
 use Rattle.ownership_runs.specs.Protocols.{run_counts, Keeps}

@@ -2,7 +2,7 @@
 
 ghost use Rattle.std.specs.Prelude.{◌≡◌, ◌≤◌, ◌+◌, ◌-◌, min};
 ghost use Rattle.step_machine.specs.History.{FitsIn};
-ghost use Rattle.judged_runs.specs.Histories.{MOST};
+ghost use Rattle.judged_runs.specs.Telling.{MOST};
 ghost use Rattle.ownership_runs.specs.Runs.{IsOfOneKind, BreaksNothing, HasBrokenRun, HasMoved, AreMovesOf};
 
 use crate::counts::{Counts, RunCounts};

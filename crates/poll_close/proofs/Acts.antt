@@ -11,8 +11,8 @@ use Rattle.hart.specs.declared.need.Report.{Report}
 use Rattle.hart.specs.declared.need.Report.TheVariants as report
 use Rattle.step_machine.specs.declared.events.Entry.{Entry}
 use Rattle.step_machine.specs.declared.events.Entry.TheVariants as entry
-use Rattle.poll_close.specs.Layout.{Layout}
-use Rattle.poll_close.specs.{StaysWithin, Touches, GoesOn, as_write, as_writes}
+use Rattle.poll_close.specs.Layout.{Layout, StaysWithin, Touches}
+use Rattle.poll_close.specs.{GoesOn, as_write, as_writes}
 use Rattle.step_machine.proofs.{loads, word_in_memory-other, word_in_memory-write, pending-last, reported-last, balanced, some_first, act_only, state_of-mine}
 use Rattle.step_machine.proofs.{state_of-other, Legal-last, states_land, pending-land, pending-other, land_of-other}
 use Rattle.step_machine.specs.Names.{History, with_entry, hart_of, is_land, own_store, land_of, write_of, report_of, pending, read, reported, access_of}

@@ -16,13 +16,13 @@ use Rattle.step_machine.specs.declared.events.Entry.TheVariants as entry
 use Rattle.step_machine.specs.Names.{History, with_entry, hart_of, is_land, pending, read, access_of, WritesWord, AllWriteWords, OpensWithWords, word_in_memory}
 use Rattle.step_machine.specs.Names.{number_read, state_of, Legal, CanFollow}
 use Rattle.step_machine.proofs.WordReads.{read-word}
-use Rattle.poll_close.specs.Layout.{Layout}
-use Rattle.poll_close.specs.{GoesOn, Touches, BlockInvariant, Count, unsent_of, unread_of, BlockPart}
+use Rattle.poll_close.specs.Layout.{Layout, Touches}
+use Rattle.poll_close.specs.{GoesOn, BlockInvariant, Count, unsent_of, unread_of, BlockPart}
 use Rattle.poll_close.specs.Invariant.Blocks.{SenderBlock, block_of, is_within, as_write, as_writes, to_block, window, AreNext}
 use Rattle.poll_close.proofs.Acts.{Acted, Landed, acted, landed, Plain, going, stored_by}
 use Rattle.poll_close.proofs.Windows.{window-made, window-head}
-use Rattle.poll_close.proofs.Writes.{IsWrite}
-use Rattle.poll_close.proofs.Blocks.{IsBlock, Within, IsWordOf, word_end, IsStore-whole, apart, outside_differs, newest-as_writes, first-as_writes, choose}
+use Rattle.poll_close.proofs.Blocks.{IsWrite, IsBlock, Within, IsWordOf, word_end, IsStore-whole, apart, outside_differs, newest-as_writes, first-as_writes}
+use Rattle.poll_close.proofs.Blocks.{choose}
 use Rattle.poll_close.proofs.BlockLaws.{BlockLaws, found_in, Sends, Lands}
 
 -- what a need would read where this is found

@@ -16,8 +16,7 @@ use Rattle.poll_close.specs.Invariant.Outlines.{Standing, Reasons}
 use Rattle.poll_close.proofs.Acts.{stored_by, reports_of_need, IsNoAmo}
 use Rattle.step_machine.proofs.Lines.{loads}
 use Rattle.poll_close.proofs.Windows.{Each, newest_to}
-use Rattle.poll_close.proofs.Writes.{IsWrite}
-use Rattle.poll_close.proofs.Blocks.{IsBlock, Within, IsWordOf, IsStore}
+use Rattle.poll_close.proofs.Blocks.{IsWrite, IsBlock, Within, IsWordOf, IsStore}
 
 -- what a hart with these pending stores reads, and so the receiver, in the block
 abbrev pub found_in : List (ℕ × ℕ) → (ℕ → ℕ) → ℕ → ℕ

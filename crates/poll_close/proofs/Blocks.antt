@@ -1,16 +1,18 @@
 -- Blocks don't meet: an address in one is in no other, so what concerns one leaves the others.
 use Rattle.std.proofs.Common.{ℕ, ◌+◌, ◌*◌, ◌%◌, ◌^◌, ◌<◌, ◌≤◌, ◌≡◌, ◌≢◌, ◌==◌, ◌⊎◌, inl, inr, Bool, true, false, if◌then◌else◌, List, [], ◌∷◌, ◌++◌, length}
-use Rattle.std.proofs.Common.{Option, Some, refl, sym, ◌∙◌, ap, subst, arith, append-nil, eq-eqb, mod-eq_of_lt}
+use Rattle.std.proofs.Common.{Option, Some, refl, sym, ◌∙◌, ap, subst, arith, append-nil, eq-eqb, mod-eq_of_lt, ◌-◌, ◌/◌}
 use Rattle.std.specs.Prelude.{slice_index}
 use Rattle.std.proofs.lemmas.List.Elements.{filter-append}
 use Rattle.std.proofs.lemmas.Bool.{cases_lt, cases_eq}
 use Rattle.std.proofs.lemmas.Bool.Decides.{nat_tests}
-use Rattle.std.proofs.lemmas.Nat.{mod_below, row_fits}
+use Rattle.std.proofs.lemmas.Nat.{mod_below, row_fits, div-add-mod', div-mul-add, mod-mul-add}
 use Rattle.memory.specs.declared.writes.Write.{Write}
 use Rattle.memory.specs.Writes.{newest_word, IsWholeWord}
 use Rattle.poll_close.specs.Layout.{block_size, Layout}
 use Rattle.poll_close.specs.Invariant.Blocks.{SenderBlock, block_of, offset, slot, is_within, as_write, as_writes, is_to, to_block}
 use Rattle.poll_close.proofs.Windows.{newest_to}
+use Rattle.poll_close.specs.Laws.{IsInBlocks, IsEmptyAt}
+use Rattle.std.specs.List.{slice_get}
 
 -- a block that an opening lays out, and its words
 pub record IsBlock (k : SenderBlock) : Type 0 where
@@ -154,3 +156,38 @@ put_same f j n = let on : (j == j) ≡ true = eq-eqb j j refl in rw on refl
 
 pub put_other : {N : Type 0} (f : ℕ → N) (j : ℕ) (n : N) (i : ℕ) → i ≢ j → put f j n i ≡ f i
 put_other f j n i other = let off : (i == j) ≡ false = grind (arith, nat_tests) in rw off refl
+
+-- ---- whether an address is in a block: by its offset from the first one, divided by the stride
+
+pub is_inside : (l : Layout) (n a : ℕ) → l.base ≤ a → (a - l.base) / l.stride < n → (a - l.base) % l.stride < block_size l.size → IsInBlocks l n a
+is_inside l n a from known below = grind (arith, div-add-mod' (a - l.base) l.stride)
+
+pub record Inside (l : Layout) (n a : ℕ) : Type 0 where
+  pub from : l.base ≤ a
+  pub known : (a - l.base) / l.stride < n
+  pub below : (a - l.base) % l.stride < block_size l.size
+
+pub inside_is : (l : Layout) (n a : ℕ) → block_size l.size ≤ l.stride → IsInBlocks l n a → Inside l n a
+inside_is l n a room is = grind (arith, div-mul-add, mod-mul-add)
+
+-- the words before j are looked through
+pub record EmptyTo (l : Layout) (n j : ℕ) : Type 0 where
+  pub small : (k : ℕ) → k < j → slice_index l.words k < 2 ^ 32
+  pub empty : (k : ℕ) → k < j → IsEmptyAt l n k
+
+-- ---- one word of memory is written
+
+abbrev pub IsWrite : (ℕ → ℕ) → (ℕ → ℕ) → ℕ × ℕ → Type 0
+IsWrite word new x = (a : ℕ) → new a ≡ (if x.0 == a then x.1 else word a)
+
+module _ (word new : ℕ → ℕ) (a v : ℕ) (write : IsWrite word new (a, v)) where
+  pub hit : (b : ℕ) → a ≡ b → new b ≡ v
+  hit b same = let on : (a == b) ≡ true = grind (arith, nat_tests) in write b ∙ rw on refl
+
+  pub miss : (b : ℕ) → a ≢ b → new b ≡ word b
+  miss b other = let off : (a == b) ≡ false = grind (arith, nat_tests) in write b ∙ rw off refl
+
+-- the store of a number is one
+pub same_write : (word new : ℕ → ℕ) (x y : ℕ × ℕ) (xs : List (ℕ × ℕ)) (i : ℕ) → slice_get xs i ≡ Some x → slice_get xs i ≡ Some y
+    → IsWrite word new x → IsWrite word new y
+same_write word new x y xs i one two write = let same : x ≡ y = cc in subst (IsWrite word new) same write

@@ -13,17 +13,16 @@ use Rattle.step_machine.specs.declared.events.Entry.TheVariants as entry
 use Rattle.step_machine.specs.Names.{History, at_opening, with_entry, hart_of, is_land, reported, access_of, WritesWord, AllWriteWords, OpensWithWords}
 use Rattle.step_machine.specs.Names.{state_of, CanFollow}
 use Rattle.step_machine.proofs.{AllWriteWords-append, reported-last, Path-hart, state_of-other, report_of-other, states_land}
-use Rattle.poll_close.specs.Layout.{Layout, sender_registers, senders_from, opening_at}
-use Rattle.poll_close.specs.{Ring, Meaning, AreWords, AcceptedAt, FitsHart, Opens, Keeps, Cleans, Goes, Stays, GoesOn, AllGoOn, Touches, AllTouch, block_of}
-use Rattle.poll_close.specs.{as_writes, receiver_of, BlockInvariant, BlockPart, all_closings, Channel, means_by}
+use Rattle.poll_close.specs.Layout.{Layout, sender_registers, senders_from, opening_at, Touches, AllTouch}
+use Rattle.poll_close.specs.{Ring, Meaning, AreWords, AcceptedAt, FitsHart, Opens, Keeps, Cleans, Goes, Stays, GoesOn, AllGoOn, block_of, as_writes}
+use Rattle.poll_close.specs.{receiver_of, BlockInvariant, BlockPart, all_closings, Channel, means_by}
 use Rattle.poll_close.proofs.Blocks.{IsBlock, Within}
 use Rattle.poll_close.proofs.CleanReports.{clean-none}
 use Rattle.poll_close.proofs.Windows.{each_more}
-use Rattle.poll_close.proofs.Dense.{rows_before}
+use Rattle.poll_close.proofs.Opened.{rows_before}
 use Rattle.poll_close.proofs.BlockLaws.{BlockLaws, Begins, opens_with}
 use Rattle.poll_close.proofs.AllBlocks.{BlocksAfter, sender_goes_on, sender_acts, sender_store_lands, receiver_store_lands}
-use Rattle.poll_close.proofs.ReceiverStays.{part_stays, reports_stay}
-use Rattle.poll_close.proofs.ReceiverActs.{Received, receiver_goes_on, receiver_acts}
+use Rattle.poll_close.proofs.ReceiverActs.{part_stays, reports_stay, Received, receiver_goes_on, receiver_acts}
 use Rattle.poll_close.proofs.Delivering.{senders-length}
 
 -- what a ring's kind states of it

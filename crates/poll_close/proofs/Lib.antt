@@ -1,15 +1,11 @@
 pub mod Acts
-pub mod Means
 pub mod SenderLines
 pub mod SenderRows
 pub mod Windows
-pub mod Writes
 pub mod Blocks
 pub mod BlockLaws
-pub mod Found
 pub mod Outlines
 pub mod ReceiverMoves
-pub mod ReceiverStays
 pub mod CleanReports
 pub mod ViolationLaws
 pub mod Notes
@@ -17,8 +13,6 @@ pub mod Delivering
 pub mod AllBlocks
 pub mod ReceiverActs
 pub mod ChannelLaws
-pub mod Dense
-pub mod InBlocks
 pub mod Standing
 pub mod MayLoad
 pub mod Planning

@@ -1,12 +1,12 @@
 -- An opening is made: one sender more at the end, and the lists are looked through for a zero.
 use Rattle.std.proofs.Common.{◌≡◌, ℕ, ◌+◌, ◌<◌, List, [], ◌∷◌, ◌++◌, length, take, get_or, map, Vec, Global, refl, sym, ◌∙◌, ap, arith, ◌≢◌, ◌^◌, ◌≤◌, All}
-use Rattle.std.proofs.Common.{subst}
+use Rattle.std.proofs.Common.{subst, ◌-◌, ◌*◌}
 use Rattle.std.proofs.lemmas.List.{take_more, map-append, length-map, length-take-le, take_all, get_or-map, take-map}
 use Rattle.step_machine.specs.History.{HartOpeningValue}
-use Rattle.poll_close.specs.Layout.{Layout, sender_registers, senders_from}
+use Rattle.poll_close.specs.Layout.{Layout, sender_registers, senders_from, dense}
 use Rattle.std.specs.Prelude.{slice_index}
 use Rattle.std.proofs.lemmas.List.Elements.{All-push}
-use Rattle.poll_close.specs.{AreWords, ZeroAt, ZeroWordAt}
+use Rattle.poll_close.specs.{AreWords, Ring, ZeroAt, ZeroWordAt, RefusesAt, IsOfLists, RefusedAt, Lists, UnevenBase, UnevenStride, BlocksMeet, FilledBlock}
 
 pub senders-last : (code : List ℕ) (S : Layout) (j : ℕ) (lists : List (List ℕ)) (ws : List ℕ) (i : ℕ)
     → i ≡ j + length lists
@@ -66,3 +66,18 @@ pub list-found : (lists : List (Vec ℕ Global)) (i j : ℕ) (list : Vec ℕ Glo
     → list ≡ get_or lists i list → ZeroAt list.items j → All AreWords (map items_of (take i lists))
     → ZeroWordAt (map items_of lists) i j
 list-found lists i j list less is zero so_far = grind (arith, length-map, get_or-map, All, take-map)
+
+-- ---- the dense layout: its place is never why lists are refused
+
+pub rows_before : (n T : ℕ) → 1 ≤ n → (n - 1) * T + T ≡ n * T
+rows_before n T some =
+    let next : n ≡ n - 1 + 1 = omega (arith, some) in
+    let same : n * T ≡ (n - 1 + 1) * T = ap (λ j. j * T) next in
+    omega (arith, same)
+
+pub dense_refusal : (ring : Ring) (M : ℕ) (lists : List (List ℕ)) (S : ℕ) (why : RefusedAt) → RefusesAt ring M lists (dense S) why → IsOfLists why
+dense_refusal ring M lists S (Lists refused) h = tt
+dense_refusal ring M lists S UnevenBase h = omega (arith, h.1)
+dense_refusal ring M lists S UnevenStride h = omega (arith, h.2)
+dense_refusal ring M lists S BlocksMeet h = omega (arith, h.3)
+dense_refusal ring M lists S (FilledBlock word) h = grind arith

@@ -18,7 +18,7 @@ use Rattle.hart.specs.declared.need.Report.{Report}
 use Rattle.hart.specs.declared.need.Report.TheVariants as report
 use Rattle.std.specs.Prelude.{map}
 use Rattle.std.specs.List.{slice_get}
-use Rattle.poll_close.specs.{Ring, opening_over, Meaning, AcceptedAt, Opens, Keeps, Cleans, Clean, Stands, opening_lists, DeliversWhole, DeliversWholeOver}
+use Rattle.poll_close.specs.{Ring, opening_over, Meaning, AcceptedAt, Opens, Keeps, Cleans, Clean, DeliversWhole, DeliversWholeOver, Stands, opening_lists}
 use Rattle.poll_close.specs.{Nearer, Decreases, AllLanded, Finished, Finishes, CanFinish, is_closed, all_closed, ends_in_word, is_word, is_done, senders_of}
 use Rattle.poll_close.proofs.Standing.{inboxes, stands-opens, stands-happens, stands-run, stands-clean}
 use Rattle.poll_close.specs.Layout.{Layout}

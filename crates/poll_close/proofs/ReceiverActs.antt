@@ -1,6 +1,15 @@
--- An act of the receiver, over the whole channel.
-use Rattle.std.proofs.Common.{ℕ, zero, suc, ◌+◌, ◌<◌, ◌≤◌, ◌≡◌, ◌≢◌, ◌⊎◌, inl, inr, false, List, [], ◌∷◌, ◌++◌, length, take, Some, None, refl, sym, ◌∙◌, ap}
-use Rattle.std.proofs.Common.{subst, arith, append-nil}
+-- What holds of the receiver goes on holding as others act and stores land. An act of the receiver, over the
+-- whole channel.
+use Rattle.std.proofs.Common.{ℕ, zero, suc, ◌<◌, ◌≡◌, refl, List, length, sym, ◌∙◌, ap, subst, arith, ◌+◌, ◌≤◌, ◌≢◌, ◌⊎◌, inl, inr, false, [], ◌∷◌, ◌++◌, take}
+use Rattle.std.proofs.Common.{Some, None, append-nil}
+use Rattle.hart.specs.declared.need.Report.{Report}
+use Rattle.step_machine.specs.Names.{History, with_entry, state_of, number_read, hart_of, is_land, pending, read, reported, access_of, WritesWord}
+use Rattle.step_machine.specs.Names.{AllWriteWords, OpensWithWords, word_in_memory, Legal, CanFollow}
+use Rattle.poll_close.specs.Layout.{Layout, Touches}
+use Rattle.poll_close.specs.{block_of, as_write, as_writes, to_block, AreNext, BlockInvariant, ReceiverCounts, Count, AllReported, ReceiverIs, unread_of}
+use Rattle.poll_close.specs.{ReceiverPart, ReportPart, all_closings, BlockPart, ReportsOf, taken, sender_of, IsPrefixOf, GoesOn, ReceiverRegisters, whole_of}
+use Rattle.poll_close.specs.{receives, closings_due}
+use Rattle.poll_close.proofs.AllBlocks.{BlocksAfter, would_read, read-is, untouched}
 use Rattle.std.specs.Prelude.{slice_index, unwrap_or}
 use Rattle.std.specs.List.{slice_get, slice_index_or}
 use Rattle.std.proofs.lemmas.Bool.{cases_eq}
@@ -9,25 +18,44 @@ use Rattle.std.proofs.lemmas.List.{map-append}
 use Rattle.hart.specs.{HartState, need_of}
 use Rattle.hart.specs.declared.status.Status.TheVariants as status
 use Rattle.hart.specs.declared.need.Need.{Need}
-use Rattle.hart.specs.declared.need.Report.{Report}
 use Rattle.hart.specs.declared.need.Report.TheVariants as report
 use Rattle.step_machine.specs.declared.events.Entry.{Entry}
-use Rattle.step_machine.specs.Names.{History, with_entry, hart_of, is_land, pending, read, reported, access_of, WritesWord, AllWriteWords, OpensWithWords}
-use Rattle.step_machine.specs.Names.{word_in_memory, number_read, Legal, CanFollow}
 use Rattle.memory.specs.Writes.{newest_word}
-use Rattle.poll_close.specs.Layout.{Layout}
-use Rattle.poll_close.specs.{taken, sender_of, IsPrefixOf, GoesOn, Touches, block_of, as_write, as_writes, to_block, AreNext, ReceiverRegisters, whole_of}
-use Rattle.poll_close.specs.{receives, closings_due, BlockInvariant, Count, unread_of, AllReported, ReceiverIs, BlockPart, ReceiverPart, ReportsOf, ReportPart}
-use Rattle.poll_close.specs.{all_closings}
 use Rattle.poll_close.proofs.Acts.{Acted, Plain, acted, going, stored_by, reports_of_need}
 use Rattle.poll_close.proofs.Windows.{window-made}
 use Rattle.poll_close.proofs.Blocks.{IsBlock, Within, IsWordOf, word_end, IsStore, IsStore-whole, newest-as_writes, apart, to_block-stored, to_block-elsewhere}
 use Rattle.poll_close.proofs.Blocks.{newest-to_block, put, put_same, put_other}
 use Rattle.poll_close.proofs.BlockLaws.{BlockLaws, seen_at, Says, Comes, Receives, Finds}
 use Rattle.poll_close.proofs.ReceiverMoves.{receives_on}
-use Rattle.poll_close.proofs.ReceiverStays.{shuts_same}
 use Rattle.poll_close.proofs.CleanReports.{taken-other, clean_more, reports_other, reports_took, reports_closed, prefix_take}
-use Rattle.poll_close.proofs.AllBlocks.{would_read, read-is, untouched}
+
+-- sums over all senders
+pub shuts_same : (m : BlockInvariant) (f g : ℕ → Count m) (count : ℕ)
+    → ((i : ℕ) → i < count → (g i).receiver.closings ≡ (f i).receiver.closings)
+    → all_closings m g count ≡ all_closings m f count
+shuts_same m f g zero same = refl
+shuts_same m f g (suc i) same = grind (arith, shuts_same m f g i)
+
+-- an event that is not the receiver's act keeps its part, and what is reported
+module _ (m : BlockInvariant) (M : ℕ) (S : Layout) (lists : List (List ℕ)) (t new : History) (f : ℕ → Count m) (after : BlocksAfter m M S lists new f) where
+  pub part_stays : state_of M new 0 ≡ state_of M t 0 → ReceiverPart m M S lists t f → ReceiverPart m M S lists new after.numbers
+  part_stays same part = record {
+    place = part.place;
+    noted = part.noted;
+    block = part.block;
+    known = part.known;
+    state = same ∙ part.state;
+    holds =
+        subst (λ (o : ReceiverCounts m.Own). ReceiverIs m (block_of M S lists part.block) part.block part.place o part.noted)
+        (sym (after.same part.block part.known)) part.holds;
+    others = λ j within other. subst (AllReported m) (sym (after.same j within)) (part.others j within other);
+    count = (let same : all_closings m after.numbers (length lists) ≡ all_closings m f (length lists) =
+        shuts_same m f after.numbers (length lists) (λ j within. ap (λ (o : ReceiverCounts m.Own). o.closings) (after.same j within)) in
+        omega (arith, same, part.count));
+  }
+
+  pub reports_stay : (rs now : List Report) → now ≡ rs → ReportPart m lists rs f → ReportPart m lists now after.numbers
+  reports_stay rs now same part = grind arith
 
 -- a need stores nothing or one pair
 stored_cases : (w : Need) → (stored_by w ≡ []) ⊎ ((x : ℕ × ℕ) × (stored_by w ≡ x ∷ []))

@@ -1,7 +1,7 @@
 -- The lines of a sender that all rings have alike, over its code: it asks for the next word of its list.
 use Rattle.std.proofs.Common.{ℕ, suc, ◌*◌, ◌<◌, ◌≤◌, ◌≡◌, ◌==◌, Bool, false, if◌then◌else◌, List, [], ◌∷◌, length, drop, Some, None, sym, ◌∙◌, ap, subst, arith}
 use Rattle.std.proofs.Common.{drop-cons}
-use Rattle.std.specs.Prelude.{slice_index}
+use Rattle.std.specs.Prelude.{slice_index, map}
 use Rattle.std.proofs.Math.ListN.{drop_of_length-le}
 use Rattle.std.proofs.lemmas.Bool.Decides.{nat_tests}
 use Rattle.rv_decode.specs.declared.instruction.Instr.TheVariants.{Ecall}
@@ -9,8 +9,11 @@ use Rattle.hart.specs.State.{HartState}
 use Rattle.hart.specs.declared.status.Status.TheVariants as status
 use Rattle.hart.specs.declared.need.Need.TheVariants as need
 use Rattle.hart.proofs.Instructions.{IsAt, next_need, next_after}
-use Rattle.poll_close.specs.Invariant.SenderState.{SenderRegisters, SenderConstants, file, running}
+use Rattle.poll_close.specs.{SenderRegisters, SenderConstants, file, running, AllMean}
 use Rattle.step_machine.proofs.Lines.{Line}
+use Rattle.rv_decode.specs.Meaning.{meaning}
+use Rattle.rv_decode.specs.declared.instruction.Instr.{Instr}
+use Rattle.rv_decode.proofs.Meanings.{meaning_iff}
 
 module _ (code : List ℕ) (long : 2 < length code) (f : SenderConstants) (r : SenderRegisters) where
   -- a pc inside the code leaves it running
@@ -59,3 +62,10 @@ module _ (code : List ℕ) (long : 2 < length code) (f : SenderConstants) (r : S
       subst (λ (inbox : List ℕ).
       Line (running code f 0x04 r inbox) (need.Next None) (λ v. running code f 0x08 (record r { x11 = 0 }) inbox))
       (sym (drop_of_length-le list all)) line
+
+-- ---- a table means a listing where the decoder finds its lines
+
+pub all_mean : (ws : List ℕ) (is : List Instr) → map meaning ws ≡ map Some is → AllMean ws is
+all_mean [] [] e = tt
+all_mean (w ∷ ws) (i ∷ is) e = grind (arith, meaning_iff, all_mean ws is)
+all_mean x y e = cc

@@ -9,7 +9,7 @@ use Rattle.step_machine.specs.Names.{HartOpeningValue, OpeningValue, History, Hi
 use Rattle.step_machine.specs.Names.{OpensWithWords, word_in_memory}
 use Rattle.step_machine.proofs.{kept-at_opening, memory-word}
 use Rattle.poll_close.specs.Layout.{Layout, senders_from}
-use Rattle.poll_close.specs.{Ring, opening_over, Meaning, AcceptedAt, Opens, Keeps, Cleans, Goes, AllGoOn, Clean, Stands, opening_lists, SenderBlock, block_of}
+use Rattle.poll_close.specs.{Ring, opening_over, Meaning, AcceptedAt, Opens, Keeps, Cleans, Goes, AllGoOn, Stands, opening_lists, Clean, SenderBlock, block_of}
 use Rattle.poll_close.specs.{BlockInvariant, Count, means_by}
 use Rattle.poll_close.proofs.Delivering.{Known, known-happens, known-run, senders-length}
 use Rattle.hart.specs.State.{HartState}

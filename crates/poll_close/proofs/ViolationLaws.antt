@@ -13,9 +13,9 @@ use Rattle.step_machine.specs.declared.events.Entry.{Entry}
 use Rattle.step_machine.specs.declared.events.Entry.TheVariants as entry
 use Rattle.step_machine.specs.Entries.{report_of, reported}
 use Rattle.step_machine.proofs.Appended.{reported-last}
-use Rattle.poll_close.specs.Layout.{block_size, Layout, base_of}
-use Rattle.poll_close.specs.{taken, sender_of, IsPrefixOf, Clean, is_closed, GoesOn, StaysWithin, Touches, word_violation, took_violation, closed_violation}
-use Rattle.poll_close.specs.{report_violation, stays_within, violation_of, or_later, violation_after, first_violation, IsKept, Violation}
+use Rattle.poll_close.specs.Layout.{block_size, Layout, base_of, StaysWithin, Touches}
+use Rattle.poll_close.specs.{taken, sender_of, IsPrefixOf, Clean, is_closed, GoesOn, word_violation, took_violation, closed_violation, report_violation}
+use Rattle.poll_close.specs.{stays_within, violation_of, or_later, violation_after, first_violation, IsKept, Violation}
 use Rattle.poll_close.specs.Violations.{is_within}
 use Rattle.poll_close.proofs.CleanReports.{get_front, taken-append, taken-took, taken-closed, clean_more, taken-other, nothing_left, clean-none}
 use Rattle.poll_close.proofs.Planning.{closed_at}

@@ -5,10 +5,9 @@ use Rattle.step_machine.specs.History.{OpeningValue, History, at_opening, with_e
 use Rattle.step_machine.specs.Entries.{reported}
 use Rattle.step_machine.specs.Legal.{WellFormed}
 use Rattle.step_machine.specs.Runs.{CanFollow}
-use Rattle.poll_close.specs.Layout.{block_size, Layout, dense, base_of, end_of, opening_at}
-use Rattle.poll_close.specs.Reports.{Clean}
-use Rattle.poll_close.specs.Going.{AllGoOn}
-use Rattle.poll_close.specs.Touching.{AllTouch}
+use Rattle.poll_close.specs.Layout.{block_size, Layout, dense, base_of, end_of, opening_at, AllTouch}
+use Rattle.poll_close.specs.Delivery.{Clean}
+use Rattle.poll_close.specs.Standing.{AllGoOn}
 use Rattle.rv_decode.specs.declared.instruction.TheConstants.{MAX_CODE}
 
 -- what a ring of a kind is: its tables and its least size

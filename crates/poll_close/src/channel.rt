@@ -2,7 +2,7 @@
 
 ghost use Rattle.std.specs.Prelude.{◌≡◌, ◌≤◌, ◌<◌, ◌+◌, ℕ, List, IsOk, IfOk, IfErr, OnOk, OnErr, map, take, length};
 ghost use Rattle.poll_close.specs.Laws.{Accepted, AcceptedAt, opening_of, opening_over};
-ghost use Rattle.poll_close.specs.Places.{layout_of};
+ghost use Rattle.poll_close.specs.Layout.{layout_of};
 ghost use Rattle.poll_close.specs.Refusals.{Refuses, RefusesAt};
 
 use crate::faults::{Refused, RefusedAt};
@@ -28,7 +28,7 @@ pub struct Channel<K: RingKind, const B: usize, const M: usize> {
 impl<K: RingKind, const B: usize, const M: usize> Model for Channel<K, B, M> {
     ghost use Rattle.std.specs.Prelude.{◌≤◌};
     ghost use Rattle.step_machine.specs.History.{HistoryWithRoom};
-    ghost use Rattle.poll_close.specs.Standing.{Stands};
+    ghost use Rattle.poll_close.specs.Standing.{Stands, AllGoOn, IsOpeningOf, opening_lists};
 
     ghost Value = { HistoryWithRoom };
 
@@ -41,13 +41,11 @@ impl<K: RingKind, const B: usize, const M: usize> Channel<K, B, M> {
     ghost use Rattle.step_machine.specs.History.{at_opening};
     ghost use Rattle.step_machine.specs.Entries.{reported};
     ghost use Rattle.step_machine.specs.Runs.{Happens, RunFrom, IsOwnRun};
-    ghost use Rattle.poll_close.specs.Going.{AllGoOn};
-    ghost use Rattle.poll_close.specs.Reports.{Clean};
-    ghost use Rattle.poll_close.specs.Standing.{IsOpeningOf, opening_lists};
+    ghost use Rattle.poll_close.specs.Delivery.{Clean};
 
     /// A channel over these lists at its opening, with rings of `ring` slots in the dense layout. Err as
     /// [`opening`](crate::openings::opening).
-    #[tactic(auto, using(crate::proofs::Dense::dense_refusal))]
+    #[tactic(auto, using(crate::proofs::Opened::dense_refusal))]
     pub fn open(alloc: Global, lists: &[Vec<u32>], ring: u32) -> Result<Self, Refused>
         requires some_capacity { 1 ≤ B }
         requires capacity { B ≤ 64 }

@@ -5,9 +5,8 @@ ghost use Rattle.hart.specs.declared.need.Report.{Report};
 ghost use Rattle.hart.specs.declared.need.Report.TheVariants.{Took, Closed};
 ghost use Rattle.step_machine.specs.declared.events.Entry.{Entry};
 ghost use Rattle.step_machine.specs.Entries.{reported};
-ghost use Rattle.poll_close.specs.Layout.{Layout, base_of};
-ghost use Rattle.poll_close.specs.Places.{layout_of};
-ghost use Rattle.poll_close.specs.Reports.{Clean};
+ghost use Rattle.poll_close.specs.Layout.{Layout, base_of, layout_of};
+ghost use Rattle.poll_close.specs.Delivery.{Clean};
 ghost use Rattle.poll_close.specs.Violations.{AreNotes, violation_of, report_violation, stays_within, first_violation, IsKept};
 
 use crate::place::BlockPlace;
@@ -192,7 +191,7 @@ pub fn is_clean(alloc: Global, reports: &[Report], lists: &[Vec<u32>]) -> Result
 }
 
 /// Whether the bytes from an address on are within a block of the hart's.
-#[tactic(auto, using(crate::proofs::Dense::rows_before, crate::proofs::ViolationLaws::stays_more))]
+#[tactic(auto, using(crate::proofs::Opened::rows_before, crate::proofs::ViolationLaws::stays_more))]
 fn stays_within(place: BlockPlace, count: usize, hart: u32, addr: u32, width: u32) -> bool
     requires ends { base_of (layout_of place []) count < 2 ^ 32 }
     ensures { result ≡ stays_within (layout_of place []) count hart addr width }

@@ -6,15 +6,11 @@ ghost use Rattle.step_machine.specs.Entries.{reported};
 ghost use Rattle.step_machine.specs.Runs.{Run};
 ghost use Rattle.step_machine.specs.Standing.{RepresentsHistory, ForEachHistory};
 ghost use Rattle.step_machine.specs.declared.events.Event.{Event};
-ghost use Rattle.poll_close.specs.Layout.{Layout, dense};
+ghost use Rattle.poll_close.specs.Layout.{Layout, dense, layout_of, AllTouch};
 ghost use Rattle.poll_close.specs.Laws.{Accepted, AcceptedAt, opening_of, opening_over};
-ghost use Rattle.poll_close.specs.Places.{layout_of};
 ghost use Rattle.poll_close.specs.Refusals.{Refuses, RefusesAt};
-ghost use Rattle.poll_close.specs.Reports.{Clean};
-ghost use Rattle.poll_close.specs.Going.{AllGoOn};
-ghost use Rattle.poll_close.specs.Touching.{AllTouch};
-ghost use Rattle.poll_close.specs.Delivery.{Delivers, DeliversOver, DeliversWhole, DeliversWholeOver, ForEachRun};
-ghost use Rattle.poll_close.specs.Standing.{Stands};
+ghost use Rattle.poll_close.specs.Delivery.{Clean, Delivers, DeliversOver, DeliversWhole, DeliversWholeOver, ForEachRun};
+ghost use Rattle.poll_close.specs.Standing.{AllGoOn, Stands};
 ghost use Rattle.poll_close.specs.Plans.{CanFinish};
 
 use crate::faults::{Refused, RefusedAt};
@@ -85,7 +81,7 @@ pub fn deliver_at<K: RingKind, const B: usize, const M: usize>(
 
 /// The same with rings of `ring` slots in the dense layout, where all memory is zero. Err as
 /// [`opening`](crate::openings::opening).
-#[tactic(auto, using(crate::proofs::Dense::dense_refusal))]
+#[tactic(auto, using(crate::proofs::Opened::dense_refusal))]
 pub fn deliver<K: RingKind, const B: usize, const M: usize>(
     alloc: Global,
     lists: &[Vec<u32>],

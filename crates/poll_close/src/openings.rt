@@ -1,9 +1,8 @@
 //! The opening of a channel, and when there is none.
 
 ghost use Rattle.std.specs.Prelude.{◌≡◌, ◌≤◌, ◌<◌, ◌*◌, ◌+◌, ◌^◌, ℕ, List, All, IfOk, IfErr, OnOk, IsOk, MatchOption, map, length, true, false, []};
-ghost use Rattle.poll_close.specs.Layout.{senders_from, sender_registers, base_of, block_size, opening_at};
+ghost use Rattle.poll_close.specs.Layout.{senders_from, sender_registers, base_of, block_size, opening_at, layout_of, stride_or_dense};
 ghost use Rattle.poll_close.specs.Laws.{Accepted, AcceptedAt, AreWords, IsInBlocks, OpensEmpty, opening_of, opening_over};
-ghost use Rattle.poll_close.specs.Places.{layout_of, stride_or_dense};
 ghost use Rattle.poll_close.specs.Refusals.{Refuses, RefusesAt, FitsAt, IsBeyond, FilledAt, ZeroAt, ZeroWordAt};
 
 use crate::faults::{Refused, RefusedAt};
@@ -77,7 +76,7 @@ fn sender_harts(
 }
 
 /// The opening over lists that are accepted.
-#[tactic(auto, using(crate::proofs::Dense::rows_before))]
+#[tactic(auto, using(crate::proofs::Opened::rows_before))]
 fn lay_out(
     alloc: Global,
     sender: &[u32],
@@ -113,7 +112,7 @@ fn lay_out(
 }
 
 /// Whether this address is in one of the first `count` blocks.
-#[tactic(auto, using(crate::proofs::InBlocks::is_inside, crate::proofs::InBlocks::inside_is))]
+#[tactic(auto, using(crate::proofs::Blocks::is_inside, crate::proofs::Blocks::inside_is))]
 fn is_in_blocks(place: BlockPlace, count: usize, address: u64) -> bool
     requires room { block_size place.slots ≤ stride_or_dense place.slots place.stride }
     ensures inside { result ≡ true → IsInBlocks (layout_of place []) count address }
@@ -142,7 +141,7 @@ fn filled_word(place: BlockPlace, count: usize, words: &[u32]) -> Option<usize>
 }
 
 /// Whether `count` blocks at a place, and the words with which memory opens, are within `m` words of memory.
-#[tactic(auto, using(crate::proofs::Dense::rows_before))]
+#[tactic(auto, using(crate::proofs::Opened::rows_before))]
 fn fits_at(place: BlockPlace, count: usize, words: &[u32], m: usize) -> bool
     requires some { 1 ≤ count }
     requires few { count ≤ 63 }
@@ -259,7 +258,7 @@ pub fn opening_at<K: RingKind>(
 
 /// The opening of a channel of this kind through rings of `ring` slots in the dense layout, where all memory
 /// is zero. Err as [`opening_at`].
-#[tactic(auto, using(crate::proofs::Dense::dense_refusal))]
+#[tactic(auto, using(crate::proofs::Opened::dense_refusal))]
 pub fn opening<K: RingKind>(
     alloc: Global,
     lists: &[Vec<u32>],

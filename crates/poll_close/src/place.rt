@@ -1,8 +1,7 @@
 //! Where a channel's blocks lie.
 
 ghost use Rattle.std.specs.Prelude.{◌≡◌, ◌<◌, ◌^◌, []};
-ghost use Rattle.poll_close.specs.Layout.{dense};
-ghost use Rattle.poll_close.specs.Places.{layout_of, stride_or_dense};
+ghost use Rattle.poll_close.specs.Layout.{dense, layout_of, stride_or_dense};
 
 /// Where the blocks of a channel lie in memory.
 #[derive(Clone, Copy, PartialEq, Eq)]

@@ -12,7 +12,7 @@ use Rattle.step_machine.specs.Access.{Access, nothing, load, store, exchange, fe
 use Rattle.step_machine.specs.Entries.{hart_of, is_own, own_store, stored_by, land_of, pending}
 use Rattle.step_machine.specs.Legal.{WellFormed}
 use Rattle.step_machine.proofs.Appended.{pending-last}
-use Rattle.step_machine.proofs.Balanced.{balanced}
+use Rattle.step_machine.proofs.Landings.{balanced}
 use Rattle.step_machine.proofs.OwnRuns.{kept-front}
 use Rattle.store_buffers.proofs.OwnEntries.{own_parts}
 use Rattle.queue_parties.specs.Parties.{Party, the_sender, the_receiver, other, QueueCounts, count, all_at, counts_from}

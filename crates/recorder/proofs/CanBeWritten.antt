@@ -19,8 +19,7 @@ use Rattle.step_machine.specs.declared.events.Outcome.{Outcome}
 use Rattle.step_machine.specs.declared.events.Outcome.TheVariants.{Did, Waited, NothingToLand, Over, NoHart}
 use Rattle.step_machine.proofs.{act_only, hart_follows, state_there}
 use Rattle.texts.specs.{tokens, RowPlace, fixed, any, Made, Row, Fill, IsRowOf}
-use Rattle.texts.proofs.ResultLaws.{some_is}
-use Rattle.texts.proofs.FormatLaws.{stand_all}
+use Rattle.texts.proofs.{some_is, stand_all}
 use Rattle.recorder.specs.{hart_of_event, OfHarts, HartOutcome, stopped, outcome_rows, IsWidth, IsEntryOf, OutcomeFits, IsOutcomeOf, Step, events_in, IsStepsOf}
 use Rattle.recorder.specs.{SizedLine, IsLineOf, record_lines, IsRecordOf, CanBeWritten, RecordFrom, IsRunRecord}
 

@@ -1,4 +1,3 @@
-pub mod Slices
 pub mod TokenLaws
 pub mod TextLaws
 pub mod HeadLaws

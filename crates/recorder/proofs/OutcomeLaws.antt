@@ -18,8 +18,7 @@ use Rattle.step_machine.specs.declared.events.Outcome.TheVariants.{Did, Waited, 
 use Rattle.texts.specs.{word_of, tokens, DecidesGrammar, or_fault, RowPlace, fixed, any, Made, Row, Fill, or_next, IsRowOf, rows_at, of_length, chain_at}
 use Rattle.texts.specs.{are_apart, Written, word_text, row_text}
 use Rattle.texts.specs.Rows.{plain, number}
-use Rattle.texts.proofs.ResultLaws.{some, some_is}
-use Rattle.texts.proofs.RowLaws.{is_low, rows-settle, rows-of_length, rows-by_name, AreSolid, decimal_says, decimal_solid, solid_by_test, row-again}
+use Rattle.texts.proofs.{some, some_is, is_low, rows-settle, rows-of_length, rows-by_name, AreSolid, decimal_says, decimal_solid, solid_by_test, row-again}
 use Rattle.recorder.specs.{AtByte, BadOutcome, hart_of_event, at_byte, HartOutcome, stop_of, outcome_rows, may_have, event_outcome, SaysOutcome, entry_row}
 use Rattle.recorder.specs.{outcome_row, outcome_text, IsEntryOf, OutcomeFits, IsOutcomeOf, HasWords, OutcomeHasWords, is_same_outcome}
 use Rattle.rv_decode.specs.Word.{IsWord}

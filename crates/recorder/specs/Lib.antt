@@ -1,5 +1,4 @@
 pub mod Schedule
-pub mod Faults
 pub mod Reading
 pub mod Writing
 pub mod Drawing

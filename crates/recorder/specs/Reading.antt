@@ -1,13 +1,12 @@
 -- Reading tokens from the left, with the first fault that is met and its byte.
-use Rattle.std.specs.Prelude.{◌≡◌, ℕ, ◌+◌, ◌-◌, ◌==◌, nat_lt, nat_le, is_some, Bool, true, false, ◌&&◌, ◌||◌}
-use Rattle.std.specs.Prelude.{if◌then◌else◌, List, [], ◌∷◌, ◌++◌, length, drop, replicate, Option, Some, None, Result}
-use Rattle.std.specs.Prelude.{Ok, Err, IfSome, codes, nat_eq}
+use Rattle.std.specs.Prelude.{◌≡◌, ℕ, ◌+◌, ◌-◌, ◌==◌, nat_lt, nat_le, is_some, Bool, true, false, ◌&&◌, ◌||◌, if◌then◌else◌, List, [], ◌∷◌, ◌++◌, length, drop}
+use Rattle.std.specs.Prelude.{replicate, Option, Some, None, Result, Ok, Err, IfSome, codes, nat_eq}
 use Rattle.std.specs.List.{starts_with}
 use Rattle.step_machine.specs.declared.events.Event.{Event}
 use Rattle.step_machine.specs.declared.events.Event.TheVariants.{Act, Land}
 use Rattle.step_machine.specs.declared.opening.TheConstants.{MAX_HARTS}
 use Rattle.recorder.specs.declared.faults.ScheduleFault.{ScheduleFault}
-use Rattle.recorder.specs.declared.faults.ScheduleFault.TheVariants.{BadHead, BadToken, BadHart, BadCount, Truncated}
+use Rattle.recorder.specs.declared.faults.ScheduleFault.TheVariants.{BadHead, BadToken, BadHart, BadCount, Truncated, BadOutcome}
 use Rattle.recorder.specs.declared.faults.AtByte.{AtByte}
 use Rattle.recorder.specs.declared.tokens.Kind.{Kind}
 use Rattle.recorder.specs.declared.tokens.Kind.TheVariants as kinds
@@ -21,6 +20,8 @@ use Rattle.texts.specs.Cutting.{before, after, is_byte}
 use Rattle.texts.specs.Formats.{or_fault, read_in_turn}
 use Rattle.texts.specs.declared.errors.TextError.{TextError}
 use Rattle.texts.specs.Results.{◌>>=◌, refusal_of}
+use Rattle.recorder.specs.declared.replaying.CheckError.{CheckError}
+use Rattle.recorder.specs.declared.replaying.CheckError.TheVariants.{NoMemory, Differs}
 
 abbrev pub at_byte : ScheduleFault → (place : ℕ) → AtByte
 at_byte fault place = record { fault = fault; place = place }
@@ -111,3 +112,17 @@ plain_at text = if has_head head text then tokens_from 15 MAX_EVENTS text else E
 abbrev pub Pushes : {E : Type 0} → List E → List E → Result (Unit {0}) (TextError AtByte) → Result (List E) AtByte → Type 0
 Pushes {E = E} old new (Ok x) answer = (elements : List E) × (answer ≡ Ok elements) × (new ≡ old ++ elements)
 Pushes old new (Err e) answer = (new ≡ old) × IfSome (refusal_of e) (λ refusal. answer ≡ Err refusal)
+
+-- ---- the numbers by which texts name the faults of schedules, and that a record's run differs
+
+abbrev pub schedule_number : ScheduleFault → ℕ
+schedule_number BadHead = 27
+schedule_number BadToken = 28
+schedule_number BadHart = 29
+schedule_number BadCount = 30
+schedule_number Truncated = 31
+schedule_number BadOutcome = 39
+
+abbrev pub check_number : CheckError → ℕ
+check_number NoMemory = 0
+check_number (Differs place) = 38

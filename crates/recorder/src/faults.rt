@@ -30,7 +30,7 @@ pub enum ScheduleFault {
 }
 
 impl Numbered for ScheduleFault {
-    ghost use Rattle.recorder.specs.Faults.{schedule_number};
+    ghost use Rattle.recorder.specs.Reading.{schedule_number};
 
     ghost number = { schedule_number };
 

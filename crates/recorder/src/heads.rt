@@ -18,7 +18,7 @@ fn line_ends(following: &[u8]) -> bool
 }
 
 /// Whether the text's first line is this head.
-#[tactic(auto, using(crate::proofs::Slices::rest_from), unfolding(crate::specs::Reading::has_head))]
+#[tactic(auto, using(crate::proofs::TextLaws::rest_from), unfolding(crate::specs::Reading::has_head))]
 pub fn has_head(head: &str, text: &[u8]) -> bool
     ensures exact { result ≡ reading.has_head head.now text.now }
     ensures whole { IsTrue result → length head.now ≤ length text.now }

@@ -54,7 +54,7 @@ impl From<AllocError> for CheckError {
 
 /// The number of what went wrong: 38 where an outcome differs, and 0 where memory ran out.
 impl Numbered for CheckError {
-    ghost use Rattle.recorder.specs.Faults.{check_number};
+    ghost use Rattle.recorder.specs.Reading.{check_number};
 
     ghost number = { check_number };
 

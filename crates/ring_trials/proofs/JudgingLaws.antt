@@ -6,15 +6,17 @@ use Rattle.step_machine.specs.declared.events.Event.{Event}
 use Rattle.step_machine.specs.declared.events.Entry.{Entry}
 use Rattle.step_machine.specs.declared.events.Outcome.{Outcome}
 use Rattle.step_machine.specs.declared.events.Outcome.TheVariants as outcome
-use Rattle.step_machine.specs.Names.{OpeningValue, History, at_opening, reported, Happens, RepresentsHistory, MovesBy, BeginsAnew, RepresentsRunFrom, Config}
+use Rattle.step_machine.specs.Names.{OpeningValue, History, at_opening, FitsIn, reported, Happens, RepresentsHistory, MovesBy, BeginsAnew, RepresentsRunFrom}
+use Rattle.step_machine.specs.Names.{Config}
 use Rattle.step_machine.proofs.Running.{RunFrom-more}
 use Rattle.poll_close.specs.Layout.{Layout}
 use Rattle.poll_close.specs.Violations.{violation_of, or_later, violation_after, first_violation, AreNotes}
 use Rattle.poll_close.specs.declared.clean.Violation.{Violation}
 use Rattle.poll_close.specs.declared.clean.Share.{Share}
-use Rattle.ring_trials.specs.UserChannel.{lists_of, layout_from, start_of}
+use Rattle.ring_trials.specs.UserChannel.{lists_of, layout_from, start_of, ring_of, OpensOver}
 use Rattle.ring_trials.specs.Trials.{AreNoted, entries_with, IsChannelJudged, IsChannelJudgedAt}
 use Rattle.ring_trials.specs.declared.user_channel.UserChannel.{UserChannel}
+use Rattle.poll_close.proofs.Delivering.{channel-fits}
 
 or_later-assoc : (a b c : Option Violation) → or_later (or_later a b) c ≡ or_later a (or_later b c)
 or_later-assoc None b c = refl
@@ -117,3 +119,8 @@ pub judged_at : (B M : ℕ) (channel : UserChannel) (events : List Event) (c : C
     → IsChannelJudged B M channel events found shares × RepresentsRunFrom B M (start_of channel) c
 judged_at B M channel events c found shares judged =
     (record { history = judged.history; run = judged.run; noted = judged.noted }, (judged.history, judged.stands, judged.opening))
+
+-- ---- a channel's machine opens
+
+pub opening_fits : (M : ℕ) (channel : UserChannel) (o : OpeningValue) → OpensOver M channel o → FitsIn M o
+opening_fits M channel o opens = channel-fits (ring_of channel) M (lists_of channel) (layout_from channel) o opens.short opens.accepted opens.is

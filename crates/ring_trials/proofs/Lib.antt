@@ -1,4 +1,3 @@
 pub mod JudgingLaws
 pub mod RunsLaws
 pub mod TextLaws
-pub mod OpeningLaws

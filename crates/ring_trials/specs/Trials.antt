@@ -12,12 +12,12 @@ use Rattle.step_machine.specs.Standing.{RepresentsHistory, RepresentsRunFrom}
 use Rattle.step_machine.specs.inner.Config.{Config}
 use Rattle.drawn_runs.specs.Samples.{DrawnRuns, schedule_in}
 use Rattle.poll_close.specs.Layout.{base_of}
-use Rattle.poll_close.specs.Reports.{taken}
+use Rattle.poll_close.specs.Delivery.{taken}
 use Rattle.poll_close.specs.Plans.{is_closed}
 use Rattle.poll_close.specs.Violations.{first_violation, AreNotes, IsKept}
 use Rattle.poll_close.specs.declared.clean.Violation.{Violation}
 use Rattle.poll_close.specs.declared.clean.Share.{Share}
-use Rattle.judged_runs.specs.Histories.{AreRuns}
+use Rattle.judged_runs.specs.Telling.{AreRuns}
 use Rattle.ring_trials.specs.UserChannel.{lists_of, layout_from, start_of}
 use Rattle.ring_trials.specs.declared.user_channel.UserChannel.{UserChannel}
 use Rattle.ring_trials.specs.declared.runs.Total.{Total}

@@ -1,9 +1,8 @@
 -- A channel over two programs of a user's own.
 use Rattle.std.specs.Prelude.{ℕ, ◌≡◌, List, [], map}
 use Rattle.step_machine.specs.History.{OpeningValue}
-use Rattle.poll_close.specs.Layout.{Layout}
+use Rattle.poll_close.specs.Layout.{Layout, layout_of}
 use Rattle.poll_close.specs.Laws.{Ring, FitsHart, AcceptedAt, opening_over}
-use Rattle.poll_close.specs.Places.{layout_of}
 use Rattle.ring_trials.specs.declared.user_channel.UserChannel.{UserChannel}
 
 -- its programs, as a ring of one slot or more

@@ -1,2 +1,1 @@
 pub mod SeatsComplete
-pub mod ThreadRuns

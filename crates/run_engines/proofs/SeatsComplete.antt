@@ -1,19 +1,26 @@
--- Which faults of threads the command `threads` refuses with: `threads_refused`. The seats that it opens are complete,
--- one of each role for each hart and no other. So `Missing` can only mean that the bank has lost a hart.
+-- Which faults of threads the command `threads` refuses with: `threads_refused`. The seats that it opens are
+-- complete, one of each role for each hart and no other. So `Missing` can only mean that the bank has lost a
+-- hart.
 use Rattle.std.proofs.Common.{◌≡◌, inl, inr, ℕ, zero, suc, ◌+◌, ◌≤◌, Bool, true, false, ltb, eqb, cond, List, [], ◌∷◌, length, count_by, Err, refl, sym, ◌∙◌}
-use Rattle.std.proofs.Common.{ap, subst, arith}
+use Rattle.std.proofs.Common.{ap, subst, arith, ◌<◌, ◌++◌}
 use Rattle.std.specs.List.{list_any}
 use Rattle.std.proofs.lemmas.Bool.{cases_Bool, le-ltb, ltb-false, ne_eqb}
 use Rattle.std.proofs.lemmas.Bool.Decides.{nat_tests}
 use Rattle.std.proofs.lemmas.List.Folds.{list_any-append}
 use Rattle.std.proofs.lemmas.List.Sums.{sum_by-append}
-use Rattle.step_machine.specs.History.{OpeningValue}
+use Rattle.step_machine.specs.Names.{OpeningValue, IsOfHarts, event_of}
 use Rattle.litmus.specs.LitmusTests.{LitmusTest}
 use Rattle.hart_threads.specs.{SeatView, acting_seat, landing_seat, seats_below, seats_of, is_missing, sits_at, acts_for, lands_for, Fails, IsLost}
 use Rattle.hart_threads.specs.declared.fault.Fault.{Fault}
 use Rattle.hart_threads.specs.declared.fault.Fault.TheVariants as fault
 use Rattle.engine_support.specs.{AnswersAs, text_and_value}
 use Rattle.run_engines.specs.Threads.{IsThreadsGiven, fault_of_threads}
+use Rattle.std.specs.Prelude.{map, All}
+use Rattle.std.proofs.lemmas.List.Elements.{All-map, All-weaker}
+use Rattle.step_machine.specs.declared.events.Event.{Event}
+use Rattle.step_machine.specs.declared.events.Entry.{Entry}
+use Rattle.step_machine.specs.Entries as entries
+use Rattle.recorder.specs.Schedule.{OfHarts, hart_of_event}
 
 -- one more hart
 one_more : (n h c : ℕ) → c ≡ cond (ltb h n) 1 0 → c + cond (eqb n h) 1 0 ≡ cond (ltb h (suc n)) 1 0
@@ -73,3 +80,18 @@ threads_refused B M n q o seats (fault.Missing h) is opening (inr lost) = (
   )),
 )
 threads_refused B M n q o seats (fault.Mismatch h es) is opening fails = (refl, inl refl)
+
+-- ---- what threads made is a schedule of harts below 64
+
+event_hart : (e : Entry) → hart_of_event (event_of e) ≡ entries.hart_of e
+event_hart e = grind arith
+
+pub of_64 : (o : OpeningValue) (evs : List Event) (es : List Entry) → evs ≡ map event_of es → All (IsOfHarts o) es → length o.harts ≤ 64 → OfHarts evs
+of_64 o evs es each of few =
+    subst OfHarts (sym each)
+    (All-map (λ (ev : Event). hart_of_event ev < 64) event_of es
+    (All-weaker (IsOfHarts o) (λ (e : Entry). hart_of_event (event_of e) < 64)
+    (λ e lt. (let same : hart_of_event (event_of e) ≡ entries.hart_of e = event_hart e in omega arith)) es of))
+
+pub joined : (all text more a b : List ℕ) → all ≡ text ++ more → text ≡ a → more ≡ b → all ≡ a ++ b
+joined all text more a b p q r = cc

@@ -1,4 +1,2 @@
 pub mod Run
-pub mod Replay
-pub mod Move
 pub mod Threads

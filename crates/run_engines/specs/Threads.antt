@@ -17,8 +17,7 @@ use Rattle.engine_support.specs.declared.fault.Fault.{Fault}
 use Rattle.engine_support.specs.declared.fault.Fault.TheVariants.{NoMemory, Refused}
 use Rattle.engine_support.specs.declared.fault.Refusal.{Refusal}
 use Rattle.engine_support.specs.declared.fault.Position.TheVariants.{Nowhere}
-use Rattle.engine_support.specs.Inputs.{After}
-use Rattle.engine_support.specs.Tests.{tests}
+use Rattle.engine_support.specs.Inputs.{After, tests}
 use Rattle.engine_support.specs.declared.input.TheConstants.{INPUT_BYTES}
 use Rattle.run_engines.specs.Run.{IsJudged}
 

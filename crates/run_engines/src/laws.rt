@@ -4,9 +4,7 @@ ghost use Rattle.std.specs.Prelude.{ℕ, List, Result, Some};
 ghost use Rattle.litmus.specs.declared.verdict.Verdict.{Verdict};
 ghost use Rattle.engine_support.specs.declared.fault.Refusal.{Refusal};
 ghost use Rattle.engine_support.specs.Engines.{Output, AreOneAnswer};
-ghost use Rattle.run_engines.specs.Run.{IsRunAnswer};
-ghost use Rattle.run_engines.specs.Replay.{IsReplayAnswer};
-ghost use Rattle.run_engines.specs.Move.{IsMoveAnswer};
+ghost use Rattle.run_engines.specs.Run.{IsRunAnswer, IsReplayAnswer, IsMoveAnswer};
 
 /// What a command answers is one function of the litmus text and the schedule: the output with the exit status's value,
 /// or a refusal. Of a refused litmus text it isn't said on which line its first fault stands, so the number of the refusal

@@ -2,9 +2,8 @@
 
 ghost use Rattle.std.specs.Prelude.{◌≡◌, ◌≤◌};
 ghost use Rattle.engine_support.specs.Engines.{Ends};
-ghost use Rattle.engine_support.specs.Inputs.{IsRefused};
-ghost use Rattle.engine_support.specs.Tests.{tests};
-ghost use Rattle.run_engines.specs.Move.{IsMoved, IsMoveAnswer};
+ghost use Rattle.engine_support.specs.Inputs.{IsRefused, tests};
+ghost use Rattle.run_engines.specs.Run.{IsMoved, IsMoveAnswer};
 ghost use Rattle.litmus.specs.declared.litmus_test.TheConstants.{MAX_LOCATIONS};
 
 use engine_support::command::{ScheduleCommand, schedule_engine};

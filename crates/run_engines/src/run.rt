@@ -5,10 +5,9 @@ ghost use Rattle.std.specs.String.{string_bytes};
 ghost use Rattle.step_machine.specs.Standing.{ForEachHistory};
 ghost use Rattle.engine_support.specs.Engines.{Ends};
 ghost use Rattle.engine_support.specs.Histories.{AnswersRun};
-ghost use Rattle.engine_support.specs.Inputs.{IsRefused};
-ghost use Rattle.engine_support.specs.Tests.{tests};
+ghost use Rattle.engine_support.specs.Inputs.{IsRefused, tests};
 ghost use Rattle.run_engines.specs.Run.{verdict_line, IsJudged, IsRunAnswer};
-ghost use Rattle.engine_support.specs.inner.Making.{text_and_value};
+ghost use Rattle.engine_support.specs.inner.{text_and_value};
 ghost use Rattle.litmus.specs.declared.litmus_test.TheConstants.{MAX_LOCATIONS};
 
 use engine_support::command::{ScheduleCommand, schedule_engine};

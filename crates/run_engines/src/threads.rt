@@ -8,7 +8,7 @@ ghost use Rattle.engine_support.specs.Engines.{Ends};
 ghost use Rattle.engine_support.specs.Faults.{AnswersAs, too_large};
 ghost use Rattle.engine_support.specs.declared.fault.Fault.TheVariants.{NoMemory, Refused};
 ghost use Rattle.run_engines.specs.Threads.{fault_of_threads, IsThreadsGiven, IsThreadsAnswer};
-ghost use Rattle.engine_support.specs.inner.Making.{FindsUpToReads, text_and_value};
+ghost use Rattle.engine_support.specs.inner.{FindsUpToReads, text_and_value};
 ghost use Rattle.step_machine.specs.declared.opening.TheConstants.{MAX_HARTS};
 ghost use Rattle.litmus.specs.declared.litmus_test.TheConstants.{MAX_LOCATIONS};
 ghost use Rattle.recorder.specs.declared.reading.TheConstants.{MAX_EVENTS};

@@ -1,4 +1,3 @@
-pub mod Bits
 pub mod Unique
 pub mod Meanings
 pub mod Words

@@ -3,7 +3,7 @@ use Rattle.std.proofs.Common.{◌≡◌, ℕ, true, List, [], ◌∷◌, Option,
 use Rattle.std.specs.Prelude.{find, option_map, bytes_eq, IfSome, nat_lt}
 use Rattle.std.specs.List.{list_all}
 use Rattle.std.proofs.lemmas.Bool.{cases_Bool, ltb-true, and_parts}
-use Rattle.rv_decode.specs.Tables.{row_of}
+use Rattle.rv_decode.specs.Registers.{row_of}
 
 pub find_row : {R V : Type 0} (name : R → List ℕ) (value : R → V) (rows : List R) (text : List ℕ)
     → option_map value (find (λ row. bytes_eq (name row) text) rows) ≡ row_of name value rows text

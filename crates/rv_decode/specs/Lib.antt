@@ -2,7 +2,6 @@ pub mod Word
 pub mod Means
 pub mod Meaning
 pub mod Fits
-pub mod Tables
 pub mod Registers
 pub mod Listings
 pub use Rattle.rv_decode.specs.Word.{IsWord, field, funct3_of, funct7_of, imm_b, imm_i, imm_j, imm_s, imm_u, opcode_of, rd_of, rs1_of, rs2_of}
@@ -12,8 +11,7 @@ pub use Rattle.rv_decode.specs.Meaning.{amos, auipc, branches, ebreak, ecall, fe
 pub use Rattle.rv_decode.specs.Meaning.{rows, shifts, stores}
 unfoldable pub use Rattle.rv_decode.specs.Meaning.{meaning}
 pub use Rattle.rv_decode.specs.Fits.{IsEven, IsPlainWord, IsSigned}
-pub use Rattle.rv_decode.specs.Tables.{row_of}
-pub use Rattle.rv_decode.specs.Registers.{register_names}
+pub use Rattle.rv_decode.specs.Registers.{register_names, row_of}
 unfoldable pub use Rattle.rv_decode.specs.Registers.{register_named}
 pub use Rattle.rv_decode.specs.Listings.{lines_of, words_of}
 pub use Rattle.rv_decode.specs.declared.instruction.AmoOp.{AmoOp}

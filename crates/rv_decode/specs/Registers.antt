@@ -1,8 +1,14 @@
--- The registers' names: their numbers, and the names of the standard calling convention.
-use Rattle.std.specs.Prelude.{ℕ, List, [], ◌∷◌, codes, Option, option_map}
+-- Names looked up in tables. The registers' names: their numbers, and the names of the standard calling
+-- convention.
+use Rattle.std.specs.Prelude.{ℕ, List, [], ◌∷◌, Option, Some, None, if◌then◌else◌, codes, option_map}
+use Rattle.std.specs.Str.{bytes_eq}
 use Rattle.rv_decode.specs.Meaning.{reg_of}
 use Rattle.rv_decode.specs.declared.instruction.Reg.{Reg}
-use Rattle.rv_decode.specs.Tables.{row_of}
+
+-- the value of the first row whose name is the text
+abbrev pub row_of : {R V : Type 0} → (R → List ℕ) → (R → V) → List R → List ℕ → Option V
+row_of name value [] text = None
+row_of name value (row ∷ rows) text = if bytes_eq (name row) text then Some (value row) else row_of name value rows text
 
 abbrev pub register_names : List (List ℕ × ℕ)
 register_names =

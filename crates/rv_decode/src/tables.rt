@@ -3,7 +3,7 @@
 ghost use Rattle.std.specs.Prelude.{◌≡◌, find};
 ghost use Rattle.std.specs.Option.{option_copied};
 ghost use Rattle.std.specs.Str.{bytes_eq};
-ghost use Rattle.rv_decode.specs.Tables.{row_of};
+ghost use Rattle.rv_decode.specs.Registers.{row_of};
 
 fn is_text(name: &str, text: &[u8]) -> bool
     ensures { result ≡ bytes_eq name.now text.now }

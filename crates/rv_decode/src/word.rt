@@ -8,7 +8,7 @@ ghost use Rattle.rv_decode.specs.Word.{field, imm_i, imm_s, imm_b, imm_u, imm_j}
 use crate::instruction::Reg;
 
 /// The number that the `width` bits of `word` from bit `low` up make.
-#[tactic(auto, using(crate::proofs::Bits::and_low_mask))]
+#[tactic(auto, using(crate::proofs::Words::and_low_mask))]
 pub(crate) const fn field(word: u32, low: u32, width: u32) -> u32
     requires low { low < 32 }
     requires width { width < 32 }
@@ -18,7 +18,7 @@ pub(crate) const fn field(word: u32, low: u32, width: u32) -> u32
 }
 
 /// The bits of `high` with the `width` bits of `low` after them.
-#[tactic(auto, using(crate::proofs::Bits::or_after_shl))]
+#[tactic(auto, using(crate::proofs::Words::or_after_shl))]
 pub(crate) const fn join(high: u32, width: u32, low: u32) -> u32
     requires width { width < 32 }
     requires low { low < 2 ^ width }

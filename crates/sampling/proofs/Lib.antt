@@ -7,4 +7,3 @@ pub mod RedrawnLaws
 pub mod EndVerdicts
 pub mod TransitionLaws
 pub mod GrownTransitions
-pub mod StopLaws

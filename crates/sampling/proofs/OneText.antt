@@ -7,7 +7,7 @@ use Rattle.step_machine.specs.declared.events.Event.{Event}
 use Rattle.step_machine.proofs.Running.{run-one}
 use Rattle.litmus.specs.{LitmusTest, left_sides, IsVerdict, final_value}
 use Rattle.litmus.specs.declared.verdict.Verdict.{Verdict}
-use Rattle.litmus.proofs.VerdictLaws.{one_verdict}
+use Rattle.litmus.proofs.TestLaws.{one_verdict}
 use Rattle.engine_support.specs.declared.fault.Refusal.{Refusal}
 use Rattle.engine_support.specs.{AreOneAnswer, AreOutcomes, tests}
 use Rattle.engine_support.proofs.{alike_after, one_litmus_text, one_made, equal_alike, one_outcomes}

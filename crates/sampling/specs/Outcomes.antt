@@ -9,8 +9,7 @@ use Rattle.drawn_runs.specs.Samples.{DrawnRuns}
 use Rattle.recorder.specs.Writing.{schedule_tokens}
 use Rattle.engine_support.specs.declared.fault.Refusal.{Refusal}
 use Rattle.engine_support.specs.Outcomes.{AreOutcomes, line_of}
-use Rattle.engine_support.specs.Inputs.{After}
-use Rattle.engine_support.specs.Tests.{tests}
+use Rattle.engine_support.specs.Inputs.{After, tests}
 use Rattle.sampling.specs.Trials.{Trial, AreDrawnTrials, is_finished, gave, are_good}
 use Rattle.sampling.specs.declared.trials.outcomes.Unfinished.{Unfinished}
 use Rattle.sampling.specs.declared.trials.outcomes.Unfinished.TheVariants.{Counted, Shown}

@@ -113,7 +113,7 @@ impl Stops {
     }
 
     /// Counts that each of these harts is stopped once more.
-    #[tactic(auto, using(crate::proofs::StopLaws::noted_more))]
+    #[tactic(auto, using(crate::proofs::TransitionLaws::noted_more))]
     pub fn note_each(&mut self, stopped: &[Stopped])
         ensures count { length self.new ≡ length self.old }
         ensures times { NotesStops false stopped.now self.old self.new }
@@ -159,7 +159,7 @@ impl Stops {
 }
 
 /// Which harts of the machine are stopped, in the order of their numbers.
-#[tactic(auto, using(crate::proofs::StopLaws::first_more))]
+#[tactic(auto, using(crate::proofs::TransitionLaws::first_more))]
 pub fn stopped_into<const B: usize, const M: usize>(
     stopped: &mut Vec<Stopped>,
     machine: &MachineState<B, M>,

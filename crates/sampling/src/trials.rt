@@ -4,7 +4,7 @@ ghost use Rattle.std.specs.Prelude.{◌≤◌, IfOk};
 ghost use Rattle.engine_support.specs.Engines.{Ends};
 ghost use Rattle.sampling.specs.Outcomes.{IsTried, IsTryAnswer};
 ghost use Rattle.sampling.specs.declared.trials.outcomes.Unfinished.{Unfinished};
-ghost use Rattle.engine_support.specs.inner.Making.{FindsUpToReads};
+ghost use Rattle.engine_support.specs.inner.{FindsUpToReads};
 ghost use Rattle.sampling.specs.inner.Tallies.{name_of_run, text_and_good};
 ghost use Rattle.drawn_runs.specs.Samples.{runs_of};
 ghost use Rattle.litmus.specs.declared.litmus_test.TheConstants.{MAX_LOCATIONS};

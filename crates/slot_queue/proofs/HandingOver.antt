@@ -13,7 +13,7 @@ use Rattle.step_machine.specs.Access.{Access, nothing, load, store, exchange, fe
 use Rattle.step_machine.specs.Entries.{hart_of, pending, own_stores, lands, memory_byte, read_byte}
 use Rattle.step_machine.specs.Legal.{Legal}
 use Rattle.step_machine.proofs.Appended.{lands-append, LegalAfter-front, LegalAfter-back}
-use Rattle.step_machine.proofs.Balanced.{balanced}
+use Rattle.step_machine.proofs.Landings.{balanced}
 use Rattle.store_buffers.specs.StoreBuffers.{LeavesByte, LeavesByteBy, LeavesByteAt, AllLeaveByte, IsOnlyWriter}
 use Rattle.store_buffers.proofs.Reading.{passed_over}
 use Rattle.store_buffers.proofs.MessagePassing.{kept, handed_over}

@@ -13,7 +13,7 @@ use Rattle.step_machine.specs.Access.{Access, nothing, load, store, exchange, fe
 use Rattle.step_machine.specs.Entries.{hart_of, stored_by, landed_by, written_by, land_of, write_of, pending, own_stores, lands, read}
 use Rattle.step_machine.specs.Legal.{AllowedBy, Allowed, LegalAfter, Legal}
 use Rattle.step_machine.proofs.Appended.{LegalAfter-front, LegalAfter-back, LegalAfter-append, stores-append, lands-append}
-use Rattle.step_machine.proofs.Balanced.{balanced}
+use Rattle.step_machine.proofs.Landings.{balanced}
 use Rattle.queue_parties.specs.Parties.{Party, other, QueueCounts, count, known}
 use Rattle.queue_parties.proofs.Parties.{Whose, mine, theirs, whose, two, twice, counts-append, keeps-front, keeps-back}
 use Rattle.slot_queue.specs.Queues.{Queue, IsQueue}

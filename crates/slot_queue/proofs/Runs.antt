@@ -11,8 +11,8 @@ use Rattle.step_machine.specs.Access.{Access, nothing, load, store, exchange, fe
 use Rattle.step_machine.specs.Entries.{hart_of, stored_by, landed_by, written_by, write_of, pending, own_stores, lands, read}
 use Rattle.step_machine.specs.Legal.{AllowedBy, Allowed, LegalAfter, Legal}
 use Rattle.step_machine.proofs.Appended.{LegalAfter-front, LegalAfter-back, LegalAfter-append}
-use Rattle.step_machine.proofs.Balanced.{balanced}
-use Rattle.step_machine.proofs.Lists.{some_first}
+use Rattle.step_machine.proofs.Landings.{balanced}
+use Rattle.step_machine.proofs.Changed.{some_first}
 use Rattle.store_buffers.specs.StoreBuffers.{memory_number}
 use Rattle.queue_parties.specs.Parties.{Party, the_sender, the_receiver, other, QueueCounts, IsWindow, count, known}
 use Rattle.queue_parties.proofs.Parties.{Whose, mine, theirs, whose, harts-apart, two, twice, count-set}

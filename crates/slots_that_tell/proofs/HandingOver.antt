@@ -13,7 +13,7 @@ use Rattle.step_machine.specs.Access.{Access, nothing, load, store, exchange, fe
 use Rattle.step_machine.specs.Entries.{hart_of, stored_by, own_store, pending, own_stores, landed_by, land_of, lands, memory_byte, read_byte}
 use Rattle.step_machine.specs.Legal.{Legal}
 use Rattle.step_machine.proofs.Appended.{stores-append, lands-append, LegalAfter-front, LegalAfter-back}
-use Rattle.step_machine.proofs.Balanced.{balanced}
+use Rattle.step_machine.proofs.Landings.{balanced}
 use Rattle.store_buffers.specs.StoreBuffers.{LeavesByte, LeavesByteBy, AllLeaveByte, IsOnlyWriter, LeavesByteAt}
 use Rattle.store_buffers.proofs.MessagePassing as passing
 use Rattle.store_buffers.proofs.MessagePassing.{handed_over}

@@ -10,7 +10,7 @@ use Rattle.step_machine.specs.Access.{Access, nothing, load, store, exchange, fe
 use Rattle.step_machine.specs.Entries.{hart_of, landed_by, written_by, land_of, write_of, pending, own_stores, lands, read}
 use Rattle.step_machine.specs.Legal.{AllowedBy, Allowed, LegalAfter, Legal}
 use Rattle.step_machine.proofs.Appended.{LegalAfter-front, LegalAfter-back, LegalAfter-append, stores-append, lands-append}
-use Rattle.step_machine.proofs.Balanced.{balanced}
+use Rattle.step_machine.proofs.Landings.{balanced}
 use Rattle.queue_parties.specs.Parties.{Party, other, QueueCounts, count, known}
 use Rattle.queue_parties.proofs.Parties.{counts-append, keeps-front, keeps-back}
 use Rattle.slots_that_tell.specs.Slots.{Slots, IsSlots}

@@ -9,7 +9,7 @@ use Rattle.step_machine.specs.Entries.{hart_of, pending, read}
 use Rattle.step_machine.specs.Access.{load, access_of}
 use Rattle.step_machine.specs.Legal.{AllowedBy, LegalAfter, Legal}
 use Rattle.step_machine.proofs.Appended.{LegalAfter-front, LegalAfter-back, LegalAfter-append}
-use Rattle.step_machine.proofs.Balanced.{balanced}
+use Rattle.step_machine.proofs.Landings.{balanced}
 use Rattle.queue_parties.specs.Parties.{Party, the_sender, the_receiver, other, QueueCounts, count, known, IsWindow}
 use Rattle.slots_that_tell.specs.Slots.{Slots, IsSlots, RestsAt, KeepsOff, gap, tag_of, memory_tag}
 use Rattle.slots_that_tell.specs.Telling.{teller_hart, after_entry, told_counts, KeepsTelling}

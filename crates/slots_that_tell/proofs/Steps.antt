@@ -11,7 +11,7 @@ use Rattle.step_machine.specs.History.{OpeningValue}
 use Rattle.step_machine.specs.Access.{Access, nothing, load, store, exchange, fence, land, access_of}
 use Rattle.step_machine.specs.Entries.{hart_of, stored_by, landed_by, written_by, own_store, land_of, write_of, pending, own_stores, lands, read}
 use Rattle.step_machine.specs.Legal.{AllowedBy, Allowed}
-use Rattle.step_machine.proofs.Lists.{some_first}
+use Rattle.step_machine.proofs.Changed.{some_first}
 use Rattle.store_buffers.proofs.Effects.{stored_none, pending-quiet, pending-more, pending-first}
 use Rattle.queue_parties.specs.Parties.{Party, other, QueueCounts, count, known, with_known}
 use Rattle.queue_parties.proofs.Parties.{two, twice, count-set, count-set-other, known-set-count, count-set-known, known-set, known-set-other}

@@ -36,7 +36,7 @@ pub use Rattle.spsc_queue.specs.Protocol.{send_store, waiting, watched_address}
 pub use Rattle.spsc_queue.specs.RingBuffers.{IsQuiescent, IsRingBuffer, IsWordIn, Kind, RingBuffer, capacity, capacity_of, fastforward, lamport, next, overlaps}
 pub use Rattle.spsc_queue.specs.RingBuffers.{publishes, releases, slot_address, slot_offset, unpublished, unreleased, writes_to}
 pub use Rattle.step_machine.proofs.Appended.{LegalAfter-back, LegalAfter-front, stores-append}
-pub use Rattle.step_machine.proofs.Balanced.{balanced}
+pub use Rattle.step_machine.proofs.Landings.{balanced}
 pub use Rattle.step_machine.proofs.Lines.{add_line, goes_to, leaves_in, load_line, other_jumps, same_goes_on, word-plus}
 pub use Rattle.step_machine.specs.Access.{Access, access_of, exchange, land, load, nothing, store}
 pub use Rattle.step_machine.specs.Entries.{hart_of, is_land, is_own, lands, memory_byte, memory_word, own, own_store, own_stores, pending, read, read_byte}

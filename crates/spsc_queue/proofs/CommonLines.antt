@@ -12,7 +12,7 @@ use Rattle.spsc_queue.specs.Protocol.{sends}
 use Rattle.spsc_queue.specs.Calls.{Party, the_sender, the_receiver}
 use Rattle.step_machine.proofs.Lines.{store_line}
 use Rattle.spsc_queue.proofs.Courses.{At, at_00, at_04, at_24, at_28, at_2C, at_30, number, went, bytes_of}
-use Rattle.spsc_queue.proofs.Words.{word_overlaps}
+use Rattle.spsc_queue.proofs.Numbers.{word_overlaps}
 use Rattle.spsc_queue.proofs.Outline.{part, role, IsOffset, Near, index_at, ready, put, all_accesses, Ready, Half, Row, IsStore, Moves, Part, Stored, more}
 use Rattle.spsc_queue.proofs.Parts.{copied, ready-offset, stored-offset, slot-sent}
 use Rattle.spsc_queue.proofs.AllLines.{Spot, to_line, loads_to, stores_to, line_at, on, over, wraps_not, wraps, to_indexed, ready_5, ready_on, to_half}

@@ -21,7 +21,7 @@ use Rattle.spsc_queue.specs.Example.{hart_of_party, opening, first_events, lead_
 use Rattle.spsc_queue.specs.Example.{state_after, answer, access_count, sent, received}
 use Rattle.spsc_queue.proofs.Registers.{thirteen}
 use Rattle.spsc_queue.proofs.Parts.{copied_in}
-use Rattle.spsc_queue.proofs.Words.{both}
+use Rattle.spsc_queue.proofs.Numbers.{both}
 use Rattle.spsc_queue.proofs.Obligations.{obligations_decided}
 use Rattle.hart.specs.declared.status.Status.TheVariants as status
 use Rattle.hart.specs.declared.need.Need.TheVariants as need

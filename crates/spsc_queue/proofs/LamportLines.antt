@@ -13,7 +13,7 @@ use Rattle.spsc_queue.specs.Listings.{try_send, try_receive}
 use Rattle.spsc_queue.specs.Cached.{cached_send}
 use Rattle.spsc_queue.specs.Calls.{the_sender, the_receiver}
 use Rattle.step_machine.proofs.Lines.{sum_line, store_line, jump_line, same_jumps, other_goes_on}
-use Rattle.spsc_queue.proofs.Words.{word_overlaps}
+use Rattle.spsc_queue.proofs.Numbers.{word_overlaps}
 use Rattle.spsc_queue.proofs.Registers.{set-same, set-other, decoded, code_room, next_line, line_on, line_back}
 use Rattle.spsc_queue.proofs.Courses.{At, at_04, at_08, at_0C, at_10, at_14, at_18, at_1C, at_20, at_24, at_2C, at_34, at_38, at_3C, at_40, number, Equipped}
 use Rattle.spsc_queue.proofs.Courses.{Course, went, left_on, frame_on, frame_set, more_left, more_frame, bytes_of, free_6, free_7, free_11}

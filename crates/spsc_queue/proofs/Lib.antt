@@ -1,5 +1,4 @@
 pub mod Common
-pub mod Words
 pub mod Cases
 pub mod Offsets
 pub mod OwnWords

@@ -1,5 +1,6 @@
 -- Lists of numbers by their places.
-use Rattle.spsc_queue.proofs.Common.{ℕ, zero, suc, ◌+◌, ◌-◌, ◌<◌, ◌≤◌, ◌≡◌, List, [], ◌∷◌, ◌++◌, refl, sym, ◌∙◌, ap, arith, slice_index}
+use Rattle.spsc_queue.proofs.Common.{ℕ, zero, suc, ◌+◌, ◌-◌, ◌<◌, ◌≤◌, ◌≡◌, List, [], ◌∷◌, ◌++◌, refl, sym, ◌∙◌, ap, arith, slice_index, ◌&&◌, Bool, true}
+use Rattle.spsc_queue.proofs.Common.{false, nat_tests, Write, RingBuffer, IsWordIn, overlaps, IsWordAt}
 use Rattle.queue_parties.specs.Positions.{numbers_from}
 use Rattle.queue_parties.proofs.Records.{numbers-split}
 use Rattle.spsc_queue.proofs.States.{firsts}
@@ -43,3 +44,14 @@ numbers-at R k zero more j below = absurd (omega (arith, below))
 numbers-at R k (suc n) more zero below = let here : k ≡ k + 0 = omega arith in ap R here
 numbers-at R k (suc n) more (suc j) below =
     let on : (k + 1) + j ≡ k + suc j = omega arith in numbers-at R (k + 1) n more j (omega (arith, below)) ∙ ap R on
+
+-- ---- two tests as one, and stores to words of the block
+
+pub both : (p q : Bool) → (p && q) ≡ true → (p ≡ true) × (q ≡ true)
+both true true is = (refl, refl)
+both true false is = absurd (cc)
+both false q is = absurd (cc)
+
+-- a store to a word of the block is on it
+pub word_overlaps : (r : RingBuffer) (w : Write) (a : ℕ) → IsWordIn r a → IsWordAt w a → overlaps r w ≡ true
+word_overlaps r w a word is = grind (arith, nat_tests, word.above, word.below, is.place, is.width)

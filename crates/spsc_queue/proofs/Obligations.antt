@@ -9,7 +9,7 @@ use Rattle.hart.specs.Steps.{advanced}
 use Rattle.spsc_queue.specs.Calls.{Party, the_sender, the_receiver}
 use Rattle.spsc_queue.specs.Obligations.{writes_nothing_to, may_pass, has_arguments, party_keeps_in, party_keeps, others_keep, obligation_kept}
 use Rattle.spsc_queue.specs.Obligations.{obligations_kept_from}
-use Rattle.spsc_queue.proofs.Words.{both}
+use Rattle.spsc_queue.proofs.Numbers.{both}
 use Rattle.spsc_queue.proofs.OwnEntries.{own_is}
 use Rattle.spsc_queue.proofs.Parties.{is_busy}
 

@@ -10,7 +10,7 @@ use Rattle.hart.specs.Steps.{advanced}
 use Rattle.spsc_queue.specs.Calls.{Party, the_sender, the_receiver}
 use Rattle.spsc_queue.specs.CallEffects.{IsWholeCall, IsCallUnderWay, IsSend, IsReceive, FoundFull, FoundEmpty}
 use Rattle.spsc_queue.proofs.Cases.{by-bool}
-use Rattle.spsc_queue.proofs.Words.{both}
+use Rattle.spsc_queue.proofs.Numbers.{both}
 use Rattle.spsc_queue.proofs.Growing.{protocol-append}
 use Rattle.spsc_queue.proofs.Courses.{at_00, Course}
 use Rattle.spsc_queue.proofs.Outline.{Part, part, role, Level, first_look, index_at, Knows, Effect, Fresh, Row, Inside, Outside, CourseStands, Stands}

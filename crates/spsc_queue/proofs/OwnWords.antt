@@ -7,7 +7,7 @@ use Rattle.spsc_queue.proofs.Common.{Entry, OpeningValue, Access, store, exchang
 use Rattle.spsc_queue.proofs.Common.{read_byte, read, own_stores, lands, Allowed, IsOnlyWriter, RingBuffer, overlaps, writes_to, WritesNothingTo, IsWordAt}
 use Rattle.memory.specs.Writes.{covers, newest_of}
 use Rattle.memory.proofs.Bytes.{joined-same, word_of_bytes, covers-yes}
-use Rattle.memory.proofs.Newest.{newest_of-append}
+use Rattle.memory.proofs.WholeWords.{newest_of-append}
 use Rattle.step_machine.specs.Entries.{landed_by}
 use Rattle.store_buffers.specs.StoreBuffers.{LeavesByte, LeavesByteBy}
 use Rattle.store_buffers.proofs.Effects.{stored_none, pending-quiet, pending-more}

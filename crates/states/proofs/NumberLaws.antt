@@ -10,7 +10,7 @@ use Rattle.std.proofs.lemmas.List.Folds.{list_any_at}
 use Rattle.std.proofs.lemmas.List.Quantifiers.{position-Some}
 use Rattle.std.proofs.lemmas.Option.{slice_get-map, slice_get-get_or, slice_get_within}
 use Rattle.std.proofs.lemmas.Slice.Eq.{bytes_eq-Decides}
-use Rattle.states.specs.Numbered.{GetsNextNumber, IsNumbered}
+use Rattle.states.specs.States.{GetsNextNumber, IsNumbered}
 
 -- whether a key has these items
 abbrev pub has_items : List ℕ → Vec ℕ → Bool

@@ -8,7 +8,7 @@ ghost use Rattle.step_machine.specs.declared.events.Event.{Event};
 ghost use Rattle.step_machine.specs.declared.events.Outcome.{Outcome};
 ghost use Rattle.step_machine.specs.Positions.{AreOfOneOpening, packed, position_of};
 ghost use Rattle.step_machine.specs.inner.Config.{Config};
-ghost use Rattle.states.specs.Ends.{StateEquivalent, EndsAtWords, IsReached};
+ghost use Rattle.states.specs.States.{StateEquivalent, EndsAtWords, IsReached};
 
 /// Machines at histories of one opening are of one opening. Then the words of a position depend on the
 /// position alone, and histories that end at the same words end alike: so what is read off the end

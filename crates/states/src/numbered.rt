@@ -26,7 +26,7 @@ impl<const B: usize, const M: usize> Model for States<B, M> {
 }
 
 impl<const B: usize, const M: usize> States<B, M> {
-    ghost use Rattle.states.specs.Numbered.{IsNumbered};
+    ghost use Rattle.states.specs.States.{IsNumbered};
 
     /// None is numbered yet.
     pub fn new(alloc: Global) -> Self

@@ -65,3 +65,9 @@ pub all_kept : {X Y : Type 0} (f : X → Y → X) (P : X → Type 0) → ((x : X
 all_kept f P keeps (x ∷ xs) (y ∷ ys) all =
     All-cons P (f x y) (changed_by f xs ys) (keeps x y (All-head P x xs all)) (all_kept f P keeps xs ys (All-tail P x xs all))
 all_kept f P keeps y z all = all
+
+-- ---- what any list has
+
+pub some_first : {A : Type 0} (xs : List A) → 0 < length xs → (x : A) × (rest : List A) × (xs ≡ x ∷ rest)
+some_first [] some = absurd (omega arith)
+some_first (x ∷ xs) some = (x, xs, refl)

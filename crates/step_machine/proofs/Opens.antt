@@ -7,8 +7,8 @@ use Rattle.std.proofs.lemmas.List.Elements.{All-map, All-nil, All-replicate}
 use Rattle.std.proofs.lemmas.Option.{slice_get-map}
 use Rattle.memory.specs.Words.{opened_words}
 use Rattle.hart.specs.State.{HartView}
-use Rattle.step_machine.specs.Names.{HartOpeningValue, OpeningValue, at_opening, FitsIn, opens_as, opened_hart, HasAddress, InMemory, FitStored, opened_stored}
-use Rattle.step_machine.specs.Names.{Config, Fit, beginning, opened_config, view_state, StoresRepresent, Represents}
+use Rattle.step_machine.specs.Names.{HartOpeningValue, OpeningValue, at_opening, FitsIn, opens_as, opened_hart, Config, Fit, beginning, opened_config}
+use Rattle.step_machine.specs.Names.{view_state, HasAddress, InMemory, FitStored, opened_stored, StoresRepresent, Represents}
 use Rattle.memory.specs.declared.writes.Write.{Write}
 
 pub fit_stored : (M : ℕ) (first : List ℕ) (harts : ℕ) → length first ≤ M → FitStored M (opened_stored M first harts)

@@ -10,7 +10,7 @@ use Rattle.hart.specs.{IsOfItsOpening, HartState, HartView}
 use Rattle.memory.specs.declared.writes.Write.{Write}
 use Rattle.memory.specs.Words.{written_since}
 use Rattle.memory.proofs.Written.{written_back, written_few}
-use Rattle.hart.proofs.PutBack.{same_state}
+use Rattle.hart.proofs.Advances.{same_state}
 use Rattle.hart.specs.declared.status.Status.{Status}
 use Rattle.hart.specs.declared.status.Status.TheVariants as status
 use Rattle.hart.specs.declared.status.Stop.TheVariants as stop

@@ -1,6 +1,6 @@
 -- What a step, a restart and words leave of a machine's position and of its opening.
-use Rattle.std.proofs.Common.{◌≡◌, ℕ, ◌+◌, List, [], ◌∷◌, Some, refl, sym, ◌∙◌, ap, subst, arith}
-use Rattle.std.specs.Prelude.{map, option_map}
+use Rattle.std.proofs.Common.{◌≡◌, ℕ, ◌+◌, List, [], ◌∷◌, Some, refl, sym, ◌∙◌, ap, subst, arith, zero, suc, get_or}
+use Rattle.std.specs.Prelude.{map, option_map, slice_set}
 use Rattle.std.specs.List.{slice_get}
 use Rattle.std.proofs.lemmas.List.{length-map}
 use Rattle.std.proofs.lemmas.Option.{slice_get-map}
@@ -98,3 +98,12 @@ end_is B M t c at_t = record {
   pending = at_t.tied.holds.buffers;
   words = λ a is. word_ends M t c.stored a at_t.tied.holds is;
 }
+
+-- ---- what a machine whose hart is put where words say leaves of its opening
+
+-- a hart that opened as the one in whose place it stands
+pub firsts_put : (hs : List HartView) (h : ℕ) (v w : HartView) → v ≡ get_or hs h v → w.first ≡ v.first
+    → map beginning (slice_set hs h w) ≡ map beginning hs
+firsts_put [] h v w is same = refl
+firsts_put (x ∷ hs) zero v w is same = ap (λ (f : HartState). f ∷ map beginning hs) (same ∙ ap (λ (y : HartView). y.first) is)
+firsts_put (x ∷ hs) (suc h) v w is same = ap (λ (fs : List HartState). x.first ∷ fs) (firsts_put hs h v w is same)

@@ -8,7 +8,7 @@ use Rattle.std.proofs.lemmas.Option.{slice_get_read}
 use Rattle.std.proofs.lemmas.List.{take-append-drop}
 use Rattle.hart.specs.{HartState, HartView, SavedView, IsSavedOf, put_back}
 use Rattle.hart.specs.declared.need.Report.{Report}
-use Rattle.hart.proofs.PutBack.{HasGoneOn, state_again, reports_again}
+use Rattle.hart.proofs.Advances.{HasGoneOn, state_again, reports_again}
 use Rattle.memory.specs.declared.writes.Write.{Write}
 use Rattle.memory.specs.Words.{written_since}
 use Rattle.memory.proofs.Written.{written_back, written_few}

@@ -8,7 +8,7 @@ use Rattle.std.proofs.lemmas.Bool.{eqb-true, eqb-false, eq-eqb, ne_eqb}
 use Rattle.std.proofs.lemmas.Option.{slice_get_within, slice_get-map, get_or_from_slice_get}
 use Rattle.std.proofs.Math.Seq.{map-set_same}
 use Rattle.memory.specs.Writes.{WritesInWord, write, byte_after, newest_of, byte_of}
-use Rattle.memory.proofs.MemoryBytes.{byte_of-write}
+use Rattle.memory.proofs.Bytes.{byte_of-write}
 use Rattle.hart.specs.{HartState, HartView, need_of, advanced, stepped, reports_after}
 use Rattle.hart.specs.declared.need.Need.{Need}
 use Rattle.hart.specs.declared.need.Report.{Report}
@@ -17,9 +17,9 @@ use Rattle.step_machine.specs.Names.{write_of, landed, opening_byte, memory_byte
 use Rattle.step_machine.specs.Names.{view_state, StoresRepresent, Represents}
 use Rattle.step_machine.specs.declared.events.Entry.TheVariants as entry
 use Rattle.step_machine.specs.Paths.{entry_of, number_read, opens_as, state_of}
-use Rattle.memory.proofs.Newest.{newest_of-append}
+use Rattle.memory.proofs.WholeWords.{newest_of-append}
 use Rattle.step_machine.proofs.Appended.{pending-last, landed-last, reported-last}
-use Rattle.step_machine.proofs.Balanced.{balanced}
+use Rattle.step_machine.proofs.Landings.{balanced}
 use Rattle.step_machine.proofs.Follows.{advance_by, state_of-mine, state_of-other}
 use Rattle.memory.specs.declared.writes.Write.{Write}
 

@@ -1,18 +1,19 @@
--- The law of word reads: where all stores and AMOs are of whole words, a word access by bytes reads the
--- word, without bytes.
-use Rattle.std.proofs.Common.{◌≡◌, ℕ, ◌+◌, ◌/◌, ◌%◌, ◌<◌, ◌==◌, Bool, List, [], ◌∷◌, ◌++◌, if◌then◌else◌, None, ◌∙◌, ap, arith, append-nil}
+-- The law of word reads: where all stores and AMOs are of whole words, a word access by bytes reads the word,
+-- without bytes.
+use Rattle.std.proofs.Common.{◌≡◌, ℕ, ◌+◌, ◌/◌, ◌%◌, ◌<◌, ◌==◌, Bool, List, [], ◌∷◌, ◌++◌, if◌then◌else◌, None, ◌∙◌, ap, arith, append-nil, ◌-◌, length, get_or}
+use Rattle.std.proofs.Common.{refl, sym}
 use Rattle.std.specs.Prelude.{All, take, slice_index, unwrap_or}
 use Rattle.std.specs.Int.{byte_at}
 use Rattle.std.proofs.lemmas.List.Elements.{All-nil, All-cons, All-append, All-take, All-drop}
 use Rattle.memory.specs.declared.writes.Write.{Write}
-use Rattle.memory.specs.Writes.{newest_of, newest_word, IsWholeWord}
-use Rattle.memory.proofs.Bytes.{joined-same}
-use Rattle.memory.proofs.Newest.{newest_word-last}
-use Rattle.memory.proofs.WholeWords.{word_reads}
+use Rattle.memory.specs.Writes.{newest_of, newest_word, IsWholeWord, joined, overlaid, IsInWord, WritesInWord}
+use Rattle.memory.proofs.Bytes.{joined-same, overlaid-part}
+use Rattle.memory.proofs.WholeWords.{newest_word-last, word_reads}
 use Rattle.step_machine.specs.Names.{Entry, Access, access_of, OpeningValue, hart_of, stored_by, written_by, own_store, own_stores, lands, pending, write_of}
 use Rattle.step_machine.specs.Names.{landed_after, landed, opening_byte, memory_byte, memory_word, read, WritesWord, AllWriteWords, OpensWithWords}
-use Rattle.step_machine.specs.Names.{word_in_memory, word_read}
+use Rattle.step_machine.specs.Names.{word_in_memory, word_read, Stored, FitStored, buffer_of, found}
 use Rattle.step_machine.proofs.Appended.{landed-last}
+use Rattle.std.proofs.lemmas.Option.{slice_get_read, get_or_from_slice_get}
 
 store_whole : (b : Bool) (x : Access) → WritesWord x → All IsWholeWord (stored_by b x)
 store_whole b x is = grind (arith, All-cons, All-nil)
@@ -69,3 +70,18 @@ pub word_in_memory-write : (o : OpeningValue) (es : List Entry) (e : Entry) (w :
     → write_of es e ≡ w ∷ []
     → word_in_memory o (es ++ e ∷ []) a ≡ (if w.addr == a then w.value else word_in_memory o es a)
 word_in_memory-write o es e w a is = grind (arith, landed-last, newest_word-last)
+
+-- ---- what a hart finds in the word around an address, after its own pending stores
+
+pub found-in_word : (M : ℕ) (c : Stored) (h a width word seen value : ℕ) (ws : List Write) → FitStored M c
+    → h < length c.buffers → ws ≡ get_or c.buffers h ws → word ≡ slice_index c.words ((a - a % 4) / 4)
+    → seen ≡ overlaid a word ws → value ≡ joined (λ i. byte_at (a % 4 + i) seen) width → IsInWord width a
+    → value ≡ found c h a width
+found-in_word M c h a width word seen value ws fit within here word_is seen_is value_is in_word =
+    let place : (a - a % 4) / 4 ≡ a / 4 = omega arith in
+    let ws_is : ws ≡ buffer_of c h = sym (get_or_from_slice_get c.buffers h ws [] (slice_get_read c.buffers (length c.buffers) h ws refl within here)) in
+    let small : All WritesInWord (buffer_of c h) = λ k d lt. (fit.pending h [] within k d lt).0 in
+    value_is
+    ∙ ap (λ s. joined (λ i. byte_at (a % 4 + i) s) width) (seen_is ∙ ap (overlaid a word) ws_is
+    ∙ ap (λ w. overlaid a w (buffer_of c h)) (word_is ∙ ap (slice_index c.words) place))
+    ∙ overlaid-part a width c.words (buffer_of c h) small in_word

@@ -6,10 +6,8 @@ pub mod Legal
 pub mod Runs
 pub mod WordReads
 pub mod inner
-pub mod MemoryEntries
 pub mod Placing
 pub mod Banks
-pub mod Ranges
 pub mod Standing
 pub mod Positions
 pub mod Snapshots

@@ -4,7 +4,5 @@
 pub mod Stored
 pub mod Config
 pub mod Restored
-pub mod Opened
 pub mod Representation
-pub mod Banking
 pub mod Packed

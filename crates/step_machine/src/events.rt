@@ -79,7 +79,7 @@ impl Entry {
     ghost use Rattle.step_machine.specs.Entries.{hart_of, is_land};
     ghost use Rattle.step_machine.specs.Runs.{event_of};
     ghost use Rattle.step_machine.specs.Paths.{read_of};
-    ghost use Rattle.step_machine.specs.MemoryEntries.{is_memory};
+    ghost use Rattle.step_machine.specs.Access.{is_memory};
 
     /// The event by which the entry comes about.
     pub fn event(self) -> Event

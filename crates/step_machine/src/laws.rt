@@ -6,7 +6,7 @@ ghost use Rattle.step_machine.specs.History.{OpeningValue, History, history_of, 
 ghost use Rattle.step_machine.specs.Entries.{landed, landed_by_count, memory_word, own, pending, read};
 ghost use Rattle.step_machine.specs.Legal.{IsOfHarts, WellFormed, Legal};
 ghost use Rattle.step_machine.specs.Paths.{PathOf};
-ghost use Rattle.step_machine.specs.MemoryEntries.{memory_of};
+ghost use Rattle.step_machine.specs.Access.{memory_of};
 ghost use Rattle.step_machine.specs.Placing.{diary_of, placed, IsMemoryEntry, Parts};
 ghost use Rattle.step_machine.specs.Positions.{IsSoundMachine, AreOfOneOpening, IsPositionOf, position_of, outcome_at, next_position, packed, put_at};
 ghost use Rattle.step_machine.specs.Standing.{RepresentsHistory};

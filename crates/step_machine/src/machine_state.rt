@@ -6,7 +6,7 @@ ghost use Rattle.std.specs.Prelude.{IfOk, IfSome, IsSomeAnd, OnOk, OnErr, unwrap
 ghost use Rattle.memory.specs.Words.{IsAddress};
 ghost use Rattle.hart.specs.Steps.{reads, restarted};
 ghost use Rattle.step_machine.specs.Snapshots.{AreSaved, IsSavedFrom};
-ghost use Rattle.step_machine.specs.inner.Opened.{opened_hart};
+ghost use Rattle.step_machine.specs.inner.Config.{opened_hart};
 ghost use Rattle.step_machine.specs.inner.Stored.{InMemory};
 ghost use Rattle.step_machine.specs.inner.Restored.{AreWithin, restored_harts, restored_config};
 ghost use Rattle.rv_decode.specs.declared.instruction.TheConstants.{MAX_CODE};
@@ -58,7 +58,7 @@ impl<const B: usize, const M: usize> Drop for MachineState<B, M> {
 
 impl<const B: usize, const M: usize> MachineState<B, M> {
     ghost use Rattle.step_machine.specs.History.{FitsIn};
-    ghost use Rattle.step_machine.specs.Ranges.{IsInRange};
+    ghost use Rattle.step_machine.specs.Access.{IsInRange};
     ghost use Rattle.step_machine.specs.inner.Stored.{outcome_for, buffer_of, word_at};
     ghost use Rattle.step_machine.specs.inner.Config.{Fit, opened_config, HasRoom, outcome_of, act_outcome};
     ghost use Rattle.step_machine.specs.inner.Config.{land_outcome, after_outcome, step_hart, roomy_at};

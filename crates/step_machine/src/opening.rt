@@ -1,7 +1,7 @@
 //! Where a machine begins.
 
 ghost use Rattle.std.specs.Prelude.{◌≡◌, ◌≤◌, ◌↔◌, IsTrue, IfOk, All, length, map};
-ghost use Rattle.step_machine.specs.inner.Opened.{opened_hart};
+ghost use Rattle.step_machine.specs.inner.Config.{opened_hart};
 ghost use Rattle.rv_decode.specs.declared.instruction.TheConstants.{MAX_CODE};
 
 use crate::events::Entry;

@@ -6,7 +6,7 @@ use Rattle.std.proofs.lemmas.Bool.{cases_eq, eqb-true, eq-eqb}
 use Rattle.std.proofs.lemmas.List.Elements.{All-nil, All-cons, All-append, All-take, All-drop}
 use Rattle.memory.specs.declared.writes.Write.{Write}
 use Rattle.memory.specs.Writes.{write, covers, newest_of}
-use Rattle.memory.proofs.Newest.{newest_of-append}
+use Rattle.memory.proofs.WholeWords.{newest_of-append}
 use Rattle.step_machine.specs.declared.events.Entry.{Entry}
 use Rattle.step_machine.specs.Names.{OpeningValue, history_of, Access, nothing, load, store, exchange, fence, land, access_of, hart_of, stored_by, landed_by}
 use Rattle.step_machine.specs.Names.{written_by, own_store, land_of, own_stores, lands, pending, write_of, landed, opening_byte, memory_byte, read_byte}

@@ -29,7 +29,7 @@ impl Model for Parts {
 }
 
 impl Parts {
-    ghost use Rattle.states.specs.Numbered.{IsNumbered, words_at};
+    ghost use Rattle.states.specs.States.{IsNumbered, words_at};
 
     /// None is numbered yet.
     pub fn new(alloc: Global) -> Self

@@ -312,7 +312,7 @@ impl Model for Trees {
 }
 
 impl Trees {
-    ghost use Rattle.states.specs.Numbered.{words_at};
+    ghost use Rattle.states.specs.States.{words_at};
     ghost use Rattle.surveys.specs.inner.Trees.{IsNumberedAgain};
 
     /// The list of no words alone.

@@ -1,5 +1,6 @@
 -- Texts cut at bytes that pass a test, and what stands round them.
-use Rattle.std.specs.Prelude.{◌≡◌, ℕ, ◌==◌, Bool, true, false, not, List, [], ◌∷◌, ◌++◌, Option, Some, None, unwrap_or, if◌then◌else◌, nat_lt, length}
+use Rattle.std.specs.Prelude.{◌≡◌, ℕ, ◌==◌, Bool, true, false, not, List, [], ◌∷◌, ◌++◌, Option, Some, None, unwrap_or, if◌then◌else◌, nat_lt, length, ◌&&◌}
+use Rattle.std.specs.Prelude.{◌||◌}
 use Rattle.std.specs.List.{AllByRecursion, filter}
 use Rattle.texts.specs.declared.pieces.Separators.TheVariants.{Blanks}
 use Rattle.texts.specs.Pieces.{is_blank, pieces}
@@ -90,3 +91,11 @@ cut_at_blank (byte ∷ text) = Some (before is_blank (byte ∷ text), unwrap_or 
 -- a line's first token, if it has one, and what follows the blank after it
 unfoldable pub first_cut : List ℕ → Option (List ℕ × List ℕ)
 first_cut line = cut_at_blank (without_front line)
+
+-- ---- the bytes that names are made of
+
+abbrev pub is_letter : ℕ → Bool
+is_letter c = ((nat_lt 64 c) && (nat_lt c 91)) || ((nat_lt 96 c) && (nat_lt c 123))
+
+abbrev pub is_digit : ℕ → Bool
+is_digit c = (nat_lt 47 c) && (nat_lt c 58)

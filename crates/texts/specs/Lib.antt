@@ -4,7 +4,6 @@ pub mod Results
 pub mod Pieces
 pub mod Numbers
 pub mod Cutting
-pub mod Letters
 pub mod Runs
 pub mod Grammars
 pub use Rattle.texts.specs.Rows.{Fill, IsRowOf, Made, Row, RowPlace, Written, any, are_apart, chain_at, fixed, is_apart, is_apart_of, of_length, or_next}

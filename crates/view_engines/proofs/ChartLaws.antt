@@ -5,7 +5,7 @@ use Rattle.step_machine.specs.declared.events.Entry.{Entry}
 use Rattle.step_machine.specs.Names.{hart_of, OpeningValue, History, at_opening}
 use Rattle.step_machine.proofs.Running.{kept-run, kept-at_opening}
 use Rattle.litmus.specs.LitmusTests.{LitmusTest}
-use Rattle.litmus.proofs.VerdictLaws.{one_verdict}
+use Rattle.litmus.proofs.TestLaws.{one_verdict}
 use Rattle.litmus_reader.specs.{IsTestOf, HeadingOf, IsHeading, hart_content}
 use Rattle.litmus_reader.proofs.HeadingLaws.{one_heading}
 use Rattle.recorder.specs.Versions.{ScheduleValue, events_of_schedule}

@@ -1,6 +1,4 @@
-pub mod PartLimits
 pub mod ShrinkLaws
-pub mod HeadedLaws
 pub mod FrontRuns
 pub mod WidthLaws
 pub mod AboutLaws

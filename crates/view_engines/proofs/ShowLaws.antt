@@ -1,17 +1,17 @@
 -- What answers a litmus text that is shown.
 use Rattle.std.proofs.Common.{◌≡◌, ℕ, ◌≤◌, List, length, Result, Ok, Err, refl, sym, ap, ap₂, ◌∙◌, arith}
-use Rattle.std.specs.Prelude.{Some}
+use Rattle.std.specs.Prelude.{Some, IfOk, Option}
 use Rattle.std.specs.Str.{IsUtf8}
 use Rattle.litmus.specs.LitmusTests.{LitmusTest}
-use Rattle.litmus_reader.specs.{IsTestOf, Content, HeadingOf, ListedRowOf}
+use Rattle.litmus_reader.specs.{IsTestOf, Content, HeadingOf, IsHeading, ListedRowOf}
 use Rattle.litmus_reader.specs.declared.faults.LitmusFault.{LitmusFault}
 use Rattle.litmus_reader.proofs.HeadingLaws.{one_heading}
 use Rattle.texts.proofs.ResultLaws.{ok_is}
 use Rattle.engine_support.specs.declared.fault.Fault.{Fault}
 use Rattle.engine_support.specs.declared.fault.Fault.TheVariants.{ReadFailed, WriteFailed, NoMemory, Refused}
 use Rattle.engine_support.specs.declared.fault.Refusal.{Refusal}
-use Rattle.engine_support.specs.{Output, AreOneAnswer, AnswersAs, Answers, test_of, tests_with, read, refused}
-use Rattle.engine_support.proofs.{decoded-text, alike_after, one_litmus_with, same_output}
+use Rattle.engine_support.specs.{Output, AreOneAnswer, AnswersAs, Answers, test_of, tests_with, Reads, read, refused}
+use Rattle.engine_support.proofs.{decoded-text, alike_after, one_litmus_with, same_output, some_bytes}
 use Rattle.view_engines.specs.declared.showing.Form.{Form}
 use Rattle.view_engines.specs.declared.showing.Form.TheVariants.{Table, Steps}
 use Rattle.view_engines.specs.TestLines.{test_lines}
@@ -59,3 +59,20 @@ pub shown_alike : (form : Form) (file : List ℕ) (a b : Result Output Refusal) 
 shown_alike form file = alike_after (tests_with (λ text same. same ≡ text)) (λ r s. r.number ≡ s.number)
     (one_litmus_with (λ text same. same ≡ text) (λ text x y is other. is ∙ sym other)) AreOneAnswer (λ r s e. e) file _
     (λ both. shown_once form both.1 both.0)
+
+-- ---- inputs that are litmus texts, read with their headings
+
+-- two things that hold of a result
+pub both_hold : {X E : Type 0} (result : Result X E) (P Q : X → Type 0) → IfOk result P → IfOk result Q → IfOk result (λ x. P x × Q x)
+both_hold (Ok x) P Q is other = (is, other)
+both_hold (Err e) P Q is other = tt
+
+-- a test has a word for each of its locations
+pub words-there : (text : List ℕ) (test : LitmusTest) → IsTestOf text test → length test.opening.words ≡ length test.names
+unfolding IsTestOf
+words-there text test is = is.0.first_words.count
+
+-- so has one that was read
+pub words_named : (known : Option (List ℕ)) (test : LitmusTest) (heading : HeadingOf) → Reads (tests_with IsHeading) known (Ok (test, heading))
+    → length test.opening.words ≡ length test.names
+words_named known test heading read = let (bytes, is) = some_bytes known _ read in words-there bytes test is.value_is.0

@@ -1,10 +1,10 @@
 -- What answers a test and a schedule, by the schedule's run.
-use Rattle.std.proofs.Common.{arith, ◌≡◌, ℕ, Result, Ok, Err, refl, subst}
+use Rattle.std.proofs.Common.{arith, ◌≡◌, ℕ, Result, Ok, Err, refl, subst, ◌<◌, ◌≤◌, List, length}
 use Rattle.step_machine.specs.History.{History, at_opening}
 use Rattle.step_machine.proofs.Running.{run-one}
 use Rattle.litmus.specs.{LitmusTest, IsFinished}
-use Rattle.recorder.specs.Versions.{ScheduleValue, events_of_schedule}
-use Rattle.shrink.specs.Shrinking.{RefusesRun}
+use Rattle.recorder.specs.{ScheduleValue, events_of_schedule, OfHarts, hart_of_event}
+use Rattle.shrink.specs.Shrinking.{RefusesRun, IsPartOf, empty, with_first, without_first}
 use Rattle.shrink.specs.declared.faults.ShrinkError.{ShrinkError}
 use Rattle.shrink.specs.declared.faults.ShrinkError.TheVariants as error
 use Rattle.engine_support.specs.declared.fault.Fault.{Fault}
@@ -13,6 +13,9 @@ use Rattle.engine_support.specs.{Output, AreAlike, AnswersAs}
 use Rattle.engine_support.specs.Runs.{Runs}
 use Rattle.engine_support.proofs.RunLaws.{one_difference, runs_events, runs_or_differs}
 use Rattle.view_engines.specs.Shrink.{AreOfOneKind, IsNotShrunk, IsShrink, IsShrinkOf, differs, fault_of_shrink, unfinished}
+use Rattle.std.specs.List.{AllByRecursion}
+use Rattle.std.proofs.lemmas.List.Elements.{All-from_recursion, recursion_from_All}
+use Rattle.step_machine.specs.declared.events.Event.{Event}
 
 module _ (B M : ℕ) (q : LitmusTest) (parsed : ScheduleValue) where
   -- why the run isn't shrunk is why the schedule isn't
@@ -45,3 +48,20 @@ alike_run B M q parsed (Err r) (Err s) first other = one_reason B M q parsed r s
 -- what is alike is of one kind
 pub of_one_kind : {A : Type 0} (a b : Result A Refusal) → AreAlike a b → AreOfOneKind a b
 of_one_kind a b alike = grind arith
+
+-- ---- a part of a schedule's events keeps within the schedule's limits
+
+part_each : (P : Event → Type 0) (part whole : List Event) → IsPartOf part whole → AllByRecursion P whole → AllByRecursion P part
+part_each P part whole empty all = all
+part_each P part whole (with_first ev front back is) all = (all.0, part_each P front back is all.1)
+part_each P part whole (without_first ev front back is) all = part_each P part back is all.1
+
+pub part_OfHarts : (part whole : List Event) → IsPartOf part whole → OfHarts whole → OfHarts part
+part_OfHarts part whole is harts =
+    All-from_recursion (λ (ev : Event). hart_of_event ev < 64) part
+    (part_each _ part whole is (recursion_from_All (λ (ev : Event). hart_of_event ev < 64) whole harts))
+
+pub part_few : (part whole : List Event) → IsPartOf part whole → length part ≤ length whole
+part_few part whole empty = omega arith
+part_few part whole (with_first ev front back is) = omega (arith, part_few front back is)
+part_few part whole (without_first ev front back is) = omega (arith, part_few part back is)

@@ -16,7 +16,7 @@ use Rattle.litmus.specs.Verdicts.{IsVerdict, final_value}
 use Rattle.litmus_reader.specs.Headings.{HeadingOf}
 use Rattle.chart.specs.Pictures.{shown_byte}
 use Rattle.chart.specs.Layout.{AboutOf, LastValueOf}
-use Rattle.engine_support.specs.Places.{place_text}
+use Rattle.engine_support.specs.Outcomes.{place_text}
 use Rattle.view_engines.specs.LeastWidths.{least_widths}
 
 -- ---- instructions

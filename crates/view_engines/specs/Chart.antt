@@ -11,10 +11,8 @@ use Rattle.chart.specs.Svg.{chart_svg}
 use Rattle.engine_support.specs.declared.fault.Refusal.{Refusal}
 use Rattle.engine_support.specs.Engines.{Output}
 use Rattle.engine_support.specs.Faults.{too_large}
-use Rattle.engine_support.specs.Inputs.{After}
+use Rattle.engine_support.specs.Inputs.{After, schedules, tests_with}
 use Rattle.engine_support.specs.Runs.{Runs}
-use Rattle.engine_support.specs.Schedules.{schedules}
-use Rattle.engine_support.specs.Tests.{tests_with}
 use Rattle.view_engines.specs.About.{IsAbout}
 use Rattle.chart.specs.declared.scenes.Style.{Style}
 use Rattle.chart.specs.declared.scenes.Style.TheVariants.{Text, Svg}

@@ -11,7 +11,7 @@ use Rattle.rv_decode.specs.declared.instruction.Instr.TheVariants.{Load, Store, 
 use Rattle.hart.specs.Effects.{load_width, store_width}
 use Rattle.step_machine.specs.History.{HartOpeningValue}
 use Rattle.chart.specs.declared.least_widths.LeastWidths.{LeastWidths}
-use Rattle.chart.specs.Names.{word_name}
+use Rattle.chart.specs.Sayings.{word_name}
 
 -- ---- an instruction, with a name of `name` cells and a row's number of `number` cells
 

@@ -7,8 +7,7 @@ use Rattle.engine_support.specs.declared.fault.Refusal.{Refusal}
 use Rattle.engine_support.specs.declared.input.TheConstants.{INPUT_BYTES}
 use Rattle.engine_support.specs.Engines.{Output}
 use Rattle.engine_support.specs.Faults.{too_large}
-use Rattle.engine_support.specs.Inputs.{After}
-use Rattle.engine_support.specs.Tests.{tests_with}
+use Rattle.engine_support.specs.Inputs.{After, tests_with}
 use Rattle.engine_support.specs.OpeningTexts.{steps_text}
 use Rattle.view_engines.specs.TestLines.{test_lines}
 use Rattle.view_engines.specs.declared.showing.Form.{Form}

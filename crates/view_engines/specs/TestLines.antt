@@ -10,7 +10,7 @@ use Rattle.litmus.specs.LitmusTests.{LitmusTest, left_sides}
 use Rattle.litmus_reader.specs.Headings.{HeadingOf}
 use Rattle.litmus_reader.specs.Listings.{CellOf, ListedRowOf}
 use Rattle.chart.specs.Pictures.{shown_byte}
-use Rattle.engine_support.specs.Places.{place_text}
+use Rattle.engine_support.specs.Outcomes.{place_text}
 use Rattle.view_engines.specs.About.{meant}
 use Rattle.engine_support.specs.OpeningTexts.{numbered, registers_text}
 

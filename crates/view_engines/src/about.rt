@@ -10,7 +10,7 @@ ghost use Rattle.litmus.specs.LitmusTests.{IsThere, left_sides};
 ghost use Rattle.litmus.specs.Verdicts.{final_value};
 ghost use Rattle.litmus_reader.specs.Headings.{heading_of};
 ghost use Rattle.chart.specs.Pictures.{shown_byte};
-ghost use Rattle.engine_support.specs.Places.{place_text};
+ghost use Rattle.engine_support.specs.Outcomes.{place_text};
 ghost use Rattle.view_engines.specs.LeastWidths.{least_widths as widths_of_test};
 ghost use Rattle.view_engines.specs.About.{IsAbout, instruction_of, row_instructions, last_value as value_of_left};
 ghost use Rattle.view_engines.specs.About.{meant, next_instruction, verdict_name, word_at_pc, word_meant};

@@ -5,9 +5,8 @@ ghost use Rattle.litmus_reader.specs.Reading.{content_of};
 ghost use Rattle.litmus_reader.specs.Grammar.{IsTestOf};
 ghost use Rattle.litmus_reader.specs.Headings.{IsHeading, heading_of};
 ghost use Rattle.engine_support.specs.Faults.{Answers};
-ghost use Rattle.engine_support.specs.Inputs.{IsRefused, Reads};
-ghost use Rattle.engine_support.specs.Tests.{test_of, tests, tests_with};
-ghost use Rattle.engine_support.specs.inner.Making.{FindsUpToReads};
+ghost use Rattle.engine_support.specs.Inputs.{IsRefused, Reads, test_of, tests, tests_with};
+ghost use Rattle.engine_support.specs.inner.{FindsUpToReads};
 
 use engine_support::fault::Fault;
 use engine_support::input::read_text;
@@ -18,7 +17,7 @@ use std::io::Read;
 
 /// The test of a text, and the text's heading. A text with a test has one, so that only memory can be
 /// missing for it.
-#[tactic(auto, unfolding(engine_support::specs::Tests::test_of))]
+#[tactic(auto, unfolding(engine_support::specs::Inputs::test_of))]
 pub fn headed_of_text(alloc: Global, text: &str) -> Result<(Test, Heading), Fault>
     ensures test { IfOk result (λ read. IsTestOf text.now read.0) }
     ensures heading { IfOk result (λ read. IsHeading text.now (heading_of read.1)) }

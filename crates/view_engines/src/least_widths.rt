@@ -4,7 +4,7 @@ ghost use Rattle.std.specs.Prelude.{◌≡◌, ◌<◌, ◌≤◌, ◌==◌, ◌
 ghost use Rattle.std.specs.List.{count_by, range_with_len};
 ghost use Rattle.std.specs.String.{string_bytes};
 ghost use Rattle.hart.specs.Effects.{load_width, store_width};
-ghost use Rattle.chart.specs.Names.{word_name as text_of_word};
+ghost use Rattle.chart.specs.Sayings.{word_name as text_of_word};
 ghost use Rattle.view_engines.specs.LeastWidths.{offset_cells, effect_cells, label_of_word, memory_column_cells, is_store_instruction};
 ghost use Rattle.view_engines.specs.LeastWidths.{brief_of_word, kept_of_word, is_store_word, most};
 ghost use Rattle.view_engines.specs.LeastWidths.{name_cells as cells_of_names, store_count};

@@ -6,7 +6,7 @@ ghost use Rattle.litmus_reader.specs.Grammar.{IsTestOf};
 ghost use Rattle.litmus_reader.specs.Headings.{IsHeading, heading_of};
 ghost use Rattle.engine_support.specs.Engines.{Ends};
 ghost use Rattle.engine_support.specs.Faults.{AnswersAs};
-ghost use Rattle.engine_support.specs.inner.Making.{FindsUpToReads, text_and_value};
+ghost use Rattle.engine_support.specs.inner.{FindsUpToReads, text_and_value};
 ghost use Rattle.engine_support.specs.declared.input.TheConstants.{INPUT_BYTES};
 ghost use Rattle.view_engines.specs.declared.showing.Form.TheVariants.{Table};
 ghost use Rattle.view_engines.specs.Show.{IsShow, IsShowAnswer, IsSteps};

@@ -3,8 +3,7 @@
 
 ghost use Rattle.std.specs.Prelude.{◌≡◌, ◌≤◌};
 ghost use Rattle.engine_support.specs.Engines.{Ends};
-ghost use Rattle.engine_support.specs.Inputs.{IsRefused};
-ghost use Rattle.engine_support.specs.Tests.{tests};
+ghost use Rattle.engine_support.specs.Inputs.{IsRefused, tests};
 ghost use Rattle.view_engines.specs.Shrink.{IsShrink, IsShrinkAnswer, fault_of_shrink};
 ghost use Rattle.litmus.specs.declared.litmus_test.TheConstants.{MAX_LOCATIONS};
 

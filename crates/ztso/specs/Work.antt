@@ -9,13 +9,11 @@ use Rattle.engine_support.specs.declared.fault.Fault.{Fault}
 use Rattle.engine_support.specs.declared.fault.Fault.TheVariants.{Refused}
 use Rattle.engine_support.specs.declared.fault.Refusal.{Refusal}
 use Rattle.engine_support.specs.Engines.{Ends}
-use Rattle.engine_support.specs.Inputs.{IsRefused}
+use Rattle.engine_support.specs.Inputs.{IsRefused, tests, schedules}
 use Rattle.code_engines.specs.Asm.{IsAsmAnswer}
 use Rattle.code_engines.specs.Dis.{IsDisAnswer}
 use Rattle.code_engines.specs.Steps.{IsStepsAnswer}
-use Rattle.engine_support.specs.Tests.{tests}
-use Rattle.run_engines.specs.Run.{IsRunAnswer}
-use Rattle.run_engines.specs.Move.{IsMoveAnswer}
+use Rattle.run_engines.specs.Run.{IsRunAnswer, IsMoveAnswer, IsReplayAnswer}
 use Rattle.checking.specs.Checking.{IsCheckAnswer, IsCheckFront}
 use Rattle.finding.specs.Find.{IsFindAnswer}
 use Rattle.view_engines.specs.Chart.{IsChartAnswer, drawing}
@@ -25,7 +23,6 @@ use Rattle.sampling.specs.declared.trials.outcomes.Unfinished.{Unfinished}
 use Rattle.sampling.specs.declared.trials.outcomes.Unfinished.TheVariants as left
 use Rattle.view_engines.specs.declared.showing.Form.{Form}
 use Rattle.view_engines.specs.declared.showing.Form.TheVariants as form
-use Rattle.run_engines.specs.Replay.{IsReplayAnswer}
 use Rattle.debugger.specs.Transcripts.{EndsInteractive, IsDebugAnswer, IsDebugFront, IsDebugSome, OnStopped, OnUnwritten}
 use Rattle.sampling.specs.Outcomes.{IsTryAnswer}
 use Rattle.certifying.specs.Answers.{IsQueueAnswer}
@@ -34,16 +31,14 @@ use Rattle.callers.specs.Answers.{IsCallersAnswer}
 use Rattle.callers.specs.declared.queue.Queue.{Queue}
 use Rattle.callers.specs.declared.queue.QueueKind.{QueueKind}
 use Rattle.callers.specs.declared.queue.QueueKind.TheVariants as kind
-use Rattle.engine_support.specs.Schedules.{schedules}
-use Rattle.poll_close.specs.Places.{layout_of}
+use Rattle.poll_close.specs.Layout.{layout_of}
 use Rattle.poll_close.specs.declared.place.BlockPlace.{BlockPlace}
 use Rattle.drawn_runs.specs.declared.Runs.{Runs}
 use Rattle.drawn_runs.specs.declared.draws.Draw.{Draw}
 use Rattle.drawn_runs.specs.Samples.{DrawnRuns, runs_drawn}
 use Rattle.channel_engines.specs.Channels.{IsChannelAnswer}
 use Rattle.run_engines.specs.Threads.{IsThreadsAnswer}
-use Rattle.channel_engines.specs.UserChannels.{IsUserAnswer}
-use Rattle.channel_engines.specs.Programs.{programs}
+use Rattle.channel_engines.specs.UserChannels.{IsUserAnswer, programs}
 use Rattle.engine_support.specs.declared.fault.Role.TheVariants.{Sender, Receiver}
 use Rattle.channel_engines.specs.Rings.{IsRingAnswer}
 use Rattle.poll_close.specs.Laws.{Ring as RingTables}

@@ -2,8 +2,7 @@
 
 ghost use Rattle.std.specs.Prelude.{◌≡◌, ◌≤◌};
 ghost use Rattle.engine_support.specs.Engines.{Ends};
-ghost use Rattle.engine_support.specs.Inputs.{IsRefused};
-ghost use Rattle.engine_support.specs.Tests.{tests};
+ghost use Rattle.engine_support.specs.Inputs.{IsRefused, tests};
 ghost use Rattle.certifying.specs.Answers.{IsQueueAnswer};
 ghost use Rattle.certifying.specs.Questions.{questions_by};
 ghost use Rattle.ztso.specs.Work.{runs_from};

@@ -15,7 +15,7 @@ use Rattle.step_machine.specs.Names.{OpeningValue, History, hart_of, own_stores,
 use Rattle.step_machine.specs.Names.{Allowed, LegalAfter, Legal}
 use Rattle.step_machine.specs.declared.events.Entry.{Entry}
 use Rattle.step_machine.specs.declared.events.Entry.TheVariants as entry
-use Rattle.memory.proofs.Newest.{newest_of-append}
+use Rattle.memory.proofs.WholeWords.{newest_of-append}
 use Rattle.step_machine.proofs.Appended.{LegalAfter-front, entry_there}
 use Rattle.ztso_axioms.specs.Operations.{is_operation, passes, is_at, hart_at, read_of, written_to, written_at, byte_in}
 use Rattle.ztso_axioms.specs.Axioms.{times_named, before_first, is_named, in_program_order, is_seen, last_written, byte_for, value_for, HasLoadValue, Ztso}

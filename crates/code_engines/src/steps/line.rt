@@ -4,7 +4,7 @@ ghost use Rattle.std.specs.Prelude.{◌≡◌, IfErr, OnErr};
 ghost use Rattle.texts.specs.Results.{GivesUpToMemory, refusal_of};
 ghost use Rattle.texts.specs.Cutting.{tokens};
 ghost use Rattle.texts.specs.declared.errors.TextError.TheVariants.{Refused};
-ghost use Rattle.engine_support.specs.LineFaults.{bad_line};
+ghost use Rattle.engine_support.specs.Faults.{bad_line};
 ghost use Rattle.code_engines.specs.StepsReading.{keyword_named, number_at, two_numbers, three_numbers, with_hart, with_register, with_word, with_steps};
 
 use crate::code::code_of;

@@ -4,8 +4,7 @@ ghost use Rattle.std.specs.Prelude.{◌≡◌, Ok, IfOk, OnErr};
 ghost use Rattle.std.specs.Str.Lines.{lines};
 ghost use Rattle.texts.specs.Results.{GivesUpToMemory, refusal_of};
 ghost use Rattle.step_machine.specs.History.{FitsIn};
-ghost use Rattle.engine_support.specs.Faults.{Answers};
-ghost use Rattle.engine_support.specs.LineFaults.{at_line as line_at};
+ghost use Rattle.engine_support.specs.Faults.{Answers, at_line as line_at};
 ghost use Rattle.code_engines.specs.ScriptValue.{ScriptValue, script_value, no_script, opening_of_script};
 ghost use Rattle.code_engines.specs.StepsText.{Describes};
 ghost use Rattle.code_engines.specs.StepsReading.{after_line, after_lines, script_at};
@@ -55,7 +54,7 @@ impl Script {
     }
 
     /// Follows the line of this number.
-    #[tactic(auto, using(engine_support::proofs::LineFaulted::refused_at_line))]
+    #[tactic(auto, using(engine_support::proofs::LineReading::refused_at_line))]
     fn add_line_at(&mut self, alloc: Global, line: &[u8], number: usize) -> Result<(), Fault>
         ensures exact { Answers (λ x. script_value self.new) result (line_at number (after_line (script_value self.old) line.now)) }
         ensures err { OnErr result (script_value self.new ≡ script_value self.old) }

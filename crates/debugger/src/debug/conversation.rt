@@ -6,8 +6,7 @@ ghost use Rattle.std.specs.Io.BufRead.{take_through, DropsThrough};
 ghost use Rattle.std.specs.Io.KnownBytes.{Appends};
 ghost use Rattle.debugger.specs.DebuggerStates.{DebuggerState};
 ghost use Rattle.debugger.specs.Transcripts.{DoesAsked, Leaves, OnStopped, OnUnwritten, Prints, PrintsFront, PrintsSome, quits};
-ghost use Rattle.debugger.specs.inner.Asking.{AsksNext, TakesAsking};
-ghost use Rattle.debugger.specs.inner.Failures.{IsFailure, IsReadFailure};
+ghost use Rattle.debugger.specs.inner.{AsksNext, TakesAsking, IsFailure, IsReadFailure};
 
 use crate::debug::answers::answer;
 use crate::debug::command::{Command, command_of};

@@ -6,7 +6,7 @@ use Rattle.poll_close.specs.Invariant.Blocks.{SenderBlock, offset}
 use Rattle.poll_close.specs.Invariant.Outlines.{Outline, sender_row}
 use Rattle.rv_decode.specs.Listings.{words_of}
 use Rattle.fastforward.specs.Listing.{listing}
-use Rattle.fastforward.specs.Invariant.Counters.{Sent}
+use Rattle.fastforward.specs.Invariant.{Sent}
 
 -- between two words: all that it took are stored, and no mark
 pub record Between (k : SenderBlock) (n : Sent) : Type 0 where

@@ -5,11 +5,10 @@ use Rattle.std.proofs.Common.{◌+◌, ◌*◌, ◌≡◌, ◌==◌, if◌then�
 use Rattle.std.specs.Prelude.{slice_index}
 use Rattle.poll_close.specs.Invariant.Blocks.{SenderBlock, offset}
 use Rattle.poll_close.specs.Invariant.Outlines.{sender_row}
-use Rattle.poll_close.specs.Invariant.SenderState.{SenderRegisters}
+use Rattle.poll_close.specs.Invariant.HartStates.{SenderRegisters}
 use Rattle.rv_decode.specs.Listings.{words_of}
 use Rattle.lamport_ring.specs.Invariant.Assertions.{Between, HoldsWord, Asked, HasRead, Room, StoredWord, Marked}
-use Rattle.lamport_ring.specs.Invariant.Counters.{Sent}
-use Rattle.lamport_ring.specs.Invariant.Programs.{Program}
+use Rattle.lamport_ring.specs.Invariant.{Sent, Program}
 use Rattle.lamport_cached.specs.Listing.{listing}
 
 -- it holds the next word, and the tail that it read

@@ -2,7 +2,7 @@
 use Rattle.std.proofs.Common.{ℕ, ◌+◌, ◌<◌, ◌≤◌, ◌≡◌, ◌⊎◌, length}
 use Rattle.std.specs.Prelude.{slice_index}
 use Rattle.poll_close.specs.Invariant.Blocks.{SenderBlock, offset}
-use Rattle.lamport_ring.specs.Invariant.Counters.{Sent}
+use Rattle.lamport_ring.specs.Invariant.{Sent}
 
 -- between two words: all that it asked for are stored, with their heads, and no mark
 pub record Between (k : SenderBlock) (n : Sent) : Type 0 where

@@ -6,7 +6,7 @@ use Rattle.poll_close.specs.Invariant.Outlines.{sender_row}
 use Rattle.rv_decode.specs.Listings.{words_of}
 use Rattle.lamport_ring.specs.Listing.{listing}
 use Rattle.lamport_ring.specs.Invariant.Assertions.{Between, HoldsWord, Asked, HasRead, Room, StoredWord, Marked}
-use Rattle.lamport_ring.specs.Invariant.Programs.{Program}
+use Rattle.lamport_ring.specs.Invariant.{Program}
 
 abbrev pub lamport_program : Program
 lamport_program = record {

@@ -8,8 +8,7 @@ use Rattle.litmus.specs.declared.symbols.Symbol.TheVariants as symbol
 use Rattle.litmus.specs.declared.symbols.Step.{Step}
 use Rattle.litmus.specs.declared.symbols.Step.TheVariants as step
 use Rattle.litmus.specs.declared.symbols.Frame.{Frame}
-use Rattle.litmus.specs.Formulas.{Formula}
-use Rattle.litmus.specs.Steps.{steps_of}
+use Rattle.litmus.specs.Formulas.{Formula, steps_of}
 use Rattle.litmus.specs.Drafting.{Group, Stage, awaits, has}
 
 -- the marks of the groups around are outermost first

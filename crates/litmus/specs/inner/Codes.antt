@@ -6,8 +6,7 @@ use Rattle.litmus.specs.declared.symbols.Place.{Place}
 use Rattle.litmus.specs.declared.symbols.Place.TheVariants as place
 use Rattle.litmus.specs.declared.symbols.Step.{Step}
 use Rattle.litmus.specs.declared.symbols.Step.TheVariants as step
-use Rattle.litmus.specs.Formulas.{Formula}
-use Rattle.litmus.specs.Steps.{steps_of, formula_of}
+use Rattle.litmus.specs.Formulas.{Formula, steps_of, formula_of}
 use Rattle.litmus.specs.inner.StepLaws.{formula_of-steps_of}
 
 abbrev pub place_parts : Place → (ℕ × ℕ) ⊎ ℕ

@@ -6,8 +6,7 @@ use Rattle.std.proofs.lemmas.List.{append-nil}
 use Rattle.litmus.specs.declared.symbols.Place.TheVariants as place
 use Rattle.litmus.specs.declared.symbols.Step.{Step}
 use Rattle.litmus.specs.declared.symbols.Step.TheVariants as step
-use Rattle.litmus.specs.Formulas.{Formula, is, negation, both, either}
-use Rattle.litmus.specs.Steps.{steps_of, formula_from, formula_of}
+use Rattle.litmus.specs.Formulas.{Formula, is, negation, both, either, steps_of, formula_from, formula_of}
 
 -- how many steps may be read doesn't matter from their number on
 pub formula_from-enough : (m n : ℕ) (f : Formula) (steps : List Step) → length steps ≤ m → length steps ≤ n → formula_from m f steps ≡ formula_from n f steps

@@ -7,7 +7,7 @@ use Rattle.poll_close.specs.Listing.{RingLines}
 use Rattle.poll_close.specs.Rankings.{Around, Ranking}
 use Rattle.poll_close.specs.Invariant.Blocks.{SenderBlock, offset, window}
 use Rattle.poll_close.specs.Invariant.Outlines.{OutlineRow, Outline, HoldsIn, rank_in, left_of}
-use Rattle.poll_close.specs.Invariant.ReceiverState.{ReceiverRegisters}
+use Rattle.poll_close.specs.Invariant.HartStates.{ReceiverRegisters}
 
 -- the receiver's way from a line to its next report: n steps (Near); n to the end of this block, then the rest of
 -- the round (Round); n to the end of the round, then a whole one (Over). A Visit may find nothing though a word is

@@ -4,7 +4,7 @@ use Rattle.std.specs.Prelude.{ℕ, ◌≡◌, ◌+◌, ◌-◌, ◌*◌, ◌==�
 use Rattle.hart.specs.State.{HartState}
 use Rattle.poll_close.specs.Rankings.{is_running}
 use Rattle.poll_close.specs.Invariant.Blocks.{SenderBlock}
-use Rattle.poll_close.specs.Invariant.SenderState.{SenderRegisters, fixed, running, ended}
+use Rattle.poll_close.specs.Invariant.HartStates.{SenderRegisters, fixed, running, ended}
 
 -- the line at this offset: how far from the end, and what holds there
 pub record OutlineRow (Rank : Type 0) (Held : Type 1) : Type 1 where

@@ -6,7 +6,7 @@ use Rattle.litmus.specs.declared.verdict.Quantifier.{Quantifier}
 use Rattle.litmus.specs.declared.verdict.Quantifier.TheVariants.{Exists, NotExists, ForAll}
 use Rattle.litmus.specs.LitmusTests.{LitmusTest}
 use Rattle.engine_support.specs.Counting.{counted, counted_both, seen_of}
-use Rattle.engine_support.specs.inner.Rows.{lines_in}
+use Rattle.engine_support.specs.inner.{lines_in}
 use Rattle.recorder.specs.Drawing.{drawn_words}
 use Rattle.drawn_runs.specs.Draws.{events_by}
 use Rattle.sampling.specs.declared.trials.drawn_run.DrawnRun.{DrawnRun}

@@ -2,7 +2,7 @@
 
 ghost use Rattle.std.specs.Prelude.{◌≡◌, OnOk};
 ghost use Rattle.std.specs.Io.KnownBytes.{Appends};
-ghost use Rattle.engine_support.specs.inner.Making.{IsEndOf};
+ghost use Rattle.engine_support.specs.inner.{IsEndOf};
 ghost use Rattle.sampling.specs.Outcomes.{last_line, shown_by};
 ghost use Rattle.sampling.specs.inner.Tallies.{good_by, left_name, tally_text, text_and_good};
 

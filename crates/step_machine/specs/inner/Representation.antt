@@ -1,16 +1,18 @@
--- What the machine holds is what its history says. Public clauses carry `IsMachineAt`, as `RepresentsHistory` of
--- `specs/Standing.antt`, and never open it.
+-- What the machine holds is what its history says. Public clauses carry `IsMachineAt`, as `RepresentsHistory`
+-- of `specs/Standing.antt`, and never open it.
 use Rattle.std.specs.Prelude.{ℕ, ◌≡◌, ◌*◌, ◌<◌, Some, option_map, length, All}
 use Rattle.std.specs.List.{slice_get}
 use Rattle.memory.specs.Words.{opened_words}
 use Rattle.memory.specs.Writes.{WritesInWord, byte_of}
 use Rattle.hart.specs.State.{HartView}
 use Rattle.step_machine.specs.History.{History, FitsIn}
-use Rattle.step_machine.specs.Legal.{WellFormed}
+use Rattle.step_machine.specs.Legal.{WellFormed, Legal}
 use Rattle.step_machine.specs.Entries.{pending, landed, memory_byte, reported}
 use Rattle.step_machine.specs.Paths.{opens_as, state_of}
-use Rattle.step_machine.specs.inner.Stored.{Stored, buffer_of}
+use Rattle.step_machine.specs.inner.Stored.{Stored, buffer_of, FitStored}
 use Rattle.step_machine.specs.inner.Config.{Config, Fit, AllHaveRoom, view_state, beginning}
+use Rattle.step_machine.specs.Banks.{BankView, IsServed, banked}
+use Rattle.step_machine.specs.Placing.{IsMemoryEntry}
 
 -- buffers and words are those that the entries leave of the opening's words, with which the memory opened
 pub record StoresRepresent (M : ℕ) (t : History) (s : Stored) : Type 0 where
@@ -34,3 +36,14 @@ pub record IsMachineAt (B M : ℕ) (t : History) (c : Config) (n : ℕ) : Type 0
   pub fit : Fit M c
   pub count : length c.harts ≡ length t.opening.harts
   pub room : AllHaveRoom n c.harts
+
+-- ---- what a bank holds is what its entries say
+-- No public clause names it.
+
+pub record IsBankAt (B M : ℕ) (v : BankView) (s : Stored) : Type 0 where
+  pub legal : Legal B (banked v)
+  pub memory : All IsMemoryEntry v.entries
+  pub holds : StoresRepresent M (banked v) s
+  pub fit : FitStored M s
+  pub count : length s.buffers ≡ length v.over
+  pub of_harts : All (IsServed v) v.entries

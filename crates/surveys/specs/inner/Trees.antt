@@ -2,7 +2,7 @@
 -- differ in few words have most nodes in common.
 use Rattle.std.specs.Prelude.{ℕ, ◌≡◌, map, ◌/◌, ◌%◌, ◌≤◌, ◌⊎◌, zero, suc, List, [], ◌∷◌, ◌++◌, length, replicate, slice_index, take, All, Some}
 use Rattle.std.specs.List.{flat_map, slice_get, slice_index_or}
-use Rattle.states.specs.Numbered.{KeepsNumber}
+use Rattle.states.specs.States.{KeepsNumber}
 use Rattle.surveys.specs.declared.trees.Tree.{Tree}
 
 -- the four numbers of 32 bits that two words have

@@ -2,7 +2,7 @@ use Rattle.std.specs.Prelude.{codes}
 use Rattle.std.specs.Fmt.{decimal}
 use Rattle.std.specs.String.{string_bytes}
 use Rattle.callers.specs.Answers.{send_name, receive_name}
-use Rattle.callers.proofs.Pieces.{five_written}
+use Rattle.callers.proofs.Judged.{five_written}
 use Rattle.callers.proofs.answer_texts.push_violation.Goals as goal
 
 pub returns-in-NoSend : goal.returns-in-NoSend

@@ -1,7 +1,7 @@
 use Rattle.std.proofs.Common.{subst, sym}
 use Rattle.step_machine.specs.declared.events.Event.{Event}
 use Rattle.step_machine.specs.Runs.{Happens}
-use Rattle.callers.specs.inner.Noting.{IsEventNoted}
+use Rattle.callers.specs.inner.{IsEventNoted}
 use Rattle.callers.proofs.Noting.{land_noted}
 use Rattle.callers.proofs.judging.note_event.Goals as goal
 

@@ -1,7 +1,7 @@
 use Rattle.std.proofs.Common.{rules, ◌≡◌, ◌<◌, ℕ, List, length, Some, refl, subst}
 use Rattle.std.specs.List.{slice_get}
 use Rattle.std.proofs.lemmas.Option.{slice_get_read}
-use Rattle.callers.specs.inner.Locating.{StandsAt}
+use Rattle.callers.specs.inner.{StandsAt}
 use Rattle.callers.proofs.Places.{first_here, none_here, short_here}
 use Rattle.callers.proofs.locating.function_of.Goals as goal
 

@@ -1,5 +1,5 @@
 use Rattle.std.proofs.Common.{ℕ, ◌<◌}
-use Rattle.callers.specs.inner.Locating.{StandsAt}
+use Rattle.callers.specs.inner.{StandsAt}
 use Rattle.callers.proofs.locating.line_of.Given as goal
 
 abbrev pub invariant-loop-line : goal.invariant-loop-line

@@ -3,12 +3,12 @@ use Rattle.std.specs.Global.{Vec}
 use Rattle.std.specs.List.{flat_map}
 use Rattle.hart.specs.declared.need.Report.{Report}
 use Rattle.recorder.specs.Versions.{ScheduleValue, schedule_value}
-use Rattle.poll_close.specs.Places.{layout_of}
+use Rattle.poll_close.specs.Layout.{layout_of}
 use Rattle.engine_support.specs.{AnswersAs, read, schedules, text_and_value}
 use Rattle.engine_support.proofs.InputLaws.{read_after, refused_after, unmade}
 use Rattle.channel_engines.specs.Channels.{IsChannelRun, report_line}
 use Rattle.channel_engines.specs.Lists.{list_texts}
-use Rattle.channel_engines.specs.inner.Reporting.{Reports}
+use Rattle.channel_engines.specs.inner.{Reports}
 use Rattle.channel_engines.proofs.channel.made.Goals as goal
 
 abbrev reports_in : Vec Report → List Report

@@ -3,10 +3,10 @@ use Rattle.std.specs.Global.{Vec}
 use Rattle.hart.specs.declared.need.Report.{Report}
 use Rattle.step_machine.specs.History.{FitsIn, History, HistoryWithRoom, OpeningValue}
 use Rattle.recorder.specs.Versions.{events_of_schedule, schedule_value}
-use Rattle.poll_close.specs.Places.{layout_of}
+use Rattle.poll_close.specs.Layout.{layout_of}
 use Rattle.engine_support.specs.Runs.{Runs}
 use Rattle.engine_support.proofs.RunLaws.{runs_events}
-use Rattle.channel_engines.specs.inner.Reporting.{Reports}
+use Rattle.channel_engines.specs.inner.{Reports}
 use Rattle.channel_engines.proofs.ChannelLaws.{differs_as, run_reported}
 use Rattle.channel_engines.proofs.channel.reports_of_schedule.Goals as goal
 

@@ -1,4 +1,4 @@
-use Rattle.channel_engines.proofs.ProgramLaws.{program_short}
+use Rattle.channel_engines.proofs.OneUserChannel.{program_short}
 use Rattle.channel_engines.proofs.programs.code_of_program.Goals as goal
 
 pub returns-in-Ok-clause-short : goal.returns-in-Ok-clause-short

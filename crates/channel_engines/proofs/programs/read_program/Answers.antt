@@ -3,10 +3,9 @@ use Rattle.std.specs.Global.{Vec}
 use Rattle.std.specs.String.{string_bytes}
 use Rattle.rv_decode.specs.Meaning.{meaning}
 use Rattle.assembler.specs.Program.{IsCode}
-use Rattle.engine_support.proofs.InputLaws.{refused_no_answer}
-use Rattle.engine_support.proofs.TextInputs.{format_read}
-use Rattle.channel_engines.specs.Programs.{program_at, programs}
-use Rattle.channel_engines.proofs.ProgramLaws.{one_program}
+use Rattle.engine_support.proofs.{refused_no_answer, format_read}
+use Rattle.channel_engines.specs.UserChannels.{program_at, programs}
+use Rattle.channel_engines.proofs.OneUserChannel.{one_program}
 use Rattle.channel_engines.proofs.programs.read_program.Goals as goal
 
 pub returns-clause-program : goal.returns-clause-program

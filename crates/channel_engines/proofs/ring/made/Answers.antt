@@ -7,8 +7,8 @@ use Rattle.engine_support.specs.declared.fault.Role.TheVariants.{Sender, Receive
 use Rattle.engine_support.specs.{read, text_and_value}
 use Rattle.engine_support.proofs.InputLaws.{read_after, refused_after}
 use Rattle.channel_engines.specs.Lists.{list_texts}
-use Rattle.channel_engines.specs.Programs.{programs}
-use Rattle.channel_engines.proofs.RingLaws.{not_drawn}
+use Rattle.channel_engines.specs.UserChannels.{programs}
+use Rattle.channel_engines.proofs.OneRing.{not_drawn}
 use Rattle.channel_engines.proofs.ring.made.Goals as goal
 
 abbrev code_of : Vec ℕ → List ℕ

@@ -3,15 +3,14 @@ use Rattle.std.specs.Global.{Vec}
 use Rattle.std.specs.List.{flat_map}
 use Rattle.hart.specs.declared.need.Report.{Report}
 use Rattle.recorder.specs.Versions.{ScheduleValue, schedule_value}
-use Rattle.poll_close.specs.Places.{layout_of}
+use Rattle.poll_close.specs.Layout.{layout_of}
 use Rattle.engine_support.specs.declared.fault.Role.TheVariants.{Sender, Receiver}
 use Rattle.engine_support.specs.{read, schedules, text_and_value}
 use Rattle.engine_support.proofs.InputLaws.{read_after, refused_after, unmade}
 use Rattle.channel_engines.specs.Channels.{report_line}
 use Rattle.channel_engines.specs.Lists.{list_texts}
-use Rattle.channel_engines.specs.UserChannels.{IsUserRun, ring_over}
-use Rattle.channel_engines.specs.Programs.{programs}
-use Rattle.channel_engines.specs.inner.Reporting.{UserReports}
+use Rattle.channel_engines.specs.UserChannels.{IsUserRun, ring_over, programs}
+use Rattle.channel_engines.specs.inner.{UserReports}
 use Rattle.channel_engines.proofs.user_channel.made.Goals as goal
 
 abbrev code_of : Vec ℕ → List ℕ

@@ -5,7 +5,7 @@ use Rattle.step_machine.specs.History.{History}
 use Rattle.recorder.specs.Versions.{schedule_value}
 use Rattle.poll_close.proofs.Delivering.{channel-fits}
 use Rattle.ring_trials.specs.UserChannel.{layout_from, lists_of, ring_of}
-use Rattle.channel_engines.specs.inner.Reporting.{UserReports}
+use Rattle.channel_engines.specs.inner.{UserReports}
 use Rattle.channel_engines.proofs.ChannelLaws.{differs_as, user_reported}
 use Rattle.channel_engines.proofs.user_channel.reports_of_user_channel.Goals as goal
 

@@ -1,5 +1,5 @@
 use Rattle.std.proofs.Common.{[]}
-use Rattle.poll_close.specs.Places.{layout_of}
+use Rattle.poll_close.specs.Layout.{layout_of}
 use Rattle.engine_support.proofs.Endings.{ended}
 use Rattle.channel_engines.specs.UserChannels.{IsUserAnswer}
 use Rattle.channel_engines.proofs.user_channel.user_channel_engine.Goals as goal

@@ -1,6 +1,6 @@
 use Rattle.std.proofs.Common.{◌≡◌, map, take}
 use Rattle.std.specs.String.{string_bytes}
-use Rattle.chart.specs.RowTexts.{row_texts}
+use Rattle.chart.specs.Scenes.{row_texts}
 use Rattle.chart.proofs.row_texts.row_texts.Given as goal
 
 abbrev pub invariant-loop-row : goal.invariant-loop-row

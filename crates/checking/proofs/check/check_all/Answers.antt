@@ -4,8 +4,8 @@ use Rattle.engine_support.proofs.{is_handed, hands_failure, hands_stop, hands_un
 use Rattle.checking.specs.{Tally, first_name, table_text}
 use Rattle.checking.proofs.Answering.{all_checked, all_written, none_written}
 use Rattle.checking.proofs.Differences.{ok_more}
-use Rattle.engine_support.specs.inner.Rows.{lines_in}
-use Rattle.checking.proofs.OutcomeLaws.{tabled}
+use Rattle.engine_support.specs.inner.{lines_in}
+use Rattle.checking.proofs.TallyLaws.{tabled}
 use Rattle.checking.proofs.check.check_all.Goals as goal
 
 pub judge_all-requires : goal.judge_all-requires

@@ -1,5 +1,5 @@
 use Rattle.std.proofs.Common.{sym, ◌∙◌, refl}
-use Rattle.checking.specs.inner.Reporting.Closes.{judged, left_out}
+use Rattle.checking.specs.inner.Closes.{judged, left_out}
 use Rattle.checking.proofs.Differences.{ok_then}
 use Rattle.checking.proofs.check.close.Goals as goal
 

@@ -1,7 +1,7 @@
 use Rattle.std.proofs.Common.{◌≡◌, ℕ, ◌<◌, List, [], ◌∷◌, length, rules, refl, sym, ap, subst, ◌∙◌, lit<, arith}
-use Rattle.engine_support.specs.Input.{kept_of}
+use Rattle.engine_support.specs.Inputs.{kept_of}
 use Rattle.engine_support.proofs.{is_handed, hands_read_failure, keeps_written, stopped, unwritten, kept_nothing}
-use Rattle.checking.specs.inner.Reporting.{SomeWritten, TakesLine}
+use Rattle.checking.specs.inner.{SomeWritten, TakesLine}
 use Rattle.checking.proofs.Goings.{going_ended, going_line, going_nothing, going_room, going_so_far, next_whole, whole_of}
 use Rattle.checking.proofs.check.judge_all.Goals as goal
 

@@ -1,5 +1,5 @@
 use Rattle.engine_support.proofs.{is_handed, end_fails, end_stopped, hands_no_memory, wrote}
-use Rattle.checking.specs.inner.Tallies.{judged_by}
+use Rattle.checking.specs.inner.{judged_by}
 use Rattle.checking.proofs.Answering.{written_by}
 use Rattle.checking.proofs.Differences.{ok_some}
 use Rattle.checking.proofs.check.judge_text.Goals as goal

@@ -1,5 +1,5 @@
 use Rattle.std.proofs.Common.{sym, ◌∙◌, refl, rules}
-use Rattle.checking.specs.inner.Reporting.TakesLine.{begins, belongs}
+use Rattle.checking.specs.inner.TakesLine.{begins, belongs}
 use Rattle.checking.proofs.TextLaws.{held_more}
 use Rattle.checking.proofs.check.take_line.Goals as goal
 

@@ -1,6 +1,6 @@
 use Rattle.std.proofs.lemmas.Result.{on_ok_weaker}
 use Rattle.checking.specs.Reports.{difference_place}
-use Rattle.checking.proofs.Written.{two_written}
+use Rattle.checking.proofs.Answering.{two_written}
 use Rattle.checking.proofs.reports.push_place.Goals as goal
 
 pub returns : goal.returns

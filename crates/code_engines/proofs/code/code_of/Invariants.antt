@@ -1,7 +1,7 @@
 use Rattle.std.proofs.Common.{◌≡◌, length}
 use Rattle.assembler.specs.Drafts.{onto}
 use Rattle.texts.specs.Cutting.{tokens}
-use Rattle.code_engines.specs.Code.{code_at}
+use Rattle.code_engines.specs.Asm.{code_at}
 use Rattle.code_engines.proofs.code.code_of.Given as goal
 
 -- the words so far, and those of the rest, are what the line says

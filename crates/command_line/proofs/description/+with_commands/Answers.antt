@@ -1,7 +1,7 @@
 use Rattle.std.proofs.Common.{arith, sym, subst, map, List}
 use Rattle.std.specs.Prelude.{IfOk}
 use Rattle.command_line.specs.Descriptions.{IsDescribed, with_commands}
-use Rattle.command_line.specs.Rows.{row_by}
+use Rattle.command_line.specs.Parameters.{row_by}
 use Rattle.std.specs.Borrow.{Bor}
 use Rattle.clap.specs.Words.{Text}
 use Rattle.command_line.specs.declared.table.Parameter.{Parameter}

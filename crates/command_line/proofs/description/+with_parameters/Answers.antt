@@ -1,8 +1,7 @@
 use Rattle.std.proofs.Common.{arith, sym, subst, map, List}
 use Rattle.std.specs.Prelude.{IfOk}
 use Rattle.command_line.specs.Descriptions.{IsDescribed, with_rules}
-use Rattle.command_line.specs.Parameters.{rule_for}
-use Rattle.command_line.specs.Rows.{parameter_by}
+use Rattle.command_line.specs.Parameters.{rule_for, parameter_by}
 use Rattle.command_line.specs.declared.table.Parameter.{Parameter}
 use Rattle.command_line.proofs.Described.{parts, with_arg}
 use Rattle.command_line.proofs.description.+with_parameters.Goals as goal

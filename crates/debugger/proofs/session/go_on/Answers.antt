@@ -1,8 +1,7 @@
 use Rattle.std.proofs.Common.{◌≡◌, ◌+◌, List, ◌++◌, ◌∷◌, [], length, arith}
 use Rattle.step_machine.specs.Snapshots.{SnapshotView}
 use Rattle.step_machine.specs.declared.events.Event.{Event}
-use Rattle.debugger.proofs.SessionLaws.{went_on}
-use Rattle.debugger.proofs.SnapshotLaws.{one_taken, none_taken}
+use Rattle.debugger.proofs.SnapshotLaws.{went_on, one_taken, none_taken}
 use Rattle.debugger.proofs.session.go_on.Goals as goal
 
 pub returns-in_ok-push-2-clause-kept : goal.returns-in_ok-push-2-clause-kept

@@ -1,6 +1,6 @@
 use Rattle.engine_support.proofs.Endings.{is_handed}
 use Rattle.recorder.specs.Versions.{schedule_value}
-use Rattle.engine_support.specs.inner.Making.{text_and_value}
+use Rattle.engine_support.specs.inner.{text_and_value}
 use Rattle.engine_support.proofs.ScheduleLaws.{made_of_read, read_fault}
 use Rattle.engine_support.proofs.command.made.Goals as goal
 

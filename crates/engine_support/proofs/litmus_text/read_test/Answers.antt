@@ -2,7 +2,7 @@ use Rattle.std.proofs.Common.{◌≡◌}
 use Rattle.std.specs.String.{string_bytes}
 use Rattle.litmus.specs.LitmusTests.{LitmusTest}
 use Rattle.litmus_reader.specs.{IsTestOf, content_of}
-use Rattle.engine_support.specs.Tests.{tests}
+use Rattle.engine_support.specs.Inputs.{tests}
 use Rattle.engine_support.proofs.InputLaws.{one_litmus_text, refused_no_answer}
 use Rattle.engine_support.proofs.TestTexts.{litmus_read}
 use Rattle.engine_support.proofs.litmus_text.read_test.Goals as goal

@@ -2,7 +2,7 @@ use Rattle.std.proofs.Common.{ℕ, List, ◌++◌, subst, sym, append_assoc, rul
 use Rattle.std.specs.Prelude.{OnOk, codes}
 use Rattle.std.specs.Fmt.{decimal}
 use Rattle.std.specs.Io.KnownBytes.{Appends}
-use Rattle.engine_support.specs.Places.{place_text}
+use Rattle.engine_support.specs.Outcomes.{place_text}
 use Rattle.engine_support.proofs.Written.{appends_more, ends_written}
 use Rattle.engine_support.proofs.outcomes.write_value.Goals as goal
 

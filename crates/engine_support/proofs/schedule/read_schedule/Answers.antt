@@ -1,7 +1,7 @@
 use Rattle.std.proofs.Common.{◌≡◌}
 use Rattle.std.specs.String.{string_bytes}
 use Rattle.recorder.specs.Versions.{SaysSchedule, schedule_value}
-use Rattle.engine_support.specs.Schedules.{schedule_of, schedules}
+use Rattle.engine_support.specs.Inputs.{schedule_of, schedules}
 use Rattle.engine_support.proofs.InputLaws.{one_schedule, refused_no_answer}
 use Rattle.engine_support.proofs.TextInputs.{format_read}
 use Rattle.engine_support.proofs.schedule.read_schedule.Goals as goal

@@ -1,4 +1,4 @@
-use Rattle.engine_support.proofs.Counted.{none_added, one_added}
+use Rattle.engine_support.proofs.OutcomeLaws.{none_added, one_added}
 use Rattle.engine_support.proofs.StateLines.{harts_shown-none, harts_shown-more}
 use Rattle.engine_support.proofs.state_text.push_harts.Goals as goal
 

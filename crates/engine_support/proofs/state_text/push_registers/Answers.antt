@@ -1,5 +1,5 @@
 use Rattle.step_machine.specs.Paths.{state_of}
-use Rattle.engine_support.proofs.Counted.{none_added, one_added}
+use Rattle.engine_support.proofs.OutcomeLaws.{none_added, one_added}
 use Rattle.engine_support.proofs.StateLines.{registers_shown-none, registers_shown-more}
 use Rattle.engine_support.proofs.state_text.push_registers.Goals as goal
 

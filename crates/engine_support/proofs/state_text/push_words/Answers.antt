@@ -1,4 +1,4 @@
-use Rattle.engine_support.proofs.Counted.{none_added, one_added}
+use Rattle.engine_support.proofs.OutcomeLaws.{none_added, one_added}
 use Rattle.engine_support.proofs.StateLines.{words_shown-none, words_shown-more}
 use Rattle.engine_support.proofs.state_text.push_words.Goals as goal
 

@@ -5,9 +5,9 @@ use Rattle.std.proofs.lemmas.Result.{err_from_is_err_and}
 use Rattle.std.specs.Prelude.{map}
 use Rattle.hart.specs.declared.need.Report.{Report}
 use Rattle.step_machine.specs.History.{OpeningValue, FitsIn}
-use Rattle.poll_close.specs.{layout_of, Clean, AllTouch}
+use Rattle.poll_close.specs.{layout_of, AllTouch, Clean}
 use Rattle.hart_threads.specs.Records.{IsRecord}
-use Rattle.hart_threads.proofs.OverChannels.{run_of, channel_fails_at}
+use Rattle.hart_threads.proofs.Made.{run_of, channel_fails_at}
 use Rattle.hart_threads.proofs.channels.deliver_threads_at.Goals as goal
 
 pub record_over-requires-after_bounds : goal.record_over-requires-after_bounds

@@ -1,6 +1,6 @@
 use Rattle.std.proofs.Common.{◌≡◌, ◌++◌, take}
 use Rattle.std.specs.List.{filter}
-use Rattle.hart_threads.specs.inner.Searches.{counting_entries, keeps}
+use Rattle.hart_threads.specs.inner.{counting_entries, keeps}
 use Rattle.hart_threads.proofs.diary.is_part.Given as goal
 
 abbrev pub invariant-loop-entry : goal.invariant-loop-entry

@@ -3,7 +3,7 @@ use Rattle.std.proofs.Common.{◌≡◌, List, refl, sym, subst, ap, ap₂, ◌�
 use Rattle.std.specs.Prelude.{map}
 use Rattle.step_machine.specs.declared.events.Event.{Event}
 use Rattle.step_machine.specs.Names.{OpeningValue, History, history_of, Run, IsOwnRun, event_of}
-use Rattle.hart_threads.specs.inner.RunsAgain.{IsRunAgain}
+use Rattle.hart_threads.specs.inner.{IsRunAgain}
 use Rattle.hart_threads.proofs.gather.record_of.Goals as goal
 
 pub returns : goal.returns

@@ -1,6 +1,6 @@
 use Rattle.std.proofs.Common.{◌≤◌, ◌+◌, vec_len, vec_capacity}
 use Rattle.std.specs.Vec.Iter.{into_iter_items, into_iter_len}
-use Rattle.hart_threads.specs.inner.Threads.{Ran}
+use Rattle.hart_threads.specs.inner.{Ran}
 use Rattle.hart_threads.proofs.Coming.{Joined}
 use Rattle.hart_threads.proofs.harts.join_all.Given as goal
 

@@ -1,5 +1,5 @@
 use Rattle.std.proofs.Common.{◌≡◌, true, take}
-use Rattle.hart_threads.specs.inner.Searches.{Found}
+use Rattle.hart_threads.specs.inner.{Found}
 use Rattle.hart_threads.specs.declared.turns.Ending.TheVariants as ending
 use Rattle.hart_threads.proofs.harts.least_lost.Given as goal
 

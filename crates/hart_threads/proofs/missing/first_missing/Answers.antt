@@ -1,5 +1,5 @@
 use Rattle.std.proofs.Common.{rules}
-use Rattle.hart_threads.proofs.FirstMissing.{first_within, none_more, first_past}
+use Rattle.hart_threads.proofs.Least.{first_within, none_more, first_past}
 use Rattle.hart_threads.proofs.missing.first_missing.Goals as goal
 
 pub returns-then-not-is_seated : goal.returns-then-not-is_seated

@@ -1,5 +1,5 @@
 use Rattle.std.proofs.Common.{◌<◌, ◌≤◌, take}
-use Rattle.hart_threads.specs.inner.Searches.{Found}
+use Rattle.hart_threads.specs.inner.{Found}
 use Rattle.hart_threads.proofs.missing.least_past.Given as goal
 
 abbrev pub invariant-loop-seat : goal.invariant-loop-seat

@@ -1,7 +1,7 @@
 use Rattle.std.proofs.Common.{◌≡◌, ◌≤◌, ◌+◌, ◌*◌, length, drop, vec_len, vec_capacity}
 use Rattle.std.specs.Prelude.{map}
 use Rattle.std.specs.Vec.Iter.{into_iter_items, into_iter_len}
-use Rattle.step_machine.specs.inner.Opened.{opened_hart}
+use Rattle.step_machine.specs.inner.Config.{opened_hart}
 use Rattle.hart_threads.specs.Seats.{seats_below}
 use Rattle.hart_threads.proofs.shared.make_seats.Given as goal
 

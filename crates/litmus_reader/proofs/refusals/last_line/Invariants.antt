@@ -1,7 +1,7 @@
 use Rattle.std.proofs.Common.{◌≡◌, ◌+◌, ◌≤◌, length}
 use Rattle.std.specs.Str.Lines.{lines}
 use Rattle.litmus_reader.specs.Lines.{last_filled, last_line}
-use Rattle.litmus_reader.proofs.LineLaws.{reached}
+use Rattle.litmus_reader.proofs.MarkLaws.{reached}
 use Rattle.litmus_reader.proofs.refusals.last_line.Given as goal
 
 abbrev pub invariant-loop-line : goal.invariant-loop-line

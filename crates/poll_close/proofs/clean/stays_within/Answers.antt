@@ -1,5 +1,5 @@
 use Rattle.std.proofs.Common.{[], sym, arith}
-use Rattle.poll_close.specs.Places.{layout_of}
+use Rattle.poll_close.specs.Layout.{layout_of}
 use Rattle.poll_close.proofs.clean.stays_within.Goals as goal
 use Rattle.std.proofs.lemmas.Bool.Decides.{nat_tests}
 use Rattle.poll_close.proofs.ViolationLaws.{stays_more}

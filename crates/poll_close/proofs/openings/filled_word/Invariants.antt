@@ -1,5 +1,5 @@
-use Rattle.poll_close.specs.Places.{layout_of}
-use Rattle.poll_close.proofs.InBlocks.{EmptyTo}
+use Rattle.poll_close.specs.Layout.{layout_of}
+use Rattle.poll_close.proofs.Blocks.{EmptyTo}
 use Rattle.poll_close.proofs.openings.filled_word.Given as goal
 
 abbrev pub invariant-loop-j : goal.invariant-loop-j

@@ -1,9 +1,8 @@
 -- An address of a block leaves less than a block's bytes.
 use Rattle.std.proofs.Common.{[], arith}
 use Rattle.std.proofs.lemmas.Bool.Decides.{nat_tests}
-use Rattle.poll_close.specs.Layout.{Layout}
-use Rattle.poll_close.specs.Places.{layout_of}
-use Rattle.poll_close.proofs.InBlocks.{Inside, inside_is}
+use Rattle.poll_close.specs.Layout.{Layout, layout_of}
+use Rattle.poll_close.proofs.Blocks.{Inside, inside_is}
 use Rattle.poll_close.proofs.openings.is_in_blocks.Goals as goal
 
 pub returns-then-offset-stride-clause-outside : goal.returns-then-offset-stride-clause-outside

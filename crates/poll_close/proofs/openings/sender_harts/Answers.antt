@@ -1,6 +1,6 @@
 use Rattle.std.proofs.Common.{◌∙◌, []}
 use Rattle.poll_close.proofs.openings.sender_harts.Goals as goal
-use Rattle.poll_close.specs.Places.{layout_of}
+use Rattle.poll_close.specs.Layout.{layout_of}
 use Rattle.poll_close.proofs.Opened.{senders-more}
 
 pub loop-index-preserved : goal.loop-index-preserved

@@ -1,5 +1,5 @@
 use Rattle.std.proofs.Common.{◌≡◌, take, map, []}
-use Rattle.poll_close.specs.{senders_from, layout_of}
+use Rattle.poll_close.specs.Layout.{senders_from, layout_of}
 use Rattle.poll_close.proofs.openings.sender_harts.Given as goal
 
 abbrev pub invariant-loop-index : goal.invariant-loop-index

@@ -5,7 +5,7 @@ use Rattle.std.specs.Option.{option_copied}
 use Rattle.recorder.specs.Reading.{piece_at, step_over, tokens_from}
 use Rattle.std.proofs.lemmas.Result.{err_from_is_err_and}
 use Rattle.std.proofs.lemmas.List.{length-drop}
-use Rattle.recorder.proofs.Slices.{rest_from}
+use Rattle.recorder.proofs.TextLaws.{rest_from}
 use Rattle.texts.proofs.FormatLaws.{turns_start, turn_found, turn_gives, turns_end}
 use Rattle.recorder.proofs.reading.tokens_within.Goals as goal
 

@@ -4,7 +4,7 @@ use Rattle.std.proofs.lemmas.Result.{err_from_is_err_and}
 use Rattle.std.proofs.lemmas.List.{length-drop}
 use Rattle.texts.proofs.FormatLaws.{turns_start, turn_found, turn_gives, turns_end}
 use Rattle.recorder.specs.Records.{SizedLine, steps_at, line_size, records_from}
-use Rattle.recorder.proofs.Slices.{rest_from}
+use Rattle.recorder.proofs.TextLaws.{rest_from}
 use Rattle.recorder.proofs.RecordLaws.{lines_after, lines_cut, line-is}
 use Rattle.recorder.proofs.records.lines_within.Goals as goal
 

@@ -4,13 +4,11 @@ use Rattle.step_machine.specs.History.{History}
 use Rattle.recorder.specs.{record_text, ScheduleValue}
 use Rattle.litmus.specs.LitmusTests.{LitmusTest}
 use Rattle.litmus.specs.declared.verdict.Verdict.{Verdict}
-use Rattle.litmus.proofs.VerdictLaws.{one_verdict}
+use Rattle.litmus.proofs.TestLaws.{one_verdict}
 use Rattle.engine_support.specs.declared.fault.Refusal.{Refusal}
 use Rattle.engine_support.specs.{Output, AreOneAnswer, AnswersRun}
 use Rattle.engine_support.proofs.{alike_by_schedule, equal_alike, one_of_history, same_output, one_record}
-use Rattle.run_engines.specs.Run.{IsJudged, IsRunAnswer}
-use Rattle.run_engines.specs.Move.{IsMoved, IsMoveAnswer}
-use Rattle.run_engines.specs.Replay.{IsReplay, IsReplayAnswer}
+use Rattle.run_engines.specs.Run.{IsJudged, IsRunAnswer, IsMoved, IsMoveAnswer, IsReplay, IsReplayAnswer}
 use Rattle.run_engines.proofs.laws.one_answer.Goals as goal
 
 one_judged : (M : ℕ) (q : LitmusTest) (t : History) (a b : List ℕ × Verdict) → IsJudged M q t a → IsJudged M q t b → a ≡ b

@@ -3,7 +3,7 @@ use Rattle.std.specs.String.{string_bytes}
 use Rattle.step_machine.specs.History.{History}
 use Rattle.recorder.specs.{OfHarts, canon}
 use Rattle.run_engines.specs.Run.{IsJudged}
-use Rattle.run_engines.proofs.ThreadRuns.{of_64, joined}
+use Rattle.run_engines.proofs.SeatsComplete.{of_64, joined}
 use Rattle.run_engines.proofs.threads.record_text.Goals as goal
 
 pub write_schedule-requires-clause-harts : goal.write_schedule-requires-clause-harts

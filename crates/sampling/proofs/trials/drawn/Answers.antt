@@ -1,6 +1,6 @@
 use Rattle.std.proofs.Common.{refl}
 use Rattle.drawn_runs.specs.Samples.{runs_of}
-use Rattle.engine_support.specs.inner.Rows.{lines_in}
+use Rattle.engine_support.specs.inner.{lines_in}
 use Rattle.sampling.specs.inner.Tallies.{name_of_run, tally_text, text_and_good}
 use Rattle.sampling.proofs.OutcomeLaws.{tried}
 use Rattle.sampling.proofs.trials.drawn.Goals as goal

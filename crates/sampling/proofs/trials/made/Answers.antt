@@ -1,6 +1,6 @@
 use Rattle.std.proofs.Common.{Ok}
 use Rattle.litmus.specs.LitmusTests.{LitmusTest}
-use Rattle.engine_support.specs.Tests.{tests}
+use Rattle.engine_support.specs.Inputs.{tests}
 use Rattle.engine_support.proofs.InputLaws.{read_after, refused_after}
 use Rattle.sampling.specs.inner.Tallies.{name_of_run, text_and_good}
 use Rattle.sampling.proofs.trials.made.Goals as goal

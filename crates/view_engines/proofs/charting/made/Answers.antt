@@ -5,7 +5,7 @@ use Rattle.recorder.specs.Versions.{schedule_value}
 use Rattle.engine_support.specs.{schedules, tests_with, text_and_value}
 use Rattle.engine_support.proofs.InputLaws.{made_after, read_after, refused_after}
 use Rattle.view_engines.specs.Chart.{IsChart, drawing}
-use Rattle.view_engines.proofs.HeadedLaws.{words_named}
+use Rattle.view_engines.proofs.ShowLaws.{words_named}
 use Rattle.view_engines.proofs.charting.made.Goals as goal
 
 abbrev headed : LitmusTest × Heading → LitmusTest × HeadingOf

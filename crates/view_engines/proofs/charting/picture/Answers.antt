@@ -3,7 +3,7 @@ use Rattle.step_machine.specs.History.{HistoryWithRoom}
 use Rattle.litmus_reader.specs.Headings.{heading_of}
 use Rattle.recorder.specs.Versions.{schedule_value}
 use Rattle.engine_support.specs.Runs.{Runs}
-use Rattle.engine_support.specs.inner.Making.{text_and_value}
+use Rattle.engine_support.specs.inner.{text_and_value}
 use Rattle.engine_support.proofs.{opening_stays, stopped_by}
 use Rattle.view_engines.specs.Chart.{IsChart, differs, drawing}
 use Rattle.view_engines.proofs.charting.picture.Goals as goal

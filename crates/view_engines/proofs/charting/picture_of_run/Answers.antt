@@ -1,7 +1,7 @@
 use Rattle.std.proofs.Common.{◌∙◌, ap, length, sym, arith}
 use Rattle.step_machine.specs.History.{OpeningValue, history_of}
 use Rattle.litmus_reader.specs.Headings.{heading_of}
-use Rattle.engine_support.specs.inner.Making.{text_and_value}
+use Rattle.engine_support.specs.inner.{text_and_value}
 use Rattle.view_engines.specs.Chart.{drawing}
 use Rattle.view_engines.proofs.ChartLaws.{too_many}
 use Rattle.view_engines.proofs.charting.picture_of_run.Goals as goal

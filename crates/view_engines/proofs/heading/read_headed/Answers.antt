@@ -4,10 +4,9 @@ use Rattle.litmus.specs.LitmusTests.{LitmusTest}
 use Rattle.litmus_reader.specs.{IsTestOf, HeadingOf, IsHeading, heading_of, content_of}
 use Rattle.litmus_reader.specs.declared.headings.Heading.{Heading}
 use Rattle.litmus_reader.proofs.HeadingLaws.{one_heading}
-use Rattle.engine_support.specs.Tests.{tests_with}
-use Rattle.engine_support.proofs.InputLaws.{one_litmus_with, refused_no_answer}
-use Rattle.engine_support.proofs.TestTexts.{litmus_read}
-use Rattle.view_engines.proofs.HeadedLaws.{both_hold}
+use Rattle.engine_support.specs.Inputs.{tests_with}
+use Rattle.engine_support.proofs.{one_litmus_with, refused_no_answer, litmus_read}
+use Rattle.view_engines.proofs.ShowLaws.{both_hold}
 use Rattle.view_engines.proofs.heading.read_headed.Goals as goal
 
 abbrev headed : LitmusTest × Heading → LitmusTest × HeadingOf

@@ -1,7 +1,7 @@
 use Rattle.std.proofs.Common.{◌≡◌, ◌*◌, length, map, min}
 use Rattle.std.specs.List.{range_with_len}
 use Rattle.std.specs.String.{string_bytes}
-use Rattle.chart.specs.Names.{word_name}
+use Rattle.chart.specs.Sayings.{word_name}
 use Rattle.view_engines.specs.LeastWidths.{most}
 use Rattle.view_engines.proofs.least_widths.name_cells.Given as goal
 

@@ -5,8 +5,7 @@ use Rattle.std.specs.String.{string_bytes}
 use Rattle.litmus.specs.LitmusTests.{LitmusTest}
 use Rattle.engine_support.specs.declared.fault.Fault.{Fault}
 use Rattle.engine_support.specs.{test_of, tests_with, text_and_value}
-use Rattle.engine_support.proofs.InputLaws.{refused_after}
-use Rattle.engine_support.proofs.TextInputs.{no_text_judged, no_text_read_as, text_after}
+use Rattle.engine_support.proofs.{refused_after, no_text_judged, no_text_read_as, text_after}
 use Rattle.view_engines.specs.Show.{IsShow}
 use Rattle.view_engines.proofs.showing.made.Goals as goal
 

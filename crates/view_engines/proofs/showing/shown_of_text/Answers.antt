@@ -1,10 +1,9 @@
 use Rattle.litmus.specs.LitmusTests.{LitmusTest}
 use Rattle.litmus_reader.specs.Reading.{content_of}
 use Rattle.litmus_reader.specs.declared.headings.Heading.{Heading}
-use Rattle.engine_support.specs.inner.Making.{text_and_value}
+use Rattle.engine_support.specs.inner.{text_and_value}
 use Rattle.engine_support.proofs.Endings.{is_handed}
-use Rattle.view_engines.proofs.HeadedLaws.{words-there}
-use Rattle.view_engines.proofs.ShowLaws.{no_test_shown, test_shown}
+use Rattle.view_engines.proofs.ShowLaws.{words-there, no_test_shown, test_shown}
 use Rattle.view_engines.proofs.showing.shown_of_text.Goals as goal
 
 pub shown-requires-clause-locations : goal.shown-requires-clause-locations

@@ -1,5 +1,5 @@
 use Rattle.texts.specs.Results.{refusal_of}
-use Rattle.assembler.specs.Faults.{Refusal}
+use Rattle.assembler.specs.Drafts.{Refusal}
 use Rattle.assembler.proofs.ProgramGrammar.{found_line, only_line}
 use Rattle.assembler.proofs.draft.Draft.read.Goals as goal
 

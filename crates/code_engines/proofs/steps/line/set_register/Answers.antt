@@ -1,6 +1,6 @@
 use Rattle.std.proofs.Common.{◌≡◌, ◌<◌, length, get_or, subst, sym, rules}
 use Rattle.step_machine.specs.History.{HartOpeningValue}
-use Rattle.code_engines.proofs.Registers.{with_register-done}
+use Rattle.code_engines.proofs.ShownSteps.{with_register-done}
 use Rattle.code_engines.proofs.steps.line.set_register.Goals as goal
 
 pub returns-clause-exact : goal.returns-clause-exact

@@ -1,5 +1,5 @@
 use Rattle.std.proofs.Common.{◌≡◌, ℕ, [], refl, rules, subst}
-use Rattle.engine_support.proofs.Counted.{none_added}
+use Rattle.engine_support.proofs.OutcomeLaws.{none_added}
 use Rattle.debugger.specs.DebuggerStates.{GoesBackBy}
 use Rattle.debugger.proofs.debug.answers.answer.Goals as goal
 

@@ -1,7 +1,7 @@
 use Rattle.std.proofs.Common.{rules}
 use Rattle.std.specs.List.Sorted.{IsStrictlySortedBy}
 use Rattle.std.specs.Map.{keys_of}
-use Rattle.engine_support.specs.inner.Rows.{AreFound, order}
+use Rattle.engine_support.specs.inner.{AreFound, order}
 use Rattle.engine_support.proofs.OutcomeLaws.{are_lines}
 use Rattle.engine_support.proofs.outcomes.Outcomes.has_lines.Goals as goal
 

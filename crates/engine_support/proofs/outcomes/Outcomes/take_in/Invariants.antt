@@ -1,6 +1,6 @@
 use Rattle.std.specs.List.Sorted.{IsStrictlySortedBy}
 use Rattle.std.specs.Map.{keys_of}
-use Rattle.engine_support.specs.inner.Rows.{order}
+use Rattle.engine_support.specs.inner.{order}
 use Rattle.engine_support.proofs.Rows.{AreTaken}
 use Rattle.engine_support.proofs.outcomes.Outcomes.take_in.Given as goal
 

@@ -1,7 +1,7 @@
 use Rattle.std.proofs.Common.{◌≡◌, ℕ, List, ◌++◌}
 use Rattle.std.specs.List.{flat_map}
 use Rattle.std.specs.Io.KnownBytes.{Appends}
-use Rattle.engine_support.specs.inner.Rows.{lines_in, row_line}
+use Rattle.engine_support.specs.inner.{lines_in, row_line}
 use Rattle.engine_support.proofs.outcomes.Outcomes.write_lines.Given as goal
 
 -- what is written, and what is left to write, is all

@@ -1,5 +1,5 @@
 use Rattle.std.proofs.Common.{◌≡◌, length}
-use Rattle.hart_threads.specs.inner.Searches.{counting_entries}
+use Rattle.hart_threads.specs.inner.{counting_entries}
 use Rattle.hart_threads.proofs.rest.Rest.next_counted.Given as goal
 
 abbrev pub invariant-loop-entry : goal.invariant-loop-entry

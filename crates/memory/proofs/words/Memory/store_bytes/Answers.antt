@@ -1,6 +1,6 @@
 -- A word before the new place is written.
 use Rattle.std.proofs.Common.{◌+◌, ◌/◌, arith}
-use Rattle.memory.proofs.Untouched.{written_before}
+use Rattle.memory.proofs.Written.{written_before}
 use Rattle.memory.proofs.words.Memory.store_bytes.Goals as goal
 
 pub invariant_of-self : goal.invariant_of-self

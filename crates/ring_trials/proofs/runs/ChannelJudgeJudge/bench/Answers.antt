@@ -1,5 +1,5 @@
 use Rattle.std.proofs.Common.{lit<}
-use Rattle.ring_trials.proofs.OpeningLaws.{opening_fits}
+use Rattle.ring_trials.proofs.JudgingLaws.{opening_fits}
 use Rattle.ring_trials.proofs.runs.ChannelJudgeJudge.bench.Goals as goal
 
 pub open-requires : goal.open-requires

@@ -4,7 +4,7 @@ use Rattle.std.specs.Global.{Vec}
 use Rattle.recorder.specs.{Step, OfHarts, schedule_value}
 use Rattle.engine_support.specs.{Records, text_and_value}
 use Rattle.engine_support.proofs.ScheduleLaws.{stopped_by}
-use Rattle.run_engines.specs.Move.{IsMoved}
+use Rattle.run_engines.specs.Run.{IsMoved}
 use Rattle.run_engines.proofs.moving.MoveScheduleCommand.answer.Goals as goal
 
 -- The steps are of the harts of the events that were read, and no more than these.

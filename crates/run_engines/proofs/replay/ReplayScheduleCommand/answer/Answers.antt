@@ -5,7 +5,7 @@ use Rattle.recorder.specs.{entry_line, schedule_value}
 use Rattle.engine_support.specs.{AnswersRun, text_and_value}
 use Rattle.engine_support.specs.Runs.{Runs}
 use Rattle.engine_support.proofs.ScheduleLaws.{stopped_by}
-use Rattle.run_engines.specs.Replay.{IsReplay}
+use Rattle.run_engines.specs.Run.{IsReplay}
 use Rattle.run_engines.proofs.replay.ReplayScheduleCommand.answer.Goals as goal
 
 pub returns : goal.returns

@@ -2,7 +2,7 @@
 use Rattle.std.proofs.Common.{◌≡◌, List, sym, ap, ◌∙◌, map}
 use Rattle.hart.specs.State.{HartView}
 use Rattle.step_machine.specs.Names.{Stored, Config, beginning}
-use Rattle.step_machine.proofs.PartLaws.{firsts_put}
+use Rattle.step_machine.proofs.PositionLaws.{firsts_put}
 use Rattle.step_machine.proofs.machine_state.MachineState.unpack_hart.Goals as goal
 
 pub returns-clause-opening : goal.returns-clause-opening

@@ -2,7 +2,7 @@
 use Rattle.std.proofs.Common.{◌≡◌, ◌-◌, ◌/◌, ◌%◌, get_or, subst}
 use Rattle.std.specs.Prelude.{slice_index}
 use Rattle.step_machine.specs.inner.Stored.{Stored, FitStored}
-use Rattle.step_machine.proofs.Finding.{found-in_word}
+use Rattle.step_machine.proofs.WordReads.{found-in_word}
 use Rattle.step_machine.proofs.stores.Stores.find.Goals as goal
 
 pub returns : goal.returns

@@ -4,7 +4,7 @@ use Rattle.std.specs.List.{AllZip, Contains}
 use Rattle.std.proofs.lemmas.Bool.{false≢true}
 use Rattle.surveys.specs.declared.keys.Draft.{Draft}
 use Rattle.surveys.proofs.KeyLaws.{contains_there}
-use Rattle.surveys.proofs.Zipped.{zipped_more, zipped_none}
+use Rattle.surveys.proofs.PartRows.{zipped_more, zipped_none}
 use Rattle.surveys.proofs.keys.Keys.look_up.Goals as goal
 use Rattle.surveys.proofs.keys.Keys.look_up.Goals.{then-slot-ne0, else-slot-ne0}
 

@@ -4,7 +4,7 @@ use Rattle.std.proofs.lemmas.List.{length-map}
 use Rattle.surveys.specs.inner.Digits.{Digits, HasRoomBelow, digits_of}
 use Rattle.surveys.specs.declared.layout.Field.{Field}
 use Rattle.surveys.proofs.LayoutLaws.{fields_room}
-use Rattle.surveys.proofs.Zipped.{zipped_more, zipped_none}
+use Rattle.surveys.proofs.PartRows.{zipped_more, zipped_none}
 use Rattle.surveys.proofs.layout.Layout.holds.Goals as goal
 
 abbrev HasRoom : Field → ℕ → Type 0

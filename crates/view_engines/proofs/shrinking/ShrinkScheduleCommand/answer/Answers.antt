@@ -2,11 +2,10 @@ use Rattle.std.proofs.Common.{◌∙◌, ap, arith}
 use Rattle.step_machine.specs.History.{HistoryWithRoom}
 use Rattle.recorder.specs.{events_of_schedule, schedule_value, canon}
 use Rattle.engine_support.specs.Runs.{Runs}
-use Rattle.engine_support.specs.inner.Making.{text_and_value}
+use Rattle.engine_support.specs.inner.{text_and_value}
 use Rattle.engine_support.proofs.{opening_stays, runs_events, stopped_by}
 use Rattle.view_engines.specs.Shrink.{IsShrink, differs}
-use Rattle.view_engines.proofs.PartLimits.{part_OfHarts, part_few}
-use Rattle.view_engines.proofs.ShrinkLaws.{not_shrunk}
+use Rattle.view_engines.proofs.ShrinkLaws.{part_OfHarts, part_few, not_shrunk}
 use Rattle.view_engines.proofs.shrinking.ShrinkScheduleCommand.answer.Goals as goal
 
 pub returns-in_err-machine : goal.returns-in_err-machine
