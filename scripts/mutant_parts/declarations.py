@@ -15,6 +15,7 @@ USE = re.compile(r"^(?:(?:unfoldable )?pub )?use (?P<path>[\w.+]+?)(?:\.\{(?P<na
 INLINE = re.compile(r"\bRattle\.(\w+)\.(specs|proofs)(?:\.\w+)*\.(?=[^\W\d])")
 TOKEN = re.compile(r"\[\]|[^\s(){}\[\];,.]+")
 BEFORE_POINT = re.compile(r"[^\s(){}\[\];,.]+\.(?=[^\W\d])")
+WORD_OF = {"◌>>=◌": "do"}  # what a text says in place of an operator
 MADE = ("Goals", "Given")  # the modules that the kit makes of a function's proof
 
 
@@ -63,7 +64,9 @@ class Import(NamedTuple):
         """Whether a text of these tokens can name it: an operator by all its parts, a module before a point."""
         if not self.name:
             return f"{self.called}." in tokens
-        return self.called in tokens or "◌" in self.called and all(part in tokens for part in self.called.split("◌") if part)
+        if self.called in tokens or WORD_OF.get(self.called) in tokens:
+            return True
+        return "◌" in self.called and all(part in tokens for part in self.called.split("◌") if part)
 
 
 class Declaration(NamedTuple):
