@@ -5,8 +5,7 @@ use Rattle.std.specs.List.{Contains}
 use Rattle.texts.specs.Pieces.{is_blank}
 use Rattle.assembler.specs.declared.form.Form.{Form}
 use Rattle.assembler.specs.Mnemonics.{mnemonics}
-use Rattle.assembler.specs.Lines.{is_label_name}
-use Rattle.assembler.specs.Operands.{OperandKind, OperandValue}
+use Rattle.assembler.specs.Operands.{is_label_name, OperandKind, OperandValue}
 use Rattle.assembler.specs.Statements.{Made, Maker, operand_row}
 use Rattle.assembler.specs.Drafts.{Line}
 use Rattle.texts.specs.Cutting.{AreBlanks, IsPadded, NonePass, is_byte}

@@ -14,13 +14,12 @@ pub use Rattle.assembler.specs.Mnemonics.{mnemonics}
 unfoldable pub use Rattle.assembler.specs.Mnemonics.{form_named}
 pub use Rattle.assembler.specs.Sets.{set_names}
 unfoldable pub use Rattle.assembler.specs.Sets.{set_named}
-pub use Rattle.assembler.specs.Operands.{IsInReach, OperandKind, OperandValue, Target, address, amount, bytes, closed, far, in_parentheses, in_range, in_reach}
-pub use Rattle.assembler.specs.Operands.{is_reached, known_register, known_set, label, natural_in, near, number_in, or_zero, pointer, register, set, value_in}
-pub use Rattle.assembler.specs.Operands.{word}
+pub use Rattle.assembler.specs.Operands.{IsInReach, OperandKind, OperandValue, Target, address, amount, begins_label_name, bytes, closed, far}
+pub use Rattle.assembler.specs.Operands.{goes_on_label_name, in_parentheses, in_range, in_reach, is_label_name, is_reached, known_register, known_set, label}
+pub use Rattle.assembler.specs.Operands.{natural_in, near, number_in, or_zero, pointer, register, set, value_in, word}
 pub use Rattle.assembler.specs.Statements.{Made, Maker, branch, high_of, is_short, jump, loaded, low_of, one, read_operands, statement_of, two, wrapped}
 unfoldable pub use Rattle.assembler.specs.Statements.{operand_row}
-pub use Rattle.assembler.specs.Lines.{begins_label_name, between_commas, code_of, goes_on_label_name, is_label_name, is_pair, label_and_rest, made_for}
-pub use Rattle.assembler.specs.Lines.{operands_of, parts_of, some_text}
+pub use Rattle.assembler.specs.Lines.{between_commas, code_of, is_pair, label_and_rest, made_for, operands_of, parts_of, some_text}
 unfoldable pub use Rattle.assembler.specs.Lines.{label_of, made_in, statement_text}
 pub use Rattle.assembler.specs.Drafts.{AllFit, AllPlain, Fitting, IsPlain, Line, Refusal, all_drafted, all_placed, asm_number, distance, in_bytes, is_label}
 pub use Rattle.assembler.specs.Drafts.{is_twice, line_over, onto, place_from, placed_statement, refused_at_line, size_of, word_count}

@@ -1,8 +1,5 @@
--- The names of labels. A line's parts: what stands before a comment is a label, or none, and a statement, or
--- none.
-use Rattle.std.specs.Prelude.{ℕ, ◌==◌, Bool, false, ◌&&◌, ◌||◌, List, [], ◌∷◌, true, length, Option, Some, None, Result, Ok, Err, if◌then◌else◌}
-use Rattle.std.specs.List.{list_all}
-use Rattle.texts.specs.Cutting.{is_letter, is_digit, before, after, is_byte, without_front, trimmed}
+-- A line's parts: what stands before a comment is a label, or none, and a statement, or none.
+use Rattle.std.specs.Prelude.{ℕ, ◌==◌, Bool, true, false, List, [], ◌∷◌, length, Option, Some, None, Result, Ok, Err, if◌then◌else◌}
 use Rattle.std.specs.Option.{option_copied}
 use Rattle.texts.specs.Pieces.{is_blank}
 use Rattle.texts.specs.Results.{◌>>=◌}
@@ -11,21 +8,11 @@ use Rattle.assembler.specs.declared.faults.AsmFault.TheVariants.{UnknownName}
 use Rattle.assembler.specs.declared.form.Form.{Form}
 use Rattle.assembler.specs.declared.statement.Operands.{Operands}
 use Rattle.assembler.specs.declared.statement.Statement.{Statement}
+use Rattle.texts.specs.Cutting.{before, after, is_byte, without_front, trimmed}
+use Rattle.assembler.specs.Operands.{is_label_name}
 use Rattle.assembler.specs.Spelled.{operands_in}
 use Rattle.assembler.specs.Mnemonics.{form_named}
 use Rattle.assembler.specs.Statements.{Made, statement_of, made_of}
-
--- a letter, `_` or `.`
-abbrev pub begins_label_name : ℕ → Bool
-begins_label_name c = is_letter c || (c == 95) || (c == 46)
-
-abbrev pub goes_on_label_name : ℕ → Bool
-goes_on_label_name c = begins_label_name c || is_digit c
-
--- a letter, `_` or `.`, and then letters, digits, `_` and `.`
-abbrev pub is_label_name : List ℕ → Bool
-is_label_name [] = false
-is_label_name (c ∷ rest) = begins_label_name c && list_all goes_on_label_name (c ∷ rest)
 
 -- what stands before the first `#`
 abbrev pub code_of : List ℕ → List ℕ

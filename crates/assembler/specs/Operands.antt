@@ -1,6 +1,9 @@
--- What an operand says, and what is wrong with it where it says nothing that its place asks for.
-use Rattle.std.specs.Prelude.{◌≡◌, ◌≤ℤ◌, ◌<ℤ◌, ℕ, ℤ, pos, negsuc, neg_ℤ, int_lt, unsigned_abs, ◌==◌, ◌%◌, Bool, ◌&&◌}
-use Rattle.std.specs.Prelude.{◌||◌, not, List, length, Option, Some, None, Result, Ok, Err, if◌then◌else◌}
+-- The names of labels. What an operand says, and what is wrong with it where it says nothing that its place
+-- asks for.
+use Rattle.std.specs.Prelude.{ℕ, ◌==◌, Bool, false, ◌&&◌, ◌||◌, List, [], ◌∷◌, ◌≡◌, ◌≤ℤ◌, ◌<ℤ◌, ℤ, pos, negsuc, neg_ℤ, int_lt, unsigned_abs, ◌%◌, not, length}
+use Rattle.std.specs.Prelude.{Option, Some, None, Result, Ok, Err, if◌then◌else◌}
+use Rattle.std.specs.List.{list_all}
+use Rattle.texts.specs.Cutting.{is_letter, is_digit}
 use Rattle.texts.specs.Cutting.{before, after, is_byte, trimmed}
 use Rattle.texts.specs.Grammars.{integer}
 use Rattle.texts.specs.Results.{◌>>=◌}
@@ -13,7 +16,18 @@ use Rattle.assembler.specs.declared.operands.JumpTarget.{JumpTarget}
 use Rattle.assembler.specs.declared.operands.JumpTarget.TheVariants.{Bytes, Label}
 use Rattle.rv_decode.specs.Registers.{register_named}
 use Rattle.assembler.specs.Sets.{set_named}
-use Rattle.assembler.specs.Lines.{is_label_name}
+
+-- a letter, `_` or `.`
+abbrev pub begins_label_name : ℕ → Bool
+begins_label_name c = is_letter c || (c == 95) || (c == 46)
+
+abbrev pub goes_on_label_name : ℕ → Bool
+goes_on_label_name c = begins_label_name c || is_digit c
+
+-- a letter, `_` or `.`, and then letters, digits, `_` and `.`
+abbrev pub is_label_name : List ℕ → Bool
+is_label_name [] = false
+is_label_name (c ∷ rest) = begins_label_name c && list_all goes_on_label_name (c ∷ rest)
 
 -- ---- registers
 

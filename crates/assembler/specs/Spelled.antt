@@ -7,9 +7,8 @@ use Rattle.texts.specs.Grammars.{Grammar, mapped, filter_mapped, parted, suffixe
 use Rattle.rv_decode.specs.declared.instruction.Reg.{Reg}
 use Rattle.rv_decode.specs.Registers.{register_names, register_named}
 use Rattle.assembler.specs.Sets.{set_names, set_named}
-use Rattle.assembler.specs.Lines.{is_label_name, goes_on_label_name}
-use Rattle.assembler.specs.Operands.{Target, bytes, label, is_reached}
-use Rattle.assembler.specs.Operands.{OperandKind, register, upper, amount, short, word, address, pointer, near, far, set, OperandValue}
+use Rattle.assembler.specs.Operands.{is_label_name, goes_on_label_name, Target, bytes, label, is_reached, OperandKind, register, upper, amount, short, word}
+use Rattle.assembler.specs.Operands.{address, pointer, near, far, set, OperandValue}
 
 -- what stands between the commas (44), without the blanks round it
 abbrev pub operands_in : List ℕ → List (List ℕ)

@@ -2,7 +2,7 @@
 
 ghost use Rattle.std.specs.Prelude.{◌≡◌};
 ghost use Rattle.std.specs.List.{list_all};
-ghost use Rattle.assembler.specs.Lines.{begins_label_name, goes_on_label_name, is_label_name};
+ghost use Rattle.assembler.specs.Operands.{begins_label_name, goes_on_label_name, is_label_name};
 
 fn begins_name(byte: u8) -> bool
     ensures { result ≡ begins_label_name byte }

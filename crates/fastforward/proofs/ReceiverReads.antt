@@ -4,9 +4,8 @@ use Rattle.std.specs.Prelude.{slice_index}
 use Rattle.std.specs.List.{slice_get}
 use Rattle.std.proofs.lemmas.Bool.{cases_lt, cases_eq}
 use Rattle.poll_close.specs.{SenderBlock, offset, slot, unread_of}
-use Rattle.poll_close.proofs.Windows.{in_memory, none_pending, newest_found, last_found}
+use Rattle.poll_close.proofs.BlockLaws.{in_memory, none_pending, newest_found, last_found, found_in}
 use Rattle.poll_close.proofs.Blocks.{IsBlock}
-use Rattle.poll_close.proofs.BlockLaws.{found_in}
 use Rattle.fastforward.specs.{fastforward_blocks, receiver_stores, Counters, nulls, taken_so_far, freed, CounterInvariant, Words}
 use Rattle.fastforward.proofs.Stores.{slots_apart, slot-again, store_null, store_tail, store_done, Place, place_at}
 

@@ -3,10 +3,9 @@
 ghost use Rattle.std.specs.Prelude.{◌≡◌, ◌≤◌, IfOk, IfErr, OnOk, map, length};
 ghost use Rattle.step_machine.specs.History.{FitsIn};
 ghost use Rattle.step_machine.specs.Entries.{reported};
-ghost use Rattle.poll_close.specs.Laws.{opening_of, opening_over, Accepted, AcceptedAt};
+ghost use Rattle.poll_close.specs.Laws.{opening_of, opening_over, Accepted, AcceptedAt, AllGoOn};
 ghost use Rattle.poll_close.specs.Layout.{dense, layout_of, AllTouch};
-ghost use Rattle.poll_close.specs.Standing.{AllGoOn};
-ghost use Rattle.poll_close.specs.Delivery.{Clean};
+ghost use Rattle.poll_close.specs.Reports.{Clean};
 ghost use Rattle.hart_threads.specs.Records.{IsRecord};
 ghost use Rattle.hart_threads.specs.GettingOn.{AllGetOn, AtMost};
 ghost use Rattle.hart_threads.specs.Returns.{RecordFails, ChannelFails, ChannelFailsAt};

@@ -1,7 +1,7 @@
 -- What the sender owes, and so the laws of the ring.
-use Rattle.std.proofs.Common.{◌∙◌, ap, arith, lit≤}
+use Rattle.std.proofs.Common.{◌≡◌, refl, ◌∙◌, ap, arith, lit≤}
 use Rattle.std.proofs.Math.Nat.{zero-mod}
-use Rattle.std.specs.Prelude.{◌≡◌, refl, slice_index, Some, map}
+use Rattle.std.specs.Prelude.{slice_index}
 use Rattle.hart.specs.State.{HartState}
 use Rattle.poll_close.proofs.Ring.{Decreases, rank_of, next_by, SenderBlock, Standing, IsBlock, BlockLaws, opens_with, stands_at, AllLaws, all_laws}
 use Rattle.poll_close.proofs.Ring.{ranking_decreases, AllMayLoad}
@@ -9,12 +9,11 @@ use Rattle.lamport_ring.specs.Invariant.{Sent, outline_of}
 use Rattle.lamport_ring.proofs.Laws.{Reads, SenderLaws, block_laws, nothing}
 use Rattle.lamport_ring.proofs.Decreasing.{progress, loads_tail}
 use Rattle.lamport_ring.proofs.SenderSteps.{none_read}
-use Rattle.lamport_cached.specs.Listing.{lamport_cached, listing}
+use Rattle.lamport_cached.specs.Listing.{lamport_cached}
 use Rattle.lamport_cached.specs.LamportCached.{lamport_cached_blocks, lamport_cached_means, lamport_cached_ranking}
 use Rattle.lamport_cached.specs.Invariant.Sender.{program}
 use Rattle.lamport_cached.proofs.Sender.{sender}
 use Rattle.lamport_cached.proofs.SenderRows.{reasons}
-use Rattle.rv_decode.specs.{meaning, words_of, lines_of}
 
 stands : (k : SenderBlock) → IsBlock k → Standing (outline_of program) k nothing.sender (opens_with program.code k)
 stands k is = record {
@@ -51,11 +50,3 @@ lamport_cached_decreases = ranking_decreases lamport_cached_blocks laws 2 (lit�
 
 pub lamport_cached_loads : AllMayLoad lamport_cached lamport_cached_means 0x1C 8 8
 lamport_cached_loads = loads_tail program lamport_cached (lit≤ tt)
-
--- ---- the sender's table means its listing
--- The receiver's is Lamport's.
-
--- by the decoder's own function, on numerals
-pub sender_decoded : map meaning (words_of listing.sender) ≡ map Some (lines_of listing.sender)
-unfolding meaning
-sender_decoded = refl

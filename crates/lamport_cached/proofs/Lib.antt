@@ -1,3 +1,4 @@
+pub mod Means
 pub mod Sender
 pub mod SenderRows
 pub mod LamportCachedLaws

@@ -6,7 +6,7 @@ use Rattle.lamport_ring.specs.Invariant.{Counters, CounterInvariant, Words}
 use Rattle.lamport_ring.proofs.SenderSteps as step
 use Rattle.lamport_cached.specs.Listing.{listing}
 use Rattle.lamport_cached.specs.LamportCached.{lamport_cached_blocks}
-use Rattle.lamport_cached.proofs.LamportCachedLaws.{sender_decoded}
+use Rattle.lamport_cached.proofs.Means.{sender_decoded}
 
 abbrev pub sender : Sender lamport_cached_blocks
 sender = record { lines = lines_of listing.sender; decoded = sender_decoded }

@@ -63,7 +63,7 @@ impl<const B: usize, const M: usize> Finish<B, M> for LamportCached {
 }
 
 /// Each word of the ring's tables means its line's instruction. It does nothing.
-#[tactic(auto, using(crate::proofs::LamportCachedLaws::sender_decoded, lamport_ring::proofs::LamportLaws::receiver_decoded, poll_close::proofs::SenderLines::all_mean))]
+#[tactic(auto, using(crate::proofs::Means::sender_decoded, lamport_ring::proofs::Means::receiver_decoded, poll_close::proofs::SenderLines::all_mean))]
 pub fn tables_mean()
     ensures sender { AllMean lamport_cached.sender (lines_of listing.sender) }
     ensures receiver { AllMean lamport_cached.receiver (lines_of listing.receiver) }

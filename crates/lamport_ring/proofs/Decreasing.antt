@@ -7,8 +7,8 @@ use Rattle.hart.specs.State.{HartState}
 use Rattle.poll_close.proofs.Ring.{Ring, runs, SenderBlock, offset, slot_store, tail_store, window, Standing, means_by, none_left, singles-length, pairs-length}
 use Rattle.poll_close.proofs.Ring.{IsBlock, word_from, base_is, has_ended, nearer, BlockProgress, AllMayLoad, may_load}
 use Rattle.step_machine.proofs.Modulo.{same_offset}
-use Rattle.lamport_ring.specs.{head_store, sender_stores, receiver_stores, Counters, sent, gone, CounterInvariant, Words, taken_so_far, freed, Program}
-use Rattle.lamport_ring.specs.{outline_of, waits, blocks_of, Marked}
+use Rattle.lamport_ring.specs.Invariant.{head_store, sender_stores, receiver_stores, Counters, sent, gone, CounterInvariant, Words, taken_so_far, freed}
+use Rattle.lamport_ring.specs.Invariant.{Program, outline_of, waits, blocks_of, Marked}
 use Rattle.lamport_ring.proofs.Laws.{Reads, SenderLaws}
 
 -- where nothing is pending all that was stored has landed

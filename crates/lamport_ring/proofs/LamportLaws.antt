@@ -1,16 +1,15 @@
 -- What Lamport's sender owes, and so the laws of the ring.
-use Rattle.std.proofs.Common.{◌∙◌, ap, arith, lit≤}
+use Rattle.std.proofs.Common.{◌≡◌, refl, ◌∙◌, ap, arith, lit≤}
 use Rattle.std.proofs.Math.Nat.{zero-mod}
-use Rattle.std.specs.Prelude.{◌≡◌, refl, slice_index, Some, map}
+use Rattle.std.specs.Prelude.{slice_index}
 use Rattle.hart.specs.State.{HartState}
 use Rattle.poll_close.proofs.Ring.{Decreases, rank_of, next_by, SenderBlock, Standing, IsBlock, BlockLaws, opens_with, stands_at, AllLaws, all_laws}
 use Rattle.poll_close.proofs.Ring.{ranking_decreases, AllMayLoad}
-use Rattle.lamport_ring.specs.{lamport, listing, lamport_blocks, lamport_means, lamport_ranking, outline_of, Sent, lamport_program}
+use Rattle.lamport_ring.specs.{lamport, lamport_blocks, lamport_means, lamport_ranking, outline_of, Sent, lamport_program}
 use Rattle.lamport_ring.proofs.Laws.{Reads, SenderLaws, block_laws, nothing}
 use Rattle.lamport_ring.proofs.Decreasing.{progress, loads_tail}
 use Rattle.lamport_ring.proofs.Sender.{lamport_sender}
 use Rattle.lamport_ring.proofs.SenderRows.{reasons}
-use Rattle.rv_decode.specs.{meaning, words_of, lines_of}
 
 stands : (k : SenderBlock) → IsBlock k → Standing (outline_of lamport_program) k nothing.sender (opens_with lamport_program.code k)
 stands k is = record {
@@ -39,14 +38,3 @@ lamport_decreases = ranking_decreases lamport_blocks laws 2 (lit≤ tt) (progres
 
 pub lamport_loads : AllMayLoad lamport lamport_means 0x18 8 8
 lamport_loads = loads_tail lamport_program lamport (lit≤ tt)
-
--- ---- the tables mean the listings
-
--- by the decoder's own function, on numerals
-pub sender_decoded : map meaning (words_of listing.sender) ≡ map Some (lines_of listing.sender)
-unfolding meaning
-sender_decoded = refl
-
-pub receiver_decoded : map meaning (words_of listing.receiver) ≡ map Some (lines_of listing.receiver)
-unfolding meaning
-receiver_decoded = refl

@@ -6,7 +6,7 @@ use Rattle.hart.specs.State.{HartState}
 use Rattle.poll_close.proofs.Ring.{SenderBlock, offset, SenderRegisters, Standing, Reasons, IsBlock, Within, base_word, word_of, slot_of, BlockLaws, Begins}
 use Rattle.poll_close.proofs.Ring.{Stepped, opens_with, Sender, Right, ◌&◌, sends}
 use Rattle.lamport_ring.specs.Invariant.{Program, outline_of, blocks_of, Sent, Counters, Landed, taken_so_far, CounterInvariant, Words}
-use Rattle.lamport_ring.proofs.LamportLaws.{receiver_decoded}
+use Rattle.lamport_ring.proofs.Means.{receiver_decoded}
 use Rattle.lamport_ring.proofs.Stores.{store_tail, store_done, sender_stores_are, receiver_stores_are}
 use Rattle.lamport_ring.proofs.Landings.{sender_lands, receiver_lands}
 use Rattle.lamport_ring.proofs.ReceiverReads.{seen_mark, seen_done}

@@ -1,3 +1,4 @@
+pub mod Means
 pub mod Stores
 pub mod Landings
 pub mod ReceiverReads

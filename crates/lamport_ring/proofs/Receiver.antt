@@ -14,7 +14,7 @@ use Rattle.poll_close.proofs.Distance.{flags, far_off}
 use Rattle.poll_close.proofs.ReceiverMoves as step
 use Rattle.rv_decode.specs.Listings.{lines_of}
 use Rattle.lamport_ring.specs.{ring_lines, listing, Program, blocks_of, Counters, CounterInvariant, Words}
-use Rattle.lamport_ring.proofs.LamportLaws.{receiver_decoded}
+use Rattle.lamport_ring.proofs.Means.{receiver_decoded}
 use Rattle.lamport_ring.proofs.ReceiverReads.{seen_head, seen_tail, seen_slot}
 
 module _ (p : Program) (k : SenderBlock) (i count : ℕ) (n : Counters) (word : ℕ → ℕ) (r : ReceiverRegisters) (v : ℕ) (is : IsBlock k)

@@ -4,8 +4,8 @@ use Rattle.std.specs.Prelude.{slice_index}
 use Rattle.std.specs.List.{slice_get}
 use Rattle.std.proofs.lemmas.Bool.{cases_lt, cases_eq}
 use Rattle.poll_close.specs.Invariant.Blocks.{SenderBlock, offset, slot, tail_store, window}
-use Rattle.poll_close.proofs.Windows.{singles-each, in_memory, none_pending, last_found}
-use Rattle.poll_close.proofs.BlockLaws.{found_in}
+use Rattle.poll_close.proofs.Windows.{singles-each}
+use Rattle.poll_close.proofs.BlockLaws.{found_in, in_memory, none_pending, last_found}
 use Rattle.lamport_ring.specs.Invariant.{receiver_stores, Counters, CounterInvariant, Words, freed, taken_so_far}
 use Rattle.lamport_ring.proofs.Stores.{store_tail, store_done}
 

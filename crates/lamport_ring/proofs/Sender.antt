@@ -3,7 +3,7 @@ use Rattle.std.proofs.Common.{ℕ, suc, ◌+◌, ◌≡◌, ◌==◌, false, ref
 use Rattle.poll_close.proofs.Ring.{lines_of, SenderBlock, SenderRegisters, IsBlock, base_plus, word_of, slot_at, Sender, Rows, rows}
 use Rattle.poll_close.proofs.Outlines as outline
 use Rattle.lamport_ring.specs.{listing, lamport_blocks, Counters, CounterInvariant, Words}
-use Rattle.lamport_ring.proofs.LamportLaws.{sender_decoded}
+use Rattle.lamport_ring.proofs.Means.{sender_decoded}
 use Rattle.lamport_ring.proofs.SenderSteps as step
 
 abbrev pub lamport_sender : Sender lamport_blocks

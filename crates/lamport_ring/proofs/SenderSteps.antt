@@ -7,11 +7,11 @@ use Rattle.std.proofs.lemmas.Bool.{cases_eq}
 use Rattle.hart.specs.Effects.{word as word_of_sum}
 use Rattle.poll_close.specs.Invariant.Blocks.{SenderBlock, offset, slot, slot_store, window, AreNext}
 use Rattle.step_machine.proofs.{word-plus, offset_step, offset_wrap}
-use Rattle.poll_close.proofs.Windows.{pairs-each, in_memory}
+use Rattle.poll_close.proofs.Windows.{pairs-each}
 use Rattle.poll_close.proofs.Blocks.{IsBlock, offset_low}
-use Rattle.poll_close.proofs.BlockLaws.{found_in}
-use Rattle.lamport_ring.specs.Invariant.{head_store, sender_stores, Sent, Counters, sent, gone, CounterInvariant, Words}
-use Rattle.lamport_ring.specs.Invariant.Assertions.{Between, HoldsWord, Asked, HasRead, Room, StoredWord, Marked}
+use Rattle.poll_close.proofs.BlockLaws.{found_in, in_memory}
+use Rattle.lamport_ring.specs.Invariant.{head_store, sender_stores, Sent, Counters, sent, gone, CounterInvariant, Words, Between, HoldsWord, Asked, HasRead}
+use Rattle.lamport_ring.specs.Invariant.{Room, StoredWord, Marked}
 use Rattle.lamport_ring.proofs.Stores.{store_slot, store_head, store_mark}
 
 -- a store that the sender makes: its numbers are in order, and it is the next one of its list

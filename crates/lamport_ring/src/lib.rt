@@ -63,7 +63,7 @@ impl<const B: usize, const M: usize> Finish<B, M> for Lamport {
 }
 
 /// Each word of the ring's tables means its line's instruction. It does nothing.
-#[tactic(auto, using(crate::proofs::LamportLaws::sender_decoded, crate::proofs::LamportLaws::receiver_decoded, poll_close::proofs::SenderLines::all_mean))]
+#[tactic(auto, using(crate::proofs::Means::sender_decoded, crate::proofs::Means::receiver_decoded, poll_close::proofs::SenderLines::all_mean))]
 pub fn tables_mean()
     ensures sender { AllMean lamport.sender (lines_of listing.sender) }
     ensures receiver { AllMean lamport.receiver (lines_of listing.receiver) }

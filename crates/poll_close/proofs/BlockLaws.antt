@@ -1,6 +1,6 @@
--- What a ring has to prove of one block. Nothing here speaks of a history or of another block: a
--- sender is its state, memory a function from addresses to words.
-use Rattle.std.proofs.Common.{ℕ, suc, ◌+◌, ◌*◌, ◌<◌, ◌≤◌, ◌≡◌, ◌≢◌, ◌⊎◌, true, false, not, List, [], ◌∷◌, length, Option, Some, None}
+-- What a ring has to prove of one block. Nothing here speaks of a history or of another block: a sender is
+-- its state, memory a function from addresses to words.
+use Rattle.std.proofs.Common.{ℕ, suc, ◌+◌, ◌*◌, ◌<◌, ◌≤◌, ◌≡◌, ◌≢◌, ◌⊎◌, true, false, not, List, [], ◌∷◌, length, Option, Some, None, ap, arith}
 use Rattle.std.specs.Prelude.{slice_index, unwrap_or, map}
 use Rattle.std.specs.List.{slice_get}
 use Rattle.rv_decode.specs.{meaning, lines_of}
@@ -9,13 +9,13 @@ use Rattle.hart.specs.declared.status.Status.TheVariants as status
 use Rattle.hart.specs.declared.need.Need.{Need}
 use Rattle.hart.specs.declared.need.Report.{Report}
 use Rattle.hart.specs.declared.need.Report.TheVariants as report
-use Rattle.poll_close.specs.{RingLines, receiver_with, taken, is_closed, runs, some_open, receiver_rank, SenderBlock, offset, AreNext, ReceiverRegisters}
-use Rattle.poll_close.specs.{receiver_of, whole_of, receives, closings_due, BlockInvariant, ReceiverCounts, Count, unsent_of, unread_of, AllReported}
-use Rattle.poll_close.specs.{ReceiverRow, ReceiverIs, opened_rows, ranking_of}
+use Rattle.poll_close.specs.{RingLines, receiver_with, taken, is_closed, runs, some_open, receiver_rank, SenderBlock, offset, AreNext, window}
+use Rattle.poll_close.specs.{ReceiverRegisters, receiver_of, whole_of, receives, closings_due, BlockInvariant, ReceiverCounts, Count, unsent_of, unread_of}
+use Rattle.poll_close.specs.{AllReported, ReceiverRow, ReceiverIs, opened_rows, ranking_of}
 use Rattle.poll_close.specs.Invariant.Outlines.{Standing, Reasons}
 use Rattle.poll_close.proofs.Acts.{stored_by, reports_of_need, IsNoAmo}
 use Rattle.step_machine.proofs.Lines.{loads}
-use Rattle.poll_close.proofs.Windows.{Each, newest_to}
+use Rattle.poll_close.proofs.Windows.{Each, newest_to, Each-range, window-empty, newest_none, newest_made, newest_at}
 use Rattle.poll_close.proofs.Blocks.{IsWrite, IsBlock, Within, IsWordOf, IsStore}
 
 -- what a hart with these pending stores reads, and so the receiver, in the block
@@ -192,3 +192,22 @@ pub record BlockLaws (m : BlockInvariant) : Type 0 where
       → m.CounterInvariant k n → m.Words k n.landed word → Right_at m k i count n word r v 0x14
   pub moves : (k : SenderBlock) (i count : ℕ) (n : Count m) (word : ℕ → ℕ) (r : ReceiverRegisters) (v : ℕ) → IsBlock k
       → m.CounterInvariant k n → m.Words k n.landed word → Reasons (Right m k i count n word r v) (opened_rows m m.rows)
+
+-- ---- what a hart finds at an address where the stores of a window are pending: the newest of them there, else the word of memory
+
+module _ (xs : List (ℕ × ℕ)) (i j : ℕ) (word : ℕ → ℕ) (a : ℕ) where
+  -- where none of them goes to the address, the word of memory
+  pub in_memory : ((t : ℕ) (x : ℕ × ℕ) → i ≤ t → t < j → slice_get xs t ≡ Some x → x.0 ≢ a) → found_in (window xs i j) word a ≡ word a
+  in_memory none = ap (λ o. unwrap_or o (word a)) (newest_none a None (window xs i j) (Each-range (λ x. x.0 ≢ a) xs i j none))
+
+  pub none_pending : j ≤ i → found_in (window xs i j) word a ≡ word a
+  none_pending all = ap (λ ps. found_in ps word a) (window-empty xs i j all)
+
+  -- where store s goes there, and none after it
+  pub newest_found : (v s : ℕ) → i ≤ s → s < j → slice_get xs s ≡ Some (a, v)
+      → ((t : ℕ) (x : ℕ × ℕ) → s < t → t < j → slice_get xs t ≡ Some x → x.0 ≢ a) → found_in (window xs i j) word a ≡ v
+  newest_found v s pending made store none = ap (λ o. unwrap_or o (word a)) (newest_at xs i s j a v pending made store none)
+
+  -- where the last one goes there
+  pub last_found : (v s : ℕ) → j ≡ suc s → i ≤ s → slice_get xs s ≡ Some (a, v) → found_in (window xs i j) word a ≡ v
+  last_found v s last pending store = grind (arith, found_in, newest_made)

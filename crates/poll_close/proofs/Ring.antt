@@ -8,7 +8,7 @@ pub use Rattle.poll_close.specs.Invariant.Outlines.{Standing, Reasons, stands, S
 pub use Rattle.poll_close.specs.Invariant.BlockInvariant.{unsent_of, unread_of}
 pub use Rattle.poll_close.specs.Invariant.Channels.{means_by}
 pub use Rattle.poll_close.proofs.Windows.{none_left, singles-length, pairs-length}
-pub use Rattle.poll_close.proofs.Windows.{in_memory, newest_found}
+pub use Rattle.poll_close.proofs.BlockLaws.{in_memory, newest_found}
 pub use Rattle.poll_close.proofs.Blocks.{IsBlock, Within, offset_low, base_plus, base_word, word_of, word_from, slot_of, slot_at}
 pub use Rattle.poll_close.proofs.BlockLaws.{BlockLaws, Begins, Stepped, opens_with, found_in}
 pub use Rattle.poll_close.proofs.Outlines.{Sender, Right, ◌&◌, stands_at, base_is, has_ended, nearer, sends}

@@ -1,13 +1,12 @@
--- The stores by a list's words, and parts of one fixed list of stores: the ones that are made and have not
--- landed.
+-- The stores by a list's words, and parts of one fixed list of stores: the ones that are made and have
+-- not landed.
 use Rattle.std.proofs.Common.{ℕ, zero, suc, ◌<◌, ◌≤◌, ◌≡◌, ◌≢◌, ◌==◌, false, if◌then◌else◌, List, [], ◌∷◌, ◌++◌, length, take, length-drop, length-take, min}
 use Rattle.std.proofs.Common.{Option, Some, None, refl, sym, ◌∙◌, ap, arith, subst, append-nil, eq-eqb, ◌+◌, ◌*◌, ◌⊎◌, inl, inr}
 use Rattle.std.specs.List.{slice_get}
 use Rattle.std.proofs.Math.ListN.{drop_of_length-le}
 use Rattle.std.proofs.lemmas.Bool.Decides.{nat_tests}
 use Rattle.poll_close.specs.Invariant.Blocks.{window, singles, pairs, AreNext}
-use Rattle.std.specs.Prelude.{slice_index, unwrap_or}
-use Rattle.poll_close.proofs.BlockLaws.{found_in}
+use Rattle.std.specs.Prelude.{slice_index}
 
 one_made : (xs : List (ℕ × ℕ)) (k n : ℕ) (x : ℕ × ℕ) → k ≤ n → slice_get xs n ≡ Some x → window xs k n ++ x ∷ [] ≡ window xs k (suc n)
 one_made [] k n x less is = cc
@@ -187,22 +186,3 @@ each_more P [] e all one zero d is = subst P (let same : e ≡ d = cc in same) o
 each_more P [] e all one (suc j) d is = cc
 each_more P (x ∷ es) e all one zero d is = all 0 d is
 each_more P (x ∷ es) e all one (suc j) d is = each_more P es e (λ i c at. all (suc i) c at) one j d is
-
--- ---- what a hart finds at an address where the stores of a window are pending: the newest of them there, else the word of memory
-
-module _ (xs : List (ℕ × ℕ)) (i j : ℕ) (word : ℕ → ℕ) (a : ℕ) where
-  -- where none of them goes to the address, the word of memory
-  pub in_memory : ((t : ℕ) (x : ℕ × ℕ) → i ≤ t → t < j → slice_get xs t ≡ Some x → x.0 ≢ a) → found_in (window xs i j) word a ≡ word a
-  in_memory none = ap (λ o. unwrap_or o (word a)) (newest_none a None (window xs i j) (Each-range (λ x. x.0 ≢ a) xs i j none))
-
-  pub none_pending : j ≤ i → found_in (window xs i j) word a ≡ word a
-  none_pending all = ap (λ ps. found_in ps word a) (window-empty xs i j all)
-
-  -- where store s goes there, and none after it
-  pub newest_found : (v s : ℕ) → i ≤ s → s < j → slice_get xs s ≡ Some (a, v)
-      → ((t : ℕ) (x : ℕ × ℕ) → s < t → t < j → slice_get xs t ≡ Some x → x.0 ≢ a) → found_in (window xs i j) word a ≡ v
-  newest_found v s pending made store none = ap (λ o. unwrap_or o (word a)) (newest_at xs i s j a v pending made store none)
-
-  -- where the last one goes there
-  pub last_found : (v s : ℕ) → j ≡ suc s → i ≤ s → slice_get xs s ≡ Some (a, v) → found_in (window xs i j) word a ≡ v
-  last_found v s last pending store = grind (arith, found_in, newest_made)

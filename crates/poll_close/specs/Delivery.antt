@@ -1,36 +1,15 @@
--- What a receiver reported, and when that is clean: of each sender a prefix of its list, the whole of it
--- where it is reported closed, and nothing after that. What a channel delivers: the reports of the run of its
--- events, and they are clean.
-use Rattle.std.specs.Prelude.{ℕ, ◌≡◌, ◌≢◌, ◌<◌, ◌==◌, if◌then◌else◌, List, [], ◌∷◌, ◌++◌, length, take, Some, true}
-use Rattle.std.specs.List.{slice_get, slice_index_or}
+-- What a channel delivers: the reports of the run of its events, and they are clean.
+use Rattle.std.specs.Prelude.{ℕ, ◌≡◌, ◌<◌, true, List, [], length}
+use Rattle.std.specs.List.{slice_index_or}
 use Rattle.hart.specs.declared.need.Report.{Report}
-use Rattle.hart.specs.declared.need.Report.TheVariants as report
 use Rattle.step_machine.specs.declared.events.Event.{Event}
 use Rattle.step_machine.specs.History.{OpeningValue, History}
 use Rattle.step_machine.specs.Entries.{reported}
 use Rattle.step_machine.specs.Runs.{Run, RunFrom}
 use Rattle.poll_close.specs.Layout.{Layout}
 use Rattle.poll_close.specs.Laws.{Ring, AcceptedAt, opening_over}
+use Rattle.poll_close.specs.Reports.{taken, Clean}
 use Rattle.poll_close.specs.Plans.{is_closed, is_done}
-
--- the words taken from sender i, in order
-abbrev pub taken : List Report → ℕ → List ℕ
-taken [] i = []
-taken (report.Took j w ∷ rs) i = if j == i then w ∷ taken rs i else taken rs i
-taken (report.Closed j ∷ rs) i = taken rs i
-
-abbrev pub sender_of : Report → ℕ
-sender_of (report.Took j w) = j
-sender_of (report.Closed j) = j
-
-abbrev pub IsPrefixOf : List ℕ → List ℕ → Type 0
-IsPrefixOf xs ys = (rest : List ℕ) × (xs ++ rest ≡ ys)
-
-pub record Clean (reports : List Report) (lists : List (List ℕ)) : Type 0 where
-  pub in_order : (i : ℕ) → IsPrefixOf (taken reports i) (slice_index_or lists i [])
-  pub whole : (i k : ℕ) → slice_get reports k ≡ Some (report.Closed i) → taken (take k reports) i ≡ slice_index_or lists i []
-  pub no_more : (i j k : ℕ) (r : Report) → j < k → slice_get reports j ≡ Some (report.Closed i) → slice_get reports k ≡ Some r → sender_of r ≢ i
-  pub known : (k : ℕ) (r : Report) → slice_get reports k ≡ Some r → sender_of r < length lists
 
 -- these are hart 0's reports in the run of the events from this opening, and they are clean
 pub record Delivers (B M : ℕ) (o : OpeningValue) (lists : List (List ℕ)) (events : List Event) (reports : List Report) : Type 0 where

@@ -1,14 +1,23 @@
--- What a ring's meaning has to be: the opening has it, every event keeps it, it gives clean reports.
-use Rattle.std.specs.Prelude.{ℕ, ◌≡◌, ◌≢◌, ◌+◌, ◌*◌, ◌%◌, ◌^◌, ◌≤◌, ◌<◌, List, All, length, slice_index}
+-- Entries that are no stop: a channel's harts run until they end. What a ring's meaning has to be: the
+-- opening has it, every event keeps it, it gives clean reports.
+use Rattle.std.specs.Prelude.{ℕ, ◌≡◌, List, Some, ◌≢◌, ◌+◌, ◌*◌, ◌%◌, ◌^◌, ◌≤◌, ◌<◌, All, length, slice_index}
+use Rattle.std.specs.List.{slice_get}
 use Rattle.step_machine.specs.declared.events.Entry.{Entry}
+use Rattle.step_machine.specs.declared.events.Entry.TheVariants as entry
 use Rattle.step_machine.specs.History.{OpeningValue, History, at_opening, with_entry}
 use Rattle.step_machine.specs.Entries.{reported}
 use Rattle.step_machine.specs.Legal.{WellFormed}
 use Rattle.step_machine.specs.Runs.{CanFollow}
 use Rattle.poll_close.specs.Layout.{block_size, Layout, dense, base_of, end_of, opening_at, AllTouch}
-use Rattle.poll_close.specs.Delivery.{Clean}
-use Rattle.poll_close.specs.Standing.{AllGoOn}
+use Rattle.poll_close.specs.Reports.{Clean}
 use Rattle.rv_decode.specs.declared.instruction.TheConstants.{MAX_CODE}
+
+abbrev pub GoesOn : Entry → Type 0
+GoesOn (entry.Stopped h why) = ⊥
+GoesOn e = Unit {0}
+
+abbrev pub AllGoOn : List Entry → Type 0
+AllGoOn es = (j : ℕ) (e : Entry) → slice_get es j ≡ Some e → GoesOn e
 
 -- what a ring of a kind is: its tables and its least size
 pub record Ring : Type 0 where

@@ -7,7 +7,7 @@ use Rattle.step_machine.specs.declared.events.Event.{Event}
 use Rattle.step_machine.specs.History.{History}
 use Rattle.step_machine.specs.Entries.{pending, reported}
 use Rattle.step_machine.specs.Runs.{RunFrom}
-use Rattle.poll_close.specs.Delivery.{taken}
+use Rattle.poll_close.specs.Reports.{taken}
 use Rattle.poll_close.specs.Standing.{opening_lists}
 
 -- sender i is reported closed

@@ -16,7 +16,7 @@ use Rattle.step_machine.specs.WordReads.{word_in_memory}
 use Rattle.step_machine.specs.Paths.{state_of}
 use Rattle.step_machine.specs.Runs.{IsFor, CanFollow, NoEntry}
 use Rattle.poll_close.specs.Laws.{Ring, Meaning}
-use Rattle.poll_close.specs.Delivery.{taken}
+use Rattle.poll_close.specs.Reports.{taken}
 use Rattle.poll_close.specs.Standing.{Stands, opening_lists}
 use Rattle.poll_close.specs.Plans.{is_closed, is_done, senders_of, AllLanded}
 

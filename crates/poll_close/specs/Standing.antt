@@ -1,12 +1,9 @@
 -- A channel's history, whatever ran: where it opened, and that the ring's meaning holds of it.
-use Rattle.std.specs.Prelude.{ℕ, ◌≡◌, List, drop, map, Some}
+use Rattle.std.specs.Prelude.{ℕ, ◌≡◌, List, drop, map}
 use Rattle.step_machine.specs.History.{HartOpeningValue, OpeningValue, History}
 use Rattle.step_machine.specs.Legal.{WellFormed}
 use Rattle.poll_close.specs.Layout.{Layout}
 use Rattle.poll_close.specs.Laws.{Ring, opening_over, Meaning, AcceptedAt}
-use Rattle.std.specs.List.{slice_get}
-use Rattle.step_machine.specs.declared.events.Entry.{Entry}
-use Rattle.step_machine.specs.declared.events.Entry.TheVariants as entry
 
 -- the lists that an opening's senders were given
 abbrev pub opening_lists : OpeningValue → List (List ℕ)
@@ -23,12 +20,3 @@ pub record Stands (ring : Ring) (means : Meaning) (B M : ℕ) (t : History) : Ty
   pub opens : IsOpeningOf ring M t.opening
   pub kept : WellFormed B M t
   pub meant : means B M opens.lists opens.layout t
-
--- ---- entries that are no stop: a channel's harts run until they end
-
-abbrev pub GoesOn : Entry → Type 0
-GoesOn (entry.Stopped h why) = ⊥
-GoesOn e = Unit {0}
-
-abbrev pub AllGoOn : List Entry → Type 0
-AllGoOn es = (j : ℕ) (e : Entry) → slice_get es j ≡ Some e → GoesOn e

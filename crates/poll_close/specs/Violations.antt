@@ -9,9 +9,9 @@ use Rattle.step_machine.specs.declared.events.Entry.{Entry}
 use Rattle.step_machine.specs.declared.events.Entry.TheVariants as entry
 use Rattle.step_machine.specs.Entries.{reported}
 use Rattle.poll_close.specs.Layout.{block_size, Layout, base_of, AllTouch}
-use Rattle.poll_close.specs.Delivery.{taken, Clean}
+use Rattle.poll_close.specs.Reports.{taken, Clean}
 use Rattle.poll_close.specs.Plans.{is_closed}
-use Rattle.poll_close.specs.Standing.{AllGoOn}
+use Rattle.poll_close.specs.Laws.{AllGoOn}
 use Rattle.poll_close.specs.declared.clean.Share.{Share}
 use Rattle.poll_close.specs.declared.clean.Violation.{Violation}
 use Rattle.poll_close.specs.declared.clean.Violation.TheVariants as violation

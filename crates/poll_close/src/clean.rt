@@ -6,7 +6,7 @@ ghost use Rattle.hart.specs.declared.need.Report.TheVariants.{Took, Closed};
 ghost use Rattle.step_machine.specs.declared.events.Entry.{Entry};
 ghost use Rattle.step_machine.specs.Entries.{reported};
 ghost use Rattle.poll_close.specs.Layout.{Layout, base_of, layout_of};
-ghost use Rattle.poll_close.specs.Delivery.{Clean};
+ghost use Rattle.poll_close.specs.Reports.{Clean};
 ghost use Rattle.poll_close.specs.Violations.{AreNotes, violation_of, report_violation, stays_within, first_violation, IsKept};
 
 use crate::place::BlockPlace;

@@ -7,10 +7,11 @@ ghost use Rattle.step_machine.specs.Runs.{Run};
 ghost use Rattle.step_machine.specs.Standing.{RepresentsHistory, ForEachHistory};
 ghost use Rattle.step_machine.specs.declared.events.Event.{Event};
 ghost use Rattle.poll_close.specs.Layout.{Layout, dense, layout_of, AllTouch};
-ghost use Rattle.poll_close.specs.Laws.{Accepted, AcceptedAt, opening_of, opening_over};
+ghost use Rattle.poll_close.specs.Laws.{Accepted, AcceptedAt, opening_of, opening_over, AllGoOn};
 ghost use Rattle.poll_close.specs.Refusals.{Refuses, RefusesAt};
-ghost use Rattle.poll_close.specs.Delivery.{Clean, Delivers, DeliversOver, DeliversWhole, DeliversWholeOver, ForEachRun};
-ghost use Rattle.poll_close.specs.Standing.{AllGoOn, Stands};
+ghost use Rattle.poll_close.specs.Delivery.{Delivers, DeliversOver, DeliversWhole, DeliversWholeOver, ForEachRun};
+ghost use Rattle.poll_close.specs.Reports.{Clean};
+ghost use Rattle.poll_close.specs.Standing.{Stands};
 ghost use Rattle.poll_close.specs.Plans.{CanFinish};
 
 use crate::faults::{Refused, RefusedAt};

@@ -12,7 +12,7 @@ use Rattle.step_machine.specs.Standing.{RepresentsHistory, RepresentsRunFrom}
 use Rattle.step_machine.specs.inner.Config.{Config}
 use Rattle.drawn_runs.specs.Samples.{DrawnRuns, schedule_in}
 use Rattle.poll_close.specs.Layout.{base_of}
-use Rattle.poll_close.specs.Delivery.{taken}
+use Rattle.poll_close.specs.Reports.{taken}
 use Rattle.poll_close.specs.Plans.{is_closed}
 use Rattle.poll_close.specs.Violations.{first_violation, AreNotes, IsKept}
 use Rattle.poll_close.specs.declared.clean.Violation.{Violation}

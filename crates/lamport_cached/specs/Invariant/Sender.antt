@@ -7,8 +7,7 @@ use Rattle.poll_close.specs.Invariant.Blocks.{SenderBlock, offset}
 use Rattle.poll_close.specs.Invariant.Outlines.{sender_row}
 use Rattle.poll_close.specs.Invariant.HartStates.{SenderRegisters}
 use Rattle.rv_decode.specs.Listings.{words_of}
-use Rattle.lamport_ring.specs.Invariant.Assertions.{Between, HoldsWord, Asked, HasRead, Room, StoredWord, Marked}
-use Rattle.lamport_ring.specs.Invariant.{Sent, Program}
+use Rattle.lamport_ring.specs.Invariant.{Between, HoldsWord, Asked, HasRead, Room, StoredWord, Marked, Sent, Program}
 use Rattle.lamport_cached.specs.Listing.{listing}
 
 -- it holds the next word, and the tail that it read

@@ -5,8 +5,7 @@ use Rattle.poll_close.specs.Invariant.Blocks.{offset}
 use Rattle.poll_close.specs.Invariant.Outlines.{sender_row}
 use Rattle.rv_decode.specs.Listings.{words_of}
 use Rattle.lamport_ring.specs.Listing.{listing}
-use Rattle.lamport_ring.specs.Invariant.Assertions.{Between, HoldsWord, Asked, HasRead, Room, StoredWord, Marked}
-use Rattle.lamport_ring.specs.Invariant.{Program}
+use Rattle.lamport_ring.specs.Invariant.{Between, HoldsWord, Asked, HasRead, Room, StoredWord, Marked, Program}
 
 abbrev pub lamport_program : Program
 lamport_program = record {

@@ -9,9 +9,8 @@ use Rattle.step_machine.specs.Entries.{pending, reported}
 use Rattle.step_machine.specs.WordReads.{AllWriteWords, word_in_memory}
 use Rattle.step_machine.specs.Paths.{state_of}
 use Rattle.poll_close.specs.Layout.{Layout, AllTouch}
-use Rattle.poll_close.specs.Laws.{Meaning}
-use Rattle.poll_close.specs.Delivery.{taken, Clean}
-use Rattle.poll_close.specs.Standing.{AllGoOn}
+use Rattle.poll_close.specs.Laws.{Meaning, AllGoOn}
+use Rattle.poll_close.specs.Reports.{taken, Clean}
 use Rattle.poll_close.specs.Invariant.Outlines.{Standing}
 use Rattle.poll_close.specs.Invariant.Blocks.{SenderBlock, block_of, as_writes, to_block}
 use Rattle.poll_close.specs.Invariant.HartStates.{ReceiverRegisters, whole_of, receives, closings_due}
