@@ -228,7 +228,7 @@ def comment_of(path, at):
 # ---- clauses
 
 FN = re.compile(r"^(?P<space>\s*)(?P<pub>pub )?(?:const )?fn (?P<name>\w+)")
-BLOCK = re.compile(r"^(?:pub )?(?:impl|trait)\b(?:<.*?>)?\s*(?P<text>.*?)\s*\{?$")
+BLOCK = re.compile(r"^(?:pub )?(?:impl|trait)\b(?:<(?:[^<>]|->|<[^<>]*>)*>)?\s*(?P<text>.*?)\s*\{?$")
 CLAUSE = re.compile(r"^\s*ensures\*?\s*(?P<name>\w+)?\s*\{(?P<text>.*)$")
 MOD = re.compile(r"^(?P<pub>pub )?mod (?P<name>\w+);", re.M)
 PUB_USE = re.compile(r"^pub use (?:crate::|self::)?(?P<place>[\w:]+?)(?:::\{(?P<names>[^}]*)\})?;", re.M)

@@ -26,8 +26,8 @@ def long_decisions():
 
 
 def rooms():
-    """The rooms of crates.txt, each as a row of crates/README.md."""
-    for room in re.split(r"^# ", (ROOT / "crates.txt").read_text(), flags=re.M)[2:]:
+    """The rooms of crates.txt, each as a row of crates/README.md, where the topmost comes first."""
+    for room in reversed(re.split(r"^# ", (ROOT / "crates.txt").read_text(), flags=re.M)[2:]):
         title, *lines = room.split("\n")
         names = [f"`{re.split('[ :]', line)[0]}`" for line in lines if line]
         yield f"| {title} | {', '.join(names)} |"
