@@ -28,8 +28,7 @@ pub struct Channel<K: RingKind, const B: usize, const M: usize> {
 impl<K: RingKind, const B: usize, const M: usize> Model for Channel<K, B, M> {
     ghost use Rattle.std.specs.Prelude.{◌≤◌};
     ghost use Rattle.step_machine.specs.History.{HistoryWithRoom};
-    ghost use Rattle.poll_close.specs.Standing.{Stands, IsOpeningOf, opening_lists};
-    ghost use Rattle.poll_close.specs.Laws.{AllGoOn};
+    ghost use Rattle.poll_close.specs.Standing.{Stands};
 
     ghost Value = { HistoryWithRoom };
 
@@ -42,7 +41,9 @@ impl<K: RingKind, const B: usize, const M: usize> Channel<K, B, M> {
     ghost use Rattle.step_machine.specs.History.{at_opening};
     ghost use Rattle.step_machine.specs.Entries.{reported};
     ghost use Rattle.step_machine.specs.Runs.{Happens, RunFrom, IsOwnRun};
+    ghost use Rattle.poll_close.specs.Laws.{AllGoOn};
     ghost use Rattle.poll_close.specs.Reports.{Clean};
+    ghost use Rattle.poll_close.specs.Standing.{IsOpeningOf, opening_lists};
 
     /// A channel over these lists at its opening, with rings of `ring` slots in the dense layout. Err as
     /// [`opening`](crate::openings::opening).

@@ -2,7 +2,7 @@
 use Rattle.std.proofs.Common.{◌≡◌, ℕ, ◌+◌, ◌-◌, ◌*◌, ◌/◌, ◌%◌, ◌^◌, ◌<◌, ◌≤◌, sym, ◌∙◌, ap, arith}
 use Rattle.std.proofs.Math.Nat.{add-mul-div_right, add-mul-mod_self_right, div-div-eq-div-mul, mod-lt, mul_assoc, mul_comm, add_comm, add-zero, add-mul}
 use Rattle.std.proofs.Math.Nat.{mul-div_cancel, mul-mod_left, mul-lt-mul_of_pos_left, div-lt_iff_lt-mul, mod-eq_of_lt, pow-le-pow_right}
-use Rattle.surveys.specs.inner.Digits.{digits_in, with_field}
+use Rattle.surveys.specs.inner.Fields.{digits_in, with_field}
 use Rattle.std.proofs.lemmas.Nat.{div-add-mod', div-mul-add, mod-mul-add, mod-pow-add, mul-add-lt, pow-add, pow_pos}
 
 shifted : (word low size number : ℕ) → 0 < low → with_field word low size number / low ≡ word / low / size * size + number

@@ -12,7 +12,8 @@ use Rattle.step_machine.proofs.Stays.{slice_get-set_same, slice_get-set_other}
 use Rattle.states.proofs.EndLaws.{by_places}
 use Rattle.surveys.specs.declared.layout.Field.{Field}
 use Rattle.std.proofs.lemmas.List.Elements.{All-get_or, All-head, All-tail}
-use Rattle.surveys.specs.inner.Digits.{AreApart, AreOfWords, Digits, HasRoomFor, digits_of, number_in, numbers_of_key, with_number, digits_in, with_field}
+use Rattle.surveys.specs.inner.Digits.{AreApart, AreOfWords, Digits, HasRoomFor, digits_of, number_in, numbers_of_key, with_number}
+use Rattle.surveys.specs.inner.Fields.{digits_in, with_field}
 use Rattle.surveys.proofs.FieldLaws.{digits_above, digits_below, field_set, small_pow}
 
 -- the number is there

@@ -2,7 +2,7 @@
 
 ghost use Rattle.std.specs.Prelude.{◌≡◌, ◌↔◌, ℕ, ◌≤◌, ◌<◌, ◌+◌, ◌*◌, ◌/◌, ◌%◌, ◌^◌, ◌-◌, All, length};
 ghost use Rattle.std.specs.Prelude.{IfOk, IfSome, OnOk, IsTrue};
-ghost use Rattle.surveys.specs.inner.Digits.{digits_in, with_field};
+ghost use Rattle.surveys.specs.inner.Fields.{digits_in, with_field};
 
 use std::alloc::{AllocError, Global};
 use std::marker::Model;

@@ -1,15 +1,8 @@
--- A number in some digits of a word. Numbers in digits of the words of a key.
-use Rattle.std.specs.Prelude.{ℕ, ◌+◌, ◌*◌, ◌/◌, ◌%◌, ◌≡◌, ◌^◌, ◌<◌, ◌≤◌, ◌⊎◌, All, List, map, slice_index, slice_set}
+-- Numbers in digits of the words of a key.
+use Rattle.std.specs.Prelude.{ℕ, ◌≡◌, ◌+◌, ◌^◌, ◌<◌, ◌≤◌, ◌⊎◌, All, List, map, slice_index, slice_set}
 use Rattle.std.specs.List.{AllPairs, AllZip}
+use Rattle.surveys.specs.inner.Fields.{digits_in, with_field}
 use Rattle.surveys.specs.declared.layout.Field.{Field}
-
--- the number in some digits of a word: `low` is how many numbers the digits below them have, `size` how many these have
-abbrev pub digits_in : (word low size : ℕ) → ℕ
-digits_in word low size = word / low % size
-
--- the word with another number there
-abbrev pub with_field : (word low size number : ℕ) → ℕ
-with_field word low size number = (word / low / size * size + number) * low + word % low
 
 -- binary digits of one word of a key: how many stand below them, and how many they are
 pub record Digits : Type 0 where
