@@ -36,8 +36,16 @@ unfoldable pub first_codec_in : List (List ℕ) → Result (Codec × List (List 
 first_codec_in [] = Err BadLine
 first_codec_in (word ∷ others) = codec_by word others
 
--- sender, receiver, slots, size, width; where in a slot its tag begins, the bytes of that, and how it tells; and the position with
--- which the queue opens
+-- where the elements with the tags begin, and how many bytes one has: the slots', where no more words say it
+abbrev pub elements_in : (slots width : ℕ) → List (List ℕ) → Result ((ℕ × ℕ) × List (List ℕ)) CertificateFault
+elements_in slots width [] = Ok ((slots, width), [])
+elements_in slots width (word ∷ others) = do
+  a ← first_word_in (word ∷ others)
+  b ← first_word_in a.1
+  Ok ((a.0, b.0), b.1)
+
+-- sender, receiver, slots, size, width; where in its element a tag begins, the bytes of that, and how it tells; the position with
+-- which the queue opens; and the elements
 unfoldable pub tagged_of : List (List ℕ) → Result OpenedTagged CertificateFault
 tagged_of words = do
   a ← five_at words
@@ -45,7 +53,8 @@ tagged_of words = do
   c ← first_word_in b.1
   d ← first_codec_in c.1
   e ← first_count_in d.1
-  over ← ended e.1
+  f ← elements_in a.0.2 a.0.4 e.1
+  over ← ended f.1
   Ok (record {
     queue = record {
       sender = a.0.0;
@@ -53,6 +62,8 @@ tagged_of words = do
       slots = a.0.2;
       size = a.0.3;
       width = a.0.4;
+      tags = f.0.0;
+      tag_stride = f.0.1;
       tag_offset = b.0;
       tag_width = c.0;
       codec = d.0;

@@ -12,6 +12,7 @@ use Rattle.queue_certificates.specs.declared.own.OwnWord.{OwnWord}
 use Rattle.queue_layouts.specs.declared.tagged.Codec.{Codec}
 use Rattle.queue_layouts.specs.declared.tagged.Codec.TheVariants as codec
 use Rattle.queue_layouts.specs.declared.tagged.OpenedTagged.{OpenedTagged}
+use Rattle.queue_layouts.specs.declared.tagged.TaggedQueue.{TaggedQueue}
 use Rattle.certificate_reader.specs.declared.cases.Node.{Node}
 use Rattle.certificate_reader.specs.declared.cases.Node.TheVariants as node
 use Rattle.certificate_reader.specs.CaseTexts.{case_lines}
@@ -174,14 +175,19 @@ codec_words codec.Zero = codes "zero" ∷ []
 codec_words codec.Number = codes "number" ∷ []
 codec_words (codec.Bit mask free full) = codes "bits" ∷ map decimal (mask ∷ free ∷ full ∷ [])
 
--- numbers, how tags tell, and the position with which the queue opens
-abbrev pub telling_line : List ℕ → Codec → (start : ℕ) → LineOfWords
-telling_line numbers tells start = (codes "tagged", map decimal numbers ++ codec_words tells ++ decimal start ∷ [])
+-- numbers, how tags tell, and more numbers
+abbrev pub telling_line : (before : List ℕ) → Codec → (after : List ℕ) → LineOfWords
+telling_line before tells after = (codes "tagged", map decimal before ++ codec_words tells ++ map decimal after)
 
+-- where the elements with the tags begin, and how many bytes one has, if they aren't the slots
+abbrev pub element_numbers : TaggedQueue → List ℕ
+element_numbers q = if (q.tags == q.slots) && (q.tag_stride == q.width) then [] else q.tags ∷ q.tag_stride ∷ []
+
+-- the position with which it opens is the first number after how its tags tell
 abbrev pub tagged_line : OpenedTagged → LineOfWords
 tagged_line o =
     let q = o.queue in
-    telling_line (q.sender ∷ q.receiver ∷ q.slots ∷ q.size ∷ q.width ∷ q.tag_offset ∷ q.tag_width ∷ []) q.codec o.start
+    telling_line (q.sender ∷ q.receiver ∷ q.slots ∷ q.size ∷ q.width ∷ q.tag_offset ∷ q.tag_width ∷ []) q.codec (o.start ∷ element_numbers q)
 
 -- ---- all of it
 

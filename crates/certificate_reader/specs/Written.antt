@@ -131,7 +131,7 @@ FitsCodec (codec.Bit mask free full) = AllByRecursion FitsWord (mask ∷ free �
 pub record FitsTagged (o : OpenedTagged) : Type 0 where
   pub slots : AllByRecursion FitsWord (o.queue.sender ∷ o.queue.receiver ∷ o.queue.slots ∷ o.queue.size ∷ o.queue.width ∷ [])
   pub few_slots : o.queue.size ≤ MAX_SLOTS
-  pub tag : AllByRecursion FitsWord (o.queue.tag_offset ∷ o.queue.tag_width ∷ [])
+  pub tag : AllByRecursion FitsWord (o.queue.tags ∷ o.queue.tag_stride ∷ o.queue.tag_offset ∷ o.queue.tag_width ∷ [])
   pub codec : FitsCodec o.queue.codec
   pub start : FitsCount o.start
 

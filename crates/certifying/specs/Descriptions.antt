@@ -10,6 +10,7 @@ use Rattle.queue_layouts.specs.declared.tagged.Codec.{Codec}
 use Rattle.queue_layouts.specs.declared.tagged.Codec.TheVariants.{Zero, Number, Bit}
 use Rattle.queue_layouts.specs.declared.tagged.TaggedQueue.{TaggedQueue}
 use Rattle.queue_layouts.specs.declared.tagged.OpenedTagged.{OpenedTagged}
+use Rattle.queue_certificates.specs.Tags.{are_slots}
 use Rattle.queue_checker.specs.Accesses.{slot_accesses}
 use Rattle.queue_checker.specs.declared.accesses.SlotAccess.{SlotAccess}
 use Rattle.engine_support.specs.OpeningTexts.{numbered}
@@ -73,8 +74,16 @@ tag_front i = codes "queue " ++ (decimal i ++ codes ": its tag is the ")
 abbrev pub tag_bytes : (width : ℕ) → List ℕ
 tag_bytes width = if width == 1 then codes "byte" else decimal width ++ codes " bytes"
 
-unfoldable pub tag_place : (offset : ℕ) → List ℕ
-tag_place offset = codes " at " ++ (decimal offset ++ codes " of each slot, ")
+unfoldable pub place_in_slot : (offset : ℕ) → List ℕ
+place_in_slot offset = codes " at " ++ (decimal offset ++ codes " of each slot, ")
+
+-- or of the element of an array that has one for each slot
+unfoldable pub place_in_element : (offset width elements : ℕ) → List ℕ
+place_in_element offset width elements = codes " at " ++ (decimal offset ++ (codes " of each element of "
+    ++ (decimal width ++ (codes " bytes from " ++ (decimal elements ++ codes " on, ")))))
+
+abbrev pub tag_place : TaggedQueue → List ℕ
+tag_place q = if are_slots q then place_in_slot q.tag_offset else place_in_element q.tag_offset q.tag_stride q.tags
 
 unfoldable pub bits_text : (mask free full : ℕ) → List ℕ
 bits_text mask free full = codes "free where its bits under " ++ (decimal mask ++ (codes " are " ++ (decimal free
@@ -90,7 +99,7 @@ opens_end start = codes ", and it opens at " ++ (decimal start ++ 10 ∷ [])
 
 -- how its tag tells, and the position with which it opens
 abbrev pub tag_line : (i : ℕ) → OpenedTagged → List ℕ
-tag_line i opened = tag_front i ++ tag_bytes opened.queue.tag_width ++ tag_place opened.queue.tag_offset ++ codec_text opened.queue.codec
+tag_line i opened = tag_front i ++ tag_bytes opened.queue.tag_width ++ tag_place opened.queue ++ codec_text opened.queue.codec
     ++ opens_end opened.start
 
 -- ---- its use

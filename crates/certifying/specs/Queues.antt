@@ -5,7 +5,7 @@ use Rattle.slot_queue.specs.Queues.{Queue}
 use Rattle.queue_layouts.specs.declared.AnyQueue.{AnyQueue}
 use Rattle.queue_layouts.specs.declared.AnyQueue.TheVariants.{Indexed, Tagged}
 use Rattle.queue_certificates.specs.Certificates.{QueueCertificate, queue_at, start_at, tagged_at, tagged_start}
-use Rattle.queue_certificates.specs.Tags.{bare}
+use Rattle.queue_certificates.specs.Tags.{bare, are_slots}
 use Rattle.records_written.specs.declared.parties.QueueNumber.{QueueNumber}
 use Rattle.records_written.specs.declared.parties.QueueNumber.TheVariants as number
 use Rattle.queue_checker.specs.Accesses.{slot_accesses, tagged_accesses}
@@ -27,10 +27,10 @@ number_by i (Some t) = number.Tagged t
 abbrev pub number_in : QueueCertificate → (i : ℕ) → QueueNumber
 number_in c i = number_by i (tagged_number c i)
 
--- b is the offset of a byte of its tag, if it has one
+-- b is the offset of a byte of its tag, if it has one in each slot
 abbrev pub is_tag_byte_by : QueueCertificate → (t : Option ℕ) → (b : ℕ) → Bool
 is_tag_byte_by c None b = false
-is_tag_byte_by c (Some t) b = nat_le (tagged_at c t).tag_offset b && nat_lt b ((tagged_at c t).tag_offset + (tagged_at c t).tag_width)
+is_tag_byte_by c (Some t) b = are_slots (tagged_at c t) && nat_le (tagged_at c t).tag_offset b && nat_lt b ((tagged_at c t).tag_offset + (tagged_at c t).tag_width)
 
 abbrev pub is_tag_byte : QueueCertificate → (i b : ℕ) → Bool
 is_tag_byte c i b = is_tag_byte_by c (tagged_number c i) b

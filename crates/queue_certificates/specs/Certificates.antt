@@ -86,7 +86,7 @@ no_queue = record {
 
 abbrev pub no_tagged : OpenedTagged
 no_tagged = record {
-  queue = record { sender = 0; receiver = 0; slots = 0; size = 0; width = 0; tag_offset = 0; tag_width = 0; codec = codec.Zero };
+  queue = record { sender = 0; receiver = 0; slots = 0; size = 0; width = 0; tags = 0; tag_stride = 0; tag_offset = 0; tag_width = 0; codec = codec.Zero };
   start = 0;
 }
 

@@ -210,7 +210,7 @@ module _ (queues : ℕ → Queue) (N : ℕ) (rs : List (Option ℕ)) where
   low_bytes width any = any
   low_bytes width (linear f) = low_form queues (256 ^ width) f (remainder_word rs f (256 ^ width)) (counting queues N (256 ^ width))
   low_bytes width (index_for i f) = if nat_lt i N && nat_le (queues i).index_width width then index_for i f else any
-  low_bytes width (signed_for i f) = any
+  low_bytes width (signed_for i f) = if nat_lt i N && ((queues i).index_width == width) then index_for i f else any
   low_bytes width (ends_as n f) = any
   low_bytes width (has_bits m b) = has_bits (bit_or m (bit_xor (256 ^ width - 1) (2 ^ 32 - 1))) (bit_and b (256 ^ width - 1))
 
@@ -240,6 +240,21 @@ word_loaded k (Some j) = get_or k.words j any
 abbrev pub index_loaded : KnownState → Option ℕ → KnownValue → KnownValue
 index_loaded k None v = v
 index_loaded k (Some i) v = index_for i (share_at k i).own
+
+-- a signed load leaves a number as it is whose highest bit is surely 0
+abbrev pub keeps_value : List (Option ℕ) → LoadOp → KnownValue → Bool
+keeps_value rs load.Byte (linear f) = fits_in (most rs f) (Some (2 ^ 7 - 1))
+keeps_value rs load.Half (linear f) = fits_in (most rs f) (Some (2 ^ 15 - 1))
+keeps_value rs op v = false
+
+-- an index's word, where what is known is what a signed load leaves of it: both have the same low bytes, as many as the index has
+abbrev pub without_sign : KnownValue → KnownValue
+without_sign any = any
+without_sign (linear f) = linear f
+without_sign (index_for i f) = index_for i f
+without_sign (signed_for i f) = index_for i f
+without_sign (ends_as n f) = ends_as n f
+without_sign (has_bits m b) = has_bits m b
 
 -- ---- by the queues alone
 
@@ -280,24 +295,18 @@ module _ (queues : ℕ → Queue) where
   signed_value width (has_bits m b) = any
   signed_value width (index_for i f) = if (queues i).index_width == width then signed_for i f else any
 
-  -- a signed load leaves a number as it is if its highest bit is 0
+  -- a signed load leaves an index's word as it is if the highest bit of each is 0
   abbrev pub extended_value : LoadOp → KnownValue → KnownValue
   extended_value load.Byte v = if is_index_below (2 ^ 7) v then v else signed_value 1 v
   extended_value load.Half v = if is_index_below (2 ^ 15) v then v else signed_value 2 v
   extended_value op v = v
 
-  -- and so does one of a number whose highest bit is surely 0
-  abbrev pub keeps_value : List (Option ℕ) → LoadOp → KnownValue → Bool
-  keeps_value rs load.Byte (linear f) = fits_in (most rs f) (Some (2 ^ 7 - 1))
-  keeps_value rs load.Half (linear f) = fits_in (most rs f) (Some (2 ^ 15 - 1))
-  keeps_value rs op v = false
-
   abbrev pub loaded : List (Option ℕ) → LoadOp → KnownValue → Result
   loaded rs op v = or_up_to (most_loaded op) (if keeps_value rs op v then v else extended_value op v)
 
-  -- d positions are handed over: the word is of the count d further, and d are owned
+  -- d positions are handed over: the number's low bytes, as many as the index has, are the word of the count d further, and d are owned
   abbrev pub may_move : KnownState → (d : Form) → KnownValue → (i : ℕ) → Share → Bool
-  may_move k d v i s = (is_within queues k.ranges v (index_for i (plus s.own d)) || is_cut (queues i) v (plus s.own d))
+  may_move k d v i s = (is_within queues k.ranges (without_sign v) (index_for i (plus s.own d)) || is_cut (queues i) v (plus s.own d))
       && is_same 0 (plus d (minus s.owned d)) s.owned
       && fits_in (most k.ranges d) (Some ((queues i).modulus - 1)) && nat_lt i (length k.shares)
 

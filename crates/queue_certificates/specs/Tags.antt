@@ -43,10 +43,21 @@ bare q = record {
   modulus = 0;
 }
 
+-- and its elements with the tags
+abbrev pub elements : TaggedQueue → Queue
+elements q = record (bare q) { slots = q.tags; width = q.tag_stride }
+
 abbrev pub party_in : TaggedQueue → (h : ℕ) → Option Party
 party_in q h = teller_of (slots_of q) h
 
--- two harts, some slots, and in each a tag of at most a word. Positions' numbers fill a word, and those of a free slot and of a full one
+-- the elements with the tags are the slots, or none of their bytes is a slot's
+abbrev pub are_slots : TaggedQueue → Bool
+are_slots q = (q.tags == q.slots) && (q.tag_stride == q.width)
+
+abbrev pub are_apart_from_slots : TaggedQueue → Bool
+are_apart_from_slots q = nat_le (q.slots + q.size * q.width) q.tags || nat_le (q.tags + q.size * q.tag_stride) q.slots
+
+-- two harts, some slots, and for each a tag of at most a word, in it or beside all of them. Positions' numbers fill a word, and those of a free slot and of a full one
 -- differ; bits are of the tag, and those of a free slot and of a full one differ
 abbrev pub is_codec : TaggedQueue → Codec → Bool
 is_codec q codec.Zero = true
@@ -55,7 +66,7 @@ is_codec q (codec.Bit mask free full) = nat_lt mask (256 ^ q.tag_width) && not (
 
 abbrev pub is_tagged : TaggedQueue → Bool
 is_tagged q = not (q.sender == q.receiver) && nat_le 1 q.size && nat_le 1 q.tag_width && nat_le q.tag_width 4
-    && nat_le (q.tag_offset + q.tag_width) q.width && is_codec q q.codec
+    && nat_le (q.tag_offset + q.tag_width) q.tag_stride && (are_slots q || are_apart_from_slots q) && is_codec q q.codec
 
 -- ---- shares: a party's own count, and of how many positions from there on it knows at least that it owns them
 
@@ -65,10 +76,10 @@ pub record HasAtLeast (q : TaggedQueue) (p : Party) (c : QueueCounts) (xs : List
 
 -- ---- accesses of slots, at an address that is a form
 
--- these bytes are of the slot of the position that is as much further than the own count as the constants say
-abbrev pub is_in_slot : List (Option ℕ) → TaggedQueue → Share → Form → Bool
-is_in_slot rs q s f = is_slot rs (bare q) f (offset_at (bare q) f.constant)
-    (remainder rs (plus s.own (number (position_at (bare q) s.own.constant f.constant))) q.size)
+-- these bytes are of the element with the tag of the position that is as much further than the own count as the constants say
+abbrev pub is_in_element : List (Option ℕ) → TaggedQueue → Share → Form → Bool
+is_in_element rs q s f = is_slot rs (elements q) f (offset_at (elements q) f.constant)
+    (remainder rs (plus s.own (number (position_at (elements q) s.own.constant f.constant))) q.size)
 
 -- a whole tag, and how much further its position is
 abbrev pub tag_position : List (Option ℕ) → TaggedQueue → Share → (place : KnownValue) → (width : ℕ) → Option ℕ
@@ -77,31 +88,31 @@ tag_position rs q s (index_for i f) width = None
 tag_position rs q s (signed_for i f) width = None
 tag_position rs q s (ends_as n f) width = None
 tag_position rs q s (has_bits m b) width = None
-tag_position rs q s (linear f) width = if (width == q.tag_width) && (offset_at (bare q) f.constant == q.tag_offset) && is_in_slot rs q s f
-    then Some (position_at (bare q) s.own.constant f.constant) else None
+tag_position rs q s (linear f) width = if (width == q.tag_width) && (offset_at (elements q) f.constant == q.tag_offset) && is_in_element rs q s f
+    then Some (position_at (elements q) s.own.constant f.constant) else None
 
--- it is of an owned slot, and of no byte of its tag
+-- it is of an owned slot, and of no byte of a tag
 abbrev pub is_of_rest : List (Option ℕ) → TaggedQueue → Share → (place : KnownValue) → (width : ℕ) → Bool
 is_of_rest rs q s any width = false
 is_of_rest rs q s (index_for i f) width = false
 is_of_rest rs q s (signed_for i f) width = false
 is_of_rest rs q s (ends_as n f) width = false
 is_of_rest rs q s (has_bits m b) width = false
-is_of_rest rs q s (linear f) width = (nat_le (offset_at (bare q) f.constant + width) q.tag_offset
+is_of_rest rs q s (linear f) width = (not (are_slots q) || nat_le (offset_at (bare q) f.constant + width) q.tag_offset
     || nat_le (q.tag_offset + q.tag_width) (offset_at (bare q) f.constant)) && is_owned rs (bare q) s (linear f) width
 
--- it is of a slot's tag alone
+-- it is of a tag alone
 abbrev pub is_of_tag : List (Option ℕ) → TaggedQueue → Share → (place : KnownValue) → (width : ℕ) → Bool
 is_of_tag rs q s any width = false
 is_of_tag rs q s (index_for i f) width = false
 is_of_tag rs q s (signed_for i f) width = false
 is_of_tag rs q s (ends_as n f) width = false
 is_of_tag rs q s (has_bits m b) width = false
-is_of_tag rs q s (linear f) width = nat_le q.tag_offset (offset_at (bare q) f.constant)
-    && nat_le (offset_at (bare q) f.constant + width) (q.tag_offset + q.tag_width) && is_in_slot rs q s f
+is_of_tag rs q s (linear f) width = nat_le q.tag_offset (offset_at (elements q) f.constant)
+    && nat_le (offset_at (elements q) f.constant + width) (q.tag_offset + q.tag_width) && is_in_element rs q s f
 
 abbrev pub is_beside_slots : TaggedQueue → Bounds → (width : ℕ) → Bool
-is_beside_slots q b width = is_apart b width q.slots (q.size * q.width)
+is_beside_slots q b width = is_apart b width q.slots (q.size * q.width) && is_apart b width q.tags (q.size * q.tag_stride)
 
 -- ---- what a tag satisfies that tells a party that it has a position
 

@@ -12,6 +12,7 @@ use Rattle.queue_certificates.specs.Fields.{is_field}
 use Rattle.queue_layouts.specs.declared.tagged.Codec.{Codec}
 use Rattle.queue_layouts.specs.declared.tagged.Codec.TheVariants as codec
 use Rattle.queue_layouts.specs.declared.tagged.TaggedQueue.{TaggedQueue}
+use Rattle.queue_certificates.specs.Tags.{are_slots, are_apart_from_slots}
 use Rattle.queue_certificates.specs.RecordFields.{Field}
 use Rattle.slot_queue.specs.Queues.{Queue as SlotQueue, index_word}
 use Rattle.store_buffers.specs.StoreBuffers.{memory_number}
@@ -112,7 +113,8 @@ tag_flaw q = unless (not (q.sender == q.receiver)) tag.OneHart
     <|> unless (nat_le 1 q.size) tag.NoSlot
     <|> unless (nat_le 1 q.tag_width) tag.NoTag
     <|> unless (nat_le q.tag_width 4) tag.WideTag
-    <|> unless (nat_le (q.tag_offset + q.tag_width) q.width) tag.PastSlot
+    <|> unless (nat_le (q.tag_offset + q.tag_width) q.tag_stride) tag.PastSlot
+    <|> unless (are_slots q || are_apart_from_slots q) tag.Overlapping
     <|> codec_flaw q q.codec
 
 abbrev pub tagged_flaw : OpeningValue → QueueCertificate → (t : ℕ) → Option TaggedFlaw

@@ -11,8 +11,9 @@ pub enum Codec {
     Bit { mask: u32, free: u32, full: u32 },
 }
 
-/// The harts that send and receive; where the slots begin, how many they are, and how many bytes one has; the bytes of a slot that
-/// are its tag; and how that tells. Addresses and widths are in bytes; whether they are those of a queue (`is_tagged`) the type
+/// The harts that send and receive; where the slots begin, how many they are, and how many bytes one has; where the elements with the
+/// tags begin, one for each slot, how many bytes one has, and which of these are the tag; and how that tells. Where tags lie in their
+/// slots, the elements are the slots. Addresses and widths are in bytes; whether they are those of a queue (`is_tagged`) the type
 /// leaves open.
 #[derive(Clone, Copy, PartialEq, Eq)]
 pub struct TaggedQueue {
@@ -21,6 +22,8 @@ pub struct TaggedQueue {
     pub slots: u32,
     pub size: u32,
     pub width: u32,
+    pub tags: u32,
+    pub tag_stride: u32,
     pub tag_offset: u32,
     pub tag_width: u32,
     pub codec: Codec,

@@ -1,13 +1,12 @@
 -- What an instruction of a queue's receiver does to the queue, by what is known of the receiver. An effect has the words of a sender's: of
 -- the receiver's, `Fills` says which bytes of a slot it reads, and `Publishes` how many positions it hands back.
-use Rattle.std.specs.Prelude.{ℕ, ◌+◌, ◌==◌, ◌&&◌, if◌then◌else◌, Bool, false, Option, None, Some, List, length}
+use Rattle.std.specs.Prelude.{ℕ, ◌+◌, if◌then◌else◌, Bool, false, Option, None, Some, List, length}
 use Rattle.rv_decode.specs.declared.instruction.Instr.{Instr}
 use Rattle.slot_queue.specs.Queues.{Queue}
-use Rattle.queue_layouts.specs.declared.tagged.TaggedQueue.{TaggedQueue}
 use Rattle.queue_certificates.specs.Forms.{Form, most}
 use Rattle.queue_certificates.specs.States.{Share, KnownState}
 use Rattle.queue_certificates.specs.Steps.{last_below, is_just, is_own_index, share_at}
-use Rattle.queue_certificates.specs.Tags.{bare}
+use Rattle.queue_certificates.specs.Tags.{bare, moved_tag}
 use Rattle.queue_certificates.specs.Effects.{published_by, filled_by}
 use Rattle.queue_certificates.specs.Certificates.{QueueCertificate, queue_at, tagged_at}
 use Rattle.queue_certificates.specs.declared.effect.Effect.{Effect}
@@ -33,14 +32,14 @@ receipt_of c i k d instruction = if moves_tail c i (store_target c k instruction
 
 -- ---- of a queue with tags
 
--- they are the tag of the own position, whole
-abbrev pub is_own_tag : TaggedQueue → Effect → Bool
-is_own_tag q (Fills j offset width) = (j == 0) && (offset == q.tag_offset) && (width == q.tag_width)
-is_own_tag q other = false
+-- a store there is of the tag of the receiver's own position of queue t, whole
+abbrev pub moves_tag : QueueCertificate → (t : ℕ) → KnownState → Option Target → Bool
+moves_tag c t k None = false
+moves_tag c t k (Some target) = is_just (moved_tag (tagged_at c) (length c.tagged) (length c.queues) (tagged_at c t).receiver k target.place target.width) t
 
 abbrev pub owned_of : QueueCertificate → (t : ℕ) → KnownState → Option Target → Effect
 owned_of c t k target = owned_bytes k.ranges (bare (tagged_at c t)) (share_at k (length c.queues + t)) target
 
 abbrev pub tag_receipt_of : QueueCertificate → (t : ℕ) → KnownState → Option Instr → Effect
-tag_receipt_of c t k instruction = if is_own_tag (tagged_at c t) (owned_of c t k (store_target c k instruction)) then Publishes 1
+tag_receipt_of c t k instruction = if moves_tag c t k (store_target c k instruction) then Publishes 1
     else owned_of c t k (load_target c k instruction)

@@ -1,5 +1,5 @@
 -- Slots that tell whose they are: a queue between two harts without a shared index. One part of each slot, its tag, tells.
-use Rattle.std.specs.Prelude.{ℕ, ◌≡◌, ◌≢◌, ◌+◌, ◌-◌, ◌*◌, ◌/◌, ◌%◌, ◌<◌, ◌≤◌, ◌==◌, ◌&&◌, Bool, List, All, true, false}
+use Rattle.std.specs.Prelude.{ℕ, ◌≡◌, ◌≢◌, ◌+◌, ◌-◌, ◌*◌, ◌/◌, ◌%◌, ◌<◌, ◌≤◌, ◌==◌, ◌&&◌, ◌⊎◌, Bool, List, All, true, false}
 use Rattle.memory.specs.declared.writes.Write.{Write}
 use Rattle.memory.specs.Writes.{covers}
 use Rattle.store_buffers.specs.StoreBuffers.{memory_number}
@@ -9,14 +9,18 @@ use Rattle.step_machine.specs.Entries.{pending}
 use Rattle.queue_parties.specs.Parties.{Party, the_sender, the_receiver, other, QueueCounts, IsWindow}
 use Rattle.queue_parties.specs.Positions.{IsInBytes, slot_from}
 
--- The harts that send and receive; where the slots begin, how many they are, and how many bytes one has; which of these are its tag;
--- and what a tag tells: `tells the_sender k v` that the slot is free for position k, `tells the_receiver k v` that position k is in it
+-- The harts that send and receive; where the slots begin, how many they are, and how many bytes one has; where the elements begin that
+-- hold the tags, one for each slot, how many bytes one has, and which of these are the tag: the slots themselves, or those of an array
+-- beside them; and what a tag tells: `tells the_sender k v` that the slot is free for position k, `tells the_receiver k v` that
+-- position k is in it
 pub record Slots : Type 0 where
   pub sender : ℕ
   pub receiver : ℕ
   pub slots : ℕ
   pub size : ℕ
   pub width : ℕ
+  pub tags : ℕ
+  pub tag_stride : ℕ
   pub tag_offset : ℕ
   pub tag_width : ℕ
   pub tells : Party → (k v : ℕ) → Bool
@@ -27,21 +31,29 @@ abbrev pub gap : Slots → Party → ℕ
 gap q the_sender = 0
 gap q the_receiver = q.size
 
--- two harts; the tag lies in its slot; and what tells a party that it has position k doesn't tell the other that it has the position
+-- the elements with the tags are the slots, or none of their bytes is a slot's
+abbrev pub AreSlots : Slots → Type 0
+AreSlots q = (q.tags ≡ q.slots) × (q.tag_stride ≡ q.width)
+
+abbrev pub AreApart : Slots → Type 0
+AreApart q = (q.slots + q.size * q.width ≤ q.tags) ⊎ (q.tags + q.size * q.tag_stride ≤ q.slots)
+
+-- two harts; a tag lies in its element; and what tells a party that it has position k doesn't tell the other that it has the position
 -- that it will be handed from there
 pub record IsSlots (q : Slots) : Type 0 where
   pub parties : q.sender ≢ q.receiver
   pub some : 1 ≤ q.size
   pub some_bytes : 1 ≤ q.tag_width
-  pub tag_within : q.tag_offset + q.tag_width ≤ q.width
+  pub tag_within : q.tag_offset + q.tag_width ≤ q.tag_stride
+  pub tags_lie : AreSlots q ⊎ AreApart q
   pub differ : (p : Party) (k v : ℕ) → q.tells p k v ≡ true → q.tells (other p) (k + gap q p) v ≡ false
 
--- position k lies in slot k % size: its tag
+-- position k lies in slot k % size, and its tag in the element of that number
 abbrev pub tagged_slot : Slots → (k : ℕ) → ℕ
 tagged_slot q k = slot_from q.slots q.width q.size k
 
 abbrev pub tag_of : Slots → (k : ℕ) → ℕ
-tag_of q k = tagged_slot q k + q.tag_offset
+tag_of q k = slot_from q.tags q.tag_stride q.size k + q.tag_offset
 
 abbrev pub IsSlotByte : Slots → (k x : ℕ) → Type 0
 IsSlotByte q k x = IsInBytes (tagged_slot q k) q.width x
@@ -49,22 +61,22 @@ IsSlotByte q k x = IsInBytes (tagged_slot q k) q.width x
 abbrev pub IsTagByte : Slots → (k x : ℕ) → Type 0
 IsTagByte q k x = IsInBytes (tag_of q k) q.tag_width x
 
--- x is a byte of no slot
+-- x is a byte of no slot, and of no element with a tag
 abbrev pub IsOutside : Slots → (x : ℕ) → Type 0
-IsOutside q x = IsInBytes q.slots (q.size * q.width) x → ⊥
+IsOutside q x = (IsInBytes q.slots (q.size * q.width) x ⊎ IsInBytes q.tags (q.size * q.tag_stride) x) → ⊥
 
 abbrev pub KeepsOff : Slots → Write → Type 0
 KeepsOff q w = (x : ℕ) → covers w x ≡ true → IsOutside q x
 
--- which slot an address lies in; whether a whole tag lies there; and the first position from n on of that slot
-abbrev pub slot_at : Slots → (a : ℕ) → ℕ
-slot_at q a = (a - q.slots) / q.width
+-- which element an address lies in; whether a whole tag lies there; and the first position from n on whose tag is in that one
+abbrev pub element_at : Slots → (a : ℕ) → ℕ
+element_at q a = (a - q.tags) / q.tag_stride
 
 abbrev pub is_tag : Slots → (a width : ℕ) → Bool
-is_tag q a width = a == tag_of q (slot_at q a) && width == q.tag_width
+is_tag q a width = a == tag_of q (element_at q a) && width == q.tag_width
 
 abbrev pub position_at : Slots → (n a : ℕ) → ℕ
-position_at q n a = n + (slot_at q a + (q.size - n % q.size)) % q.size
+position_at q n a = n + (element_at q a + (q.size - n % q.size)) % q.size
 
 -- the number that a slot's tag holds in memory
 abbrev pub memory_tag : Slots → OpeningValue → List Entry → (k : ℕ) → ℕ
