@@ -8,7 +8,7 @@ use Rattle.step_machine.specs.Entries.{hart_of}
 use Rattle.queue_parties.specs.Parties.{Party, other, QueueCounts, count, with_known}
 use Rattle.slot_queue.specs.Queues.{Queue, index_word, least}
 use Rattle.slot_queue.specs.Ownership.{end, is_index_store}
-use Rattle.slots_that_tell.specs.Slots.{Slots, gap, tag_of, element_at}
+use Rattle.slots_that_tell.specs.Slots.{Slots, gap, tag_of}
 use Rattle.slots_that_tell.specs.Telling.{owned_end}
 use Rattle.queue_layouts.specs.declared.AnyQueue.{AnyQueue}
 use Rattle.queue_layouts.specs.declared.AnyQueue.TheVariants.{Indexed, Tagged}
@@ -36,9 +36,9 @@ position_from size n j = n + (j + (size - n % size)) % size
 abbrev pub is_of_owned : (slots size width : ℕ) → Owned → (x : ℕ) → Bool
 is_of_owned slots size width o x = is_in_bytes slots (size * width) x && nat_lt (position_from size o.from ((x - slots) / width)) o.end
 
--- x is a byte of the tag of the element that it lies in
+-- x is a byte of the tag of the slot that it lies in
 abbrev pub is_tag_byte : Slots → (x : ℕ) → Bool
-is_tag_byte q x = is_in_bytes (tag_of q (element_at q x)) q.tag_width x
+is_tag_byte q x = is_in_bytes (tag_of q ((x - q.slots) / q.width)) q.tag_width x
 
 -- x is a byte that the party may fill: of a slot that it owns, and of no tag
 abbrev pub is_to_fill : AnyQueue → Option Owned → (x : ℕ) → Bool
