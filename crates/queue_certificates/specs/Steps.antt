@@ -247,14 +247,15 @@ keeps_value rs load.Byte (linear f) = fits_in (most rs f) (Some (2 ^ 7 - 1))
 keeps_value rs load.Half (linear f) = fits_in (most rs f) (Some (2 ^ 15 - 1))
 keeps_value rs op v = false
 
--- an index's word, where what is known is what a signed load leaves of it: both have the same low bytes, as many as the index has
-abbrev pub without_sign : KnownValue → KnownValue
-without_sign any = any
-without_sign (linear f) = linear f
-without_sign (index_for i f) = index_for i f
-without_sign (signed_for i f) = index_for i f
-without_sign (ends_as n f) = ends_as n f
-without_sign (has_bits m b) = has_bits m b
+-- a word of queue i's index, where what is known is what a signed load leaves of it: both have the same low bytes, as many as the index has.
+-- Another queue's index may have fewer
+abbrev pub without_sign : (i : ℕ) → KnownValue → KnownValue
+without_sign i any = any
+without_sign i (linear f) = linear f
+without_sign i (index_for j f) = index_for j f
+without_sign i (signed_for j f) = if i == j then index_for j f else signed_for j f
+without_sign i (ends_as n f) = ends_as n f
+without_sign i (has_bits m b) = has_bits m b
 
 -- ---- by the queues alone
 
@@ -306,7 +307,7 @@ module _ (queues : ℕ → Queue) where
 
   -- d positions are handed over: the number's low bytes, as many as the index has, are the word of the count d further, and d are owned
   abbrev pub may_move : KnownState → (d : Form) → KnownValue → (i : ℕ) → Share → Bool
-  may_move k d v i s = (is_within queues k.ranges (without_sign v) (index_for i (plus s.own d)) || is_cut (queues i) v (plus s.own d))
+  may_move k d v i s = (is_within queues k.ranges (without_sign i v) (index_for i (plus s.own d)) || is_cut (queues i) v (plus s.own d))
       && is_same 0 (plus d (minus s.owned d)) s.owned
       && fits_in (most k.ranges d) (Some ((queues i).modulus - 1)) && nat_lt i (length k.shares)
 
