@@ -14,7 +14,7 @@ use Rattle.step_machine.specs.Entries.{pending, memory_byte, read_byte, read}
 use Rattle.queue_parties.proofs.Parties.{both-equal, twice}
 use Rattle.queue_parties.specs.Parties.{Party, other, QueueCounts, count, known, with_known}
 use Rattle.queue_parties.proofs.Positions.{same_slot, ahead, ahead-stands}
-use Rattle.slots_that_tell.specs.Slots.{Slots, IsSlots, gap, tag_of, slot_at, is_tag, position_at, memory_tag}
+use Rattle.slots_that_tell.specs.Slots.{Slots, IsSlots, gap, tag_of, element_at, is_tag, position_at, memory_tag}
 use Rattle.slots_that_tell.specs.Telling.{teller_hart, told, learned, after_load, moved}
 use Rattle.slots_that_tell.specs.Laws.{moved_on}
 use Rattle.slots_that_tell.proofs.Places.{moved-leaves, moved-tag, tag-apart, tag-left, tag-stored, tag-turn, slot-turn, tag-same}
@@ -167,23 +167,26 @@ module _ (q : Slots) (is : IsSlots q) (o : OpeningValue) (es : List Entry) (c : 
       by false off = inl refl
       by true on = told_by (q.tells r j v) refl
         where
-          parts : (a ≡ tag_of q (slot_at q a)) × (width ≡ q.tag_width)
-          parts = both-equal a (tag_of q (slot_at q a)) width q.tag_width on
+          parts : (a ≡ tag_of q (element_at q a)) × (width ≡ q.tag_width)
+          parts = both-equal a (tag_of q (element_at q a)) width q.tag_width on
 
           some : 0 < q.size
           some = omega (arith, is.some)
 
-          level : j % q.size ≡ slot_at q a % q.size
-          level = ahead-stands q.size (count r c) (slot_at q a) some
+          level : j % q.size ≡ element_at q a % q.size
+          level = ahead-stands q.size (count r c) (element_at q a) some
 
           place : a ≡ tag_of q j
-          place = parts.0 ∙ tag-same q is (slot_at q a) j (sym level)
+          place = parts.0 ∙ tag-same q is (element_at q a) j (sym level)
 
           word : v ≡ read o es (teller_hart q r) (tag_of q j) q.tag_width
           word = is_read ∙ ap (λ x. read o es (teller_hart q r) x width) place ∙ ap (read o es (teller_hart q r) (tag_of q j)) parts.1
 
           near : j < count r c + q.size
-          near = let low : ahead q.size (count r c) (slot_at q a) < q.size = mod-lt (slot_at q a + (q.size - count r c % q.size)) some in omega (arith, low)
+          near =
+              let low : ahead q.size (count r c) (element_at q a) < q.size =
+              mod-lt (element_at q a + (q.size - count r c % q.size)) some in
+              omega (arith, low)
 
           told_by : (t : Bool) → q.tells r j v ≡ t → ((if t then with_known r (known r c + (told q r j - known r c)) c else c) ≡ c)
               ⊎ ((k : ℕ) × ((if t then with_known r (known r c + (told q r j - known r c)) c else c) ≡ with_known r k c) × (known r c ≤ k) × (k ≤ m (other r)))

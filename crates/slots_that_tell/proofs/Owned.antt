@@ -17,7 +17,7 @@ use Rattle.slots_that_tell.specs.Slots.{Slots, IsSlots, gap, is_tag, position_at
 use Rattle.slots_that_tell.specs.Telling.{teller_of, owned_end, told, learned, moved, after_load, after_store}
 use Rattle.slots_that_tell.specs.Telling.{told_access, after_entry, told_counts, MayStore, TellsAccess}
 use Rattle.slots_that_tell.specs.Laws.{FollowsTelling, counts}
-use Rattle.slots_that_tell.proofs.Places.{tag-in-slot, slot-within, far}
+use Rattle.slots_that_tell.proofs.Places.{tag-in-slot, slot-inside, far}
 use Rattle.slots_that_tell.proofs.Sides.{Held, moved-more, within}
 use Rattle.slots_that_tell.proofs.Runs.{memory_counts, held-of}
 
@@ -127,7 +127,7 @@ module _ (q : Slots) (is : IsSlots q) (x : ℕ) where
     where
       by : (b : Bool) → covers w x ≡ b → b ≡ false
       by false off = refl
-      by true on = absurd (keeps x on (slot-within q is k x of_k))
+      by true on = absurd (slot-inside q is k x of_k (keeps x on))
 
   pub record Owned (p : Party) (c d : QueueCounts) : Type 0 where
     pub position : ℕ
@@ -145,10 +145,11 @@ module _ (q : Slots) (is : IsSlots q) (x : ℕ) where
             position = count p c;
             from = omega arith;
             before = moves.owned;
-            byte = tag-in-slot q is (count p c) x (omega (arith, part.0, moves.tag.place), omega (arith, part.1, moves.tag.place, moves.tag.width));
+            byte = tag-in-slot q is (count p c) k x
+                (omega (arith, part.0, moves.tag.place), omega (arith, part.1, moves.tag.place, moves.tag.width)) of_k;
           })
       by true on (inr fills) = elim (fills x on) [
-        | inl out ↦ absurd (out (slot-within q is k x of_k))
+        | inl out ↦ absurd (slot-inside q is k x of_k out)
         | inr owns ↦ inr (record { position = owns.position; from = owns.from; before = owns.before; byte = owns.byte })
       ]
 

@@ -1,6 +1,6 @@
 -- Where slots and tags lie.
 use Rattle.std.proofs.Common.{ℕ, ◌+◌, ◌-◌, ◌*◌, ◌%◌, ◌^◌, ◌<◌, ◌≤◌, ◌≡◌, ◌≢◌, ◌==◌, ◌&&◌, inl, inr, Bool, true, false, if◌then◌else◌}
-use Rattle.std.proofs.Common.{refl, sym, ◌∙◌, ap, arith}
+use Rattle.std.proofs.Common.{refl, sym, ◌∙◌, ap, subst, arith}
 use Rattle.std.specs.Int.{byte_at}
 use Rattle.std.proofs.Math.Nat.{mod-mod, add-mul-mod_self_left}
 use Rattle.std.proofs.lemmas.Bool.{eq-eqb}
@@ -12,8 +12,8 @@ use Rattle.queue_parties.proofs.Parties.{both-equal}
 use Rattle.queue_parties.specs.Parties.{Party, the_sender, the_receiver, QueueCounts}
 use Rattle.queue_parties.proofs.Positions.{in_slot}
 use Rattle.queue_parties.proofs.Positions as positions
-use Rattle.slots_that_tell.specs.Slots.{Slots, IsSlots, gap, tag_of, IsSlotByte, IsTagByte, KeepsOff, slot_at, is_tag}
-use Rattle.queue_parties.specs.Positions.{IsInBytes}
+use Rattle.slots_that_tell.specs.Slots.{Slots, IsSlots, gap, tag_of, IsSlotByte, IsTagByte, IsOutside, KeepsOff, element_at, is_tag}
+use Rattle.queue_parties.specs.Positions.{IsInBytes, slot_from}
 use Rattle.slots_that_tell.specs.Telling.{moved, FillsOwned, IsTagStore}
 
 -- a write that leaves all tags
@@ -21,8 +21,11 @@ abbrev pub LeavesTags : Slots → Write → Type 0
 LeavesTags q w = (k x : ℕ) → IsTagByte q k x → covers w x ≡ false
 
 module _ (q : Slots) (is : IsSlots q) where
-  pub tag-in-slot : (k x : ℕ) → IsTagByte q k x → IsSlotByte q k x
-  tag-in-slot k x at = (omega (arith, at.0), omega (arith, at.1, is.tag_within))
+  in-element : (k x : ℕ) → IsTagByte q k x → IsInBytes (slot_from q.tags q.tag_stride q.size k) q.tag_stride x
+  in-element k x at = (omega (arith, at.0), omega (arith, at.1, is.tag_within))
+
+  pub one-tag : (j k x : ℕ) → IsTagByte q j x → IsTagByte q k x → j % q.size ≡ k % q.size
+  one-tag j k x of_j of_k = positions.one-slot q.tags q.tag_stride q.size is.some j k x (in-element j x of_j) (in-element k x of_k)
 
   pub one-slot : (j k x : ℕ) → IsSlotByte q j x → IsSlotByte q k x → j % q.size ≡ k % q.size
   one-slot = positions.one-slot q.slots q.width q.size is.some
@@ -30,11 +33,31 @@ module _ (q : Slots) (is : IsSlots q) where
   pub far : (j k x : ℕ) → IsSlotByte q j x → IsSlotByte q k x → j < k → j + q.size ≤ k
   far = positions.far q.slots q.width q.size is.some
 
-  pub slot-within : (k x : ℕ) → IsSlotByte q k x → IsInBytes q.slots (q.size * q.width) x
+  slot-within : (k x : ℕ) → IsSlotByte q k x → IsInBytes q.slots (q.size * q.width) x
   slot-within = positions.slot-within q.slots q.width q.size is.some
 
+  tag-within : (k x : ℕ) → IsTagByte q k x → IsInBytes q.tags (q.size * q.tag_stride) x
+  tag-within k x at = positions.slot-within q.tags q.tag_stride q.size is.some k x (in-element k x at)
+
+  pub slot-inside : (k x : ℕ) → IsSlotByte q k x → IsOutside q x → ⊥
+  slot-inside k x at out = out (inl (slot-within k x at))
+
+  pub tag-inside : (k x : ℕ) → IsTagByte q k x → IsOutside q x → ⊥
+  tag-inside k x at out = out (inr (tag-within k x at))
+
+  -- a byte of a tag that is a slot's is its own slot's
+  pub tag-in-slot : (j k x : ℕ) → IsTagByte q j x → IsSlotByte q k x → IsSlotByte q j x
+  tag-in-slot j k x tag slot = elim is.tags_lie [
+    | inl same ↦ subst (λ w. IsInBytes (slot_from q.slots w q.size j) w x) same.1
+        (subst (λ s. IsInBytes (slot_from s q.tag_stride q.size j) q.tag_stride x) same.0 (in-element j x tag))
+    | inr apart ↦ absurd (let one = slot-within k x slot in let two = tag-within j x tag in elim apart [
+      | inl after ↦ omega (arith, one.1, two.0, after)
+      | inr before ↦ omega (arith, one.0, two.1, before)
+    ])
+  ]
+
   pub tag-same : (j k : ℕ) → j % q.size ≡ k % q.size → tag_of q j ≡ tag_of q k
-  tag-same j k same = ap (λ i. q.slots + q.width * i + q.tag_offset) same
+  tag-same j k same = ap (λ i. q.tags + q.tag_stride * i + q.tag_offset) same
 
   pub slot-turn : (p : Party) (k : ℕ) → (k + gap q p) % q.size ≡ k % q.size
   slot-turn the_sender k = (let z : k + 0 ≡ k = omega arith in ap (λ i. i % q.size) z)
@@ -43,13 +66,13 @@ module _ (q : Slots) (is : IsSlots q) where
   pub tag-turn : (p : Party) (k : ℕ) → tag_of q (k + gap q p) ≡ tag_of q k
   tag-turn p k = tag-same (k + gap q p) k (slot-turn p k)
 
-  pub slot_at-tag : (k : ℕ) → slot_at q (tag_of q k) ≡ k % q.size
-  slot_at-tag k = in_slot q.width (k % q.size) (tag_of q k - q.slots) (omega arith) (omega (arith, is.some_bytes, is.tag_within))
+  pub element_at-tag : (k : ℕ) → element_at q (tag_of q k) ≡ k % q.size
+  element_at-tag k = in_slot q.tag_stride (k % q.size) (tag_of q k - q.tags) (omega arith) (omega (arith, is.some_bytes, is.tag_within))
 
   pub is_tag-tag : (k : ℕ) → is_tag q (tag_of q k) q.tag_width ≡ true
   is_tag-tag k =
-      let at : tag_of q k ≡ tag_of q (slot_at q (tag_of q k)) = sym (ap (tag_of q) (slot_at-tag k) ∙ tag-same (k % q.size) k (mod-mod k q.size)) in
-      ap (λ b. b && (q.tag_width == q.tag_width)) (eq-eqb (tag_of q k) (tag_of q (slot_at q (tag_of q k))) at)
+      let at : tag_of q k ≡ tag_of q (element_at q (tag_of q k)) = sym (ap (tag_of q) (element_at-tag k) ∙ tag-same (k % q.size) k (mod-mod k q.size)) in
+      ap (λ b. b && (q.tag_width == q.tag_width)) (eq-eqb (tag_of q k) (tag_of q (element_at q (tag_of q k))) at)
       ∙ eq-eqb q.tag_width q.tag_width refl
 
   pub moved-tag : (p : Party) (n m : ℕ) (w : Write) → IsTagStore q p n w → moved q m w ≡ m + 1
@@ -61,18 +84,18 @@ module _ (q : Slots) (is : IsSlots q) where
     where
       by : (b : Bool) → is_tag q w.addr w.width ≡ b → (if b then n + 1 else n) ≡ n
       by false off = refl
-      by true on = let parts = both-equal w.addr (tag_of q (slot_at q w.addr)) w.width q.tag_width on in
-          let place : w.addr ≡ tag_of q (slot_at q w.addr) = parts.0 in
+      by true on = let parts = both-equal w.addr (tag_of q (element_at q w.addr)) w.width q.tag_width on in
+          let place : w.addr ≡ tag_of q (element_at q w.addr) = parts.0 in
           let width : w.width ≡ q.tag_width = parts.1 in
           let held : covers w w.addr ≡ true = covers-yes w w.addr (omega arith) (omega (arith, width, is.some_bytes)) in
-          absurd (let no : true ≡ false = sym held ∙ leaves (slot_at q w.addr) w.addr (omega (arith, place), omega (arith, place, is.some_bytes)) in cc)
+          absurd (let no : true ≡ false = sym held ∙ leaves (element_at q w.addr) w.addr (omega (arith, place), omega (arith, place, is.some_bytes)) in cc)
 
   pub off-leaves : (w : Write) → KeepsOff q w → LeavesTags q w
   off-leaves w keeps k x at = by (covers w x) refl
     where
       by : (b : Bool) → covers w x ≡ b → b ≡ false
       by false off = refl
-      by true on = absurd (keeps x on (slot-within k x (tag-in-slot k x at)))
+      by true on = absurd (tag-inside k x at (keeps x on))
 
   pub fills-leaves : (p : Party) (c : QueueCounts) (w : Write) → FillsOwned q p c w → LeavesTags q w
   fills-leaves p c w fills k x at = by (covers w x) refl
@@ -80,10 +103,10 @@ module _ (q : Slots) (is : IsSlots q) where
       by : (b : Bool) → covers w x ≡ b → b ≡ false
       by false off = refl
       by true on = absurd (elim (fills x on) [
-        | inl out ↦ out (slot-within k x (tag-in-slot k x at))
+        | inl out ↦ tag-inside k x at out
         | inr owns ↦
             let same : tag_of q k ≡ tag_of q owns.position =
-            tag-same k owns.position (one-slot k owns.position x (tag-in-slot k x at) owns.byte) in
+            tag-same k owns.position (one-slot k owns.position x (tag-in-slot k owns.position x at owns.byte) owns.byte) in
             owns.no_tag (omega (arith, same, at.0), omega (arith, same, at.1))
       ])
 
@@ -94,7 +117,7 @@ module _ (q : Slots) (is : IsSlots q) where
       by : (b : Bool) → covers w x ≡ b → b ≡ false
       by false off = refl
       by true on = let part = covers-from w x on in
-          absurd (apart (one-slot n k x (tag-in-slot n x (omega (arith, part.0, tag.place), omega (arith, part.1, tag.place, tag.width))) (tag-in-slot k x at)))
+          absurd (apart (one-tag n k x (omega (arith, part.0, tag.place), omega (arith, part.1, tag.place, tag.width)) at))
 
   -- what a tag holds after a write past it, or of it
   pub tag-left : (w : Write) (f : ℕ → ℕ) (k : ℕ) → ((x : ℕ) → IsTagByte q k x → covers w x ≡ false)

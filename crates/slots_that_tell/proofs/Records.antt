@@ -15,12 +15,13 @@ use Rattle.queue_parties.specs.Positions.{IsPrefix, numbers_from}
 use Rattle.queue_parties.specs.Parties.{Party, the_sender, the_receiver, QueueCounts, count, known}
 use Rattle.queue_parties.proofs.Parties.{count-set, Grows, Whose, mine, theirs, whose, counts-append, keeps-at, Passed}
 use Rattle.store_buffers.proofs.LateStores.{at-by-parts, leaves-part}
+use Rattle.queue_parties.proofs.Positions.{same_slot}
 use Rattle.queue_parties.proofs.Records.{numbers-prefix, numbers-same, numbers-split, not_less, passed, HasRecords, records-are, record_passed, own-records}
 use Rattle.slots_that_tell.specs.Slots.{Slots, IsSlots, tagged_slot, IsSlotByte, IsTagByte, tag_of}
 use Rattle.slots_that_tell.specs.Telling.{KeepsEntry, teller_of, owned_end, moved, after_load, after_store}
 use Rattle.slots_that_tell.specs.Telling.{told_access, after_entry, told_counts, MayStore, TellsAccess, KeepsTelling}
 use Rattle.slots_that_tell.specs.Laws.{FollowsTelling, counts, StoresTagsAlone, tagged_record, reading_at, records_by, records_learned, records_waiting}
-use Rattle.slots_that_tell.proofs.Places.{tag-in-slot, fills-leaves, moved-tag, far}
+use Rattle.slots_that_tell.proofs.Places.{one-tag, fills-leaves, moved-tag, far}
 use Rattle.slots_that_tell.proofs.Publication.{follows-front}
 use Rattle.slots_that_tell.proofs.Owned.{grows-entry, grows-after, Window, window-of, loaded-count, Owned, access-byte, Moving, moving, learning, mine-of}
 use Rattle.slots_that_tell.proofs.HandingOver.{handed, handed-before, below, waited}
@@ -28,20 +29,20 @@ use Rattle.slots_that_tell.proofs.HandingOver.{handed, handed-before, below, wai
 -- a party's store over a byte of a tag is the one of its own position's
 module _ (q : Slots) (is : IsSlots q) (r : Party) (k x : ℕ) (of_k : IsTagByte q k x) where
   stores-tag : (c : QueueCounts) (w : Write) → MayStore q r c w
-      → LeavesByte x w ⊎ (IsSlotByte q (count r c) x × (count r (after_store q r w c) ≡ count r c + 1))
+      → LeavesByte x w ⊎ (IsTagByte q (count r c) x × (count r (after_store q r w c) ≡ count r c + 1))
   stores-tag c w (inr fills) = inl (fills-leaves q is r c w fills k x of_k)
   stores-tag c w (inl moves) = by (covers w x) refl
     where
-      by : (b : Bool) → covers w x ≡ b → (b ≡ false) ⊎ (IsSlotByte q (count r c) x × (count r (after_store q r w c) ≡ count r c + 1))
+      by : (b : Bool) → covers w x ≡ b → (b ≡ false) ⊎ (IsTagByte q (count r c) x × (count r (after_store q r w c) ≡ count r c + 1))
       by false off = inl refl
       by true on = let part = covers-from w x on in
           inr (
-            tag-in-slot q is (count r c) x (omega (arith, part.0, moves.tag.place), omega (arith, part.1, moves.tag.place, moves.tag.width)),
+            (omega (arith, part.0, moves.tag.place), omega (arith, part.1, moves.tag.place, moves.tag.width)),
             count-set r (moved q (count r c) w) c ∙ moved-tag q is r (count r c) (count r c) w moves.tag,
           )
 
   access-tag : (c : QueueCounts) (y : Access) → TellsAccess q (Some r) c y
-      → LeavesByteBy x y ⊎ (IsSlotByte q (count r c) x × (count r (told_access q (Some r) y c) ≡ count r c + 1))
+      → LeavesByteBy x y ⊎ (IsTagByte q (count r c) x × (count r (told_access q (Some r) y c) ≡ count r c + 1))
   access-tag c nothing keeps = inl tt
   access-tag c (load a width v) keeps = inl tt
   access-tag c (fence full) keeps = inl tt
@@ -51,7 +52,7 @@ module _ (q : Slots) (is : IsSlots q) (r : Party) (k x : ℕ) (of_k : IsTagByte 
     | inl leaves ↦ inl (inr leaves)
     | inr owns ↦
         let same : count r (after_load q r a 4 old c) ≡ count r c = loaded-count q r r a 4 old c in
-        inr (subst (λ n. IsSlotByte q n x) same owns.0, owns.1 ∙ ap (λ n. n + 1) same)
+        inr (subst (λ n. IsTagByte q n x) same owns.0, owns.1 ∙ ap (λ n. n + 1) same)
   ]
 
 receiver-is : (q : Slots) (is : IsSlots q) (h : ℕ) → h ≡ q.receiver → teller_of q h ≡ Some the_receiver
@@ -91,7 +92,7 @@ tag-kept B q start o before fr gs f k x of_k sent given = at-by-parts q.receiver
         keeps : TellsAccess q (teller_of q (hart_of e1)) c1 (access_of e1)
         keeps = keeps-at (after_entry q) (KeepsEntry q) start done e1 es2 (subst (KeepsTelling q start) parts f.keeps)
 
-        no_more : IsSlotByte q (count the_receiver c1) x
+        no_more : IsTagByte q (count the_receiver c1) x
             → count the_receiver (told_access q (Some the_receiver) (access_of e1) c1) ≡ count the_receiver c1 + 1 → ⊥
         no_more byte one =
             let l : QueueCounts = counts q start fr in
@@ -105,8 +106,8 @@ tag-kept B q start o before fr gs f k x of_k sent given = at-by-parts q.receiver
             let more : count the_receiver l ≤ count the_receiver c1 = since.counts the_receiver in
             let w : Window q l = window-of B q start o before fr (follows-front B q start o before fr gs f) in
             let knows : known the_sender l ≤ count the_receiver l = w.known_less the_receiver in
-            let back : count the_receiver c1 + q.size ≤ k = far q is (count the_receiver c1) k x byte
-            (tag-in-slot q is k x of_k) (omega (arith, one, low, given)) in
+            let back : count the_receiver c1 + q.size ≤ k = same_slot q.size (count the_receiver c1) k (omega (arith, is.some))
+            (one-tag q is (count the_receiver c1) k x byte of_k) (omega (arith, one, low, given)) in
             omega (arith, back, sent, knows, more)
 
 -- while the receiver doesn't know of position k, it writes over no byte of its slot

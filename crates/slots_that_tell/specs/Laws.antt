@@ -32,7 +32,7 @@ pub record StoresTagsAlone (q : Slots) (h : ℕ) (es : List Entry) : Type 0 wher
   pub rest : (k x : ℕ) → IsSlotByte q k x → (IsTagByte q k x → ⊥) → LeavesByteAt h x es
   pub no_amo : (es1 : List Entry) (e : Entry) (es2 : List Entry) (a old new : ℕ) → es ≡ es1 ++ e ∷ es2 → hart_of e ≡ h → access_of e ≡ exchange a old new → ⊥
 
--- the record of position k as hart h reads it: the number of the bytes of its slot, the tag among them
+-- the record of position k as hart h reads it: the number of the bytes of its slot, with the tag where that lies in it
 abbrev pub tagged_record : Slots → OpeningValue → List Entry → (h k : ℕ) → ℕ
 tagged_record q o es h k = read o es h (tagged_slot q k) q.width
 

@@ -1,4 +1,4 @@
--- Slots that tell whose they are: a queue between two harts without a shared index. One part of each slot, its tag, tells.
+-- Slots that tell whose they are: a queue between two harts without a shared index. A tag of each slot tells, a part of it or beside it.
 use Rattle.std.specs.Prelude.{ℕ, ◌≡◌, ◌≢◌, ◌+◌, ◌-◌, ◌*◌, ◌/◌, ◌%◌, ◌<◌, ◌≤◌, ◌==◌, ◌&&◌, ◌⊎◌, Bool, List, All, true, false}
 use Rattle.memory.specs.declared.writes.Write.{Write}
 use Rattle.memory.specs.Writes.{covers}

@@ -1,9 +1,9 @@
 //! A queue between two harts without a shared index, whose slots tell whose they are (FastForward's, and Vyukov's with numbers):
 //! what holds of every run whose entries keep the protocol, whatever programs the harts run, for store buffers of any size.
 //!
-//! Each slot has a tag. A party owns the positions from its own count up to what the tags that it loaded told it. It stores what it
-//! likes into the rest of slots that it owns, and hands its own position over by a store to the tag. The contract is that of
-//! [`laws_of_telling`]. This crate runs nothing.
+//! Each slot has a tag, in it or in an array beside the slots. A party owns the positions from its own count up to what the tags
+//! that it loaded told it. It stores what it likes into the rest of slots that it owns, and hands its own position over by a store to
+//! the tag. The contract is that of [`laws_of_telling`]. This crate runs nothing.
 //!
 //! Called by none, and cited by more than 6 crates, from `queue_certificates` to `certifying`.
 
