@@ -106,7 +106,7 @@ some-divisor zero divides = absurd (let e : 2 ^ 32 % 0 ≡ 2 ^ 32 = mod-zero (2 
 some-divisor (suc n) divides = omega arith
 
 -- a signed load leaves a remainder that divides both
-signed-rest : (w n x : ℕ) → 2 ^ 32 % n ≡ 0 → 256 ^ w % n ≡ 0 → signed_word w x % n ≡ x % n
+pub signed-rest : (w n x : ℕ) → 2 ^ 32 % n ≡ 0 → 256 ^ w % n ≡ 0 → signed_word w x % n ≡ x % n
 signed-rest w n x words bytes = by (nat_lt (x + x) (256 ^ w))
   where
     none : (2 ^ 32 - 256 ^ w) % n ≡ 0

@@ -51,7 +51,7 @@ use Rattle.queue_certificates.specs.States.{value_by, state_by, scaled, plain, i
 use Rattle.queue_certificates.specs.Results.{Result, just, exactly, as_number, bounds, sum_of, of_immediate, of_shift, of_registers, is_branch_taken}
 use Rattle.queue_certificates.specs.Results.{counting}
 use Rattle.queue_certificates.specs.Steps.{with_register, with_result, going_to, goes_by, operand, jumping}
-use Rattle.queue_certificates.specs.Steps.{low_form, low_bytes, stored_value, keeps_value}
+use Rattle.queue_certificates.specs.Steps.{low_form, low_bytes, stored_value, keeps_value, without_sign}
 use Rattle.queue_certificates.specs.Steps.{called as called_state, follow, register_at, instruction_at, loads_owned}
 use Rattle.queue_certificates.specs.Steps.{reads_owned, updated_value, after_exchange, exchanging, addresses}
 use Rattle.queue_certificates.specs.Steps.{address_value, anywhere, is_one, is_whole, misses, is_look, is_own_index}
@@ -64,10 +64,10 @@ use Rattle.queue_certificates.specs.Steps.{storable, word_then, words_then, afte
 use Rattle.queue_certificates.proofs.Values.{word-linear, has-plain, known-is, has-bounds, within}
 use Rattle.queue_certificates.proofs.Forms.{same-value}
 use Rattle.queue_certificates.proofs.Results.{word-of-sum, word-small, word-has, sum-has, Gives, just-gives, divisor-below, counted-has, kept-has}
-use Rattle.queue_certificates.proofs.Results.{signed-of-bits, signed-fits, or-up-to-gives, exactly-gives}
+use Rattle.queue_certificates.proofs.Results.{signed-of-bits, signed-fits, signed-rest, or-up-to-gives, exactly-gives}
 use Rattle.queue_certificates.proofs.Results.{immediate-gives, shift-gives, register-gives, branch-is}
 use Rattle.queue_certificates.proofs.States.{means-result, means-going, means-lifted, means-moved, means-frame, written-has, at-below}
-use Rattle.queue_certificates.proofs.Stores.{stored-low, apart-from, written-number, left-number, stored-whole, stored-part}
+use Rattle.queue_certificates.proofs.Stores.{width-divides, stored-low, apart-from, written-number, left-number, stored-whole, stored-part}
 use Rattle.queue_certificates.proofs.Stores.{keeps-off, Stored, stays-off, stays-filled, moves-on, owned-slots, off-slots}
 use Rattle.queue_certificates.proofs.Bounds.{value-below, fits-below, value-word}
 use Rattle.slot_queue.proofs.Codes.{word-small as word-fits}
@@ -76,7 +76,7 @@ use Rattle.memory.specs.declared.writes.Write.{Write}
 use Rattle.memory.specs.Writes.{write, covers}
 use Rattle.memory.proofs.Joined.{joined-below}
 use Rattle.std.proofs.lemmas.Nat.{mul-le, pow_pos, and_mask}
-use Rattle.std.proofs.Math.Nat.{mod-lt, pow-le-pow_right, mod-eq_of_lt, mod-mod_of_dvd, mod-le}
+use Rattle.std.proofs.Math.Nat.{mod_self, mod-lt, pow-le-pow_right, mod-eq_of_lt, mod-mod_of_dvd, mod-le}
 use Rattle.rv_decode.specs.declared.instruction.StoreOp.{StoreOp}
 use Rattle.queue_certificates.proofs.Accesses.{found-below, just-is, same-party, party-hart, hart-party, IsWholeIndex, whole-index, missed, Looked, looks, hits}
 use Rattle.std.proofs.lemmas.Nat.Gcd.{dvd_of_mod-eq-zero}
@@ -509,6 +509,21 @@ module _ (M : ℕ) (o : OpeningValue) (queues : ℕ → Queue) (N : ℕ) (own_of
       first true needs = gives (slice_get s.inbox 0) needs
       first false needs = second (slice_index s.registers 17 == 2) needs
 
+  -- what a signed load leaves of an index's word is a word, and has its low bytes
+  signed-small : (i : ℕ) (f : Form) (x : ℕ) → i < N → Has queues xs (signed_for i f) x → x < 2 ^ 32
+  signed-small i f x less has =
+      let small : index_word (queues i) (form_value f xs) < 256 ^ (queues i).index_width = word-fits (queues i) (fine i less).0 (form_value f xs) in
+      let four : 256 ^ (queues i).index_width ≤ 2 ^ 32 = pow-le-pow_right {n = 256} (omega arith) {i = (queues i).index_width} {j = 4} (fine i less).2 in
+      subst (λ y. y < 2 ^ 32) (sym has) (signed-fits (queues i).index_width (index_word (queues i) (form_value f xs)) small four)
+
+  signed-low : (i : ℕ) (f : Form) (x : ℕ) → i < N → 2 ^ 32 % 256 ^ (queues i).index_width ≡ 0 → Has queues xs (signed_for i f) x
+      → x % 256 ^ (queues i).index_width ≡ index_word (queues i) (form_value f xs)
+  signed-low i f x less divides has =
+      ap (λ y. y % 256 ^ (queues i).index_width) has
+      ∙ signed-rest (queues i).index_width (256 ^ (queues i).index_width) (index_word (queues i) (form_value f xs)) divides
+      (mod_self (256 ^ (queues i).index_width))
+      ∙ mod-eq_of_lt (word-fits (queues i) (fine i less).0 (form_value f xs))
+
   storable-has : (n x : ℕ) (u : KnownValue) → Has queues xs u x → (Has queues xs u x → x < 2 ^ 32 → n ≡ x) → Has queues xs (storable N u) n
   storable-has n x any has is = tt
   storable-has n x (ends_as b f) has is = tt
@@ -527,11 +542,7 @@ module _ (M : ℕ) (o : OpeningValue) (queues : ℕ → Queue) (N : ℕ) (own_of
     where
       by : (t : Bool) → nat_lt i N ≡ t → Has queues xs (if t then signed_for i f else any) n
       by false other = tt
-      by true listed =
-          let less : i < N = ltb-true i N listed in
-          let small : index_word (queues i) (form_value f xs) < 256 ^ (queues i).index_width = word-fits (queues i) (fine i less).0 (form_value f xs) in
-          let four : 256 ^ (queues i).index_width ≤ 2 ^ 32 = pow-le-pow_right {n = 256} (omega arith) {i = (queues i).index_width} {j = 4} (fine i less).2 in
-          is has (subst (λ y. y < 2 ^ 32) (sym has) (signed-fits (queues i).index_width (index_word (queues i) (form_value f xs)) small four)) ∙ has
+      by true listed = is has (signed-small i f x (ltb-true i N listed) has) ∙ has
 
   -- the lowest bytes, and what a store leaves of a number
   low-form : (n : ℕ) (f : Form) (x : ℕ) → 1 ≤ n → n ≤ 2 ^ 32 → x ≡ form_value f xs % n
@@ -543,7 +554,15 @@ module _ (M : ℕ) (o : OpeningValue) (queues : ℕ → Queue) (N : ℕ) (own_of
   low-has : (bits width x : ℕ) (u : KnownValue) → 2 ^ bits ≡ 256 ^ width → 2 ^ 32 % 256 ^ width ≡ 0 → Has queues xs u x
       → Has queues xs (low_bytes queues N k.ranges width u) (x % 256 ^ width)
   low-has bits width x any all divides has = tt
-  low-has bits width x (signed_for i f) all divides has = tt
+  low-has bits width x (signed_for i f) all divides has = by (nat_lt i N && ((queues i).index_width == width)) refl
+    where
+      by : (t : Bool) → (nat_lt i N && ((queues i).index_width == width)) ≡ t → Has queues xs (if t then index_for i f else any) (x % 256 ^ width)
+      by false other = tt
+      by true ok =
+          let parts = and_parts (nat_lt i N) ((queues i).index_width == width) ok in
+          let same : (queues i).index_width ≡ width = eqb-true (queues i).index_width width parts.1 in
+          ap (λ n. x % 256 ^ n) (sym same)
+          ∙ signed-low i f x (ltb-true i N parts.0) (ap (λ n. 2 ^ 32 % 256 ^ n) same ∙ divides) has
   low-has bits width x (ends_as n f) all divides has = tt
   low-has bits width x (linear f) all divides has =
       low-form (256 ^ width) f (x % 256 ^ width) (subst (λ n. 1 ≤ n) all (pow_pos bits)) (divisor-below (256 ^ width) divides)
@@ -708,7 +727,7 @@ module _ (M : ℕ) (o : OpeningValue) (queues : ℕ → Queue) (N : ℕ) (own_of
           read ∙ ap (number_seen m a) w.whole ∙ ap (λ z. number_seen m z ((queues i).index_width)) (one-place b a parts.0 low high ∙ w.place) ∙ sees.own
           ∙ ap (index_word (queues i)) (means.shares i f.0 w.party mine).own
 
-  value-kept : (op : LoadOp) (w : KnownValue) (x : ℕ) → keeps_value queues k.ranges op w ≡ true → Has queues xs w x → extended op x ≡ x
+  value-kept : (op : LoadOp) (w : KnownValue) (x : ℕ) → keeps_value k.ranges op w ≡ true → Has queues xs w x → extended op x ≡ x
   value-kept load_op.Byte (linear f) x ok has = sign-low 8 x (form-low f x (2 ^ 7 - 1) ok has)
   value-kept load_op.Half (linear f) x ok has = sign-low 16 x (form-low f x (2 ^ 15 - 1) ok has)
   value-kept op w x ok has = absurd (cc)
@@ -716,9 +735,9 @@ module _ (M : ℕ) (o : OpeningValue) (queues : ℕ → Queue) (N : ℕ) (own_of
   loaded-gives : (op : LoadOp) (w : KnownValue) (x : ℕ) → x < 256 ^ load_width op → Has queues xs w x
       → Gives queues xs (loaded queues k.ranges op w) (extended op x)
   loaded-gives op w x low has = or-up-to-gives queues xs (most_loaded op) (extended op x)
-      (if keeps_value queues k.ranges op w then w else extended_value queues op w) (extended-most op x low) (by (keeps_value queues k.ranges op w) refl)
+      (if keeps_value k.ranges op w then w else extended_value queues op w) (extended-most op x low) (by (keeps_value k.ranges op w) refl)
     where
-      by : (t : Bool) → keeps_value queues k.ranges op w ≡ t → Has queues xs (if t then w else extended_value queues op w) (extended op x)
+      by : (t : Bool) → keeps_value k.ranges op w ≡ t → Has queues xs (if t then w else extended_value queues op w) (extended op x)
       by true keeps = subst (Has queues xs w) (sym (value-kept op w x keeps has)) has
       by false other = extended-has xs op w x low has
 
@@ -956,16 +975,38 @@ module _ (M : ℕ) (o : OpeningValue) (queues : ℕ → Queue) (N : ℕ) (own_of
 
     -- the word that a move stores, also where its number is cut to the index's bytes
     moved-word : (i : ℕ) → i < N → (f : Form) → store_width op ≡ (queues i).index_width
-        → (is_within queues k.ranges vx (index_for i f) || is_cut (queues i) vx f) ≡ true → stored op x ≡ index_word (queues i) (form_value f xs)
-    moved-word i less f width ok = elim (or_cases (is_within queues k.ranges vx (index_for i f)) (is_cut (queues i) vx f) ok) [
-      | inl whole ↦ (
-          let word : x ≡ index_word (queues i) (form_value f xs) = within queues k.ranges xs means.ranges vx (index_for i f) x whole has-x in
-          let small : x < 256 ^ (queues i).index_width = subst (λ n. n < 256 ^ (queues i).index_width) (sym word)
-          (word-fits (queues i) (fine i less).0 (form_value f xs)) in
-          stored-whole op x (subst (λ n. x < 256 ^ n) (sym width) small) ∙ word)
+        → (is_within queues k.ranges (without_sign i vx) (index_for i f) || is_cut (queues i) vx f) ≡ true
+        → stored op x ≡ index_word (queues i) (form_value f xs)
+    moved-word i less f width ok = elim (or_cases (is_within queues k.ranges (without_sign i vx) (index_for i f)) (is_cut (queues i) vx f) ok) [
+      | inl word ↦ unsigned vx has-x word
       | inr low ↦ cut vx has-x low
     ]
       where
+        whole : (u : KnownValue) → Has queues xs u x → is_within queues k.ranges u (index_for i f) ≡ true
+            → stored op x ≡ index_word (queues i) (form_value f xs)
+        whole u has ok =
+            let word : x ≡ index_word (queues i) (form_value f xs) = within queues k.ranges xs means.ranges u (index_for i f) x ok has in
+            let small : x < 256 ^ (queues i).index_width = subst (λ n. n < 256 ^ (queues i).index_width) (sym word)
+            (word-fits (queues i) (fine i less).0 (form_value f xs)) in
+            stored-whole op x (subst (λ n. x < 256 ^ n) (sym width) small) ∙ word
+
+        unsigned : (u : KnownValue) → Has queues xs u x → is_within queues k.ranges (without_sign i u) (index_for i f) ≡ true
+            → stored op x ≡ index_word (queues i) (form_value f xs)
+        unsigned (signed_for j g) has ok = by (i == j) refl ok
+          where
+            by : (t : Bool) → (i == j) ≡ t → is_within queues k.ranges (if t then index_for j g else signed_for j g) (index_for i f) ≡ true
+                → stored op x ≡ index_word (queues i) (form_value f xs)
+            by false other ok = whole (signed_for j g) has ok
+            by true same ok =
+                let place : j ≡ i = sym (eqb-true i j same) in
+                let own : Has queues xs (signed_for i g) x = subst (λ n. Has queues xs (signed_for n g) x) place has in
+                stored-low op x x (sym (mod-eq_of_lt (signed-small i g x less own)))
+                ∙ ap (λ n. x % 256 ^ n) width
+                ∙ signed-low i g x less (ap (λ n. 2 ^ 32 % 256 ^ n) (sym width) ∙ width-divides op) own
+                ∙ within queues k.ranges xs means.ranges (index_for i g) (index_for i f) (index_word (queues i) (form_value g xs))
+                (subst (λ n. is_within queues k.ranges (index_for n g) (index_for i f) ≡ true) place ok) refl
+        unsigned u has ok = whole u has ok
+
         cut : (u : KnownValue) → Has queues xs u x → is_cut (queues i) u f ≡ true → stored op x ≡ index_word (queues i) (form_value f xs)
         cut any has low = absurd (cc)
         cut (index_for j g) has low = absurd (cc)
@@ -996,17 +1037,17 @@ module _ (M : ℕ) (o : OpeningValue) (queues : ℕ → Queue) (N : ℕ) (own_of
         by true just ok =
             let here = moved-here i just p mine less in
             let p1 = and_parts
-            ((is_within queues k.ranges vx (index_for i (plus (get_or k.shares i no_share).own d))
+            ((is_within queues k.ranges (without_sign i vx) (index_for i (plus (get_or k.shares i no_share).own d))
             || is_cut (queues i) vx (plus (get_or k.shares i no_share).own d)) && is_same 0
             (plus d (minus (get_or k.shares i no_share).owned d)) (get_or k.shares i no_share).owned
             && fits_in (most k.ranges d) (Some ((queues i).modulus - 1))) (nat_lt i (length k.shares)) ok in
             let p2 = and_parts
-            ((is_within queues k.ranges vx (index_for i (plus (get_or k.shares i no_share).own d))
+            ((is_within queues k.ranges (without_sign i vx) (index_for i (plus (get_or k.shares i no_share).own d))
             || is_cut (queues i) vx (plus (get_or k.shares i no_share).own d)) && is_same 0
             (plus d (minus (get_or k.shares i no_share).owned d)) (get_or k.shares i no_share).owned)
             (fits_in (most k.ranges d) (Some ((queues i).modulus - 1))) p1.0 in
             let p3 =
-            and_parts (is_within queues k.ranges vx (index_for i (plus (get_or k.shares i no_share).own d))
+            and_parts (is_within queues k.ranges (without_sign i vx) (index_for i (plus (get_or k.shares i no_share).own d))
             || is_cut (queues i) vx (plus (get_or k.shares i no_share).own d))
             (is_same 0 (plus d (minus (get_or k.shares i no_share).owned d)) (get_or k.shares i no_share).owned)
             p2.0 in

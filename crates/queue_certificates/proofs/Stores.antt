@@ -66,6 +66,11 @@ stored-low store_op.Byte x g is = omega (arith, is)
 stored-low store_op.Half x g is = omega (arith, is)
 stored-low store_op.Word x g is = is
 
+pub width-divides : (op : StoreOp) → 2 ^ 32 % 256 ^ store_width op ≡ 0
+width-divides store_op.Byte = refl
+width-divides store_op.Half = refl
+width-divides store_op.Word = refl
+
 pub stored-part : (op : StoreOp) (x : ℕ) → stored op x % 256 ^ store_width op ≡ x % 256 ^ store_width op
 stored-part store_op.Byte x = omega arith
 stored-part store_op.Half x = omega arith
