@@ -14,14 +14,14 @@ use Rattle.spsc_queue.proofs.Offsets.{offset_low, slot_off, next_offset}
 use Rattle.spsc_queue.proofs.OwnWords.{Own, LeavesWord, off_leaves_by, past, own-kept, own-stored, all-off}
 use Rattle.spsc_queue.proofs.States.{IsPlaced, IsAsked, Taking, level-counts}
 use Rattle.queue_parties.specs.Parties.{Party, the_sender, the_receiver, known, with_known}
+use Rattle.queue_parties.specs.Positions.{IsInBytes}
 use Rattle.queue_parties.proofs.Parties.{known-set, Grows}
 use Rattle.queue_parties.proofs.Positions.{ahead-is}
-use Rattle.slots_that_tell.specs.Slots.{Slots, IsSlots, RestsAt, KeepsOff, gap, tag_of, slot_at, position_at, memory_tag}
+use Rattle.slots_that_tell.specs.Slots.{Slots, IsSlots, RestsAt, KeepsOff, gap, tag_of, element_at, position_at, memory_tag}
 use Rattle.slots_that_tell.specs.Telling.{teller_of, owned_end, learned, moved, after_load, after_store, told_access, MayStore, IsTagStore, TellsAccess}
 use Rattle.slots_that_tell.proofs.Codecs.{zero_differs}
-use Rattle.slots_that_tell.proofs.Places.{slot_at-tag, is_tag-tag, moved-tag, moved-leaves, off-leaves}
+use Rattle.slots_that_tell.proofs.Places.{element_at-tag, is_tag-tag, moved-tag, moved-leaves, off-leaves}
 use Rattle.slots_that_tell.proofs.Owned.{loaded-count, grows-load}
-use Rattle.slots_that_tell.proofs.Sides.{within}
 
 pub is_slots : (r : RingBuffer) → IsRingBuffer r → IsSlots (ring_slots_of r)
 is_slots r is = record {
@@ -29,11 +29,17 @@ is_slots r is = record {
   some = is.some_slots;
   some_bytes = omega arith;
   tag_within = omega arith;
+  tags_lie = inl (refl, refl);
   differ = zero_differs (ring_slots_of r);
 }
 
+-- the elements with the tags are the slots
+in-slots : (r : RingBuffer) (x : ℕ) → IsInBytes r.slots (r.size * 4) x ⊎ IsInBytes r.slots (r.size * 4) x → IsInBytes r.slots (r.size * 4) x
+in-slots r x (inl at) = at
+in-slots r x (inr at) = at
+
 pub off-keeps : (r : RingBuffer) (is : IsRingBuffer r) (w : Write) → overlaps r w ≡ false → KeepsOff (ring_slots_of r) w
-off-keeps r is w off x on within = let part = covers-from w x on in
+off-keeps r is w off x on inside = let part = covers-from w x on in let within = in-slots r x inside in
     grind (arith, nat_tests, off, part.0, part.1, within.0, within.1, is.slots_above, is.slots_below)
 
 -- the tag of position k, whose slot is the one at k - r.start from the first on
@@ -117,8 +123,8 @@ module _ (r : RingBuffer) (is : IsRingBuffer r) (p : Party) (c : QueueCounts) (v
   told-own : (ring_slots_of r).tells p (count p c) v ≡ true
       → count p c < owned_end (ring_slots_of r) p (after_load (ring_slots_of r) p (tag_of (ring_slots_of r) (count p c)) 4 v c)
   told-own tells =
-      let slot : slot_at (ring_slots_of r) (tag_of (ring_slots_of r) (count p c)) ≡ count p c % r.size =
-      slot_at-tag (ring_slots_of r) (is_slots r is) (count p c) in
+      let slot : element_at (ring_slots_of r) (tag_of (ring_slots_of r) (count p c)) ≡ count p c % r.size =
+      element_at-tag (ring_slots_of r) (is_slots r is) (count p c) in
       let here : position_at (ring_slots_of r) (count p c) (tag_of (ring_slots_of r) (count p c)) ≡ count p c =
       ap (λ i. count p c + (i + (r.size - count p c % r.size)) % r.size) slot
       ∙ (let z : count p c ≡ count p c + 0 = omega arith in ap (λ i. count p c + (i % r.size + (r.size - count p c % r.size)) % r.size) z)
@@ -255,7 +261,7 @@ module _ (r : RingBuffer) (is : IsRingBuffer r) (kind : r.kind ≡ fastforward) 
       level (holding u w) whole h = h.0
 
   word-off : (w : Write) (a : ℕ) → IsWordAt w a → (a + 4 ≤ r.slots) ⊎ (r.slots + 4 * r.size ≤ a) → KeepsOff (ring_slots_of r) w
-  word-off w a word apart x on within = let part = covers-from w x on in
+  word-off w a word apart x on inside = let part = covers-from w x on in let within = in-slots r x inside in
       elim apart [
         | inl l ↦ omega (arith, l, part.0, part.1, word.place, word.width, within.0, within.1)
         | inr l ↦ omega (arith, l, part.0, part.1, word.place, word.width, within.0, within.1)
