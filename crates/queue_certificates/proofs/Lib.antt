@@ -23,14 +23,14 @@ pub mod Filled
 pub mod Effects
 pub mod Sends
 pub mod Takes
-mod TagPlaces
+pub mod TagPlaces
 pub mod TagShares
 mod TagCounts
 mod TagValues
 pub mod NextAccess
 mod TagKept
 pub mod TagNext
-mod TagStores
+pub mod TagStores
 mod TagLoads
 pub mod Told
 pub mod Accepted

@@ -40,7 +40,7 @@ abbrev text : OpeningValue
 text = record { harts = sender_text ∷ receiver_text ∷ []; words = [] }
 
 abbrev q : TaggedQueue
-q = record { sender = 0; receiver = 1; slots = 0; size = 1; width = 4; tag_offset = 0; tag_width = 4; codec = codec.Zero }
+q = record { sender = 0; receiver = 1; slots = 0; size = 1; width = 4; tags = 0; tag_stride = 4; tag_offset = 0; tag_width = 4; codec = codec.Zero }
 
 -- what is known of x1 and x3, and of how many positions are owned; the first variable is the own count
 abbrev listed : ℕ → List (Option ℕ) → (x1 x3 : KnownValue) → (owned : ℕ) → Cases → ListedState

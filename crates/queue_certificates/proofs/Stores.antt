@@ -14,6 +14,7 @@ use Rattle.memory.proofs.Bytes.{joined-same, covers-yes, covers-from}
 use Rattle.memory.proofs.Joined.{joined-bytes}
 use Rattle.step_machine.specs.Access.{store}
 use Rattle.slot_queue.specs.Queues.{Queue, IsQueue, KeepsOff, index_word, slot_of}
+use Rattle.queue_parties.specs.Positions.{IsInBytes}
 use Rattle.queue_parties.specs.Parties.{Party, the_sender, the_receiver, QueueCounts, count, with_count}
 use Rattle.slot_queue.specs.Ownership.{index, end, moved, FillsOwned, KeepsAccess, after_access}
 use Rattle.queue_parties.proofs.Parties.{count-set}
@@ -30,16 +31,21 @@ use Rattle.queue_certificates.proofs.States.{kept-number}
 
 -- ---- bytes
 
+-- of bytes from somewhere among these addresses on that meet none of those others
+pub apart-none : (b : Bounds) (a width from count x : ℕ) → is_apart b width from count ≡ true → b.low ≤ a → a ≤ b.high → IsInBytes a width x
+    → IsInBytes from count x → ⊥
+apart-none b a width from count x ok low high within there = elim (or_cases (nat_le (b.high + width) from) (nat_le (from + count) b.low) ok) [
+  | inl under ↦ (let u : b.high + width ≤ from = leb-true (b.high + width) from under in omega (arith, u, high, within.1, there.0))
+  | inr over ↦ (let u : from + count ≤ b.low = leb-true (from + count) b.low over in omega (arith, u, low, within.0, there.1))
+]
+
 pub apart-from : (b : Bounds) (width a from count x v : ℕ) → is_apart b width from count ≡ true → b.low ≤ a → a ≤ b.high → from ≤ x → x < from + count
     → covers (write a width v) x ≡ false
 apart-from b width a from count x v ok low high above below = by (covers (write a width v) x) refl
   where
     by : (t : Bool) → covers (write a width v) x ≡ t → t ≡ false
     by false is = refl
-    by true on = absurd (let w = covers-from (write a width v) x on in elim (or_cases (nat_le (b.high + width) from) (nat_le (from + count) b.low) ok) [
-      | inl under ↦ (let u : b.high + width ≤ from = leb-true (b.high + width) from under in omega (arith, u, high, above, w.1))
-      | inr over ↦ (let u : from + count ≤ b.low = leb-true (from + count) b.low over in omega (arith, u, low, below, w.0))
-    ])
+    by true on = absurd (apart-none b a width from count x ok low high (covers-from (write a width v) x on) (above, below))
 
 -- the number that is seen where it was written, by a view in which it was, and of bytes that are the same in both views
 pub written-number : (m n : View) (a width v : ℕ) → ((x : ℕ) → n x ≡ byte_after (write a width v) x (m x)) → number_seen n a width ≡ v % 256 ^ width
@@ -92,10 +98,7 @@ keeps-off q b width a v ok low high x on =
 pub off-slots : (q : Queue) (p : Party) (c : QueueCounts) (b : Bounds) (width a : ℕ)
     → is_apart b width q.slots (q.size * q.width) ≡ true → b.low ≤ a → a ≤ b.high → OwnsSlotsOf q p c a width
 off-slots q p c b width a ok low high x within slots =
-    absurd (elim (or_cases (nat_le (b.high + width) q.slots) (nat_le (q.slots + q.size * q.width) b.low) ok) [
-      | inl under ↦ (let u : b.high + width ≤ q.slots = leb-true (b.high + width) q.slots under in omega (arith, u, high, within.1, slots.0))
-      | inr over ↦ (let u : q.slots + q.size * q.width ≤ b.low = leb-true (q.slots + q.size * q.width) b.low over in omega (arith, u, low, within.0, slots.1))
-    ])
+    absurd (apart-none b a width q.slots (q.size * q.width) x ok low high within slots)
 
 -- ---- the slot of a form
 

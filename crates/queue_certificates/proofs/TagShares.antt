@@ -1,16 +1,16 @@
 -- A hart's shares of queues with tags: where a run opens, after a state's forms are changed, in its cases, and where an arrow leads.
-use Rattle.std.proofs.Common.{ℕ, zero, suc, ◌+◌, ◌-◌, ◌%◌, ◌^◌, ◌<◌, ◌≤◌, ◌≡◌, ◌≢◌, ◌==◌, ◌&&◌, inl, inr, not, true, false, Option, Some, List, []}
-use Rattle.std.proofs.Common.{◌∷◌, length, get_or, refl, sym, ◌∙◌, ap, subst, arith}
+use Rattle.std.proofs.Common.{ℕ, zero, suc, ◌+◌, ◌-◌, ◌*◌, ◌%◌, ◌^◌, ◌<◌, ◌≤◌, ◌≡◌, ◌≢◌, ◌==◌, ◌&&◌, ◌||◌, ◌⊎◌, inl, inr, not}
+use Rattle.std.proofs.Common.{true, false, Option, Some, List, [], ◌∷◌, length, get_or, refl, sym, ◌∙◌, ap, subst, arith}
 use Rattle.std.specs.Prelude.{map, nat_le, nat_lt}
-use Rattle.std.proofs.lemmas.Bool.{and_parts, eqb-true, eqb-false, leb-true, not-true}
+use Rattle.std.proofs.lemmas.Bool.{and_parts, or_cases, eqb-true, eqb-false, leb-true, not-true}
 use Rattle.std.proofs.lemmas.List.Elements.{All-nil}
 use Rattle.step_machine.specs.History.{OpeningValue}
 use Rattle.store_buffers.specs.StoreBuffers.{memory_number}
 use Rattle.queue_parties.specs.Parties.{Party, the_sender, the_receiver, other, QueueCounts, all_at, count, known}
-use Rattle.queue_parties.proofs.Parties.{Whose, mine, theirs, whose, two, harts-apart}
+use Rattle.queue_parties.proofs.Parties.{Whose, mine, theirs, whose, two, harts-apart, both-equal}
 use Rattle.certified_runs.specs.TwoParties.{AllCounts, IsSameFor}
 use Rattle.slot_queue.specs.Queues.{Queue}
-use Rattle.slots_that_tell.specs.Slots.{Slots, IsSlots, gap, RestsAt, KeepsOff, tag_of}
+use Rattle.slots_that_tell.specs.Slots.{Slots, IsSlots, AreSlots, AreApart, gap, RestsAt, KeepsOff, tag_of}
 use Rattle.slots_that_tell.specs.Telling.{teller_of, teller_hart, owned_end}
 use Rattle.slots_that_tell.proofs.Codecs.{zero_differs, numbered_differs, bits_differ}
 use Rattle.queue_certificates.specs.declared.own.OwnWord.{OwnWord}
@@ -20,7 +20,7 @@ use Rattle.queue_certificates.specs.States.{Share, no_share, KnownState, share_b
 use Rattle.queue_certificates.specs.Certificates.{QueueCertificate, tagged_at, tagged_start, SharesTold, opens_all_told, leads_to, arrow_leads}
 use Rattle.queue_certificates.specs.Cases.{at_most, beyond, range_changed, with_low, with_high}
 use Rattle.queue_certificates.specs.Certificates.{opens_told, opens_free}
-use Rattle.queue_certificates.specs.Tags.{party_in, is_codec, is_tagged, HasAtLeast, AreTold, covers_share, tags_lead}
+use Rattle.queue_certificates.specs.Tags.{party_in, are_slots, are_apart_from_slots, is_codec, is_tagged, HasAtLeast, AreTold, covers_share, tags_lead}
 use Rattle.queue_layouts.specs.Tagged.{slots_of, tells_by}
 use Rattle.queue_layouts.specs.declared.tagged.Codec.{Codec}
 use Rattle.queue_layouts.specs.declared.tagged.Codec.TheVariants as codec
@@ -36,15 +36,18 @@ pub record IsFine (q : TaggedQueue) : Type 0 where
   pub some : 1 ≤ q.size
   pub some_bytes : 1 ≤ q.tag_width
   pub small : q.tag_width ≤ 4
-  pub within : q.tag_offset + q.tag_width ≤ q.width
+  pub within : q.tag_offset + q.tag_width ≤ q.tag_stride
+  pub lie : AreSlots (slots_of q) ⊎ AreApart (slots_of q)
   pub codec : is_codec q q.codec ≡ true
 
 pub tagged-is : (q : TaggedQueue) → is_tagged q ≡ true → IsFine q
 tagged-is q ok =
+    let p6 = and_parts (not (q.sender == q.receiver) && nat_le 1 q.size && nat_le 1 q.tag_width && nat_le q.tag_width 4
+    && nat_le (q.tag_offset + q.tag_width) q.tag_stride && (are_slots q || are_apart_from_slots q)) (is_codec q q.codec) ok in
     let p5 = and_parts (not (q.sender == q.receiver) && nat_le 1 q.size && nat_le 1 q.tag_width && nat_le q.tag_width 4
-    && nat_le (q.tag_offset + q.tag_width) q.width) (is_codec q q.codec) ok in
+    && nat_le (q.tag_offset + q.tag_width) q.tag_stride) (are_slots q || are_apart_from_slots q) p6.0 in
     let p4 = and_parts (not (q.sender == q.receiver) && nat_le 1 q.size && nat_le 1 q.tag_width && nat_le q.tag_width 4)
-    (nat_le (q.tag_offset + q.tag_width) q.width) p5.0 in
+    (nat_le (q.tag_offset + q.tag_width) q.tag_stride) p5.0 in
     let p3 = and_parts (not (q.sender == q.receiver) && nat_le 1 q.size && nat_le 1 q.tag_width) (nat_le q.tag_width 4) p4.0 in
     let p2 = and_parts (not (q.sender == q.receiver) && nat_le 1 q.size) (nat_le 1 q.tag_width) p3.0 in
     let p1 = and_parts (not (q.sender == q.receiver)) (nat_le 1 q.size) p2.0 in record {
@@ -52,8 +55,15 @@ tagged-is q ok =
       some = leb-true 1 q.size p1.1;
       some_bytes = leb-true 1 q.tag_width p2.1;
       small = leb-true q.tag_width 4 p3.1;
-      within = leb-true (q.tag_offset + q.tag_width) q.width p4.1;
-      codec = p5.1;
+      within = leb-true (q.tag_offset + q.tag_width) q.tag_stride p4.1;
+      lie = elim (or_cases (are_slots q) (are_apart_from_slots q) p5.1) [
+        | inl same ↦ inl (both-equal q.tags q.slots q.tag_stride q.width same)
+        | inr apart ↦ inr (elim (or_cases (nat_le (q.slots + q.size * q.width) q.tags) (nat_le (q.tags + q.size * q.tag_stride) q.slots) apart) [
+          | inl after ↦ inl (leb-true (q.slots + q.size * q.width) q.tags after)
+          | inr before ↦ inr (leb-true (q.tags + q.size * q.tag_stride) q.slots before)
+        ])
+      ];
+      codec = p6.1;
     }
 
 pub tagged-fine : (q : TaggedQueue) → is_tagged q ≡ true → IsSlots (slots_of q)
@@ -62,6 +72,7 @@ tagged-fine q ok = let is = tagged-is q ok in record {
   some = is.some;
   some_bytes = is.some_bytes;
   tag_within = is.within;
+  tags_lie = is.lie;
   differ = by q.codec is.codec;
 }
   where

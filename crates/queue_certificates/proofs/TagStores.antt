@@ -15,6 +15,7 @@ use Rattle.queue_parties.specs.Parties.{Party, the_sender, other, count}
 use Rattle.slots_that_tell.specs.Slots.{IsSlots, tag_of, tagged_slot}
 use Rattle.slots_that_tell.specs.Telling.{MovesOn, MayStore, moved, teller_hart, told_access, TellsAccess, FillsOwned}
 use Rattle.slots_that_tell.proofs.Owned.{mine-of}
+use Rattle.slots_that_tell.proofs.Places.{moved-leaves, fills-leaves}
 use Rattle.queue_certificates.proofs.ToldAccesses.{moves}
 use Rattle.queue_certificates.specs.declared.own.OwnWord.{OwnWord}
 use Rattle.queue_certificates.specs.OwnedRuns.{View, AllCounts}
@@ -32,9 +33,9 @@ use Rattle.queue_certificates.specs.declared.effect.Effect.TheVariants.{Leaves, 
 use Rattle.queue_certificates.specs.Tags.{moved_tag, may_tell, may_store_all, hands_over, handed, all_handed}
 use Rattle.queue_layouts.specs.declared.tagged.TaggedQueue.{TaggedQueue}
 use Rattle.queue_certificates.proofs.Steps.{IsAmong}
-use Rattle.queue_certificates.proofs.TagPlaces.{IsTagAt, in-slot, tag-place, of-rest}
+use Rattle.queue_certificates.proofs.TagPlaces.{IsTagAt, tag-place, of-rest}
 use Rattle.queue_certificates.proofs.Accesses.{found-below, just-is}
-use Rattle.queue_certificates.proofs.Stores.{position-near}
+use Rattle.queue_certificates.proofs.Stores.{slot-place, position-near}
 use Rattle.queue_certificates.proofs.Effects.{IsSent, Sends, sent-sends}
 use Rattle.queue_certificates.proofs.TagValues.{store-tells}
 use Rattle.queue_certificates.proofs.TagCounts.{store-handed, beside-keeps, fills-same}
@@ -202,6 +203,13 @@ module _ (tagged : ℕ → TaggedQueue) (T : ℕ) (queues : ℕ → Queue) (N : 
                 (λ past. absurd (omega (arith, past, listed))) (given w-in.0),
           )
 
+  -- what the store makes of a party's count
+  pub store-counts : (t : ℕ) → t < T → (p : Party) → h ≡ teller_hart (slots_of (tagged t)) p → (c : Bool) → is_just move t ≡ c
+      → moved (slots_of (tagged t)) (count p (us t)) w ≡ (if c then count p (us t) + 1 else count p (us t))
+  store-counts t less p at true just = (hands t less p (party-is t less p at) just).once
+  store-counts t less p at false other = moved-leaves (slots_of (tagged t)) (is-slots t less) (count p (us t)) w
+      (fills-leaves (slots_of (tagged t)) (is-slots t less) p (us t) w (clear-fills t less p at (clear-at t less p (party-is t less p at) other)))
+
   -- of a queue of which the hart is the sender: what it publishes, and the bytes of a slot that it writes
   module _ (t : ℕ) (less : t < T) (at : h ≡ (tagged t).sender) where
     abbrev its : Share
@@ -228,7 +236,9 @@ module _ (tagged : ℕ → TaggedQueue) (T : ℕ) (queues : ℕ → Queue) (N : 
             → Sent m (if c then Fills (position_at (bare (tagged t)) its.own.constant f.constant) (offset_at (bare (tagged t)) f.constant) width else Leaves)
         by false is = same
         by true is =
-            let there = in-slot (tagged t) (is-slots t less) queues k.ranges xs ranges its (us t).published has-its.own f a at-pl (and_parts _ _ is).1 in (
+            let there = slot-place (bare (tagged t)) k.ranges xs ranges its.own f (us t).published
+            (position_at (bare (tagged t)) its.own.constant f.constant) (offset_at (bare (tagged t)) f.constant) a has-its.own at-pl
+            (and_parts _ _ is).1 in (
               same,
               position-near (bare (tagged t)) (is-slots t less).some its.own.constant f.constant,
               λ n from below. covers-yes (write a (store_width op) (stored op x))
@@ -238,9 +248,8 @@ module _ (tagged : ℕ → TaggedQueue) (T : ℕ) (queues : ℕ → Queue) (N : 
 
     by-move : (c : Bool) → is_just move t ≡ c → (m : ℕ) → m ≡ moved (slots_of (tagged t)) (us t).published w
         → Sent m (if c then Publishes 1 else filled_by k.ranges (bare (tagged t)) its place width)
-    by-move true just m is = is ∙ (hands t less the_sender party just).once
-    by-move false other m is = fills place at-place m (is ∙ ap (λ c. c.published) (fills-same (slots_of (tagged t)) (is-slots t less) the_sender (us t) w
-        (clear-fills t less the_sender at (clear-at t less the_sender party other))))
+    by-move true just m is = is ∙ store-counts t less the_sender at true just
+    by-move false other m is = fills place at-place m (is ∙ store-counts t less the_sender at false other)
 
     pub store-sends : (z : HartState) → Sends (tagged t).size (tagged_slot (slots_of (tagged t))) (us t).published
         (told_access (slots_of (tagged t)) (party_in (tagged t) h) (store w) (us t)).published (tag_effect_at tagged T N h t k place width) (store w) z

@@ -8,7 +8,7 @@ use Rattle.queue_parties.proofs.Parties.{known-set}
 use Rattle.queue_parties.proofs.Positions.{ahead, ahead-is}
 use Rattle.slots_that_tell.specs.Slots.{Slots, IsSlots, gap, tag_of, IsTagByte, is_tag, position_at, tagged_slot, KeepsOff}
 use Rattle.slots_that_tell.specs.Telling.{owned_end, told, learned, after_load, moved, MovesOn, FillsOwned}
-use Rattle.slots_that_tell.proofs.Places.{slot_at-tag, is_tag-tag, moved-tag, moved-leaves, off-leaves, fills-leaves}
+use Rattle.slots_that_tell.proofs.Places.{element_at-tag, is_tag-tag, moved-tag, moved-leaves, off-leaves, fills-leaves}
 use Rattle.queue_certificates.specs.ToldRuns.{OwnsAllButTags}
 
 module _ (q : Slots) (is : IsSlots q) (p : Party) (c : QueueCounts) where
@@ -21,7 +21,7 @@ module _ (q : Slots) (is : IsSlots q) (p : Party) (c : QueueCounts) where
   position_of_tag k from near =
       let t : ℕ = k - count p c in
       let sum : count p c + t ≡ k = omega (arith, from) in
-      ap (λ i. count p c + ahead q.size (count p c) i) (slot_at-tag q is k ∙ ap (λ j. j % q.size) (sym sum))
+      ap (λ i. count p c + ahead q.size (count p c) i) (element_at-tag q is k ∙ ap (λ j. j % q.size) (sym sum))
       ∙ ap (λ j. count p c + j) (ahead-is q.size (count p c) t (omega (arith, sum, near))) ∙ sum
 
   abbrev pub knows_of : ℕ → QueueCounts

@@ -57,8 +57,8 @@ are_slots q = (q.tags == q.slots) && (q.tag_stride == q.width)
 abbrev pub are_apart_from_slots : TaggedQueue → Bool
 are_apart_from_slots q = nat_le (q.slots + q.size * q.width) q.tags || nat_le (q.tags + q.size * q.tag_stride) q.slots
 
--- two harts, some slots, and for each a tag of at most a word, in it or beside all of them. Positions' numbers fill a word, and those of a free slot and of a full one
--- differ; bits are of the tag, and those of a free slot and of a full one differ
+-- two harts, some slots, and for each a tag of at most a word, in it or beside all of them. Positions' numbers fill a word, and those of a
+-- free slot and of a full one differ; bits are of the tag, and those of a free slot and of a full one differ
 abbrev pub is_codec : TaggedQueue → Codec → Bool
 is_codec q codec.Zero = true
 is_codec q codec.Number = (q.tag_width == 4) && not (q.size % 2 ^ 32 == 1)
