@@ -102,26 +102,40 @@ part_1 = record {
       ∷ listed 12 [] any any 0 (on 0) ∷ [];
 }
 
-abbrev certificate : KnownValue → QueueCertificate
-certificate sent = record { queues = []; tagged = record { queue = q; start = 0 } ∷ []; harts = part_0 sent ∷ part_1 ∷ [] }
+-- the slot is the word with the tag, or begins elsewhere
+abbrev certificate : (slots : ℕ) → KnownValue → QueueCertificate
+certificate slots sent = record {
+  queues = [];
+  tagged = record { queue = record q { slots = slots }; start = 0 } ∷ [];
+  harts = part_0 sent ∷ part_1 ∷ [];
+}
 
-tags_accepted : accepts text (certificate (linear (number 7))) ≡ true
+tags_accepted : accepts text (certificate 0 (linear (number 7))) ≡ true
 unfolding meaning told_by_store
 tags_accepted = refl
 
-senders_loads : accepts_rest text (certificate (linear (number 7))) 0 0 ≡ true
+senders_loads : accepts_rest text (certificate 0 (linear (number 7))) 0 0 ≡ true
 unfolding meaning told_by_store
 senders_loads = refl
 
-receivers_loads : accepts_rest text (certificate (linear (number 7))) 0 1 ≡ true
+receivers_loads : accepts_rest text (certificate 0 (linear (number 7))) 0 1 ≡ true
 unfolding meaning told_by_store
 receivers_loads = refl
 
 -- a word of which nothing is known may be 0, and so not tell the receiver
-any_word_refused : accepts text (certificate any) ≡ false
+any_word_refused : accepts text (certificate 0 any) ≡ false
 unfolding meaning told_by_store
 any_word_refused = refl
 
+-- the slot may lie after its tag, but not over a part of it
+slot_beside_accepted : accepts text (certificate 4 (linear (number 7))) ≡ true
+unfolding meaning told_by_store
+slot_beside_accepted = refl
+
+slot_over_tag_refused : accepts text (certificate 3 (linear (number 7))) ≡ false
+unfolding meaning told_by_store
+slot_over_tag_refused = refl
+
 -- so every run, with store buffers of any size, keeps the protocol
 pub one_slot_tells : (B M : ℕ) (es : List Entry) → WellFormed B M (history_of text es) → FollowsTelling B (slots_of q) (all_at 0) text [] es
-one_slot_tells B M es run = accepted_telling B M text (certificate (linear (number 7))) tags_accepted es run 0 (omega arith)
+one_slot_tells B M es run = accepted_telling B M text (certificate 0 (linear (number 7))) tags_accepted es run 0 (omega arith)
