@@ -8,8 +8,9 @@
 //! Of a queue's records a certificate may say fields: numbers of some bytes, from which a receiver's loads are then known. A queue's
 //! sender has to show that each is right where it publishes the record, and its receiver stores nothing to the slots.
 //!
-//! Beside queues with indices there may be queues with tags, whose slots tell whose they are (`slots_that_tell`). Where a party loads a
-//! tag the certificate goes on from two states: in one the tag tells the party that it has the slot, and in the other it doesn't.
+//! Beside queues with indices there may be queues with tags, in the slots or in an array of their own, which tell whose the slots are
+//! (`slots_that_tell`). Where a party loads a tag the certificate goes on from two states: in one the tag tells the party that it has the
+//! slot, and in the other it doesn't.
 //!
 //! Called by `queue_checker`, `certificate_reader`, `records_written` and `certifying`.
 
@@ -62,8 +63,8 @@ pub use own::OwnWord;
 ///   AMO, is of a tag or of a position that it owns.
 /// - `arrived`: where the receiver's are, such a byte that isn't of a tag waited at the opening, or is as the sender's hart read it just
 ///   after it stored its position's tag, unless the receiver has stored there since.
-/// - `told`: after a load of a whole tag that tells the receiver of position k, each byte of k's slot is so, those of the tag too; and
-///   the receiver still reads there what it loaded.
+/// - `told`: after a load of a whole tag that tells the receiver of position k, each byte of k's slot is so, those of a tag in it too;
+///   and the receiver still reads in the tag what it loaded.
 pub fn laws_of_queue_certificates()
     ensures every_run { (B M : ℕ) (o : OpeningValue) (c : QueueCertificate) → accepts o c ≡ true → (es : List Entry)
         → WellFormed B M (history_of o es) → (i : ℕ) → i < length c.queues → FollowsOwnership B (queue_at c i) (all_at (start_at c i)) o [] es }
