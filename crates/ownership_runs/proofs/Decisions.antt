@@ -1,6 +1,6 @@
 -- What is decided of an entry is what its queue's protocol asks, of one entry and of a run's.
-use Rattle.std.proofs.Common.{ℕ, ◌+◌, ◌*◌, ◌%◌, ◌^◌, ◌≤◌, ◌≡◌, ◌==◌, ◌||◌, ◌⊎◌, true, Option, Some, None, List}
-use Rattle.std.proofs.Common.{refl, sym, ap, ◌∙◌, subst}
+use Rattle.std.proofs.Common.{ℕ, ◌+◌, ◌-◌, ◌*◌, ◌/◌, ◌%◌, ◌^◌, ◌≤◌, ◌≡◌, ◌==◌, ◌||◌, ◌⊎◌, true, Option, Some, None, List}
+use Rattle.std.proofs.Common.{refl, sym, ap, ◌∙◌, subst, inl, inr}
 use Rattle.std.specs.Bool.{Decides}
 use Rattle.std.proofs.Math.Bool.{or-false}
 use Rattle.std.proofs.Math.Nat.{mod-mod}
@@ -14,7 +14,7 @@ use Rattle.queue_parties.specs.Parties.{Party, other, QueueCounts, count, KeepsE
 use Rattle.queue_parties.specs.Positions.{IsInBytes}
 use Rattle.slot_queue.specs.Queues.{IsOutside, index_word, least}
 use Rattle.slot_queue.specs.Ownership.{index, end, OwnsByte, MovesOn, KeepsAccess}
-use Rattle.slots_that_tell.specs.Slots.{Slots, gap, tag_of, slot_at, IsSlotByte, IsOutside as IsOffSlots}
+use Rattle.slots_that_tell.specs.Slots.{Slots, gap, tag_of, IsSlotByte, IsOutside as IsOffSlots}
 use Rattle.slots_that_tell.specs.Telling.{owned_end, OwnsRest, IsTagStore, MovesOn as HandsOn, TellsAccess}
 use Rattle.queue_layouts.specs.declared.AnyQueue.{AnyQueue}
 use Rattle.queue_layouts.specs.declared.AnyQueue.TheVariants.{Indexed, Tagged}
@@ -36,7 +36,9 @@ decides-outside (Indexed q) x = Decides-like _ (λ none. record { head = none.0.
     (λ (is : IsOutside q x). ((is.head, is.tail), is.slots))
     (Decides-and _ _ (Decides-and _ _ (Decides-not _ (decides-bytes q.head q.index_width x)) (Decides-not _ (decides-bytes q.tail q.index_width x)))
     (Decides-not _ (decides-bytes q.slots (q.size * q.width) x)))
-decides-outside (Tagged q) x = Decides-not _ (decides-bytes q.slots (q.size * q.width) x)
+decides-outside (Tagged q) x = Decides-like _ (λ none at. elim at [ inl slot ↦ none.0 slot | inr tag ↦ none.1 tag ])
+    (λ (is : IsOffSlots (slots_of q) x). (λ slot. is (inl slot), λ tag. is (inr tag)))
+    (Decides-and _ _ (Decides-not _ (decides-bytes q.slots (q.size * q.width) x)) (Decides-not _ (decides-bytes q.tags (q.size * q.tag_stride) x)))
 
 -- ---- the bytes that a party may fill
 
@@ -45,8 +47,8 @@ Owns (Indexed q) p c x = OwnsByte q p c x
 Owns (Tagged q) p c x = OwnsRest (slots_of q) p c x
 
 -- the tag of the slot that a byte lies in is that of each position there
-tag-there : (q : Slots) → 1 ≤ q.size → (k x : ℕ) → IsSlotByte q k x → tag_of q (slot_at q x) ≡ tag_of q k
-tag-there q some k x at = ap (λ (i : ℕ). q.slots + q.width * i + q.tag_offset)
+tag-there : (q : Slots) → 1 ≤ q.size → (k x : ℕ) → IsSlotByte q k x → tag_of q ((x - q.slots) / q.width) ≡ tag_of q k
+tag-there q some k x at = ap (λ (i : ℕ). q.tags + q.tag_stride * i + q.tag_offset)
     (ap (λ (i : ℕ). i % q.size) (slot-there q.slots q.width q.size some k x at) ∙ mod-mod k q.size)
 
 decides-owns : (q : AnyQueue) → HasSlot q → (p : Party) (c : QueueCounts) (x : ℕ) → Decides (is_to_fill q (owned_by q (Some p) c) x) (Owns q p c x)
@@ -58,7 +60,7 @@ decides-owns (Indexed q) some p c x = Decides-like _
     owned : Owned
     owned = record { from = count p c; end = end q p c }
 decides-owns (Tagged q) some p c x = Decides-like _ there back
-    (Decides-and _ _ (decides-owned q.slots q.width q.size some owned x) (Decides-not _ (decides-bytes (tag_of S (slot_at S x)) q.tag_width x)))
+    (Decides-and _ _ (decides-owned q.slots q.width q.size some owned x) (Decides-not _ (decides-bytes (tag_of S j) q.tag_width x)))
   where
     S : Slots
     S = slots_of q
@@ -66,10 +68,13 @@ decides-owns (Tagged q) some p c x = Decides-like _ there back
     owned : Owned
     owned = record { from = count p c; end = owned_end S p c }
 
+    j : ℕ
+    j = (x - q.slots) / q.width
+
     of_tag : ℕ → Type 0
     of_tag tag = IsInBytes tag q.tag_width x
 
-    there : IsByteOfOwned q.slots q.width q.size owned x × (of_tag (tag_of S (slot_at S x)) → ⊥) → OwnsRest S p c x
+    there : IsByteOfOwned q.slots q.width q.size owned x × (of_tag (tag_of S j) → ⊥) → OwnsRest S p c x
     there both = record {
       position = both.0.position;
       from = both.0.from;
@@ -78,7 +83,7 @@ decides-owns (Tagged q) some p c x = Decides-like _ there back
       no_tag = λ at. both.1 (subst of_tag (sym (tag-there S some both.0.position x both.0.byte)) at);
     }
 
-    back : OwnsRest S p c x → IsByteOfOwned q.slots q.width q.size owned x × (of_tag (tag_of S (slot_at S x)) → ⊥)
+    back : OwnsRest S p c x → IsByteOfOwned q.slots q.width q.size owned x × (of_tag (tag_of S j) → ⊥)
     back owns = (
       record { position = owns.position; from = owns.from; before = owns.before; byte = owns.byte },
       λ at. owns.no_tag (subst of_tag (tag-there S some owns.position x owns.byte) at),

@@ -15,7 +15,7 @@ use crate::violations::Owned;
 use memory::writes::Write;
 use queue_layouts::{AnyQueue, Party};
 
-/// Whether x is a byte of `size` slots of `width` bytes from an address on.
+/// Whether x is a byte of `size` slots, or other elements, of `width` bytes from an address on.
 fn is_in_slots(slots: u32, size: u32, width: u32, x: u64) -> bool
     ensures { result ≡ is_in_bytes slots (size * width) x }
 {
@@ -34,7 +34,10 @@ fn is_outside(queue: &AnyQueue, x: u64) -> bool
                 && !is_in_bytes(u128::from(queue.tail), index_width, x)
                 && !is_in_slots(queue.slots, queue.size, queue.width, x)
         }
-        AnyQueue::Tagged(queue) => !is_in_slots(queue.slots, queue.size, queue.width, x),
+        AnyQueue::Tagged(queue) => {
+            !is_in_slots(queue.slots, queue.size, queue.width, x)
+                && !is_in_slots(queue.tags, queue.size, queue.tag_stride, x)
+        }
     }
 }
 

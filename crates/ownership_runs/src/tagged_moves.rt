@@ -2,7 +2,7 @@
 
 ghost use Rattle.std.specs.Prelude.{◌≡◌, ◌≤◌, ◌<◌, ◌+◌, ◌-◌, ◌%◌, ◌^◌, ◌==◌, ℕ};
 ghost use Rattle.queue_parties.specs.Parties.{other};
-ghost use Rattle.slots_that_tell.specs.Slots.{gap, tag_of, slot_at, is_tag};
+ghost use Rattle.slots_that_tell.specs.Slots.{gap, tag_of, element_at, is_tag};
 ghost use Rattle.slots_that_tell.specs.Telling.{owned_end, told, after_load, after_store};
 ghost use Rattle.queue_layouts.specs.Tagged.{tells_by, slots_of};
 ghost use Rattle.ownership_runs.specs.Keeping.{is_tag_byte, is_tag_store, hands_on};
@@ -63,36 +63,38 @@ fn tells(codec: Codec, party: Party, position: u128, value: u32) -> bool
 fn is_tag_of(queue: &TaggedQueue, n: u128, address: u32) -> bool
     ensures { result ≡ (address == tag_of (slots_of queue.now) n) }
 {
-    let first = u128::from(queue.slots) + u128::from(queue.tag_offset);
+    let first = u128::from(queue.tags) + u128::from(queue.tag_offset);
     // a remainder is as large as a position where the queue has no slot, so that the product may be too large for any address
-    let tag = u128::from(queue.width)
+    let tag = u128::from(queue.tag_stride)
         .checked_mul(remainder(n, u128::from(queue.size)))
         .and_then(|far| far.checked_add(first));
     tag == Some(u128::from(address))
 }
 
-/// The number of the slot in which an address lies.
-fn slot_at(queue: &TaggedQueue, x: u64) -> u128
-    ensures value { result ≡ slot_at (slots_of queue.now) x }
+/// The number of the element in which an address lies.
+fn element_at(queue: &TaggedQueue, x: u64) -> u128
+    ensures value { result ≡ element_at (slots_of queue.now) x }
     ensures small { result ≤ x }
 {
-    let place = x.saturating_sub(u64::from(queue.slots));
-    quotient(u128::from(place), u128::from(queue.width))
+    let place = x.saturating_sub(u64::from(queue.tags));
+    quotient(u128::from(place), u128::from(queue.tag_stride))
 }
 
 /// Whether a whole tag lies at an address.
 fn is_tag(queue: &TaggedQueue, address: u32, width: u32) -> bool
     ensures { result ≡ is_tag (slots_of queue.now) address width }
 {
-    is_tag_of(queue, slot_at(queue, u64::from(address)), address) && width == queue.tag_width
+    is_tag_of(queue, element_at(queue, u64::from(address)), address) && width == queue.tag_width
 }
 
 /// Whether x is a byte of the tag of its slot.
 pub(crate) fn is_tag_byte(queue: &TaggedQueue, x: u64) -> bool
     ensures { result ≡ is_tag_byte (slots_of queue.now) x }
 {
-    let slot = remainder(slot_at(queue, x), u128::from(queue.size));
-    let first = u128::from(queue.slots) + u128::from(queue.width) * slot;
+    let place = x.saturating_sub(u64::from(queue.slots));
+    let number = quotient(u128::from(place), u128::from(queue.width));
+    let slot = remainder(number, u128::from(queue.size));
+    let first = u128::from(queue.tags) + u128::from(queue.tag_stride) * slot;
     is_in_bytes(
         first + u128::from(queue.tag_offset),
         u64::from(queue.tag_width),
@@ -124,8 +126,8 @@ pub(crate) fn after_load(
     if !is_tag(queue, address, width) {
         return counts;
     }
-    let slot = slot_at(queue, u64::from(address));
-    let position = position_from(queue.size, count(party, counts), slot);
+    let element = element_at(queue, u64::from(address));
+    let position = position_from(queue.size, count(party, counts), element);
     if tells(queue.codec, party, position, value) {
         let knows = known(party, counts);
         let more = told(queue, party, position).saturating_sub(knows);

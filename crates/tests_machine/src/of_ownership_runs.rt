@@ -36,9 +36,19 @@ const NUMBERED: TaggedQueue = TaggedQueue {
     slots: 128,
     size: 4,
     width: 8,
+    tags: 128,
+    tag_stride: 8,
     tag_offset: 0,
     tag_width: 4,
     codec: Codec::Number,
+};
+
+/// The tags lie in an array after the slots, each in the second word of an element of three.
+const TAGS_APART: TaggedQueue = TaggedQueue {
+    tags: 192,
+    tag_stride: 12,
+    tag_offset: 4,
+    ..NUMBERED
 };
 
 fn counts(published: u64, taken: u64) -> Counts {
@@ -155,6 +165,55 @@ fn slots_with_tags_are_stored_to_by_whom_they_tell(rt: HostRuntime) {
         (
             [store(0, 128, 1), amo(1, 128, 1, 1)],
             violation(1, 1, 128, 1, Some((0, 1)), false),
+        ),
+    ];
+    for (entries, wanted) in rows {
+        assert_same!(rt; first_violation(&queue, counts(0, 0), &entries) == Some(wanted), true);
+    }
+}
+
+#[test]
+fn slots_whose_tags_lie_apart_are_filled_whole(rt: HostRuntime) {
+    let queue = AnyQueue::Tagged(TAGS_APART);
+    let sent_and_taken = [
+        store(0, 128, 7),
+        store(0, 132, 8),
+        store(0, 196, 1),
+        load(1, 196, 1),
+        stored(1, 135, 1, 9),
+        store(1, 196, 4),
+        load(0, 196, 4),
+        store(0, 136, 7),
+        store(0, 208, 2),
+        store(2, 188, 1),
+        store(2, 240, 1),
+    ];
+    assert_same!(rt; first_violation(&queue, counts(0, 0), &sent_and_taken) == None, true);
+    // the receiver hasn't looked at the tag, which a load of the slot doesn't show either; the rest of an element is no one's
+    let rows = [
+        (
+            [store(0, 196, 1), store(1, 128, 9)],
+            violation(1, 1, 128, 9, Some((0, 0)), true),
+        ),
+        (
+            [load(1, 128, 1), store(1, 196, 4)],
+            violation(1, 1, 196, 4, Some((0, 0)), true),
+        ),
+        (
+            [store(0, 196, 1), store(0, 128, 7)],
+            violation(1, 0, 128, 7, Some((1, 4)), true),
+        ),
+        (
+            [store(0, 208, 2), store(0, 196, 1)],
+            violation(0, 0, 208, 2, Some((0, 4)), false),
+        ),
+        (
+            [store(0, 128, 7), store(0, 192, 1)],
+            violation(1, 0, 192, 1, Some((0, 4)), false),
+        ),
+        (
+            [store(2, 240, 1), store(2, 236, 1)],
+            violation(1, 2, 236, 1, None, false),
         ),
     ];
     for (entries, wanted) in rows {
