@@ -2,9 +2,10 @@
 //! that each instruction keeps there: whatever the protocol counts, and for store buffers of any size.
 //!
 //! A set may speak of the hart's registers, of the bytes that only this hart writes, and of what the hart knows of the protocol's
-//! counts. The contract is that of [`laws_of_certified_runs`], for sets alone, given by tests. No contract can speak of all sets or
-//! protocols: `proofs/Every.antt` does, and `proofs/TwoParties.antt` of queues between two harts. There are no calls. This crate runs
-//! nothing.
+//! counts. The contract is that of [`laws_of_certified_runs`], of sets that functions to `Bool` decide, and of no protocol: no contract
+//! can speak of all sets or protocols. Crates above use the general form by its proof, `every_run` of `proofs/Every.antt`, and of
+//! `proofs/TwoParties.antt` for queues between two harts. What that says of a certificate is the clause `every_run` of
+//! `queue_certificates`. There are no calls. This crate runs nothing.
 //!
 //! Called by none, and cited by more than 6 crates, from `queue_certificates` to `certifying`.
 
@@ -22,7 +23,7 @@ ghost use Rattle.store_buffers.specs.StoreBuffers.{IsOnlyWriter};
 ghost use Rattle.certified_runs.specs.Views.{View, view_of, view_then};
 ghost use Rattle.certified_runs.specs.Certified.{no_protocol, IsCertified};
 
-/// Of sets that a test decides. It does nothing.
+/// Of sets that functions to `Bool` decide. It does nothing.
 ///
 /// - `own_act`: after an act of its own a hart reads what it wrote, and elsewhere what it read before.
 /// - `in_states`: in every run of the text, of any length, each hart's state and what it reads are in its set.
