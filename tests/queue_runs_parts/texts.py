@@ -137,7 +137,7 @@ def unjudged(test, words_of_queues):
     """The text with its queues alone, of which nothing is shown."""
     queues = [described(test, *each) for each in words_of_queues]
     indices = tuple(certificates.OpenedQueue(certificates.Queue(*queue[:13]), queue.start) for queue in queues if not queue.has_tags)
-    tagged = tuple(tags.OpenedTagged(tags.TaggedQueue(*queue[:8]), queue.start) for queue in queues if queue.has_tags)
+    tagged = tuple(tags.OpenedTagged(tags.TaggedQueue(*queue[:10]), queue.start) for queue in queues if queue.has_tags)
     return Accepted(test, opening_of(test), certificates.QueueCertificate(indices, tagged, ()), frozenset())
 
 

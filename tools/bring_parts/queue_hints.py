@@ -132,8 +132,9 @@ def or_described_wrong(number, queue):
     slots = f"{counted(queue.size, 'slot')} of {counted(queue.width, 'byte')}"
     if queue.has_tags:
         told = {"zero": "0 where it is free", "number": "the position's number where it is free"}.get(queue.tells, "the bits of a free slot where it is free")
-        form = f"{slots} with the tag in bytes {queue.tag_offset}-{queue.tag_offset + queue.tag_width - 1} of each, {told}"
-        keys = "size=, width=, tag=, tells=, sender= and receiver="
+        of_each = f"element of {counted(queue.tag_stride, 'byte')} from {queue.tags} on" if queue.has_tags_apart() else ""
+        form = f"{slots} with the tag in bytes {queue.tag_offset}-{queue.tag_offset + queue.tag_width - 1} of each{' ' * bool(of_each)}{of_each}, {told}"
+        keys = f"size=, width=, tag=, {'tags=, tag_stride=, ' * bool(of_each)}tells=, sender= and receiver="
     else:
         form = f"{slots} with indices of {counted(queue.index_width, 'byte')} {counting(queue)}"
         keys = (f"size=, width=, bytes=, index={'counting' if queue.modulus == queue.size else 'wrapping'}, whether head= and tail= are exchanged, and "

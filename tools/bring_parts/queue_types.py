@@ -49,6 +49,12 @@ class Types:
         found = [self.array(each) for each in sorted(names, key=lambda each: (each != name, len(each)))]
         return [each for each in found if each and each.at == at]
 
+    def arrays_with(self, place):
+        """The arrays of whose first elements a place is a part, or that begin there: the inner ones first."""
+        name = self.words.shorter(place)
+        outer = [self.array(name[:shape.start()]) for shape in reversed([*re.finditer(r"\[0\]", name)])]
+        return [*filter(None, outer), *(each for each in self.arrays_at(place) if each not in outer)]
+
     def array(self, name):
         """The array of this name, or None where one element doesn't tell its size, or there are too many parts to know them all."""
         of_object = re.match(r"[^.\[]*", name)[0]
@@ -189,6 +195,7 @@ def completed(kind, text, types):
     said = {name: int(given[name]) if given.get(name, "").isdigit() else None for name in ("size", "width", "bytes")}
     given |= of_slots(given, said, types)
     if kind == "--tagged":
+        given |= of_elements(given, types)
         given |= of_tag(given, types)
     elif {"head", "tail"} <= given.keys():
         given |= of_indices(given, said["bytes"], types)
@@ -231,10 +238,27 @@ def of_indices(given, said, types):
     return {"bytes": str(width) for width in known if "bytes" not in given}
 
 
+def of_elements(given, types):
+    """What the array of a tag that is named beside slot 0 says of tags= and tag_stride=."""
+    name = given.get("tag", "0").partition("+")[0]
+    if name.isdigit() or "tags" in given or not name or not given.get("width", "").isdigit():
+        return {}
+    begin, at, width = types.words.address(given["slots"]), types.words.address(name), int(given["width"])
+    if begin <= at < begin + width:
+        return {}
+    found = [array for array in types.arrays_with(name) if array.at <= at < array.at + array.step]
+    array = next((each for each in found if str(each.count) == given.get("size")), next(iter(found), None))
+    if not array or "tag_stride" in given:
+        return {}
+    if given.get("size", "").isdigit() and array.count < int(given["size"]):
+        raise Refused(f"{array.name} has {counted(array.count, 'element')}, and each of {counted(int(given['size']), 'slot')} needs a tag")
+    return {"tags": array.name, "tag_stride": str(array.step)}
+
+
 def of_tag(given, types):
     """What the type of the tag says of its bytes."""
     name, plus, count = given.get("tag", "0").partition("+")
-    width = types.bytes_of(str(types.words.address(given["slots"]) + int(name)) if name.isdigit() else name)
+    width = types.bytes_of(str(types.words.address(given.get("tags", given["slots"])) + int(name)) if name.isdigit() else name)
     if not width or plus and not count.isdigit():
         return {}
     of = f"the tag {'at ' * name.isdigit()}{name} has {counted(width, 'byte')}"

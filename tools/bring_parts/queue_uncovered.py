@@ -71,7 +71,8 @@ class Accesses:
         for queue in self.queues:
             if name != "store" and queue.meets_slots(place, 1):
                 self.slots[hart].add(at)
-                if queue.has_tags and 0 <= (place - queue.slots) % queue.width - queue.tag_offset < queue.tag_width:
+            if name != "store" and queue.has_tags and queue.meets_tags(place, 1):
+                if 0 <= (place - queue.tags) % queue.tag_stride - queue.tag_offset < queue.tag_width:
                     self.tags[hart].add(at)
             if name != "load" and not queue.has_tags and place in (queue.head, queue.tail):
                 self.indices[hart].add(at)

@@ -10,6 +10,7 @@ ACCESS = re.compile(r"(queue [0-9]+: (?:stored to|loaded from) by hart ([0-9]+))
 STORED = re.compile(r"(queue [0-9]+: it stored [0-9]+ to )the ([0-9]+) bytes at ([0-9]+)(.*)")
 INDICES = re.compile(r"(queue [0-9]+: its head is )the ([0-9]+) bytes at ([0-9]+), its tail those at ([0-9]+)")
 SLOTS = re.compile(r"(queue [0-9]+: it has )([0-9]+) slots of ([0-9]+) bytes from ([0-9]+) on(.*)")
+ELEMENT = re.compile(r"(queue [0-9]+: its tag is .* of each element of 1 byte)s( from [0-9]+ on, .*)")
 FIELD = re.compile(r"(queue [0-9]+: the )1 bytes (from [0-9]+ on of each record) are (.*)")
 # what is promised, and where nothing is
 PROMISED = re.compile(r"(?:not )?promised: |nothing is claimed$")
@@ -57,6 +58,8 @@ def worded(line, name_of):
         return f"{shape[1]}{bytes_at(width, head)}, its tail {'that' if width == 1 else 'those'} at {tail}"
     if shape := SLOTS.fullmatch(line):
         return f"{shape[1]}{counted_slots(int(shape[2]), int(shape[3]))} from {shape[4]} on{shape[5]}"
+    if shape := ELEMENT.fullmatch(line):
+        return f"{shape[1]}{shape[2]}"
     if shape := FIELD.fullmatch(line):
         return f"{shape[1]}byte {shape[2]} is {shape[3]}"
     return line

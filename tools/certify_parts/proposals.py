@@ -139,6 +139,23 @@ def telling(seen, sender, receiver, both, begin, size, width):
     return keys | ({} if freed == {0} else {"tells": tags.NUMBER})
 
 
+def telling_beside(seen, sender, receiver, tags_at, arrays):
+    """The keys of a description of slots that the sender alone stores, beside an array of as many tags, which both do; or None."""
+    begin, number, stride = tags_at
+    stored = seen.stored_by_both(sender, receiver, range(begin, begin + number * stride))
+    found = [(slots, size, width) for slots, size, width in arrays
+             if size <= number and max(stored) < begin + size * stride and not seen.stored_by_both(sender, receiver, range(slots, slots + size * width))]
+    keys = telling(seen, sender, receiver, stored, begin, number, stride) if len(found) == 1 else None
+    if not keys:
+        return None
+    (slots, size, width), (offset, count) = found[0], tags.tag_given(keys.get("tag", "0"), stride)
+    keys |= {"slots": slots, "size": size, "width": width, "tags": begin, "tag": f"{offset}+{count}"}
+    keys |= {"tag_stride": stride} if stride != offset + count else {}
+    told = [{value for each in stored for value in seen.places[each].of_storer(hart)} for hart in (receiver, sender)]
+    # of a tag that is one of two numbers all bits tell
+    return keys | ({"tells": f"bit:{256 ** count - 1}:{min(told[0])}:{min(told[1])}"} if list(map(len, told)) == [1, 1] and told[0] != told[1] else {})
+
+
 def proposals(test, names):
     """For each queue that may be there the option that describes it, and its keys, whose places are numbers. A place is one queue's. Of a word
     that has a name in the text it is in `names`, by its address."""
@@ -146,17 +163,19 @@ def proposals(test, names):
     for sender, receiver in permutations(range(len(test.codes)), 2):
         parties = {"sender": sender, "receiver": receiver}
         heads, tails = list(seen.indices(sender, receiver)), list(seen.indices(receiver, sender))
-        for begin, size, width in seen.arrays(sender, receiver):
+        arrays = list(seen.arrays(sender, receiver))
+        for begin, size, width in arrays:
             if both := seen.stored_by_both(sender, receiver, range(begin, begin + size * width)):
-                if keys := telling(seen, sender, receiver, both, begin, size, width):
-                    found.append((0, "--tagged", keys | parties))
+                beside = telling_beside(seen, sender, receiver, (begin, size, width), arrays)
+                if keys := beside or telling(seen, sender, receiver, both, begin, size, width):
+                    found.append((-bool(beside), "--tagged", keys | parties))
                 continue
             for head, tail in product(heads, tails):
                 if keys := counting(head, tail, begin, size, width):
                     found.append((abs(head.place - begin) + abs(tail.place - begin), "--queue", keys | parties))
     taken = set()
     for _, kind, keys in sorted(found, key=lambda each: each[0]):
-        places = {keys[name] for name in ("head", "tail", "slots") if name in keys}
+        places = {keys[name] for name in ("head", "tail", "slots", "tags") if name in keys}
         if not places & taken:
             taken |= places
             yield kind, {key: value for key, value in keys.items() if value != queues.NUMBERS.get(key)}

@@ -138,9 +138,10 @@ class Program(Values):
             self.split_for(lambda ranges: numbers_of(value, ranges), (value,), state)
         return found or (0, SIZE - 1)
 
-    def positions(self, which, value, width, state):
-        """How many positions past the own count an access of slots is of, and where in the slot it begins; or None."""
+    def positions(self, which, value, width, state, is_of_tags=False):
+        """How many positions past the own count an access of slots, or of elements with tags, is of, and where in it it begins; or None."""
         queue, own, share, known = self.asked[which], variable_of("n", which), state.shares[which], self.known(value, state)
+        queue = tags.reference.elements(queue) if is_of_tags else queue
         if known is not None and share.first == share.last and share.begin == share.end:
             first, offset = share.first + share.begin * self.queues[which].period(), reference.offset_at(queue, known)
             return (reference.position_at(queue, first, known), offset) if offset + width <= queue.width else None
@@ -152,7 +153,7 @@ class Program(Values):
             there = reference.remainder(most, reference.plus(count, reference.number(at)), queue.size)
             return (at, offset) if offset + width <= queue.width and reference.is_slot(most, queue, place, offset, there) else None
 
-        found = self.once((which, value, width), (value, own), found)
+        found = self.once((which, value, width, is_of_tags), (value, own), found)
         at = found(self.ranges(state))
         if at is None:
             position = self.position(which) if self.queues[which].period() < queue.size else variable_of("p", which)
@@ -346,12 +347,13 @@ class Program(Values):
             if isinstance(found, reference.Linear):
                 word = (found.form.constant - queue.base) % 256 ** queue.index_width
                 by = (word // queue.scale - queue.offset - count.constant) % queue.modulus
-            elif isinstance(found, reference.IndexFor):
+            elif isinstance(found, (reference.IndexFor, reference.SignedFor)):
                 by = (found.form.constant - count.constant) % queue.modulus
             else:
                 return None
             then = reference.plus(count, reference.number(by))
-            is_word = reference.is_within(self.indexed, most, found, reference.IndexFor(which, then)) or reference.is_cut(queue, found, then)
+            is_word = reference.is_within(self.indexed, most, reference.without_sign(which, found), reference.IndexFor(which, then)) \
+                or reference.is_cut(queue, found, then)
             return by if is_word else None
 
         found = step(self.ranges(state))
@@ -472,9 +474,9 @@ class Program(Values):
         return self.put(state._replace(words=words), to, old, move=move)
 
     def may_be_tag(self, value, state):
-        """Whether a word there may be of the slots of a queue with tags of which the hart is a party."""
+        """Whether a word there may be of the slots, or the tags, of a queue with tags of which the hart is a party."""
         low, high = self.limits(value, state)
-        return any(queue.meets_slots(low, high - low + 4) for _, queue, _ in self.tagged)
+        return any(queue.meets(low, high - low + 4) for _, queue, _ in self.tagged)
 
     def place_of_exchange(self, value, state):
         place = self.place(value, state)

@@ -14,25 +14,28 @@ from .queues import Wrong, numbers_given
 from .values import FEW_TRIED
 
 PARTIES = certificates.SENDER, certificates.RECEIVER
+BITS = "bits"
 
 
 class BitsTell(reference.Bits):
     """The tag's bits under a mask are these in a free slot and in a full one."""
 
     def __str__(self):
-        return f"bits {self.mask} {self.free} {self.full}"
+        return f"{BITS} {self.mask} {self.free} {self.full}"
 
 
 class Tagged(NamedTuple):
-    """Of each slot the `tag_width` bytes from `tag_offset` on tell whose it is: with `zero` it is free if they are 0 and full otherwise, with
-    `number` it is free for position k if they are k, and full of it if they are k + 1, else some bits of them tell. Position k lies in slot
-    k mod `size`."""
+    """For each slot there is an element of `tag_stride` bytes, itself or one of an array from `tags` on, of which the `tag_width` bytes from `tag_offset`
+    on tell whose the slot is: with `zero` it is free if they are 0 and full otherwise, with `number` it is free for position k if they are k, and
+    full of it if they are k + 1, else some bits of them tell. Position k lies in slot k mod `size`."""
 
     sender: int
     receiver: int
     slots: int
     size: int
     width: int
+    tags: int
+    tag_stride: int
     tag_offset: int
     tag_width: int
     tells: object  # ZERO, NUMBER or BitsTell
@@ -55,17 +58,25 @@ class Tagged(NamedTuple):
     def first_owned(self, party):
         return 0 if party else self.size
 
+    def has_tags_apart(self):
+        """Whether tags lie beside the slots, in elements of their own."""
+        return (self.tags, self.tag_stride) != (self.slots, self.width)
+
     def meets(self, place, width):
-        return self.meets_slots(place, width)
+        return self.meets_slots(place, width) or self.meets_tags(place, width)
 
     def meets_slots(self, place, width):
         return place < self.slots + self.size * self.width and self.slots < place + width
 
+    def meets_tags(self, place, width):
+        """Whether an access of these bytes touches a byte of an element with a tag."""
+        return place < self.tags + self.size * self.tag_stride and self.tags < place + width
+
     def parts(self):
-        return (("slots", self.slots, self.size * self.width),)
+        return (("slots", self.slots, self.size * self.width), *[("tags", self.tags, self.size * self.tag_stride)] * self.has_tags_apart())
 
     def text(self):
-        return " ".join(map(str, ("tagged", *self)))
+        return " ".join(map(str, ("tagged", *self[:5], *self[7:], *(self[5:7] if self.has_tags_apart() else ()))))
 
     def asked(self):
         """The queue as the second implementation has it."""
@@ -73,7 +84,7 @@ class Tagged(NamedTuple):
 
     def tag(self, position):
         """Where the tag of a position lies."""
-        return self.slots + position % self.size * self.width + self.tag_offset
+        return self.tags + position % self.size * self.tag_stride + self.tag_offset
 
     def free(self, position):
         """The tag of a slot that is free for a position, or the bits of it that tell."""
@@ -106,17 +117,17 @@ class Tagged(NamedTuple):
 
 def of_words(words):
     """The queue of a certificate's line, after its first word."""
-    *numbers, tells = words[:8]
-    bits = words[8:-1]
-    return Tagged(*map(int, numbers), BitsTell(*map(int, bits)) if bits else tells, int(words[-1]))
+    tells, at = words[7], 11 if words[7] == BITS else 8
+    elements = words[at + 1:] or (words[2], words[4])
+    return Tagged(*map(int, (*words[:5], *elements, *words[5:7])), BitsTell(*map(int, words[8:at])) if tells == BITS else tells, int(words[at]))
 
 
-NUMBERS = {"size": None, "width": WORD, "start": 0, "sender": 0, "receiver": 1}
-KEYS = ("slots", "tag", "tells", *NUMBERS)
+NUMBERS = {"size": None, "width": WORD, "tag_stride": None, "start": 0, "sender": 0, "receiver": 1}
+KEYS = ("slots", "tag", "tags", "tells", *NUMBERS)
 
 
 def tag_given(text, width):
-    """Where in a slot a tag begins, and its bytes."""
+    """Where in a slot, or in an element of this many bytes, a tag begins, and its bytes."""
     offset, plus, count = text.partition("+")
     if not offset.isdigit() or plus and not count.isdigit():
         raise Wrong(f"tag is where in its slot a tag begins, as 4 or as the name of the first slot's, or that and its bytes, as 4+1, and not {text}")
@@ -154,14 +165,19 @@ def described(places, given, test):
         raise Wrong(f"a queue whose slots tell needs {missing[0]}=")
     numbers = numbers_given(given, KEYS, NUMBERS, ("tag", "tells"), "a queue whose slots tell")
     size, width, start = numbers["size"], numbers["width"], numbers["start"]
-    for name in ("size", "width"):
-        if numbers[name] < 1:
+    for name in ("size", "width", "tag_stride"):
+        if numbers.get(name, 1) < 1:
             raise Wrong(f"{name} is {numbers[name]}, and must be at least 1")
-    offset, count = tag_given(given.get("tag", "0"), width)
+    are_slots = "tags" not in places
+    if are_slots and "tag_stride" in numbers:
+        raise Wrong("tag_stride is the bytes of an element of an array of tags beside the slots: say where that begins, as tags=PLACE")
+    offset, count = tag_given(given.get("tag", "0"), width if are_slots else numbers.get("tag_stride", WORD))
+    stride = width if are_slots else numbers.get("tag_stride", offset + count)
     if not 1 <= count <= WORD:
         raise Wrong(f"a tag has 1 to {WORD} bytes, and not {count}")
-    if offset + count > width:
-        raise Wrong(f"the tag's {count} bytes from {offset} on reach past a slot of {width}: width is the bytes of a slot")
+    if offset + count > stride:
+        past = f"a slot of {width}: width is the bytes of a slot" if are_slots else f"an element of {stride}: tag_stride is the bytes of an element with a tag"
+        raise Wrong(f"the tag's {count} bytes from {offset} on reach past {past}")
     tells = tells_given(given.get("tells", ZERO), count)
     if tells == NUMBER and count != WORD:
         raise Wrong(f"with tells=number a tag has {WORD} bytes, and not {count}")
@@ -171,11 +187,18 @@ def described(places, given, test):
         raise Wrong(f"start is below {SIZE}")
     if numbers["sender"] == numbers["receiver"]:
         raise Wrong("the sender and the receiver are two harts")
-    queue = Tagged(numbers["sender"], numbers["receiver"], places["slots"], size, width, offset, count, tells, start)
+    queue = Tagged(numbers["sender"], numbers["receiver"], places["slots"], size, width, places.get("tags", places["slots"]), stride, offset, count, tells,
+                   start)
     last = test.end()
     if queue.slots + size * width > last:
         raise Wrong(f"{size} slots of {width} bytes from {queue.slots} on end past the text's words, which end at {last}: size is the number of slots,"
                     " and width the bytes of one")
+    if queue.tags + size * stride > last:
+        raise Wrong(f"{size} elements of {stride} bytes with the tags from {queue.tags} on end past the text's words, which end at {last}: size is the "
+                    "number of slots, and tag_stride the bytes of an element")
+    if queue.has_tags_apart() and queue.meets_slots(queue.tags, size * stride):
+        raise Wrong(f"the {size} elements of {stride} bytes with the tags from {queue.tags} on overlap the slots from {queue.slots} on: a tag is a part of the "
+                    "first slot, or of an array beside all of them")
     if max(queue.sender, queue.receiver) >= len(test.harts):
         raise Wrong(f"the text has {len(test.harts)} harts")
     return queue.opened(test, "start" in given)
@@ -189,13 +212,20 @@ def place_in(program, which, state, place, width):
     return program.positions(which, place, width, state) if queue.slots <= low and high + width <= queue.slots + queue.size * queue.width else None
 
 
+def tag_in(program, which, state, place, width):
+    """The same of an access of elements with tags."""
+    queue, (low, high) = program.queues[which], program.limits(place, state)
+    is_within = queue.tags <= low and high + width <= queue.tags + queue.size * queue.tag_stride
+    return program.positions(which, place, width, state, queue.has_tags_apart()) if is_within else None
+
+
 def looked(program, state, place, width):
     """The queue, and the position from the own count on, of which a load reads the whole tag; or None."""
     low, high = program.limits(place, state)
     seen = None
     for which, queue, _ in program.tagged:
-        if width == queue.tag_width and queue.meets_slots(low, high - low + width):
-            found = place_in(program, which, state, place, width)
+        if width == queue.tag_width and queue.meets_tags(low, high - low + width):
+            found = tag_in(program, which, state, place, width)
             if found is not None and found[1] == queue.tag_offset:
                 seen = which, found[0]
     return seen
@@ -204,7 +234,10 @@ def looked(program, state, place, width):
 def read_rest(program, which, state, place, width):
     """Takes down a load of slots that isn't shown to be of a tag or of an owned slot."""
     queue, found = program.queues[which], place_in(program, which, state, place, width)
-    if found is not None and (found[0] < state.shares[which].low or queue.tag_offset <= found[1] and found[1] + width <= queue.tag_offset + queue.tag_width):
+    if found is not None and found[0] < state.shares[which].low:
+        return
+    found = tag_in(program, which, state, place, width)
+    if found is not None and queue.tag_offset <= found[1] and found[1] + width <= queue.tag_offset + queue.tag_width:
         return
     program.see_unowned(which, state.pc)
 
@@ -230,11 +263,12 @@ def left(found):
 
 def stored(program, which, state, place, width, value):
     """By how much a store that may be of slots moves the own count of which queue, or None."""
-    queue, share, found = program.queues[which], state.shares[which], place_in(program, which, state, place, width)
+    queue, share, tag = program.queues[which], state.shares[which], tag_in(program, which, state, place, width)
+    found = tag or place_in(program, which, state, place, width)
     if found is None:
         program.refuse(state.pc, "a store that may be to slots, or to a tag, of which slot isn't known")
     position, offset = found
-    if (offset, width) == (queue.tag_offset, queue.tag_width):
+    if tag and (offset, width) == (queue.tag_offset, queue.tag_width):
         if position:
             program.refuse(state.pc, f"a store to the tag of another position than its own, which is {position} before it")
         if not share.low:
@@ -242,7 +276,7 @@ def stored(program, which, state, place, width, value):
         program.hands_over(state, queue)
         check_handed(program, which, state, value)
         return which, 1
-    if offset < queue.tag_offset + queue.tag_width and queue.tag_offset < offset + width:
+    if tag and (queue.has_tags_apart() or offset < queue.tag_offset + queue.tag_width and queue.tag_offset < offset + width):
         program.refuse(state.pc, "a store to a part of a tag, or to a tag and what lies beside it")
     if position >= share.low:
         program.refuse(state.pc, program.not_owned(queue, share.first, share.last, share.low, share.low))

@@ -130,8 +130,13 @@ class Reader:
 
     @staticmethod
     def with_tags(*given):
-        need(len(given) >= 9 and given[7] in TELLS and len(given) == 9 + TELLS[given[7]])
-        return [*map(number, given[:7]), (given[7], *map(number, given[8:-1])), count(given[-1])]
+        """The numbers of a queue, those of its elements with the tags, where in one a tag lies, how it tells, and the position at which it opens."""
+        need(len(given) >= 9 and given[7] in TELLS)
+        at = 8 + TELLS[given[7]]
+        start, *elements = given[at:] or [""]
+        # no elements are named where they are the slots
+        need(len(elements) in (0, 2))
+        return [*map(number, (*given[:5], *(elements or (given[2], given[4])), *given[5:7])), (given[7], *map(number, given[8:at])), count(start)]
 
     def hart(self, before):
         self.take(("hart",), lambda: None, lambda found: before < HARTS)

@@ -909,6 +909,11 @@ def is_copy(op, n):
     return op == "addi" and n == 0
 
 
+def without_sign(i, v):
+    """Queue i's word, where what is known is what a signed load leaves of it: both have the same low bytes, as many as the index has."""
+    return IndexFor(*v) if isinstance(v, SignedFor) and v.queue == i else v
+
+
 def most_loaded(op):
     return {"lbu": 255, "lhu": 65535}.get(op, M32 - 1)
 
@@ -1005,7 +1010,7 @@ class Steps:
     # stores
 
     def may_move(self, k, d, v, i, s):
-        return (is_within(self.queues, k.ranges, v, IndexFor(i, plus(s.own, d))) or is_cut(self.queues[i], v, plus(s.own, d))) \
+        return (is_within(self.queues, k.ranges, without_sign(i, v), IndexFor(i, plus(s.own, d))) or is_cut(self.queues[i], v, plus(s.own, d))) \
             and is_same(0, plus(d, minus(s.owned, d)), s.owned) \
             and fits_in(most(k.ranges, d), monus(self.queues[i].modulus, 1)) and i < len(k.shares)
 
@@ -1033,6 +1038,8 @@ class Steps:
             return self.low_form(every, v.form) if rest is None else Linear(rest)
         if isinstance(v, IndexFor):
             return v if v.queue < len(self.queues) and self.queues[v.queue].index_width <= width else ANY
+        if isinstance(v, SignedFor):
+            return IndexFor(*v) if v.queue < len(self.queues) and self.queues[v.queue].index_width == width else ANY
         return HasBits(v.mask | every - 1 ^ M32 - 1, v.bits & every - 1) if isinstance(v, HasBits) else ANY
 
     def stored_value(self, ranges, width, v):

@@ -27,7 +27,11 @@ class Counts:
 
     def position(self, own, byte):
         """The first position from this one on in whose slot the byte lies."""
-        return own + ((byte - self.queue.slots) // self.queue.width - own) % self.queue.size
+        return self.next_of(own, (byte - self.queue.slots) // self.queue.width)
+
+    def next_of(self, own, slot):
+        """The first position from this one on that lies in the slot."""
+        return own + (slot - own) % self.queue.size
 
     def may_store(self, *store):
         """Whether a hart may store that: the hart, the address, the width and the value."""
@@ -112,19 +116,26 @@ class TagCounts(Counts):
         """The first position that a party doesn't own that knows of so many of the other's."""
         return known + (self.queue.size if hart == self.queue.sender else 0)
 
+    def is_element_byte(self, byte):
+        return self.queue.tags <= byte < self.queue.tags + self.queue.size * self.queue.tag_stride
+
+    def element(self, byte):
+        """The element in which a byte lies, and where in it."""
+        return divmod(byte - self.queue.tags, self.queue.tag_stride)
+
     def is_tag(self, hart, address, width):
-        is_whole = width == self.queue.tag_width and (address - self.queue.slots) % self.queue.width == self.queue.tag_offset
-        return hart in self.own and is_whole and self.is_slot_byte(address)
+        is_whole = width == self.queue.tag_width and self.element(address)[1] == self.queue.tag_offset
+        return hart in self.own and is_whole and self.is_element_byte(address)
 
     def loaded(self, hart, address, width, value):
         if self.is_tag(hart, address, width):
-            position = self.position(self.own[hart], address)
+            position = self.next_of(self.own[hart], self.element(address)[0])
             if tags.tells_by(self.queue.codec, tags.party_in(self.queue, hart), position, value):
                 self.end[hart] = max(self.end[hart], position + 1)
 
     def allows(self, owned, hart, address, width, value):
         """Whether a hart that owns these positions may store that."""
-        if self.is_tag(hart, address, width) and self.position(owned[0], address) == owned[0] < owned[1]:
+        if self.is_tag(hart, address, width) and self.next_of(owned[0], self.element(address)[0]) == owned[0] < owned[1]:
             party = tags.party_in(self.queue, hart)
             handed = owned[0] + (0 if party == certificates.SENDER else self.queue.size)
             if tags.tells_by(self.queue.codec, certificates.other(party), handed, value):
@@ -133,8 +144,8 @@ class TagCounts(Counts):
 
     def may_fill(self, owned, byte):
         if not self.is_slot_byte(byte):
-            return True
-        is_of_tag = 0 <= (byte - self.queue.slots) % self.queue.width - self.queue.tag_offset < self.queue.tag_width
+            return not self.is_element_byte(byte)
+        is_of_tag = 0 <= byte - tags.tag_of(self.queue, (byte - self.queue.slots) // self.queue.width) < self.queue.tag_width
         return owned is not None and self.position(owned[0], byte) < owned[1] and not is_of_tag
 
     def stored(self, hart, address, width, value):

@@ -106,7 +106,7 @@ def read(text):
     return certificates.QueueCertificate(
         tuple(certificates.OpenedQueue(certificates.Queue(*numbers[:13]), numbers[13], tuple(sent.Field(*field) for field in fields))
               for numbers, fields in queues),
-        tuple(tags.OpenedTagged(tags.TaggedQueue(*found[:7], codec_of(*found[7])), found[8]) for found in tagged),
+        tuple(tags.OpenedTagged(tags.TaggedQueue(*found[:9], codec_of(*found[9])), found[10]) for found in tagged),
         tuple(certificates.HartPart(tuple(certificates.OwnWord(*place) for place in own), first, tuple(numbers), tuple(state(own, *each) for each in states))
               for own, (first, numbers), states in harts))
 
@@ -170,13 +170,14 @@ def known_lines(listed):
 
 
 def tag_text(queue):
-    """Where in its slot a tag lies, and how it tells."""
+    """Where in its slot, or in its element, a tag lies, and how it tells."""
     if isinstance(queue.codec, tags.Bits):
         tells = "free where its bits under {} are {} and full where they are {}".format(*queue.codec)
     else:
         tells = {tags.ZERO: "0 where it is free and any other number where it is full",
                  tags.NUMBER: f"k where it is free for position k and k + 1 where it is full of it, modulo {certificates.M32}"}[queue.codec]
-    return f"{'byte' if queue.tag_width == 1 else f'{queue.tag_width} bytes'} at {queue.tag_offset} of each slot, {tells}"
+    of_each = "slot" if tags.are_slots(queue) else f"element of {queue.tag_stride} bytes from {queue.tags} on"
+    return f"{'byte' if queue.tag_width == 1 else f'{queue.tag_width} bytes'} at {queue.tag_offset} of each {of_each}, {tells}"
 
 
 class Judge:
@@ -309,7 +310,8 @@ class Judge:
         named, is_one = queue_questions.bytes_text(mask)
         shown = f"{named} of each record {'is' if is_one else 'are'} {done}"
         # what publishes a record writes its tag, by which the receiver learns of it
-        rest = queue_questions.without(mask, queue.tag_offset, queue.tag_offset + queue.tag_width - 1) if self.has_tags(index) else mask
+        in_slots = self.has_tags(index) and tags.are_slots(queue)
+        rest = queue_questions.without(mask, queue.tag_offset, queue.tag_offset + queue.tag_width - 1) if in_slots else mask
         party = queue_questions.Party(self.opening, self.listed, index, sends)
         missing = party.missing(rest)
         if missing is None:

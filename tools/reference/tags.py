@@ -24,13 +24,16 @@ class Bits(NamedTuple):
 
 
 class TaggedQueue(NamedTuple):
-    """Of each slot of `width` bytes the `tag_width` bytes from `tag_offset` on are its tag, which tells as `codec` says."""
+    """Each of the elements of `tag_stride` bytes from `tags` on has, from `tag_offset` on, `tag_width` bytes that are the tag of the slot of its number,
+    which tells as `codec` says. The elements are the slots, or lie apart from them."""
 
     sender: int
     receiver: int
     slots: int
     size: int
     width: int
+    tags: int
+    tag_stride: int
     tag_offset: int
     tag_width: int
     codec: object  # ZERO, NUMBER or Bits
@@ -72,13 +75,22 @@ def owned_at_first(q, party):
     return q.size if party == certificates.SENDER else 0
 
 
-def is_tag_byte(q, at):
-    """A slot's byte is one of its tag, by its offset."""
-    return q.tag_offset <= at < q.tag_offset + q.tag_width
+def elements(q):
+    """The queue whose slots are the elements with the tags."""
+    return q._replace(slots=q.tags, width=q.tag_stride)
+
+
+def are_slots(q):
+    """The elements with the tags are the slots."""
+    return (q.tags, q.tag_stride) == (q.slots, q.width)
+
+
+def are_apart_from_slots(q):
+    return certificates.are_apart(q.slots, q.size * q.width, q.tags, q.size * q.tag_stride)
 
 
 def tag_of(q, k):
-    return q.slots + q.width * certificates.mod(k, q.size) + q.tag_offset
+    return q.tags + q.tag_stride * certificates.mod(k, q.size) + q.tag_offset
 
 
 def tag_flaws(q):
@@ -88,7 +100,8 @@ def tag_flaws(q):
             (q.size >= 1, "no slot"),
             (q.tag_width >= 1, "a tag without a byte"),
             (q.tag_width <= WORD, "a tag of more than 4 bytes"),
-            (q.tag_offset + q.tag_width <= q.width, "a tag that reaches past its slot"),
+            (q.tag_offset + q.tag_width <= q.tag_stride, "a tag that reaches past its slot"),
+            (are_slots(q) or are_apart_from_slots(q), "tags that overlap its slots"),
             (not number or q.tag_width == WORD, "numbers in a tag that isn't a word"),
             (not number or q.size % certificates.M32 != 1, "numbers that are the same for free and for full slots"),
             (not bits or bits.mask < 256 ** min(q.tag_width, WORD), "a mask with bits that its tag doesn't have"),
@@ -101,35 +114,38 @@ def is_tagged(q):
 
 # ---- accesses of slots, at an address that is a form
 
-def is_in_slot(ranges, q, s, f):
-    position = certificates.position_at(q, s.own.constant, f.constant)
-    return certificates.is_slot(ranges, q, f, certificates.offset_at(q, f.constant),
+def is_in_element(ranges, q, s, f):
+    among = elements(q)
+    position = certificates.position_at(among, s.own.constant, f.constant)
+    return certificates.is_slot(ranges, among, f, certificates.offset_at(among, f.constant),
                                 certificates.remainder(ranges, certificates.plus(s.own, certificates.number(position)), q.size))
 
 
 def tag_position(ranges, q, s, place, width):
     """How much further than the own count the position is whose whole tag this is, or None."""
-    if not isinstance(place, certificates.Linear) or width != q.tag_width or certificates.offset_at(q, place.form.constant) != q.tag_offset:
+    if not isinstance(place, certificates.Linear) or width != q.tag_width or certificates.offset_at(elements(q), place.form.constant) != q.tag_offset:
         return None
-    return certificates.position_at(q, s.own.constant, place.form.constant) if is_in_slot(ranges, q, s, place.form) else None
+    return certificates.position_at(elements(q), s.own.constant, place.form.constant) if is_in_element(ranges, q, s, place.form) else None
 
 
 def is_of_rest(ranges, q, s, place, width):
     if not isinstance(place, certificates.Linear):
         return False
     offset = certificates.offset_at(q, place.form.constant)
-    return (offset + width <= q.tag_offset or q.tag_offset + q.tag_width <= offset) and certificates.is_owned(ranges, q, s, place, width)
+    is_beside_tag = not are_slots(q) or offset + width <= q.tag_offset or q.tag_offset + q.tag_width <= offset
+    return is_beside_tag and certificates.is_owned(ranges, q, s, place, width)
 
 
 def is_of_tag(ranges, q, s, place, width):
     if not isinstance(place, certificates.Linear):
         return False
-    offset = certificates.offset_at(q, place.form.constant)
-    return q.tag_offset <= offset and offset + width <= q.tag_offset + q.tag_width and is_in_slot(ranges, q, s, place.form)
+    offset = certificates.offset_at(elements(q), place.form.constant)
+    return q.tag_offset <= offset and offset + width <= q.tag_offset + q.tag_width and is_in_element(ranges, q, s, place.form)
 
 
 def is_beside_slots(q, b, width):
-    return certificates.is_apart(b, width, q.slots, q.size * q.width)
+    """They are bytes of no slot, and of no element with a tag."""
+    return certificates.is_apart(b, width, q.slots, q.size * q.width) and certificates.is_apart(b, width, q.tags, q.size * q.tag_stride)
 
 
 # ---- what a party loads, and what hands its position over
@@ -359,8 +375,8 @@ def opens_all_told(c, h, k, numbers):
 
 def opens_free(opening, q, start):
     """Each slot of a round tells the sender that it is free."""
-    # what lies past memory's words is 0, so of slots that 0 frees only those within are looked at
-    within = max(0, 4 * len(opening.words) - q.slots) // q.width + 1
+    # what lies past memory's words is 0, so of tags that 0 frees only those within are looked at
+    within = max(0, 4 * len(opening.words) - q.tags) // q.tag_stride + 1
     slots = range(min(q.size, within) if q.codec == ZERO else q.size)
     return all(tells_by(q.codec, certificates.SENDER, k, certificates.number_seen(opening, tag_of(q, k), q.tag_width))
                for k in (start + (slot - start) % q.size for slot in slots))
