@@ -1,6 +1,6 @@
 -- No word of a line that is written has a blank or a line end.
-use Rattle.std.proofs.Common.{ℕ, ◌≡◌, ◌+◌, ◌^◌, ◌<◌, ◌≤◌, false, List, [], ◌∷◌, ◌++◌, length, map, get_or, Option, Some, None, refl, arith}
-use Rattle.std.specs.Prelude.{codes}
+use Rattle.std.proofs.Common.{ℕ, ◌≡◌, ◌+◌, ◌^◌, ◌<◌, ◌≤◌, ◌==◌, Bool, true, false, List, [], ◌∷◌, ◌++◌, length, map, get_or, Option, Some, None, refl, arith}
+use Rattle.std.specs.Prelude.{◌&&◌, if◌then◌else◌, codes}
 use Rattle.std.specs.List.{AllByRecursion, flat_map}
 use Rattle.std.specs.Fmt.{decimal}
 use Rattle.std.proofs.lemmas.List.{map-append}
@@ -18,7 +18,7 @@ use Rattle.certificate_reader.specs.CaseTexts.{arrow_lines, case_lines}
 use Rattle.certificate_reader.specs.Writing.{LineOfWords, lines_at, form_text, value_line, value_lines, share_line, share_lines, range_text, line_if}
 use Rattle.certificate_reader.specs.Writing.{slot_line, slot_lines, filled_lines, known_lines, described_lines, node_line, tree_lines, state_lines}
 use Rattle.certificate_reader.specs.Writing.{part_lines, numbers_of, field_numbers, field_line, queue_line, queue_lines, certificate_lines, value_text}
-use Rattle.certificate_reader.specs.Writing.{codec_words, own_word_text, tagged_line}
+use Rattle.certificate_reader.specs.Writing.{codec_words, element_numbers, own_word_text, tagged_line}
 use Rattle.certificate_reader.specs.Written.{FitsWord, FitsCount, FitsForm, FitsValue, FitsShare, FitsRange, FitsArrow}
 use Rattle.certificate_reader.specs.Written.{FitsCases, FitsFilled, FitsState, FitsPart, FitsField, FitsQueue, FitsCodec, FitsTagged}
 use Rattle.certificate_reader.specs.Written.{FitsOwn, CanBeWritten}
@@ -219,16 +219,23 @@ codec_solid codec.Number fits = (solid_by_test (codes "number") refl, tt)
 codec_solid (codec.Bit mask free full) fits =
     (solid_by_test (codes "bits") refl, all_map FitsWord Solid decimal word_solid (mask ∷ free ∷ full ∷ []) fits)
 
+elements_solid : (o : OpenedTagged) → FitsTagged o → AllByRecursion Solid (map decimal (element_numbers o.queue))
+elements_solid o fits = by ((o.queue.tags == o.queue.slots) && (o.queue.tag_stride == o.queue.width))
+  where
+    by : (b : Bool) → AllByRecursion Solid (map decimal (if b then [] else o.queue.tags ∷ o.queue.tag_stride ∷ []))
+    by true = tt
+    by false = (word_solid o.queue.tags fits.tag.0, (word_solid o.queue.tag_stride fits.tag.1.0, tt))
+
 tagged_solid : (o : OpenedTagged) → FitsTagged o → IsSolidLine (tagged_line o)
 tagged_solid o fits =
     let q = o.queue in
     let slots = q.sender ∷ q.receiver ∷ q.slots ∷ q.size ∷ q.width ∷ [] in
     let tag = q.tag_offset ∷ q.tag_width ∷ [] in
-    let telling = codec_words q.codec ++ decimal o.start ∷ [] in
+    let after = map decimal (o.start ∷ element_numbers q) in
     line_solid (codes "tagged") (tagged_line o).1 (solid_by_test (codes "tagged") refl)
-    (all_append Solid (map decimal slots) (map decimal tag ++ telling) (all_map FitsWord Solid decimal word_solid slots fits.slots)
-    (all_append Solid (map decimal tag) telling (all_map FitsWord Solid decimal word_solid tag fits.tag)
-    (all_append Solid (codec_words q.codec) (decimal o.start ∷ []) (codec_solid q.codec fits.codec) (count_solid o.start fits.start, tt))))
+    (all_append Solid (map decimal slots) (map decimal tag ++ codec_words q.codec ++ after) (all_map FitsWord Solid decimal word_solid slots fits.slots)
+    (all_append Solid (map decimal tag) (codec_words q.codec ++ after) (all_map FitsWord Solid decimal word_solid tag fits.tag.1.1)
+    (all_append Solid (codec_words q.codec) after (codec_solid q.codec fits.codec) (count_solid o.start fits.start, elements_solid o fits))))
 
 pub certificate_solid : (c : QueueCertificate) → CanBeWritten c → AreSolid (certificate_lines c)
 certificate_solid c fits =

@@ -1,19 +1,21 @@
 -- Queues with tags, as they are written, are read again.
-use Rattle.std.proofs.Common.{◌≡◌, ℕ, ◌<◌, ◌≤◌, true, List, [], ◌∷◌, ◌++◌, length, map, Some, Ok, refl, arith}
-use Rattle.std.specs.Prelude.{codes}
+use Rattle.std.proofs.Common.{◌≡◌, ℕ, ◌<◌, ◌≤◌, ◌==◌, Bool, true, false, List, [], ◌∷◌, ◌++◌, length, map, Ok, refl, arith}
+use Rattle.std.specs.Prelude.{◌&&◌, if◌then◌else◌, codes}
 use Rattle.std.specs.List.{AllByRecursion}
 use Rattle.std.specs.Fmt.{decimal}
 use Rattle.std.proofs.lemmas.Bool.{le-ltb, lt-leb}
+use Rattle.std.proofs.lemmas.Bool.Decides.{Decides-and, Decides-eqb}
 use Rattle.queue_layouts.specs.declared.tagged.Codec.{Codec}
 use Rattle.queue_layouts.specs.declared.tagged.Codec.TheVariants as codec
 use Rattle.queue_layouts.specs.declared.tagged.OpenedTagged.{OpenedTagged}
+use Rattle.queue_layouts.specs.declared.tagged.TaggedQueue.{TaggedQueue}
 use Rattle.certificate_reader.specs.declared.stages.Keyword.TheVariants as keyword
 use Rattle.certificate_reader.specs.declared.stages.Stage.{Stage}
 use Rattle.certificate_reader.specs.declared.stages.Stage.TheVariants as stage
 use Rattle.certificate_reader.specs.Stages.{keyword_named, stage_after, lists_queues}
-use Rattle.certificate_reader.specs.Tags.{bits_in, codec_by, first_codec_in, tagged_of, with_tagged}
+use Rattle.certificate_reader.specs.Tags.{bits_in, codec_by, first_codec_in, elements_in, tagged_of, with_tagged}
 use Rattle.certificate_reader.specs.Drafts.{DraftValue}
-use Rattle.certificate_reader.specs.Writing.{codec_words, tagged_line}
+use Rattle.certificate_reader.specs.Writing.{codec_words, element_numbers, tagged_line}
 use Rattle.certificate_reader.specs.Written.{FitsCodec, FitsTagged}
 use Rattle.certificate_reader.proofs.NumbersAgain.{five_again, first_word_again, first_count_again}
 use Rattle.certificate_reader.proofs.LinesAgain.{LeadsTo, line_told, IsHeld, at_stage}
@@ -31,6 +33,23 @@ first_codec_again (codec.Bit mask free full) words fits = rw (
   first_word_again full words fits.1.1.0,
 ) refl
 
+elements_again : (o : OpenedTagged) → FitsTagged o
+    → elements_in o.queue.slots o.queue.width (map decimal (element_numbers o.queue)) ≡ Ok ((o.queue.tags, o.queue.tag_stride), [])
+elements_again o fits = by ((q.tags == q.slots) && (q.tag_stride == q.width)) refl
+  where
+    q : TaggedQueue
+    q = o.queue
+
+    by : (b : Bool) → (q.tags == q.slots) && (q.tag_stride == q.width) ≡ b
+        → elements_in q.slots q.width (map decimal (if b then [] else q.tags ∷ q.tag_stride ∷ [])) ≡ Ok ((q.tags, q.tag_stride), [])
+    by true are =
+        let both = (Decides-and _ _ (Decides-eqb q.tags q.slots) (Decides-eqb q.tag_stride q.width)).0 are in
+        rw (both.0, both.1) refl
+    by false others = rw (
+      first_word_again q.tags (decimal q.tag_stride ∷ []) fits.tag.0,
+      first_word_again q.tag_stride [] fits.tag.1.0,
+    ) refl
+
 abbrev words_of : OpenedTagged → List (List ℕ)
 words_of o = (tagged_line o).1
 
@@ -38,13 +57,15 @@ tagged_again : (o : OpenedTagged) → FitsTagged o → tagged_of (words_of o) �
 unfolding tagged_of
 tagged_again o fits =
     let q = o.queue in
-    let ends = codec_words q.codec ++ decimal o.start ∷ [] in
+    let elements = map decimal (element_numbers q) in
+    let ends = codec_words q.codec ++ decimal o.start ∷ elements in
     rw (
       five_again q.sender q.receiver q.slots q.size q.width (decimal q.tag_offset ∷ decimal q.tag_width ∷ ends) fits.slots,
-      first_word_again q.tag_offset (decimal q.tag_width ∷ ends) fits.tag.0,
-      first_word_again q.tag_width ends fits.tag.1.0,
-      first_codec_again q.codec (decimal o.start ∷ []) fits.codec,
-      first_count_again o.start [] fits.start,
+      first_word_again q.tag_offset (decimal q.tag_width ∷ ends) fits.tag.1.1.0,
+      first_word_again q.tag_width ends fits.tag.1.1.1.0,
+      first_codec_again q.codec (decimal o.start ∷ elements) fits.codec,
+      first_count_again o.start elements fits.start,
+      elements_again o fits,
     ) refl
 
 tagged_made : (tagged : List OpenedTagged) (o : OpenedTagged) → length tagged < 16 → FitsTagged o → with_tagged tagged (words_of o) ≡ Ok (tagged ++ o ∷ [])

@@ -3,7 +3,7 @@
 ghost use Rattle.std.specs.Prelude.{◌≡◌};
 ghost use Rattle.texts.specs.Results.{GivesUpToMemory, refusal_of};
 ghost use Rattle.texts.specs.Cutting.{tokens};
-ghost use Rattle.certificate_reader.specs.Tags.{codec_of, bits_in, first_codec_in, tagged_of, with_tagged};
+ghost use Rattle.certificate_reader.specs.Tags.{codec_of, bits_in, first_codec_in, elements_in, tagged_of, with_tagged};
 
 use crate::faults::{BAD, LineError, TOO_MANY};
 use crate::limits::{MAX_SLOTS, MAX_TAGGED};
@@ -48,6 +48,18 @@ fn first_codec(text: &[u8]) -> Result<(Codec, &[u8]), LineError>
     Ok((codec, rest))
 }
 
+/// Where the elements with the tags begin, and how many bytes one has, and what follows. Without more words they are the slots.
+fn elements(slots: u32, width: u32, text: &[u8]) -> Result<((u32, u32), &[u8]), LineError>
+    ensures { GivesUpToMemory refusal_of (λ cut. (cut.0, tokens cut.1.now)) result (elements_in slots width (tokens text.now)) }
+{
+    if first_token(text).is_none() {
+        return Ok(((slots, width), text));
+    }
+    let (tags, rest) = first_word(text)?;
+    let (stride, rest) = first_word(rest)?;
+    Ok(((tags, stride), rest))
+}
+
 /// The queue that the words say, and the position with which it opens.
 #[tactic(auto, unfolding(crate::specs::Tags::tagged_of))]
 fn opened_tagged(text: &[u8]) -> Result<OpenedTagged, LineError>
@@ -58,6 +70,7 @@ fn opened_tagged(text: &[u8]) -> Result<OpenedTagged, LineError>
     let (tag_width, rest) = first_word(rest)?;
     let (codec, rest) = first_codec(rest)?;
     let (start, rest) = first_count(rest)?;
+    let ((tags, tag_stride), rest) = elements(slots, width, rest)?;
     end(rest)?;
     Ok(OpenedTagged {
         queue: TaggedQueue {
@@ -66,6 +79,8 @@ fn opened_tagged(text: &[u8]) -> Result<OpenedTagged, LineError>
             slots,
             size,
             width,
+            tags,
+            tag_stride,
             tag_offset,
             tag_width,
             codec,

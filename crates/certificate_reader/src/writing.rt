@@ -198,20 +198,19 @@ fn push_codec(out: &mut String, codec: Codec) -> Result<(), AllocError>
     }
 }
 
-/// Appends the line of a queue with tags: these numbers, how its tags tell, and the position with which it opens.
+/// Appends the line of a queue with tags: these numbers, how its tags tell, and more numbers.
 fn push_telling(
     out: &mut String,
-    numbers: &[u64],
+    before: &[u64],
     codec: Codec,
-    start: u64,
+    after: &[u64],
 ) -> Result<(), AllocError>
-    ensures { OnOk result (string_bytes out.new ≡ string_bytes out.old ++ lines_text [] (telling_line numbers.now codec start ∷ [])) }
+    ensures { OnOk result (string_bytes out.new ≡ string_bytes out.old ++ lines_text [] (telling_line before.now codec after.now ∷ [])) }
 {
     out.push_str("tagged")?;
-    push_numbers(out, numbers)?;
+    push_numbers(out, before)?;
     push_codec(out, codec)?;
-    out.push_str(" ")?;
-    push_decimal(out, start)?;
+    push_numbers(out, after)?;
     out.push_str("\n")
 }
 
@@ -228,7 +227,13 @@ fn push_tagged(out: &mut String, opened: OpenedTagged) -> Result<(), AllocError>
         u64::from(queue.tag_offset),
         u64::from(queue.tag_width),
     ];
-    push_telling(out, &numbers, queue.codec, opened.start)
+    let start = opened.start;
+    if queue.tags == queue.slots && queue.tag_stride == queue.width {
+        return push_telling(out, &numbers, queue.codec, &[start]);
+    }
+    let tags = u64::from(queue.tags);
+    let stride = u64::from(queue.tag_stride);
+    push_telling(out, &numbers, queue.codec, &[start, tags, stride])
 }
 
 fn push_all_tagged(out: &mut String, tagged: &[OpenedTagged]) -> Result<(), AllocError>
