@@ -1,5 +1,5 @@
 -- Nothing is found exactly where all holds.
-use Rattle.std.specs.Prelude.{ℕ, zero, suc, ◌≡◌, ◌+◌, ◌-◌, ◌*◌, ◌%◌, ◌^◌, ◌==◌, ◌&&◌, ◌↔◌, not, nat_le, nat_lt, Bool, true}
+use Rattle.std.specs.Prelude.{ℕ, zero, suc, ◌≡◌, ◌+◌, ◌-◌, ◌*◌, ◌%◌, ◌^◌, ◌==◌, ◌&&◌, ◌||◌, ◌↔◌, not, nat_le, nat_lt, Bool, true}
 use Rattle.std.specs.Prelude.{false, Option, None, Some, [], length, get_or, refl}
 use Rattle.std.specs.List.{list_all}
 use Rattle.std.specs.Option.{option_map}
@@ -11,7 +11,7 @@ use Rattle.step_machine.specs.History.{OpeningValue}
 use Rattle.queue_certificates.specs.Steps.{all_below}
 use Rattle.queue_certificates.specs.Certificates.{QueueCertificate, queue_at, start_at, fields_at, part_of, accepts, accepts_loads, accepts_hart, no_hart}
 use Rattle.queue_certificates.specs.Certificates.{tagged_at, tagged_start, opens_free, accepts_rest}
-use Rattle.queue_certificates.specs.Tags.{is_tagged, is_codec}
+use Rattle.queue_certificates.specs.Tags.{are_slots, are_apart_from_slots, is_tagged, is_codec}
 use Rattle.queue_layouts.specs.declared.tagged.Codec.{Codec}
 use Rattle.queue_layouts.specs.declared.tagged.Codec.TheVariants as codec
 use Rattle.queue_layouts.specs.declared.tagged.TaggedQueue.{TaggedQueue}
@@ -134,10 +134,11 @@ same-tag q =
     let some = nat_le 1 q.size in
     let a_byte = nat_le 1 q.tag_width in
     let a_word = nat_le q.tag_width 4 in
-    let within = nat_le (q.tag_offset + q.tag_width) q.width in
-    same-first_of (harts && some && a_byte && a_word && within) (is_codec q q.codec) _ _
-    (same-first_of (harts && some && a_byte && a_word) within _ _
-    (four harts some a_byte a_word tag.OneHart tag.NoSlot tag.NoTag tag.WideTag) (same-unless within tag.PastSlot))
+    let within = nat_le (q.tag_offset + q.tag_width) q.tag_stride in
+    let lie = are_slots q || are_apart_from_slots q in
+    same-first_of (harts && some && a_byte && a_word && within && lie) (is_codec q q.codec) _ _
+    (same-first_of (harts && some && a_byte && a_word && within) lie _ _ (same-first_of (harts && some && a_byte && a_word) within _ _
+    (four harts some a_byte a_word tag.OneHart tag.NoSlot tag.NoTag tag.WideTag) (same-unless within tag.PastSlot)) (same-unless lie tag.Overlapping))
     (same-codec q q.codec)
 
 same-tagged : (o : OpeningValue) (c : QueueCertificate) (t : ℕ)

@@ -1,4 +1,4 @@
-//! A certificate of two harts with one queue with tags, whose one slot is a tag alone.
+//! Certificates of two harts with one queue with tags: its one slot is a tag alone, or its tag lies beside its slot.
 
 use crate::certificate::{
     Arrow, CaseNode, Cases, HartPart, KnownState, ListedState, QueueCertificate, Share,
@@ -18,20 +18,24 @@ use step_machine::{HartOpening, Opening};
 const SENDER: [u32; 4] = [8323, 4261453539, 3153955, 4284477551];
 /// lw x1,0(x0); beq x1,x0,-4; sw x0,0(x0); jal x0,-12
 const RECEIVER: [u32; 4] = [8323, 4261449443, 8227, 4284477551];
+/// lw x1,4(x0); bne x1,x0,-4; sw x3,8(x0); sw x3,4(x0); jal x0,-16
+const FILLER: [u32; 5] = [4202627, 4261453539, 3154979, 3154467, 4280283247];
+/// lw x1,4(x0); beq x1,x0,-4; lw x2,8(x0); sw x0,4(x0); jal x0,-16
+const READER: [u32; 5] = [4202627, 4261449443, 8397059, 8739, 4280283247];
 /// The numbers of a word but 0 are 1 more than one up to this.
 const MOST: u64 = (1 << 32) - 2;
 
 /// The sender sends 7 in each round.
-fn opening(alloc: Global) -> Result<Opening, AllocError> {
+fn opening(alloc: Global, sender: &[u32], receiver: &[u32]) -> Result<Opening, AllocError> {
     let mut registers = [0; 32];
     registers[3] = 7;
     let sender = HartOpening {
-        code: Vec::from_slice(alloc, &SENDER)?,
+        code: Vec::from_slice(alloc, sender)?,
         registers,
         inbox: Vec::new(alloc),
     };
     let receiver = HartOpening {
-        code: Vec::from_slice(alloc, &RECEIVER)?,
+        code: Vec::from_slice(alloc, receiver)?,
         registers: [0; 32],
         inbox: Vec::new(alloc),
     };
@@ -126,6 +130,19 @@ fn receiving() -> [Row; 5] {
     ]
 }
 
+/// The same states where the party accesses the slot, which lies beside its tag, before it stores the tag.
+fn with_slot(states: [Row; 5]) -> [Row; 6] {
+    let [looks, told, not_told, _, _] = states;
+    [
+        looks,
+        told,
+        not_told,
+        at(8, Loaded::Unknown, 1, goes_to(4, 0, false), None),
+        at(12, Loaded::Unknown, 1, goes_to(5, 1, false), None),
+        at(16, Loaded::Unknown, 0, goes_to(0, 0, false), None),
+    ]
+}
+
 fn arrow(alloc: Global, step: Step) -> Result<Arrow, AllocError> {
     let mut forms = vec![in alloc; form(alloc, step.handed, &[0, 1])?]?;
     if step.has_number {
@@ -200,10 +217,10 @@ fn listed(alloc: Global, row: Row, x3: u64) -> Result<ListedState, AllocError> {
     })
 }
 
-fn part(alloc: Global, rows: [Row; 5], x3: u64) -> Result<HartPart, AllocError> {
+fn part(alloc: Global, rows: &[Row], x3: u64) -> Result<HartPart, AllocError> {
     let mut states = Vec::new(alloc);
-    for row in rows {
-        states.push(listed(alloc, row, x3)?)?;
+    for i in 0..rows.len() {
+        states.push(listed(alloc, rows[i], x3)?)?;
     }
     Ok(HartPart {
         own: Vec::new(alloc),
@@ -213,34 +230,77 @@ fn part(alloc: Global, rows: [Row; 5], x3: u64) -> Result<HartPart, AllocError> 
     })
 }
 
-/// A certificate of one queue of one slot, whose tag has this width in bytes.
-fn certificate(alloc: Global, tag_width: u32) -> Result<QueueCertificate, AllocError> {
-    let queue = TaggedQueue {
-        sender: 0,
-        receiver: 1,
-        slots: 0,
-        size: 1,
-        width: 4,
-        tag_offset: 0,
-        tag_width,
-        codec: Codec::Zero,
-    };
+/// A certificate of this queue, with the states of its sender and of its receiver.
+fn certificate(
+    alloc: Global,
+    queue: TaggedQueue,
+    sender: &[Row],
+    receiver: &[Row],
+) -> Result<QueueCertificate, AllocError> {
     Ok(QueueCertificate {
         queues: Vec::new(alloc),
         tagged: vec![in alloc; OpenedTagged { queue, start: 0 }]?,
-        harts: vec![in alloc; part(alloc, sending(), 7)?, part(alloc, receiving(), 0)?]?,
+        harts: vec![in alloc; part(alloc, sender, 7)?, part(alloc, receiver, 0)?]?,
     })
 }
+
+/// A queue of one slot, which is its tag.
+const TAG_ALONE: TaggedQueue = TaggedQueue {
+    sender: 0,
+    receiver: 1,
+    slots: 0,
+    size: 1,
+    width: 4,
+    tags: 0,
+    tag_stride: 4,
+    tag_offset: 0,
+    tag_width: 4,
+    codec: Codec::Zero,
+};
+
+/// A queue of one slot after an element of 8 bytes, of which the last 4 are its tag.
+const TAG_BESIDE: TaggedQueue = TaggedQueue {
+    slots: 8,
+    tag_stride: 8,
+    tag_offset: 4,
+    ..TAG_ALONE
+};
 
 #[test]
 fn a_queue_of_one_tag_has_no_flaw(rt: HostRuntime) -> Result<(), Fail> {
     let alloc = rt.alloc();
-    let opening = opening(alloc)?;
-    let right = certificate(alloc, 4)?;
+    let opening = opening(alloc, &SENDER, &RECEIVER)?;
+    let right = certificate(alloc, TAG_ALONE, &sending(), &receiving())?;
     assert!(rt; first_flaw(alloc, &opening, &right) == Ok(None));
     assert!(rt; first_unowned_rest(alloc, &opening, &right, 0, 1) == Ok(None));
-    let wide = certificate(alloc, 5)?;
+    let queue = TaggedQueue {
+        tag_width: 5,
+        ..TAG_ALONE
+    };
+    let wide = certificate(alloc, queue, &sending(), &receiving())?;
     let flaw = Flaw::Tagged(0, TaggedFlaw::WideTag);
     assert!(rt; first_flaw(alloc, &opening, &wide) == Ok(Some(flaw)));
+    Ok(())
+}
+
+#[test]
+fn a_queue_with_its_tag_beside_its_slot_has_no_flaw(rt: HostRuntime) -> Result<(), Fail> {
+    let alloc = rt.alloc();
+    let opening = opening(alloc, &FILLER, &READER)?;
+    let right = certificate(
+        alloc,
+        TAG_BESIDE,
+        &with_slot(sending()),
+        &with_slot(receiving()),
+    )?;
+    assert!(rt; first_flaw(alloc, &opening, &right) == Ok(None));
+    assert!(rt; first_unowned_rest(alloc, &opening, &right, 0, 1) == Ok(None));
+    let queue = TaggedQueue {
+        slots: 4,
+        ..TAG_BESIDE
+    };
+    let overlapping = certificate(alloc, queue, &with_slot(sending()), &with_slot(receiving()))?;
+    let flaw = Flaw::Tagged(0, TaggedFlaw::Overlapping);
+    assert!(rt; first_flaw(alloc, &opening, &overlapping) == Ok(Some(flaw)));
     Ok(())
 }

@@ -45,8 +45,10 @@ pub enum TaggedFlaw {
     NoTag,
     /// A tag has more than 4 bytes.
     WideTag,
-    /// A tag reaches past its slot.
+    /// A tag reaches past the element that it lies in.
     PastSlot,
+    /// The elements with the tags overlap the slots, without being them.
+    Overlapping,
     /// A tag isn't a word, and positions' numbers tell.
     NarrowNumber,
     /// A position's number is the same for a free slot and for a full one.

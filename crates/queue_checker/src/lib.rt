@@ -39,7 +39,7 @@ pub mod successors;
 pub mod tag_effects;
 mod tag_loads;
 mod tag_places;
-mod tag_stores;
+pub mod tag_stores;
 mod tag_values;
 pub mod tagged_queues;
 mod tags;

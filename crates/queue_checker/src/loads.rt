@@ -201,7 +201,7 @@ fn below_or_signed(
 
 /// Whether a signed load surely leaves a number as it is, since its highest bit is 0.
 fn keeps_value(ranges: &[Option<u64>], op: LoadOp, value: &KnownValue) -> Result<bool, Lack>
-    ensures { (queues : ℕ → Queue) → IfOk result (λ keeps. keeps ≡ keeps_value queues ranges.now op value.now) }
+    ensures { IfOk result (λ keeps. keeps ≡ keeps_value ranges.now op value.now) }
 {
     match (op, &value.known) {
         (LoadOp::Byte, Known::Linear(form)) => {

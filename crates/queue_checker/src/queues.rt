@@ -19,7 +19,7 @@ use known_values::{Field, Lack, Queue};
 use step_machine::Opening;
 
 /// Whether `m` bytes at one address and `n` at another have none in common.
-fn are_apart(a: u64, m: u64, b: u64, n: u64) -> Result<bool, Lack>
+pub(crate) fn are_apart(a: u64, m: u64, b: u64, n: u64) -> Result<bool, Lack>
     ensures { IfOk result (λ apart. apart ≡ are_apart a m b n) }
 {
     let before = sum(a, m)? <= b;

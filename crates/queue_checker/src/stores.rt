@@ -9,7 +9,7 @@ ghost use Rattle.queue_certificates.specs.Results.{sum_of};
 ghost use Rattle.queue_certificates.specs.Certificates.{queue_at, own_of};
 ghost use Rattle.queue_certificates.specs.Steps.{all_below, last_below, is_own_index, is_cut, moved_share, may_move, may_fill, may_store, leaves_words};
 ghost use Rattle.queue_certificates.specs.Steps.{words_then, shares_moved, after_store, storing, updated_value, after_exchange, exchanging, misses};
-ghost use Rattle.queue_certificates.specs.Steps.{value_loaded, exchange_by};
+ghost use Rattle.queue_certificates.specs.Steps.{value_loaded, exchange_by, without_sign};
 
 use crate::certificate::{KnownState, QueueCertificate, Share};
 use crate::loads::{last_own_index, value_loaded};
@@ -77,6 +77,17 @@ fn is_cut_form(alloc: Global, queue: Queue, form: &Form, count: &Form) -> Result
     Ok(turn == words && below && same)
 }
 
+/// The word of queue `i`'s index, where the value is what a signed load leaves of it; both have the same lowest bytes, as many as the
+/// index.
+fn without_sign(alloc: Global, i: u32, value: &KnownValue) -> Result<KnownValue, Lack>
+    ensures { IfOk result (λ v. v ≡ without_sign i value.now) }
+{
+    match &value.known {
+        Known::SignedFor(j, form) if i == *j => Ok(index_for(*j, form.copy(alloc)?)),
+        _ => value.copy(alloc),
+    }
+}
+
 /// Whether a store of this value to queue `i`'s index leaves the word there that stands for a count.
 fn stands_for(
     alloc: Global,
@@ -86,7 +97,7 @@ fn stands_for(
     i: u32,
     count: Form,
 ) -> Result<bool, Lack>
-    ensures { IfOk result (λ stands. stands ≡ (is_within (queue_at certificate.now) state.now.ranges value.now (index_for i count)
+    ensures { IfOk result (λ stands. stands ≡ (is_within (queue_at certificate.now) state.now.ranges (without_sign i value.now) (index_for i count)
         || is_cut (queue_at certificate.now i) value.now count)) }
 {
     let cut = is_cut(alloc, queue_in(&certificate.queues, i), value, &count)?;
@@ -94,7 +105,7 @@ fn stands_for(
         alloc,
         &certificate.queues,
         &state.ranges,
-        value,
+        &without_sign(alloc, i, value)?,
         &index_for(i, count),
     )?;
     Ok(within || cut)

@@ -6,7 +6,7 @@ ghost use Rattle.queue_certificates.specs.Tags.{tag_position, is_of_rest, is_of_
 use crate::certificate::Share;
 use crate::places::{misses_slots, offset_at, position_at};
 use crate::slots::{is_of_slot, is_owned};
-use crate::tagged_queues::bare;
+use crate::tagged_queues::{are_slots, bare, elements};
 use known_values::lack::sum;
 use known_values::{Bounds, Known, KnownValue, Lack};
 use queue_layouts::TaggedQueue;
@@ -30,11 +30,11 @@ pub(crate) fn tag_position(
         Known::EndsAs(_, _) => Ok(None),
         Known::HasBits(_, _) => Ok(None),
         Known::Linear(form) => {
-            let slots = bare(queue);
+            let elements = elements(queue);
             let whole = width == u64::from(queue.tag_width);
-            let there = offset_at(slots, form.constant) == u64::from(queue.tag_offset);
-            let inside = is_of_slot(alloc, ranges, slots, share, form)?;
-            let position = position_at(slots, share.own.constant, form.constant)?;
+            let there = offset_at(elements, form.constant) == u64::from(queue.tag_offset);
+            let inside = is_of_slot(alloc, ranges, elements, share, form)?;
+            let position = position_at(elements, share.own.constant, form.constant)?;
             if whole && there && inside {
                 Ok(Some(position))
             } else {
@@ -44,7 +44,7 @@ pub(crate) fn tag_position(
     }
 }
 
-/// Whether these bytes are of an owned slot, and none of its tag.
+/// Whether these bytes are of an owned slot, and none of a tag.
 pub(crate) fn is_of_rest(
     alloc: Global,
     ranges: &[Option<u64>],
@@ -68,12 +68,12 @@ pub(crate) fn is_of_rest(
             let tag = u64::from(queue.tag_offset);
             let before = sum(from, width)? <= tag;
             let after = sum(tag, u64::from(queue.tag_width))? <= from;
-            Ok((before || after) && owned)
+            Ok((!are_slots(queue) || before || after) && owned)
         }
     }
 }
 
-/// Whether these bytes are all of a slot's tag.
+/// Whether these bytes are all of a tag.
 pub(crate) fn is_of_tag(
     alloc: Global,
     ranges: &[Option<u64>],
@@ -91,20 +91,22 @@ pub(crate) fn is_of_tag(
         Known::EndsAs(_, _) => Ok(false),
         Known::HasBits(_, _) => Ok(false),
         Known::Linear(form) => {
-            let slots = bare(queue);
-            let from = offset_at(slots, form.constant);
+            let elements = elements(queue);
+            let from = offset_at(elements, form.constant);
             let tag = u64::from(queue.tag_offset);
             let begins = tag <= from;
             let ends = sum(from, width)? <= sum(tag, u64::from(queue.tag_width))?;
-            let inside = is_of_slot(alloc, ranges, slots, share, form)?;
+            let inside = is_of_slot(alloc, ranges, elements, share, form)?;
             Ok(begins && ends && inside)
         }
     }
 }
 
-/// Whether `width` bytes from somewhere among these addresses on are none of the slots.
+/// Whether `width` bytes from somewhere among these addresses on are none of the slots, and none of the elements with the tags.
 pub(crate) fn is_beside_slots(queue: TaggedQueue, bounds: Bounds, width: u64) -> Result<bool, Lack>
     ensures { IfOk result (λ beside. beside ≡ is_beside_slots queue bounds width) }
 {
-    misses_slots(bare(queue), bounds, width)
+    let slots = misses_slots(bare(queue), bounds, width)?;
+    let tags = misses_slots(elements(queue), bounds, width)?;
+    Ok(slots && tags)
 }

@@ -34,7 +34,7 @@ use queue_layouts::Party;
 use std::alloc::Global;
 
 /// The last queue of which a store is of the tag of the own position, whole.
-pub(crate) fn moved_tag(
+pub fn moved_tag(
     alloc: Global,
     certificate: &QueueCertificate,
     hart: u32,

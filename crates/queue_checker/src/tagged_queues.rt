@@ -6,13 +6,15 @@ ghost use Rattle.queue_parties.specs.Parties.{the_sender};
 ghost use Rattle.slots_that_tell.specs.Slots.{tag_of};
 ghost use Rattle.queue_layouts.specs.Sides.{the_party};
 ghost use Rattle.queue_layouts.specs.Tagged.{slots_of, tells_by};
-ghost use Rattle.queue_certificates.specs.Tags.{bare, party_in};
+ghost use Rattle.queue_certificates.specs.Tags.{bare, elements, party_in, are_slots, are_apart_from_slots};
 ghost use Rattle.queue_certificates.specs.Certificates.{no_tagged, opens_free};
 ghost use Rattle.queue_checker.specs.Flaws.{codec_flaw, tag_flaw, tagged_flaw};
 
 use crate::certificate::QueueCertificate;
 use crate::flaws::TaggedFlaw;
 use crate::opening::number_at;
+use crate::places::slot_bytes;
+use crate::queues::are_apart;
 use crate::sites::small;
 use known_values::lack::{product, remainder_by, sum};
 use known_values::queues::words_of;
@@ -41,6 +43,8 @@ pub fn tagged_in(tagged: &[OpenedTagged], t: u32) -> TaggedQueue
             slots: 0,
             size: 0,
             width: 0,
+            tags: 0,
+            tag_stride: 0,
             tag_offset: 0,
             tag_width: 0,
             codec: Codec::Zero,
@@ -86,6 +90,33 @@ pub fn bare(queue: TaggedQueue) -> Queue
     }
 }
 
+/// The elements with the tags, as slots of a queue without indices.
+pub fn elements(queue: TaggedQueue) -> Queue
+    ensures { result ≡ elements queue }
+{
+    Queue {
+        slots: queue.tags,
+        width: queue.tag_stride,
+        ..bare(queue)
+    }
+}
+
+/// Whether the elements with the tags are the slots.
+pub fn are_slots(queue: TaggedQueue) -> bool
+    ensures { result ≡ are_slots queue }
+{
+    queue.tags == queue.slots && queue.tag_stride == queue.width
+}
+
+/// Whether none of their bytes is a slot's.
+fn are_apart_from_slots(queue: TaggedQueue) -> Result<bool, Lack>
+    ensures { IfOk result (λ apart. apart ≡ are_apart_from_slots queue) }
+{
+    let slots = slot_bytes(bare(queue))?;
+    let tags = slot_bytes(elements(queue))?;
+    are_apart(u64::from(queue.slots), slots, u64::from(queue.tags), tags)
+}
+
 /// What is wrong with how the queue's tags tell.
 fn codec_flaw(queue: TaggedQueue) -> Result<Option<TaggedFlaw>, Lack>
     ensures { IfOk result (λ flaw. flaw ≡ codec_flaw queue queue.codec) }
@@ -129,8 +160,11 @@ fn tag_flaw(queue: TaggedQueue) -> Result<Option<TaggedFlaw>, Lack>
     if queue.tag_width > 4 {
         return Ok(Some(TaggedFlaw::WideTag));
     }
-    if u64::from(queue.tag_offset) + u64::from(queue.tag_width) > u64::from(queue.width) {
+    if u64::from(queue.tag_offset) + u64::from(queue.tag_width) > u64::from(queue.tag_stride) {
         return Ok(Some(TaggedFlaw::PastSlot));
+    }
+    if !are_slots(queue) && !are_apart_from_slots(queue)? {
+        return Ok(Some(TaggedFlaw::Overlapping));
     }
     codec_flaw(queue)
 }
@@ -154,10 +188,10 @@ fn tells_free(codec: Codec, position: u64, number: u64) -> bool
 fn tag_of(queue: TaggedQueue, position: u64) -> Result<u64, Lack>
     ensures { IfOk result (λ address. address ≡ tag_of (slots_of queue) position) }
 {
-    let slot = remainder_by(position, u64::from(queue.size));
-    let before = product(u64::from(queue.width), slot)?;
+    let element = remainder_by(position, u64::from(queue.size));
+    let before = product(u64::from(queue.tag_stride), element)?;
     sum(
-        sum(u64::from(queue.slots), before)?,
+        sum(u64::from(queue.tags), before)?,
         u64::from(queue.tag_offset),
     )
 }

@@ -1,7 +1,7 @@
 //! A hart's own words: of which an access is, and what is known of them after a store.
 
-ghost use Rattle.std.specs.Prelude.{◌≡◌, ◌^◌, ◌-◌, ◌&&◌, ◌==◌, IfOk, length, bit_and, bit_or, bit_xor};
-ghost use Rattle.queue_certificates.specs.States.{own_at, has_bits, plain};
+ghost use Rattle.std.specs.Prelude.{◌≡◌, ◌^◌, ◌-◌, ◌&&◌, ◌==◌, if◌then◌else◌, IfOk, length, nat_lt, bit_and, bit_or, bit_xor};
+ghost use Rattle.queue_certificates.specs.States.{own_at, any, index_for, has_bits, plain};
 ghost use Rattle.queue_certificates.specs.Certificates.{queue_at, own_of};
 ghost use Rattle.queue_certificates.specs.Steps.{all_below, last_below, is_one, is_apart, leaves_words, storable};
 ghost use Rattle.queue_certificates.specs.Steps.{low_form, low_bytes, stored_value, word_then, words_then};
@@ -155,6 +155,23 @@ fn low_bits(n: u64, mask: u32, bits: u32) -> Result<KnownValue, Lack>
     }
 }
 
+/// The word of queue `i`'s index, if there is that queue and `whole` says that all bytes of the index are there.
+fn whole_index(
+    alloc: Global,
+    queues: &[OpenedQueue],
+    i: u32,
+    form: &Form,
+    whole: bool,
+) -> Result<KnownValue, Lack>
+    ensures { IfOk result (λ v. v ≡ (if nat_lt i (length queues.now) && whole then index_for i form.now else any)) }
+{
+    if (i as usize) < queues.len() && whole {
+        Ok(index_for(i, form.copy(alloc)?))
+    } else {
+        Ok(any())
+    }
+}
+
 /// What is known of the number of a value's lowest bytes.
 fn low_bytes(
     alloc: Global,
@@ -173,15 +190,13 @@ fn low_bytes(
             low_form(alloc, queues, n, form, rest, counting(queues, n)?)
         }
         Known::IndexFor(i, form) => {
-            let listed = (*i as usize) < queues.len();
-            let whole = u64::from(queue_in(queues, *i).index_width) <= width;
-            if listed && whole {
-                Ok(index_for(*i, form.copy(alloc)?))
-            } else {
-                Ok(any())
-            }
+            let index_width = u64::from(queue_in(queues, *i).index_width);
+            whole_index(alloc, queues, *i, form, index_width <= width)
         }
-        Known::SignedFor(_, _) => Ok(any()),
+        Known::SignedFor(i, form) => {
+            let index_width = u64::from(queue_in(queues, *i).index_width);
+            whole_index(alloc, queues, *i, form, index_width == width)
+        }
         Known::EndsAs(_, _) => Ok(any()),
         Known::HasBits(mask, bits) => low_bits(numbers_of(width)?, *mask, *bits),
     }
