@@ -1,10 +1,9 @@
 //! Loads: which queue's index one looks at, what it reads, and the state after it.
 
 ghost use Rattle.std.specs.Prelude.{◌≡◌, ◌+◌, ◌-◌, ◌*◌, ◌&&◌, ◌||◌, ◌==◌, slice_index, nat_lt};
-ghost use Rattle.std.specs.Prelude.{if◌then◌else◌, ℕ, List, Some, None, IfOk, length, map, set, get_or};
+ghost use Rattle.std.specs.Prelude.{if◌then◌else◌, List, Some, None, IfOk, length, map, set, get_or};
 ghost use Rattle.hart.specs.Effects.{next_pc, load_width};
 ghost use Rattle.slot_queue.specs.Ownership.{party_of};
-ghost use Rattle.slot_queue.specs.Queues.{Queue};
 ghost use Rattle.queue_certificates.specs.Forms.{Form, number, plus, lifted};
 ghost use Rattle.queue_certificates.specs.States.{KnownState, KnownValue, Share, share_by, no_share, any, index_for};
 ghost use Rattle.queue_certificates.specs.Certificates.{queue_at, own_of};

@@ -77,8 +77,8 @@ fn is_cut_form(alloc: Global, queue: Queue, form: &Form, count: &Form) -> Result
     Ok(turn == words && below && same)
 }
 
-/// The word of queue `i`'s index, where the value is what a signed load leaves of it; both have the same lowest bytes, as many as the
-/// index.
+/// The value, or the word of queue `i`'s index where the value is what a signed load leaves of that: both have the same lowest bytes,
+/// as many as the index.
 fn without_sign(alloc: Global, i: u32, value: &KnownValue) -> Result<KnownValue, Lack>
     ensures { IfOk result (λ v. v ≡ without_sign i value.now) }
 {
