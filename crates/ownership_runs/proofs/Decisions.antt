@@ -47,7 +47,7 @@ Owns (Indexed q) p c x = OwnsByte q p c x
 Owns (Tagged q) p c x = OwnsRest (slots_of q) p c x
 
 -- the tag of the slot that a byte lies in is that of each position there
-tag-there : (q : Slots) → 1 ≤ q.size → (k x : ℕ) → IsSlotByte q k x → tag_of q ((x - q.slots) / q.width) ≡ tag_of q k
+pub tag-there : (q : Slots) → 1 ≤ q.size → (k x : ℕ) → IsSlotByte q k x → tag_of q ((x - q.slots) / q.width) ≡ tag_of q k
 tag-there q some k x at = ap (λ (i : ℕ). q.tags + q.tag_stride * i + q.tag_offset)
     (ap (λ (i : ℕ). i % q.size) (slot-there q.slots q.width q.size some k x at) ∙ mod-mod k q.size)
 

@@ -6,3 +6,7 @@ pub mod Foreign
 pub mod Judged
 pub mod Noting
 pub mod Ends
+pub mod Sending
+pub mod Told
+pub mod Losing
+pub mod Delivered

@@ -1,6 +1,6 @@
 //! Laws of what is decided.
 
-ghost use Rattle.std.specs.Prelude.{◌≡◌, ◌≤◌, ℕ, List, [], ◌∷◌, None, Some, true, false};
+ghost use Rattle.std.specs.Prelude.{◌≡◌, ◌≤◌, ◌<◌, ℕ, List, [], ◌∷◌, ◌++◌, None, Some, true, false};
 ghost use Rattle.step_machine.specs.declared.events.Entry.{Entry};
 ghost use Rattle.step_machine.specs.declared.events.Event.{Event};
 ghost use Rattle.step_machine.specs.History.{OpeningValue, History};
@@ -8,9 +8,11 @@ ghost use Rattle.step_machine.specs.Runs.{Run};
 ghost use Rattle.queue_parties.specs.Parties.{QueueCounts};
 ghost use Rattle.queue_layouts.specs.declared.AnyQueue.{AnyQueue};
 ghost use Rattle.ownership_runs.specs.declared.violations.Violation.{Violation};
-ghost use Rattle.ownership_runs.specs.Protocols.{Keeps, HasSlot, IsAnyQueue, Rests, Follows};
+ghost use Rattle.ownership_runs.specs.Protocols.{run_counts, Keeps, HasSlot, IsAnyQueue, Rests, Follows};
 ghost use Rattle.ownership_runs.specs.Keeping.{keeps_entry};
 ghost use Rattle.ownership_runs.specs.Violations.{IsFirstViolation, IsForeign, first_ownership_violation};
+ghost use Rattle.ownership_runs.specs.declared.losses.Loss.{Loss};
+ghost use Rattle.ownership_runs.specs.Losses.{IsLossAt, IsLoss, IsFirstLoss, first_loss};
 ghost use Rattle.judged_runs.specs.Telling.{IsFlawTold};
 ghost use Rattle.ownership_runs.specs.Runs.{HasKeptRun, HasBrokenRun, IsOfOneKind};
 ghost use Rattle.ownership_runs.specs.Ends.{EndsInViolation};
@@ -46,4 +48,17 @@ pub fn laws_of_judged_runs()
         → HasKeptRun B M o q start events → HasBrokenRun B M o q start events b → ⊥ }
     ensures ends { (B M : ℕ) (o : OpeningValue) (q : AnyQueue) (start : QueueCounts) (schedule : ℕ → List Event) (runs : ℕ) (part : List Event) (b : Violation)
         → IsFlawTold (HasKeptRun B M o q start) (HasBrokenRun B M o q start) IsOfOneKind schedule runs part b → EndsInViolation B M o q start part b }
+{}
+
+/// Of a queue of either kind with a slot. It does nothing.
+///
+/// - `lost` and `none`: an entry of a run is a loss exactly where there is a first one, which is it.
+/// - `kept`: in a run that keeps the protocol from where the queue is at rest, the receiver has handed the lost position back already.
+pub fn laws_of_losses()
+    ensures lost { (q : AnyQueue) (o : OpeningValue) (c : QueueCounts) (es : List Entry) (l : Loss) → HasSlot q → first_loss q o c es ≡ Some l
+        → IsFirstLoss q o c es l }
+    ensures none { (q : AnyQueue) (o : OpeningValue) (c : QueueCounts) (es : List Entry) (l : Loss) → HasSlot q → first_loss q o c es ≡ None
+        → IsLoss q o c es l → ⊥ }
+    ensures kept { (B : ℕ) (q : AnyQueue) (o : OpeningValue) (c : QueueCounts) (front : List Entry) (e : Entry) (back : List Entry) (l : Loss)
+        → Follows B q c o [] (front ++ e ∷ back) → IsLossAt q o c front e l → l.position < (run_counts q c front).taken }
 {}

@@ -7,6 +7,10 @@
 //! [`laws_of_violations`] states that there is none exactly where the entries keep the queue's protocol, and that otherwise it is
 //! the first entry up to which they don't. [`check_runs`] states what it answers of the runs that the generator's words draw.
 //!
+//! `specs/Losses.antt` defines when a record was lost: of a position of which it was told, the receiver loads something else than what
+//! the sender's hart read there just after it published that position. [`laws_of_losses`] states that the first loss of a run is one, and
+//! that in a run that keeps the protocol the receiver has handed the position back already.
+//!
 //! This crate knows no certificate.
 //!
 //! Called by `certifying`.
@@ -19,6 +23,7 @@ pub mod deciding;
 mod indexed_moves;
 mod judging;
 pub mod laws;
+pub mod losses;
 mod numbers;
 mod parties;
 mod protocols;
@@ -30,6 +35,7 @@ pub mod violations;
 pub use checking::check_runs;
 pub use counts::Counts;
 pub use deciding::first_violation;
-pub use laws::{laws_of_judged_runs, laws_of_violations};
+pub use laws::{laws_of_judged_runs, laws_of_losses, laws_of_violations};
+pub use losses::Loss;
 pub use runs::Moved;
 pub use violations::{Owned, Violation};
