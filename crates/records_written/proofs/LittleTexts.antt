@@ -309,40 +309,60 @@ read_early is = by is.before is.is is.owned
         let long : 2 ≡ length ((e ∷ f ∷ es) ++ is.reads ∷ is.since) = ap (λ (fs : List Entry). length fs) same in
         omega (arith, long, length-append (e ∷ f ∷ es) (is.reads ∷ is.since))
 
--- ---- of a queue with tags: by a load of the tag the receiver learns that it owns the position, and reads only later
+-- ---- of a queue with tags, in its slots or beside them: by a load of the tag the receiver learns that it owns the position, and reads only
+-- later
 
-abbrev one_tag : QueueCertificate
-one_tag = record {
+abbrev one_tag : (tags stride : ℕ) → QueueCertificate
+one_tag tags stride = record {
   queues = [];
   tagged = (record {
-    queue = record { sender = 0; receiver = 1; slots = 0; size = 1; width = 8; tag_offset = 0; tag_width = 4; codec = codec.Zero };
+    queue = record {
+      sender = 0;
+      receiver = 1;
+      slots = 0;
+      size = 1;
+      width = 8;
+      tags = tags;
+      tag_stride = stride;
+      tag_offset = 0;
+      tag_width = 4;
+      codec = codec.Zero;
+    };
     start = 0;
   }) ∷ [];
   harts = [];
 }
 
-abbrev load_tag : Entry
-load_tag = entry.Load 1 0 4 5
+abbrev load_tag : (tags : ℕ) → Entry
+load_tag tags = entry.Load 1 tags 4 5
 
 abbrev load_rest : Entry
 load_rest = entry.Load 1 4 4 7
 
-rest_read : IsRead one_tag (Tagged 0) (load_tag ∷ load_rest ∷ []) 0 4
-rest_read = record {
-  before = load_tag ∷ [];
+rest_read : (tags stride : ℕ) → taken_after (one_tag tags stride) (Tagged 0) (load_tag tags ∷ []) ≤ 0
+    → 0 < owned_end_after (one_tag tags stride) (Tagged 0) (load_tag tags ∷ [])
+    → IsRead (one_tag tags stride) (Tagged 0) (load_tag tags ∷ load_rest ∷ []) 0 4
+rest_read tags stride from owned = record {
+  before = load_tag tags ∷ [];
   reads = load_rest;
   since = [];
   is = refl;
   receiver = refl;
   byte = (omega arith, omega arith);
-  from = omega arith;
-  owned = lit< tt;
+  from = from;
+  owned = owned;
 }
 
-tag_not_read : IsRead one_tag (Tagged 0) (load_tag ∷ []) 0 0 → ⊥
+read_in_slots : IsRead (one_tag 0 8) (Tagged 0) (load_tag 0 ∷ load_rest ∷ []) 0 4
+read_in_slots = rest_read 0 8 (omega arith) (lit< tt)
+
+read_beside : IsRead (one_tag 8 4) (Tagged 0) (load_tag 8 ∷ load_rest ∷ []) 0 4
+read_beside = rest_read 8 4 (omega arith) (lit< tt)
+
+tag_not_read : IsRead (one_tag 0 8) (Tagged 0) (load_tag 0 ∷ []) 0 0 → ⊥
 tag_not_read is = by is.before is.is is.owned
   where
-    by : (before : List Entry) → load_tag ∷ [] ≡ before ++ is.reads ∷ is.since → 0 < owned_end_after one_tag (Tagged 0) before → ⊥
+    by : (before : List Entry) → load_tag 0 ∷ [] ≡ before ++ is.reads ∷ is.since → 0 < owned_end_after (one_tag 0 8) (Tagged 0) before → ⊥
     by [] same owned = let none : 0 < 0 = owned in omega (arith, none)
     by (e ∷ es) same owned =
         let long : 1 ≡ length ((e ∷ es) ++ is.reads ∷ is.since) = ap (λ (fs : List Entry). length fs) same in

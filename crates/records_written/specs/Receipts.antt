@@ -10,7 +10,7 @@ use Rattle.queue_certificates.specs.Tags.{bare, moved_tag}
 use Rattle.queue_certificates.specs.Effects.{published_by, filled_by}
 use Rattle.queue_certificates.specs.Certificates.{QueueCertificate, queue_at, tagged_at}
 use Rattle.queue_certificates.specs.declared.effect.Effect.{Effect}
-use Rattle.queue_certificates.specs.declared.effect.Effect.TheVariants.{Leaves, Fills, Publishes}
+use Rattle.queue_certificates.specs.declared.effect.Effect.TheVariants.{Leaves, Publishes}
 use Rattle.queue_checker.specs.declared.targets.Target.{Target}
 use Rattle.queue_checker.specs.Operands.{load_target, store_target}
 

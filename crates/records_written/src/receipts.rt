@@ -2,7 +2,7 @@
 
 ghost use Rattle.std.specs.Prelude.{◌≡◌, IfOk};
 ghost use Rattle.queue_certificates.specs.Effects.{published_by, filled_by};
-ghost use Rattle.records_written.specs.Receipts.{owned_bytes, moves_tail, receipt_of, is_own_tag, owned_of, tag_receipt_of};
+ghost use Rattle.records_written.specs.Receipts.{owned_bytes, moves_tail, receipt_of, moves_tag, owned_of, tag_receipt_of};
 
 use known_values::queues::queue_in;
 use known_values::ranges::most;
@@ -13,9 +13,10 @@ use queue_checker::places::{offset_at, position_at};
 use queue_checker::sites::small;
 use queue_checker::slots::is_owned;
 use queue_checker::states::{share_after, share_in};
+use queue_checker::tag_stores::moved_tag;
 use queue_checker::tagged_queues::{bare, tagged_in};
 use queue_checker::targets::{Target, load_target, store_target};
-use queue_checker::{KnownState, QueueCertificate, Share, TaggedQueue};
+use queue_checker::{KnownState, QueueCertificate, Share};
 use rv_decode::Instr;
 use std::alloc::Global;
 
@@ -122,23 +123,22 @@ pub(crate) fn receipt_of(
     }
 }
 
-/// Whether bytes are the tag of the receiver's own position, whole.
-fn is_own_tag(queue: TaggedQueue, bytes: Effect) -> bool
-    ensures { result ≡ is_own_tag queue bytes }
+/// Whether a store is of the tag of the receiver's own position of queue `t`, whole.
+fn moves_tag(
+    alloc: Global,
+    certificate: &QueueCertificate,
+    t: u32,
+    state: &KnownState,
+    target: Option<Target>,
+) -> Result<bool, Lack>
+    ensures { IfOk result (λ moves. moves ≡ moves_tag certificate.now t state.now target) }
 {
-    match bytes {
-        Effect::Fills {
-            position,
-            offset,
-            width,
-        } => {
-            position == 0
-                && offset == u64::from(queue.tag_offset)
-                && width == u64::from(queue.tag_width)
+    match target {
+        None => Ok(false),
+        Some(target) => {
+            let hart = tagged_in(&certificate.tagged, t).receiver;
+            Ok(moved_tag(alloc, certificate, hart, state, &target)? == Some(t))
         }
-        Effect::Leaves => false,
-        Effect::Publishes(_) => false,
-        Effect::PublishesSome(_) => false,
     }
 }
 
@@ -169,8 +169,7 @@ pub(crate) fn tag_receipt_of(
     ensures { IfOk result (λ effect. effect ≡ tag_receipt_of certificate.now t state.now instruction) }
 {
     let stored = store_target(alloc, certificate, state, instruction)?;
-    let bytes = owned_of(alloc, certificate, t, state, stored)?;
-    if is_own_tag(tagged_in(&certificate.tagged, t), bytes) {
+    if moves_tag(alloc, certificate, t, state, stored)? {
         Ok(Effect::Publishes(1))
     } else {
         let loaded = load_target(alloc, certificate, state, instruction)?;
