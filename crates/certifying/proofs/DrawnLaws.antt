@@ -104,7 +104,7 @@ module _ (o : OpeningValue) (c : QueueCertificate) where
   some-tagged-slot : (i t : ℕ) → flaw_of_tagged o c t ≡ None → HasSlot (queue_by c i (Some t))
   some-tagged-slot i t none =
       let tag = no_first _ _ (no_hart _ (tagged_flaw o c t) none) in
-      let harts_and_slots = no_first _ _ (no_first _ _ (no_first _ _ (no_first _ _ (no_first _ _ tag.0).0).0).0).0 in
+      let harts_and_slots = no_first _ _ (no_first _ _ (no_first _ _ (no_first _ _ (no_first _ _ (no_first _ _ tag.0).0).0).0).0).0 in
       leb-true 1 (tagged_at c t).size (holds-unless _ _ harts_and_slots.1)
 
   pub sized : (f : Flaw) → first_flaw o c ≡ Some f → is_of_queue f ≡ false → SomeSlots

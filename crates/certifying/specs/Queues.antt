@@ -30,7 +30,8 @@ number_in c i = number_by i (tagged_number c i)
 -- b is the offset of a byte of its tag, if it has one in each slot
 abbrev pub is_tag_byte_by : QueueCertificate → (t : Option ℕ) → (b : ℕ) → Bool
 is_tag_byte_by c None b = false
-is_tag_byte_by c (Some t) b = are_slots (tagged_at c t) && nat_le (tagged_at c t).tag_offset b && nat_lt b ((tagged_at c t).tag_offset + (tagged_at c t).tag_width)
+is_tag_byte_by c (Some t) b =
+    are_slots (tagged_at c t) && nat_le (tagged_at c t).tag_offset b && nat_lt b ((tagged_at c t).tag_offset + (tagged_at c t).tag_width)
 
 abbrev pub is_tag_byte : QueueCertificate → (i b : ℕ) → Bool
 is_tag_byte c i b = is_tag_byte_by c (tagged_number c i) b

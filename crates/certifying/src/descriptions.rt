@@ -6,7 +6,7 @@ ghost use Rattle.std.specs.String.{string_bytes};
 ghost use Rattle.engine_support.specs.OpeningTexts.{numbered};
 ghost use Rattle.certifying.specs.Descriptions.{access_lines, all_queue_lines, bits_text, codec_text, count_end, count_front, count_line};
 ghost use Rattle.certifying.specs.Descriptions.{field_end, field_front, field_line, form_by, form_lines, from_end, indices_line, load_line};
-ghost use Rattle.certifying.specs.Descriptions.{opens_end, parties_line, queue_lines};
+ghost use Rattle.certifying.specs.Descriptions.{opens_end, parties_line, place_in_element, place_in_slot, queue_lines};
 ghost use Rattle.certifying.specs.Descriptions.{slots_end, slots_front, slots_line, store_line, tag_bytes, tag_front, tag_line, tag_place};
 ghost use Rattle.certifying.specs.Descriptions.{tagged_form_lines, tagged_lines, tagged_slots_line};
 ghost use Rattle.certifying.specs.Queues.{queue_count, tagged_number};
@@ -14,6 +14,7 @@ ghost use Rattle.certifying.specs.Queues.{queue_count, tagged_number};
 use crate::instructions::push_place;
 use crate::queues::{accesses_at, number_of, number_of_tagged, tagged_number};
 use known_values::{Field, Lack, OpenedQueue, Queue};
+use queue_checker::tagged_queues::are_slots;
 use queue_checker::{QueueCertificate, SlotAccess, slot_accesses};
 use queue_layouts::{Codec, OpenedTagged, TaggedQueue};
 use std::alloc::{AllocError, Global};
@@ -173,11 +174,36 @@ fn push_tag_bytes(out: &mut String, width: u32) -> Result<(), AllocError>
     }
 }
 
-#[tactic(auto, unfolding(crate::specs::Descriptions::tag_place))]
-fn push_tag_place(out: &mut String, offset: u32) -> Result<(), AllocError>
-    ensures { OnOk result (string_bytes out.new ≡ string_bytes out.old ++ tag_place offset) }
+#[tactic(auto, unfolding(crate::specs::Descriptions::place_in_slot))]
+fn push_place_in_slot(out: &mut String, offset: u32) -> Result<(), AllocError>
+    ensures { OnOk result (string_bytes out.new ≡ string_bytes out.old ++ place_in_slot offset) }
 {
     write!(out, " at {offset} of each slot, ")
+}
+
+#[tactic(auto, unfolding(crate::specs::Descriptions::place_in_element))]
+fn push_place_in_element(
+    out: &mut String,
+    offset: u32,
+    width: u32,
+    elements: u32,
+) -> Result<(), AllocError>
+    ensures { OnOk result (string_bytes out.new ≡ string_bytes out.old ++ place_in_element offset width elements) }
+{
+    write!(
+        out,
+        " at {offset} of each element of {width} bytes from {elements} on, "
+    )
+}
+
+fn push_tag_place(out: &mut String, queue: TaggedQueue) -> Result<(), AllocError>
+    ensures { OnOk result (string_bytes out.new ≡ string_bytes out.old ++ tag_place queue) }
+{
+    if are_slots(queue) {
+        push_place_in_slot(out, queue.tag_offset)
+    } else {
+        push_place_in_element(out, queue.tag_offset, queue.tag_stride, queue.tags)
+    }
 }
 
 /// How bits of a tag tell.
@@ -216,7 +242,7 @@ fn push_tag(out: &mut String, index: u32, opened: OpenedTagged) -> Result<(), Al
 {
     push_tag_front(out, index)?;
     push_tag_bytes(out, opened.queue.tag_width)?;
-    push_tag_place(out, opened.queue.tag_offset)?;
+    push_tag_place(out, opened.queue)?;
     push_codec(out, opened.queue.codec)?;
     push_opens(out, opened.start)
 }

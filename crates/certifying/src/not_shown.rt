@@ -94,6 +94,7 @@ fn push_tagged_fault(out: &mut String, why: TaggedFlaw) -> Result<(), AllocError
         TaggedFlaw::NoTag => out.push_str(" has a tag without a byte"),
         TaggedFlaw::WideTag => out.push_str(" has a tag of more than 4 bytes"),
         TaggedFlaw::PastSlot => out.push_str(" has a tag that reaches past its slot"),
+        TaggedFlaw::Overlapping => out.push_str(" has tags that overlap its slots"),
         TaggedFlaw::NarrowNumber => out.push_str(" has numbers in a tag that isn't a word"),
         TaggedFlaw::SameNumbers => out.push_str(
             " has numbers that are the same for free and for full slots",

@@ -7,7 +7,7 @@ ghost use Rattle.certifying.specs.Queues.{accesses_at, any_queue, any_start, is_
 
 use known_values::queues::queue_in;
 use known_values::{Lack, OpenedQueue, Queue};
-use queue_checker::tagged_queues::{bare, tagged_in, tagged_start_in};
+use queue_checker::tagged_queues::{are_slots, bare, tagged_in, tagged_start_in};
 use queue_checker::{QueueCertificate, SlotAccess, slot_accesses, tagged_accesses};
 use queue_layouts::AnyQueue;
 use record_bytes::ByteRange;
@@ -63,7 +63,7 @@ pub fn number_in(certificate: &QueueCertificate, index: u32) -> QueueNumber
     }
 }
 
-/// The bytes of the tags of a queue's slots; a range without a byte, if it has none.
+/// The bytes of a queue's slots that are tags; a range without a byte, if its slots have none.
 pub fn tag_range(certificate: &QueueCertificate, index: u32) -> ByteRange
     ensures { (b : ℕ) → range_has result b ≡ is_tag_byte certificate.now index b }
 {
@@ -73,7 +73,7 @@ pub fn tag_range(certificate: &QueueCertificate, index: u32) -> ByteRange
             let queue = tagged_in(&certificate.tagged, t);
             let first = u64::from(queue.tag_offset);
             let end = first + u64::from(queue.tag_width);
-            if end == 0 {
+            if end == 0 || !are_slots(queue) {
                 return ByteRange { first: 1, last: 0 };
             }
             ByteRange {
