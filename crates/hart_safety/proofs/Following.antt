@@ -19,7 +19,7 @@ use Rattle.step_machine.specs.History.{OpeningValue}
 use Rattle.queue_parties.specs.Parties.{Party}
 use Rattle.slot_queue.specs.Queues.{Queue, IsQueue, TellsFull}
 use Rattle.queue_layouts.specs.declared.tagged.TaggedQueue.{TaggedQueue}
-use Rattle.queue_certificates.specs.OwnedRuns.{View, AllCounts, Acts}
+use Rattle.queue_certificates.specs.OwnedRuns.{View, AllCounts, ActsByCounts}
 use Rattle.queue_certificates.specs.RecordFields.{Field}
 use Rattle.queue_certificates.specs.Forms.{Form, Bounds}
 use Rattle.queue_certificates.specs.States.{any, KnownState, Has, MeansAt}
@@ -157,7 +157,7 @@ may-reach-listed c h pc (Some ks) arrows ok at = reaches-listed c h pc ks arrows
 -- ---- all instructions
 
 module _ (M : ℕ) (o : OpeningValue) (c : QueueCertificate) (h : ℕ) (xs : List ℕ) (k : KnownState) (s : HartState) (m : View) (cs : AllCounts) (e : Entry)
-    (acts : Acts M o (length c.queues) (queue_at c) nobody_told nothing_sent h s m cs e) (size : 32 ≤ length s.registers)
+    (acts : ActsByCounts M o (length c.queues) (queue_at c) nobody_told nothing_sent h s m cs e) (size : 32 ≤ length s.registers)
     (fine : (j : ℕ) → j < length c.queues → IsQueue (queue_at c j) × TellsFull (queue_at c j) × ((queue_at c j).index_width ≤ 4))
     (means : MeansAt (queue_at c) (length c.queues) (own_of c h) h xs k s m cs) (d : Form) where
   abbrev after : Option Instr → Option (List KnownState) → Option (List KnownState)
@@ -226,7 +226,7 @@ never-past c code k (leaf d arrows) ok at =
 never-past c code k (split j v low high) ok at = never-past c code (with_low k j v) low (and_parts _ _ ok).0 at
 
 module _ (M : ℕ) (o : OpeningValue) (c : QueueCertificate) (h : ℕ) (xs : List ℕ) (k : KnownState) (s : HartState) (m : View) (cs : AllCounts) (e : Entry)
-    (acts : Acts M o (length c.queues) (queue_at c) nobody_told nothing_sent h s m cs e) (size : 32 ≤ length s.registers)
+    (acts : ActsByCounts M o (length c.queues) (queue_at c) nobody_told nothing_sent h s m cs e) (size : 32 ≤ length s.registers)
     (fine : (j : ℕ) → j < length c.queues → IsQueue (queue_at c j) × TellsFull (queue_at c j) × ((queue_at c j).index_width ≤ 4))
     (means : MeansAt (queue_at c) (length c.queues) (own_of c h) h xs k s m cs) (d : Form) (arrows : List Arrow) where
   no-exit : (number : Option ℕ) → call_in c k ≡ number → is_no_exit number ≡ true → is_no_exit (Some (slice_index s.registers 17)) ≡ true

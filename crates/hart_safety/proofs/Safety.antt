@@ -18,7 +18,7 @@ use Rattle.step_machine.specs.Legal.{WellFormed}
 use Rattle.step_machine.specs.Paths.{number_read, opens_as, state_of}
 use Rattle.step_machine.proofs.OwnRuns.{kept-front, state_there}
 use Rattle.store_buffers.specs.StoreBuffers.{LeavesByteBy}
-use Rattle.queue_certificates.specs.OwnedRuns.{View, AllCounts, Acts, IsCertified}
+use Rattle.queue_certificates.specs.OwnedRuns.{View, AllCounts, ActsByCounts, IsCertifiedOfQueues}
 use Rattle.queue_certificates.proofs.Sets.{CertifiedSets}
 use Rattle.queue_certificates.proofs.Every.{holds, next_is, every_state}
 use Rattle.queue_certificates.specs.Forms.{Form}
@@ -62,34 +62,34 @@ module _ (B M : ℕ) (o : OpeningValue) (c : QueueCertificate) (ok : accepts o c
   in-state h s m cs us in' runs = let w = in' runs in (w.0, w.1, (w.2.0, w.2.1))
 
   plain : (h : ℕ) (s : HartState) (m : View) (cs : AllCounts) (e : Entry)
-      → Acts M o (length c.queues) (queue_at c) (HasFields c) (MeetsFields c) h s m cs e
-      → Acts M o (length c.queues) (queue_at c) nobody_told nothing_sent h s m cs e
+      → ActsByCounts M o (length c.queues) (queue_at c) (HasFields c) (MeetsFields c) h s m cs e
+      → ActsByCounts M o (length c.queues) (queue_at c) nobody_told nothing_sent h s m cs e
   plain h s m cs e = untold M o (length c.queues) (queue_at c) (HasFields c) (MeetsFields c) h s m cs e
 
   acts-code : (h : ℕ) (s : HartState) (m : View) (cs : AllCounts) (e : Entry)
-      → Acts M o (length c.queues) (queue_at c) nobody_told nothing_sent h s m cs e → (hart_at o h).code ≡ s.code
+      → ActsByCounts M o (length c.queues) (queue_at c) nobody_told nothing_sent h s m cs e → (hart_at o h).code ≡ s.code
   acts-code h s m cs e acts = sym (subst (λ x. s.code ≡ x.code) (sym (get_or_from_slice_get o.harts h acts.opens no_hart acts.is)) acts.code)
 
   acts-wide : (h : ℕ) (s : HartState) (m : View) (cs : AllCounts) (e : Entry)
-      → Acts M o (length c.queues) (queue_at c) nobody_told nothing_sent h s m cs e → 32 ≤ length s.registers
+      → ActsByCounts M o (length c.queues) (queue_at c) nobody_told nothing_sent h s m cs e → 32 ≤ length s.registers
   acts-wide h s m cs e acts = subst (λ n. 32 ≤ n) (sym acts.size) (of-hart M o c ok h acts.opens acts.is).registers
 
   -- ---- what is so of a hart as it opens, and after each instruction if it was so before, is so in every run
 
   module _ (h : ℕ) (P : HartState → Type 0) (opens : (x : HartOpeningValue) → slice_get o.harts h ≡ Some x → P (opens_as M x))
       (next : (s : HartState) (m : View) (cs : AllCounts) (e : Entry) → IsInState c h s m cs → P s
-      → Acts M o (length c.queues) (queue_at c) nobody_told nothing_sent h s m cs e → P (advanced s (number_read e))) where
+      → ActsByCounts M o (length c.queues) (queue_at c) nobody_told nothing_sent h s m cs e → P (advanced s (number_read e))) where
     abbrev IsSo : ℕ → HartState → View → (cs us : AllCounts) → Type 0
     IsSo g s m cs us = IsAtState c g s m cs us × (g ≡ h → P s)
 
-    certified : IsCertified M o (length c.queues) (queue_at c) (HasFields c) (MeetsFields c) (told_beside c) (start_at c) (IsOwnByte c) IsSo
+    certified : IsCertifiedOfQueues M o (length c.queues) (queue_at c) (HasFields c) (MeetsFields c) (told_beside c) (start_at c) (IsOwnByte c) IsSo
     certified = let all = accepted-certifies M o c ok in record {
       frame = λ g s m n cs ds us vs so bytes same beside. (all.frame g s m n cs ds us vs so.0 bytes same beside, so.1);
       opens = λ g x is. (all.opens g x is, λ same. opens x (subst (λ i. slice_get o.harts i ≡ Some x) same is));
       steps = λ g s m cs us e so acts knows. (
         all.steps g s m cs us e so.0 acts knows,
         λ same. next s m cs e (subst (λ i. IsInState c i s m cs) same (in-state g s m cs us so.0)) (so.1 same)
-            (subst (λ i. Acts M o (length c.queues) (queue_at c) nobody_told nothing_sent i s m cs e) same (plain g s m cs e acts)),
+            (subst (λ i. ActsByCounts M o (length c.queues) (queue_at c) nobody_told nothing_sent i s m cs e) same (plain g s m cs e acts)),
       );
       writes = λ g s m cs us e so. all.writes g s m cs us e so.0;
       keeps = λ g s m cs us e so. all.keeps g s m cs us e so.0;
@@ -111,7 +111,7 @@ module _ (B M : ℕ) (o : OpeningValue) (c : QueueCertificate) (ok : accepts o c
 
     -- the leaf at which a hart acts
     module _ (s : HartState) (m : View) (cs : AllCounts) (e : Entry) (in' : IsInState c h s m cs)
-        (acts : Acts M o (length c.queues) (queue_at c) nobody_told nothing_sent h s m cs e) where
+        (acts : ActsByCounts M o (length c.queues) (queue_at c) nobody_told nothing_sent h s m cs e) where
       abbrev state : ℕ
       state = (in' acts.can.running).0
 
@@ -188,7 +188,7 @@ module _ (B M : ℕ) (o : OpeningValue) (c : QueueCertificate) (ok : accepts o c
   -- ---- what a hart writes
 
   leaves-outside : (h x : ℕ) → first_unbounded o c h ≡ None → IsInNone x (regions_written o c h) → (s : HartState) (m : View) (cs : AllCounts)
-      (d : Entry) → IsInState c h s m cs → Acts M o (length c.queues) (queue_at c) nobody_told nothing_sent h s m cs d → LeavesByteBy x (access_of d)
+      (d : Entry) → IsInState c h s m cs → ActsByCounts M o (length c.queues) (queue_at c) nobody_told nothing_sent h s m cs d → LeavesByteBy x (access_of d)
   leaves-outside h x none out s m cs d in' acts =
       let w = in' acts.can.running in
       let at = reaches-leaf (writes_at c (hart_at o h).code) (Spares x) (λ n k before spares. (spared c (hart_at o h).code x n k before spares).1)

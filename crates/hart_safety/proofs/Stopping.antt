@@ -23,7 +23,7 @@ use Rattle.hart.proofs.Instructions.{need_at}
 use Rattle.step_machine.specs.declared.events.Entry.{Entry}
 use Rattle.step_machine.specs.History.{OpeningValue}
 use Rattle.slot_queue.specs.Queues.{Queue, IsQueue, TellsFull}
-use Rattle.queue_certificates.specs.OwnedRuns.{View, AllCounts, Acts}
+use Rattle.queue_certificates.specs.OwnedRuns.{View, AllCounts, ActsByCounts}
 use Rattle.queue_certificates.specs.Forms.{form_value, number, is_same, InRanges, Bounds}
 use Rattle.queue_certificates.specs.States.{KnownValue, any, linear, index_for, signed_for, ends_as, has_bits, KnownState, Has, MeansAt}
 use Rattle.queue_certificates.specs.Results.{as_number, bounds}
@@ -80,7 +80,7 @@ module _ (queues : ℕ → Queue) (rs : List (Option ℕ)) (xs : List ℕ) (rang
       at-most (Some b) is = (has-bounds queues rs xs (linear f) a b ranges is has).1
 
 module _ (M : ℕ) (o : OpeningValue) (c : QueueCertificate) (h : ℕ) (xs : List ℕ) (k : KnownState) (s : HartState) (m : View) (cs : AllCounts) (e : Entry)
-    (acts : Acts M o (length c.queues) (queue_at c) nobody_told nothing_sent h s m cs e) (size : 32 ≤ length s.registers)
+    (acts : ActsByCounts M o (length c.queues) (queue_at c) nobody_told nothing_sent h s m cs e) (size : 32 ≤ length s.registers)
     (fine : (j : ℕ) → j < length c.queues → IsQueue (queue_at c j) × TellsFull (queue_at c j) × ((queue_at c j).index_width ≤ 4))
     (means : MeansAt (queue_at c) (length c.queues) (own_of c h) h xs k s m cs) where
   operand-has : (r : Reg) → Has (queue_at c) xs (operand (queue_at c) k r) (register_value s.registers r)

@@ -28,7 +28,7 @@ use Rattle.step_machine.specs.Entries.{hart_of}
 use Rattle.step_machine.specs.Paths.{number_read, entry_of}
 use Rattle.store_buffers.specs.StoreBuffers.{LeavesByteBy}
 use Rattle.slot_queue.specs.Queues.{IsQueue, TellsFull}
-use Rattle.queue_certificates.specs.OwnedRuns.{View, AllCounts, Acts}
+use Rattle.queue_certificates.specs.OwnedRuns.{View, AllCounts, ActsByCounts}
 use Rattle.queue_certificates.specs.Forms.{Bounds}
 use Rattle.queue_certificates.specs.States.{KnownValue, KnownState, Has, MeansAt}
 use Rattle.queue_certificates.specs.Results.{bounds}
@@ -47,7 +47,7 @@ store-some store_op.Half = omega arith
 store-some store_op.Word = omega arith
 
 module _ (M : ℕ) (o : OpeningValue) (c : QueueCertificate) (h : ℕ) (xs : List ℕ) (k : KnownState) (s : HartState) (m : View) (cs : AllCounts) (e : Entry)
-    (acts : Acts M o (length c.queues) (queue_at c) nobody_told nothing_sent h s m cs e) (size : 32 ≤ length s.registers)
+    (acts : ActsByCounts M o (length c.queues) (queue_at c) nobody_told nothing_sent h s m cs e) (size : 32 ≤ length s.registers)
     (fine : (j : ℕ) → j < length c.queues → IsQueue (queue_at c j) × TellsFull (queue_at c j) × ((queue_at c j).index_width ≤ 4))
     (means : MeansAt (queue_at c) (length c.queues) (own_of c h) h xs k s m cs) (x : ℕ) where
   -- the entry by which this is met leaves the byte

@@ -12,7 +12,7 @@ use Rattle.step_machine.specs.Access.{Access, load, store, exchange, access_of}
 use Rattle.step_machine.specs.Entries.{hart_of}
 use Rattle.queue_parties.specs.Parties.{Party, other, QueueCounts, count, KeepsEach}
 use Rattle.queue_parties.specs.Positions.{IsInBytes}
-use Rattle.slot_queue.specs.Queues.{IsOutside, index_word, least}
+use Rattle.slot_queue.specs.Queues.{IsOutside, index_word, least_count}
 use Rattle.slot_queue.specs.Ownership.{index, end, OwnsByte, MovesOn, KeepsAccess}
 use Rattle.slots_that_tell.specs.Slots.{Slots, gap, tag_of, IsSlotByte, IsOutside as IsOffSlots}
 use Rattle.slots_that_tell.specs.Telling.{owned_end, OwnsRest, IsTagStore, MovesOn as HandsOn, TellsAccess}
@@ -103,7 +103,7 @@ decides-tag q p n w = Decides-like _ (λ all. record { place = all.0.0; width = 
 
 decides-moves : (q : AnyQueue) (p : Party) (c : QueueCounts) (w : Write) → Decides (moves_on q (Some p) c w) (Moves q p c w)
 decides-moves (Indexed q) p c w =
-    let far = least q (count p c) w.value in
+    let far = least_count q (count p c) w.value in
     Decides-like _ (λ all. record { place = all.0.0.0; width = all.0.0.1; word = all.0.1; owned = all.1 })
     (λ (moves : MovesOn q p c w). (((moves.place, moves.width), moves.word), moves.owned))
     (Decides-and _ _ (Decides-and _ _ (Decides-and _ _ (Decides-eqb w.addr (index q p)) (Decides-eqb w.width q.index_width))

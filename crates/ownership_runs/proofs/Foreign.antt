@@ -7,7 +7,7 @@ use Rattle.step_machine.specs.declared.events.Entry.{Entry}
 use Rattle.step_machine.specs.Access.{access_of}
 use Rattle.step_machine.specs.Entries.{hart_of}
 use Rattle.queue_parties.specs.Parties.{Party, the_sender, the_receiver, QueueCounts, count, known, with_known}
-use Rattle.slot_queue.specs.Queues.{index_word, least}
+use Rattle.slot_queue.specs.Queues.{index_word, least_count}
 use Rattle.slot_queue.specs.Ownership.{end}
 use Rattle.slots_that_tell.specs.Telling.{owned_end, IsTagStore}
 use Rattle.queue_layouts.specs.declared.AnyQueue.{AnyQueue}
@@ -58,12 +58,12 @@ module _ (p : Party) (d e : QueueCounts) (own : count p e ≡ count p d) (less :
   moves-more : (q : AnyQueue) (w : Write) → Moves q p d w → Moves q p e w
   moves-more (Indexed q) w moves =
       let later = ends-later (Indexed q) in
-      let far : least q (count p d) w.value ≤ end q p e = omega (arith, moves.owned, later) in
+      let far : least_count q (count p d) w.value ≤ end q p e = omega (arith, moves.owned, later) in
       record {
         place = moves.place;
         width = moves.width;
-        word = subst (λ (n : ℕ). w.value ≡ index_word q (least q n w.value)) (sym own) moves.word;
-        owned = subst (λ (n : ℕ). least q n w.value ≤ end q p e) (sym own) far;
+        word = subst (λ (n : ℕ). w.value ≡ index_word q (least_count q n w.value)) (sym own) moves.word;
+        owned = subst (λ (n : ℕ). least_count q n w.value ≤ end q p e) (sym own) far;
       }
   moves-more (Tagged q) w moves =
       let later = ends-later (Tagged q) in

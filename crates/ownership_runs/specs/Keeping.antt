@@ -6,7 +6,7 @@ use Rattle.step_machine.specs.declared.events.Entry.{Entry}
 use Rattle.step_machine.specs.Access.{Access, load, store, exchange, access_of}
 use Rattle.step_machine.specs.Entries.{hart_of}
 use Rattle.queue_parties.specs.Parties.{Party, other, QueueCounts, count, with_known}
-use Rattle.slot_queue.specs.Queues.{Queue, index_word, least}
+use Rattle.slot_queue.specs.Queues.{Queue, index_word, least_count}
 use Rattle.slot_queue.specs.Ownership.{end, is_index_store}
 use Rattle.slots_that_tell.specs.Slots.{Slots, gap, tag_of}
 use Rattle.slots_that_tell.specs.Telling.{owned_end}
@@ -63,7 +63,8 @@ fills q o a (suc number) = may_fill q o (a + number) && fills q o a number
 
 -- a party moves its own index on, up to the end of what it owns
 abbrev pub moves_index : Queue → Party → QueueCounts → Write → Bool
-moves_index q p c w = is_index_store q p w && (w.value == index_word q (least q (count p c) w.value)) && nat_le (least q (count p c) w.value) (end q p c)
+moves_index q p c w = is_index_store q p w && (w.value == index_word q (least_count q (count p c) w.value)) &&
+    nat_le (least_count q (count p c) w.value) (end q p c)
 
 -- a store to the tag of position n, whole, of a value that tells the other that it has the position handed over
 abbrev pub is_tag_store : Slots → Party → (n : ℕ) → Write → Bool

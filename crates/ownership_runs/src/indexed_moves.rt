@@ -2,7 +2,7 @@
 
 ghost use Rattle.std.specs.Prelude.{◌≡◌, ◌≤◌, ◌<◌, ◌+◌, ◌/◌, ◌^◌, ◌==◌, ℕ};
 ghost use Rattle.queue_parties.specs.Parties.{other};
-ghost use Rattle.slot_queue.specs.Queues.{index_word, least};
+ghost use Rattle.slot_queue.specs.Queues.{index_word, least_count};
 ghost use Rattle.step_machine.specs.Access.{load, store};
 ghost use Rattle.slot_queue.specs.Ownership.{index, end, after_load, after_store, is_index_store};
 ghost use Rattle.ownership_runs.specs.Keeping.{moves_index};
@@ -37,9 +37,9 @@ pub(crate) fn end(queue: &Queue, party: Party, counts: RunCounts) -> u128
 }
 
 /// The least count from `n` on that an index's word stands for.
-fn least(queue: &Queue, n: u128, word: u32) -> u128
+fn least_count(queue: &Queue, n: u128, word: u32) -> u128
     requires { n ≤ ROOM }
-    ensures value { result ≡ least queue.now n word }
+    ensures value { result ≡ least_count queue.now n word }
     ensures step { result ≤ n + STEP }
 {
     let modulus = u128::from(queue.modulus);
@@ -78,7 +78,7 @@ pub(crate) fn after_load(
     ensures within { (n : ℕ) → AreCountsWithin n n counts → AreCountsWithin n (n + STEP) result }
 {
     if address == index(queue, other(party)) && width == queue.index_width {
-        let now = least(queue, known(party, counts), value);
+        let now = least_count(queue, known(party, counts), value);
         with_known(party, now, counts)
     } else {
         counts
@@ -99,7 +99,7 @@ pub(crate) fn after_store(queue: &Queue, party: Party, write: Write, counts: Run
     ensures within { (n m : ℕ) → AreCountsWithin n m counts → AreCountsWithin (n + STEP) m result }
 {
     if is_index_store(queue, party, write) {
-        let now = least(queue, count(party, counts), write.value);
+        let now = least_count(queue, count(party, counts), write.value);
         with_count(party, now, counts)
     } else {
         counts
@@ -114,6 +114,6 @@ pub(crate) fn moves_index(queue: &Queue, party: Party, counts: RunCounts, write:
     if !is_index_store(queue, party, write) {
         return false;
     }
-    let now = least(queue, count(party, counts), write.value);
+    let now = least_count(queue, count(party, counts), write.value);
     is_index_word(queue, now, write.value) && now <= end(queue, party, counts)
 }

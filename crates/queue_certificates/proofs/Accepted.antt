@@ -16,7 +16,7 @@ use Rattle.store_buffers.specs.StoreBuffers.{memory_number}
 use Rattle.queue_parties.specs.Parties.{Party, the_sender, the_receiver, all_at, count}
 use Rattle.slot_queue.specs.Queues.{Queue, IsQueue, TellsFull, KeepsOff, index_word}
 use Rattle.slot_queue.specs.Ownership.{hart, party_of, end}
-use Rattle.queue_certificates.specs.OwnedRuns.{View, AllCounts, Acts}
+use Rattle.queue_certificates.specs.OwnedRuns.{View, AllCounts, ActsByCounts}
 use Rattle.queue_certificates.specs.RecordFields.{MeetsField}
 use Rattle.queue_certificates.specs.Forms.{form_value, InRanges}
 use Rattle.queue_certificates.specs.States.{KnownValue, any, linear, index_for, signed_for, ends_as, has_bits, no_share, own_at, own_number}
@@ -108,7 +108,7 @@ in-ranges (Some n ∷ rs) (x ∷ xs) ok = let parts = and_parts (nat_le x n) (ar
 
 -- what is received of an owned position, also where nothing is said of records
 pub fields-received : (M : ℕ) (o : OpeningValue) (c : QueueCertificate) (h : ℕ) (s : HartState) (m : View) (cs : AllCounts) (e : Entry)
-    → Acts M o (length c.queues) (queue_at c) (HasFields c) (MeetsFields c) h s m cs e → (i : ℕ) → i < length c.queues
+    → ActsByCounts M o (length c.queues) (queue_at c) (HasFields c) (MeetsFields c) h s m cs e → (i : ℕ) → i < length c.queues
     → h ≡ (queue_at c i).receiver → (p : ℕ) → (cs i).taken ≤ p → p < (cs i).known_published → All (MeetsField (queue_at c i) p m) (fields_at c i)
 fields-received M o c h s m cs e acts i less mine p from below = elim (cases_lt 0 (length (fields_at c i))) [
   | inl some ↦ acts.received i less some mine p from below

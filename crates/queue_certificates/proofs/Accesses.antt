@@ -5,7 +5,7 @@ use Rattle.std.proofs.Common.{subst, arith}
 use Rattle.std.specs.Prelude.{nat_lt}
 use Rattle.std.proofs.lemmas.Bool.{and_parts, or_cases, and_left, and_right, eqb-true, ltb-true, ne_eqb, eq-eqb, not-true}
 use Rattle.step_machine.specs.Access.{load}
-use Rattle.slot_queue.specs.Queues.{Queue, IsQueue, TellsFull, index_word, least}
+use Rattle.slot_queue.specs.Queues.{Queue, IsQueue, TellsFull, index_word, least_count}
 use Rattle.queue_parties.specs.Parties.{Party, the_sender, the_receiver, other, QueueCounts, count, known, with_known}
 use Rattle.slot_queue.specs.Ownership.{hart, party_of, index, end, after_load, after_access}
 use Rattle.queue_parties.proofs.Parties.{harts-apart, Whose, mine, theirs, whose, two, count-set-known}
@@ -69,7 +69,7 @@ pub missed : (q : Queue) (t : Option Party) (b : Bounds) (a width v : ℕ) (c : 
     → after_access q t (load a width v) c ≡ c
 missed q None b a width v c ok low high = refl
 missed q (Some p) b a width v c ok low high =
-    ap (λ t. if t then with_known p (least q (known p c) v) c else c) off
+    ap (λ t. if t then with_known p (least_count q (known p c) v) c else c) off
   where
     x : ℕ
     x = index q (other p)

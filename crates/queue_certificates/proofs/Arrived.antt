@@ -16,8 +16,8 @@ use Rattle.queue_parties.proofs.Records.{passed}
 use Rattle.certified_runs.specs.Views.{byte_then}
 use Rattle.certified_runs.proofs.EveryRun.{own_act}
 use Rattle.slots_that_tell.specs.Slots.{Slots, tag_of, IsSlotByte}
-use Rattle.slots_that_tell.specs.Telling.{teller_of, owned_end, told_access, after_entry}
-use Rattle.slots_that_tell.specs.Laws.{FollowsTelling, counts}
+use Rattle.slots_that_tell.specs.Telling.{teller_of, owned_end, told_access, after_entry, told_counts}
+use Rattle.slots_that_tell.specs.Laws.{FollowsTelling}
 use Rattle.slots_that_tell.proofs.HandingOver.{handed, waited}
 use Rattle.slots_that_tell.proofs.Owned.{grows-entry}
 use Rattle.slots_that_tell.proofs.Runs.{window}
@@ -25,7 +25,7 @@ use Rattle.queue_certificates.specs.Arrived.{HasWaited, WasSent, HasArrived}
 use Rattle.queue_certificates.proofs.ToldAccesses.{knows_of, tag_loaded, told_owns}
 
 module _ (B : ℕ) (q : Slots) (start : QueueCounts) (o : OpeningValue) (es : List Entry) (f : FollowsTelling B q start o [] es) (k x : ℕ)
-    (of_k : IsSlotByte q k x) (given : (counts q start es).taken ≤ k) (has : k < (counts q start es).known_published) where
+    (of_k : IsSlotByte q k x) (given : (told_counts q start es).taken ≤ k) (has : k < (told_counts q start es).known_published) where
   was_sent : start.published ≤ k → WasSent q start o es k x
   was_sent new = record {
     before = at.done;
@@ -36,16 +36,16 @@ module _ (B : ℕ) (q : Slots) (start : QueueCounts) (o : OpeningValue) (es : Li
     past = at.past;
     reads = λ leaves. subst (λ xs. read_byte o xs q.receiver x ≡ read_byte o (at.done ++ at.entry ∷ []) q.sender x) (sym at.is)
         (handed B q start o [] at.done at.entry at.rest (subst (FollowsTelling B q start o []) at.is f) the_sender k at.from at.past x of_k
-        (let from : (counts q start (at.done ++ at.entry ∷ at.rest)).taken ≤ k = subst (λ xs. (counts q start xs).taken ≤ k) at.is given in
+        (let from : (told_counts q start (at.done ++ at.entry ∷ at.rest)).taken ≤ k = subst (λ xs. (told_counts q start xs).taken ≤ k) at.is given in
         omega (arith, from))
-        (let below : k < (counts q start (at.done ++ at.entry ∷ at.rest)).known_published =
-        subst (λ xs. k < (counts q start xs).known_published) at.is has in
+        (let below : k < (told_counts q start (at.done ++ at.entry ∷ at.rest)).known_published =
+        subst (λ xs. k < (told_counts q start xs).known_published) at.is has in
         omega (arith, below)) leaves);
   }
     where
       at : Passed (after_entry q) (count the_sender) start es k
       at = passed (after_entry q) (count the_sender) (λ front e j. 0) (λ c e. (grows-entry q c e).counts the_sender) start es k new
-          (let w : IsWindow q.size (counts q start es) = window B q start o [] es f in omega (arith, w.known_published, has))
+          (let w : IsWindow q.size (told_counts q start es) = window B q start o [] es f in omega (arith, w.known_published, has))
 
   came : HasWaited q start o es k x ⊎ WasSent q start o es k x
   came = elim (cases_lt k start.published) [
@@ -59,10 +59,10 @@ module _ (B : ℕ) (q : Slots) (start : QueueCounts) (o : OpeningValue) (es : Li
 -- ---- a load of a whole tag that tells
 
 module _ (B : ℕ) (q : Slots) (start : QueueCounts) (o : OpeningValue) (es : List Entry) (e : Entry) (f : FollowsTelling B q start o [] (es ++ e ∷ []))
-    (here : hart_of e ≡ q.receiver) (k v : ℕ) (does : access_of e ≡ load (tag_of q k) q.tag_width v) (from : (counts q start es).taken ≤ k)
-    (near : k < (counts q start es).taken + q.size) (tells : q.tells the_receiver k v ≡ true) where
+    (here : hart_of e ≡ q.receiver) (k v : ℕ) (does : access_of e ≡ load (tag_of q k) q.tag_width v) (from : (told_counts q start es).taken ≤ k)
+    (near : k < (told_counts q start es).taken + q.size) (tells : q.tells the_receiver k v ≡ true) where
   abbrev c : QueueCounts
-  c = counts q start es
+  c = told_counts q start es
 
   party : teller_of q (hart_of e) ≡ Some the_receiver
   party = by (whose q.sender q.receiver (hart_of e))
@@ -72,7 +72,7 @@ module _ (B : ℕ) (q : Slots) (start : QueueCounts) (o : OpeningValue) (es : Li
       by (mine the_receiver at found) = found
       by (mine the_sender at found) = absurd (f.slots.parties (sym at ∙ here))
 
-  after : counts q start (es ++ e ∷ []) ≡ knows_of q f.slots the_receiver c k
+  after : told_counts q start (es ++ e ∷ []) ≡ knows_of q f.slots the_receiver c k
   after = counts-append (after_entry q) start es (e ∷ [])
       ∙ ap (λ t. told_access q t (access_of e) c) party
       ∙ ap (λ y. told_access q (Some the_receiver) y c) does
@@ -81,7 +81,7 @@ module _ (B : ℕ) (q : Slots) (start : QueueCounts) (o : OpeningValue) (es : Li
 
   pub told_arrives : (x : ℕ) → IsSlotByte q k x → HasArrived q start o (es ++ e ∷ []) x
   told_arrives x of_k = has_arrived B q start o (es ++ e ∷ []) f k x of_k
-      (let same : (counts q start (es ++ e ∷ [])).taken ≡ c.taken = ap (λ d. d.taken) after in omega (arith, same, from))
+      (let same : (told_counts q start (es ++ e ∷ [])).taken ≡ c.taken = ap (λ d. d.taken) after in omega (arith, same, from))
       (subst (λ d. k < d.known_published) (sym after)
       (let owns : k < owned_end q the_receiver (knows_of q f.slots the_receiver c k) = told_owns q f.slots the_receiver c k in omega (arith, owns)))
 

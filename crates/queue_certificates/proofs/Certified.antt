@@ -22,7 +22,7 @@ use Rattle.slot_queue.specs.Queues.{IsByteOf, slot_of}
 use Rattle.slot_queue.specs.Ownership.{hart, party_of, after_access, KeepsAccess}
 use Rattle.slots_that_tell.specs.Telling.{teller_hart, told_access, TellsAccess}
 use Rattle.queue_certificates.specs.ToldRuns.{LoadsRestOwned}
-use Rattle.queue_certificates.specs.OwnedRuns.{View, AllCounts, view_then, Acts, IsSameFor, LoadsOwned, kept_beside}
+use Rattle.queue_certificates.specs.OwnedRuns.{View, AllCounts, view_then, ActsByCounts, IsSameFor, LoadsOwned, kept_beside}
 use Rattle.queue_certificates.specs.RecordFields.{MeetsField}
 use Rattle.queue_certificates.specs.Forms.{Form}
 use Rattle.queue_certificates.specs.States.{KnownValue, KnownState, MeansAt, own_at}
@@ -69,9 +69,9 @@ module _ (M : ℕ) (o : OpeningValue) (c : QueueCertificate) (ok : accepts o c �
         → LoadsRestOwned (slots_of (tagged_at c t)) p (us t) y
 
   module _ (h : ℕ) (x : HartOpeningValue) (of : OfHart M o c ok h x) (s : HartState) (m : View) (cs us : AllCounts) (e : Entry)
-      (acts : Acts M o (length c.queues) (queue_at c) (HasFields c) (MeetsFields c) h s m cs e) (knows : (kept_beside (told_beside c)).Knows h us m)
+      (acts : ActsByCounts M o (length c.queues) (queue_at c) (HasFields c) (MeetsFields c) h s m cs e) (knows : (kept_beside (told_beside c)).Knows h us m)
       (code : s.code ≡ x.code) (size : length s.registers ≡ length x.registers) where
-    plain-acts : Acts M o (length c.queues) (queue_at c) nobody_told nothing_sent h s m cs e
+    plain-acts : ActsByCounts M o (length c.queues) (queue_at c) nobody_told nothing_sent h s m cs e
     plain-acts = untold M o (length c.queues) (queue_at c) (HasFields c) (MeetsFields c) h s m cs e acts
 
     wide : 32 ≤ length s.registers
@@ -109,7 +109,7 @@ module _ (M : ℕ) (o : OpeningValue) (c : QueueCertificate) (ok : accepts o c �
               (arrows_fill c h i arrows (is_filled_after k.ranges (queue_at c i) (fields_at c i) (stored-as i) (get_or filled i []) f)) sends in
               record {
                 effect = f;
-                does = subst (λ g. Acts M o (length c.queues) (queue_at c) nobody_told nothing_sent g s m cs e
+                does = subst (λ g. ActsByCounts M o (length c.queues) (queue_at c) nobody_told nothing_sent g s m cs e
                     → MeansAt (queue_at c) (length c.queues) (own_of c g) g xs k s m cs
                     → follow (queue_at c) (length c.queues) (own_of c) (length c.harts) g k d (instruction_at s.code k.pc) ≡ Some ks
                     → Does (queue_at c i) (cs i) k.ranges (stored-as i) m f (access_of e) (advanced s (number_read e))) (sym mine)
@@ -218,7 +218,7 @@ module _ (M : ℕ) (o : OpeningValue) (c : QueueCertificate) (ok : accepts o c �
   Knows h us m = (kept_beside (told_beside c)).Knows h us m
 
   goes-on : (owns rests : ℕ → Bool) (h : ℕ) (s : HartState) (m : View) (cs us : AllCounts) (e : Entry) → IsAtState c h s m cs us
-      → Acts M o (length c.queues) (queue_at c) (HasFields c) (MeetsFields c) h s m cs e → Knows h us m
+      → ActsByCounts M o (length c.queues) (queue_at c) (HasFields c) (MeetsFields c) h s m cs e → Knows h us m
       → ((i : ℕ) → owns i ≡ true → accepts_loads o c i h ≡ true) → ((t : ℕ) → rests t ≡ true → accepts_rest o c t h ≡ true)
       → Went h m cs us (access_of e) (advanced s (number_read e)) owns rests
   goes-on owns rests h s m cs us e in' a knows owned rested =
@@ -249,13 +249,13 @@ module _ (M : ℕ) (o : OpeningValue) (c : QueueCertificate) (ok : accepts o c �
   none_owned i = false
 
   goes : (h : ℕ) (s : HartState) (m : View) (cs us : AllCounts) (e : Entry) → IsAtState c h s m cs us
-      → Acts M o (length c.queues) (queue_at c) (HasFields c) (MeetsFields c) h s m cs e → Knows h us m
+      → ActsByCounts M o (length c.queues) (queue_at c) (HasFields c) (MeetsFields c) h s m cs e → Knows h us m
       → Went h m cs us (access_of e) (advanced s (number_read e)) none_owned none_owned
   goes h s m cs us e in' a knows = goes-on none_owned none_owned h s m cs us e in' a knows (λ i no-way. absurd (cc)) (λ t no-way. absurd (cc))
 
   -- no other hart writes a hart's own bytes
   goes-apart : (h : ℕ) (s : HartState) (m : View) (cs us : AllCounts) (e : Entry) → IsAtState c h s m cs us
-      → Acts M o (length c.queues) (queue_at c) (HasFields c) (MeetsFields c) h s m cs e → Knows h us m
+      → ActsByCounts M o (length c.queues) (queue_at c) (HasFields c) (MeetsFields c) h s m cs e → Knows h us m
       → (g x : ℕ) → g ≢ h → IsOwnByte c g x → LeavesByteBy x (access_of e)
   goes-apart h s m cs us e in' a knows g x far (inl own) = (goes h s m cs us e in' a knows).apart g x far own.0 own.1 own.2.0 own.2.1
   goes-apart h s m cs us e in' a knows g x far (inr sent) = by (whose (queue_at c sent.0).sender (queue_at c sent.0).receiver h)
@@ -343,7 +343,7 @@ module _ (M : ℕ) (o : OpeningValue) (c : QueueCertificate) (ok : accepts o c �
   -- and what a party loads of the slots of a queue with tags is of tags, or of owned slots
   pub accepted-rest : (t : ℕ) → t < length c.tagged → (p : Party) → accepts_rest o c t (teller_hart (slots_of (tagged_at c t)) p) ≡ true
       → (s : HartState) (m : View) (cs us : AllCounts) (e : Entry) → IsAtState c (teller_hart (slots_of (tagged_at c t)) p) s m cs us
-      → Acts M o (length c.queues) (queue_at c) (HasFields c) (MeetsFields c) (teller_hart (slots_of (tagged_at c t)) p) s m cs e
+      → ActsByCounts M o (length c.queues) (queue_at c) (HasFields c) (MeetsFields c) (teller_hart (slots_of (tagged_at c t)) p) s m cs e
       → Knows (teller_hart (slots_of (tagged_at c t)) p) us m → LoadsRestOwned (slots_of (tagged_at c t)) p (us t) (access_of e)
   accepted-rest t less p rested s m cs us e in' a knows =
       (goes-on none_owned (λ j. j == t) (teller_hart (slots_of (tagged_at c t)) p) s m cs us e in' a knows (λ i no-way. absurd (cc))

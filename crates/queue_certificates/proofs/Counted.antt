@@ -6,7 +6,7 @@ use Rattle.step_machine.specs.declared.events.Entry.{Entry}
 use Rattle.step_machine.specs.History.{OpeningValue}
 use Rattle.step_machine.specs.Access.{Access, nothing, load, store, exchange, fence, land}
 use Rattle.step_machine.specs.Entries.{read_byte}
-use Rattle.slot_queue.specs.Queues.{Queue, IsQueue, least}
+use Rattle.slot_queue.specs.Queues.{Queue, IsQueue, least_count}
 use Rattle.queue_parties.specs.Parties.{Party, the_sender, the_receiver, other, QueueCounts, count, known, with_known, all_at}
 use Rattle.slot_queue.specs.Ownership.{hart, index, moved, after_load, after_access, counts_after, KeepsAccess}
 use Rattle.slot_queue.specs.Laws.{FollowsOwnership}
@@ -23,15 +23,15 @@ module _ (q : Queue) (r : Party) (c : QueueCounts) where
   loaded-count : (a width v : ℕ) → count (other r) (after_load q r a width v c) ≡ count (other r) c
   loaded-count a width v = by (a == index q (other r) && width == q.index_width)
     where
-      by : (b : Bool) → count (other r) (if b then with_known r (least q (known r c) v) c else c) ≡ count (other r) c
-      by true = count-set-known r (other r) (least q (known r c) v) c
+      by : (b : Bool) → count (other r) (if b then with_known r (least_count q (known r c) v) c else c) ≡ count (other r) c
+      by true = count-set-known r (other r) (least_count q (known r c) v) c
       by false = refl
 
   loaded-known : (a width v : ℕ) → known (other r) (after_load q r a width v c) ≡ known (other r) c
   loaded-known a width v = by (a == index q (other r) && width == q.index_width)
     where
-      by : (b : Bool) → known (other r) (if b then with_known r (least q (known r c) v) c else c) ≡ known (other r) c
-      by true = known-set-other r (least q (known r c) v) c
+      by : (b : Bool) → known (other r) (if b then with_known r (least_count q (known r c) v) c else c) ≡ known (other r) c
+      by true = known-set-other r (least_count q (known r c) v) c
       by false = refl
 
   others-count : (y : Access) → count (other r) (after_access q (Some r) y c) ≡ count (other r) c

@@ -29,7 +29,7 @@ use Rattle.slot_queue.specs.Ownership.{party_of, hart, after_access, counts_afte
 use Rattle.slot_queue.specs.Laws.{FollowsOwnership}
 use Rattle.slot_queue.proofs.Owned.{grows-after}
 use Rattle.slot_queue.proofs.Runs.{window}
-use Rattle.queue_certificates.specs.OwnedRuns.{View, AllCounts, IsSameFor, SeesIndices, owning, kept_beside, Acts, counts_then}
+use Rattle.queue_certificates.specs.OwnedRuns.{View, AllCounts, IsSameFor, SeesIndices, owning, kept_beside, ActsByCounts, counts_then}
 use Rattle.queue_certificates.specs.OwnedRuns.{LoadsOwned, LoadsByte, ReadsOwned, LoadsAreOwned}
 use Rattle.queue_certificates.specs.Delivered.{IsDelivered}
 use Rattle.queue_certificates.proofs.Sets.{CertifiedSets}
@@ -88,7 +88,7 @@ module _ {B M : ℕ} {o : OpeningValue} (sets : CertifiedSets B M o) where
   ByBoth h s m cs = P h s m cs.0 cs.1
 
   abbrev pub ActsIn : (h : ℕ) → HartState → View → AllCounts → Entry → Type 0
-  ActsIn h s m cs e = Acts M o N queues Told Sent h s m cs e
+  ActsIn h s m cs e = ActsByCounts M o N queues Told Sent h s m cs e
 
   acts-as : (h : ℕ) (s : HartState) (m : View) (cs : BothCounts) (e : Entry) → certified.Acts M o h s m e → protocol.Knows h cs m → ActsIn h s m cs.0 e
   acts-as h s m cs e a k = record {

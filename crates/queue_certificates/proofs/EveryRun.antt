@@ -16,8 +16,8 @@ use Rattle.certified_runs.specs.TwoParties.{EachIs}
 use Rattle.slot_queue.specs.Ownership.{hart, counts_after}
 use Rattle.slot_queue.specs.Laws.{FollowsOwnership}
 use Rattle.slots_that_tell.specs.Slots.{Slots, tag_of, IsSlotByte}
-use Rattle.slots_that_tell.specs.Telling.{teller_hart, OwnsRest, KeepsTelling}
-use Rattle.slots_that_tell.specs.Laws.{FollowsTelling, counts}
+use Rattle.slots_that_tell.specs.Telling.{teller_hart, OwnsRest, KeepsTelling, told_counts}
+use Rattle.slots_that_tell.specs.Laws.{FollowsTelling}
 use Rattle.queue_certificates.specs.ToldRuns.{telling, IsOfTag, LoadsRestOwned}
 use Rattle.queue_certificates.specs.Arrived.{HasArrived}
 use Rattle.queue_certificates.proofs.ToldProtocol.{is_of_parties, sees_tags}
@@ -36,12 +36,12 @@ use Rattle.queue_certificates.proofs.Certified.{accepted-certifies, accepted-loa
 
 -- what a receiver loads of slots that it owns has arrived
 module _ (B : ℕ) (q : Slots) (start : QueueCounts) (o : OpeningValue) (es : List Entry) (f : FollowsTelling B q start o [] es) (x : ℕ) where
-  owned-arrives : IsOfTag q x ⊎ OwnsRest q the_receiver (counts q start es) x → IsOfTag q x ⊎ HasArrived q start o es x
+  owned-arrives : IsOfTag q x ⊎ OwnsRest q the_receiver (told_counts q start es) x → IsOfTag q x ⊎ HasArrived q start o es x
   owned-arrives (inl tag) = inl tag
   owned-arrives (inr owns) = inr (has_arrived B q start o es f owns.position x owns.byte owns.from
-      (let below : owns.position < (counts q start es).known_published + 0 = owns.before in omega (arith, below)))
+      (let below : owns.position < (told_counts q start es).known_published + 0 = owns.before in omega (arith, below)))
 
-  load-arrives : (y : Access) → LoadsRestOwned q the_receiver (counts q start es) y → LoadsByte y x → IsInBytes q.slots (q.size * q.width) x
+  load-arrives : (y : Access) → LoadsRestOwned q the_receiver (told_counts q start es) y → LoadsByte y x → IsInBytes q.slots (q.size * q.width) x
       → IsOfTag q x ⊎ HasArrived q start o es x
   load-arrives (load a width v) owned within slots = owned-arrives (owned x within slots)
   load-arrives (exchange a old new) owned within slots = owned-arrives (owned x within slots)
@@ -101,7 +101,7 @@ module _ (B M : ℕ) (o : OpeningValue) (c : QueueCertificate) (ok : accepts o c
 
   -- a hart that runs is in one of its states, and what that says of fields and of queues with tags is so
   pub accepted_fields : (es : List Entry) → WellFormed B M (history_of o es) → (h : ℕ) (s : HartState) → state_of M (history_of o es) h ≡ Some s
-      → IsAtState c h s (λ x. read_byte o es h x) (λ i. counts_after (queue_at c i) (all_at (start_at c i)) es) (λ t. counts (slots t) (opens t) es)
+      → IsAtState c h s (λ x. read_byte o es h x) (λ i. counts_after (queue_at c i) (all_at (start_at c i)) es) (λ t. told_counts (slots t) (opens t) es)
   accepted_fields = every_state sets
 
   pub accepted_states : (es : List Entry) → WellFormed B M (history_of o es) → (h : ℕ) (s : HartState) → state_of M (history_of o es) h ≡ Some s
@@ -134,7 +134,7 @@ module _ (B M : ℕ) (o : OpeningValue) (c : QueueCertificate) (ok : accepts o c
     accepted_rest = beside_is sets t (teller_hart (slots t) p) (LoadsRestOwned (slots t) p) landed (accepted-rest M o c ok t less p rested)
 
     next_rest : (es : List Entry) (e : Entry) → WellFormed B M (history_of o (es ++ e ∷ [])) → hart_of e ≡ teller_hart (slots t) p
-        → LoadsRestOwned (slots t) p (counts (slots t) (opens t) es) (access_of e)
+        → LoadsRestOwned (slots t) p (told_counts (slots t) (opens t) es) (access_of e)
     next_rest = next_beside_is sets t (teller_hart (slots t) p) (LoadsRestOwned (slots t) p) landed (accepted-rest M o c ok t less p rested)
 
   pub accepted_arrivals : (t : ℕ) → t < length c.tagged → accepts_rest o c t (tagged_at c t).receiver ≡ true → (es : List Entry) (e : Entry)
@@ -146,8 +146,8 @@ module _ (B M : ℕ) (o : OpeningValue) (c : QueueCertificate) (ok : accepts o c
 
   pub accepted_tellings : (t : ℕ) → t < length c.tagged → (es : List Entry) (e : Entry) → WellFormed B M (history_of o (es ++ e ∷ []))
       → hart_of e ≡ (tagged_at c t).receiver → (k v : ℕ) → access_of e ≡ load (tag_of (slots_of (tagged_at c t)) k) (tagged_at c t).tag_width v
-      → (counts (slots_of (tagged_at c t)) (all_at (tagged_start c t)) es).taken ≤ k
-      → k < (counts (slots_of (tagged_at c t)) (all_at (tagged_start c t)) es).taken + (tagged_at c t).size
+      → (told_counts (slots_of (tagged_at c t)) (all_at (tagged_start c t)) es).taken ≤ k
+      → k < (told_counts (slots_of (tagged_at c t)) (all_at (tagged_start c t)) es).taken + (tagged_at c t).size
       → tells_by (tagged_at c t).codec the_receiver k v ≡ true
       → (v ≡ read o (es ++ e ∷ []) (tagged_at c t).receiver (tag_of (slots_of (tagged_at c t)) k) (tagged_at c t).tag_width)
       × ((x : ℕ) → IsSlotByte (slots_of (tagged_at c t)) k x → HasArrived (slots_of (tagged_at c t)) (all_at (tagged_start c t)) o (es ++ e ∷ []) x)

@@ -8,7 +8,7 @@ use Rattle.step_machine.specs.declared.events.Entry.{Entry}
 use Rattle.step_machine.specs.History.{HartOpeningValue, OpeningValue}
 use Rattle.step_machine.specs.Access.{access_of}
 use Rattle.step_machine.specs.Paths.{number_read}
-use Rattle.queue_certificates.specs.OwnedRuns.{View, AllCounts, Acts, kept_beside}
+use Rattle.queue_certificates.specs.OwnedRuns.{View, AllCounts, ActsByCounts, kept_beside}
 use Rattle.queue_certificates.specs.Forms.{Form, settled}
 use Rattle.queue_certificates.specs.States.{KnownState, MeansAt}
 use Rattle.queue_certificates.specs.Steps.{follow, instruction_at, loads_owned}
@@ -92,7 +92,7 @@ among-leads c h xs (k ∷ ks) (a ∷ arrows) z m cs us ok (inr w) =
 
 module _ (M : ℕ) (o : OpeningValue) (c : QueueCertificate) (ok : accepts o c ≡ true) (h : ℕ) (x : HartOpeningValue) (of : OfHart M o c ok h x)
     (s : HartState) (m : View) (cs us : AllCounts) (e : Entry)
-    (acts : Acts M o (length c.queues) (queue_at c) (HasFields c) (MeetsFields c) h s m cs e) (knows : (kept_beside (told_beside c)).Knows h us m)
+    (acts : ActsByCounts M o (length c.queues) (queue_at c) (HasFields c) (MeetsFields c) h s m cs e) (knows : (kept_beside (told_beside c)).Knows h us m)
     (code : s.code ≡ x.code) (size : length s.registers ≡ length x.registers) where
   pub leaf-goes : (k : KnownState) (d : Form) (xs : List ℕ) (ts : List KnownState) → MeansAt (queue_at c) (length c.queues) (own_of c h) h xs k s m cs
       → SharesTold c h xs k us → next_states c h x.code k d ≡ Some ts

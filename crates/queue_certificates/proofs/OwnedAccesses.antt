@@ -5,7 +5,7 @@ use Rattle.std.proofs.lemmas.Bool.{eq-eqb, ne_eqb}
 use Rattle.memory.specs.declared.writes.Write.{Write}
 use Rattle.memory.proofs.Bytes.{covers-from}
 use Rattle.step_machine.specs.Access.{load}
-use Rattle.slot_queue.specs.Queues.{Queue, IsQueue, TellsFull, index_word, least, slot_of, KeepsOff}
+use Rattle.slot_queue.specs.Queues.{Queue, IsQueue, TellsFull, index_word, least_count, slot_of, KeepsOff}
 use Rattle.queue_parties.specs.Parties.{Party, the_sender, the_receiver, other, QueueCounts, count, known, with_known}
 use Rattle.slot_queue.specs.Ownership.{index, end, after_load, moved, MovesOn, FillsOwned}
 use Rattle.slot_queue.proofs.Codes.{least-near}
@@ -15,7 +15,9 @@ use Rattle.queue_certificates.specs.OwnedRuns.{View, ReadsFrom, limit, SeesIndic
 module _ (q : Queue) (is : IsQueue q) (p : Party) (c : QueueCounts) where
   -- a load of anything but the other's index leaves what is known
   pub elsewhere : (a width v : ℕ) → a ≢ index q (other p) → after_load q p a width v c ≡ c
-  elsewhere a width v apart = ap (λ b. if b && (width == q.index_width) then with_known p (least q (known p c) v) c else c) (ne_eqb a (index q (other p)) apart)
+  elsewhere a width v apart =
+      ap (λ b. if b && (width == q.index_width) then with_known p (least_count q (known p c) v) c else c)
+      (ne_eqb a (index q (other p)) apart)
 
   -- of the own index: the word of the own count
   pub own_read : (m : View) → SeesIndices q p c m → (v : ℕ) → ReadsFrom m (load (index q p) q.index_width v)
@@ -39,10 +41,10 @@ module _ (q : Queue) (is : IsQueue q) (p : Party) (c : QueueCounts) where
         word,
         sees.from,
         sees.upto,
-        ap (λ b. if b && (q.index_width == q.index_width) then with_known p (least q (known p c) v) c else c)
+        ap (λ b. if b && (q.index_width == q.index_width) then with_known p (least_count q (known p c) v) c else c)
             (eq-eqb (index q (other p)) (index q (other p)) refl)
-            ∙ ap (λ b. if b then with_known p (least q (known p c) v) c else c) (eq-eqb q.index_width q.index_width refl)
-            ∙ ap (λ x. with_known p (least q (known p c) x) c) word
+            ∙ ap (λ b. if b then with_known p (least_count q (known p c) v) c else c) (eq-eqb q.index_width q.index_width refl)
+            ∙ ap (λ x. with_known p (least_count q (known p c) x) c) word
             ∙ ap (λ k. with_known p k c) (least-near q is (known p c) sees.there sees.from (near sees.there tells sees.room sees.upto)),
       )
 
@@ -50,8 +52,8 @@ module _ (q : Queue) (is : IsQueue q) (p : Party) (c : QueueCounts) where
   pub moves : (w : Write) (d : ℕ) → w.addr ≡ index q p → w.width ≡ q.index_width → w.value ≡ index_word q (count p c + d) → d < q.modulus
       → count p c + d ≤ end q p c → MovesOn q p c w × (moved q p (count p c) w ≡ count p c + d)
   moves w d place width word near_by owned =
-      let at : least q (count p c) w.value ≡ count p c + d =
-      ap (least q (count p c)) word ∙ least-near q is (count p c) (count p c + d) (omega arith) (omega (arith, near_by)) in (
+      let at : least_count q (count p c) w.value ≡ count p c + d =
+      ap (least_count q (count p c)) word ∙ least-near q is (count p c) (count p c + d) (omega arith) (omega (arith, near_by)) in (
         record { place = place; width = width; word = word ∙ ap (index_word q) (sym at); owned = omega (arith, at, owned) },
         moved-index q p (count p c) w (record { place = place; width = width; of = count p c + d; word = word }) ∙ at,
       )

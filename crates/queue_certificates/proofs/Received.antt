@@ -22,7 +22,7 @@ use Rattle.step_machine.specs.Paths.{number_read}
 use Rattle.slot_queue.specs.Queues.{Queue, IsQueue, TellsFull, slot_of}
 use Rattle.queue_parties.specs.Parties.{the_receiver}
 use Rattle.queue_certificates.specs.declared.own.OwnWord.{OwnWord}
-use Rattle.queue_certificates.specs.OwnedRuns.{View, AllCounts, number_seen, Acts}
+use Rattle.queue_certificates.specs.OwnedRuns.{View, AllCounts, number_seen, ActsByCounts}
 use Rattle.queue_certificates.specs.RecordFields.{Field, MeetsField}
 use Rattle.queue_certificates.specs.Forms.{Form}
 use Rattle.queue_certificates.specs.States.{KnownValue, any, linear, index_for, signed_for, ends_as, has_bits, no_share, KnownState, Has, MeansAt}
@@ -78,7 +78,7 @@ none-follows queues fields N own_of H h k i ks is = absurd (cc)
 
 module _ (M : ℕ) (o : OpeningValue) (queues : ℕ → Queue) (N : ℕ) (own_of : ℕ → List OwnWord) (H h : ℕ) (xs : List ℕ)
     (k : KnownState) (s : HartState) (m : View) (cs : AllCounts) (e : Entry)
-    (acts : Acts M o N queues nobody_told nothing_sent h s m cs e) (size : 32 ≤ length s.registers)
+    (acts : ActsByCounts M o N queues nobody_told nothing_sent h s m cs e) (size : 32 ≤ length s.registers)
     (fine : (i : ℕ) → i < N → IsQueue (queues i) × TellsFull (queues i) × ((queues i).index_width ≤ 4))
     (means : MeansAt queues N (own_of h) h xs k s m cs) (fields : ℕ → List Field)
     (got : (i : ℕ) → i < N → h ≡ (queues i).receiver → (p : ℕ) → (cs i).taken ≤ p → p < (cs i).known_published

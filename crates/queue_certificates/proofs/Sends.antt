@@ -17,12 +17,12 @@ use Rattle.step_machine.specs.declared.events.Entry.{Entry}
 use Rattle.step_machine.specs.History.{OpeningValue}
 use Rattle.step_machine.specs.Access.{load, store, exchange, access_of}
 use Rattle.step_machine.specs.Paths.{number_read}
-use Rattle.slot_queue.specs.Queues.{Queue, IsQueue, TellsFull, KeepsOff, least, slot_of}
+use Rattle.slot_queue.specs.Queues.{Queue, IsQueue, TellsFull, KeepsOff, least_count, slot_of}
 use Rattle.queue_parties.specs.Positions.{IsInBytes}
 use Rattle.queue_parties.specs.Parties.{the_sender, the_receiver, QueueCounts, known, with_known}
 use Rattle.slot_queue.specs.Ownership.{index, party_of, after_access}
 use Rattle.queue_certificates.specs.declared.own.OwnWord.{OwnWord}
-use Rattle.queue_certificates.specs.OwnedRuns.{View, AllCounts, ReadsFrom, Acts, view_then}
+use Rattle.queue_certificates.specs.OwnedRuns.{View, AllCounts, ReadsFrom, ActsByCounts, view_then}
 use Rattle.queue_certificates.specs.RecordFields.{Field}
 use Rattle.queue_certificates.specs.Forms.{Form, form_value, most, Bounds}
 use Rattle.queue_certificates.specs.States.{KnownValue, any, linear, index_for, signed_for, ends_as, has_bits, no_share, KnownState, Has, HasShare, MeansAt}
@@ -50,7 +50,7 @@ use Rattle.std.proofs.lemmas.Nat.{mul-le}
 loaded-same : (q : Queue) (c : QueueCounts) (a width v : ℕ) → published_then q c (load a width v) ≡ c.published
 loaded-same q c a width v = by (a == index q the_receiver && width == q.index_width)
   where
-    by : (t : Bool) → (if t then with_known the_sender (least q (known the_sender c) v) c else c).published ≡ c.published
+    by : (t : Bool) → (if t then with_known the_sender (least_count q (known the_sender c) v) c else c).published ≡ c.published
     by true = refl
     by false = refl
 
@@ -60,7 +60,7 @@ chosen false x y is = absurd (cc)
 
 module _ (M : ℕ) (o : OpeningValue) (queues : ℕ → Queue) (N : ℕ) (own_of : ℕ → List OwnWord) (H i : ℕ) (less : i < N) (xs : List ℕ)
     (k : KnownState) (s : HartState) (m : View) (cs : AllCounts) (e : Entry)
-    (acts : Acts M o N queues nobody_told nothing_sent (queues i).sender s m cs e) (size : 32 ≤ length s.registers)
+    (acts : ActsByCounts M o N queues nobody_told nothing_sent (queues i).sender s m cs e) (size : 32 ≤ length s.registers)
     (fine : (j : ℕ) → j < N → IsQueue (queues j) × TellsFull (queues j) × ((queues j).index_width ≤ 4))
     (means : MeansAt queues N (own_of (queues i).sender) (queues i).sender xs k s m cs)
     (past : (g : ℕ) → H ≤ g → length (own_of g) ≡ 0) where

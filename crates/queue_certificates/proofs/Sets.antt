@@ -9,7 +9,7 @@ use Rattle.certified_runs.specs.Views.{view_of}
 use Rattle.certified_runs.specs.TwoParties.{hart_in, KeepsProtocol, counts_in}
 use Rattle.certified_runs.proofs.TwoParties.{IsOfParties}
 use Rattle.slot_queue.specs.Queues.{Queue}
-use Rattle.queue_certificates.specs.OwnedRuns.{View, AllCounts, Beside, IsCertified, OpenQueues}
+use Rattle.queue_certificates.specs.OwnedRuns.{View, AllCounts, Beside, IsCertifiedOfQueues, OpenQueues}
 
 -- each protocol beside is one of two parties, and what a party takes for granted is so in a legal run that keeps it
 pub record IsBeside (B : ℕ) (o : OpeningValue) (b : Beside) : Type 0 where
@@ -29,4 +29,4 @@ pub record CertifiedSets (B M : ℕ) (o : OpeningValue) : Type 1 where
   pub Among : ℕ → HartState → View → AllCounts → AllCounts → Type 0
   pub begins : OpenQueues M o number queues Told Sent starts
   pub is_beside : IsBeside B o beside
-  pub certified : IsCertified M o number queues Told Sent beside starts Own Among
+  pub certified : IsCertifiedOfQueues M o number queues Told Sent beside starts Own Among

@@ -43,7 +43,7 @@ use Rattle.slot_queue.specs.Queues.{Queue, IsQueue, TellsFull, KeepsOff, index_w
 use Rattle.queue_parties.specs.Parties.{Party, other, QueueCounts, count, known as known_of}
 use Rattle.slot_queue.specs.Ownership.{hart, index, party_of, after_load as after_load_of, after_access, KeepsAccess}
 use Rattle.queue_certificates.specs.declared.own.OwnWord.{OwnWord}
-use Rattle.queue_certificates.specs.OwnedRuns.{View, AllCounts, number_seen, view_then, Acts, ReadsFrom, IsSameFor, LoadsOwned, OwnsSlotsOf}
+use Rattle.queue_certificates.specs.OwnedRuns.{View, AllCounts, number_seen, view_then, ActsByCounts, ReadsFrom, IsSameFor, LoadsOwned, OwnsSlotsOf}
 use Rattle.queue_certificates.specs.Forms.{Form, form_value, number, plus, minus, is_same, most, fits_in, lifted, Bounds, remainder_word}
 use Rattle.queue_certificates.specs.States.{KnownValue, any, linear, index_for, signed_for, ends_as, has_bits, own_at, own_number}
 use Rattle.queue_certificates.specs.States.{signed_word, Share, no_share, share_by, KnownState}
@@ -93,7 +93,7 @@ nothing_sent i k m = Unit {0}
 
 -- a hart that acts does so whatever is known of what is sent
 pub untold : (M : ℕ) (o : OpeningValue) (N : ℕ) (queues : ℕ → Queue) (Told : ℕ → Type 0) (Sent : (i k : ℕ) → View → Type 0) (h : ℕ) (s : HartState)
-    (m : View) (cs : AllCounts) (e : Entry) → Acts M o N queues Told Sent h s m cs e → Acts M o N queues nobody_told nothing_sent h s m cs e
+    (m : View) (cs : AllCounts) (e : Entry) → ActsByCounts M o N queues Told Sent h s m cs e → ActsByCounts M o N queues nobody_told nothing_sent h s m cs e
 untold M o N queues Told Sent h s m cs e a = record {
   mine = a.mine;
   act = a.act;
@@ -207,7 +207,7 @@ module _ (queues : ℕ → Queue) (N : ℕ) (own_of : ℕ → List OwnWord) (h :
 
 module _ (M : ℕ) (o : OpeningValue) (queues : ℕ → Queue) (N : ℕ) (own_of : ℕ → List OwnWord) (H h : ℕ) (xs : List ℕ)
     (k : KnownState) (s : HartState) (m : View) (cs : AllCounts) (e : Entry)
-    (acts : Acts M o N queues nobody_told nothing_sent h s m cs e) (size : 32 ≤ length s.registers)
+    (acts : ActsByCounts M o N queues nobody_told nothing_sent h s m cs e) (size : 32 ≤ length s.registers)
     (fine : (i : ℕ) → i < N → IsQueue (queues i) × TellsFull (queues i) × ((queues i).index_width ≤ 4))
     (means : MeansAt queues N (own_of h) h xs k s m cs) where
   abbrev v : ℕ

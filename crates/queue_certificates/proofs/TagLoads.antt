@@ -22,7 +22,7 @@ use Rattle.slots_that_tell.specs.Telling.{teller_hart, after_load, told_access}
 use Rattle.slots_that_tell.proofs.Owned.{mine-of}
 use Rattle.queue_certificates.specs.declared.own.OwnWord.{OwnWord}
 use Rattle.queue_certificates.specs.ToldRuns.{TellsEither, SeesTags, OwnsAllButTags}
-use Rattle.queue_certificates.specs.OwnedRuns.{View, AllCounts, number_seen, ReadsFrom, view_then, Acts}
+use Rattle.queue_certificates.specs.OwnedRuns.{View, AllCounts, number_seen, ReadsFrom, view_then, ActsByCounts}
 use Rattle.queue_certificates.specs.Forms.{number, lifted, Bounds}
 use Rattle.queue_certificates.specs.States.{KnownValue, Share, no_share, KnownState, Has, MeansAt}
 use Rattle.queue_certificates.specs.Results.{Result}
@@ -48,7 +48,7 @@ use Rattle.queue_certificates.proofs.NextAccess.{found-at}
 
 module _ (M : ℕ) (o : OpeningValue) (queues : ℕ → Queue) (N : ℕ) (own_of : ℕ → List OwnWord) (H h : ℕ) (xs : List ℕ)
     (k : KnownState) (s : HartState) (m : View) (cs : AllCounts) (e : Entry)
-    (acts : Acts M o N queues nobody_told nothing_sent h s m cs e) (size : 32 ≤ length s.registers)
+    (acts : ActsByCounts M o N queues nobody_told nothing_sent h s m cs e) (size : 32 ≤ length s.registers)
     (fine : (i : ℕ) → i < N → IsQueue (queues i) × TellsFull (queues i) × ((queues i).index_width ≤ 4))
     (means : MeansAt queues N (own_of h) h xs k s m cs)
     (tagged : ℕ → TaggedQueue) (T : ℕ) (us : AllCounts) (are : (t : ℕ) → t < T → is_tagged (tagged t) ≡ true)

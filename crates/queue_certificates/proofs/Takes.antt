@@ -19,7 +19,7 @@ use Rattle.slot_queue.specs.Queues.{Queue, IsQueue, TellsFull}
 use Rattle.queue_parties.specs.Positions.{IsInBytes}
 use Rattle.queue_parties.specs.Parties.{QueueCounts}
 use Rattle.slot_queue.specs.Ownership.{KeepsAccess}
-use Rattle.queue_certificates.specs.OwnedRuns.{View, AllCounts, Acts}
+use Rattle.queue_certificates.specs.OwnedRuns.{View, AllCounts, ActsByCounts}
 use Rattle.queue_certificates.specs.Forms.{Form, Bounds}
 use Rattle.queue_certificates.specs.States.{KnownValue, KnownState, MeansAt}
 use Rattle.queue_certificates.specs.Results.{bounds}
@@ -51,7 +51,7 @@ third-leaves q c land x keeps at = tt
 
 module _ (M : ℕ) (o : OpeningValue) (c : QueueCertificate) (h i : ℕ) (xs : List ℕ)
     (k : KnownState) (s : HartState) (m : View) (cs : AllCounts) (e : Entry)
-    (acts : Acts M o (length c.queues) (queue_at c) nobody_told nothing_sent h s m cs e) (size : 32 ≤ length s.registers)
+    (acts : ActsByCounts M o (length c.queues) (queue_at c) nobody_told nothing_sent h s m cs e) (size : 32 ≤ length s.registers)
     (fine : (j : ℕ) → j < length c.queues → IsQueue (queue_at c j) × TellsFull (queue_at c j) × ((queue_at c j).index_width ≤ 4))
     (means : MeansAt (queue_at c) (length c.queues) (own_of c h) h xs k s m cs) (x : ℕ)
     (in-slots : IsInBytes (queue_at c i).slots ((queue_at c i).size * (queue_at c i).width) x) where

@@ -28,7 +28,7 @@ use Rattle.slots_that_tell.specs.Telling.{teller_hart, told_access, TellsAccess}
 use Rattle.slots_that_tell.proofs.Owned.{loaded-count}
 use Rattle.queue_certificates.specs.declared.own.OwnWord.{OwnWord}
 use Rattle.queue_certificates.specs.ToldRuns.{SeesTags, LoadsRestOwned}
-use Rattle.queue_certificates.specs.OwnedRuns.{View, AllCounts, view_then, Acts, LoadsOwned}
+use Rattle.queue_certificates.specs.OwnedRuns.{View, AllCounts, view_then, ActsByCounts, LoadsOwned}
 use Rattle.queue_certificates.specs.RecordFields.{Field, MeetsField}
 use Rattle.queue_certificates.specs.Forms.{Form, Bounds}
 use Rattle.queue_certificates.specs.States.{KnownValue, any, no_share, KnownState, Has, MeansAt, own_at}
@@ -112,7 +112,7 @@ quiet-same q p c land quiet = absurd quiet
 
 module _ (M : ℕ) (o : OpeningValue) (queues : ℕ → Queue) (N : ℕ) (own_of : ℕ → List OwnWord) (H h : ℕ) (xs : List ℕ)
     (k : KnownState) (s : HartState) (m : View) (cs : AllCounts) (e : Entry)
-    (acts : Acts M o N queues nobody_told nothing_sent h s m cs e) (size : 32 ≤ length s.registers)
+    (acts : ActsByCounts M o N queues nobody_told nothing_sent h s m cs e) (size : 32 ≤ length s.registers)
     (fine : (i : ℕ) → i < N → IsQueue (queues i) × TellsFull (queues i) × ((queues i).index_width ≤ 4))
     (means : MeansAt queues N (own_of h) h xs k s m cs) (fields : ℕ → List Field)
     (got : (i : ℕ) → i < N → h ≡ (queues i).receiver → (p : ℕ) → (cs i).taken ≤ p → p < (cs i).known_published

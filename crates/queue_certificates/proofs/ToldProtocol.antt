@@ -11,8 +11,8 @@ use Rattle.queue_parties.proofs.Parties.{twice, count-set-other, known-set-count
 use Rattle.certified_runs.specs.Views.{view_of}
 use Rattle.certified_runs.proofs.TwoParties.{IsOfParties}
 use Rattle.slots_that_tell.specs.Slots.{Slots, IsSlots, gap, tag_of}
-use Rattle.slots_that_tell.specs.Telling.{teller_hart, owned_end, moved, after_load, told_access, TellsAccess}
-use Rattle.slots_that_tell.specs.Laws.{FollowsTelling, counts}
+use Rattle.slots_that_tell.specs.Telling.{teller_hart, owned_end, moved, after_load, told_access, TellsAccess, told_counts}
+use Rattle.slots_that_tell.specs.Laws.{FollowsTelling}
 use Rattle.slots_that_tell.proofs.Looks.{false_tag}
 use Rattle.slots_that_tell.proofs.Owned.{loaded, loaded-count}
 use Rattle.slots_that_tell.proofs.Runs.{memory_counts, held-of, window}
@@ -74,11 +74,11 @@ is_of_parties q is = record {
 
 -- what a party's hart reads in the tags of its positions
 pub sees_tags : (B : ℕ) (q : Slots) (start : QueueCounts) (o : OpeningValue) (es : List Entry) → FollowsTelling B q start o [] es → (p : Party)
-    → SeesTags q p (counts q start es) (view_of o es (teller_hart q p))
+    → SeesTags q p (told_counts q start es) (view_of o es (teller_hart q p))
 sees_tags B q start o es f p = record { room = (held.side p).room; round = round p; owned = owned; either = either }
   where
     c : QueueCounts
-    c = counts q start es
+    c = told_counts q start es
 
     m : Party → ℕ
     m = memory_counts q (λ t. count t start) [] es

@@ -15,7 +15,7 @@ use Rattle.slot_queue.specs.Queues.{Queue, index_word}
 use Rattle.queue_parties.specs.Positions.{IsInBytes}
 use Rattle.queue_parties.specs.Parties.{Party, the_sender, the_receiver, all_at}
 use Rattle.slot_queue.specs.Ownership.{party_of, end}
-use Rattle.queue_certificates.specs.OwnedRuns.{View, AllCounts, OpenQueues, IsCertified, LoadsAreOwned, Beside}
+use Rattle.queue_certificates.specs.OwnedRuns.{View, AllCounts, OpenQueues, IsCertifiedOfQueues, LoadsAreOwned, Beside}
 use Rattle.queue_certificates.specs.RecordFields.{Field, MeetsField}
 use Rattle.slots_that_tell.specs.Slots.{tag_of}
 use Rattle.slots_that_tell.specs.Telling.{owned_end}
@@ -182,7 +182,7 @@ abbrev pub Opens : (M : ℕ) → OpeningValue → QueueCertificate → Type 0
 Opens M o c = OpenQueues M o (length c.queues) (queue_at c) (HasFields c) (MeetsFields c) (start_at c)
 
 abbrev pub Certifies : (M : ℕ) → OpeningValue → QueueCertificate → Type 0
-Certifies M o c = IsCertified M o (length c.queues) (queue_at c) (HasFields c) (MeetsFields c) (told_beside c) (start_at c) (IsOwnByte c) (IsAtState c)
+Certifies M o c = IsCertifiedOfQueues M o (length c.queues) (queue_at c) (HasFields c) (MeetsFields c) (told_beside c) (start_at c) (IsOwnByte c) (IsAtState c)
 
 abbrev pub CertifiesLoads : (M : ℕ) → OpeningValue → QueueCertificate → (i : ℕ) → Party → Type 0
 CertifiesLoads M o c i p = LoadsAreOwned M o (length c.queues) (queue_at c) (HasFields c) (MeetsFields c) (told_beside c) (IsAtState c) i p

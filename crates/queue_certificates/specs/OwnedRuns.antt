@@ -57,7 +57,7 @@ IsSameFor q h c d = two_parties.IsSameFor (owning q) h c d
 module _ (M : ℕ) (o : OpeningValue) (N : ℕ) (queues : ℕ → Queue) (Told : ℕ → Type 0) (Sent : (i k : ℕ) → View → Type 0) where
   -- hart h, in state s with view m and at these counts, may make this entry. Its code is that of its opening, and its memory has M
   -- words
-  pub record Acts (h : ℕ) (s : HartState) (m : View) (cs : AllCounts) (e : Entry) : Type 0 where
+  pub record ActsByCounts (h : ℕ) (s : HartState) (m : View) (cs : AllCounts) (e : Entry) : Type 0 where
     pub mine : hart_of e ≡ h
     pub act : is_land e ≡ false
     pub can : CanMake s e
@@ -79,31 +79,31 @@ module _ (M : ℕ) (o : OpeningValue) (N : ℕ) (queues : ℕ → Queue) (Told :
   -- These sets P of states, views and counts of each hart hold whatever a run leads to, where `Own h x` says that the byte at x is
   -- hart h's own, so that no other hart writes it, and `starts` are the counts with which the queues open. They speak of the counts of
   -- the queues beside too, and of what is known there
-  pub record IsCertified (b : Beside) (starts : ℕ → ℕ) (Own : ℕ → ℕ → Type 0) (P : ℕ → HartState → View → AllCounts → AllCounts → Type 0) : Type 0 where
+  pub record IsCertifiedOfQueues (b : Beside) (starts : ℕ → ℕ) (Own : ℕ → ℕ → Type 0) (P : ℕ → HartState → View → AllCounts → AllCounts → Type 0) : Type 0 where
     -- a set says nothing of bytes that aren't the hart's own, and nothing of counts that it doesn't know
     pub frame : (h : ℕ) (s : HartState) (m n : View) (cs ds us vs : AllCounts) → P h s m cs us → ((x : ℕ) → Own h x → n x ≡ m x)
         → ((i : ℕ) → i < N → IsSameFor (queues i) h (cs i) (ds i)) → (kept_beside b).IsSame h us vs → P h s n ds vs
     -- each hart opens in its set
     pub opens : (h : ℕ) (x : HartOpeningValue) → slice_get o.harts h ≡ Some x → P h (opens_as M x) (opening_byte o) (λ i. all_at (starts i)) b.starts
     -- an instruction leads from the set into it,
-    pub steps : (h : ℕ) (s : HartState) (m : View) (cs us : AllCounts) (e : Entry) → P h s m cs us → Acts h s m cs e → (kept_beside b).Knows h us m
+    pub steps : (h : ℕ) (s : HartState) (m : View) (cs us : AllCounts) (e : Entry) → P h s m cs us → ActsByCounts h s m cs e → (kept_beside b).Knows h us m
         → P h (advanced s (number_read e)) (view_then (access_of e) m) (counts_then h (access_of e) cs) ((kept_beside b).next h (access_of e) us)
     -- stores to each queue what its hart may: a party what it owns, and a third hart nothing,
-    pub writes : (h : ℕ) (s : HartState) (m : View) (cs us : AllCounts) (e : Entry) → P h s m cs us → Acts h s m cs e → (kept_beside b).Knows h us m
+    pub writes : (h : ℕ) (s : HartState) (m : View) (cs us : AllCounts) (e : Entry) → P h s m cs us → ActsByCounts h s m cs e → (kept_beside b).Knows h us m
         → (i : ℕ) → i < N → KeepsAccess (queues i) (party_of (queues i) h) (cs i) (access_of e)
     -- keeps the protocols beside,
-    pub keeps : (h : ℕ) (s : HartState) (m : View) (cs us : AllCounts) (e : Entry) → P h s m cs us → Acts h s m cs e → (kept_beside b).Knows h us m
+    pub keeps : (h : ℕ) (s : HartState) (m : View) (cs us : AllCounts) (e : Entry) → P h s m cs us → ActsByCounts h s m cs e → (kept_beside b).Knows h us m
         → (kept_beside b).May h us (access_of e)
     -- and writes no byte that is another hart's own
-    pub apart : (h : ℕ) (s : HartState) (m : View) (cs us : AllCounts) (e : Entry) → P h s m cs us → Acts h s m cs e → (kept_beside b).Knows h us m
+    pub apart : (h : ℕ) (s : HartState) (m : View) (cs us : AllCounts) (e : Entry) → P h s m cs us → ActsByCounts h s m cs e → (kept_beside b).Knows h us m
         → (g x : ℕ) → g ≢ h → Own g x → LeavesByteBy x (access_of e)
     -- what is said of a record is said of its slot's bytes alone;
     pub record_frame : (i k : ℕ) → i < N → Told i → (m n : View) → ((x : ℕ) → IsByteOf (queues i) k x → n x ≡ m x) → Sent i k m → Sent i k n
     -- it is so where the sender moves its head past the position,
-    pub publishes : (h : ℕ) (s : HartState) (m : View) (cs us : AllCounts) (e : Entry) → P h s m cs us → Acts h s m cs e → (kept_beside b).Knows h us m
+    pub publishes : (h : ℕ) (s : HartState) (m : View) (cs us : AllCounts) (e : Entry) → P h s m cs us → ActsByCounts h s m cs e → (kept_beside b).Knows h us m
         → (i : ℕ) → i < N → Told i → h ≡ (queues i).sender → (k : ℕ) → (cs i).published ≤ k → k < (counts_then h (access_of e) cs i).published → Sent i k m
     -- and the receiver writes nothing to slots
-    pub takes : (h : ℕ) (s : HartState) (m : View) (cs us : AllCounts) (e : Entry) → P h s m cs us → Acts h s m cs e → (kept_beside b).Knows h us m
+    pub takes : (h : ℕ) (s : HartState) (m : View) (cs us : AllCounts) (e : Entry) → P h s m cs us → ActsByCounts h s m cs e → (kept_beside b).Knows h us m
         → (i : ℕ) → i < N → Told i → h ≡ (queues i).receiver → (k x : ℕ) → IsByteOf (queues i) k x → LeavesByteBy x (access_of e)
 
   -- the queues open rightly: each is one, and is empty and at rest at its count
@@ -131,5 +131,5 @@ ReadsOwned q p c (e ∷ es) = (hart_of e ≡ hart q p → LoadsOwned q p c (acce
 abbrev pub LoadsAreOwned : (M : ℕ) (o : OpeningValue) (N : ℕ) (queues : ℕ → Queue) (Told : ℕ → Type 0)
     (Sent : (i k : ℕ) → View → Type 0) (b : Beside) (P : ℕ → HartState → View → AllCounts → AllCounts → Type 0) (i : ℕ) → Party → Type 0
 LoadsAreOwned M o N queues Told Sent b P i p = (s : HartState) (m : View) (cs us : AllCounts) (e : Entry) → P (hart (queues i) p) s m cs us
-    → Acts M o N queues Told Sent (hart (queues i) p) s m cs e → (kept_beside b).Knows (hart (queues i) p) us m
+    → ActsByCounts M o N queues Told Sent (hart (queues i) p) s m cs e → (kept_beside b).Knows (hart (queues i) p) us m
     → LoadsOwned (queues i) p (cs i) (access_of e)

@@ -34,8 +34,8 @@ ghost use Rattle.slot_queue.specs.Laws.{FollowsOwnership};
 ghost use Rattle.slot_queue.specs.Ownership.{counts_after};
 ghost use Rattle.certified_runs.specs.TwoParties.{EachIs};
 ghost use Rattle.slots_that_tell.specs.Slots.{tag_of, IsSlotByte};
-ghost use Rattle.slots_that_tell.specs.Telling.{teller_hart};
-ghost use Rattle.slots_that_tell.specs.Laws.{FollowsTelling, counts};
+ghost use Rattle.slots_that_tell.specs.Telling.{teller_hart, told_counts};
+ghost use Rattle.slots_that_tell.specs.Laws.{FollowsTelling};
 ghost use Rattle.queue_certificates.specs.ToldRuns.{telling, IsOfTag, LoadsRestOwned};
 ghost use Rattle.queue_certificates.specs.Arrived.{HasArrived};
 ghost use Rattle.queue_certificates.specs.OwnedRuns.{LoadsByte, ReadsOwned};
@@ -97,8 +97,8 @@ pub fn laws_of_queue_certificates()
     ensures told { (B M : ℕ) (o : OpeningValue) (c : QueueCertificate) → accepts o c ≡ true → (t : ℕ) → t < length c.tagged
         → (es : List Entry) (e : Entry) → WellFormed B M (history_of o (es ++ e ∷ [])) → hart_of e ≡ (tagged_at c t).receiver
         → (k v : ℕ) → access_of e ≡ load (tag_of (slots_of (tagged_at c t)) k) (tagged_at c t).tag_width v
-        → (counts (slots_of (tagged_at c t)) (all_at (tagged_start c t)) es).taken ≤ k
-        → k < (counts (slots_of (tagged_at c t)) (all_at (tagged_start c t)) es).taken + (tagged_at c t).size
+        → (told_counts (slots_of (tagged_at c t)) (all_at (tagged_start c t)) es).taken ≤ k
+        → k < (told_counts (slots_of (tagged_at c t)) (all_at (tagged_start c t)) es).taken + (tagged_at c t).size
         → tells_by (tagged_at c t).codec the_receiver k v ≡ true
         → (v ≡ read o (es ++ e ∷ []) (tagged_at c t).receiver (tag_of (slots_of (tagged_at c t)) k) (tagged_at c t).tag_width)
         × ((x : ℕ) → IsSlotByte (slots_of (tagged_at c t)) k x

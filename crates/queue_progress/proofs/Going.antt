@@ -13,7 +13,7 @@ use Rattle.queue_parties.specs.Parties.{Party, the_sender, the_receiver, other, 
 use Rattle.queue_parties.proofs.Parties.{counts-append}
 use Rattle.certified_runs.specs.TwoParties.{IsSameFor}
 use Rattle.certified_runs.proofs.TwoParties.{left-same}
-use Rattle.slot_queue.specs.Queues.{Queue, IsQueue, least}
+use Rattle.slot_queue.specs.Queues.{Queue, IsQueue, least_count}
 use Rattle.slot_queue.specs.Ownership.{hart, party_of, index, end, after_load, after_access, counts_next, moved}
 use Rattle.queue_certificates.specs.OwnedRuns.{owning}
 use Rattle.queue_certificates.proofs.Counted.{is_of_parties}
@@ -67,7 +67,7 @@ module _ (q : Queue) (is : IsQueue q) (p : Party) where
   load-keeps : (a width v : ℕ) (c : QueueCounts) → ((a ≡ index q (other p)) × (width ≡ q.index_width) → ⊥) → after_load q p a width v c ≡ c
   load-keeps a width v c off = by (a == index q (other p) && width == q.index_width) refl
     where
-      by : (t : Bool) → (a == index q (other p) && width == q.index_width) ≡ t → (if t then with_known p (least q (known p c) v) c else c) ≡ c
+      by : (t : Bool) → (a == index q (other p) && width == q.index_width) ≡ t → (if t then with_known p (least_count q (known p c) v) c else c) ≡ c
       by false other-place = refl
       by true there = absurd (let parts = and_parts (a == index q (other p)) (width == q.index_width) there in
           off (eqb-true a (index q (other p)) parts.0, eqb-true width q.index_width parts.1))

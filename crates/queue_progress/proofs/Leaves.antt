@@ -16,7 +16,7 @@ use Rattle.step_machine.specs.Paths.{number_read}
 use Rattle.queue_parties.specs.Parties.{Party, other, count}
 use Rattle.slot_queue.specs.Queues.{Queue, IsQueue, TellsFull}
 use Rattle.slot_queue.specs.Ownership.{hart, party_of, index, end, after_access, counts_next}
-use Rattle.queue_certificates.specs.OwnedRuns.{View, AllCounts, Acts, view_then}
+use Rattle.queue_certificates.specs.OwnedRuns.{View, AllCounts, ActsByCounts, view_then}
 use Rattle.queue_certificates.specs.Forms.{form_value, plus, minus, lifted, is_same, Bounds, fits_in, Form}
 use Rattle.queue_certificates.specs.States.{Share, KnownState, MeansAt}
 use Rattle.queue_certificates.specs.Steps.{share_at, addresses, is_look, is_one, is_whole, instruction_at}
@@ -76,7 +76,7 @@ module _ (c : QueueCertificate) (h i : ℕ) (less : i < length c.queues) (p : Pa
 
   -- it loads the other's index
   module _ (M : ℕ) (o : OpeningValue) (xs : List ℕ) (k : KnownState) (s : HartState) (m : View) (cs : AllCounts) (e : Entry)
-      (acts : Acts M o (length c.queues) (queue_at c) nobody_told nothing_sent h s m cs e) (size : 32 ≤ length s.registers)
+      (acts : ActsByCounts M o (length c.queues) (queue_at c) nobody_told nothing_sent h s m cs e) (size : 32 ≤ length s.registers)
       (fine : (j : ℕ) → j < length c.queues → IsQueue (queue_at c j) × TellsFull (queue_at c j) × ((queue_at c j).index_width ≤ 4))
       (means : MeansAt (queue_at c) (length c.queues) (own_of c h) h xs k s m cs) where
     abbrev q : Queue

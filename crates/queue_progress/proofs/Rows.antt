@@ -17,7 +17,7 @@ use Rattle.step_machine.specs.Legal.{WellFormed}
 use Rattle.step_machine.proofs.OwnRuns.{kept-front}
 use Rattle.store_buffers.proofs.OwnEntries.{same_state, next_state, own_parts}
 use Rattle.slot_queue.specs.Ownership.{party_of, after_access}
-use Rattle.queue_certificates.specs.OwnedRuns.{View, AllCounts, view_then, Acts, IsSameFor, kept_beside}
+use Rattle.queue_certificates.specs.OwnedRuns.{View, AllCounts, view_then, ActsByCounts, IsSameFor, kept_beside}
 use Rattle.queue_certificates.proofs.Every as every
 use Rattle.queue_certificates.specs.Forms.{Form}
 use Rattle.queue_certificates.specs.States.{KnownState, MeansAt}
@@ -67,7 +67,7 @@ module _ (B M : ℕ) (o : OpeningValue) (c : QueueCertificate) (ok : accepts o c
 
   -- the hart, after these entries, makes an entry at a leaf, and goes on in one of the states that may follow
   pub record Executes (xs : List ℕ) (k : KnownState) (d : Form) (s : HartState) (done : List Entry) (e : Entry) : Type 0 where
-    pub acts : Acts M o (length c.queues) (queue_at c) (HasFields c) (MeetsFields c) h s (Sees done) (Counted done) e
+    pub acts : ActsByCounts M o (length c.queues) (queue_at c) (HasFields c) (MeetsFields c) h s (Sees done) (Counted done) e
     pub wide : 32 ≤ length s.registers
     pub code : code_of o h ≡ s.code
     pub means : MeansAt (queue_at c) (length c.queues) (own_of c h) h xs k s (Sees done) (Counted done)
@@ -136,7 +136,7 @@ module _ (B M : ℕ) (o : OpeningValue) (c : QueueCertificate) (ok : accepts o c
       record Here (r : ℕ) : Type 0 where
         state : HartState
         at : state_of M (history_of o done) h ≡ Some state
-        acts : Acts M o (length c.queues) (queue_at c) (HasFields c) (MeetsFields c) h state (Sees done) (Counted done) e
+        acts : ActsByCounts M o (length c.queues) (queue_at c) (HasFields c) (MeetsFields c) h state (Sees done) (Counted done) e
         within : IsWithin r done state
 
       here : (r : ℕ) → StaysWithin r done → hart_of e ≡ h → is_land e ≡ false → Here r

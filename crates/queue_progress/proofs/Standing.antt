@@ -14,7 +14,7 @@ use Rattle.store_buffers.proofs.OwnEntries.{own_parts}
 use Rattle.memory.specs.Writes.{write}
 use Rattle.queue_parties.specs.Parties.{Party, the_sender, the_receiver, other, QueueCounts, count, known, with_known, all_at, counts_from}
 use Rattle.queue_parties.proofs.Parties.{Grows, counts-append, harts-apart, known-set, twice}
-use Rattle.slot_queue.specs.Queues.{Queue, index_word, least}
+use Rattle.slot_queue.specs.Queues.{Queue, index_word, least_count}
 use Rattle.slot_queue.specs.Ownership.{hart, index, end, after_load, after_access, counts_next, moved}
 use Rattle.slot_queue.specs.Laws.{FollowsOwnership}
 use Rattle.slot_queue.proofs.Codes.{least-near}
@@ -83,13 +83,13 @@ module _ (B M : ℕ) (o : OpeningValue) (c : QueueCertificate) (ok : accepts o c
             → known p (after_load q p a width v (counts_at c i es)) ≡ m (other p)
         loads a width v at wide is =
             ap (λ b. known p (if b && (width == q.index_width)
-            then with_known p (least q (known p (counts_at c i es)) v) (counts_at c i es) else counts_at c i es))
+            then with_known p (least_count q (known p (counts_at c i es)) v) (counts_at c i es) else counts_at c i es))
             (eq-eqb a (index q (other p)) at)
             ∙ ap (λ b. known p
-            (if b then with_known p (least q (known p (counts_at c i es)) v) (counts_at c i es) else counts_at c i es))
+            (if b then with_known p (least_count q (known p (counts_at c i es)) v) (counts_at c i es) else counts_at c i es))
             (eq-eqb width q.index_width wide)
-            ∙ known-set p (least q (known p (counts_at c i es)) v) (counts_at c i es)
-            ∙ ap (λ n. least q (known p (counts_at c i es)) n)
+            ∙ known-set p (least_count q (known p (counts_at c i es)) v) (counts_at c i es)
+            ∙ ap (λ n. least_count q (known p (counts_at c i es)) n)
             (is ∙ ap (λ n. read o es h n width) at ∙ ap (λ n. read o es h (index q (other p)) n) wide ∙ reads)
             ∙ found q follows.queue o es (counts_at c i es) m sides p (fine M o c ok i less).1
 
@@ -175,7 +175,7 @@ module _ (B M : ℕ) (o : OpeningValue) (c : QueueCertificate) (ok : accepts o c
       → memory_at (queue_at c i) (all_at (start_at c i)) [] es t ≡ count t (counts_at c i es)
   true-in-memory es run landed t =
       sym (least-near q follows.queue (m t) (m t) (omega arith) (omega (arith, follows.queue.words)))
-      ∙ ap (least q (m t)) (sym (side t).word ∙ landed t)
+      ∙ ap (least_count q (m t)) (sym (side t).word ∙ landed t)
       ∙ least-near q follows.queue (m t) (count t (counts_at c i es)) (at t).there near
     where
       follows : FollowsOwnership B (queue_at c i) (all_at (start_at c i)) o [] es

@@ -24,7 +24,7 @@ use Rattle.slots_that_tell.specs.Telling.{teller_hart, owned_end, told, after_lo
 use Rattle.slots_that_tell.specs.Telling as telling
 use Rattle.slots_that_tell.proofs.Owned.{mine-of}
 use Rattle.queue_certificates.specs.ToldRuns.{SeesTags}
-use Rattle.queue_certificates.specs.OwnedRuns.{View, AllCounts, number_seen, ReadsFrom, view_then, Acts, kept_beside}
+use Rattle.queue_certificates.specs.OwnedRuns.{View, AllCounts, number_seen, ReadsFrom, view_then, ActsByCounts, kept_beside}
 use Rattle.queue_certificates.specs.Forms.{Form, form_value, number, lifted, InRanges}
 use Rattle.queue_certificates.specs.States.{KnownValue, any, linear, index_for, signed_for, ends_as, has_bits, Share, no_share}
 use Rattle.queue_certificates.specs.States.{share_by, KnownState, Has, HasShare, MeansAt}
@@ -212,7 +212,7 @@ other-lifted (s ∷ ss) (suc n) (suc j) u apart = other-lifted ss n j u (λ same
 
 module _ (M : ℕ) (o : OpeningValue) (c : QueueCertificate) (ok : accepts o c ≡ true) (h : ℕ) (x : HartOpeningValue) (of : OfHart M o c ok h x)
     (s : HartState) (m : View) (cs us : AllCounts) (e : Entry)
-    (acts : Acts M o (length c.queues) (queue_at c) (HasFields c) (MeetsFields c) h s m cs e) (knows : (kept_beside (told_beside c)).Knows h us m)
+    (acts : ActsByCounts M o (length c.queues) (queue_at c) (HasFields c) (MeetsFields c) h s m cs e) (knows : (kept_beside (told_beside c)).Knows h us m)
     (code : s.code ≡ x.code) (size : length s.registers ≡ length x.registers) (t : ℕ) (less : t < length c.tagged) (k a : KnownState)
     (l : IsTagLoad c h x.code t k a) (xs : List ℕ) (means : MeansAt (queue_at c) (length c.queues) (own_of c h) h xs k s m cs)
     (told : SharesTold c h xs k us) (runs : (advanced s (number_read e)).status ≡ status.Running) where

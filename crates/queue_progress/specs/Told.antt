@@ -8,8 +8,7 @@ use Rattle.step_machine.specs.Entries.{pending}
 use Rattle.step_machine.specs.History.{OpeningValue}
 use Rattle.queue_parties.specs.Parties.{Party, the_sender, the_receiver, QueueCounts, count, all_at}
 use Rattle.slots_that_tell.specs.Slots.{Slots, tag_of, is_tag}
-use Rattle.slots_that_tell.specs.Telling.{teller_hart}
-use Rattle.slots_that_tell.specs.Laws.{counts}
+use Rattle.slots_that_tell.specs.Telling.{teller_hart, told_counts}
 use Rattle.queue_layouts.specs.Tagged.{slots_of}
 use Rattle.queue_certificates.specs.Forms.{Form}
 use Rattle.queue_certificates.specs.States.{Share, KnownState}
@@ -31,7 +30,7 @@ abbrev pub slots_at : QueueCertificate → (t : ℕ) → Slots
 slots_at c t = slots_of (tagged_at c t)
 
 abbrev pub told_counts_at : QueueCertificate → (t : ℕ) → List Entry → QueueCounts
-told_counts_at c t es = counts (slots_at c t) (all_at (tagged_start c t)) es
+told_counts_at c t es = told_counts (slots_at c t) (all_at (tagged_start c t)) es
 
 abbrev pub teller_at : QueueCertificate → (t : ℕ) → Party → ℕ
 teller_at c t p = teller_hart (slots_at c t) p

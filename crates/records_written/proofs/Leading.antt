@@ -20,7 +20,7 @@ use Rattle.queue_parties.specs.Parties.{Party, the_sender, the_receiver}
 use Rattle.slot_queue.specs.Ownership.{after_access}
 use Rattle.slots_that_tell.specs.Slots.{tagged_slot}
 use Rattle.queue_layouts.specs.Tagged.{slots_of}
-use Rattle.queue_certificates.specs.OwnedRuns.{View, AllCounts, view_then, Acts, kept_beside}
+use Rattle.queue_certificates.specs.OwnedRuns.{View, AllCounts, view_then, ActsByCounts, kept_beside}
 use Rattle.queue_certificates.specs.Forms.{Form}
 use Rattle.queue_certificates.specs.States.{KnownState, MeansAt}
 use Rattle.queue_certificates.specs.Steps.{follow, instruction_at}
@@ -54,7 +54,7 @@ use Rattle.records_written.proofs.ReceivedTags.{tag-receipt-comes}
 module _ (M : ℕ) (o : OpeningValue) (c : QueueCertificate) (ok : accepts o c ≡ true) where
   -- of the sender: by what queue_certificates says of it
   sender-acts : (w : QueueNumber) → IsListed c w → (x : HartOpeningValue) → OfHart M o c ok (sender_in c w) x → (s : HartState) (m : View)
-      (cs us : AllCounts) (e : Entry) → Acts M o (length c.queues) (queue_at c) (HasFields c) (MeetsFields c) (sender_in c w) s m cs e
+      (cs us : AllCounts) (e : Entry) → ActsByCounts M o (length c.queues) (queue_at c) (HasFields c) (MeetsFields c) (sender_in c w) s m cs e
       → (kept_beside (told_beside c)).Knows (sender_in c w) us m → s.code ≡ x.code → length s.registers ≡ length x.registers
       → (k : KnownState) (d : Form) (xs : List ℕ) (ts : List KnownState)
       → MeansAt (queue_at c) (length c.queues) (own_of c (sender_in c w)) (sender_in c w) xs k s m cs → SharesTold c (sender_in c w) xs k us
@@ -87,7 +87,7 @@ module _ (M : ℕ) (o : OpeningValue) (c : QueueCertificate) (ok : accepts o c �
       (its (instruction_at s.code s.pc)) (access_of e) (advanced s (number_read e)) (goes.sends t less refl))
 
   receiver-acts : (w : QueueNumber) → IsListed c w → (x : HartOpeningValue) → OfHart M o c ok (receiver_in c w) x → (s : HartState) (m : View)
-      (cs us : AllCounts) (e : Entry) → Acts M o (length c.queues) (queue_at c) (HasFields c) (MeetsFields c) (receiver_in c w) s m cs e
+      (cs us : AllCounts) (e : Entry) → ActsByCounts M o (length c.queues) (queue_at c) (HasFields c) (MeetsFields c) (receiver_in c w) s m cs e
       → s.code ≡ x.code → length s.registers ≡ length x.registers → (k : KnownState) (d : Form) (xs : List ℕ) (ts : List KnownState)
       → MeansAt (queue_at c) (length c.queues) (own_of c (receiver_in c w)) (receiver_in c w) xs k s m cs → SharesTold c (receiver_in c w) xs k us
       → next_states c (receiver_in c w) x.code k d ≡ Some ts → (f : Effect)
@@ -113,7 +113,7 @@ module _ (M : ℕ) (o : OpeningValue) (c : QueueCertificate) (ok : accepts o c �
       (ap (λ ws. next_states c h ws k d) code ∙ may))
 
   leaf-acts : (w : QueueNumber) (p : Party) → IsListed c w → (x : HartOpeningValue) → OfHart M o c ok (hart_in c w p) x → (s : HartState) (m : View)
-      (cs us : AllCounts) (e : Entry) → Acts M o (length c.queues) (queue_at c) (HasFields c) (MeetsFields c) (hart_in c w p) s m cs e
+      (cs us : AllCounts) (e : Entry) → ActsByCounts M o (length c.queues) (queue_at c) (HasFields c) (MeetsFields c) (hart_in c w p) s m cs e
       → (kept_beside (told_beside c)).Knows (hart_in c w p) us m → s.code ≡ x.code → length s.registers ≡ length x.registers
       → (k : KnownState) (d : Form) (xs : List ℕ) (ts : List KnownState)
       → MeansAt (queue_at c) (length c.queues) (own_of c (hart_in c w p)) (hart_in c w p) xs k s m cs → SharesTold c (hart_in c w p) xs k us
@@ -216,7 +216,7 @@ module _ (M : ℕ) (o : OpeningValue) (c : QueueCertificate) (ok : accepts o c �
         → Found n does z (view_then y m) (indexed_then c (hart_in c w p) y cs) (tagged_then c (hart_in c w p) y us)
 
   pub leads : (x : HartOpeningValue) → OfHart M o c ok (hart_in c w p) x → (s : HartState) (m : View) (cs us : AllCounts) (e : Entry)
-      → Acts M o (length c.queues) (queue_at c) (HasFields c) (MeetsFields c) (hart_in c w p) s m cs e
+      → ActsByCounts M o (length c.queues) (queue_at c) (HasFields c) (MeetsFields c) (hart_in c w p) s m cs e
       → (kept_beside (told_beside c)).Knows (hart_in c w p) us m → s.code ≡ x.code → length s.registers ≡ length x.registers
       → (n : ℕ) (k : KnownState) (d : Form) (arrows : List Arrow) (xs : List ℕ)
       → all_lead c (hart_in c w p) (next_states c (hart_in c w p) x.code k d) arrows ≡ true

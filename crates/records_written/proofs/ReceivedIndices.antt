@@ -21,9 +21,9 @@ use Rattle.step_machine.specs.Paths.{number_read}
 use Rattle.queue_parties.specs.Positions.{IsInBytes}
 use Rattle.queue_parties.specs.Parties.{the_sender, the_receiver, QueueCounts, known, with_known}
 use Rattle.certified_runs.specs.Views.{LoadsByte}
-use Rattle.slot_queue.specs.Queues.{Queue, IsQueue, TellsFull, least, slot_of}
+use Rattle.slot_queue.specs.Queues.{Queue, IsQueue, TellsFull, least_count, slot_of}
 use Rattle.slot_queue.specs.Ownership.{index, end, party_of, after_access}
-use Rattle.queue_certificates.specs.OwnedRuns.{View, AllCounts, ReadsFrom, Acts}
+use Rattle.queue_certificates.specs.OwnedRuns.{View, AllCounts, ReadsFrom, ActsByCounts}
 use Rattle.queue_certificates.specs.Forms.{Form, form_value, most, Bounds}
 use Rattle.queue_certificates.specs.States.{KnownValue, no_share, KnownState, Has, HasShare, MeansAt}
 use Rattle.queue_certificates.specs.Results.{bounds}
@@ -49,7 +49,7 @@ use Rattle.records_written.proofs.OwnedBytes.{bytes-act}
 loaded-taken : (q : Queue) (c : QueueCounts) (a width v : ℕ) → (after_access q (Some the_receiver) (load a width v) c).taken ≡ c.taken
 loaded-taken q c a width v = by (a == index q the_sender && width == q.index_width)
   where
-    by : (t : Bool) → (if t then with_known the_receiver (least q (known the_receiver c) v) c else c).taken ≡ c.taken
+    by : (t : Bool) → (if t then with_known the_receiver (least_count q (known the_receiver c) v) c else c).taken ≡ c.taken
     by true = refl
     by false = refl
 
@@ -59,7 +59,7 @@ when-some false x y is = absurd (cc)
 
 module _ (M : ℕ) (o : OpeningValue) (c : QueueCertificate) (i : ℕ) (less : i < length c.queues) (xs : List ℕ)
     (k : KnownState) (s : HartState) (m : View) (cs us : AllCounts) (e : Entry)
-    (acts : Acts M o (length c.queues) (queue_at c) nobody_told nothing_sent (queue_at c i).receiver s m cs e) (size : 32 ≤ length s.registers)
+    (acts : ActsByCounts M o (length c.queues) (queue_at c) nobody_told nothing_sent (queue_at c i).receiver s m cs e) (size : 32 ≤ length s.registers)
     (fine : (j : ℕ) → j < length c.queues → IsQueue (queue_at c j) × TellsFull (queue_at c j) × ((queue_at c j).index_width ≤ 4))
     (means : MeansAt (queue_at c) (length c.queues) (own_of c (queue_at c i).receiver) (queue_at c i).receiver xs k s m cs)
     (past : (g : ℕ) → length c.harts ≤ g → length (own_of c g) ≡ 0) where

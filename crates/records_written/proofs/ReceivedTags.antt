@@ -26,7 +26,7 @@ use Rattle.slots_that_tell.specs.Telling.{owned_end, moved, told_access}
 use Rattle.slots_that_tell.proofs.Owned.{loaded-count}
 use Rattle.queue_layouts.specs.Tagged.{slots_of}
 use Rattle.queue_layouts.specs.declared.tagged.TaggedQueue.{TaggedQueue}
-use Rattle.queue_certificates.specs.OwnedRuns.{View, AllCounts, Acts}
+use Rattle.queue_certificates.specs.OwnedRuns.{View, AllCounts, ActsByCounts}
 use Rattle.queue_certificates.specs.Forms.{Form, Bounds}
 use Rattle.queue_certificates.specs.States.{KnownValue, any, Share, KnownState, Has, MeansAt}
 use Rattle.queue_certificates.specs.Results.{bounds}
@@ -64,7 +64,7 @@ quiet-same q p c land quiet = absurd quiet
 
 module _ (M : ℕ) (o : OpeningValue) (c : QueueCertificate) (t : ℕ) (less : t < length c.tagged) (xs : List ℕ)
     (k : KnownState) (s : HartState) (m : View) (cs us : AllCounts) (e : Entry)
-    (acts : Acts M o (length c.queues) (queue_at c) nobody_told nothing_sent (tagged_at c t).receiver s m cs e) (size : 32 ≤ length s.registers)
+    (acts : ActsByCounts M o (length c.queues) (queue_at c) nobody_told nothing_sent (tagged_at c t).receiver s m cs e) (size : 32 ≤ length s.registers)
     (fine : (j : ℕ) → j < length c.queues → IsQueue (queue_at c j) × TellsFull (queue_at c j) × ((queue_at c j).index_width ≤ 4))
     (means : MeansAt (queue_at c) (length c.queues) (own_of c (tagged_at c t).receiver) (tagged_at c t).receiver xs k s m cs)
     (are : (i : ℕ) → i < length c.tagged → is_tagged (tagged_at c i) ≡ true) (told : SharesTold c (tagged_at c t).receiver xs k us) where

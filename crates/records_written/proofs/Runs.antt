@@ -19,7 +19,7 @@ use Rattle.step_machine.proofs.OwnRuns.{kept-front}
 use Rattle.store_buffers.proofs.OwnEntries.{same_state, next_state, own_parts}
 use Rattle.slot_queue.specs.Ownership.{counts_after}
 use Rattle.queue_parties.specs.Parties.{Party, the_sender, the_receiver, all_at}
-use Rattle.slots_that_tell.specs.Laws.{counts}
+use Rattle.slots_that_tell.specs.Telling.{told_counts}
 use Rattle.queue_layouts.specs.Tagged.{slots_of}
 use Rattle.queue_certificates.specs.OwnedRuns.{View, AllCounts, view_then, IsSameFor, kept_beside}
 use Rattle.queue_certificates.proofs.Every as every
@@ -78,7 +78,7 @@ later c w the_receiver es e k x is = record {
 -- what an access of the party's does after these entries
 abbrev DoesNow : QueueCertificate → QueueNumber → Party → List Entry → Access → (j b : ℕ) → Type 0
 DoesNow c w p es y j b = DoesByte c w p (λ i. counts_after (queue_at c i) (all_at (start_at c i)) es)
-    (λ t. counts (slots_of (tagged_at c t)) (all_at (tagged_start c t)) es) y j b
+    (λ t. told_counts (slots_of (tagged_at c t)) (all_at (tagged_start c t)) es) y j b
 
 done-now : (c : QueueCertificate) (w : QueueNumber) (p : Party) (es : List Entry) (e : Entry) → hart_of e ≡ hart_in c w p → (j b : ℕ)
     → DoesNow c w p es (access_of e) j b → WasDone c w p (es ++ e ∷ []) (count_after c w p es + j) (slot_in c w (count_after c w p es + j) + b)

@@ -7,8 +7,7 @@ use Rattle.certified_runs.specs.TwoParties.{AllCounts}
 use Rattle.slot_queue.specs.Queues.{slot_of}
 use Rattle.slot_queue.specs.Ownership.{hart, end, counts_after}
 use Rattle.slots_that_tell.specs.Slots.{tagged_slot}
-use Rattle.slots_that_tell.specs.Telling.{teller_hart, owned_end}
-use Rattle.slots_that_tell.specs.Laws.{counts}
+use Rattle.slots_that_tell.specs.Telling.{teller_hart, owned_end, told_counts}
 use Rattle.queue_layouts.specs.Tagged.{slots_of}
 use Rattle.queue_certificates.specs.Forms.{Form}
 use Rattle.queue_certificates.specs.States.{KnownState}
@@ -60,7 +59,7 @@ end_of c (Tagged t) p cs us = owned_end (slots_of (tagged_at c t)) p (us t)
 
 abbrev pub by_counts : QueueCertificate → (AllCounts → AllCounts → ℕ) → List Entry → ℕ
 by_counts c f es = f (λ i. counts_after (queue_at c i) (all_at (start_at c i)) es)
-    (λ t. counts (slots_of (tagged_at c t)) (all_at (tagged_start c t)) es)
+    (λ t. told_counts (slots_of (tagged_at c t)) (all_at (tagged_start c t)) es)
 
 abbrev pub count_after : QueueCertificate → QueueNumber → Party → List Entry → ℕ
 count_after c w p es = by_counts c (count_of w p) es

@@ -3,7 +3,7 @@ use Rattle.std.proofs.Common.{ℕ, ◌+◌, ◌-◌, ◌*◌, ◌/◌, ◌%◌, 
 use Rattle.std.proofs.Math.Nat.{mod-lt, mod-mod, mod-le, mul-div_cancel_left}
 use Rattle.std.proofs.lemmas.Nat.{mul-le}
 use Rattle.queue_parties.proofs.Positions.{ahead, ahead-is, ahead-mod, ahead-stands}
-use Rattle.slot_queue.specs.Queues.{Queue, IsQueue, index_word, least}
+use Rattle.slot_queue.specs.Queues.{Queue, IsQueue, index_word, least_count}
 
 module _ (q : Queue) (is : IsQueue q) where
   some : 0 < q.modulus
@@ -13,28 +13,28 @@ module _ (q : Queue) (is : IsQueue q) where
   index_of j = (let less : index_word q j - q.base ≡ q.scale * ((j + q.offset) % q.modulus) = omega arith in ap (λ x. x / q.scale) less)
       ∙ mul-div_cancel_left ((j + q.offset) % q.modulus) (omega (arith, is.scale))
 
-  least-ahead : (n j : ℕ) → least q n (index_word q j) ≡ n + ahead q.modulus (n + q.offset) ((j + q.offset) % q.modulus)
+  least-ahead : (n j : ℕ) → least_count q n (index_word q j) ≡ n + ahead q.modulus (n + q.offset) ((j + q.offset) % q.modulus)
   least-ahead n j = ap (λ i. n + ahead q.modulus (n + q.offset) i) (index_of j)
 
   -- a count from n on, as so much more than n
   further : (n j : ℕ) → n ≤ j → ((n + q.offset) + (j - n)) % q.modulus ≡ (j + q.offset) % q.modulus
   further n j from = (let place : (n + q.offset) + (j - n) ≡ j + q.offset = omega (arith, from) in ap (λ x. x % q.modulus) place)
 
-  pub least-near : (n j : ℕ) → n ≤ j → j < n + q.modulus → least q n (index_word q j) ≡ j
+  pub least-near : (n j : ℕ) → n ≤ j → j < n + q.modulus → least_count q n (index_word q j) ≡ j
   least-near n j from below = least-ahead n j ∙ ap (λ x. n + ahead q.modulus (n + q.offset) x) (sym (further n j from))
       ∙ ap (λ x. n + x) (ahead-is q.modulus (n + q.offset) (j - n) (omega (arith, from, below))) ∙ (let place : n + (j - n) ≡ j = omega (arith, from) in place)
 
   -- one that the word stands for is no less than the least
-  pub least-low : (n j : ℕ) → n ≤ j → least q n (index_word q j) ≤ j
+  pub least-low : (n j : ℕ) → n ≤ j → least_count q n (index_word q j) ≤ j
   least-low n j from =
       let low : (j - n) % q.modulus ≤ j - n = mod-le (j - n) q.modulus in
-      let at : least q n (index_word q j) ≡ n + (j - n) % q.modulus =
+      let at : least_count q n (index_word q j) ≡ n + (j - n) % q.modulus =
       least-ahead n j ∙ ap (λ x. n + ahead q.modulus (n + q.offset) x) (sym (further n j from))
       ∙ ap (λ x. n + x) (ahead-mod q.modulus (n + q.offset) (j - n) some) in
       omega (arith, at, low, from)
 
   -- whatever is found, the word stands for
-  pub word-least : (n j : ℕ) → index_word q (least q n (index_word q j)) ≡ index_word q j
+  pub word-least : (n j : ℕ) → index_word q (least_count q n (index_word q j)) ≡ index_word q j
   word-least n j = ap (index_word q) (least-ahead n j)
       ∙ (let turned : (n + ahead q.modulus (n + q.offset) ((j + q.offset) % q.modulus)) + q.offset
       ≡ (n + q.offset) + ahead q.modulus (n + q.offset) ((j + q.offset) % q.modulus) = omega arith in

@@ -10,7 +10,7 @@ use Rattle.step_machine.specs.Entries.{pending, memory_byte, read_byte, read}
 use Rattle.store_buffers.proofs.Reading.{passed_over}
 use Rattle.queue_parties.specs.Parties.{Party, the_sender, the_receiver, other, QueueCounts, count, with_count, known, with_known}
 use Rattle.queue_parties.proofs.Parties.{both-equal, harts-apart, two, twice, count-set-known, known-set, known-set-other}
-use Rattle.slot_queue.specs.Queues.{Queue, index_word, least, IsQueue}
+use Rattle.slot_queue.specs.Queues.{Queue, index_word, least_count, IsQueue}
 use Rattle.slot_queue.specs.Ownership.{hart, index, end, after_load}
 use Rattle.slot_queue.specs.Laws.{moved_on}
 use Rattle.slot_queue.proofs.Codes.{least-near, least-low}
@@ -65,7 +65,7 @@ module _ (q : Queue) (is : IsQueue q) (o : OpeningValue) (es : List Entry) (c : 
   known-low = subst (λ t. known t c ≤ m (other r)) (twice r) (sides (other r)).known_less
 
   -- and where the index tells all from none, no less
-  pub found : q.capacity < q.modulus → least q (known r c) (index_word q (m (other r))) ≡ m (other r)
+  pub found : q.capacity < q.modulus → least_count q (known r c) (index_word q (m (other r))) ≡ m (other r)
   found tells =
       let mine : Bounds q c r (m r) = bounds q o es c r (m r) (sides r) in
       let theirs : Bounds q c (other r) (m (other r)) = bounds q o es c (other r) (m (other r)) (sides (other r)) in
@@ -82,8 +82,8 @@ module _ (q : Queue) (is : IsQueue q) (o : OpeningValue) (es : List Entry) (c : 
     looked = by (a == index q (other r) && width == q.index_width) refl
       where
         by : (b : Bool) → (a == index q (other r) && width == q.index_width) ≡ b
-            → ((if b then with_known r (least q (known r c) v) c else c) ≡ c)
-            ⊎ ((k : ℕ) × ((if b then with_known r (least q (known r c) v) c else c) ≡ with_known r k c) × (known r c ≤ k) × (k ≤ m (other r)))
+            → ((if b then with_known r (least_count q (known r c) v) c else c) ≡ c)
+            ⊎ ((k : ℕ) × ((if b then with_known r (least_count q (known r c) v) c else c) ≡ with_known r k c) × (known r c ≤ k) × (k ≤ m (other r)))
         by false off = inl refl
         by true on =
             let parts = both-equal a (index q (other r)) width q.index_width on in
@@ -93,10 +93,10 @@ module _ (q : Queue) (is : IsQueue q) (o : OpeningValue) (es : List Entry) (c : 
             ∙ ap (read o es (hart q r) (index q (other r))) whole
             ∙ reads-other q o es c (other r) (m (other r)) (sides (other r)) (hart q r) (harts-apart q.sender q.receiver is.parties r) in
             inr (
-              least q (known r c) v,
+              least_count q (known r c) v,
               refl,
               omega arith,
-              subst (λ x. least q (known r c) x ≤ m (other r)) (sym word) (least-low q is (known r c) (m (other r)) known-low),
+              subst (λ x. least_count q (known r c) x ≤ m (other r)) (sym word) (least-low q is (known r c) (m (other r)) known-low),
             )
 
     -- so what holds of both indices holds still

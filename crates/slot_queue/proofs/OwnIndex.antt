@@ -17,7 +17,7 @@ use Rattle.step_machine.proofs.Appended.{LegalAfter-back}
 use Rattle.store_buffers.proofs.Reading.{newest-first}
 use Rattle.queue_parties.specs.Parties.{Party, other, QueueCounts, count, with_known, known}
 use Rattle.queue_parties.proofs.Parties.{Whose, mine, theirs, whose, harts-apart, two, known-set, count-set-known, counts-append}
-use Rattle.slot_queue.specs.Queues.{Queue, index_word, least, IsQueue}
+use Rattle.slot_queue.specs.Queues.{Queue, index_word, least_count, IsQueue}
 use Rattle.slot_queue.specs.Ownership.{hart, index, moved, after_load, after_access, counts_next, counts_after}
 use Rattle.slot_queue.specs.Laws.{FollowsOwnership, moved_on}
 use Rattle.slot_queue.proofs.Sides.{IsClean, Side, clean-word}
@@ -76,10 +76,10 @@ look B q start o before es e f tells p v by does = by_whose (whose q.sender q.re
 
     found_there : after_load q p (index q (other p)) q.index_width v c ≡ with_known p (m (other p)) c
     found_there =
-        ap (λ b. if b && (q.index_width == q.index_width) then with_known p (least q (known p c) v) c else c)
+        ap (λ b. if b && (q.index_width == q.index_width) then with_known p (least_count q (known p c) v) c else c)
         (eq-eqb (index q (other p)) (index q (other p)) refl)
-        ∙ ap (λ b. if b then with_known p (least q (known p c) v) c else c) (eq-eqb q.index_width q.index_width refl)
-        ∙ ap (λ k. with_known p k c) (ap (least q (known p c)) word ∙ found q f.queue o (before ++ es) c m sides p tells)
+        ∙ ap (λ b. if b then with_known p (least_count q (known p c) v) c else c) (eq-eqb q.index_width q.index_width refl)
+        ∙ ap (λ k. with_known p k c) (ap (least_count q (known p c)) word ∙ found q f.queue o (before ++ es) c m sides p tells)
 
     by_whose : Whose q.sender q.receiver (hart_of e)
         → moved_on q (other p) (known p (counts_after q start (es ++ e ∷ [])))

@@ -17,7 +17,7 @@ use Rattle.queue_parties.specs.Positions.{IsInBytes}
 use Rattle.queue_parties.proofs.Parties.{both-equal, two, twice, count-set, count-set-other, count-set-known, known-set-count, known-set-other}
 use Rattle.queue_parties.proofs.Parties.{Grows, grows-same, grows-on, grows-count, grows-known, grows-from}
 use Rattle.queue_parties.proofs.Positions.{far, slot-within}
-use Rattle.slot_queue.specs.Queues.{Queue, least, IsByteOf, IsQueue, KeepsOff}
+use Rattle.slot_queue.specs.Queues.{Queue, least_count, IsByteOf, IsQueue, KeepsOff}
 use Rattle.slot_queue.specs.Ownership.{party_of, index, end}
 use Rattle.slot_queue.specs.Ownership.{is_index_store, moved, after_load, after_store, after_access, counts_next, counts_after, MayStore, KeepsAccess, OwnsByte}
 use Rattle.slot_queue.specs.Laws.{FollowsOwnership}
@@ -31,8 +31,8 @@ module _ (q : Queue) where
   pub grows-load : (r : Party) (a width v : ℕ) (c : QueueCounts) → Grows c (after_load q r a width v c)
   grows-load r a width v c = by (a == index q (other r) && width == q.index_width)
     where
-      by : (b : Bool) → Grows c (if b then with_known r (least q (known r c) v) c else c)
-      by true = grows-known r (least q (known r c) v) c (omega arith)
+      by : (b : Bool) → Grows c (if b then with_known r (least_count q (known r c) v) c else c)
+      by true = grows-known r (least_count q (known r c) v) c (omega arith)
       by false = grows-same c
 
   grows-store : (r : Party) (w : Write) (c : QueueCounts) → Grows c (after_store q r w c)
@@ -197,8 +197,8 @@ module _ (q : Queue) (is : IsQueue q) (p : Party) where
   pub loaded-count : (r : Party) (a width v : ℕ) (c : QueueCounts) → count p (after_load q r a width v c) ≡ count p c
   loaded-count r a width v c = by (a == index q (other r) && width == q.index_width)
     where
-      by : (b : Bool) → count p (if b then with_known r (least q (known r c) v) c else c) ≡ count p c
-      by true = count-set-known r p (least q (known r c) v) c
+      by : (b : Bool) → count p (if b then with_known r (least_count q (known r c) v) c else c) ≡ count p c
+      by true = count-set-known r p (least_count q (known r c) v) c
       by false = refl
 
   stored-count : (r : Party) (w : Write) (c : QueueCounts) → count p c < count p (after_store q r w c) → (p ≡ r) × (is_index_store q p w ≡ true)
@@ -214,7 +214,7 @@ module _ (q : Queue) (is : IsQueue q) (p : Party) where
       by true on more = refl
       by false off more =
           let n : count p (after_store q p w c) ≡ moved q p (count p c) w = count-set p (moved q p (count p c) w) c in
-          let none : moved q p (count p c) w ≡ count p c = ap (λ b. if b then least q (count p c) w.value else count p c) off in
+          let none : moved q p (count p c) w ≡ count p c = ap (λ b. if b then least_count q (count p c) w.value else count p c) off in
           absurd (omega (arith, n, none, more))
 
   -- a store to the index leaves every slot
@@ -245,7 +245,7 @@ module _ (q : Queue) (is : IsQueue q) (p : Party) where
       let place : a ≡ index q p = (both-equal a (index q p) 4 q.index_width at.1).0 in
       let apart : a ≢ index q (other r) = λ e. indices-apart q is p (sym place ∙ e ∙ ap (λ s. index q (other s)) (sym at.0)) in
       let none : after_load q r a 4 old c ≡ c =
-      ap (λ b. if b && (4 == q.index_width) then with_known r (least q (known r c) old) c else c)
+      ap (λ b. if b && (4 == q.index_width) then with_known r (least_count q (known r c) old) c else c)
       (ne_eqb a (index q (other r)) apart) in
       record {
         party = ap (λ s. Some s) (sym at.0);
@@ -268,14 +268,15 @@ module _ (q : Queue) (is : IsQueue q) (p : Party) where
   loaded-knows r a width v c more = by (a == index q (other r) && width == q.index_width) refl more
     where
       by : (b : Bool) → (a == index q (other r) && width == q.index_width) ≡ b
-          → known p c < known p (if b then with_known r (least q (known r c) v) c else c) → (p ≡ r) × (a ≡ index q (other r)) × (width ≡ q.index_width)
+          → known p c < known p (if b then with_known r (least_count q (known r c) v) c else c) → (p ≡ r) × (a ≡ index q (other r)) × (width ≡ q.index_width)
       by false off more = absurd (omega (arith, more))
       by true on more = elim (two r p) [
         | inl same ↦ let parts = both-equal a (index q (other r)) width q.index_width on in (same, parts.0, parts.1)
         | inr same ↦
-            let still : known (other r) (with_known r (least q (known r c) v) c) ≡ known (other r) c = known-set-other r (least q (known r c) v) c in
-            let less : known (other r) c < known (other r) (with_known r (least q (known r c) v) c) =
-            subst (λ t. known t c < known t (with_known r (least q (known r c) v) c)) same more in
+            let still : known (other r) (with_known r (least_count q (known r c) v) c) ≡ known (other r) c =
+            known-set-other r (least_count q (known r c) v) c in
+            let less : known (other r) c < known (other r) (with_known r (least_count q (known r c) v) c) =
+            subst (λ t. known t c < known t (with_known r (least_count q (known r c) v) c)) same more in
             absurd (omega (arith, still, less))
       ]
 
@@ -301,7 +302,7 @@ module _ (q : Queue) (is : IsQueue q) (p : Party) where
       let at = loaded-knows r a 4 old c (omega (arith, still, more)) in
       let apart : a ≢ index q r = λ e. indices-apart q is r (sym e ∙ at.1) in
       let none : moved q r (count r c1) (write a 4 new) ≡ count r c1 =
-      ap (λ b. if b && (4 == q.index_width) then least q (count r c1) new else count r c1) (ne_eqb a (index q r) apart) in
+      ap (λ b. if b && (4 == q.index_width) then least_count q (count r c1) new else count r c1) (ne_eqb a (index q r) apart) in
       record {
         same_counts = λ s. elim (two r s) [
           | inl same ↦ subst (λ s. count s (after_store q r (write a 4 new) c1) ≡ count s c) (sym same)

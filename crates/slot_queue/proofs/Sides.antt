@@ -21,7 +21,7 @@ use Rattle.queue_parties.specs.Parties.{Party, the_sender, the_receiver, other, 
 use Rattle.queue_parties.specs.Positions.{IsInBytes}
 use Rattle.queue_parties.proofs.Parties.{both-equal}
 use Rattle.queue_parties.proofs.Positions.{slot-within}
-use Rattle.slot_queue.specs.Queues.{Queue, index_word, least, IsOutside, IsQueue, KeepsOff}
+use Rattle.slot_queue.specs.Queues.{Queue, index_word, least_count, IsOutside, IsQueue, KeepsOff}
 use Rattle.slot_queue.specs.Ownership.{hart, index, end, is_index_store, moved, FillsOwned, MayStore}
 use Rattle.slot_queue.specs.Laws.{moved_on}
 use Rattle.slot_queue.proofs.Codes.{least-near, word-least, word-small}
@@ -55,7 +55,7 @@ pub record Side (q : Queue) (o : OpeningValue) (es : List Entry) (c : QueueCount
 pub moved-more : (q : Queue) (p : Party) (n : ℕ) (w : Write) → n ≤ moved q p n w
 moved-more q p n w = by (is_index_store q p w)
   where
-    by : (b : Bool) → n ≤ (if b then least q n w.value else n)
+    by : (b : Bool) → n ≤ (if b then least_count q n w.value else n)
     by true = omega arith
     by false = omega arith
 
@@ -71,7 +71,7 @@ moved_on-append q p n (w ∷ ws) vs = moved_on-append q p (moved q p n w) ws vs
 pub moved-leaves : (q : Queue) → IsQueue q → (p : Party) (n : ℕ) (w : Write) → Leaves q p w → moved q p n w ≡ n
 moved-leaves q is p n w leaves = by (is_index_store q p w) refl
   where
-    by : (b : Bool) → is_index_store q p w ≡ b → (if b then least q n w.value else n) ≡ n
+    by : (b : Bool) → is_index_store q p w ≡ b → (if b then least_count q n w.value else n) ≡ n
     by false off = refl
     by true on = let parts = both-equal w.addr (index q p) w.width q.index_width on in
         let place : w.addr ≡ index q p = parts.0 in
@@ -79,9 +79,9 @@ moved-leaves q is p n w leaves = by (is_index_store q p w) refl
         let held : covers w (index q p) ≡ true = covers-yes w (index q p) (omega (arith, place)) (omega (arith, place, width, is.some_bytes)) in
         absurd (let no : true ≡ false = sym held ∙ leaves (index q p) (omega arith, omega (arith, is.some_bytes)) in cc)
 
-pub moved-index : (q : Queue) (p : Party) (n : ℕ) (w : Write) → IsIndexWord q p w → moved q p n w ≡ least q n w.value
-moved-index q p n w is = ap (λ b. if b && (w.width == q.index_width) then least q n w.value else n) (eq-eqb w.addr (index q p) is.place)
-    ∙ ap (λ b. if b then least q n w.value else n) (eq-eqb w.width q.index_width is.width)
+pub moved-index : (q : Queue) (p : Party) (n : ℕ) (w : Write) → IsIndexWord q p w → moved q p n w ≡ least_count q n w.value
+moved-index q p n w is = ap (λ b. if b && (w.width == q.index_width) then least_count q n w.value else n) (eq-eqb w.addr (index q p) is.place)
+    ∙ ap (λ b. if b then least_count q n w.value else n) (eq-eqb w.width q.index_width is.width)
 
 -- ---- which stores are clean
 
@@ -143,7 +143,7 @@ module _ (q : Queue) (is : IsQueue q) where
 
   pub stores-clean : (p : Party) (c : QueueCounts) (w : Write) → MayStore q p c w → IsClean q p w
   stores-clean p c w (inl moves) =
-      inr (record { place = moves.place; width = moves.width; of = least q (count p c) w.value; word = moves.word })
+      inr (record { place = moves.place; width = moves.width; of = least_count q (count p c) w.value; word = moves.word })
   stores-clean p c w (inr fills) = inl (fills-leaves p p c w fills)
 
   pub stores-leave : (p : Party) (c : QueueCounts) (w : Write) → MayStore q (other p) c w → Leaves q p w
@@ -153,8 +153,8 @@ module _ (q : Queue) (is : IsQueue q) where
   -- a store keeps a count within what is owned
   pub stores-room : (p : Party) (c : QueueCounts) (w : Write) → MayStore q p c w → count p c ≤ end q p c → moved q p (count p c) w ≤ end q p c
   stores-room p c w (inl moves) le =
-      let at : moved q p (count p c) w ≡ least q (count p c) w.value = moved-index q p (count p c) w
-      (record { place = moves.place; width = moves.width; of = least q (count p c) w.value; word = moves.word }) in omega (arith, at, moves.owned)
+      let at : moved q p (count p c) w ≡ least_count q (count p c) w.value = moved-index q p (count p c) w
+      (record { place = moves.place; width = moves.width; of = least_count q (count p c) w.value; word = moves.word }) in omega (arith, at, moves.owned)
   stores-room p c w (inr fills) le =
       let at : moved q p (count p c) w ≡ count p c = moved-leaves q is p (count p c) w (fills-leaves p p c w fills) in
       omega (arith, at, le)
@@ -173,7 +173,7 @@ module _ (q : Queue) (is : IsQueue q) where
       let place : index q p + i - w.addr ≡ i = omega (arith, of_index.place) in
       ap (λ b. if b then byte_at (index q p + i - w.addr) w.value else f (index q p + i)) held ∙ ap (λ j. byte_at j w.value) place)
       ∙ joined-bytes w.value q.index_width ∙ mod-eq_of_lt (subst (λ v. v < 256 ^ q.index_width) (sym of_index.word) (word-small q is of_index.of))
-      ∙ of_index.word ∙ sym (word-least q is m of_index.of) ∙ ap (λ v. index_word q (least q m v)) (sym of_index.word)
+      ∙ of_index.word ∙ sym (word-least q is m of_index.of) ∙ ap (λ v. index_word q (least_count q m v)) (sym of_index.word)
       ∙ ap (index_word q) (sym (moved-index q p m w of_index))
 
   pub word-written : (o : OpeningValue) (es : List Entry) (e : Entry) (p : Party) (w : Write) (m : ℕ) → write_of es e ≡ w ∷ [] → IsClean q p w
@@ -191,10 +191,10 @@ module _ (q : Queue) (is : IsQueue q) where
     pub moved-same : moved q p m (write a 4 new) ≡ m
     moved-same = by (is_index_store q p (write a 4 new)) refl
       where
-        by : (b : Bool) → is_index_store q p (write a 4 new) ≡ b → (if b then least q m new else m) ≡ m
+        by : (b : Bool) → is_index_store q p (write a 4 new) ≡ b → (if b then least_count q m new else m) ≡ m
         by false off = refl
         by true on =
             let parts = both-equal a (index q p) 4 q.index_width on in
             let there : new ≡ index_word q m = same ∙ amo-read B o es e a old new does allowed ∙ ap (λ x. memory_number o es x 4) parts.0
             ∙ ap (memory_number o es (index q p)) parts.1 ∙ word in
-            ap (least q m) there ∙ least-near q is m m (omega arith) (omega (arith, is.words))
+            ap (least_count q m) there ∙ least-near q is m m (omega arith) (omega (arith, is.words))

@@ -7,7 +7,7 @@ use Rattle.step_machine.specs.Access.{Access, load, store, exchange, access_of}
 use Rattle.step_machine.specs.Entries.{hart_of}
 use Rattle.queue_parties.specs.Parties.{Party, the_sender, the_receiver, other, hart_among, party_among, QueueCounts, count, with_count, known, with_known}
 use Rattle.queue_parties.specs.Parties.{counts_from, KeepsEach}
-use Rattle.slot_queue.specs.Queues.{Queue, index_word, least, IsByteOf, IsOutside, KeepsOff}
+use Rattle.slot_queue.specs.Queues.{Queue, index_word, least_count, IsByteOf, IsOutside, KeepsOff}
 
 abbrev pub party_of : Queue → (h : ℕ) → Option Party
 party_of q h = party_among q.sender q.receiver h
@@ -37,14 +37,14 @@ pub record OwnsByte (q : Queue) (p : Party) (c : QueueCounts) (x : ℕ) : Type 0
 -- a count on to the least that it stands for, and all else leaves the counts
 
 abbrev pub after_load : Queue → Party → (a width v : ℕ) → QueueCounts → QueueCounts
-after_load q p a width v c = if a == index q (other p) && width == q.index_width then with_known p (least q (known p c) v) c else c
+after_load q p a width v c = if a == index q (other p) && width == q.index_width then with_known p (least_count q (known p c) v) c else c
 
 abbrev pub is_index_store : Queue → Party → Write → Bool
 is_index_store q p w = w.addr == index q p && w.width == q.index_width
 
 -- a count after a write of the party's
 abbrev pub moved : Queue → Party → (n : ℕ) → Write → ℕ
-moved q p n w = if is_index_store q p w then least q n w.value else n
+moved q p n w = if is_index_store q p w then least_count q n w.value else n
 
 abbrev pub after_store : Queue → Party → Write → QueueCounts → QueueCounts
 after_store q p w c = with_count p (moved q p (count p c) w) c
@@ -68,8 +68,8 @@ counts_after q c es = counts_from (counts_next q) c es
 pub record MovesOn (q : Queue) (p : Party) (c : QueueCounts) (w : Write) : Type 0 where
   pub place : w.addr ≡ index q p
   pub width : w.width ≡ q.index_width
-  pub word : w.value ≡ index_word q (least q (count p c) w.value)
-  pub owned : least q (count p c) w.value ≤ end q p c
+  pub word : w.value ≡ index_word q (least_count q (count p c) w.value)
+  pub owned : least_count q (count p c) w.value ≤ end q p c
 
 -- of bytes, in any width: each that is of the queue is of an owned slot. So none is of an index
 abbrev pub FillsOwned : Queue → Party → QueueCounts → Write → Type 0

@@ -36,8 +36,8 @@ abbrev pub index_word : Queue → (n : ℕ) → ℕ
 index_word q n = q.base + q.scale * ((n + q.offset) % q.modulus)
 
 -- the least count from n on that v stands for
-abbrev pub least : Queue → (n v : ℕ) → ℕ
-least q n v = n + ((v - q.base) / q.scale + (q.modulus - (n + q.offset) % q.modulus)) % q.modulus
+abbrev pub least_count : Queue → (n v : ℕ) → ℕ
+least_count q n v = n + ((v - q.base) / q.scale + (q.modulus - (n + q.offset) % q.modulus)) % q.modulus
 
 -- position k of the queue lies in slot k % size: x is one of its bytes
 abbrev pub slot_of : Queue → (k : ℕ) → ℕ

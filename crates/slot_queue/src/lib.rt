@@ -18,7 +18,7 @@ ghost use Rattle.step_machine.specs.Access.{load, store, access_of};
 ghost use Rattle.store_buffers.specs.StoreBuffers.{LeavesByteAt, AllLeaveByte, IsOnlyWriter};
 ghost use Rattle.queue_parties.specs.Parties.{Party, the_sender, the_receiver, other, QueueCounts, IsWindow, count, known};
 ghost use Rattle.queue_parties.specs.Positions.{IsPrefix};
-ghost use Rattle.slot_queue.specs.Queues.{Queue, IsQueue, IsByteOf, TellsFull, index_word, least};
+ghost use Rattle.slot_queue.specs.Queues.{Queue, IsQueue, IsByteOf, TellsFull, index_word, least_count};
 ghost use Rattle.slot_queue.specs.Ownership.{hart, index, counts_after};
 ghost use Rattle.slot_queue.specs.Laws.{FollowsOwnership, LeavesSlotsAt, moved_on, records_by, records_learned, records_waiting};
 
@@ -86,5 +86,5 @@ pub fn laws_of_ownership()
         → access_of e ≡ load (index q (other p)) q.index_width v
         → moved_on q (other p) (known p (counts_after q start (es ++ e ∷ []))) (pending (hart q (other p)) (before ++ es))
         ≡ count (other p) (counts_after q start (es ++ e ∷ [])) }
-    ensures least_count { (q : Queue) → IsQueue q → (n j : ℕ) → n ≤ j → j < n + q.modulus → least q n (index_word q j) ≡ j }
+    ensures least_count { (q : Queue) → IsQueue q → (n j : ℕ) → n ≤ j → j < n + q.modulus → least_count q n (index_word q j) ≡ j }
 {}

@@ -24,15 +24,15 @@ use Rattle.store_buffers.proofs.Effects.{stored_none}
 use Rattle.store_buffers.proofs.LateStores.{late-stores, all-by-parts, leaves-at}
 use Rattle.slots_that_tell.specs.Slots.{Slots, IsSlots, gap, IsSlotByte}
 use Rattle.slots_that_tell.specs.Telling.{KeepsEntry, teller_of, teller_hart, owned_end, told_access, after_entry, told_counts, TellsAccess, KeepsTelling}
-use Rattle.slots_that_tell.specs.Laws.{FollowsTelling, counts}
+use Rattle.slots_that_tell.specs.Laws.{FollowsTelling}
 use Rattle.slots_that_tell.proofs.Publication.{follows-front, published, published_last}
 use Rattle.slots_that_tell.proofs.Owned.{grows-after, Window, window-of, given-up, not-owned, off-byte, Owned, access-byte, Moving, moving, most-one, mine-of}
 
 -- ---- publication, of an entry that moves a count, with what it stores
 
 pub published_by : (B : ℕ) (q : Slots) (start : QueueCounts) (o : OpeningValue) (before es : List Entry) (e : Entry) (fs : List Entry)
-    → FollowsTelling B q start o before ((es ++ e ∷ []) ++ fs) → (p : Party) → count p (counts q start es) < count p (counts q start (es ++ e ∷ []))
-    → count p (counts q start (es ++ e ∷ [])) ≤ known (other p) (counts q start ((es ++ e ∷ []) ++ fs))
+    → FollowsTelling B q start o before ((es ++ e ∷ []) ++ fs) → (p : Party) → count p (told_counts q start es) < count p (told_counts q start (es ++ e ∷ []))
+    → count p (told_counts q start (es ++ e ∷ [])) ≤ known (other p) (told_counts q start ((es ++ e ∷ []) ++ fs))
     → length (own_stores (teller_hart q p) (before ++ (es ++ e ∷ []))) ≤ lands (teller_hart q p) (before ++ ((es ++ e ∷ []) ++ fs))
 published_by B q start o before es e fs f p more knows = elim moves.1 [
   | inl stores ↦ published_last B q start o before (es ++ e ∷ []) fs f p (own_stores h (before ++ es)) stores.0
@@ -46,7 +46,7 @@ published_by B q start o before es e fs f p more knows = elim moves.1 [
       subst (λ ws. length ws ≤ lands h (before ++ ((es ++ e ∷ []) ++ fs))) (sym same)
       (subst (λ xs. length (own_stores h (before ++ es)) ≤ lands h (before ++ xs)) (sym place)
       (published B q start o before es (e ∷ fs) (subst (FollowsTelling B q start o before) place f) p
-      (subst (λ xs. count p (counts q start es) < known (other p) (counts q start xs)) place (omega (arith, more, knows)))))
+      (subst (λ xs. count p (told_counts q start es) < known (other p) (told_counts q start xs)) place (omega (arith, more, knows)))))
 ]
   where
     h : ℕ
@@ -56,8 +56,8 @@ published_by B q start o before es e fs f p more knows = elim moves.1 [
     is = f.slots
 
     moves : (teller_of q (hart_of e) ≡ Some p) × Moving q p (access_of e)
-    moves = moving q p (teller_of q (hart_of e)) (access_of e) (counts q start es)
-        (subst (λ d. count p (counts q start es) < count p d) (counts-append (after_entry q) start es (e ∷ [])) more)
+    moves = moving q p (teller_of q (hart_of e)) (access_of e) (told_counts q start es)
+        (subst (λ d. count p (told_counts q start es) < count p d) (counts-append (after_entry q) start es (e ∷ [])) more)
 
     at : hart_of e ≡ teller_hart q p
     at = mine-of q is p (hart_of e) moves.0
@@ -69,8 +69,8 @@ published_by B q start o before es e fs f p more knows = elim moves.1 [
 -- ---- while a position that a party handed over isn't handed back, only the other party's hart writes over its slot
 
 module _ (B : ℕ) (q : Slots) (start : QueueCounts) (o : OpeningValue) (before fr gs : List Entry) (f : FollowsTelling B q start o before (fr ++ gs))
-    (p : Party) (k : ℕ) (past : k < count p (counts q start fr)) (x : ℕ) (of_k : IsSlotByte q k x)
-    (given : count (other p) (counts q start (fr ++ gs)) ≤ k + gap q p) (kept : LeavesByteAt (teller_hart q (other p)) x gs) where
+    (p : Party) (k : ℕ) (past : k < count p (told_counts q start fr)) (x : ℕ) (of_k : IsSlotByte q k x)
+    (given : count (other p) (told_counts q start (fr ++ gs)) ≤ k + gap q p) (kept : LeavesByteAt (teller_hart q (other p)) x gs) where
   off-access : (c : QueueCounts) (y : Access) → TellsAccess q None c y → LeavesByteBy x y
   off-access c nothing keeps = tt
   off-access c (load a width v) keeps = tt
@@ -86,7 +86,7 @@ module _ (B : ℕ) (q : Slots) (start : QueueCounts) (o : OpeningValue) (before 
       done = fr ++ es1
 
       c1 : QueueCounts
-      c1 = counts q start done
+      c1 = told_counts q start done
 
       d1 : QueueCounts
       d1 = after_entry q c1 e1
@@ -103,7 +103,7 @@ module _ (B : ℕ) (q : Slots) (start : QueueCounts) (o : OpeningValue) (before 
       front : FollowsTelling B q start o before (done ++ e1 ∷ [])
       front = follows-front B q start o before (done ++ e1 ∷ []) es2 (subst (FollowsTelling B q start o before) parts2 f)
 
-      d1_is : counts q start (done ++ e1 ∷ []) ≡ d1
+      d1_is : told_counts q start (done ++ e1 ∷ []) ≡ d1
       d1_is = counts-append (after_entry q) start done (e1 ∷ [])
 
       by : Whose q.sender q.receiver (hart_of e1) → LeavesByteBy x (access_of e1)
@@ -120,14 +120,14 @@ module _ (B : ℕ) (q : Slots) (start : QueueCounts) (o : OpeningValue) (before 
           twice_owned : (r : Party) → r ≡ p → teller_of q (hart_of e1) ≡ Some r → Owned q f.slots x r c1 (told_access q (Some r) (access_of e1) c1) → ⊥
           twice_owned r same party owns =
               let is_d1 : told_access q (Some r) (access_of e1) c1 ≡ d1 = ap (λ t. told_access q t (access_of e1) c1) (sym party) in
-              let since : Grows (counts q start fr) c1 = subst (Grows (counts q start fr)) (sym (counts-append (after_entry q) start fr es1))
-              (grows-after q (counts q start fr) es1) in
-              let more : count p (counts q start fr) ≤ count p c1 = since.counts p in
-              not-owned q f.slots x p c1 d1 (counts q start (fr ++ gs)) k owns.position
+              let since : Grows (told_counts q start fr) c1 = subst (Grows (told_counts q start fr)) (sym (counts-append (after_entry q) start fr es1))
+              (grows-after q (told_counts q start fr) es1) in
+              let more : count p (told_counts q start fr) ≤ count p c1 = since.counts p in
+              not-owned q f.slots x p c1 d1 (told_counts q start (fr ++ gs)) k owns.position
               (subst (Window q) d1_is (window-of B q start o before (done ++ e1 ∷ []) front))
               (subst (Grows d1) (ap (λ d. told_counts q d es2) (sym d1_is)
               ∙ sym (counts-append (after_entry q) start (done ++ e1 ∷ []) es2)
-              ∙ ap (counts q start) (sym parts2)) (grows-after q d1 es2))
+              ∙ ap (told_counts q start) (sym parts2)) (grows-after q d1 es2))
               of_k owns.byte (omega (arith, past, more)) (subst (λ t. count t c1 ≤ owns.position) same owns.from)
               (subst (λ t. owns.position < owned_end q t d1) same (subst (λ d. owns.position < owned_end q r d) is_d1 owns.before)) given
 
@@ -137,8 +137,8 @@ module _ (B : ℕ) (q : Slots) (start : QueueCounts) (o : OpeningValue) (before 
 -- ---- a run in which a party hands a position over
 
 module _ (B : ℕ) (q : Slots) (start : QueueCounts) (o : OpeningValue) (before es : List Entry) (e : Entry) (fs : List Entry)
-    (f : FollowsTelling B q start o before (es ++ e ∷ fs)) (p : Party) (k : ℕ) (from : count p (counts q start es) ≤ k)
-    (past : k < count p (counts q start (es ++ e ∷ []))) where
+    (f : FollowsTelling B q start o before (es ++ e ∷ fs)) (p : Party) (k : ℕ) (from : count p (told_counts q start es) ≤ k)
+    (past : k < count p (told_counts q start (es ++ e ∷ []))) where
   abbrev is : IsSlots q
   is = f.slots
 
@@ -146,10 +146,10 @@ module _ (B : ℕ) (q : Slots) (start : QueueCounts) (o : OpeningValue) (before 
   run1 = es ++ e ∷ []
 
   abbrev c : QueueCounts
-  c = counts q start es
+  c = told_counts q start es
 
   abbrev l : QueueCounts
-  l = counts q start run1
+  l = told_counts q start run1
 
   parts1 : es ++ e ∷ fs ≡ run1 ++ fs
   parts1 = sym (append_assoc es (e ∷ []) fs)
@@ -199,7 +199,7 @@ module _ (B : ℕ) (q : Slots) (start : QueueCounts) (o : OpeningValue) (before 
         here es1 e1 es2 w split of_g does late = by (whose q.sender q.receiver g)
           where
             c1 : QueueCounts
-            c1 = counts q start es1
+            c1 = told_counts q start es1
 
             split2 : es ≡ (es1 ++ e1 ∷ []) ++ es2
             split2 = split ∙ sym (append_assoc es1 (e1 ∷ []) es2)
@@ -208,7 +208,7 @@ module _ (B : ℕ) (q : Slots) (start : QueueCounts) (o : OpeningValue) (before 
             split3 = ap (λ xs. xs ++ e ∷ []) split2 ∙ append_assoc (es1 ++ e1 ∷ []) es2 (e ∷ [])
 
             d1 : QueueCounts
-            d1 = counts q start (es1 ++ e1 ∷ [])
+            d1 = told_counts q start (es1 ++ e1 ∷ [])
 
             d1_is : d1 ≡ told_access q (teller_of q g) (store w) c1
             d1_is = counts-append (after_entry q) start es1 (e1 ∷ []) ∙ ap (λ h. told_access q (teller_of q h) (access_of e1) c1) of_g
@@ -247,14 +247,14 @@ module _ (B : ℕ) (q : Slots) (start : QueueCounts) (o : OpeningValue) (before 
                         follows3 = subst (FollowsTelling B q start o before) split3 follows1
 
                         grows : Grows d1 c
-                        grows = subst (Grows d1) (sym (counts-append (after_entry q) start (es1 ++ e1 ∷ []) es2) ∙ ap (counts q start) (sym split2))
+                        grows = subst (Grows d1) (sym (counts-append (after_entry q) start (es1 ++ e1 ∷ []) es2) ∙ ap (told_counts q start) (sym split2))
                             (grows-after q d1 es2)
 
                         before_d1 : owns.position < owned_end q (other p) d1
                         before_d1 = subst (λ t. owns.position < owned_end q t d1) same (subst (λ d. owns.position < owned_end q r d) is_d1 owns.before)
 
-                        known_now : owns.position < known (other r) (counts q start ((es1 ++ e1 ∷ []) ++ (es2 ++ e ∷ [])))
-                        known_now = subst (λ xs. owns.position < known (other r) (counts q start xs)) split3
+                        known_now : owns.position < known (other r) (told_counts q start ((es1 ++ e1 ∷ []) ++ (es2 ++ e ∷ [])))
+                        known_now = subst (λ xs. owns.position < known (other r) (told_counts q start xs)) split3
                             (subst (λ t. owns.position < known t l) (sym (ap other same ∙ twice p))
                             (given-up q is x p d1 c l k owns.position (window-of B q start o before (es1 ++ e1 ∷ []) front) grows
                             of_k owns.byte from below before_d1))
@@ -281,7 +281,7 @@ module _ (B : ℕ) (q : Slots) (start : QueueCounts) (o : OpeningValue) (before 
                             omega (arith, landed, late2)
 
     -- where all that the party's hart had stored there has landed
-    pub reads-landed : count (other p) (counts q start (es ++ e ∷ fs)) ≤ k + gap q p → LeavesByteAt (teller_hart q (other p)) x fs
+    pub reads-landed : count (other p) (told_counts q start (es ++ e ∷ fs)) ≤ k + gap q p → LeavesByteAt (teller_hart q (other p)) x fs
         → length (own_stores (teller_hart q p) (before ++ run1)) ≤ lands (teller_hart q p) (before ++ (run1 ++ fs))
         → read_byte o (before ++ (es ++ e ∷ fs)) (teller_hart q (other p)) x ≡ read_byte o (before ++ (es ++ e ∷ [])) (teller_hart q p) x
     reads-landed given kept landed =
@@ -291,26 +291,26 @@ module _ (B : ℕ) (q : Slots) (start : QueueCounts) (o : OpeningValue) (before 
         (subst (λ xs. length (own_stores (teller_hart q p) (before ++ run1)) ≤ lands (teller_hart q p) xs)
         (sym (append_assoc before run1 fs)) landed) only-writer
         (leave-after B q start o before run1 fs (subst (FollowsTelling B q start o before) parts1 f) p k past x of_k
-        (subst (λ xs. count (other p) (counts q start xs) ≤ k + gap q p) parts1 given) kept))
+        (subst (λ xs. count (other p) (told_counts q start xs) ≤ k + gap q p) parts1 given) kept))
 
   -- once the other party knows of the position, that is so
-  pub landed : k < known (other p) (counts q start (es ++ e ∷ fs))
+  pub landed : k < known (other p) (told_counts q start (es ++ e ∷ fs))
       → length (own_stores (teller_hart q p) (before ++ run1)) ≤ lands (teller_hart q p) (before ++ (run1 ++ fs))
   landed knows = published_by B q start o before es e fs (subst (FollowsTelling B q start o before) parts1 f) p (omega (arith, from, past))
-      (subst (λ xs. count p l ≤ known (other p) (counts q start xs)) parts1 (omega (arith, last, knows)))
+      (subst (λ xs. count p l ≤ known (other p) (told_counts q start xs)) parts1 (omega (arith, last, knows)))
 
-  pub handed : (x : ℕ) → IsSlotByte q k x → count (other p) (counts q start (es ++ e ∷ fs)) ≤ k + gap q p
-      → k + gap q p < owned_end q (other p) (counts q start (es ++ e ∷ fs)) → LeavesByteAt (teller_hart q (other p)) x fs
+  pub handed : (x : ℕ) → IsSlotByte q k x → count (other p) (told_counts q start (es ++ e ∷ fs)) ≤ k + gap q p
+      → k + gap q p < owned_end q (other p) (told_counts q start (es ++ e ∷ fs)) → LeavesByteAt (teller_hart q (other p)) x fs
       → read_byte o (before ++ (es ++ e ∷ fs)) (teller_hart q (other p)) x ≡ read_byte o (before ++ (es ++ e ∷ [])) (teller_hart q p) x
   handed x of_k given has kept = reads-landed x of_k given kept (landed
-      (let there : k + gap q p < known (other p) (counts q start (es ++ e ∷ fs)) + gap q p =
-      subst (λ t. k + gap q p < known (other p) (counts q start (es ++ e ∷ fs)) + gap q t) (twice p) has in omega (arith, there)))
+      (let there : k + gap q p < known (other p) (told_counts q start (es ++ e ∷ fs)) + gap q p =
+      subst (λ t. k + gap q p < known (other p) (told_counts q start (es ++ e ∷ fs)) + gap q t) (twice p) has in omega (arith, there)))
 
 -- the same just before the entry of the other party's by which it comes to know of the position
 module _ (B : ℕ) (q : Slots) (start : QueueCounts) (o : OpeningValue) (before es : List Entry) (e : Entry) (fs : List Entry) (d : Entry)
-    (f : FollowsTelling B q start o before ((es ++ e ∷ fs) ++ d ∷ [])) (p : Party) (k : ℕ) (from : count p (counts q start es) ≤ k)
-    (past : k < count p (counts q start (es ++ e ∷ []))) (apart : hart_of d ≢ teller_hart q p)
-    (knows : k < known (other p) (counts q start ((es ++ e ∷ fs) ++ d ∷ []))) where
+    (f : FollowsTelling B q start o before ((es ++ e ∷ fs) ++ d ∷ [])) (p : Party) (k : ℕ) (from : count p (told_counts q start es) ≤ k)
+    (past : k < count p (told_counts q start (es ++ e ∷ []))) (apart : hart_of d ≢ teller_hart q p)
+    (knows : k < known (other p) (told_counts q start ((es ++ e ∷ fs) ++ d ∷ []))) where
   joins : (es ++ e ∷ fs) ++ d ∷ [] ≡ es ++ e ∷ (fs ++ d ∷ [])
   joins = append_assoc es (e ∷ fs) (d ∷ [])
 
@@ -323,7 +323,7 @@ module _ (B : ℕ) (q : Slots) (start : QueueCounts) (o : OpeningValue) (before 
       let h : ℕ = teller_hart q p in
       let all : length (own_stores h (before ++ (es ++ e ∷ []))) ≤ lands h (before ++ ((es ++ e ∷ []) ++ (fs ++ d ∷ []))) =
       landed B q start o before es e (fs ++ d ∷ []) (subst (FollowsTelling B q start o before) joins f) p k from past
-      (subst (λ xs. k < known (other p) (counts q start xs)) joins knows) in
+      (subst (λ xs. k < known (other p) (told_counts q start xs)) joins knows) in
       let place : before ++ ((es ++ e ∷ []) ++ (fs ++ d ∷ [])) ≡ (before ++ ((es ++ e ∷ []) ++ fs)) ++ d ∷ [] =
       ap (λ xs. before ++ xs) (sym (append_assoc (es ++ e ∷ []) fs (d ∷ []))) ∙ sym (append_assoc before ((es ++ e ∷ []) ++ fs) (d ∷ [])) in
       let parts : lands h (before ++ ((es ++ e ∷ []) ++ (fs ++ d ∷ []))) ≡ lands h (before ++ ((es ++ e ∷ []) ++ fs)) + (land_of h d + 0) =
@@ -331,7 +331,7 @@ module _ (B : ℕ) (q : Slots) (start : QueueCounts) (o : OpeningValue) (before 
       let none : land_of h d ≡ 0 = still (access_of d) in
       omega (arith, all, parts, none)
 
-  pub handed-before : (x : ℕ) → IsSlotByte q k x → count (other p) (counts q start (es ++ e ∷ fs)) ≤ k + gap q p
+  pub handed-before : (x : ℕ) → IsSlotByte q k x → count (other p) (told_counts q start (es ++ e ∷ fs)) ≤ k + gap q p
       → LeavesByteAt (teller_hart q (other p)) x fs
       → read_byte o (before ++ (es ++ e ∷ fs)) (teller_hart q (other p)) x ≡ read_byte o (before ++ (es ++ e ∷ [])) (teller_hart q p) x
   handed-before x of_k given kept =
@@ -347,7 +347,7 @@ module _ (B : ℕ) (q : Slots) (start : QueueCounts) (o : OpeningValue) (before 
   in-memory : (h : ℕ) → read_byte o before h x ≡ memory_byte o before x
   in-memory h = ap (λ found. unwrap_or found (memory_byte o before x)) (passed_over x None (pending h before) (none-pending h))
 
-  pub waited : k < start.published → (counts q start es).taken ≤ k → LeavesByteAt q.receiver x es → (g h : ℕ)
+  pub waited : k < start.published → (told_counts q start es).taken ≤ k → LeavesByteAt q.receiver x es → (g h : ℕ)
       → read_byte o (before ++ es) h x ≡ read_byte o before g x
   waited sent given left g h =
       (passing.kept B o h x before es

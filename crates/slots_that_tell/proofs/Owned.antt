@@ -16,7 +16,8 @@ use Rattle.queue_parties.proofs.Parties.{Grows, grows-same, grows-on, Whose, min
 use Rattle.slots_that_tell.specs.Slots.{Slots, IsSlots, gap, is_tag, position_at, IsSlotByte, KeepsOff}
 use Rattle.slots_that_tell.specs.Telling.{teller_of, owned_end, told, learned, moved, after_load, after_store}
 use Rattle.slots_that_tell.specs.Telling.{told_access, after_entry, told_counts, MayStore, TellsAccess}
-use Rattle.slots_that_tell.specs.Laws.{FollowsTelling, counts}
+use Rattle.slots_that_tell.specs.Laws.{FollowsTelling}
+use Rattle.slots_that_tell.specs.Telling.{told_counts}
 use Rattle.slots_that_tell.proofs.Places.{tag-in-slot, slot-inside, far}
 use Rattle.slots_that_tell.proofs.Sides.{Held, moved-more, within}
 use Rattle.slots_that_tell.proofs.Runs.{memory_counts, held-of}
@@ -80,12 +81,12 @@ pub record Window (q : Slots) (c : QueueCounts) : Type 0 where
   pub within : (p : Party) → count p c ≤ owned_end q p c
 
 pub window-of : (B : ℕ) (q : Slots) (start : QueueCounts) (o : OpeningValue) (before es : List Entry)
-    → FollowsTelling B q start o before es → Window q (counts q start es)
+    → FollowsTelling B q start o before es → Window q (told_counts q start es)
 window-of B q start o before es f =
     let m : Party → ℕ = memory_counts q (λ t. count t start) before es in
-    let held : Held q o (before ++ es) (counts q start es) m = held-of B q start o before es f in
+    let held : Held q o (before ++ es) (told_counts q start es) m = held-of B q start o before es f in
     record {
-      known_less = λ p. (let w = within q o (before ++ es) (counts q start es) m held p in omega (arith, w.0, (held.side p).known_less));
+      known_less = λ p. (let w = within q o (before ++ es) (told_counts q start es) m held p in omega (arith, w.0, (held.side p).known_less));
       within = λ p. (held.side p).room;
     }
 

@@ -15,7 +15,7 @@ use Rattle.queue_parties.specs.Parties.{Party, other, QueueCounts, count, known}
 use Rattle.queue_parties.proofs.Parties.{counts-append, keeps-front, keeps-back}
 use Rattle.slots_that_tell.specs.Slots.{Slots, IsSlots}
 use Rattle.slots_that_tell.specs.Telling.{KeepsEntry, teller_hart, after_entry, told_counts, KeepsTelling}
-use Rattle.slots_that_tell.specs.Laws.{FollowsTelling, counts, moved_on}
+use Rattle.slots_that_tell.specs.Laws.{FollowsTelling, moved_on}
 use Rattle.slots_that_tell.proofs.Sides.{Held, moved_on-more, moved_on-append}
 use Rattle.slots_that_tell.proofs.Steps.{next, next-mine, next-other, one-on}
 use Rattle.slots_that_tell.proofs.Runs.{memory_counts, holds-after, held-of}
@@ -146,39 +146,39 @@ module _ (B : ℕ) (q : Slots) (start : QueueCounts) (o : OpeningValue) (before 
   abbrev m : Party → ℕ
   m = memory_counts q (λ t. count t start) before es
 
-  held : Held q o at (counts q start es) m
+  held : Held q o at (told_counts q start es) m
   held = held-of B q start o before es front
 
   whole : LegalAfter B o [] (at ++ fs)
   whole = subst (LegalAfter B o []) (sym (append_assoc before es fs)) f.legal
 
-  end : Held q o (at ++ fs) (told_counts q (counts q start es) fs) (memory_counts q m at fs)
-  end = holds-after B q is o at (counts q start es) m fs held front.legal (LegalAfter-back B o [] at fs whole)
+  end : Held q o (at ++ fs) (told_counts q (told_counts q start es) fs) (memory_counts q m at fs)
+  end = holds-after B q is o at (told_counts q start es) m fs held front.legal (LegalAfter-back B o [] at fs whole)
       (keeps-back (after_entry q) (KeepsEntry q) start es fs f.keeps)
 
-  at_point : Ahead B q is o p at (count p (counts q start es)) at (m p)
+  at_point : Ahead B q is o p at (count p (told_counts q start es)) at (m p)
   at_point = inr (held.side p).count_is
 
-  ahead : Ahead B q is o p at (count p (counts q start es)) (at ++ fs) (memory_counts q m at fs p)
+  ahead : Ahead B q is o p at (count p (told_counts q start es)) (at ++ fs) (memory_counts q m at fs p)
   ahead = let same : at ++ [] ≡ at = append-nil at in
-      subst (λ ys. Ahead B q is o p at (count p (counts q start es)) (ys ++ fs) (memory_counts q m ys fs p)) same
-      (ahead-after B q is o p at (count p (counts q start es)) [] (counts q start es) m fs
-      (subst (λ ys. Held q o ys (counts q start es) m) (sym same) held)
+      subst (λ ys. Ahead B q is o p at (count p (told_counts q start es)) (ys ++ fs) (memory_counts q m ys fs p)) same
+      (ahead-after B q is o p at (count p (told_counts q start es)) [] (told_counts q start es) m fs
+      (subst (λ ys. Held q o ys (told_counts q start es) m) (sym same) held)
       (subst (λ ys. Legal B (history_of o ys)) (sym same) front.legal)
       (subst (λ ys. LegalAfter B o ys fs) (sym same) (LegalAfter-back B o [] at fs whole)) (keeps-back (after_entry q) (KeepsEntry q) start es fs f.keeps)
-      (subst (λ ys. Ahead B q is o p at (count p (counts q start es)) ys (m p)) (sym same) at_point))
+      (subst (λ ys. Ahead B q is o p at (count p (told_counts q start es)) ys (m p)) (sym same) at_point))
 
-  knows : known (other p) (counts q start (es ++ fs)) ≤ memory_counts q m at fs p
+  knows : known (other p) (told_counts q start (es ++ fs)) ≤ memory_counts q m at fs p
   knows = subst (λ d. known (other p) d ≤ memory_counts q m at fs p) (sym (counts-append (after_entry q) start es fs)) (end.side p).known_less
 
   place : at ++ fs ≡ before ++ (es ++ fs)
   place = append_assoc before es fs
 
-  pub published : count p (counts q start es) < known (other p) (counts q start (es ++ fs))
+  pub published : count p (told_counts q start es) < known (other p) (told_counts q start (es ++ fs))
       → length (own_stores (teller_hart q p) (before ++ es)) ≤ lands (teller_hart q p) (before ++ (es ++ fs))
   published more = by ahead
     where
-      by : Ahead B q is o p at (count p (counts q start es)) (at ++ fs) (memory_counts q m at fs p)
+      by : Ahead B q is o p at (count p (told_counts q start es)) (at ++ fs) (memory_counts q m at fs p)
           → length (own_stores (teller_hart q p) (before ++ es)) ≤ lands (teller_hart q p) (before ++ (es ++ fs))
       by (inl all) = subst (λ xs. length (own_stores (teller_hart q p) (before ++ es)) ≤ lands (teller_hart q p) xs) place all
       by (inr same) =
@@ -190,7 +190,7 @@ module _ (B : ℕ) (q : Slots) (start : QueueCounts) (o : OpeningValue) (before 
   -- the same of a count that the party's last store made
   pub published_last : (ws : List Write) (w : Write) → own_stores (teller_hart q p) (before ++ es) ≡ ws ++ w ∷ []
       → ((k : ℕ) → Rattle.slots_that_tell.specs.Telling.moved q k w ≡ k + 1)
-      → count p (counts q start es) ≤ known (other p) (counts q start (es ++ fs))
+      → count p (told_counts q start es) ≤ known (other p) (told_counts q start (es ++ fs))
       → length (own_stores (teller_hart q p) (before ++ es)) ≤ lands (teller_hart q p) (before ++ (es ++ fs))
   published_last ws w last one enough = by ahead
     where
@@ -200,7 +200,7 @@ module _ (B : ℕ) (q : Slots) (start : QueueCounts) (o : OpeningValue) (before 
       mm : ℕ
       mm = memory_counts q m at fs p
 
-      by : Ahead B q is o p at (count p (counts q start es)) (at ++ fs) (memory_counts q m at fs p)
+      by : Ahead B q is o p at (count p (told_counts q start es)) (at ++ fs) (memory_counts q m at fs p)
           → length (own_stores (teller_hart q p) (before ++ es)) ≤ lands (teller_hart q p) (before ++ (es ++ fs))
       by (inl all) = subst (λ xs. length (own_stores (teller_hart q p) (before ++ es)) ≤ lands (teller_hart q p) xs) place all
       by (inr same) = subst (λ xs. length (own_stores (teller_hart q p) (before ++ es)) ≤ lands (teller_hart q p) xs) place (at_last (cases_lt (length ws) l))
@@ -212,7 +212,7 @@ module _ (B : ℕ) (q : Slots) (start : QueueCounts) (o : OpeningValue) (before 
               omega (arith, long, less)
           at_last (inr le) =
               let left : drop l (own_stores (teller_hart q p) at) ≡ drop l ws ++ w ∷ [] = ap (drop l) last ∙ drop-append-le l ws (w ∷ []) le in
-              let counted : moved_on q mm (drop l ws) + 1 ≡ count p (counts q start es) = sym (one (moved_on q mm (drop l ws)))
+              let counted : moved_on q mm (drop l ws) + 1 ≡ count p (told_counts q start es) = sym (one (moved_on q mm (drop l ws)))
               ∙ sym (moved_on-append q mm (drop l ws) (w ∷ [])) ∙ ap (moved_on q mm) (sym left) ∙ same in
               let low : mm ≤ moved_on q mm (drop l ws) = moved_on-more q mm (drop l ws) in
               absurd (omega (arith, counted, low, knows, enough))

@@ -20,7 +20,8 @@ use Rattle.queue_parties.proofs.Records.{numbers-prefix, numbers-same, numbers-s
 use Rattle.slots_that_tell.specs.Slots.{Slots, IsSlots, tagged_slot, IsSlotByte, IsTagByte, tag_of}
 use Rattle.slots_that_tell.specs.Telling.{KeepsEntry, teller_of, owned_end, moved, after_load, after_store}
 use Rattle.slots_that_tell.specs.Telling.{told_access, after_entry, told_counts, MayStore, TellsAccess, KeepsTelling}
-use Rattle.slots_that_tell.specs.Laws.{FollowsTelling, counts, StoresTagsAlone, tagged_record, reading_at, records_by, records_learned, records_waiting}
+use Rattle.slots_that_tell.specs.Laws.{FollowsTelling, StoresTagsAlone, tagged_record, reading_at, records_by, records_learned, records_waiting}
+use Rattle.slots_that_tell.specs.Telling.{told_counts}
 use Rattle.slots_that_tell.proofs.Places.{one-tag, fills-leaves, moved-tag, far}
 use Rattle.slots_that_tell.proofs.Publication.{follows-front}
 use Rattle.slots_that_tell.proofs.Owned.{grows-entry, grows-after, Window, window-of, loaded-count, Owned, access-byte, Moving, moving, learning, mine-of}
@@ -65,7 +66,7 @@ receiver-is q is h at = by (whose q.sender q.receiver h)
 
 -- while position k is the sender's or waits, its tag is left by the receiver
 tag-kept : (B : ℕ) (q : Slots) (start : QueueCounts) (o : OpeningValue) (before fr gs : List Entry) → FollowsTelling B q start o before (fr ++ gs) → (k x : ℕ)
-    → IsTagByte q k x → k < owned_end q the_sender (counts q start fr) → (counts q start (fr ++ gs)).taken ≤ k → LeavesByteAt q.receiver x gs
+    → IsTagByte q k x → k < owned_end q the_sender (told_counts q start fr) → (told_counts q start (fr ++ gs)).taken ≤ k → LeavesByteAt q.receiver x gs
 tag-kept B q start o before fr gs f k x of_k sent given = at-by-parts q.receiver x gs part
   where
     part : (es1 : List Entry) (e1 : Entry) (es2 : List Entry) → gs ≡ es1 ++ e1 ∷ es2 → hart_of e1 ≡ q.receiver → LeavesByteBy x (access_of e1)
@@ -81,7 +82,7 @@ tag-kept B q start o before fr gs f k x of_k sent given = at-by-parts q.receiver
         done = fr ++ es1
 
         c1 : QueueCounts
-        c1 = counts q start done
+        c1 = told_counts q start done
 
         party : teller_of q (hart_of e1) ≡ Some the_receiver
         party = receiver-is q is (hart_of e1) at
@@ -95,13 +96,13 @@ tag-kept B q start o before fr gs f k x of_k sent given = at-by-parts q.receiver
         no_more : IsTagByte q (count the_receiver c1) x
             → count the_receiver (told_access q (Some the_receiver) (access_of e1) c1) ≡ count the_receiver c1 + 1 → ⊥
         no_more byte one =
-            let l : QueueCounts = counts q start fr in
+            let l : QueueCounts = told_counts q start fr in
             let d1 : QueueCounts = told_access q (Some the_receiver) (access_of e1) c1 in
-            let final : Grows d1 (counts q start (fr ++ gs)) = subst (Grows d1)
+            let final : Grows d1 (told_counts q start (fr ++ gs)) = subst (Grows d1)
             (ap (λ t. told_counts q (told_access q t (access_of e1) c1) es2) (sym party)
-            ∙ sym (counts-append (after_entry q) start done (e1 ∷ es2)) ∙ ap (counts q start) (sym parts))
+            ∙ sym (counts-append (after_entry q) start done (e1 ∷ es2)) ∙ ap (told_counts q start) (sym parts))
             (grows-after q d1 es2) in
-            let low : count the_receiver d1 ≤ count the_receiver (counts q start (fr ++ gs)) = final.counts the_receiver in
+            let low : count the_receiver d1 ≤ count the_receiver (told_counts q start (fr ++ gs)) = final.counts the_receiver in
             let since : Grows l c1 = subst (Grows l) (sym (counts-append (after_entry q) start fr es1)) (grows-after q l es1) in
             let more : count the_receiver l ≤ count the_receiver c1 = since.counts the_receiver in
             let w : Window q l = window-of B q start o before fr (follows-front B q start o before fr gs f) in
@@ -112,7 +113,7 @@ tag-kept B q start o before fr gs f k x of_k sent given = at-by-parts q.receiver
 
 -- while the receiver doesn't know of position k, it writes over no byte of its slot
 unlearned-left : (B : ℕ) (q : Slots) (start : QueueCounts) (o : OpeningValue) (before fr gs : List Entry) → FollowsTelling B q start o before (fr ++ gs)
-    → (k x : ℕ) → IsSlotByte q k x → k < owned_end q the_sender (counts q start fr) → (counts q start (fr ++ gs)).known_published ≤ k
+    → (k x : ℕ) → IsSlotByte q k x → k < owned_end q the_sender (told_counts q start fr) → (told_counts q start (fr ++ gs)).known_published ≤ k
     → LeavesByteAt q.receiver x gs
 unlearned-left B q start o before fr gs f k x of_k sent unknown = at-by-parts q.receiver x gs part
   where
@@ -129,7 +130,7 @@ unlearned-left B q start o before fr gs f k x of_k sent unknown = at-by-parts q.
         done = fr ++ es1
 
         c1 : QueueCounts
-        c1 = counts q start done
+        c1 = told_counts q start done
 
         d1 : QueueCounts
         d1 = told_access q (Some the_receiver) (access_of e1) c1
@@ -145,12 +146,12 @@ unlearned-left B q start o before fr gs f k x of_k sent unknown = at-by-parts q.
 
         gone : Owned q is x the_receiver c1 d1 → ⊥
         gone owns =
-            let l : QueueCounts = counts q start fr in
-            let final : Grows d1 (counts q start (fr ++ gs)) = subst (Grows d1)
+            let l : QueueCounts = told_counts q start fr in
+            let final : Grows d1 (told_counts q start (fr ++ gs)) = subst (Grows d1)
             (ap (λ t. told_counts q (told_access q t (access_of e1) c1) es2) (sym party)
-            ∙ sym (counts-append (after_entry q) start done (e1 ∷ es2)) ∙ ap (counts q start) (sym parts))
+            ∙ sym (counts-append (after_entry q) start done (e1 ∷ es2)) ∙ ap (told_counts q start) (sym parts))
             (grows-after q d1 es2) in
-            let low : known the_receiver d1 ≤ known the_receiver (counts q start (fr ++ gs)) = final.knows the_receiver in
+            let low : known the_receiver d1 ≤ known the_receiver (told_counts q start (fr ++ gs)) = final.knows the_receiver in
             let since : Grows l c1 = subst (Grows l) (sym (counts-append (after_entry q) start fr es1)) (grows-after q l es1) in
             let more : count the_receiver l ≤ count the_receiver c1 = since.counts the_receiver in
             let w : Window q l = window-of B q start o before fr (follows-front B q start o before fr gs f) in
@@ -201,31 +202,31 @@ module _ (B : ℕ) (q : Slots) (start : QueueCounts) (o : OpeningValue) (before 
 
   sent : HasRecords (after_entry q) (count the_sender) sent_record sent-grows R start before es
   sent es1 e es2 k split from past =
-      let more : start.published ≤ (counts q start es1).published = (grows-after q start es1).counts the_sender in
+      let more : start.published ≤ (told_counts q start es1).published = (grows-after q start es1).counts the_sender in
       own-records (after_entry q) (count the_sender) sent_record sent-grows start before es es1 e es2 k split from past
       ∙ R-sent k (omega (arith, more, from))
 
   -- all records from position k0 on
   all-from : (k0 : ℕ) → k0 ≤ start.published → records_waiting q o start before k0 ++ records_by q the_sender o start before es
-      ≡ numbers_from R k0 ((counts q start es).published - k0)
+      ≡ numbers_from R k0 ((told_counts q start es).published - k0)
   all-from k0 low =
-      let more : start.published ≤ (counts q start es).published = (grows-after q start es).counts the_sender in
-      let parts : (start.published - k0) + ((counts q start es).published - start.published)
-      ≡ (counts q start es).published - k0 = omega (arith, low, more) in
+      let more : start.published ≤ (told_counts q start es).published = (grows-after q start es).counts the_sender in
+      let parts : (start.published - k0) + ((told_counts q start es).published - start.published)
+      ≡ (told_counts q start es).published - k0 = omega (arith, low, more) in
       let at : k0 + (start.published - k0) ≡ start.published = omega (arith, low) in
       ap (λ xs. xs ++ records_by q the_sender o start before es) (numbers-same waiting_record R k0 (start.published - k0)
       (λ i from below. R-waiting i (omega (arith, below, at))))
       ∙ ap (λ xs. numbers_from R k0 (start.published - k0) ++ xs)
       (records-are (after_entry q) (count the_sender) sent_record sent-grows R start before es sent
-      ∙ ap (λ k. numbers_from R k ((counts q start es).published - start.published)) (sym at))
-      ∙ sym (numbers-split R k0 (start.published - k0) ((counts q start es).published - start.published))
+      ∙ ap (λ k. numbers_from R k ((told_counts q start es).published - start.published)) (sym at))
+      ∙ sym (numbers-split R k0 (start.published - k0) ((told_counts q start es).published - start.published))
       ∙ ap (numbers_from R k0) parts
 
-  few : (counts q start es).taken - start.taken ≤ (counts q start es).published - start.taken
+  few : (told_counts q start es).taken - start.taken ≤ (told_counts q start es).published - start.taken
   few =
-      let w : Window q (counts q start es) = window-of B q start o before es f in
-      let one : (counts q start es).known_published ≤ (counts q start es).published = w.known_less the_sender in
-      let two : (counts q start es).taken ≤ (counts q start es).known_published + 0 = w.within the_receiver in
+      let w : Window q (told_counts q start es) = window-of B q start o before es f in
+      let one : (told_counts q start es).known_published ≤ (told_counts q start es).published = w.known_less the_sender in
+      let two : (told_counts q start es).taken ≤ (told_counts q start es).known_published + 0 = w.within the_receiver in
       omega (arith, one, two)
 
   same : StoresTagsAlone q q.receiver es → HasRecords (after_entry q) (count the_receiver) taken_record taken-grows R start before es
@@ -238,9 +239,9 @@ module _ (B : ℕ) (q : Slots) (start : QueueCounts) (o : OpeningValue) (before 
       front = follows-front B q start o before es1 (e ∷ es2) run
 
       c : QueueCounts
-      c = counts q start es1
+      c = told_counts q start es1
 
-      d_is : counts q start (es1 ++ e ∷ []) ≡ after_entry q c e
+      d_is : told_counts q start (es1 ++ e ∷ []) ≡ after_entry q c e
       d_is = counts-append (after_entry q) start es1 (e ∷ [])
 
       moves : (teller_of q (hart_of e) ≡ Some the_receiver) × Moving q the_receiver (access_of e)
@@ -250,25 +251,26 @@ module _ (B : ℕ) (q : Slots) (start : QueueCounts) (o : OpeningValue) (before 
       mine_e : hart_of e ≡ q.receiver
       mine_e = mine-of q f.slots the_receiver (hart_of e) moves.0
 
-      known_there : k < (counts q start es1).known_published
+      known_there : k < (told_counts q start es1).known_published
       known_there = elim moves.1 [
         | inl stores ↦
-            let step : counts q start (es1 ++ e ∷ []) ≡ after_store q the_receiver stores.0 c = d_is ∙ ap (λ t. told_access q t (access_of e) c) moves.0
+            let step : told_counts q start (es1 ++ e ∷ []) ≡ after_store q the_receiver stores.0 c = d_is ∙ ap (λ t. told_access q t (access_of e) c) moves.0
             ∙ ap (λ y. told_access q (Some the_receiver) y c) stores.1 in
-            let w : (counts q start (es1 ++ e ∷ [])).taken ≤ (counts q start (es1 ++ e ∷ [])).known_published + 0 =
+            let w : (told_counts q start (es1 ++ e ∷ [])).taken ≤ (told_counts q start (es1 ++ e ∷ [])).known_published + 0 =
             (window-of B q start o before (es1 ++ e ∷ []) (follows-front B q start o before (es1 ++ e ∷ []) es2
             (subst (FollowsTelling B q start o before) (sym (append_assoc es1 (e ∷ []) es2)) run))).within the_receiver in
-            let kept : (counts q start (es1 ++ e ∷ [])).known_published ≡ c.known_published = ap (known the_receiver) step in
+            let kept : (told_counts q start (es1 ++ e ∷ [])).known_published ≡ c.known_published = ap (known the_receiver) step in
             omega (arith, past, w, kept)
         | inr swaps ↦ absurd (reads.no_amo es1 e es2 swaps.0 swaps.1 swaps.2 split mine_e swaps.3)
       ]
 
-      w : Window q (counts q start es1)
+      w : Window q (told_counts q start es1)
       w = window-of B q start o before es1 front
 
       -- the receiver's own stores to the slot are of other tags
       unwritten : (fr gs : List Entry) (more : List Entry) → es ≡ fr ++ (gs ++ more) → FollowsTelling B q start o before (fr ++ gs)
-          → k < owned_end q the_sender (counts q start fr) → (counts q start (fr ++ gs)).taken ≤ k → (x : ℕ) → IsSlotByte q k x → LeavesByteAt q.receiver x gs
+          → k < owned_end q the_sender (told_counts q start fr) → (told_counts q start (fr ++ gs)).taken ≤ k
+          → (x : ℕ) → IsSlotByte q k x → LeavesByteAt q.receiver x gs
       unwritten fr gs more whole part sent given x of_k = elim (tag_byte_or q k x) [
         | inl tag ↦ tag-kept B q start o before fr gs part k x tag sent given
         | inr no_tag ↦ leaves-part q.receiver x fr gs more (subst (LeavesByteAt q.receiver x) whole (reads.rest k x of_k no_tag))
@@ -285,7 +287,7 @@ module _ (B : ℕ) (q : Slots) (start : QueueCounts) (o : OpeningValue) (before 
         where
           at : Passed (after_entry q) (count the_sender) start es1 k
           at = passed (after_entry q) (count the_sender) sent_record sent-grows start es1 k le
-              (let one : (counts q start es1).known_published ≤ (counts q start es1).published = w.known_less the_sender in
+              (let one : (told_counts q start es1).known_published ≤ (told_counts q start es1).published = w.known_less the_sender in
               omega (arith, one, known_there))
 
           place : es ≡ at.done ++ at.entry ∷ (at.rest ++ e ∷ es2)
@@ -294,8 +296,8 @@ module _ (B : ℕ) (q : Slots) (start : QueueCounts) (o : OpeningValue) (before 
           run2 : FollowsTelling B q start o before (at.done ++ at.entry ∷ at.rest)
           run2 = subst (FollowsTelling B q start o before) at.is front
 
-          give : (counts q start (at.done ++ at.entry ∷ at.rest)).taken ≤ k
-          give = subst (λ xs. (counts q start xs).taken ≤ k) at.is from
+          give : (told_counts q start (at.done ++ at.entry ∷ at.rest)).taken ≤ k
+          give = subst (λ xs. (told_counts q start xs).taken ≤ k) at.is from
 
           joins : at.done ++ at.entry ∷ at.rest ≡ (at.done ++ at.entry ∷ []) ++ at.rest
           joins = sym (append_assoc at.done (at.entry ∷ []) at.rest)
@@ -304,16 +306,16 @@ module _ (B : ℕ) (q : Slots) (start : QueueCounts) (o : OpeningValue) (before 
           left = unwritten (at.done ++ at.entry ∷ []) at.rest (e ∷ es2)
               (place ∙ sym (append_assoc at.done (at.entry ∷ []) (at.rest ++ e ∷ es2)))
               (subst (FollowsTelling B q start o before) joins run2) (below B q start o before at.done at.entry at.rest run2 the_sender k at.from at.past)
-              (subst (λ xs. (counts q start xs).taken ≤ k) joins give)
+              (subst (λ xs. (told_counts q start xs).taken ≤ k) joins give)
 
           bytes : tagged_record q o (before ++ es1) q.receiver k ≡ tagged_record q o ((before ++ at.done) ++ at.entry ∷ []) q.sender k
           bytes = joined-same (λ i. read_byte o (before ++ es1) q.receiver (tagged_slot q k + i))
               (λ i. read_byte o ((before ++ at.done) ++ at.entry ∷ []) q.sender (tagged_slot q k + i)) q.width
               (λ i lt. ap (λ xs. read_byte o (before ++ xs) q.receiver (tagged_slot q k + i)) at.is
               ∙ handed B q start o before at.done at.entry at.rest run2 the_sender k at.from at.past (tagged_slot q k + i) (omega arith, omega (arith, lt))
-              (let g : (counts q start (at.done ++ at.entry ∷ at.rest)).taken ≤ k = give in omega (arith, g))
-              (let have : k + 0 < (counts q start es1).known_published + 0 = omega (arith, known_there) in
-              subst (λ xs. k + 0 < (counts q start xs).known_published + 0) at.is have)
+              (let g : (told_counts q start (at.done ++ at.entry ∷ at.rest)).taken ≤ k = give in omega (arith, g))
+              (let have : k + 0 < (told_counts q start es1).known_published + 0 = omega (arith, known_there) in
+              subst (λ xs. k + 0 < (told_counts q start xs).known_published + 0) at.is have)
               (left (tagged_slot q k + i) (omega arith, omega (arith, lt)))
               ∙ ap (λ xs. read_byte o xs q.sender (tagged_slot q k + i)) (sym (append_assoc before at.done (at.entry ∷ []))))
 
@@ -324,8 +326,8 @@ module _ (B : ℕ) (q : Slots) (start : QueueCounts) (o : OpeningValue) (before 
       omega (arith, one, f.rest.window.known_published)) in
       subst (λ xs. IsPrefix xs (records_waiting q o start before start.taken ++ records_by q the_sender o start before es))
       (sym (records-are (after_entry q) (count the_receiver) taken_record taken-grows R start before es (same reads)))
-      (subst (IsPrefix (numbers_from R start.taken ((counts q start es).taken - start.taken))) (sym (all-from start.taken low))
-      (numbers-prefix R start.taken ((counts q start es).taken - start.taken) ((counts q start es).published - start.taken) few))
+      (subst (IsPrefix (numbers_from R start.taken ((told_counts q start es).taken - start.taken))) (sym (all-from start.taken low))
+      (numbers-prefix R start.taken ((told_counts q start es).taken - start.taken) ((told_counts q start es).published - start.taken) few))
 
   -- ---- as the receiver learns of them
 
@@ -349,9 +351,9 @@ module _ (B : ℕ) (q : Slots) (start : QueueCounts) (o : OpeningValue) (before 
           (subst (FollowsTelling B q start o before) (sym (append_assoc es1 (e ∷ []) es2)) run)
 
       c : QueueCounts
-      c = counts q start es1
+      c = told_counts q start es1
 
-      d_is : counts q start (es1 ++ e ∷ []) ≡ after_entry q c e
+      d_is : told_counts q start (es1 ++ e ∷ []) ≡ after_entry q c e
       d_is = counts-append (after_entry q) start es1 (e ∷ [])
 
       learns : (teller_of q (hart_of e) ≡ Some the_receiver) × ((after_entry q c e).published ≡ c.published)
@@ -366,9 +368,9 @@ module _ (B : ℕ) (q : Slots) (start : QueueCounts) (o : OpeningValue) (before 
 
       was_published : k < c.published
       was_published =
-          let less : (counts q start (es1 ++ e ∷ [])).known_published ≤ (counts q start (es1 ++ e ∷ [])).published =
+          let less : (told_counts q start (es1 ++ e ∷ [])).known_published ≤ (told_counts q start (es1 ++ e ∷ [])).published =
           (window-of B q start o before (es1 ++ e ∷ []) front2).known_less the_sender in
-          let level : (counts q start (es1 ++ e ∷ [])).published ≡ c.published = ap (count the_sender) d_is ∙ learns.1 in
+          let level : (told_counts q start (es1 ++ e ∷ [])).published ≡ c.published = ap (count the_sender) d_is ∙ learns.1 in
           omega (arith, past, less, level)
 
       by : (k < start.published) ⊎ (start.published ≤ k) → tagged_record q o (before ++ es1) q.receiver k ≡ R k
@@ -392,7 +394,7 @@ module _ (B : ℕ) (q : Slots) (start : QueueCounts) (o : OpeningValue) (before 
           left : (x : ℕ) → IsSlotByte q k x → LeavesByteAt q.receiver x at.rest
           left x of_k = unlearned-left B q start o before (at.done ++ at.entry ∷ []) at.rest (subst (FollowsTelling B q start o before) joins front) k x of_k
               (below B q start o before at.done at.entry at.rest (subst (FollowsTelling B q start o before) at.is front) the_sender k at.from at.past)
-              (subst (λ xs. (counts q start xs).known_published ≤ k) joins from)
+              (subst (λ xs. (told_counts q start xs).known_published ≤ k) joins from)
 
           bytes : tagged_record q o (before ++ es1) q.receiver k ≡ tagged_record q o ((before ++ at.done) ++ at.entry ∷ []) q.sender k
           bytes = joined-same (λ i. read_byte o (before ++ es1) q.receiver (tagged_slot q k + i))
@@ -400,9 +402,9 @@ module _ (B : ℕ) (q : Slots) (start : QueueCounts) (o : OpeningValue) (before 
               (λ i lt. ap (λ xs. read_byte o (before ++ xs) q.receiver (tagged_slot q k + i)) at.is
               ∙ handed-before B q start o before at.done at.entry at.rest e
               (subst (λ xs. FollowsTelling B q start o before (xs ++ e ∷ [])) at.is front2) the_sender k at.from at.past apart
-              (subst (λ xs. k < (counts q start (xs ++ e ∷ [])).known_published) at.is past)
+              (subst (λ xs. k < (told_counts q start (xs ++ e ∷ [])).known_published) at.is past)
               (tagged_slot q k + i) (omega arith, omega (arith, lt))
-              (let give : (counts q start (at.done ++ at.entry ∷ at.rest)).taken ≤ k = subst (λ xs. (counts q start xs).taken ≤ k) at.is given in
+              (let give : (told_counts q start (at.done ++ at.entry ∷ at.rest)).taken ≤ k = subst (λ xs. (told_counts q start xs).taken ≤ k) at.is given in
               omega (arith, give))
               (left (tagged_slot q k + i) (omega arith, omega (arith, lt)))
               ∙ ap (λ xs. read_byte o xs q.sender (tagged_slot q k + i)) (sym (append_assoc before at.done (at.entry ∷ []))))
@@ -410,10 +412,10 @@ module _ (B : ℕ) (q : Slots) (start : QueueCounts) (o : OpeningValue) (before 
   pub in_order_as_learned : IsPrefix (records_learned q o start before es)
       (records_waiting q o start before start.known_published ++ records_by q the_sender o start before es)
   in_order_as_learned =
-      let less : (counts q start es).known_published ≤ (counts q start es).published = (window-of B q start o before es f).known_less the_sender in
+      let less : (told_counts q start es).known_published ≤ (told_counts q start es).published = (window-of B q start o before es f).known_less the_sender in
       subst (λ xs. IsPrefix xs (records_waiting q o start before start.known_published ++ records_by q the_sender o start before es))
       (sym (records-are (after_entry q) (known the_receiver) learned_record knows-grows R start before es learned))
-      (subst (IsPrefix (numbers_from R start.known_published ((counts q start es).known_published - start.known_published)))
+      (subst (IsPrefix (numbers_from R start.known_published ((told_counts q start es).known_published - start.known_published)))
       (sym (all-from start.known_published f.rest.window.known_published))
-      (numbers-prefix R start.known_published ((counts q start es).known_published - start.known_published)
-      ((counts q start es).published - start.known_published) (omega (arith, less))))
+      (numbers-prefix R start.known_published ((told_counts q start es).known_published - start.known_published)
+      ((told_counts q start es).published - start.known_published) (omega (arith, less))))

@@ -13,7 +13,7 @@ use Rattle.step_machine.proofs.Landings.{balanced}
 use Rattle.queue_parties.specs.Parties.{Party, the_sender, the_receiver, other, QueueCounts, count, known, IsWindow}
 use Rattle.slots_that_tell.specs.Slots.{Slots, IsSlots, RestsAt, KeepsOff, gap, tag_of, memory_tag}
 use Rattle.slots_that_tell.specs.Telling.{teller_hart, after_entry, told_counts, KeepsTelling}
-use Rattle.slots_that_tell.specs.Laws.{FollowsTelling, counts, moved_on}
+use Rattle.slots_that_tell.specs.Laws.{FollowsTelling, moved_on}
 use Rattle.slots_that_tell.proofs.Places.{LeavesTags, moved-leaves, off-leaves}
 use Rattle.slots_that_tell.proofs.Sides.{Tidy, Side, Held, within}
 use Rattle.slots_that_tell.proofs.Looks.{false_tag}
@@ -83,17 +83,17 @@ at-rest q is o before start rest = record {
     tags the_receiver k from below = rest.full k from (omega (arith, below))
 
 pub held-of : (B : ℕ) (q : Slots) (start : QueueCounts) (o : OpeningValue) (before es : List Entry) → FollowsTelling B q start o before es
-    → Held q o (before ++ es) (counts q start es) (memory_counts q (λ t. count t start) before es)
+    → Held q o (before ++ es) (told_counts q start es) (memory_counts q (λ t. count t start) before es)
 held-of B q start o before es f = holds-after B q f.slots o before start (λ t. count t start) es (at-rest q f.slots o before start f.rest)
     (LegalAfter-front B o [] before es f.legal) (LegalAfter-back B o [] before es f.legal) f.keeps
 
 pub window : (B : ℕ) (q : Slots) (start : QueueCounts) (o : OpeningValue) (before es : List Entry)
-    → FollowsTelling B q start o before es → IsWindow q.size (counts q start es)
+    → FollowsTelling B q start o before es → IsWindow q.size (told_counts q start es)
 window B q start o before es f =
     let m : Party → ℕ = memory_counts q (λ t. count t start) before es in
-    let held : Held q o (before ++ es) (counts q start es) m = held-of B q start o before es f in
-    let s = within q o (before ++ es) (counts q start es) m held the_sender in
-    let r = within q o (before ++ es) (counts q start es) m held the_receiver in
+    let held : Held q o (before ++ es) (told_counts q start es) m = held-of B q start o before es f in
+    let s = within q o (before ++ es) (told_counts q start es) m held the_sender in
+    let r = within q o (before ++ es) (told_counts q start es) m held the_receiver in
     record {
       known_published = omega (arith, s.0, (held.side the_sender).known_less);
       published = (held.side the_sender).room;
@@ -104,8 +104,8 @@ window B q start o before es f =
 -- a look that fails: the other's pending stores make its count of one at which the position isn't yet this party's
 pub look : (B : ℕ) (q : Slots) (start : QueueCounts) (o : OpeningValue) (before es : List Entry) (e : Entry) → FollowsTelling B q start o before (es ++ e ∷ [])
     → (p : Party) (j v : ℕ) → hart_of e ≡ teller_hart q p → access_of e ≡ load (tag_of q j) q.tag_width v
-    → count p (counts q start es) ≤ j → j < count p (counts q start es) + q.size → q.tells p j v ≡ false
-    → (i : ℕ) × (i + gap q (other p) ≤ j) × (moved_on q i (pending (teller_hart q (other p)) (before ++ es)) ≡ count (other p) (counts q start es))
+    → count p (told_counts q start es) ≤ j → j < count p (told_counts q start es) + q.size → q.tells p j v ≡ false
+    → (i : ℕ) × (i + gap q (other p) ≤ j) × (moved_on q i (pending (teller_hart q (other p)) (before ++ es)) ≡ count (other p) (told_counts q start es))
 look B q start o before es e f p j v at does from below silent =
     let legal2 : LegalAfter B o [] ((before ++ es) ++ e ∷ []) = subst (LegalAfter B o []) (sym (append_assoc before es (e ∷ []))) f.legal in
     let run : FollowsTelling B q start o before es = record {
@@ -115,14 +115,14 @@ look B q start o before es e f p j v at does from below silent =
       keeps = front q start es (e ∷ []) f.keeps;
     } in
     let m : Party → ℕ = memory_counts q (λ t. count t start) before es in
-    let held : Held q o (before ++ es) (counts q start es) m = held-of B q start o before es run in
+    let held : Held q o (before ++ es) (told_counts q start es) m = held-of B q start o before es run in
     let allowed : AllowedBy B (pending (hart_of e) (before ++ es)) (read o (before ++ es) (hart_of e)) (access_of e) =
     (LegalAfter-back B o [] (before ++ es) (e ∷ []) legal2).0 in
     let word : v ≡ read o (before ++ es) (teller_hart q p) (tag_of q j) q.tag_width =
     subst (AllowedBy B (pending (hart_of e) (before ++ es)) (read o (before ++ es) (hart_of e))) does allowed
     ∙ ap (λ g. read o (before ++ es) g (tag_of q j) q.tag_width) at in (
       m (other p),
-      false_tag q f.slots o (before ++ es) (counts q start es) m held p j from below
+      false_tag q f.slots o (before ++ es) (told_counts q start es) m held p j from below
           (ap (q.tells p j) (sym word) ∙ silent),
       (held.side (other p)).count_is,
     )

@@ -19,9 +19,6 @@ pub record FollowsTelling (B : ℕ) (q : Slots) (start : QueueCounts) (o : Openi
   pub rest : RestsAt q o before start
   pub keeps : KeepsTelling q start es
 
-abbrev pub counts : Slots → (start : QueueCounts) → List Entry → QueueCounts
-counts q start es = told_counts q start es
-
 -- a count after these writes of the party's
 abbrev pub moved_on : Slots → (n : ℕ) → List Write → ℕ
 moved_on q n [] = n

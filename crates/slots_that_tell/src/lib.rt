@@ -17,9 +17,9 @@ ghost use Rattle.step_machine.specs.Access.{load, access_of};
 ghost use Rattle.queue_parties.specs.Positions.{IsPrefix};
 ghost use Rattle.queue_parties.specs.Parties.{Party, the_sender, the_receiver, other, QueueCounts, count, known, IsWindow};
 ghost use Rattle.slots_that_tell.specs.Slots.{Slots, gap, tag_of, IsSlotByte};
-ghost use Rattle.slots_that_tell.specs.Telling.{teller_hart};
+ghost use Rattle.slots_that_tell.specs.Telling.{teller_hart, told_counts};
 ghost use Rattle.slots_that_tell.specs.Codecs.{zero_is_free, position_number, bits_under};
-ghost use Rattle.slots_that_tell.specs.Laws.{FollowsTelling, counts, moved_on, StoresTagsAlone, records_by, records_learned, records_waiting};
+ghost use Rattle.slots_that_tell.specs.Laws.{FollowsTelling, moved_on, StoresTagsAlone, records_by, records_learned, records_waiting};
 ghost use Rattle.store_buffers.specs.StoreBuffers.{LeavesByteAt};
 
 /// Of every run that keeps the protocol from where the queue was at rest, empty or with records that wait. It does nothing.
@@ -46,23 +46,23 @@ ghost use Rattle.store_buffers.specs.StoreBuffers.{LeavesByteAt};
 /// - `bits_tell`: so are bits under a mask, where a free slot's and a full one's differ.
 pub fn laws_of_telling()
     ensures window { (B : ℕ) (q : Slots) (start : QueueCounts) (o : OpeningValue) (before es : List Entry) → FollowsTelling B q start o before es
-        → IsWindow q.size (counts q start es) }
+        → IsWindow q.size (told_counts q start es) }
     ensures publication { (B : ℕ) (q : Slots) (start : QueueCounts) (o : OpeningValue) (before es fs : List Entry)
-        → FollowsTelling B q start o before (es ++ fs) → (p : Party) → count p (counts q start es) < known (other p) (counts q start (es ++ fs))
+        → FollowsTelling B q start o before (es ++ fs) → (p : Party) → count p (told_counts q start es) < known (other p) (told_counts q start (es ++ fs))
         → length (own_stores (teller_hart q p) (before ++ es)) ≤ lands (teller_hart q p) (before ++ (es ++ fs)) }
     ensures publication_of_tag { (B : ℕ) (q : Slots) (start : QueueCounts) (o : OpeningValue) (before es : List Entry) (e : Entry) (fs : List Entry)
-        → FollowsTelling B q start o before ((es ++ e ∷ []) ++ fs) → (p : Party) → count p (counts q start es) < count p (counts q start (es ++ e ∷ []))
-        → count p (counts q start (es ++ e ∷ [])) ≤ known (other p) (counts q start ((es ++ e ∷ []) ++ fs))
+        → FollowsTelling B q start o before ((es ++ e ∷ []) ++ fs) → (p : Party) → count p (told_counts q start es) < count p (told_counts q start (es ++ e ∷ []))
+        → count p (told_counts q start (es ++ e ∷ [])) ≤ known (other p) (told_counts q start ((es ++ e ∷ []) ++ fs))
         → length (own_stores (teller_hart q p) (before ++ (es ++ e ∷ []))) ≤ lands (teller_hart q p) (before ++ ((es ++ e ∷ []) ++ fs)) }
     ensures delivery { (B : ℕ) (q : Slots) (start : QueueCounts) (o : OpeningValue) (before es : List Entry) (e : Entry) (fs : List Entry)
         → FollowsTelling B q start o before (es ++ e ∷ fs) → (k x : ℕ) → IsSlotByte q k x
-        → (counts q start es).published ≤ k → k < (counts q start (es ++ e ∷ [])).published
-        → (counts q start (es ++ e ∷ fs)).taken ≤ k → k < (counts q start (es ++ e ∷ fs)).known_published → LeavesByteAt q.receiver x fs
+        → (told_counts q start es).published ≤ k → k < (told_counts q start (es ++ e ∷ [])).published
+        → (told_counts q start (es ++ e ∷ fs)).taken ≤ k → k < (told_counts q start (es ++ e ∷ fs)).known_published → LeavesByteAt q.receiver x fs
         → read_byte o (before ++ (es ++ e ∷ fs)) q.receiver x ≡ read_byte o (before ++ (es ++ e ∷ [])) q.sender x }
     ensures handing_back { (B : ℕ) (q : Slots) (start : QueueCounts) (o : OpeningValue) (before es : List Entry) (e : Entry) (fs : List Entry)
         → FollowsTelling B q start o before (es ++ e ∷ fs) → (k x : ℕ) → IsSlotByte q k x
-        → (counts q start es).taken ≤ k → k < (counts q start (es ++ e ∷ [])).taken
-        → (counts q start (es ++ e ∷ fs)).published ≤ k + q.size → k + q.size < (counts q start (es ++ e ∷ fs)).known_taken + q.size
+        → (told_counts q start es).taken ≤ k → k < (told_counts q start (es ++ e ∷ [])).taken
+        → (told_counts q start (es ++ e ∷ fs)).published ≤ k + q.size → k + q.size < (told_counts q start (es ++ e ∷ fs)).known_taken + q.size
         → LeavesByteAt q.sender x fs
         → read_byte o (before ++ (es ++ e ∷ fs)) q.sender x ≡ read_byte o (before ++ (es ++ e ∷ [])) q.receiver x }
     ensures in_order { (B : ℕ) (q : Slots) (start : QueueCounts) (o : OpeningValue) (before es : List Entry) → FollowsTelling B q start o before es
@@ -73,12 +73,12 @@ pub fn laws_of_telling()
         → FollowsTelling B q start o before es → IsPrefix (records_learned q o start before es)
         (records_waiting q o start before start.known_published ++ records_by q the_sender o start before es) }
     ensures waiting { (B : ℕ) (q : Slots) (start : QueueCounts) (o : OpeningValue) (before es : List Entry) → FollowsTelling B q start o before es
-        → (k x : ℕ) → IsSlotByte q k x → k < start.published → (counts q start es).taken ≤ k → LeavesByteAt q.receiver x es
+        → (k x : ℕ) → IsSlotByte q k x → k < start.published → (told_counts q start es).taken ≤ k → LeavesByteAt q.receiver x es
         → (g h : ℕ) → read_byte o (before ++ es) h x ≡ read_byte o before g x }
     ensures look { (B : ℕ) (q : Slots) (start : QueueCounts) (o : OpeningValue) (before es : List Entry) (e : Entry)
         → FollowsTelling B q start o before (es ++ e ∷ []) → (p : Party) (j v : ℕ) → hart_of e ≡ teller_hart q p → access_of e ≡ load (tag_of q j) q.tag_width v
-        → count p (counts q start es) ≤ j → j < count p (counts q start es) + q.size → q.tells p j v ≡ false
-        → (i : ℕ) × (i + gap q (other p) ≤ j) × (moved_on q i (pending (teller_hart q (other p)) (before ++ es)) ≡ count (other p) (counts q start es)) }
+        → count p (told_counts q start es) ≤ j → j < count p (told_counts q start es) + q.size → q.tells p j v ≡ false
+        → (i : ℕ) × (i + gap q (other p) ≤ j) × (moved_on q i (pending (teller_hart q (other p)) (before ++ es)) ≡ count (other p) (told_counts q start es)) }
     ensures zero_tells { (q : Slots) (p : Party) (k v : ℕ) → zero_is_free p k v ≡ true → zero_is_free (other p) (k + gap q p) v ≡ false }
     ensures numbers_tell { (m : ℕ) → 2 ≤ m → (q : Slots) → q.size % m ≢ 1 → (p : Party) (k v : ℕ) → position_number m p k v ≡ true
         → position_number m (other p) (k + gap q p) v ≡ false }

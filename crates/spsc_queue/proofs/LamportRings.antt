@@ -13,7 +13,7 @@ use Rattle.spsc_queue.proofs.Offsets.{next_offset, slot_word}
 use Rattle.spsc_queue.proofs.Counts.{Steady, steady-next, number_of, party-is, store-of}
 use Rattle.spsc_queue.proofs.Copies.{Copied, CopyStays, copied-on, copied-more, off_leave, word_leave, copied-anew}
 use Rattle.spsc_queue.proofs.Loads.{SendingIs, sending-more, knows-more}
-use Rattle.slot_queue.specs.Queues.{Queue, index_word, least, IsQueue, KeepsOff}
+use Rattle.slot_queue.specs.Queues.{Queue, index_word, least_count, IsQueue, KeepsOff}
 use Rattle.slot_queue.specs.Ownership.{party_of, hart, index, end, moved, after_load, after_store, after_access, counts_next, FillsOwned, MayStore, KeepsAccess}
 use Rattle.slot_queue.specs.Laws.{moved_on}
 use Rattle.slot_queue.proofs.Codes.{least-near}
@@ -195,8 +195,8 @@ module _ (B : ℕ) (r : RingBuffer) (is : IsRingBuffer r) (o : OpeningValue) (es
   looked p a v is_read here =
       let word : v ≡ index_word q (m (other p)) = is_read ∙ ap (λ x. read o es (hart q p) x 4) here
       ∙ reads-other q o es c (other p) (m (other p)) (sides (other p)) (hart q p) (harts-apart q.sender q.receiver queue.parties p) in (
-        ap (λ b. if b && (4 == 4) then with_known p (least q (known p c) v) c else c) (eq-eqb a (index q (other p)) here)
-            ∙ ap (λ k. with_known p k c) (ap (least q (known p c)) word ∙ found q queue o es c m sides p (omega (arith, is.some_slots))),
+        ap (λ b. if b && (4 == 4) then with_known p (least_count q (known p c) v) c else c) (eq-eqb a (index q (other p)) here)
+            ∙ ap (λ k. with_known p k c) (ap (least_count q (known p c)) word ∙ found q queue o es c m sides p (omega (arith, is.some_slots))),
         word,
       )
 
@@ -289,7 +289,7 @@ module _ (B : ℕ) (r : RingBuffer) (is : IsRingBuffer r) (o : OpeningValue) (es
       let word : w.value ≡ index_word q (count p c + 1) =
       value ∙ next_offset r is u j stands ∙ offset-word r (count p c + 1) (j + 1) (omega (arith, from)) in
       let two_slots : 1 < r.size = big p room in
-      let to : least q (count p c) w.value ≡ count p c + 1 = ap (least q (count p c)) word
+      let to : least_count q (count p c) w.value ≡ count p c + 1 = ap (least_count q (count p c)) word
       ∙ least-near q queue (count p c) (count p c + 1) (omega arith) (omega (arith, two_slots)) in (
         inl (record { place = at.place; width = at.width; word = word ∙ ap (index_word q) (sym to); owned = omega (arith, to, room) }),
         count-set p (moved q p (count p c) w) c

@@ -14,7 +14,7 @@ use Rattle.spsc_queue.proofs.Counts.{Steady, steady-off, publishes_to, releases_
 use Rattle.spsc_queue.proofs.Counts.{steady-count}
 use Rattle.spsc_queue.proofs.Copies.{copy-at-rest, copied-more}
 use Rattle.spsc_queue.proofs.Loads.{placed-of, SendingIs}
-use Rattle.slot_queue.specs.Queues.{Queue, KeepsOff, IsAtRest, index_word, least, IsQueue}
+use Rattle.slot_queue.specs.Queues.{Queue, KeepsOff, IsAtRest, index_word, least_count, IsQueue}
 use Rattle.slot_queue.specs.Ownership.{hart, counts_next, KeepsEntry, KeepsOwnership, index}
 use Rattle.slot_queue.specs.Laws.{FollowsOwnership, moved_on}
 use Rattle.slot_queue.proofs.Sides.{Side, moved-leaves, off-leaves}
@@ -185,7 +185,7 @@ module _ (r : RingBuffer) (is : IsRingBuffer r) (o : OpeningValue) (es : List En
   -- two counts that are near and have one word are one
   same-count-of : (n j k : ℕ) → n ≤ j → n ≤ k → j < n + r.size → k < n + r.size → index_word q j ≡ index_word q k → j ≡ k
   same-count-of n j k one two near far same =
-      sym (least-near q queue n j one near) ∙ ap (least q n) same ∙ least-near q queue n k two far
+      sym (least-near q queue n j one near) ∙ ap (least_count q n) same ∙ least-near q queue n k two far
 
   pub lamport-at : At lamport r o es s
   lamport-at = record {
