@@ -1,6 +1,6 @@
 -- States, harts and a whole certificate, as they are written, are read again.
-use Rattle.std.proofs.Common.{◌≡◌, ℕ, suc, ◌+◌, ◌^◌, ◌<◌, ◌≤◌, true, ◌||◌, List, [], ◌∷◌, ◌++◌, length, map, reverse}
-use Rattle.std.proofs.Common.{Some, Ok, refl, sym, ap, subst, ◌∙◌, length-append, arith}
+use Rattle.std.proofs.Common.{◌≡◌, ℕ, suc, ◌+◌, ◌^◌, ◌<◌, ◌≤◌, true, ◌||◌, List, [], ◌∷◌, ◌++◌, length, map, reverse, Some, Ok, refl, sym, ap, subst, ◌∙◌}
+use Rattle.std.proofs.Common.{length-append, arith}
 use Rattle.std.specs.Prelude.{codes, sum_by}
 use Rattle.std.specs.List.{AllByRecursion, flat_map}
 use Rattle.std.specs.Fmt.{decimal}
@@ -8,8 +8,7 @@ use Rattle.std.proofs.lemmas.Bool.{le-ltb, lt-leb}
 use Rattle.std.proofs.lemmas.List.{append-nil, reverse-reverse}
 use Rattle.std.proofs.Math.Bool.{or-true}
 use Rattle.std.proofs.lemmas.List.Sums.{sum_by-cons, sum_by-append, sum_by_push}
-use Rattle.queue_certificates.specs.States.{KnownValue, KnownState}
-use Rattle.queue_certificates.specs.Certificates.{OpenedQueue, ListedState, HartPart, QueueCertificate}
+use Rattle.queue_certificates.specs.{KnownValue, KnownState, OpenedQueue, ListedState, HartPart, QueueCertificate}
 use Rattle.queue_certificates.specs.declared.own.OwnWord.{OwnWord}
 use Rattle.queue_layouts.specs.declared.tagged.OpenedTagged.{OpenedTagged}
 use Rattle.queue_checker.specs.Trees.{height}
@@ -18,18 +17,18 @@ use Rattle.certificate_reader.specs.declared.stages.Stage.{Stage}
 use Rattle.certificate_reader.specs.declared.stages.Stage.TheVariants as stage
 use Rattle.certificate_reader.specs.CaseTexts.{case_lines}
 use Rattle.certificate_reader.specs.Stages.{keyword_named, stage_after, lists_queues, may_end, is_described, wanted}
-use Rattle.certificate_reader.specs.Drafts.{DraftValue, no_draft, by_words, with_queue, with_pc, with_state, state_closed}
-use Rattle.certificate_reader.specs.Drafts.{state_closed_at, hart_closed, hart_closed_at, hart_listed, with_hart, own_of, hart_opening, with_value, finished}
+use Rattle.certificate_reader.specs.Drafts.{DraftValue, no_draft, by_words, with_queue, with_pc, with_state, state_closed, state_closed_at, hart_closed}
+use Rattle.certificate_reader.specs.Drafts.{hart_closed_at, hart_listed, with_hart, own_of, hart_opening, with_value, finished}
 use Rattle.certificate_reader.specs.Reading.{certificate_from, certificate_at}
 use Rattle.certificate_reader.specs.Writing.{LineOfWords, line_if, range_text, value_lines, share_lines, known_lines, filled_lines, described_lines}
-use Rattle.certificate_reader.specs.Writing.{own_word_text, tree_lines, state_lines, part_lines}
-use Rattle.certificate_reader.specs.Writing.{numbers_of, queue_line, field_line, queue_lines, tagged_line, certificate_lines, certificate_text}
+use Rattle.certificate_reader.specs.Writing.{own_word_text, tree_lines, state_lines, part_lines, numbers_of, queue_line, field_line, queue_lines, tagged_line}
+use Rattle.certificate_reader.specs.Writing.{certificate_lines, certificate_text}
 use Rattle.certificate_reader.specs.Written.{FitsOwn, FitsCount, FitsState, FitsPart, FitsQueue, CanBeWritten}
 use Rattle.certificate_reader.proofs.Growing.{reverse_pushed, cases_again}
 use Rattle.certificate_reader.proofs.NumbersAgain.{only_word_again, first_word_again, queue_again, counts_again}
 use Rattle.certificate_reader.proofs.FormsAgain.{own_words_again}
-use Rattle.certificate_reader.proofs.LinesAgain.{told_lines, lines_again, by_name, LeadsTo, line_then, line_told, leads_on, then_told}
-use Rattle.certificate_reader.proofs.LinesAgain.{IsHeld, at_stage, then_held}
+use Rattle.certificate_reader.proofs.LinesAgain.{told_lines, lines_again, by_name, LeadsTo, line_then, line_told, leads_on, then_told, IsHeld, at_stage}
+use Rattle.certificate_reader.proofs.LinesAgain.{then_held}
 use Rattle.certificate_reader.proofs.Turns.{each_told, each_added, if_told}
 use Rattle.certificate_reader.proofs.FieldsAgain.{IsQueues, with_queues, fields_told, AreFew, are_few, IsDescribed, filled_told}
 use Rattle.certificate_reader.proofs.TagsAgain.{ListsQueues, with_all_tagged, tagged_told}

@@ -1,13 +1,12 @@
 -- Fields, and which of them are right, as they are written, are read again.
-use Rattle.std.proofs.Common.{◌≡◌, ℕ, zero, suc, ◌+◌, ◌^◌, ◌<◌, ◌≤◌, true, nat_lt, List, [], ◌∷◌, ◌++◌, length, map, replicate, get_or}
-use Rattle.std.proofs.Common.{Ok, refl, sym, ap, subst, ◌∙◌, arith}
+use Rattle.std.proofs.Common.{◌≡◌, ℕ, zero, suc, ◌+◌, ◌^◌, ◌<◌, ◌≤◌, true, nat_lt, List, [], ◌∷◌, ◌++◌, length, map, replicate, get_or, Ok, refl, sym, ap}
+use Rattle.std.proofs.Common.{subst, ◌∙◌, arith}
 use Rattle.std.specs.Prelude.{codes}
 use Rattle.std.specs.List.{AllByRecursion, list_all}
 use Rattle.std.specs.Fmt.{decimal}
 use Rattle.std.proofs.lemmas.Bool.{lt-leb, lt-ltb}
 use Rattle.std.proofs.lemmas.List.{reverse-reverse, get_or_past}
-use Rattle.queue_certificates.specs.RecordFields.{Field}
-use Rattle.queue_certificates.specs.Certificates.{OpenedQueue, no_queue}
+use Rattle.queue_certificates.specs.{Field, OpenedQueue, no_queue}
 use Rattle.queue_certificates.specs.Filled.{Filled}
 use Rattle.certificate_reader.specs.declared.stages.Keyword.TheVariants as keyword
 use Rattle.certificate_reader.specs.declared.stages.Stage.{Stage}

@@ -1,6 +1,6 @@
 -- Forms, values and own words, as they are written, are read again.
-use Rattle.std.proofs.Common.{◌≡◌, ℕ, ◌+◌, ◌-◌, ◌^◌, ◌<◌, ◌≤◌, Bool, true, false, List, [], ◌∷◌, ◌++◌, length, map, replicate}
-use Rattle.std.proofs.Common.{Some, None, Result, Ok, refl, sym, ap, subst, ◌∙◌, append_assoc, length-append, arith}
+use Rattle.std.proofs.Common.{◌≡◌, ℕ, ◌+◌, ◌-◌, ◌^◌, ◌<◌, ◌≤◌, Bool, true, false, List, [], ◌∷◌, ◌++◌, length, map, replicate, Some, None, Result, Ok, refl}
+use Rattle.std.proofs.Common.{sym, ap, subst, ◌∙◌, append_assoc, length-append, arith}
 use Rattle.std.specs.Prelude.{◌==◌, if◌then◌else◌, codes}
 use Rattle.std.specs.List.{AllByRecursion, list_all, slice_split}
 use Rattle.std.specs.Char.{is_digit}
@@ -10,24 +10,19 @@ use Rattle.std.proofs.lemmas.Bool.{lt-ltb, le-ltb, le-leb, ne_eqb, eqb-true, or_
 use Rattle.std.proofs.lemmas.List.{append-nil, length-replicate, replicate_more}
 use Rattle.std.proofs.Math.Bool.{and-false}
 use Rattle.std.proofs.lemmas.Slice.Eq.{bytes_eq-Decides}
-use Rattle.texts.specs.Numbers.{word_of, is_numeral}
-use Rattle.texts.specs.Results.{◌>>=◌}
-use Rattle.texts.specs.Cutting.{before, after, is_byte, NonePass}
-use Rattle.texts.specs.Pieces.{pieces}
+use Rattle.texts.specs.{word_of, is_numeral, ◌>>=◌, before, after, is_byte, NonePass, pieces}
 use Rattle.texts.specs.declared.pieces.Separators.TheVariants.{Byte}
-use Rattle.texts.proofs.CuttingLaws.{none-append, before-none, after-none, before-stop, after-stop, split_none, split_stop}
-use Rattle.texts.proofs.CuttingLaws.{decimal_none, not_byte, not_low_byte}
-use Rattle.texts.proofs.RowLaws.{is_low, Solid, decimal_solid}
-use Rattle.queue_certificates.specs.Forms.{Form}
-use Rattle.queue_certificates.specs.States.{linear, index_for, signed_for, ends_as, has_bits}
+use Rattle.texts.proofs.{none-append, before-none, after-none, before-stop, after-stop, split_none, split_stop, decimal_none, not_byte, not_low_byte, is_low}
+use Rattle.texts.proofs.{Solid, decimal_solid}
+use Rattle.queue_certificates.specs.{Form, linear, index_for, signed_for, ends_as, has_bits}
 use Rattle.queue_certificates.specs.declared.own.OwnWord.{OwnWord}
 use Rattle.certificate_reader.specs.declared.forms.Mark.{Mark}
 use Rattle.certificate_reader.specs.declared.forms.Mark.TheVariants as mark
 use Rattle.certificate_reader.specs.declared.faults.CertificateFault.{CertificateFault}
 use Rattle.certificate_reader.specs.Faults.{or_bad_line}
 use Rattle.certificate_reader.specs.Numbers.{count_of, round_of}
-use Rattle.certificate_reader.specs.FormTexts.{multiple_of, with_factor, factors_after, form_from, form_of, marked_of}
-use Rattle.certificate_reader.specs.FormTexts.{linear_of, marked_value, marked_numbers, mask_and_bits, bits_value, known_value_in}
+use Rattle.certificate_reader.specs.FormTexts.{multiple_of, with_factor, factors_after, form_from, form_of, marked_of, linear_of, marked_value, marked_numbers}
+use Rattle.certificate_reader.specs.FormTexts.{mask_and_bits, bits_value, known_value_in}
 use Rattle.certificate_reader.specs.Lists.{is_own_width, own_word_of, own_words_in, forms_in}
 use Rattle.certificate_reader.specs.Writing.{is_written, first_if, multiple_text, multiples, parts_of, parts_text, form_text, own_word_text}
 use Rattle.certificate_reader.specs.Written.{FitsCount, FitsForm, FitsOwn}

@@ -1,16 +1,12 @@
 -- Lines, as they are written, are read again as their words.
-use Rattle.std.proofs.Common.{◌≡◌, ℕ, ◌+◌, ◌<◌, false, List, [], ◌∷◌, ◌++◌, map, Some, None}
-use Rattle.std.proofs.Common.{Result, Ok, Err, refl, sym, ap, subst, ◌∙◌, append_assoc, eqb, arith}
+use Rattle.std.proofs.Common.{◌≡◌, ℕ, ◌+◌, ◌<◌, false, List, [], ◌∷◌, ◌++◌, map, Some, None, Result, Ok, Err, refl, sym, ap, subst, ◌∙◌, append_assoc, eqb}
+use Rattle.std.proofs.Common.{arith}
 use Rattle.std.specs.List.{AllByRecursion}
 use Rattle.std.specs.Str.Lines.{lines}
 use Rattle.std.proofs.lemmas.List.{append-nil}
 use Rattle.std.proofs.lemmas.List.Splits.{length-slice_split}
-use Rattle.texts.specs.Cutting.{tokens, is_byte, NonePass}
-use Rattle.texts.specs.Results.{◌>>=◌}
-use Rattle.texts.proofs.PieceLaws.{lines_of_parts-cons}
-use Rattle.texts.proofs.CuttingLaws.{none-append, split_stop}
-use Rattle.texts.proofs.TokenLaws.{tokens-first}
-use Rattle.texts.proofs.RowLaws.{Solid, tokens_alone, tokens-before, no_byte, line-stays}
+use Rattle.texts.specs.{tokens, is_byte, NonePass, ◌>>=◌}
+use Rattle.texts.proofs.{lines_of_parts-cons, none-append, split_stop, tokens-first, Solid, tokens_alone, tokens-before, no_byte, line-stays}
 use Rattle.certificate_reader.specs.declared.faults.CertificateFault.{CertificateFault}
 use Rattle.certificate_reader.specs.declared.stages.Keyword.{Keyword}
 use Rattle.certificate_reader.specs.declared.stages.Stage.{Stage}

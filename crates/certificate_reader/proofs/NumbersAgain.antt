@@ -1,6 +1,6 @@
 -- Numbers and lists of them, as they are written, are read again.
-use Rattle.std.proofs.Common.{◌≡◌, ℕ, ◌^◌, ◌<◌, ◌≤◌, Bool, true, false, List, [], ◌∷◌, map, Option, Some, None}
-use Rattle.std.proofs.Common.{Result, Ok, refl, sym, subst, ◌∙◌, inl, inr, arith}
+use Rattle.std.proofs.Common.{◌≡◌, ℕ, ◌^◌, ◌<◌, ◌≤◌, Bool, true, false, List, [], ◌∷◌, map, Option, Some, None, Result, Ok, refl, sym, subst, ◌∙◌, inl, inr}
+use Rattle.std.proofs.Common.{arith}
 use Rattle.std.specs.Prelude.{codes}
 use Rattle.std.specs.List.{AllByRecursion}
 use Rattle.std.specs.Str.{bytes_eq}
@@ -8,10 +8,8 @@ use Rattle.std.specs.Fmt.{decimal, digits}
 use Rattle.std.proofs.lemmas.Bool.{cases_lt, le-ltb}
 use Rattle.std.proofs.lemmas.Fmt.{decimal_is_IsNumeral}
 use Rattle.std.proofs.lemmas.Slice.Eq.{bytes_eq-Decides}
-use Rattle.texts.specs.Numbers.{word_of}
-use Rattle.texts.specs.Formats.{each}
-use Rattle.texts.proofs.NumberLaws.{says_word, is_numeral-from_IsNumeral}
-use Rattle.texts.proofs.RowLaws.{decimal_says}
+use Rattle.texts.specs.{word_of, each}
+use Rattle.texts.proofs.{says_word, is_numeral-from_IsNumeral, decimal_says}
 use Rattle.queue_certificates.specs.Certificates.{OpenedQueue}
 use Rattle.certificate_reader.specs.Faults.{or_bad_line}
 use Rattle.certificate_reader.specs.Numbers.{count_of, first_word_in, first_count_in, five_at, four_counts, only_word}

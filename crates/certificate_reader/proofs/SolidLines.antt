@@ -4,24 +4,21 @@ use Rattle.std.specs.Prelude.{◌&&◌, if◌then◌else◌, codes}
 use Rattle.std.specs.List.{AllByRecursion, flat_map}
 use Rattle.std.specs.Fmt.{decimal}
 use Rattle.std.proofs.lemmas.List.{map-append}
-use Rattle.texts.proofs.CuttingLaws.{none-append}
-use Rattle.texts.proofs.RowLaws.{is_low, Solid, solid_by_test, decimal_solid}
-use Rattle.queue_certificates.specs.States.{KnownValue, any, linear, index_for, signed_for, ends_as, has_bits, Share}
-use Rattle.queue_certificates.specs.RecordFields.{Field}
+use Rattle.texts.proofs.{none-append, is_low, Solid, solid_by_test, decimal_solid}
+use Rattle.queue_certificates.specs.{KnownValue, any, linear, index_for, signed_for, ends_as, has_bits, Share, Field, OpenedQueue, no_queue, ListedState}
+use Rattle.queue_certificates.specs.{HartPart, QueueCertificate}
 use Rattle.queue_certificates.specs.Cases.{Arrow, Cases, leaf, split}
-use Rattle.queue_certificates.specs.Certificates.{OpenedQueue, no_queue, ListedState, HartPart, QueueCertificate}
 use Rattle.queue_certificates.specs.Filled.{Filled}
 use Rattle.queue_layouts.specs.declared.tagged.Codec.{Codec}
 use Rattle.queue_layouts.specs.declared.tagged.Codec.TheVariants as codec
 use Rattle.queue_layouts.specs.declared.tagged.OpenedTagged.{OpenedTagged}
 use Rattle.certificate_reader.specs.CaseTexts.{arrow_lines, case_lines}
-use Rattle.certificate_reader.specs.Writing.{LineOfWords, lines_at, form_text, value_line, value_lines, share_line, share_lines, range_text, line_if}
-use Rattle.certificate_reader.specs.Writing.{slot_line, slot_lines, filled_lines, known_lines, described_lines, node_line, tree_lines, state_lines}
-use Rattle.certificate_reader.specs.Writing.{part_lines, numbers_of, field_numbers, field_line, queue_line, queue_lines, certificate_lines, value_text}
-use Rattle.certificate_reader.specs.Writing.{codec_words, element_numbers, own_word_text, tagged_line}
-use Rattle.certificate_reader.specs.Written.{FitsWord, FitsCount, FitsForm, FitsValue, FitsShare, FitsRange, FitsArrow}
-use Rattle.certificate_reader.specs.Written.{FitsCases, FitsFilled, FitsState, FitsPart, FitsField, FitsQueue, FitsCodec, FitsTagged}
-use Rattle.certificate_reader.specs.Written.{FitsOwn, CanBeWritten}
+use Rattle.certificate_reader.specs.Writing.{LineOfWords, lines_at, form_text, value_line, value_lines, share_line, share_lines, range_text, line_if, slot_line}
+use Rattle.certificate_reader.specs.Writing.{slot_lines, filled_lines, known_lines, described_lines, node_line, tree_lines, state_lines, part_lines, numbers_of}
+use Rattle.certificate_reader.specs.Writing.{field_numbers, field_line, queue_line, queue_lines, certificate_lines, value_text, codec_words, element_numbers}
+use Rattle.certificate_reader.specs.Writing.{own_word_text, tagged_line}
+use Rattle.certificate_reader.specs.Written.{FitsWord, FitsCount, FitsForm, FitsValue, FitsShare, FitsRange, FitsArrow, FitsCases, FitsFilled, FitsState}
+use Rattle.certificate_reader.specs.Written.{FitsPart, FitsField, FitsQueue, FitsCodec, FitsTagged, FitsOwn, CanBeWritten}
 use Rattle.certificate_reader.proofs.FormsAgain.{form_solid, own_word_solid}
 use Rattle.certificate_reader.proofs.FieldsAgain.{AreFew, are_few}
 use Rattle.certificate_reader.proofs.LinesAgain.{IsSolidLine}

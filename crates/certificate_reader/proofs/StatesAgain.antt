@@ -1,6 +1,6 @@
 -- What is known in a state, and its cases, as they are written, are read again.
-use Rattle.std.proofs.Common.{◌≡◌, ℕ, suc, ◌+◌, ◌-◌, ◌^◌, ◌<◌, ◌≤◌, List, [], ◌∷◌, ◌++◌, length, map, replicate, reverse, get_or}
-use Rattle.std.proofs.Common.{Option, Some, Ok, refl, sym, ap, subst, ◌∙◌, inl, inr, append_assoc, length-append, arith}
+use Rattle.std.proofs.Common.{◌≡◌, ℕ, suc, ◌+◌, ◌-◌, ◌^◌, ◌<◌, ◌≤◌, List, [], ◌∷◌, ◌++◌, length, map, replicate, reverse, get_or, Option, Some, Ok, refl, sym}
+use Rattle.std.proofs.Common.{ap, subst, ◌∙◌, inl, inr, append_assoc, length-append, arith}
 use Rattle.std.specs.Prelude.{codes}
 use Rattle.std.specs.List.{AllByRecursion}
 use Rattle.std.specs.Fmt.{decimal}
@@ -8,8 +8,7 @@ use Rattle.std.proofs.lemmas.Bool.{cases_lt, le-ltb, lt-leb}
 use Rattle.std.proofs.lemmas.List.{reverse-append, map-append}
 use Rattle.std.proofs.Math.Dec.{eqb-suc-zero}
 use Rattle.std.proofs.Math.Seq.{set-append_seam, get_or-append_seam}
-use Rattle.queue_certificates.specs.Forms.{Form}
-use Rattle.queue_certificates.specs.States.{KnownValue, any, linear, index_for, signed_for, ends_as, has_bits, Share, no_share}
+use Rattle.queue_certificates.specs.{Form, KnownValue, any, linear, index_for, signed_for, ends_as, has_bits, Share, no_share}
 use Rattle.queue_certificates.specs.Cases.{Arrow, Cases, leaf, split}
 use Rattle.queue_checker.specs.Trees.{height}
 use Rattle.certificate_reader.specs.declared.cases.Node.{Node}
@@ -20,11 +19,9 @@ use Rattle.certificate_reader.specs.declared.stages.Stage.TheVariants as stage
 use Rattle.certificate_reader.specs.CaseTexts.{arrow_lines, case_lines}
 use Rattle.certificate_reader.specs.Stages.{keyword_named, stage_after, wanted}
 use Rattle.certificate_reader.specs.FormTexts.{known_value_in}
-use Rattle.certificate_reader.specs.Drafts.{DraftValue, by_words, with_value, share_of, with_share}
-use Rattle.certificate_reader.specs.Drafts.{ranges_of, split_of, with_split, leaf_of, arrow_of}
-use Rattle.certificate_reader.specs.Writing.{form_text, marked_text, bits_text, value_text, value_line, value_lines}
-use Rattle.certificate_reader.specs.Writing.{share_line, share_lines, range_text, line_if}
-use Rattle.certificate_reader.specs.Writing.{node_line, tree_lines}
+use Rattle.certificate_reader.specs.Drafts.{DraftValue, by_words, with_value, share_of, with_share, ranges_of, split_of, with_split, leaf_of, arrow_of}
+use Rattle.certificate_reader.specs.Writing.{form_text, marked_text, bits_text, value_text, value_line, value_lines, share_line, share_lines, range_text}
+use Rattle.certificate_reader.specs.Writing.{line_if, node_line, tree_lines}
 use Rattle.certificate_reader.specs.Written.{FitsForm, FitsValue, FitsShare, FitsRange, FitsArrow, FitsCases}
 use Rattle.certificate_reader.proofs.NumbersAgain.{first_word_again, first_count_again, ranges_again}
 use Rattle.certificate_reader.proofs.FormsAgain.{form_again, forms_again, linear_again, index_again, signed_again, ends_again, bits_again}

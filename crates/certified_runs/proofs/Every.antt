@@ -1,23 +1,16 @@
 -- Every run stays in the sets of a certificate and keeps its protocol: by induction over its entries.
-use Rattle.std.proofs.Common.{ℕ, ◌≡◌, ◌≢◌, ◌⊎◌, ◌<◌, ◌≤◌, inl, inr, Bool, true, false, Option, List, [], ◌∷◌, ◌++◌}
-use Rattle.std.proofs.Common.{length, Some, None, refl, sym, ◌∙◌, ap, subst, append-nil, append_assoc}
+use Rattle.std.proofs.Common.{ℕ, ◌≡◌, ◌≢◌, ◌⊎◌, ◌<◌, ◌≤◌, inl, inr, Bool, true, false, Option, List, [], ◌∷◌, ◌++◌, length, Some, None, refl, sym, ◌∙◌, ap}
+use Rattle.std.proofs.Common.{subst, append-nil, append_assoc}
 use Rattle.std.specs.Prelude.{option_map}
 use Rattle.std.specs.List.{slice_get}
 use Rattle.std.proofs.lemmas.Bool.{cases_eq}
 use Rattle.std.proofs.lemmas.List.Elements.{All-nil}
-use Rattle.hart.specs.State.{HartState}
-use Rattle.hart.specs.Steps.{advanced}
+use Rattle.hart.specs.{HartState, advanced}
 use Rattle.step_machine.specs.declared.events.Entry.{Entry}
-use Rattle.step_machine.specs.History.{HartOpeningValue, OpeningValue, history_of}
-use Rattle.step_machine.specs.Access.{Access, nothing, load, store, exchange, fence, land, access_of}
-use Rattle.step_machine.specs.Entries.{hart_of, is_land, is_own, own, own_stores, lands, pending, read}
-use Rattle.step_machine.specs.Paths.{number_read, opens_as, state_of, PathOf}
-use Rattle.step_machine.specs.Legal.{WellFormed, Allowed, AllowedBy}
-use Rattle.step_machine.proofs.Appended.{LegalAfter-back, LegalAfter-front}
-use Rattle.step_machine.proofs.Landings.{balanced}
-use Rattle.step_machine.proofs.Follows.{state_after}
-use Rattle.step_machine.proofs.OwnRuns.{kept-front}
-use Rattle.step_machine.proofs.States.{state_keeps}
+use Rattle.step_machine.specs.Names.{HartOpeningValue, OpeningValue, history_of, Access, nothing, load, store, exchange, fence, land, access_of, hart_of}
+use Rattle.step_machine.specs.Names.{is_land, is_own, own, own_stores, lands, pending, read, number_read, opens_as, state_of, PathOf, WellFormed, Allowed}
+use Rattle.step_machine.specs.Names.{AllowedBy}
+use Rattle.step_machine.proofs.{LegalAfter-back, LegalAfter-front, balanced, state_after, kept-front, state_keeps}
 use Rattle.store_buffers.specs.StoreBuffers.{LeavesByte, LeavesByteBy, IsOnlyWriter}
 use Rattle.store_buffers.proofs.OwnEntries.{made_by, known_hart, same_state, next_state, land_is, own_is, own_parts}
 use Rattle.store_buffers.proofs.MessagePassing.{kept}

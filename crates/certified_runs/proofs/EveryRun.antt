@@ -1,13 +1,8 @@
 -- The laws of sets alone.
 use Rattle.std.proofs.Common.{ℕ, ◌≡◌, ◌≤◌, Bool, true, false, List, [], ◌∷◌, ◌++◌, Some, length}
 use Rattle.step_machine.specs.declared.events.Entry.{Entry}
-use Rattle.step_machine.specs.History.{OpeningValue, history_of}
-use Rattle.step_machine.specs.Access.{access_of}
-use Rattle.step_machine.specs.Entries.{hart_of, is_land, own_stores, lands}
-use Rattle.step_machine.specs.Legal.{Legal, WellFormed}
-use Rattle.step_machine.specs.Paths.{state_of}
-use Rattle.step_machine.proofs.Appended.{LegalAfter-back, LegalAfter-front}
-use Rattle.step_machine.proofs.Landings.{balanced}
+use Rattle.step_machine.specs.Names.{OpeningValue, history_of, access_of, hart_of, is_land, own_stores, lands, Legal, WellFormed, state_of}
+use Rattle.step_machine.proofs.{LegalAfter-back, LegalAfter-front, balanced}
 use Rattle.hart.specs.State.{HartState}
 use Rattle.store_buffers.specs.StoreBuffers.{IsOnlyWriter}
 use Rattle.certified_runs.specs.Views.{View, view_of, view_then}

@@ -3,11 +3,7 @@ use Rattle.std.proofs.Common.{ℕ, ◌<◌, ◌≡◌, ◌≢◌, ◌⊎◌, inl
 use Rattle.std.proofs.lemmas.Bool.{cases_eq}
 use Rattle.hart.specs.State.{HartState}
 use Rattle.step_machine.specs.declared.events.Entry.{Entry}
-use Rattle.step_machine.specs.History.{OpeningValue, history_of}
-use Rattle.step_machine.specs.Access.{Access, land, access_of}
-use Rattle.step_machine.specs.Entries.{hart_of, is_land, is_own}
-use Rattle.step_machine.specs.Paths.{state_of}
-use Rattle.step_machine.specs.Legal.{Legal, WellFormed}
+use Rattle.step_machine.specs.Names.{OpeningValue, history_of, Access, land, access_of, hart_of, is_land, is_own, state_of, Legal, WellFormed}
 use Rattle.step_machine.proofs.OwnRuns.{kept-front}
 use Rattle.store_buffers.proofs.OwnEntries.{land_is, own_is}
 use Rattle.queue_parties.specs.Parties.{Party, other, QueueCounts, count, known, KeepsEach, counts_from}

@@ -1,6 +1,6 @@
 -- What one entry makes of a hart's view of a byte that no other hart writes.
-use Rattle.std.proofs.Common.{ℕ, ◌-◌, ◌≤◌, ◌≡◌, ◌≢◌, ◌==◌, Bool, true, false, if◌then◌else◌, Option, Some, None, List, [], ◌∷◌}
-use Rattle.std.proofs.Common.{◌++◌, length, take, drop, refl, sym, ◌∙◌, ap, subst, append-nil}
+use Rattle.std.proofs.Common.{ℕ, ◌-◌, ◌≤◌, ◌≡◌, ◌≢◌, ◌==◌, Bool, true, false, if◌then◌else◌, Option, Some, None, List, [], ◌∷◌, ◌++◌, length, take, drop, refl}
+use Rattle.std.proofs.Common.{sym, ◌∙◌, ap, subst, append-nil}
 use Rattle.std.specs.Prelude.{All, unwrap_or}
 use Rattle.std.specs.Int.{byte_at}
 use Rattle.std.proofs.lemmas.Bool.{eqb-true, eq-eqb}
@@ -9,11 +9,9 @@ use Rattle.memory.specs.declared.writes.Write.{Write}
 use Rattle.memory.specs.Writes.{write, covers, newest_of}
 use Rattle.memory.proofs.WholeWords.{newest_of-append}
 use Rattle.step_machine.specs.declared.events.Entry.{Entry}
-use Rattle.step_machine.specs.History.{OpeningValue}
-use Rattle.step_machine.specs.Access.{Access, nothing, load, store, exchange, fence, land, access_of}
-use Rattle.step_machine.specs.Entries.{hart_of, stored_by, landed_by, written_by, own_store, land_of, is_land, is_landing}
-use Rattle.step_machine.specs.Entries.{own_stores, lands, pending, write_of, landed, opening_byte, read_byte, read}
-use Rattle.step_machine.specs.Legal.{AllowedBy, Allowed}
+use Rattle.step_machine.specs.Names.{OpeningValue, Access, nothing, load, store, exchange, fence, land, access_of, hart_of, stored_by, landed_by, written_by}
+use Rattle.step_machine.specs.Names.{own_store, land_of, is_land, is_landing, own_stores, lands, pending, write_of, landed, opening_byte, read_byte, read}
+use Rattle.step_machine.specs.Names.{AllowedBy, Allowed}
 use Rattle.step_machine.proofs.Appended.{landed-last, pending-last}
 use Rattle.store_buffers.specs.StoreBuffers.{LeavesByte, LeavesByteBy, IsOnlyWriter}
 use Rattle.store_buffers.proofs.Reading.{view}

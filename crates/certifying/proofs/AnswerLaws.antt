@@ -4,35 +4,31 @@ use Rattle.std.specs.Prelude.{Option, Some, None}
 use Rattle.std.proofs.lemmas.Bool.{and_parts}
 use Rattle.texts.specs.Results.{map_err}
 use Rattle.litmus.specs.LitmusTests.{LitmusTest}
-use Rattle.step_machine.specs.History.{OpeningValue}
+use Rattle.step_machine.specs.Names.{OpeningValue, history_of, WellFormed}
 use Rattle.step_machine.specs.declared.events.Entry.{Entry}
-use Rattle.step_machine.specs.History.{history_of}
-use Rattle.step_machine.specs.Legal.{WellFormed}
 use Rattle.step_machine.proofs.Happening.{no_hart}
 use Rattle.queue_parties.specs.Parties.{Party, all_at, the_sender, the_receiver}
 use Rattle.certified_runs.specs.TwoParties.{EachIs}
 use Rattle.slots_that_tell.specs.Telling.{teller_hart}
-use Rattle.queue_certificates.specs.ToldRuns.{LoadsRestOwned, telling}
+use Rattle.queue_certificates.specs.{LoadsRestOwned, telling, ReadsOwned, QueueCertificate, queue_at, start_at, tagged_at, tagged_start, accepts, accepts_loads}
+use Rattle.queue_certificates.specs.{accepts_rest}
 use Rattle.slot_queue.specs.Ownership.{hart}
-use Rattle.queue_certificates.specs.OwnedRuns.{ReadsOwned}
-use Rattle.queue_certificates.specs.Certificates.{QueueCertificate, queue_at, start_at, tagged_at, tagged_start, accepts, accepts_loads, accepts_rest}
 use Rattle.queue_layouts.specs.Tagged.{slots_of}
 use Rattle.queue_checker.specs.declared.flaws.Flaw.{Flaw}
 use Rattle.queue_checker.specs.Flaws.{first_flaw, first_unowned, first_unowned_rest}
 use Rattle.drawn_runs.specs.Samples.{DrawnRuns}
 use Rattle.engine_support.specs.declared.fault.Refusal.{Refusal}
-use Rattle.engine_support.specs.Inputs.After.{read}
-use Rattle.engine_support.specs.Inputs.{tests}
+use Rattle.engine_support.specs.{read, tests}
 use Rattle.engine_support.proofs.InputLaws.{IsOne, alike_after, is_one, one_litmus_text}
-use Rattle.certifying.specs.Answers.{IsAnswerTo, IsCertificateAnswer, IsFlawAnswer, IsQueueAnswer, IsTrialAnswer, IsUseAnswer, is_of_queue}
-use Rattle.certifying.specs.Answers.{all_shown, asks_endings, judged_reads, kept_answer, kept_judgement}
+use Rattle.certifying.specs.Answers.{IsAnswerTo, IsCertificateAnswer, IsFlawAnswer, IsQueueAnswer, IsTrialAnswer, IsUseAnswer, is_of_queue, all_shown}
+use Rattle.certifying.specs.Answers.{asks_endings, judged_reads, kept_answer, kept_judgement}
 use Rattle.certifying.specs.Questions.{Questions}
 use Rattle.certifying.specs.Endings.{all_endings}
 use Rattle.certifying.specs.Going.{all_going, all_going_lines}
 use Rattle.certifying.specs.Harts.{harts_lines, harts_safe}
 use Rattle.certifying.specs.Inputs.{SaysCertificate, certificate_of, certificates}
-use Rattle.certifying.specs.Kept.{AreSameAnswers, AreJudged, AreQueueAnswers, IsPromised, KeepsProtocol, KeepsTags, LoadsOwnedSlots}
-use Rattle.certifying.specs.Kept.{LinesHold, LoadsTagsOrOwned, ReceivesFields}
+use Rattle.certifying.specs.Kept.{AreSameAnswers, AreJudged, AreQueueAnswers, IsPromised, KeepsProtocol, KeepsTags, LoadsOwnedSlots, LinesHold}
+use Rattle.certifying.specs.Kept.{LoadsTagsOrOwned, ReceivesFields}
 use Rattle.certifying.specs.Queues.{queue_count, slots_by, tagged_number}
 use Rattle.certifying.specs.Records.{AreFound, are_read, are_written}
 use Rattle.certifying.specs.declared.records.QueueRecords.{QueueRecords}

@@ -1,13 +1,12 @@
 -- What is answered where drawn runs are judged: it is one answer, and a run that is shown to break the protocol does.
-use Rattle.std.proofs.Common.{arith, ◌≡◌, ℕ, zero, suc, ◌+◌, ◌&&◌, ◌<◌, ◌≤◌, Bool, true, false, List, [], ◌∷◌, ◌++◌, length, Some, None}
-use Rattle.std.proofs.Common.{refl, sym, ap, ap₂, ◌∙◌, subst, ◌⊎◌, inl, inr}
+use Rattle.std.proofs.Common.{arith, ◌≡◌, ℕ, zero, suc, ◌+◌, ◌&&◌, ◌<◌, ◌≤◌, Bool, true, false, List, [], ◌∷◌, ◌++◌, length, Some, None, refl, sym, ap, ap₂}
+use Rattle.std.proofs.Common.{◌∙◌, subst, ◌⊎◌, inl, inr}
 use Rattle.std.specs.Prelude.{Option}
 use Rattle.std.specs.Option.{option_map}
 use Rattle.std.proofs.lemmas.Bool.{and_parts, cases_lt, leb-true}
 use Rattle.std.proofs.lemmas.List.{length-append}
 use Rattle.step_machine.specs.declared.events.Event.{Event}
-use Rattle.step_machine.specs.History.{OpeningValue, history_of, at_opening}
-use Rattle.step_machine.specs.Legal.{WellFormed}
+use Rattle.step_machine.specs.Names.{OpeningValue, history_of, at_opening, WellFormed}
 use Rattle.step_machine.proofs.Happening.{no_hart}
 use Rattle.step_machine.proofs.Running.{kept-at_opening, kept-run, opening_kept}
 use Rattle.queue_parties.specs.Parties.{QueueCounts, all_at}
@@ -22,9 +21,7 @@ use Rattle.queue_checker.proofs.FlawLaws.{no_queue_flaw}
 use Rattle.drawn_runs.specs.Samples.{DrawnRuns}
 use Rattle.ownership_runs.specs.declared.violations.Violation.{Violation}
 use Rattle.ownership_runs.specs.declared.runs.Moved.{Moved}
-use Rattle.ownership_runs.specs.Protocols.{HasSlot, Keeps}
-use Rattle.ownership_runs.specs.Violations.{first_ownership_violation}
-use Rattle.ownership_runs.specs.Runs.{HasKeptRun, HasBrokenRun}
+use Rattle.ownership_runs.specs.{HasSlot, Keeps, first_ownership_violation, HasKeptRun, HasBrokenRun}
 use Rattle.judged_runs.specs.Finding.{IsFirstFlawed}
 use Rattle.ownership_runs.proofs.Judged.{moves-one, one-violation}
 use Rattle.certifying.specs.Answers.{IsBrokenText, IsTriedText, IsTrialAnswer, is_of_queue, tried_text}

@@ -3,29 +3,22 @@ use Rattle.std.proofs.Common.{arith, ◌≡◌, ℕ, ◌+◌, ◌*◌, ◌<◌, 
 use Rattle.std.specs.Prelude.{Option, None, Some, if◌then◌else◌}
 use Rattle.std.proofs.lemmas.Bool.{and_parts, ltb-true}
 use Rattle.step_machine.specs.declared.events.Entry.{Entry}
-use Rattle.step_machine.specs.History.{OpeningValue, history_of}
-use Rattle.step_machine.specs.Legal.{WellFormed}
+use Rattle.step_machine.specs.Names.{OpeningValue, history_of, WellFormed}
 use Rattle.queue_parties.specs.Parties.{Party, the_sender, the_receiver}
-use Rattle.slot_queue.specs.Queues.{Queue}
-use Rattle.slot_queue.specs.Ownership.{hart}
-use Rattle.queue_certificates.specs.Certificates.{QueueCertificate, accepts, queue_at, tagged_at}
-use Rattle.queue_certificates.specs.Steps.{all_below}
+use Rattle.slot_queue.specs.{Queue, hart}
+use Rattle.queue_certificates.specs.{QueueCertificate, accepts, queue_at, tagged_at, all_below}
 use Rattle.queue_certificates.proofs.States.{at-below}
 use Rattle.queue_progress.specs.declared.pace.Pace.{Pace}
 use Rattle.queue_progress.specs.declared.pace.Progress.{Progress}
 use Rattle.queue_progress.specs.declared.pace.Progress.TheVariants.{GoesOn, NoPace, NoLook}
 use Rattle.queue_progress.specs.declared.pace.ToldProgress.{ToldProgress}
 use Rattle.queue_progress.specs.declared.pace.ToldProgress.TheVariants.{Within, Endless}
-use Rattle.queue_progress.specs.Rows.{Arrives, ArrivesOrEnds, EachAfter, EachOwn, HaveLanded, IsStuckStep, Lasts, RunsOrEnds, all_moved}
-use Rattle.queue_progress.specs.Rows.{counts_at, executed}
-use Rattle.queue_progress.specs.Harts.{IsHartStuck, hart_keeps_going, sides}
-use Rattle.queue_progress.specs.Progress.{hart_progress_of, progress_of}
-use Rattle.queue_progress.specs.Shown.{keeps_going}
-use Rattle.queue_progress.specs.Told.{IsToldStuck, TagsHaveLanded, ToldArrives, ToldArrivesOrEnds, slots_at, teller_at, told_counts_at}
-use Rattle.queue_progress.specs.Told.{told_progress_of, told_within}
+use Rattle.queue_progress.specs.{Arrives, ArrivesOrEnds, EachAfter, EachOwn, HaveLanded, IsStuckStep, Lasts, RunsOrEnds, all_moved, counts_at, executed}
+use Rattle.queue_progress.specs.{IsHartStuck, hart_keeps_going, sides, hart_progress_of, progress_of, keeps_going, IsToldStuck, TagsHaveLanded, ToldArrives}
+use Rattle.queue_progress.specs.{ToldArrivesOrEnds, slots_at, teller_at, told_counts_at, told_progress_of, told_within}
 use Rattle.certifying.specs.Going.{all_going, is_going, is_moving, is_told_going, is_within}
-use Rattle.certifying.specs.Kept.{HartGoesOn, KeepsGoing, PartyGoesOn, ProgressHolds, QueueArrives, QueueGoesOn, QueueMoves, TellerGoesOn}
-use Rattle.certifying.specs.Kept.{TellersArrive, TellersGoOn, TellersMove}
+use Rattle.certifying.specs.Kept.{HartGoesOn, KeepsGoing, PartyGoesOn, ProgressHolds, QueueArrives, QueueGoesOn, QueueMoves, TellerGoesOn, TellersArrive}
+use Rattle.certifying.specs.Kept.{TellersGoOn, TellersMove}
 use Rattle.certifying.specs.Together.{are_several, bound_of, pace_of, pace_together, party_by, party_progress}
 use Rattle.certifying.specs.declared.together.Bound.{Bound}
 use Rattle.certifying.specs.declared.together.PartyProgress.{PartyProgress}

@@ -1,23 +1,20 @@
 -- What is shown of the bytes of records, where the certificate is accepted, and that one thing is found of them.
-use Rattle.std.proofs.Common.{arith, ◌≡◌, ℕ, zero, suc, ◌+◌, ◌<◌, ◌≤◌, ◌&&◌, Bool, true, false, List, [], ◌∷◌, ◌++◌, length, map}
-use Rattle.std.proofs.Common.{Some, None, refl, sym, ap, ap₂, ◌∙◌, subst}
+use Rattle.std.proofs.Common.{arith, ◌≡◌, ℕ, zero, suc, ◌+◌, ◌<◌, ◌≤◌, ◌&&◌, Bool, true, false, List, [], ◌∷◌, ◌++◌, length, map, Some, None, refl, sym, ap}
+use Rattle.std.proofs.Common.{ap₂, ◌∙◌, subst}
 use Rattle.std.proofs.Math.ListN.{length-map}
 use Rattle.std.specs.Prelude.{Option, get_or, nat_lt}
 use Rattle.std.specs.List.{list_all}
 use Rattle.std.proofs.lemmas.Bool.{and_parts, lt-ltb}
 use Rattle.step_machine.specs.declared.events.Entry.{Entry}
-use Rattle.step_machine.specs.History.{OpeningValue, history_of}
-use Rattle.step_machine.specs.Legal.{WellFormed}
+use Rattle.step_machine.specs.Names.{OpeningValue, history_of, WellFormed}
 use Rattle.queue_certificates.specs.Certificates.{QueueCertificate, accepts}
 use Rattle.record_bytes.specs.Naming.{names_byte}
 use Rattle.record_bytes.proofs.OffsetLaws.{some-offset}
 use Rattle.record_bytes.proofs.RangeLaws.{has-below}
 use Rattle.record_bytes.specs.Ranges.{byte_ranges}
 use Rattle.record_bytes.specs.declared.ranges.ByteRange.{ByteRange}
-use Rattle.records_written.specs.Marks.{IsFirstMissing, IsFirstUnread, IsFirstUnwritten, IsShownDone, IsShownRead, IsShownWritten}
-use Rattle.records_written.specs.Parties.{IsListed, count_after, published_after, slot_in, taken_after}
-use Rattle.records_written.specs.Read.{IsRead}
-use Rattle.records_written.specs.Written.{IsWritten}
+use Rattle.records_written.specs.{IsFirstMissing, IsFirstUnread, IsFirstUnwritten, IsShownDone, IsShownRead, IsShownWritten, IsListed, count_after}
+use Rattle.records_written.specs.{published_after, slot_in, taken_after, IsRead, IsWritten}
 use Rattle.records_written.specs.declared.finding.Missing.{Missing}
 use Rattle.records_written.specs.declared.parties.QueueNumber.{QueueNumber}
 use Rattle.certifying.specs.Kept.{DoesRecords, DoesRecordsOf, FoundHold, IsDone, KeepsRecords, RecordsHold}

@@ -1,14 +1,10 @@
 -- What is made of all leaves of a hart: what each keeps is kept, and what is so of it in the end is so at the leaf where the hart is.
-use Rattle.std.proofs.Common.{ℕ, zero, suc, ◌+◌, ◌<◌, inl, inr, if◌then◌else◌, Bool, true, false, Some, List, length, get_or, subst, arith, ◌≡◌, refl, sym}
-use Rattle.std.proofs.Common.{◌∙◌}
+use Rattle.std.proofs.Common.{ℕ, zero, suc, ◌+◌, ◌<◌, inl, inr, if◌then◌else◌, Bool, true, false, Some, List, length, get_or, subst, arith, ◌≡◌, refl, sym, ◌∙◌}
 use Rattle.std.proofs.lemmas.Bool.{cases_lt, cases_eq}
 use Rattle.hart.specs.State.{HartState}
-use Rattle.queue_certificates.specs.OwnedRuns.{View, AllCounts}
-use Rattle.queue_certificates.specs.States.{KnownState, MeansAt, Means}
+use Rattle.queue_certificates.specs.{View, AllCounts, KnownState, MeansAt, Means, QueueCertificate, queue_at, own_of, part_of, state_at}
 use Rattle.queue_certificates.specs.Cases.{Cases, leaf, split, with_low, with_high, may_exceed}
-use Rattle.queue_certificates.specs.Certificates.{QueueCertificate, queue_at, own_of, part_of, state_at}
-use Rattle.queue_certificates.proofs.Forms.{less_at}
-use Rattle.queue_certificates.proofs.States.{means-low, means-high, exceeds}
+use Rattle.queue_certificates.proofs.{less_at, means-low, means-high, exceeds}
 use Rattle.hart_safety.specs.Leaves.{over_leaves, over_states, over_hart}
 
 -- the leaves of a state by two cases, of which the higher one may be

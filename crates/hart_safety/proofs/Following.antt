@@ -1,7 +1,7 @@
 -- After an instruction that doesn't stop its hart the pc is that of a state that follows from the leaf, and so of one that is listed. So the hart runs
 -- on where none is listed just past its code, and no leaf makes the exit call.
-use Rattle.std.proofs.Common.{ℕ, ℤ, ◌+◌, ◌/◌, ◌*◌, ◌<◌, ◌≤◌, ◌≡◌, ◌⊎◌, inl, inr, if◌then◌else◌, Bool, true, false, Option, Some, None, List, [], ◌∷◌}
-use Rattle.std.proofs.Common.{length, refl, sym, ◌∙◌, ap, subst, ◌==◌, not, get_or}
+use Rattle.std.proofs.Common.{ℕ, ℤ, ◌+◌, ◌/◌, ◌*◌, ◌<◌, ◌≤◌, ◌≡◌, ◌⊎◌, inl, inr, if◌then◌else◌, Bool, true, false, Option, Some, None, List, [], ◌∷◌, length}
+use Rattle.std.proofs.Common.{refl, sym, ◌∙◌, ap, subst, ◌==◌, not, get_or}
 use Rattle.std.specs.Prelude.{nat_lt, slice_index}
 use Rattle.std.proofs.lemmas.Bool.{and_parts, eqb-true, ltb-true, lt-ltb, eq-eqb}
 use Rattle.rv_decode.specs.declared.instruction.Reg.{Reg}
@@ -10,36 +10,25 @@ use Rattle.rv_decode.specs.declared.instruction.StoreOp.{StoreOp}
 use Rattle.rv_decode.specs.declared.instruction.AmoOp.{AmoOp}
 use Rattle.rv_decode.specs.declared.instruction.Instr.{Instr}
 use Rattle.rv_decode.specs.declared.instruction.Instr.TheVariants.{Jal, Jalr, Branch, Load, Store, Ebreak, Amo, Ecall}
-use Rattle.hart.specs.State.{HartState}
-use Rattle.hart.specs.Effects.{register_value, address, is_taken, load_width, store_width, next_pc, pc_after}
-use Rattle.hart.specs.Steps.{need_of, need_for, advanced}
+use Rattle.hart.specs.{HartState, register_value, address, is_taken, load_width, store_width, next_pc, pc_after, need_of, need_for, advanced}
 use Rattle.hart.proofs.Instructions.{IsAt, need_at}
 use Rattle.step_machine.specs.declared.events.Entry.{Entry}
-use Rattle.step_machine.specs.History.{OpeningValue}
+use Rattle.step_machine.specs.Names.{OpeningValue, number_read}
 use Rattle.queue_parties.specs.Parties.{Party}
 use Rattle.slot_queue.specs.Queues.{Queue, IsQueue, TellsFull}
 use Rattle.queue_layouts.specs.declared.tagged.TaggedQueue.{TaggedQueue}
-use Rattle.queue_certificates.specs.OwnedRuns.{View, AllCounts, ActsByCounts}
-use Rattle.queue_certificates.specs.RecordFields.{Field}
-use Rattle.queue_certificates.specs.Forms.{Form, Bounds}
-use Rattle.queue_certificates.specs.States.{any, KnownState, Has, MeansAt}
-use Rattle.queue_certificates.specs.Results.{as_number, bounds, is_branch_taken}
-use Rattle.queue_certificates.specs.Steps.{last_below, is_look, may_load, register_at, operand, instruction_at, address_value, addresses, exchanged}
-use Rattle.queue_certificates.specs.Steps.{updated_value, with_result, when_taken, when_passed, goes_by, jumping, exchanging, share_at, after_load, follow}
-use Rattle.queue_certificates.specs.Fields.{field_number, keeps_numbers, after_field, field_below, next_received}
-use Rattle.queue_certificates.specs.Tags.{party_in, tag_at, looked_tag, moved_tag, told_value, other_value, when_told, may_store_all, all_handed, at_tag}
-use Rattle.queue_certificates.specs.Tags.{load_tells, next_told, told_by_store}
+use Rattle.queue_certificates.specs.{View, AllCounts, ActsByCounts, Field, Form, Bounds, any, KnownState, Has, MeansAt, as_number, bounds, is_branch_taken}
+use Rattle.queue_certificates.specs.{last_below, is_look, may_load, register_at, operand, instruction_at, address_value, addresses, exchanged, updated_value}
+use Rattle.queue_certificates.specs.{with_result, when_taken, when_passed, goes_by, jumping, exchanging, share_at, after_load, follow, field_number}
+use Rattle.queue_certificates.specs.{keeps_numbers, after_field, field_below, next_received, party_in, tag_at, looked_tag, moved_tag, told_value, other_value}
+use Rattle.queue_certificates.specs.{when_told, may_store_all, all_handed, at_tag, load_tells, next_told, told_by_store, QueueCertificate, queue_at, fields_at}
+use Rattle.queue_certificates.specs.{tagged_at, own_of, part_of, state_at, next_states, arrow_leads, each_leads, all_lead}
 use Rattle.queue_certificates.specs.Cases.{Arrow, Cases, leaf, split, with_low, each_leaf}
-use Rattle.queue_certificates.specs.Certificates.{QueueCertificate, queue_at, fields_at, tagged_at, own_of, part_of, state_at, next_states, arrow_leads}
-use Rattle.queue_certificates.specs.Certificates.{each_leads, all_lead}
 use Rattle.queue_certificates.specs.declared.own.OwnWord.{OwnWord}
-use Rattle.queue_certificates.proofs.Values.{known-is, has-plain}
-use Rattle.queue_certificates.proofs.Results.{branch-is}
-use Rattle.queue_certificates.proofs.Steps.{nobody_told, nothing_sent}
+use Rattle.queue_certificates.proofs.{known-is, has-plain, branch-is, nobody_told, nothing_sent}
 use Rattle.queue_certificates.proofs.Steps as steps
 use Rattle.hart_safety.proofs.Going.{KeepsGoing, at-instruction, settles, runs-inside}
 use Rattle.hart.specs.declared.status.Status.TheVariants as status
-use Rattle.step_machine.specs.Paths.{number_read}
 use Rattle.hart_safety.specs.Stops.{call_in}
 use Rattle.hart_safety.specs.Ends.{is_no_exit, makes_no_exit, runs_on_at}
 

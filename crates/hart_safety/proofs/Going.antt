@@ -1,13 +1,12 @@
 -- What an instruction that doesn't stop its hart makes of it: it goes on, and unless it makes the exit call or comes to just past its code, it runs on.
-use Rattle.std.proofs.Common.{ℕ, ◌*◌, ◌%◌, ◌≡◌, ◌==◌, ◌||◌, if◌then◌else◌, Bool, true, false, Option, Some, None, List, length, refl, sym, ◌∙◌, subst, ◌<◌}
-use Rattle.std.proofs.Common.{◌⊎◌, not, inl, inr, ap}
+use Rattle.std.proofs.Common.{ℕ, ◌*◌, ◌%◌, ◌≡◌, ◌==◌, ◌||◌, if◌then◌else◌, Bool, true, false, Option, Some, None, List, length, refl, sym, ◌∙◌, subst, ◌<◌, ◌⊎◌}
+use Rattle.std.proofs.Common.{not, inl, inr, ap}
 use Rattle.std.specs.Prelude.{nat_lt, slice_index, drop}
 use Rattle.std.specs.List.{slice_get}
 use Rattle.std.proofs.lemmas.Bool.{eqb-false, ne_eqb, ltb-true}
 use Rattle.rv_decode.specs.declared.instruction.Instr.{Instr}
-use Rattle.hart.specs.State.{HartState}
-use Rattle.hart.specs.Effects.{written_at, next_pc, registers_after, pc_after, register_value, address, is_taken, stored, load_width, store_width}
-use Rattle.hart.specs.Steps.{need_of, advanced, advanced_by, after_meaning, fetched, settled, jump_need, access_need, call_need, need_for}
+use Rattle.hart.specs.{HartState, written_at, next_pc, registers_after, pc_after, register_value, address, is_taken, stored, load_width, store_width, need_of}
+use Rattle.hart.specs.{advanced, advanced_by, after_meaning, fetched, settled, jump_need, access_need, call_need, need_for}
 use Rattle.hart.specs.declared.status.Stop.{Stop}
 use Rattle.hart.specs.declared.status.Stop.TheVariants as stop
 use Rattle.hart.specs.declared.status.Status.TheVariants as status

@@ -1,19 +1,16 @@
 -- Regions stay in their order, with a byte between each and the next.
-use Rattle.std.proofs.Common.{ℕ, ◌+◌, ◌-◌, ◌%◌, ◌^◌, ◌<◌, ◌≤◌, ◌≡◌, ◌&&◌, if◌then◌else◌, Bool, true, false, Option}
-use Rattle.std.proofs.Common.{Some, None, List, [], ◌∷◌, refl, subst, arith}
+use Rattle.std.proofs.Common.{ℕ, ◌+◌, ◌-◌, ◌%◌, ◌^◌, ◌<◌, ◌≤◌, ◌≡◌, ◌&&◌, if◌then◌else◌, Bool, true, false, Option, Some, None, List, [], ◌∷◌, refl, subst}
+use Rattle.std.proofs.Common.{arith}
 use Rattle.std.specs.Prelude.{nat_le}
 use Rattle.std.proofs.lemmas.Bool.{and_parts, leb-true, leb-false, ltb-true}
 use Rattle.std.proofs.Math.Nat.{pow-le-pow_right}
 use Rattle.rv_decode.specs.declared.instruction.Instr.{Instr}
-use Rattle.rv_decode.specs.declared.instruction.Instr.TheVariants.{Lui, Auipc, Jal, Jalr, Branch, Load, Store}
-use Rattle.rv_decode.specs.declared.instruction.Instr.TheVariants.{Immediate, Shift, Register, Fence, FenceTso, Ecall}
-use Rattle.rv_decode.specs.declared.instruction.Instr.TheVariants.{Ebreak, Amo}
+use Rattle.rv_decode.specs.declared.instruction.Instr.TheVariants.{Lui, Auipc, Jal, Jalr, Branch, Load, Store, Immediate, Shift, Register, Fence, FenceTso}
+use Rattle.rv_decode.specs.declared.instruction.Instr.TheVariants.{Ecall, Ebreak, Amo}
 use Rattle.step_machine.specs.History.{OpeningValue}
-use Rattle.queue_certificates.specs.Forms.{Bounds, bounds_of, most_of_sum, risings, fallings, bounds_between}
-use Rattle.queue_certificates.specs.States.{KnownValue, any, linear, index_for, signed_for, ends_as, has_bits, KnownState}
-use Rattle.queue_certificates.specs.Results.{bounds, bounds_by, is_nothing}
-use Rattle.queue_certificates.specs.Steps.{anywhere, instruction_at, address_value, operand}
-use Rattle.queue_certificates.specs.Certificates.{QueueCertificate, queue_at}
+use Rattle.queue_certificates.specs.{Bounds, bounds_of, most_of_sum, risings, fallings, bounds_between, KnownValue, any, linear, index_for, signed_for, ends_as}
+use Rattle.queue_certificates.specs.{has_bits, KnownState, bounds, bounds_by, is_nothing, anywhere, instruction_at, address_value, operand, QueueCertificate}
+use Rattle.queue_certificates.specs.{queue_at}
 use Rattle.queue_checker.specs.declared.targets.Target.{Target}
 use Rattle.queue_checker.specs.Flaws.{hart_at, first_of}
 use Rattle.hart_safety.specs.declared.regions.Region.{Region}

@@ -2,9 +2,7 @@
 use Rattle.std.proofs.Common.{ℕ, ◌<◌, ◌≤◌, ◌≡◌, ◌⊎◌, inl, inr, if◌then◌else◌, Bool, true, false, Option, Some, None, List, [], ◌∷◌, refl, arith}
 use Rattle.std.specs.Prelude.{nat_le}
 use Rattle.std.proofs.lemmas.Bool.{leb-true, leb-false}
-use Rattle.queue_certificates.specs.States.{KnownState}
-use Rattle.queue_certificates.specs.Steps.{instruction_at}
-use Rattle.queue_certificates.specs.Certificates.{QueueCertificate}
+use Rattle.queue_certificates.specs.{KnownState, instruction_at, QueueCertificate}
 use Rattle.queue_checker.specs.declared.targets.Target.{Target}
 use Rattle.queue_checker.specs.Flaws.{first_of}
 use Rattle.hart_safety.specs.declared.regions.Region.{Region}

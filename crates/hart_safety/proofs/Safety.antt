@@ -1,37 +1,22 @@
 -- In every run a hart that goes on from each of its leaves isn't stopped, runs if it runs on from each, and writes within its regions.
-use Rattle.std.proofs.Common.{ℕ, ◌<◌, ◌≤◌, ◌≡◌, ◌⊎◌, inl, inr, Bool, true, false, None, Some, List, [], ◌∷◌}
-use Rattle.std.proofs.Common.{◌++◌, length, refl, sym, ◌∙◌, subst}
+use Rattle.std.proofs.Common.{ℕ, ◌<◌, ◌≤◌, ◌≡◌, ◌⊎◌, inl, inr, Bool, true, false, None, Some, List, [], ◌∷◌, ◌++◌, length, refl, sym, ◌∙◌, subst}
 use Rattle.std.specs.Prelude.{slice_set}
 use Rattle.std.specs.List.{slice_get}
 use Rattle.std.proofs.lemmas.Bool.{and_parts, eqb-true}
 use Rattle.std.proofs.lemmas.Option.{get_or_from_slice_get}
-use Rattle.hart.specs.State.{HartState}
-use Rattle.hart.specs.Steps.{need_of, advanced}
+use Rattle.hart.specs.{HartState, need_of, advanced}
 use Rattle.hart.specs.declared.status.Stop.{Stop}
 use Rattle.hart.specs.declared.status.Status.{Status}
 use Rattle.hart.specs.declared.status.Status.TheVariants as status
 use Rattle.step_machine.specs.declared.events.Entry.{Entry}
-use Rattle.step_machine.specs.History.{HartOpeningValue, OpeningValue, history_of}
-use Rattle.step_machine.specs.Access.{access_of}
-use Rattle.step_machine.specs.Entries.{hart_of, is_land}
-use Rattle.step_machine.specs.Legal.{WellFormed}
-use Rattle.step_machine.specs.Paths.{number_read, opens_as, state_of}
+use Rattle.step_machine.specs.Names.{HartOpeningValue, OpeningValue, history_of, access_of, hart_of, is_land, WellFormed, number_read, opens_as, state_of}
 use Rattle.step_machine.proofs.OwnRuns.{kept-front, state_there}
 use Rattle.store_buffers.specs.StoreBuffers.{LeavesByteBy}
-use Rattle.queue_certificates.specs.OwnedRuns.{View, AllCounts, ActsByCounts, IsCertifiedOfQueues}
-use Rattle.queue_certificates.proofs.Sets.{CertifiedSets}
-use Rattle.queue_certificates.proofs.Every.{holds, next_is, every_state}
-use Rattle.queue_certificates.specs.Forms.{Form}
-use Rattle.queue_certificates.specs.States.{KnownState}
-use Rattle.queue_certificates.specs.Steps.{instruction_at}
-use Rattle.queue_certificates.specs.Cases.{Arrow, each_leaf}
-use Rattle.queue_certificates.specs.Certificates.{QueueCertificate, queue_at, start_at, no_hart, HasFields, MeetsFields, IsOwnByte, IsAtState, IsInState}
-use Rattle.queue_certificates.specs.Certificates.{told_beside, accepts, part_of, state_at, next_states, all_lead, is_closed}
-use Rattle.queue_certificates.proofs.States.{at-below}
-use Rattle.queue_certificates.proofs.Steps.{nobody_told, nothing_sent, untold}
-use Rattle.queue_certificates.proofs.Accepted.{OfHart, fine, of-hart}
-use Rattle.queue_certificates.proofs.Certified.{accepted-certifies}
-use Rattle.queue_certificates.proofs.EveryRun.{sets}
+use Rattle.queue_certificates.specs.{View, AllCounts, ActsByCounts, IsCertifiedOfQueues, Form, KnownState, instruction_at, Arrow, each_leaf, QueueCertificate}
+use Rattle.queue_certificates.specs.{queue_at, start_at, no_hart, HasFields, MeetsFields, IsOwnByte, IsAtState, IsInState, told_beside, accepts, part_of}
+use Rattle.queue_certificates.specs.{state_at, next_states, all_lead, is_closed}
+use Rattle.queue_certificates.proofs.{CertifiedSets, holds, next_is, every_state, at-below, nobody_told, nothing_sent, untold, OfHart, fine, of-hart}
+use Rattle.queue_certificates.proofs.{accepted-certifies, sets}
 use Rattle.queue_certificates.proofs.AtLeaf.{AtLeaf, at-leaf}
 use Rattle.queue_checker.specs.Flaws.{hart_at, unless}
 use Rattle.queue_checker.proofs.FlawLaws.{same-unless, same-below}

@@ -1,6 +1,6 @@
 -- An instruction that goes on from a leaf doesn't stop its hart.
-use Rattle.std.proofs.Common.{ℕ, ℤ, ◌*◌, ◌/◌, ◌%◌, ◌^◌, ◌<◌, ◌≤◌, ◌≡◌, ◌==◌, ◌||◌, inl, inr, if◌then◌else◌, Bool, true, false}
-use Rattle.std.proofs.Common.{Option, Some, None, List, length, get_or, refl, sym, ◌∙◌, ap, subst, arith}
+use Rattle.std.proofs.Common.{ℕ, ℤ, ◌*◌, ◌/◌, ◌%◌, ◌^◌, ◌<◌, ◌≤◌, ◌≡◌, ◌==◌, ◌||◌, inl, inr, if◌then◌else◌, Bool, true, false, Option, Some, None, List, length}
+use Rattle.std.proofs.Common.{get_or, refl, sym, ◌∙◌, ap, subst, arith}
 use Rattle.std.specs.Prelude.{nat_lt, slice_index}
 use Rattle.std.proofs.lemmas.Bool.{and_parts, or_cases, eqb-true, eq-eqb, ltb-true, lt-ltb}
 use Rattle.std.proofs.Math.Nat.{mod-lt, zero-mod}
@@ -11,27 +11,19 @@ use Rattle.rv_decode.specs.declared.instruction.LoadOp.TheVariants as load_op
 use Rattle.rv_decode.specs.declared.instruction.StoreOp.{StoreOp}
 use Rattle.rv_decode.specs.declared.instruction.StoreOp.TheVariants as store_op
 use Rattle.rv_decode.specs.declared.instruction.Instr.{Instr}
-use Rattle.rv_decode.specs.declared.instruction.Instr.TheVariants.{Lui, Auipc, Jal, Jalr, Branch, Load, Store}
-use Rattle.rv_decode.specs.declared.instruction.Instr.TheVariants.{Immediate, Shift, Register, Fence, FenceTso, Ecall}
-use Rattle.rv_decode.specs.declared.instruction.Instr.TheVariants.{Ebreak, Amo}
-use Rattle.hart.specs.State.{HartState}
-use Rattle.hart.specs.Steps.{need_of, need_for, jump_need, access_need}
-use Rattle.hart.specs.Effects.{register_value, address, is_taken, stored, load_width, store_width}
+use Rattle.rv_decode.specs.declared.instruction.Instr.TheVariants.{Lui, Auipc, Jal, Jalr, Branch, Load, Store, Immediate, Shift, Register, Fence, FenceTso}
+use Rattle.rv_decode.specs.declared.instruction.Instr.TheVariants.{Ecall, Ebreak, Amo}
+use Rattle.hart.specs.{HartState, need_of, need_for, jump_need, access_need, register_value, address, is_taken, stored, load_width, store_width}
 use Rattle.hart.specs.declared.need.Need.{Need}
 use Rattle.hart.specs.declared.need.Need.TheVariants as need
 use Rattle.hart.proofs.Instructions.{need_at}
 use Rattle.step_machine.specs.declared.events.Entry.{Entry}
 use Rattle.step_machine.specs.History.{OpeningValue}
 use Rattle.slot_queue.specs.Queues.{Queue, IsQueue, TellsFull}
-use Rattle.queue_certificates.specs.OwnedRuns.{View, AllCounts, ActsByCounts}
-use Rattle.queue_certificates.specs.Forms.{form_value, number, is_same, InRanges, Bounds}
-use Rattle.queue_certificates.specs.States.{KnownValue, any, linear, index_for, signed_for, ends_as, has_bits, KnownState, Has, MeansAt}
-use Rattle.queue_certificates.specs.Results.{as_number, bounds}
-use Rattle.queue_certificates.specs.Steps.{anywhere, instruction_at, address_value, operand}
-use Rattle.queue_certificates.specs.Certificates.{QueueCertificate, queue_at, own_of}
-use Rattle.queue_certificates.proofs.Forms.{same-value, value-number}
-use Rattle.queue_certificates.proofs.Values.{has-plain, has-bounds, known-is}
-use Rattle.queue_certificates.proofs.Steps.{nobody_told, nothing_sent}
+use Rattle.queue_certificates.specs.{View, AllCounts, ActsByCounts, form_value, number, is_same, InRanges, Bounds, KnownValue, any, linear, index_for}
+use Rattle.queue_certificates.specs.{signed_for, ends_as, has_bits, KnownState, Has, MeansAt, as_number, bounds, anywhere, instruction_at, address_value}
+use Rattle.queue_certificates.specs.{operand, QueueCertificate, queue_at, own_of}
+use Rattle.queue_certificates.proofs.{same-value, value-number, has-plain, has-bounds, known-is, nobody_told, nothing_sent}
 use Rattle.queue_certificates.proofs.Steps as steps
 use Rattle.queue_checker.specs.declared.targets.Target.{Target}
 use Rattle.hart_safety.specs.Stops.{is_within_memory, may_be_target, jumps_to_target, is_known_call, call_in, goes_on, goes_on_at}

@@ -1,6 +1,6 @@
 -- An instruction writes no byte outside of what its leaf says that it stores.
-use Rattle.std.proofs.Common.{ℕ, ◌*◌, ◌/◌, ◌%◌, ◌<◌, ◌≤◌, ◌≡◌, ◌==◌, inl, inr, if◌then◌else◌, Bool, true, false}
-use Rattle.std.proofs.Common.{Option, Some, None, List, length, refl, sym, subst, arith}
+use Rattle.std.proofs.Common.{ℕ, ◌*◌, ◌/◌, ◌%◌, ◌<◌, ◌≤◌, ◌≡◌, ◌==◌, inl, inr, if◌then◌else◌, Bool, true, false, Option, Some, None, List, length, refl, sym}
+use Rattle.std.proofs.Common.{subst, arith}
 use Rattle.std.specs.Prelude.{nat_lt, slice_index}
 use Rattle.std.specs.List.{slice_get}
 use Rattle.std.proofs.lemmas.Bool.{ltb-true}
@@ -8,12 +8,9 @@ use Rattle.rv_decode.specs.Meaning.{meaning}
 use Rattle.rv_decode.specs.declared.instruction.StoreOp.{StoreOp}
 use Rattle.rv_decode.specs.declared.instruction.StoreOp.TheVariants as store_op
 use Rattle.rv_decode.specs.declared.instruction.Instr.{Instr}
-use Rattle.rv_decode.specs.declared.instruction.Instr.TheVariants.{Lui, Auipc, Jal, Jalr, Branch, Load, Store}
-use Rattle.rv_decode.specs.declared.instruction.Instr.TheVariants.{Immediate, Shift, Register, Fence, FenceTso, Ecall}
-use Rattle.rv_decode.specs.declared.instruction.Instr.TheVariants.{Ebreak, Amo}
-use Rattle.hart.specs.State.{HartState}
-use Rattle.hart.specs.Steps.{need_of, need_for, jump_need, access_need}
-use Rattle.hart.specs.Effects.{register_value, address, is_taken, stored, load_width, store_width, updated}
+use Rattle.rv_decode.specs.declared.instruction.Instr.TheVariants.{Lui, Auipc, Jal, Jalr, Branch, Load, Store, Immediate, Shift, Register, Fence, FenceTso}
+use Rattle.rv_decode.specs.declared.instruction.Instr.TheVariants.{Ecall, Ebreak, Amo}
+use Rattle.hart.specs.{HartState, need_of, need_for, jump_need, access_need, register_value, address, is_taken, stored, load_width, store_width, updated}
 use Rattle.hart.specs.declared.status.Stop.TheVariants as stop
 use Rattle.hart.specs.declared.need.Report.TheVariants as report
 use Rattle.hart.specs.declared.need.Need.{Need}
@@ -22,20 +19,13 @@ use Rattle.hart.proofs.Instructions.{need_at, illegal}
 use Rattle.memory.specs.Writes.{write, covers}
 use Rattle.memory.proofs.Bytes.{covers-from}
 use Rattle.step_machine.specs.declared.events.Entry.{Entry}
-use Rattle.step_machine.specs.History.{OpeningValue}
-use Rattle.step_machine.specs.Access.{access_of}
-use Rattle.step_machine.specs.Entries.{hart_of}
+use Rattle.step_machine.specs.Names.{OpeningValue, access_of, hart_of}
 use Rattle.step_machine.specs.Paths.{number_read, entry_of}
 use Rattle.store_buffers.specs.StoreBuffers.{LeavesByteBy}
 use Rattle.slot_queue.specs.Queues.{IsQueue, TellsFull}
-use Rattle.queue_certificates.specs.OwnedRuns.{View, AllCounts, ActsByCounts}
-use Rattle.queue_certificates.specs.Forms.{Bounds}
-use Rattle.queue_certificates.specs.States.{KnownValue, KnownState, Has, MeansAt}
-use Rattle.queue_certificates.specs.Results.{bounds}
-use Rattle.queue_certificates.specs.Steps.{anywhere, instruction_at, address_value, operand}
-use Rattle.queue_certificates.specs.Certificates.{QueueCertificate, queue_at, own_of}
-use Rattle.queue_certificates.proofs.Values.{has-bounds}
-use Rattle.queue_certificates.proofs.Steps.{nobody_told, nothing_sent, no-code}
+use Rattle.queue_certificates.specs.{View, AllCounts, ActsByCounts, Bounds, KnownValue, KnownState, Has, MeansAt, bounds, anywhere, instruction_at}
+use Rattle.queue_certificates.specs.{address_value, operand, QueueCertificate, queue_at, own_of}
+use Rattle.queue_certificates.proofs.{has-bounds, nobody_told, nothing_sent, no-code}
 use Rattle.queue_certificates.proofs.Steps as steps
 use Rattle.queue_checker.specs.Operands.{store_target}
 use Rattle.hart_safety.proofs.Going.{either}

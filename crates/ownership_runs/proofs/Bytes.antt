@@ -8,8 +8,7 @@ use Rattle.memory.specs.declared.writes.Write.{Write}
 use Rattle.memory.specs.Writes.{covers}
 use Rattle.queue_parties.specs.Positions.{IsInBytes}
 use Rattle.queue_layouts.specs.declared.AnyQueue.{AnyQueue}
-use Rattle.ownership_runs.specs.declared.violations.Owned.{Owned}
-use Rattle.ownership_runs.specs.Keeping.{is_in_bytes, may_fill, fills}
+use Rattle.ownership_runs.specs.{Owned, is_in_bytes, may_fill, fills}
 
 pub decides-le : (a b : ℕ) → Decides (nat_le a b) (a ≤ b)
 decides-le a b = (λ ok. leb-true a b ok, λ le. le-leb a b le)

@@ -1,6 +1,5 @@
 -- What is decided of an entry is what its queue's protocol asks, of one entry and of a run's.
-use Rattle.std.proofs.Common.{ℕ, ◌+◌, ◌-◌, ◌*◌, ◌/◌, ◌%◌, ◌^◌, ◌≤◌, ◌≡◌, ◌==◌, ◌||◌, ◌⊎◌, true, Option, Some, None, List}
-use Rattle.std.proofs.Common.{refl, sym, ap, ◌∙◌, subst, inl, inr}
+use Rattle.std.proofs.Common.{ℕ, ◌+◌, ◌-◌, ◌*◌, ◌/◌, ◌%◌, ◌^◌, ◌≤◌, ◌≡◌, ◌==◌, ◌||◌, ◌⊎◌, true, Option, Some, None, List, refl, sym, ap, ◌∙◌, subst, inl, inr}
 use Rattle.std.specs.Bool.{Decides}
 use Rattle.std.proofs.Math.Bool.{or-false}
 use Rattle.std.proofs.Math.Nat.{mod-mod}
@@ -8,20 +7,16 @@ use Rattle.std.proofs.lemmas.Bool.Decides.{Decides-and, Decides-or, Decides-not,
 use Rattle.memory.specs.declared.writes.Write.{Write}
 use Rattle.memory.specs.Writes.{write, covers}
 use Rattle.step_machine.specs.declared.events.Entry.{Entry}
-use Rattle.step_machine.specs.Access.{Access, load, store, exchange, access_of}
-use Rattle.step_machine.specs.Entries.{hart_of}
-use Rattle.queue_parties.specs.Parties.{Party, other, QueueCounts, count, KeepsEach}
-use Rattle.queue_parties.specs.Positions.{IsInBytes}
-use Rattle.slot_queue.specs.Queues.{IsOutside, index_word, least_count}
-use Rattle.slot_queue.specs.Ownership.{index, end, OwnsByte, MovesOn, KeepsAccess}
+use Rattle.step_machine.specs.Names.{Access, load, store, exchange, access_of, hart_of}
+use Rattle.queue_parties.specs.{Party, other, QueueCounts, count, KeepsEach, IsInBytes}
+use Rattle.slot_queue.specs.{IsOutside, index_word, least_count, index, end, OwnsByte, MovesOn, KeepsAccess}
 use Rattle.slots_that_tell.specs.Slots.{Slots, gap, tag_of, IsSlotByte, IsOutside as IsOffSlots}
 use Rattle.slots_that_tell.specs.Telling.{owned_end, OwnsRest, IsTagStore, MovesOn as HandsOn, TellsAccess}
 use Rattle.queue_layouts.specs.declared.AnyQueue.{AnyQueue}
 use Rattle.queue_layouts.specs.declared.AnyQueue.TheVariants.{Indexed, Tagged}
 use Rattle.queue_layouts.specs.Tagged.{slots_of}
-use Rattle.ownership_runs.specs.declared.violations.Owned.{Owned}
-use Rattle.ownership_runs.specs.Protocols.{party_for, access_counts, entry_counts, KeepsOne, Keeps, HasSlot}
-use Rattle.ownership_runs.specs.Keeping.{is_outside, is_to_fill, owned_by, is_tag_store, moves_on, keeps_store, keeps_access, keeps_entry}
+use Rattle.ownership_runs.specs.{Owned, party_for, access_counts, entry_counts, KeepsOne, Keeps, HasSlot, is_outside, is_to_fill, owned_by, is_tag_store}
+use Rattle.ownership_runs.specs.{moves_on, keeps_store, keeps_access, keeps_entry}
 use Rattle.ownership_runs.proofs.Bytes.{decides-le, decides-bytes, decides-bytes_of}
 use Rattle.ownership_runs.proofs.Slots.{IsByteOfOwned, slot-there, decides-owned}
 

@@ -1,6 +1,5 @@
 -- In a run that keeps the protocol, a loss is of a position that the receiver has handed back.
-use Rattle.std.proofs.Common.{ℕ, ◌+◌, ◌-◌, ◌<◌, ◌≤◌, ◌≡◌, ◌==◌, ◌⊎◌, inl, inr, None, Some, List, [], ◌∷◌, ◌++◌, length, take}
-use Rattle.std.proofs.Common.{refl, sym, ap, ◌∙◌, subst, arith}
+use Rattle.std.proofs.Common.{ℕ, ◌+◌, ◌-◌, ◌<◌, ◌≤◌, ◌≡◌, ◌==◌, ◌⊎◌, inl, inr, None, Some, List, [], ◌∷◌, ◌++◌, length, take, refl, sym, ap, ◌∙◌, subst, arith}
 use Rattle.std.specs.Prelude.{if◌then◌else◌, unwrap_or}
 use Rattle.std.specs.Int.{byte_at}
 use Rattle.std.proofs.lemmas.Bool.{cases_lt, eq-eqb}
@@ -9,32 +8,25 @@ use Rattle.memory.specs.Writes.{write, newest_of}
 use Rattle.memory.proofs.Newest.{newest_of-append}
 use Rattle.memory.proofs.Joined.{byte_of_joined-any}
 use Rattle.step_machine.specs.declared.events.Entry.{Entry}
-use Rattle.step_machine.specs.History.{OpeningValue, history_of}
-use Rattle.step_machine.specs.Access.{Access, load, store, exchange, access_of}
-use Rattle.step_machine.specs.Entries.{hart_of, stored_by, landed_by, written_by, own_stores, lands, pending, read, read_byte, memory_byte}
-use Rattle.step_machine.specs.Legal.{AllowedBy, Allowed, Legal}
-use Rattle.step_machine.proofs.Appended.{LegalAfter-front, LegalAfter-back}
+use Rattle.step_machine.specs.Names.{OpeningValue, history_of, Access, load, store, exchange, access_of, hart_of, stored_by, landed_by, written_by, own_stores}
+use Rattle.step_machine.specs.Names.{lands, pending, read, read_byte, memory_byte, AllowedBy, Allowed, Legal}
+use Rattle.step_machine.proofs.{LegalAfter-front, LegalAfter-back, memory_byte-other, memory_byte-write}
 use Rattle.step_machine.proofs.Balanced.{balanced}
-use Rattle.step_machine.proofs.Stays.{memory_byte-other, memory_byte-write}
 use Rattle.store_buffers.specs.StoreBuffers.{LeavesByte, LeavesByteBy, LeavesByteAt}
 use Rattle.store_buffers.proofs.Effects.{read-below, same-memory, pending-quiet, pending-more}
 use Rattle.queue_parties.specs.Parties.{the_sender, the_receiver, QueueCounts}
 use Rattle.queue_parties.proofs.Parties.{counts-append, keeps-at}
-use Rattle.slot_queue.specs.Queues.{Queue, IsQueue}
-use Rattle.slot_queue.specs.Ownership.{counts_next, counts_after, after_access, KeepsEntry, KeepsAccess}
-use Rattle.slot_queue.specs.Laws.{FollowsOwnership}
+use Rattle.slot_queue.specs.{Queue, IsQueue, counts_next, counts_after, after_access, KeepsEntry, KeepsAccess, FollowsOwnership}
+use Rattle.slot_queue.proofs.{handed, loaded-count}
 use Rattle.slot_queue.proofs.Publication.{follows-front}
-use Rattle.slot_queue.proofs.HandingOver.{handed}
-use Rattle.slot_queue.proofs.Owned.{loaded-count, moves-count}
+use Rattle.slot_queue.proofs.Owned.{moves-count}
 use Rattle.slots_that_tell.specs.Laws.{FollowsTelling}
 use Rattle.slots_that_tell.proofs.Publication.{follows-front as told-front}
 use Rattle.slots_that_tell.proofs.HandingOver.{handed as told-handed}
 use Rattle.queue_layouts.specs.declared.AnyQueue.{AnyQueue}
 use Rattle.queue_layouts.specs.declared.AnyQueue.TheVariants.{Indexed, Tagged}
 use Rattle.queue_layouts.specs.Tagged.{slots_of}
-use Rattle.ownership_runs.specs.declared.losses.Loss.{Loss}
-use Rattle.ownership_runs.specs.Protocols.{Follows, party_for, run_counts}
-use Rattle.ownership_runs.specs.Losses.{Loads, WasSent, IsRecordByte, IsLossAt}
+use Rattle.ownership_runs.specs.{Loss, Follows, party_for, run_counts, Loads, WasSent, IsRecordByte, IsLossAt}
 use Rattle.ownership_runs.proofs.Sending.{hart-is}
 
 -- what is loaded is what the hart read

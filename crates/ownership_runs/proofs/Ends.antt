@@ -1,29 +1,21 @@
 -- Where none of a run's events can go without its violation, the last one adds the violation.
-use Rattle.std.proofs.Common.{ℕ, suc, ◌+◌, ◌<◌, ◌≡◌, ◌⊎◌, Bool, true, false, List, [], ◌∷◌, ◌++◌, length, drop, Some, None, Ok, Err}
-use Rattle.std.proofs.Common.{inl, inr, refl, sym, ap, ◌∙◌, subst, arith}
+use Rattle.std.proofs.Common.{ℕ, suc, ◌+◌, ◌<◌, ◌≡◌, ◌⊎◌, Bool, true, false, List, [], ◌∷◌, ◌++◌, length, drop, Some, None, Ok, Err, inl, inr, refl, sym, ap}
+use Rattle.std.proofs.Common.{◌∙◌, subst, arith}
 use Rattle.std.specs.Prelude.{Option, if◌then◌else◌}
 use Rattle.std.proofs.lemmas.List.{length-append}
 use Rattle.std.proofs.Math.Seq.{take-append_seam}
 use Rattle.step_machine.specs.declared.events.Event.{Event}
 use Rattle.step_machine.specs.declared.events.Entry.{Entry}
 use Rattle.step_machine.specs.declared.events.Outcome.TheVariants as outcome
-use Rattle.step_machine.specs.History.{OpeningValue, History, at_opening}
-use Rattle.step_machine.specs.Entries.{hart_of}
-use Rattle.step_machine.specs.Runs.{Adds, Idles, Run}
+use Rattle.step_machine.specs.Names.{OpeningValue, History, at_opening, hart_of, Adds, Idles, Run}
 use Rattle.step_machine.proofs.Running.{shape_of, hart_follows, opening_kept}
 use Rattle.queue_parties.specs.Parties.{QueueCounts}
 use Rattle.queue_layouts.specs.declared.AnyQueue.{AnyQueue}
 use Rattle.shrink.specs.Shrinking.{without}
 use Rattle.drawn_runs.proofs.Bursts.{LastHappens, last_happens}
 use Rattle.judged_runs.specs.Telling.{IsFlawTold}
-use Rattle.ownership_runs.specs.declared.violations.Violation.{Violation}
-use Rattle.ownership_runs.specs.declared.deciding.RunNotes.{RunNotes}
-use Rattle.ownership_runs.specs.Protocols.{entry_counts, run_counts}
-use Rattle.ownership_runs.specs.Keeping.{keeps_entry}
-use Rattle.ownership_runs.specs.Violations.{violation_at, first_ownership_violation}
-use Rattle.ownership_runs.specs.Runs.{HasKeptRun, HasBrokenRun, IsOfOneKind}
-use Rattle.ownership_runs.specs.Ends.{EndsInViolation}
-use Rattle.ownership_runs.specs.inner.Noting.{nothing_noted, noted_as, noted_more, noted_all}
+use Rattle.ownership_runs.specs.{Violation, RunNotes, entry_counts, run_counts, keeps_entry, violation_at, first_ownership_violation, HasKeptRun, HasBrokenRun}
+use Rattle.ownership_runs.specs.{IsOfOneKind, EndsInViolation, nothing_noted, noted_as, noted_more, noted_all}
 use Rattle.ownership_runs.proofs.Noting.{noted-append, first-noted, all-noted, nothing-more}
 
 -- ---- a list and its last event

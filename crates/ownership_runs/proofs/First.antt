@@ -5,10 +5,8 @@ use Rattle.step_machine.specs.declared.events.Entry.{Entry}
 use Rattle.queue_parties.specs.Parties.{QueueCounts, KeepsEach}
 use Rattle.queue_parties.proofs.Parties.{keeps-at}
 use Rattle.queue_layouts.specs.declared.AnyQueue.{AnyQueue}
-use Rattle.ownership_runs.specs.declared.violations.Violation.{Violation}
-use Rattle.ownership_runs.specs.Protocols.{KeepsOne, Keeps, HasSlot, entry_counts, run_counts}
-use Rattle.ownership_runs.specs.Keeping.{keeps_entry}
-use Rattle.ownership_runs.specs.Violations.{violation_at, violation_from, first_ownership_violation, IsFirstViolation}
+use Rattle.ownership_runs.specs.{Violation, KeepsOne, Keeps, HasSlot, entry_counts, run_counts, keeps_entry, violation_at, violation_from}
+use Rattle.ownership_runs.specs.{first_ownership_violation, IsFirstViolation}
 use Rattle.ownership_runs.proofs.Decisions.{decides-entry, keeps-each, each-keeps}
 
 module _ (q : AnyQueue) (some : HasSlot q) where

@@ -4,20 +4,15 @@ use Rattle.std.specs.Option.{option_map}
 use Rattle.std.proofs.lemmas.Bool.{false_from_ne_true}
 use Rattle.memory.specs.declared.writes.Write.{Write}
 use Rattle.step_machine.specs.declared.events.Entry.{Entry}
-use Rattle.step_machine.specs.Access.{access_of}
-use Rattle.step_machine.specs.Entries.{hart_of}
+use Rattle.step_machine.specs.Names.{access_of, hart_of}
 use Rattle.queue_parties.specs.Parties.{Party, the_sender, the_receiver, QueueCounts, count, known, with_known}
-use Rattle.slot_queue.specs.Queues.{index_word, least_count}
-use Rattle.slot_queue.specs.Ownership.{end}
+use Rattle.slot_queue.specs.{index_word, least_count, end}
 use Rattle.slots_that_tell.specs.Telling.{owned_end, IsTagStore}
 use Rattle.queue_layouts.specs.declared.AnyQueue.{AnyQueue}
 use Rattle.queue_layouts.specs.declared.AnyQueue.TheVariants.{Indexed, Tagged}
 use Rattle.queue_layouts.specs.Tagged.{slots_of}
-use Rattle.ownership_runs.specs.declared.violations.Owned.{Owned}
-use Rattle.ownership_runs.specs.declared.violations.Violation.{Violation}
-use Rattle.ownership_runs.specs.Protocols.{party_for, end_in, run_counts, HasSlot}
-use Rattle.ownership_runs.specs.Keeping.{owned_by, owning_all, slots_in, is_described, keeps_store}
-use Rattle.ownership_runs.specs.Violations.{IsForeign, counts_before, first_ownership_violation, stored_of, violation_by}
+use Rattle.ownership_runs.specs.{Owned, Violation, party_for, end_in, run_counts, HasSlot, owned_by, owning_all, slots_in, is_described, keeps_store, IsForeign}
+use Rattle.ownership_runs.specs.{counts_before, first_ownership_violation, stored_of, violation_by}
 use Rattle.ownership_runs.proofs.Decisions.{MayStore, Moves, Owns, decides-store}
 use Rattle.ownership_runs.proofs.First.{is-first}
 

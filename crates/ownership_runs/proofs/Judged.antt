@@ -2,20 +2,15 @@
 use Rattle.std.proofs.Common.{ℕ, ◌≡◌, ◌+◌, min, List, [], ◌∷◌, ◌++◌, Some, sym, ap, subst, ◌∙◌, arith}
 use Rattle.step_machine.specs.declared.events.Event.{Event}
 use Rattle.step_machine.specs.declared.events.Entry.{Entry}
-use Rattle.step_machine.specs.History.{OpeningValue, History, history_of, at_opening}
-use Rattle.step_machine.specs.Legal.{Legal, WellFormed}
-use Rattle.step_machine.specs.Runs.{Run}
+use Rattle.step_machine.specs.Names.{OpeningValue, History, history_of, at_opening, Legal, WellFormed, Run}
 use Rattle.step_machine.proofs.Running.{kept-at_opening, kept-run as well_formed, opening_kept, run-one}
 use Rattle.queue_parties.specs.Parties.{QueueCounts}
 use Rattle.queue_layouts.specs.declared.AnyQueue.{AnyQueue}
 use Rattle.queue_layouts.specs.declared.AnyQueue.TheVariants.{Indexed, Tagged}
 use Rattle.judged_runs.specs.Telling.{MOST, summed}
 use Rattle.judged_runs.proofs.Histories.{capped_both, runs_both, runs_one, total_both}
-use Rattle.ownership_runs.specs.declared.violations.Violation.{Violation}
-use Rattle.ownership_runs.specs.declared.runs.Moved.{Moved}
-use Rattle.ownership_runs.specs.Protocols.{Keeps, HasSlot, IsAnyQueue, Rests, Follows}
-use Rattle.ownership_runs.specs.Violations.{first_ownership_violation}
-use Rattle.ownership_runs.specs.Runs.{HasKeptRun, BreaksNothing, HasBrokenRun, published_in, taken_in, HasMoved, AreMovesOf}
+use Rattle.ownership_runs.specs.{Violation, Moved, Keeps, HasSlot, IsAnyQueue, Rests, Follows, first_ownership_violation, HasKeptRun, BreaksNothing}
+use Rattle.ownership_runs.specs.{HasBrokenRun, published_in, taken_in, HasMoved, AreMovesOf}
 use Rattle.ownership_runs.proofs.First.{kept-all, none-first}
 
 follows : (B : ℕ) (q : AnyQueue) (start : QueueCounts) (o : OpeningValue) (es : List Entry) → IsAnyQueue q → Legal B (history_of o es) → Rests q o [] start

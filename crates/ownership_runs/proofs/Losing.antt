@@ -1,21 +1,16 @@
 -- The first loss of a run: there is one exactly where an entry is one.
-use Rattle.std.proofs.Common.{ℕ, zero, suc, ◌+◌, ◌-◌, ◌<◌, ◌≡◌, ◌≢◌, ◌==◌, inl, inr, Bool, true, false, Option, None, Some, List, [], ◌∷◌, ◌++◌, length}
-use Rattle.std.proofs.Common.{refl, sym, ap, ◌∙◌, subst, arith, append-nil, append_assoc}
+use Rattle.std.proofs.Common.{ℕ, zero, suc, ◌+◌, ◌-◌, ◌<◌, ◌≡◌, ◌≢◌, ◌==◌, inl, inr, Bool, true, false, Option, None, Some, List, [], ◌∷◌, ◌++◌, length, refl}
+use Rattle.std.proofs.Common.{sym, ap, ◌∙◌, subst, arith, append-nil, append_assoc}
 use Rattle.std.specs.Prelude.{if◌then◌else◌}
 use Rattle.std.specs.Int.{byte_at}
 use Rattle.std.proofs.Math.Nat.{add-sub_cancel_left}
 use Rattle.std.proofs.lemmas.Bool.{cases_lt, eq-eqb, ne_eqb}
 use Rattle.step_machine.specs.declared.events.Entry.{Entry}
-use Rattle.step_machine.specs.History.{OpeningValue}
-use Rattle.step_machine.specs.Access.{Access, load, exchange, access_of}
-use Rattle.step_machine.specs.Entries.{hart_of}
+use Rattle.step_machine.specs.Names.{OpeningValue, Access, load, exchange, access_of, hart_of}
 use Rattle.queue_parties.specs.Parties.{Party, the_receiver, QueueCounts}
 use Rattle.queue_layouts.specs.declared.AnyQueue.{AnyQueue}
-use Rattle.ownership_runs.specs.declared.losses.Loss.{Loss}
-use Rattle.ownership_runs.specs.Protocols.{HasSlot, party_for, entry_counts, run_counts}
-use Rattle.ownership_runs.specs.Losses.{Sent, nothing_sent, sent_after, sent_from, or_else, if_differs, if_told, byte_lost, first_byte, loss_by, loss_at}
-use Rattle.ownership_runs.specs.Losses.{loss_from}
-use Rattle.ownership_runs.specs.Losses.{position_told, first_loss, Loads, IsLossAt, IsLoss, IsFirstLoss}
+use Rattle.ownership_runs.specs.{Loss, HasSlot, party_for, entry_counts, run_counts, Sent, nothing_sent, sent_after, sent_from, or_else, if_differs, if_told}
+use Rattle.ownership_runs.specs.{byte_lost, first_byte, loss_by, loss_at, loss_from, position_told, first_loss, Loads, IsLossAt, IsLoss, IsFirstLoss}
 use Rattle.ownership_runs.proofs.Sending.{was-sent, still-sent}
 use Rattle.ownership_runs.proofs.Told.{last-told, told-last}
 

@@ -6,16 +6,11 @@ use Rattle.step_machine.specs.declared.events.Entry.{Entry}
 use Rattle.step_machine.specs.declared.events.Event.{Event}
 use Rattle.step_machine.specs.declared.events.Outcome.{Outcome}
 use Rattle.step_machine.specs.declared.events.Outcome.TheVariants as outcome
-use Rattle.step_machine.specs.History.{History}
-use Rattle.step_machine.specs.Runs.{Happens}
+use Rattle.step_machine.specs.Names.{History, Happens}
 use Rattle.queue_parties.specs.Parties.{QueueCounts}
 use Rattle.queue_layouts.specs.declared.AnyQueue.{AnyQueue}
-use Rattle.ownership_runs.specs.declared.violations.Violation.{Violation}
-use Rattle.ownership_runs.specs.declared.deciding.RunNotes.{RunNotes}
-use Rattle.ownership_runs.specs.Protocols.{entry_counts, run_counts}
-use Rattle.ownership_runs.specs.Keeping.{keeps_entry}
-use Rattle.ownership_runs.specs.Violations.{violation_at, judged_entry, violation_from, first_ownership_violation}
-use Rattle.ownership_runs.specs.inner.Noting.{nothing_noted, noted_as, noted_more, noted_all, noted_after}
+use Rattle.ownership_runs.specs.{Violation, RunNotes, entry_counts, run_counts, keeps_entry, violation_at, judged_entry, violation_from}
+use Rattle.ownership_runs.specs.{first_ownership_violation, nothing_noted, noted_as, noted_more, noted_all, noted_after}
 
 module _ (q : AnyQueue) where
   pub noted-append : (notes : RunNotes) (xs ys : List Entry) → noted_all q notes (xs ++ ys) ≡ noted_all q (noted_all q notes xs) ys

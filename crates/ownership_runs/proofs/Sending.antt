@@ -1,14 +1,12 @@
 -- What was sent and is still there: the sender's byte of a position, which the receiver has left since.
-use Rattle.std.proofs.Common.{ℕ, ◌<◌, ◌≤◌, ◌≡◌, ◌==◌, ◌&&◌, ◌⊎◌, inl, inr, Bool, true, false, Option, None, Some, List, [], ◌∷◌, ◌++◌}
-use Rattle.std.proofs.Common.{refl, sym, ap, ◌∙◌, subst, arith, append-nil, append_assoc}
+use Rattle.std.proofs.Common.{ℕ, ◌<◌, ◌≤◌, ◌≡◌, ◌==◌, ◌&&◌, ◌⊎◌, inl, inr, Bool, true, false, Option, None, Some, List, [], ◌∷◌, ◌++◌, refl, sym, ap, ◌∙◌}
+use Rattle.std.proofs.Common.{subst, arith, append-nil, append_assoc}
 use Rattle.std.specs.Prelude.{nat_le, nat_lt, not, if◌then◌else◌}
 use Rattle.std.proofs.lemmas.Bool.{eq-eqb, eqb-true, and_parts, and_from, and_right, leb-true, le-leb, lt-leb}
 use Rattle.std.proofs.lemmas.Bool.Decides.{Decides-ltb}
 use Rattle.memory.specs.Writes.{write, covers}
 use Rattle.step_machine.specs.declared.events.Entry.{Entry}
-use Rattle.step_machine.specs.History.{OpeningValue}
-use Rattle.step_machine.specs.Access.{Access, store, exchange, access_of}
-use Rattle.step_machine.specs.Entries.{hart_of, read_byte}
+use Rattle.step_machine.specs.Names.{OpeningValue, Access, store, exchange, access_of, hart_of, read_byte}
 use Rattle.store_buffers.specs.StoreBuffers.{LeavesByteBy, LeavesByteAt}
 use Rattle.queue_parties.specs.Parties.{Party, the_sender, the_receiver, party_among, hart_among, QueueCounts}
 use Rattle.queue_parties.proofs.Parties.{Whose, mine, theirs, whose, Grows, counts-append}
@@ -17,8 +15,7 @@ use Rattle.slots_that_tell.proofs.Owned.{grows-entry as told-grows}
 use Rattle.queue_layouts.specs.declared.AnyQueue.{AnyQueue}
 use Rattle.queue_layouts.specs.declared.AnyQueue.TheVariants.{Indexed, Tagged}
 use Rattle.queue_layouts.specs.Tagged.{slots_of}
-use Rattle.ownership_runs.specs.Protocols.{party_for, entry_counts, run_counts}
-use Rattle.ownership_runs.specs.Losses.{Sent, nothing_sent, stores_over, sent_by, sent_after, sent_from, WasSent}
+use Rattle.ownership_runs.specs.{party_for, entry_counts, run_counts, Sent, nothing_sent, stores_over, sent_by, sent_after, sent_from, WasSent}
 
 pub grows : (q : AnyQueue) (c : QueueCounts) (e : Entry) → Grows c (entry_counts q c e)
 grows (Indexed q) c e = grows-entry q c e

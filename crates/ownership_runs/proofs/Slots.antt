@@ -8,8 +8,7 @@ use Rattle.std.proofs.lemmas.Bool.{cases_lt, and_parts}
 use Rattle.std.proofs.lemmas.Bool.Decides.{Decides-and, Decides-ltb}
 use Rattle.queue_parties.specs.Positions.{IsInBytes, slot_from}
 use Rattle.queue_parties.proofs.Positions.{ahead, ahead-mod, ahead-stands, in_slot, slot-within}
-use Rattle.ownership_runs.specs.declared.violations.Owned.{Owned}
-use Rattle.ownership_runs.specs.Keeping.{is_in_bytes, position_from, is_of_owned}
+use Rattle.ownership_runs.specs.{Owned, is_in_bytes, position_from, is_of_owned}
 use Rattle.ownership_runs.proofs.Bytes.{decides-bytes}
 
 -- a product has room only where its second factor isn't 0

@@ -4,16 +4,14 @@ use Rattle.std.specs.Prelude.{nat_lt, not, if◌then◌else◌}
 use Rattle.std.proofs.Math.Nat.{mod-lt}
 use Rattle.std.proofs.lemmas.Bool.{cases_lt, and_parts}
 use Rattle.std.proofs.lemmas.Bool.Decides.{Decides-and, Decides-not, Decides-ltb}
-use Rattle.queue_parties.specs.Parties.{QueueCounts}
-use Rattle.queue_parties.specs.Positions.{IsInBytes, slot_from}
+use Rattle.queue_parties.specs.{QueueCounts, IsInBytes, slot_from}
 use Rattle.queue_parties.proofs.Positions.{ahead, far, slot-within}
 use Rattle.slots_that_tell.specs.Slots.{tag_of}
 use Rattle.queue_layouts.specs.declared.AnyQueue.{AnyQueue}
 use Rattle.queue_layouts.specs.declared.AnyQueue.TheVariants.{Indexed, Tagged}
 use Rattle.queue_layouts.specs.Tagged.{slots_of}
-use Rattle.ownership_runs.specs.Protocols.{HasSlot}
-use Rattle.ownership_runs.specs.Keeping.{is_in_bytes, is_tag_byte, slots_in, position_from}
-use Rattle.ownership_runs.specs.Losses.{slots_from, slot_width, slot_number, is_record_byte, last_of_slot, position_told, IsRecordByte}
+use Rattle.ownership_runs.specs.{HasSlot, is_in_bytes, is_tag_byte, slots_in, position_from, slots_from, slot_width, slot_number, is_record_byte, last_of_slot}
+use Rattle.ownership_runs.specs.{position_told, IsRecordByte}
 use Rattle.ownership_runs.proofs.Bytes.{decides-bytes}
 use Rattle.ownership_runs.proofs.Slots.{position-there, position-least}
 use Rattle.ownership_runs.proofs.Decisions.{tag-there}

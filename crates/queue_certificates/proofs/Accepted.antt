@@ -1,6 +1,6 @@
 -- What an accepted certificate was accepted for: each of its queues is one, and opens rightly, and so does each of its harts.
-use Rattle.std.proofs.Common.{arith, ℕ, ◌-◌, ◌+◌, ◌*◌, ◌%◌, ◌^◌, ◌<◌, ◌≤◌, ◌≡◌, ◌==◌, ◌&&◌, ◌||◌, ◌⊎◌, inl, inr, not, Bool, true, false, Option, Some}
-use Rattle.std.proofs.Common.{None, List, [], ◌∷◌, length, get_or, refl, sym, ◌∙◌, ap, subst}
+use Rattle.std.proofs.Common.{arith, ℕ, ◌-◌, ◌+◌, ◌*◌, ◌%◌, ◌^◌, ◌<◌, ◌≤◌, ◌≡◌, ◌==◌, ◌&&◌, ◌||◌, ◌⊎◌, inl, inr, not, Bool, true, false, Option, Some, None}
+use Rattle.std.proofs.Common.{List, [], ◌∷◌, length, get_or, refl, sym, ◌∙◌, ap, subst}
 use Rattle.std.specs.Prelude.{nat_lt, nat_le, slice_index, slice_set, All}
 use Rattle.std.specs.List.{slice_get, list_all}
 use Rattle.std.proofs.lemmas.Bool.{and_parts, or_cases, eqb-true, eqb-false, ltb-true, leb-true, not-true, cases_lt}
@@ -9,26 +9,15 @@ use Rattle.std.proofs.lemmas.List.{get_or_past}
 use Rattle.std.proofs.lemmas.List.Elements.{All-nil, All-from_get_or}
 use Rattle.hart.specs.State.{HartState}
 use Rattle.step_machine.specs.declared.events.Entry.{Entry}
-use Rattle.step_machine.specs.History.{HartOpeningValue, OpeningValue}
-use Rattle.step_machine.specs.Entries.{opening_byte}
-use Rattle.step_machine.specs.Paths.{opens_as}
+use Rattle.step_machine.specs.Names.{HartOpeningValue, OpeningValue, opening_byte, opens_as}
 use Rattle.store_buffers.specs.StoreBuffers.{memory_number}
 use Rattle.queue_parties.specs.Parties.{Party, the_sender, the_receiver, all_at, count}
-use Rattle.slot_queue.specs.Queues.{Queue, IsQueue, TellsFull, KeepsOff, index_word}
-use Rattle.slot_queue.specs.Ownership.{hart, party_of, end}
-use Rattle.queue_certificates.specs.OwnedRuns.{View, AllCounts, ActsByCounts}
-use Rattle.queue_certificates.specs.RecordFields.{MeetsField}
-use Rattle.queue_certificates.specs.Forms.{form_value, InRanges}
-use Rattle.queue_certificates.specs.States.{KnownValue, any, linear, index_for, signed_for, ends_as, has_bits, no_share, own_at, own_number}
-use Rattle.queue_certificates.specs.States.{KnownState, Has, signed_word, HasShare, MeansAt}
-use Rattle.queue_certificates.specs.Steps.{all_below}
-use Rattle.queue_certificates.specs.Fields.{is_field}
-use Rattle.queue_certificates.specs.Filled.{no_field}
-use Rattle.queue_certificates.specs.Certificates.{QueueCertificate, queue_at, start_at, part_of, own_of, state_at, no_part, no_hart, Opens, fields_at}
-use Rattle.queue_certificates.specs.Certificates.{HasFields, MeetsFields, keeps_all_fields, opens_unfilled, is_closed, is_value, are_in_ranges}
-use Rattle.queue_certificates.specs.Certificates.{opens_share, opens_in, are_apart, is_queue, opens_empty, accepts_hart, accepts, tagged_at}
-use Rattle.queue_certificates.specs.Certificates.{tagged_start, OpensTagged, opens_all_told, opens_free}
-use Rattle.queue_certificates.specs.Tags.{is_tagged}
+use Rattle.slot_queue.specs.{Queue, IsQueue, TellsFull, KeepsOff, index_word, hart, party_of, end}
+use Rattle.queue_certificates.specs.{View, AllCounts, ActsByCounts, MeetsField, form_value, InRanges, KnownValue, any, linear, index_for, signed_for, ends_as}
+use Rattle.queue_certificates.specs.{has_bits, no_share, own_at, own_number, KnownState, Has, signed_word, HasShare, MeansAt, all_below, is_field, no_field}
+use Rattle.queue_certificates.specs.{QueueCertificate, queue_at, start_at, part_of, own_of, state_at, no_part, no_hart, Opens, fields_at, HasFields}
+use Rattle.queue_certificates.specs.{MeetsFields, keeps_all_fields, opens_unfilled, is_closed, is_value, are_in_ranges, opens_share, opens_in, are_apart}
+use Rattle.queue_certificates.specs.{is_queue, opens_empty, accepts_hart, accepts, tagged_at, tagged_start, OpensTagged, opens_all_told, opens_free, is_tagged}
 use Rattle.queue_certificates.proofs.States.{at-below}
 use Rattle.queue_certificates.proofs.Accesses.{hart-party}
 use Rattle.queue_certificates.proofs.TagShares.{tagged-fine, opens-free}

@@ -1,19 +1,15 @@
 -- What is found by going through queues and words, and what single accesses make of a hart's shares.
-use Rattle.std.proofs.Common.{ℕ, zero, suc, ◌+◌, ◌-◌, ◌%◌, ◌<◌, ◌≤◌, ◌≡◌, ◌==◌, ◌&&◌, ◌||◌, inl, inr}
-use Rattle.std.proofs.Common.{if◌then◌else◌, not, Bool, true, false, Option, Some, None, List, ◌∷◌, refl, sym, ◌∙◌, ap}
-use Rattle.std.proofs.Common.{subst, arith}
+use Rattle.std.proofs.Common.{ℕ, zero, suc, ◌+◌, ◌-◌, ◌%◌, ◌<◌, ◌≤◌, ◌≡◌, ◌==◌, ◌&&◌, ◌||◌, inl, inr, if◌then◌else◌, not, Bool, true, false, Option, Some, None}
+use Rattle.std.proofs.Common.{List, ◌∷◌, refl, sym, ◌∙◌, ap, subst, arith}
 use Rattle.std.specs.Prelude.{nat_lt}
 use Rattle.std.proofs.lemmas.Bool.{and_parts, or_cases, and_left, and_right, eqb-true, ltb-true, ne_eqb, eq-eqb, not-true}
 use Rattle.step_machine.specs.Access.{load}
-use Rattle.slot_queue.specs.Queues.{Queue, IsQueue, TellsFull, index_word, least_count}
+use Rattle.slot_queue.specs.{Queue, IsQueue, TellsFull, index_word, least_count, hart, party_of, index, end, after_load, after_access}
 use Rattle.queue_parties.specs.Parties.{Party, the_sender, the_receiver, other, QueueCounts, count, known, with_known}
-use Rattle.slot_queue.specs.Ownership.{hart, party_of, index, end, after_load, after_access}
 use Rattle.queue_parties.proofs.Parties.{harts-apart, Whose, mine, theirs, whose, two, count-set-known}
-use Rattle.queue_certificates.specs.OwnedRuns.{View, limit, SeesIndices, ReadsFrom}
+use Rattle.queue_certificates.specs.{View, limit, SeesIndices, ReadsFrom, form_value, number, plus, lifted, first_variable, Bounds, Share, HasShare, last_below}
+use Rattle.queue_certificates.specs.{is_just, is_whole, misses, behind, owned_then, looked_share}
 use Rattle.queue_certificates.proofs.OwnedAccesses.{looked}
-use Rattle.queue_certificates.specs.Forms.{form_value, number, plus, lifted, first_variable, Bounds}
-use Rattle.queue_certificates.specs.States.{Share, HasShare}
-use Rattle.queue_certificates.specs.Steps.{last_below, is_just, is_whole, misses, behind, owned_then, looked_share}
 use Rattle.queue_certificates.proofs.Forms.{round-up, value-plus, value-lifted, value-number, value-first}
 use Rattle.queue_certificates.proofs.Values.{word-of-remainder}
 

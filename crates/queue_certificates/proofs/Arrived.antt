@@ -1,12 +1,9 @@
 -- Each byte of a slot that the receiver owns waited or was sent, and a load that tells the receiver of a position makes it own that.
-use Rattle.std.proofs.Common.{ℕ, ◌+◌, ◌<◌, ◌≤◌, ◌≡◌, ◌⊎◌, inl, inr, Bool, true, false, if◌then◌else◌, List, [], ◌∷◌}
-use Rattle.std.proofs.Common.{◌++◌, Some, refl, sym, ◌∙◌, ap, subst, arith}
+use Rattle.std.proofs.Common.{ℕ, ◌+◌, ◌<◌, ◌≤◌, ◌≡◌, ◌⊎◌, inl, inr, Bool, true, false, if◌then◌else◌, List, [], ◌∷◌, ◌++◌, Some, refl, sym, ◌∙◌, ap, subst}
+use Rattle.std.proofs.Common.{arith}
 use Rattle.std.proofs.lemmas.Bool.{cases_lt}
 use Rattle.step_machine.specs.declared.events.Entry.{Entry}
-use Rattle.step_machine.specs.History.{OpeningValue}
-use Rattle.step_machine.specs.Access.{load, land, access_of}
-use Rattle.step_machine.specs.Entries.{hart_of, is_land, pending, read_byte, read}
-use Rattle.step_machine.specs.Legal.{AllowedBy}
+use Rattle.step_machine.specs.Names.{OpeningValue, load, land, access_of, hart_of, is_land, pending, read_byte, read, AllowedBy}
 use Rattle.step_machine.proofs.Appended.{LegalAfter-back}
 use Rattle.memory.proofs.Bytes.{joined-same}
 use Rattle.store_buffers.proofs.OwnEntries.{land_is}
@@ -16,8 +13,7 @@ use Rattle.queue_parties.proofs.Records.{passed}
 use Rattle.certified_runs.specs.Views.{byte_then}
 use Rattle.certified_runs.proofs.EveryRun.{own_act}
 use Rattle.slots_that_tell.specs.Slots.{Slots, tag_of, IsSlotByte}
-use Rattle.slots_that_tell.specs.Telling.{teller_of, owned_end, told_access, after_entry, told_counts}
-use Rattle.slots_that_tell.specs.Laws.{FollowsTelling}
+use Rattle.slots_that_tell.specs.{teller_of, owned_end, told_access, after_entry, told_counts, FollowsTelling}
 use Rattle.slots_that_tell.proofs.HandingOver.{handed, waited}
 use Rattle.slots_that_tell.proofs.Owned.{grows-entry}
 use Rattle.slots_that_tell.proofs.Runs.{window}

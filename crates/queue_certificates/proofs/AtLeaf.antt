@@ -2,11 +2,8 @@
 use Rattle.std.proofs.Common.{ℕ, ◌+◌, ◌≡◌, inl, inr, Bool, true, List, length, get_or}
 use Rattle.std.proofs.lemmas.Bool.{and_parts, cases_lt}
 use Rattle.hart.specs.State.{HartState}
-use Rattle.queue_certificates.specs.OwnedRuns.{View, AllCounts}
-use Rattle.queue_certificates.specs.Forms.{Form}
-use Rattle.queue_certificates.specs.States.{KnownState, MeansAt}
+use Rattle.queue_certificates.specs.{View, AllCounts, Form, KnownState, MeansAt, QueueCertificate, queue_at, tagged_at, own_of, SharesTold}
 use Rattle.queue_certificates.specs.Cases.{Arrow, Cases, leaf, split, with_low, with_high, each_leaf}
-use Rattle.queue_certificates.specs.Certificates.{QueueCertificate, queue_at, tagged_at, own_of, SharesTold}
 use Rattle.queue_certificates.proofs.Forms.{less_at}
 use Rattle.queue_certificates.proofs.States.{means-low, means-high, exceeds}
 use Rattle.queue_certificates.proofs.TagShares.{told-low, told-high}

@@ -1,14 +1,13 @@
 -- What forms come to at most, and between which words they lie.
-use Rattle.std.proofs.Common.{ℕ, ◌+◌, ◌-◌, ◌*◌, ◌%◌, ◌^◌, ◌<◌, ◌≤◌, ◌≡◌, ◌==◌, ◌&&◌, inl, inr, if◌then◌else◌, Bool, true, false}
-use Rattle.std.proofs.Common.{Option, Some, None, List, [], ◌∷◌, refl, sym, ◌∙◌, ap, subst, arith}
+use Rattle.std.proofs.Common.{ℕ, ◌+◌, ◌-◌, ◌*◌, ◌%◌, ◌^◌, ◌<◌, ◌≤◌, ◌≡◌, ◌==◌, ◌&&◌, inl, inr, if◌then◌else◌, Bool, true, false, Option, Some, None, List, []}
+use Rattle.std.proofs.Common.{◌∷◌, refl, sym, ◌∙◌, ap, subst, arith}
 use Rattle.std.specs.Prelude.{map, nat_le}
 use Rattle.std.proofs.lemmas.Bool.{and_parts, eqb-true, leb-true, cases_lt}
 use Rattle.std.proofs.lemmas.Nat.{mul-le}
 use Rattle.std.proofs.Math.Nat.{mul-zero, mod-mod, mod-eq_of_lt, add-mul, zero-mul, mod-lt, add-mul-mod_self_left}
-use Rattle.queue_certificates.specs.Forms.{Form, dot, form_value, IsAtMost, InRanges, most_of_multiple, added}
-use Rattle.queue_certificates.specs.Forms.{most_of_sum, most, fits_in, are_in, Bounds, kept, settled, reduced}
-use Rattle.queue_certificates.specs.Forms.{remainder, risings, fallings, bounds_between, bounds_of}
-use Rattle.queue_certificates.specs.Forms.{balanced, where_bounded, first_form, remainder_word}
+use Rattle.queue_certificates.specs.Forms.{Form, dot, form_value, IsAtMost, InRanges, most_of_multiple, added, most_of_sum, most, fits_in, are_in, Bounds, kept}
+use Rattle.queue_certificates.specs.Forms.{settled, reduced, remainder, risings, fallings, bounds_between, bounds_of, balanced, where_bounded, first_form}
+use Rattle.queue_certificates.specs.Forms.{remainder_word}
 use Rattle.queue_certificates.proofs.Forms.{values_of, mod-sum, mod-product, round-up}
 
 pub record IsSum (a b : Option ℕ) (n : ℕ) : Type 0 where

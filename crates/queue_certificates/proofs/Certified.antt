@@ -1,42 +1,27 @@
 -- What is accepted is certified: the states of a certificate are closed, and keep the protocol of each queue.
-use Rattle.std.proofs.Common.{arith, ℕ, ◌-◌, ◌+◌, ◌*◌, ◌<◌, ◌≤◌, ◌≡◌, ◌≢◌, ◌==◌, ◌||◌, inl, inr, Bool, true, false, Option, Some, None, List, []}
-use Rattle.std.proofs.Common.{length, get_or, refl, sym, ◌∙◌, ap, subst}
+use Rattle.std.proofs.Common.{arith, ℕ, ◌-◌, ◌+◌, ◌*◌, ◌<◌, ◌≤◌, ◌≡◌, ◌≢◌, ◌==◌, ◌||◌, inl, inr, Bool, true, false, Option, Some, None, List, [], length}
+use Rattle.std.proofs.Common.{get_or, refl, sym, ◌∙◌, ap, subst}
 use Rattle.std.proofs.lemmas.Bool.{and_parts, or_cases, eqb-true, eq-eqb}
 use Rattle.std.proofs.lemmas.Option.{get_or_from_slice_get}
 use Rattle.std.proofs.lemmas.List.Elements.{All-get_or, All-from_get_or}
 use Rattle.rv_decode.specs.declared.instruction.Instr.{Instr}
-use Rattle.hart.specs.State.{HartState}
-use Rattle.hart.specs.Steps.{advanced}
+use Rattle.hart.specs.{HartState, advanced}
 use Rattle.hart.specs.declared.status.Status.TheVariants as status
 use Rattle.step_machine.specs.declared.events.Entry.{Entry}
-use Rattle.step_machine.specs.History.{HartOpeningValue, OpeningValue}
-use Rattle.step_machine.specs.Access.{Access, access_of}
-use Rattle.step_machine.specs.Entries.{opening_byte}
-use Rattle.step_machine.specs.Paths.{number_read}
+use Rattle.step_machine.specs.Names.{HartOpeningValue, OpeningValue, Access, access_of, opening_byte, number_read}
 use Rattle.store_buffers.specs.StoreBuffers.{LeavesByteBy}
-use Rattle.queue_parties.specs.Parties.{Party, the_sender, the_receiver, all_at}
-use Rattle.queue_parties.specs.Positions.{IsInBytes}
+use Rattle.queue_parties.specs.{Party, the_sender, the_receiver, all_at, IsInBytes}
 use Rattle.queue_parties.proofs.Positions.{slot-within}
 use Rattle.queue_parties.proofs.Parties.{Whose, mine as is_party, theirs as is_third, whose}
-use Rattle.slot_queue.specs.Queues.{IsByteOf, slot_of}
-use Rattle.slot_queue.specs.Ownership.{hart, party_of, after_access, KeepsAccess}
+use Rattle.slot_queue.specs.{IsByteOf, slot_of, hart, party_of, after_access, KeepsAccess}
 use Rattle.slots_that_tell.specs.Telling.{teller_hart, told_access, TellsAccess}
-use Rattle.queue_certificates.specs.ToldRuns.{LoadsRestOwned}
-use Rattle.queue_certificates.specs.OwnedRuns.{View, AllCounts, view_then, ActsByCounts, IsSameFor, LoadsOwned, kept_beside}
-use Rattle.queue_certificates.specs.RecordFields.{MeetsField}
-use Rattle.queue_certificates.specs.Forms.{Form}
-use Rattle.queue_certificates.specs.States.{KnownValue, KnownState, MeansAt, own_at}
-use Rattle.queue_certificates.specs.Steps.{all_below, follow, instruction_at, loads_owned}
-use Rattle.queue_certificates.specs.Effects.{effect_of, value_stored}
+use Rattle.queue_certificates.specs.{LoadsRestOwned, View, AllCounts, view_then, ActsByCounts, IsSameFor, LoadsOwned, kept_beside, MeetsField, Form, KnownValue}
+use Rattle.queue_certificates.specs.{KnownState, MeansAt, own_at, all_below, follow, instruction_at, loads_owned, effect_of, value_stored, Effect, Arrow}
+use Rattle.queue_certificates.specs.{QueueCertificate, queue_at, start_at, part_of, own_of, state_at, no_hart, fields_at, field_of, HasFields, MeetsFields}
+use Rattle.queue_certificates.specs.{IsOwnByte, AreFilled, IsAtState, next_states, arrows_fill, effect_sends, keeps_records, keeps_fields, Certifies}
+use Rattle.queue_certificates.specs.{CertifiesLoads, all_lead, owns_loads, accepts, accepts_loads, tagged_at, SharesTold, told_beside, owns_rest, accepts_rest}
+use Rattle.queue_certificates.specs.{party_in, loads_rest}
 use Rattle.queue_certificates.specs.Filled.{Filled, no_field, is_filled_after, are_so, most_published, may_send}
-use Rattle.queue_certificates.specs.declared.effect.Effect.{Effect}
-use Rattle.queue_certificates.specs.Cases.{Arrow}
-use Rattle.queue_certificates.specs.Certificates.{QueueCertificate, queue_at, start_at, part_of, own_of, state_at, no_hart}
-use Rattle.queue_certificates.specs.Certificates.{fields_at, field_of, HasFields, MeetsFields, IsOwnByte, AreFilled, IsAtState, next_states}
-use Rattle.queue_certificates.specs.Certificates.{arrows_fill, effect_sends, keeps_records, keeps_fields, Certifies, CertifiesLoads}
-use Rattle.queue_certificates.specs.Certificates.{all_lead, owns_loads, accepts, accepts_loads, tagged_at, SharesTold}
-use Rattle.queue_certificates.specs.Certificates.{told_beside, owns_rest, accepts_rest}
-use Rattle.queue_certificates.specs.Tags.{party_in, loads_rest}
 use Rattle.queue_layouts.specs.Tagged.{slots_of}
 use Rattle.queue_certificates.proofs.States.{at-below, means-frame, kept-number}
 use Rattle.queue_certificates.proofs.Accesses.{hart-party}

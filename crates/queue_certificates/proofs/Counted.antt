@@ -1,20 +1,12 @@
 -- What one entry makes of the counts that a hart knows, and what a party sees in both indices.
-use Rattle.std.proofs.Common.{ℕ, ◌≤◌, ◌≡◌, ◌==◌, ◌&&◌, Bool, true, false, if◌then◌else◌, List, []}
-use Rattle.std.proofs.Common.{Option, Some, None, refl, sym, ◌∙◌, subst, arith}
+use Rattle.std.proofs.Common.{ℕ, ◌≤◌, ◌≡◌, ◌==◌, ◌&&◌, Bool, true, false, if◌then◌else◌, List, [], Option, Some, None, refl, sym, ◌∙◌, subst, arith}
 use Rattle.memory.specs.Writes.{write}
 use Rattle.step_machine.specs.declared.events.Entry.{Entry}
-use Rattle.step_machine.specs.History.{OpeningValue}
-use Rattle.step_machine.specs.Access.{Access, nothing, load, store, exchange, fence, land}
-use Rattle.step_machine.specs.Entries.{read_byte}
-use Rattle.slot_queue.specs.Queues.{Queue, IsQueue, least_count}
+use Rattle.step_machine.specs.Names.{OpeningValue, Access, nothing, load, store, exchange, fence, land, read_byte}
+use Rattle.slot_queue.specs.{Queue, IsQueue, least_count, hart, index, moved, after_load, after_access, counts_after, KeepsAccess, FollowsOwnership}
 use Rattle.queue_parties.specs.Parties.{Party, the_sender, the_receiver, other, QueueCounts, count, known, with_known, all_at}
-use Rattle.slot_queue.specs.Ownership.{hart, index, moved, after_load, after_access, counts_after, KeepsAccess}
-use Rattle.slot_queue.specs.Laws.{FollowsOwnership}
-use Rattle.slot_queue.proofs.Sides.{Side}
+use Rattle.slot_queue.proofs.{Side, Bounds, bounds, known-low, reads-other, sides-of, memory_at, own_index}
 use Rattle.queue_parties.proofs.Parties.{harts-apart, count-set-other, known-set-count, count-set-known, known-set-other}
-use Rattle.slot_queue.proofs.Looks.{Bounds, bounds, known-low, reads-other}
-use Rattle.slot_queue.proofs.Runs.{sides-of, memory_at}
-use Rattle.slot_queue.proofs.OwnIndex.{own_index}
 use Rattle.certified_runs.proofs.TwoParties.{IsOfParties}
 use Rattle.queue_certificates.specs.OwnedRuns.{owning, limit, SeesIndices}
 

@@ -1,18 +1,13 @@
 -- Each byte of a slot that the receiver owns was delivered.
 use Rattle.std.proofs.Common.{ℕ, ◌<◌, ◌≤◌, ◌≡◌, List, [], ◌∷◌, ◌++◌, sym, subst, arith}
 use Rattle.step_machine.specs.declared.events.Entry.{Entry}
-use Rattle.step_machine.specs.History.{OpeningValue}
-use Rattle.step_machine.specs.Entries.{read_byte}
-use Rattle.slot_queue.specs.Queues.{Queue, IsByteOf}
+use Rattle.step_machine.specs.Names.{OpeningValue, read_byte}
+use Rattle.slot_queue.specs.{Queue, IsByteOf, counts_next, counts_after, OwnsByte, FollowsOwnership}
 use Rattle.queue_parties.specs.Parties.{the_sender, the_receiver, all_at, count, IsWindow}
-use Rattle.slot_queue.specs.Ownership.{counts_next, counts_after, OwnsByte}
-use Rattle.slot_queue.specs.Laws.{FollowsOwnership}
 use Rattle.store_buffers.specs.StoreBuffers.{LeavesByteAt}
-use Rattle.slot_queue.proofs.Runs.{window}
+use Rattle.slot_queue.proofs.{window, grows-after, grows-entry, handed}
 use Rattle.queue_parties.proofs.Parties.{Passed}
 use Rattle.queue_parties.proofs.Records.{passed}
-use Rattle.slot_queue.proofs.Owned.{grows-after, grows-entry}
-use Rattle.slot_queue.proofs.HandingOver.{handed}
 use Rattle.queue_certificates.specs.Delivered.{IsDelivered}
 
 pub delivered : (B : ℕ) (q : Queue) (n : ℕ) (o : OpeningValue) (es : List Entry) → FollowsOwnership B q (all_at n) o [] es → (x : ℕ)

@@ -1,6 +1,6 @@
 -- What an access of a queue's sender comes to, where its instruction has an effect: what it publishes, and which fields are right after it.
-use Rattle.std.proofs.Common.{ℕ, ◌+◌, ◌-◌, ◌*◌, ◌^◌, ◌<◌, ◌≤◌, ◌≡◌, ◌==◌, if◌then◌else◌, Bool, true, false, Option, Some, List}
-use Rattle.std.proofs.Common.{get_or, refl, sym, ◌∙◌, ap, subst, arith}
+use Rattle.std.proofs.Common.{ℕ, ◌+◌, ◌-◌, ◌*◌, ◌^◌, ◌<◌, ◌≤◌, ◌≡◌, ◌==◌, if◌then◌else◌, Bool, true, false, Option, Some, List, get_or, refl, sym, ◌∙◌, ap}
+use Rattle.std.proofs.Common.{subst, arith}
 use Rattle.std.specs.List.{list_all}
 use Rattle.std.specs.Int.{byte_at}
 use Rattle.std.proofs.lemmas.Bool.{eqb-true}
@@ -9,20 +9,11 @@ use Rattle.hart.specs.declared.status.Status.TheVariants as status
 use Rattle.memory.specs.declared.writes.Write.{Write}
 use Rattle.memory.specs.Writes.{write, covers}
 use Rattle.step_machine.specs.Access.{Access, store, exchange}
-use Rattle.slot_queue.specs.Queues.{Queue, IsQueue, slot_of}
-use Rattle.queue_parties.specs.Positions.{IsInBytes}
-use Rattle.queue_parties.specs.Parties.{the_sender, QueueCounts}
-use Rattle.slot_queue.specs.Ownership.{after_access}
-use Rattle.queue_certificates.specs.OwnedRuns.{View, view_then}
-use Rattle.queue_certificates.specs.RecordFields.{Field, MeetsField}
-use Rattle.queue_certificates.specs.Forms.{Form, form_value, most, InRanges, Bounds}
-use Rattle.queue_certificates.specs.States.{KnownValue}
-use Rattle.queue_certificates.specs.Steps.{misses}
-use Rattle.queue_certificates.specs.Fields.{last_number, is_field}
-use Rattle.queue_certificates.specs.Effects.{WritesByte}
+use Rattle.slot_queue.specs.{Queue, IsQueue, slot_of, after_access}
+use Rattle.queue_parties.specs.{IsInBytes, the_sender, QueueCounts}
+use Rattle.queue_certificates.specs.{View, view_then, Field, MeetsField, Form, form_value, most, InRanges, Bounds, KnownValue, misses, last_number, is_field}
+use Rattle.queue_certificates.specs.{WritesByte, Effect, Leaves, Fills, Publishes, PublishesSome}
 use Rattle.queue_certificates.specs.Filled.{Filled, is_filled, no_field, is_number_of, is_filled_after, most_published}
-use Rattle.queue_certificates.specs.declared.effect.Effect.{Effect}
-use Rattle.queue_certificates.specs.declared.effect.Effect.TheVariants.{Leaves, Fills, Publishes, PublishesSome}
 use Rattle.queue_certificates.proofs.Bounds.{value-below}
 use Rattle.queue_certificates.proofs.Accesses.{missed}
 use Rattle.queue_certificates.proofs.Filled.{IsNumberOf, IsRight, IsWrittenTo, right-after-store, right-kept}

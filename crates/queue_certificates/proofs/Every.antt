@@ -5,17 +5,13 @@ use Rattle.std.proofs.Common.{append_assoc}
 use Rattle.std.proofs.lemmas.Bool.{cases_lt}
 use Rattle.hart.specs.State.{HartState}
 use Rattle.step_machine.specs.declared.events.Entry.{Entry}
-use Rattle.step_machine.specs.History.{OpeningValue, history_of}
-use Rattle.step_machine.specs.Access.{Access, nothing, load, store, exchange, fence, land, access_of}
-use Rattle.step_machine.specs.Entries.{hart_of, is_land, is_own}
-use Rattle.step_machine.specs.Paths.{state_of}
-use Rattle.step_machine.specs.Legal.{Legal, WellFormed}
+use Rattle.step_machine.specs.Names.{OpeningValue, history_of, Access, nothing, load, store, exchange, fence, land, access_of, hart_of, is_land, is_own}
+use Rattle.step_machine.specs.Names.{state_of, Legal, WellFormed}
 use Rattle.step_machine.proofs.OwnRuns.{kept-front}
 use Rattle.store_buffers.specs.StoreBuffers.{LeavesByteBy, LeavesByteAt}
 use Rattle.store_buffers.proofs.LateStores.{at-end}
 use Rattle.store_buffers.proofs.OwnEntries.{land_is, own_parts}
-use Rattle.queue_parties.specs.Positions.{IsInBytes}
-use Rattle.queue_parties.specs.Parties.{Party, the_sender, the_receiver, QueueCounts, all_at, IsWindow}
+use Rattle.queue_parties.specs.{IsInBytes, Party, the_sender, the_receiver, QueueCounts, all_at, IsWindow}
 use Rattle.queue_parties.proofs.Parties.{counts-append}
 use Rattle.certified_runs.specs.Views.{view_of, view_then}
 use Rattle.certified_runs.specs.Certified.{Protocol}
@@ -24,14 +20,10 @@ use Rattle.certified_runs.specs.TwoParties.{TwoPartyProtocol, all_of, next_by, K
 use Rattle.certified_runs.proofs.Every.{At, Stands, IsCounted}
 use Rattle.certified_runs.proofs.Every as every
 use Rattle.certified_runs.proofs.TwoParties as two_parties
-use Rattle.slot_queue.specs.Queues.{IsByteOf}
-use Rattle.slot_queue.specs.Ownership.{party_of, hart, after_access, counts_after, OwnsByte}
-use Rattle.slot_queue.specs.Laws.{FollowsOwnership}
-use Rattle.slot_queue.proofs.Owned.{grows-after}
-use Rattle.slot_queue.proofs.Runs.{window}
-use Rattle.queue_certificates.specs.OwnedRuns.{View, AllCounts, IsSameFor, SeesIndices, owning, kept_beside, ActsByCounts, counts_then}
-use Rattle.queue_certificates.specs.OwnedRuns.{LoadsOwned, LoadsByte, ReadsOwned, LoadsAreOwned}
-use Rattle.queue_certificates.specs.Delivered.{IsDelivered}
+use Rattle.slot_queue.specs.{IsByteOf, party_of, hart, after_access, counts_after, OwnsByte, FollowsOwnership}
+use Rattle.slot_queue.proofs.{grows-after, window}
+use Rattle.queue_certificates.specs.{View, AllCounts, IsSameFor, SeesIndices, owning, kept_beside, ActsByCounts, counts_then, LoadsOwned, LoadsByte, ReadsOwned}
+use Rattle.queue_certificates.specs.{LoadsAreOwned, IsDelivered}
 use Rattle.queue_certificates.proofs.Sets.{CertifiedSets}
 use Rattle.queue_certificates.proofs.Counted.{is_of_parties, seen}
 use Rattle.queue_certificates.proofs.Delivered.{delivered, handed-at}

@@ -4,33 +4,22 @@ use Rattle.std.proofs.lemmas.Bool.{cases_lt}
 use Rattle.std.proofs.lemmas.List.Elements.{All-from_get_or}
 use Rattle.hart.specs.State.{HartState}
 use Rattle.step_machine.specs.declared.events.Entry.{Entry}
-use Rattle.step_machine.specs.History.{OpeningValue, history_of}
-use Rattle.step_machine.specs.Access.{Access, nothing, load, store, exchange, fence, land, access_of}
-use Rattle.step_machine.specs.Entries.{hart_of, read_byte, read}
-use Rattle.step_machine.specs.Paths.{state_of}
-use Rattle.step_machine.specs.Legal.{Legal, WellFormed}
+use Rattle.step_machine.specs.Names.{OpeningValue, history_of, Access, nothing, load, store, exchange, fence, land, access_of, hart_of, read_byte, read}
+use Rattle.step_machine.specs.Names.{state_of, Legal, WellFormed}
 use Rattle.step_machine.proofs.OwnRuns.{kept-front}
-use Rattle.queue_parties.specs.Positions.{IsInBytes}
-use Rattle.queue_parties.specs.Parties.{Party, the_receiver, QueueCounts, all_at}
+use Rattle.queue_parties.specs.{IsInBytes, Party, the_receiver, QueueCounts, all_at}
 use Rattle.certified_runs.specs.TwoParties.{EachIs}
-use Rattle.slot_queue.specs.Ownership.{hart, counts_after}
-use Rattle.slot_queue.specs.Laws.{FollowsOwnership}
+use Rattle.slot_queue.specs.{hart, counts_after, FollowsOwnership}
 use Rattle.slots_that_tell.specs.Slots.{Slots, tag_of, IsSlotByte}
-use Rattle.slots_that_tell.specs.Telling.{teller_hart, OwnsRest, KeepsTelling, told_counts}
-use Rattle.slots_that_tell.specs.Laws.{FollowsTelling}
-use Rattle.queue_certificates.specs.ToldRuns.{telling, IsOfTag, LoadsRestOwned}
-use Rattle.queue_certificates.specs.Arrived.{HasArrived}
+use Rattle.slots_that_tell.specs.{teller_hart, OwnsRest, KeepsTelling, told_counts, FollowsTelling}
+use Rattle.queue_certificates.specs.{telling, IsOfTag, LoadsRestOwned, HasArrived, LoadsByte, ReadsOwned, IsDelivered, MeetsField, QueueCertificate, queue_at}
+use Rattle.queue_certificates.specs.{start_at, fields_at, tagged_at, tagged_start, IsInState, HasFields, MeetsFields, IsOwnByte, IsAtState, told_beside}
+use Rattle.queue_certificates.specs.{accepts, accepts_loads, accepts_rest, no_field}
 use Rattle.queue_certificates.proofs.ToldProtocol.{is_of_parties, sees_tags}
 use Rattle.queue_certificates.proofs.Arrived.{has_arrived, told_arrives, still_read}
-use Rattle.queue_certificates.specs.OwnedRuns.{LoadsByte, ReadsOwned}
-use Rattle.queue_certificates.specs.Delivered.{IsDelivered}
-use Rattle.queue_certificates.specs.RecordFields.{MeetsField}
 use Rattle.queue_certificates.proofs.Sets.{CertifiedSets}
 use Rattle.queue_certificates.proofs.Every.{every_run, reads_owned, loads_delivered, every_state, every_record, every_beside, beside_is, next_beside_is}
 use Rattle.queue_layouts.specs.Tagged.{slots_of, tells_by}
-use Rattle.queue_certificates.specs.Certificates.{QueueCertificate, queue_at, start_at, fields_at, tagged_at, tagged_start, IsInState, HasFields}
-use Rattle.queue_certificates.specs.Certificates.{MeetsFields, IsOwnByte, IsAtState, told_beside, accepts, accepts_loads, accepts_rest}
-use Rattle.queue_certificates.specs.Filled.{no_field}
 use Rattle.queue_certificates.proofs.Accepted.{accepted-opens, accepted-tagged}
 use Rattle.queue_certificates.proofs.Certified.{accepted-certifies, accepted-loads, accepted-rest}
 

@@ -1,6 +1,6 @@
 -- A number that is known to be a field's, and the fields that are right after a store.
-use Rattle.std.proofs.Common.{ℕ, ◌+◌, ◌-◌, ◌*◌, ◌/◌, ◌%◌, ◌^◌, ◌<◌, ◌≤◌, ◌≡◌, ◌≢◌, ◌==◌, ◌&&◌, ◌⊎◌, inl, inr, if◌then◌else◌}
-use Rattle.std.proofs.Common.{Bool, true, false, Option, Some, None, List, [], ◌∷◌, length, get_or, refl, sym, ◌∙◌, ap, subst, arith}
+use Rattle.std.proofs.Common.{ℕ, ◌+◌, ◌-◌, ◌*◌, ◌/◌, ◌%◌, ◌^◌, ◌<◌, ◌≤◌, ◌≡◌, ◌≢◌, ◌==◌, ◌&&◌, ◌⊎◌, inl, inr, if◌then◌else◌, Bool, true, false, Option, Some}
+use Rattle.std.proofs.Common.{None, List, [], ◌∷◌, length, get_or, refl, sym, ◌∙◌, ap, subst, arith}
 use Rattle.std.specs.Prelude.{nat_le, nat_lt}
 use Rattle.std.specs.List.{list_all, list_any}
 use Rattle.std.specs.Int.{byte_at}
@@ -15,16 +15,11 @@ use Rattle.memory.proofs.Bytes.{covers-from}
 use Rattle.slot_queue.specs.Queues.{Queue, IsQueue, slot_of}
 use Rattle.queue_parties.proofs.Positions.{ahead, ahead-is, one-slot, slot-within}
 use Rattle.queue_parties.specs.Positions.{IsInBytes}
-use Rattle.queue_certificates.specs.OwnedRuns.{View, number_seen}
-use Rattle.queue_certificates.specs.RecordFields.{Field, MeetsField}
-use Rattle.queue_certificates.specs.Forms.{dot, form_value, InRanges, vanishes, Bounds, risings, fallings, bounds_of}
-use Rattle.queue_certificates.specs.States.{KnownValue, any, linear, index_for, signed_for, ends_as, has_bits, Has}
-use Rattle.queue_certificates.specs.Steps.{all_below}
-use Rattle.queue_certificates.specs.Fields.{last_number, is_field}
-use Rattle.queue_certificates.specs.Filled.{Filled, is_filled, no_field, lies_in, is_number_of, is_beside, is_right_after, is_filled_after, are_so}
-use Rattle.queue_certificates.specs.Filled.{most_published, may_send}
-use Rattle.queue_certificates.specs.declared.effect.Effect.{Effect}
-use Rattle.queue_certificates.specs.declared.effect.Effect.TheVariants.{Fills}
+use Rattle.queue_certificates.specs.{View, number_seen, Field, MeetsField, dot, form_value, InRanges, vanishes, Bounds, risings, fallings, bounds_of}
+use Rattle.queue_certificates.specs.{KnownValue, any, linear, index_for, signed_for, ends_as, has_bits, Has, all_below, last_number, is_field, is_filled}
+use Rattle.queue_certificates.specs.{no_field, lies_in, is_number_of, is_beside, is_right_after, is_filled_after, are_so, most_published, may_send, Effect}
+use Rattle.queue_certificates.specs.{Fills}
+use Rattle.queue_certificates.specs.Filled.{Filled}
 use Rattle.queue_certificates.proofs.Forms.{mod-sum, dot-vanishes}
 use Rattle.queue_certificates.proofs.Bounds.{value-between}
 use Rattle.queue_certificates.proofs.States.{at-below, kept-number}

@@ -1,13 +1,12 @@
 -- What sums, multiples and substituted forms come to.
-use Rattle.std.proofs.Common.{ℕ, zero, suc, ◌+◌, ◌-◌, ◌*◌, ◌/◌, ◌%◌, ◌<◌, ◌≤◌, ◌≡◌, ◌==◌, true, List, [], ◌∷◌, get_or, inl, inr, refl, sym, ◌∙◌}
-use Rattle.std.proofs.Common.{ap, arith}
+use Rattle.std.proofs.Common.{ℕ, zero, suc, ◌+◌, ◌-◌, ◌*◌, ◌/◌, ◌%◌, ◌<◌, ◌≤◌, ◌≡◌, ◌==◌, true, List, [], ◌∷◌, get_or, inl, inr, refl, sym, ◌∙◌, ap, arith}
 use Rattle.std.specs.Prelude.{map}
 use Rattle.std.proofs.lemmas.Bool.{and_parts, eqb-true, cases_lt}
 use Rattle.std.proofs.lemmas.Nat.{mul-mod_first}
-use Rattle.std.proofs.Math.Nat.{mul-add, add-mul, zero-mul, mul-zero, mul_assoc, mul_comm, add-mod, mod-zero, zero-mod}
-use Rattle.std.proofs.Math.Nat.{add-mul-mod_self_left, mod-add-div, mod-lt, mod-eq_of_lt, mul-mod_left}
-use Rattle.queue_certificates.specs.Forms.{Form, dot, form_value, number, first_variable, sums, plus, times, lifted}
-use Rattle.queue_certificates.specs.Forms.{combined, substituted, factor_at, raised, vanishes, agree, is_same}
+use Rattle.std.proofs.Math.Nat.{mul-add, add-mul, zero-mul, mul-zero, mul_assoc, mul_comm, add-mod, mod-zero, zero-mod, add-mul-mod_self_left, mod-add-div}
+use Rattle.std.proofs.Math.Nat.{mod-lt, mod-eq_of_lt, mul-mod_left}
+use Rattle.queue_certificates.specs.Forms.{Form, dot, form_value, number, first_variable, sums, plus, times, lifted, combined, substituted, factor_at, raised}
+use Rattle.queue_certificates.specs.Forms.{vanishes, agree, is_same}
 
 abbrev pub values_of : List Form → List ℕ → List ℕ
 values_of gs xs = map (λ g. form_value g xs) gs

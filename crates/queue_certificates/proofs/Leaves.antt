@@ -2,22 +2,12 @@
 use Rattle.std.proofs.Common.{ℕ, ◌<◌, ◌≤◌, ◌≡◌, inl, inr, Bool, true, Option, Some, None, List, [], ◌∷◌, length, refl, sym, ◌∙◌, ap, subst}
 use Rattle.std.specs.Prelude.{map}
 use Rattle.std.proofs.lemmas.Bool.{and_parts, ltb-true}
-use Rattle.hart.specs.State.{HartState}
-use Rattle.hart.specs.Steps.{advanced}
+use Rattle.hart.specs.{HartState, advanced}
 use Rattle.step_machine.specs.declared.events.Entry.{Entry}
-use Rattle.step_machine.specs.History.{HartOpeningValue, OpeningValue}
-use Rattle.step_machine.specs.Access.{access_of}
-use Rattle.step_machine.specs.Paths.{number_read}
-use Rattle.queue_certificates.specs.OwnedRuns.{View, AllCounts, ActsByCounts, kept_beside}
-use Rattle.queue_certificates.specs.Forms.{Form, settled}
-use Rattle.queue_certificates.specs.States.{KnownState, MeansAt}
-use Rattle.queue_certificates.specs.Steps.{follow, instruction_at, loads_owned}
-use Rattle.queue_certificates.specs.Fields.{next_received}
-use Rattle.queue_certificates.specs.Tags.{next_told, loads_rest}
-use Rattle.queue_certificates.specs.TagEffects.{tag_effect_of}
-use Rattle.queue_certificates.specs.Certificates.{QueueCertificate, queue_at, fields_at, tagged_at, own_of, HasFields, MeetsFields, SharesTold}
-use Rattle.queue_certificates.specs.Cases.{Arrow}
-use Rattle.queue_certificates.specs.Certificates.{MeansAll, part_of, state_at, told_beside, next_states, each_leads, arrow_leads, accepts}
+use Rattle.step_machine.specs.Names.{HartOpeningValue, OpeningValue, access_of, number_read}
+use Rattle.queue_certificates.specs.{View, AllCounts, ActsByCounts, kept_beside, Form, settled, KnownState, MeansAt, follow, instruction_at, loads_owned}
+use Rattle.queue_certificates.specs.{next_received, next_told, loads_rest, tag_effect_of, QueueCertificate, queue_at, fields_at, tagged_at, own_of, HasFields}
+use Rattle.queue_certificates.specs.{MeetsFields, SharesTold, MeansAll, part_of, state_at, told_beside, next_states, each_leads, arrow_leads, accepts, Arrow}
 use Rattle.queue_certificates.proofs.Forms.{values_of}
 use Rattle.queue_certificates.proofs.States.{means-arrow}
 use Rattle.queue_certificates.proofs.Steps.{untold}

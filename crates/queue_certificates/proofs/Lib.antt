@@ -41,3 +41,23 @@ pub mod EveryRun
 pub mod OneSlotQueue
 mod OneSlotNumbers
 pub mod OneSlotTags
+pub use Rattle.queue_certificates.proofs.Sets.{CertifiedSets}
+pub use Rattle.queue_certificates.proofs.Every.{every_state, holds, next_is}
+pub use Rattle.queue_certificates.proofs.ToldAccesses.{knows_of, tag_loaded, told_owns}
+pub use Rattle.queue_certificates.proofs.Forms.{less_at, same-exactly, same-value, value-lifted, value-number, value-plus}
+pub use Rattle.queue_certificates.proofs.Bounds.{fits-below, value-below}
+pub use Rattle.queue_certificates.proofs.Values.{has-bounds, has-plain, known-is}
+pub use Rattle.queue_certificates.proofs.Results.{branch-is}
+pub use Rattle.queue_certificates.proofs.States.{at-below, exceeds, means-frame, means-high, means-low}
+pub use Rattle.queue_certificates.proofs.Accesses.{found-below, hart-party, just-is, missed, party-hart, same-party}
+pub use Rattle.queue_certificates.proofs.Stores.{apart-from, slot-place}
+pub use Rattle.queue_certificates.proofs.Steps.{IsQuiet, no-code, nobody_told, nothing_sent, quiet-counts, untold}
+pub use Rattle.queue_certificates.proofs.Sends.{state-does}
+pub use Rattle.queue_certificates.proofs.TagShares.{same-by, tagged-fine, teller-is, told-frame, told-opens}
+pub use Rattle.queue_certificates.proofs.NextAccess.{Makes, Stops, next-access}
+pub use Rattle.queue_certificates.proofs.TagNext.{Stays, load-stays, set-means, set-told, told_by}
+pub use Rattle.queue_certificates.proofs.Accepted.{OfHart, accepted-opens, fine, fine-tagged, of-hart, opens-means, past}
+pub use Rattle.queue_certificates.proofs.AtLeaf.{at-leaf}
+pub use Rattle.queue_certificates.proofs.Leaves.{IsAmongAll, Led, among-leads, followed, leaf-goes}
+pub use Rattle.queue_certificates.proofs.Certified.{accepted-certifies}
+pub use Rattle.queue_certificates.proofs.EveryRun.{accepted_fields, accepted_runs, accepted_telling, sets}

@@ -1,18 +1,16 @@
 -- Which access a hart's next instruction makes: the one that it says, or none of memory.
-use Rattle.std.proofs.Common.{ℕ, ◌*◌, ◌/◌, ◌%◌, ◌≡◌, ◌==◌, ◌⊎◌, inl, inr, if◌then◌else◌, Bool, true, false, Option, Some, None, List, length}
-use Rattle.std.proofs.Common.{refl, sym, ◌∙◌, ap, subst}
+use Rattle.std.proofs.Common.{ℕ, ◌*◌, ◌/◌, ◌%◌, ◌≡◌, ◌==◌, ◌⊎◌, inl, inr, if◌then◌else◌, Bool, true, false, Option, Some, None, List, length, refl, sym, ◌∙◌}
+use Rattle.std.proofs.Common.{ap, subst}
 use Rattle.std.specs.Prelude.{nat_lt, slice_index}
 use Rattle.std.specs.List.{slice_get}
 use Rattle.std.proofs.lemmas.Bool.{ltb-true}
 use Rattle.rv_decode.specs.Meaning.{meaning}
 use Rattle.rv_decode.specs.declared.instruction.Instr.{Instr}
-use Rattle.rv_decode.specs.declared.instruction.Instr.TheVariants.{Lui, Auipc, Jal, Jalr, Branch, Load, Store}
-use Rattle.rv_decode.specs.declared.instruction.Instr.TheVariants.{Immediate, Shift, Register, Fence, FenceTso, Ecall}
-use Rattle.rv_decode.specs.declared.instruction.Instr.TheVariants.{Ebreak, Amo}
+use Rattle.rv_decode.specs.declared.instruction.Instr.TheVariants.{Lui, Auipc, Jal, Jalr, Branch, Load, Store, Immediate, Shift, Register, Fence, FenceTso}
+use Rattle.rv_decode.specs.declared.instruction.Instr.TheVariants.{Ecall, Ebreak, Amo}
 use Rattle.memory.specs.Writes.{write}
-use Rattle.hart.specs.State.{HartState}
-use Rattle.hart.specs.Effects.{register_value, address, load_width, store_width, stored, updated, is_taken}
-use Rattle.hart.specs.Steps.{need_of, need_for, advanced, jump_need, access_need, call_need}
+use Rattle.hart.specs.{HartState, register_value, address, load_width, store_width, stored, updated, is_taken, need_of, need_for, advanced, jump_need}
+use Rattle.hart.specs.{access_need, call_need}
 use Rattle.hart.specs.declared.status.Stop.{Stop}
 use Rattle.hart.specs.declared.status.Stop.TheVariants as stop
 use Rattle.hart.specs.declared.status.Status.TheVariants as status
@@ -21,8 +19,7 @@ use Rattle.hart.specs.declared.need.Need.{Need}
 use Rattle.hart.specs.declared.need.Need.TheVariants as need
 use Rattle.hart.proofs.Instructions.{IsAt, need_at, illegal, stopped}
 use Rattle.step_machine.specs.declared.events.Entry.{Entry}
-use Rattle.step_machine.specs.Access.{Access, load, store, exchange, access_of}
-use Rattle.step_machine.specs.Entries.{hart_of}
+use Rattle.step_machine.specs.Names.{Access, load, store, exchange, access_of, hart_of}
 use Rattle.step_machine.specs.Paths.{number_read, entry_of, CanMake}
 use Rattle.queue_certificates.specs.Steps.{instruction_at}
 use Rattle.queue_certificates.proofs.Steps.{IsQuiet, no-code}

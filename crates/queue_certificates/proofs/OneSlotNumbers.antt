@@ -3,13 +3,10 @@
 use Rattle.std.proofs.Common.{ℕ, ◌≡◌, List, [], ◌∷◌, Option, Some, None, refl, true, false}
 use Rattle.rv_decode.specs.Meaning.{meaning}
 use Rattle.step_machine.specs.History.{HartOpeningValue, OpeningValue}
-use Rattle.queue_certificates.specs.Forms.{Form, number}
-use Rattle.queue_certificates.specs.States.{KnownValue, any, linear}
+use Rattle.queue_certificates.specs.{Form, number, KnownValue, any, linear, ListedState, HartPart, QueueCertificate, accepts, accepts_loads, told_by_store}
 use Rattle.queue_certificates.specs.Filled.{Filled}
 use Rattle.queue_certificates.specs.Cases.{Cases, leaf, split}
-use Rattle.queue_certificates.specs.Certificates.{ListedState, HartPart, QueueCertificate, accepts, accepts_loads}
 use Rattle.queue_certificates.proofs.OneSlotQueue.{q, form, arrow}
-use Rattle.queue_certificates.specs.Tags.{told_by_store}
 
 -- lw x1,0(x0); lw x2,4(x0); bne x1,x2,-8; andi x3,x1,7; sw x3,8(x0); addi x1,x1,1; sw x1,0(x0); jal x0,-28
 abbrev sender_text : HartOpeningValue

@@ -3,18 +3,13 @@ use Rattle.std.proofs.Common.{ℕ, ◌≡◌, ◌^◌, List, [], ◌∷◌, ◌+
 use Rattle.rv_decode.specs.Meaning.{meaning}
 use Rattle.step_machine.specs.declared.events.Entry.{Entry}
 use Rattle.step_machine.specs.declared.events.Entry.TheVariants as entry
-use Rattle.step_machine.specs.History.{HartOpeningValue, OpeningValue, history_of}
-use Rattle.step_machine.specs.Legal.{WellFormed}
+use Rattle.step_machine.specs.Names.{HartOpeningValue, OpeningValue, history_of, WellFormed}
 use Rattle.queue_parties.specs.Parties.{the_sender, the_receiver, all_at}
-use Rattle.slot_queue.specs.Queues.{Queue}
-use Rattle.slot_queue.specs.Laws.{FollowsOwnership}
-use Rattle.queue_certificates.specs.OwnedRuns.{ReadsOwned}
+use Rattle.slot_queue.specs.{Queue, FollowsOwnership}
+use Rattle.queue_certificates.specs.{ReadsOwned, Form, number, KnownValue, any, linear, ListedState, HartPart, QueueCertificate, accepts, accepts_loads}
+use Rattle.queue_certificates.specs.{told_by_store}
 use Rattle.queue_certificates.proofs.EveryRun.{accepted_runs, accepted_loads}
-use Rattle.queue_certificates.specs.Forms.{Form, number}
-use Rattle.queue_certificates.specs.States.{KnownValue, any, linear}
 use Rattle.queue_certificates.specs.Cases.{Arrow, Cases, leaf, split}
-use Rattle.queue_certificates.specs.Certificates.{ListedState, HartPart, QueueCertificate, accepts, accepts_loads}
-use Rattle.queue_certificates.specs.Tags.{told_by_store}
 
 abbrev pub q : Queue
 q = record {

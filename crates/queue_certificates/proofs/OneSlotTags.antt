@@ -3,20 +3,16 @@
 use Rattle.std.proofs.Common.{ℕ, ◌≡◌, List, [], ◌∷◌, Option, Some, None, refl, true, false, arith}
 use Rattle.rv_decode.specs.Meaning.{meaning}
 use Rattle.step_machine.specs.declared.events.Entry.{Entry}
-use Rattle.step_machine.specs.History.{HartOpeningValue, OpeningValue, history_of}
-use Rattle.step_machine.specs.Legal.{WellFormed}
+use Rattle.step_machine.specs.Names.{HartOpeningValue, OpeningValue, history_of, WellFormed}
 use Rattle.queue_parties.specs.Parties.{all_at}
 use Rattle.slots_that_tell.specs.Laws.{FollowsTelling}
 use Rattle.queue_layouts.specs.Tagged.{slots_of}
 use Rattle.queue_certificates.proofs.EveryRun.{accepted_telling}
-use Rattle.queue_certificates.specs.Forms.{number}
-use Rattle.queue_certificates.specs.States.{KnownValue, any, linear}
+use Rattle.queue_certificates.specs.{number, KnownValue, any, linear, ListedState, HartPart, QueueCertificate, accepts, accepts_rest, told_by_store}
 use Rattle.queue_certificates.specs.Cases.{Cases, leaf}
-use Rattle.queue_certificates.specs.Certificates.{ListedState, HartPart, QueueCertificate, accepts, accepts_rest}
 use Rattle.queue_layouts.specs.declared.tagged.Codec.TheVariants as codec
 use Rattle.queue_layouts.specs.declared.tagged.TaggedQueue.{TaggedQueue}
 use Rattle.queue_certificates.proofs.OneSlotQueue.{form, arrow}
-use Rattle.queue_certificates.specs.Tags.{told_by_store}
 
 -- lw x1,0(x0); bne x1,x0,-4; sw x3,0(x0); jal x0,-12
 abbrev sender_text : HartOpeningValue

@@ -5,11 +5,9 @@ use Rattle.std.proofs.lemmas.Bool.{eq-eqb, ne_eqb}
 use Rattle.memory.specs.declared.writes.Write.{Write}
 use Rattle.memory.proofs.Bytes.{covers-from}
 use Rattle.step_machine.specs.Access.{load}
-use Rattle.slot_queue.specs.Queues.{Queue, IsQueue, TellsFull, index_word, least_count, slot_of, KeepsOff}
+use Rattle.slot_queue.specs.{Queue, IsQueue, TellsFull, index_word, least_count, slot_of, KeepsOff, index, end, after_load, moved, MovesOn, FillsOwned}
 use Rattle.queue_parties.specs.Parties.{Party, the_sender, the_receiver, other, QueueCounts, count, known, with_known}
-use Rattle.slot_queue.specs.Ownership.{index, end, after_load, moved, MovesOn, FillsOwned}
-use Rattle.slot_queue.proofs.Codes.{least-near}
-use Rattle.slot_queue.proofs.Sides.{indices-apart, fills-leaves, moved-leaves, moved-index}
+use Rattle.slot_queue.proofs.{least-near, indices-apart, fills-leaves, moved-leaves, moved-index}
 use Rattle.queue_certificates.specs.OwnedRuns.{View, ReadsFrom, limit, SeesIndices, OwnsSlotsOf}
 
 module _ (q : Queue) (is : IsQueue q) (p : Party) (c : QueueCounts) where

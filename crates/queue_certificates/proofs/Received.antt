@@ -1,6 +1,6 @@
 -- What a receiver's load of a field comes to: one of the field's numbers.
-use Rattle.std.proofs.Common.{ℕ, ℤ, zero, suc, ◌+◌, ◌*◌, ◌%◌, ◌^◌, ◌<◌, ◌≤◌, ◌≡◌, ◌==◌, ◌&&◌, if◌then◌else◌}
-use Rattle.std.proofs.Common.{Bool, true, false, Option, Some, None, List, [], ◌∷◌, length, get_or, refl, sym, ◌∙◌, ap, subst, arith}
+use Rattle.std.proofs.Common.{ℕ, ℤ, zero, suc, ◌+◌, ◌*◌, ◌%◌, ◌^◌, ◌<◌, ◌≤◌, ◌≡◌, ◌==◌, ◌&&◌, if◌then◌else◌, Bool, true, false, Option, Some, None, List, []}
+use Rattle.std.proofs.Common.{◌∷◌, length, get_or, refl, sym, ◌∙◌, ap, subst, arith}
 use Rattle.std.specs.Prelude.{All}
 use Rattle.std.proofs.lemmas.Bool.{and_parts, eqb-true, ltb-true}
 use Rattle.std.proofs.lemmas.List.Elements.{All-head, All-tail}
@@ -11,24 +11,16 @@ use Rattle.rv_decode.specs.declared.instruction.LoadOp.{LoadOp}
 use Rattle.rv_decode.specs.declared.instruction.LoadOp.TheVariants as load_op
 use Rattle.rv_decode.specs.declared.instruction.Instr.{Instr}
 use Rattle.rv_decode.specs.declared.instruction.Instr.TheVariants.{Load}
-use Rattle.hart.specs.State.{HartState}
-use Rattle.hart.specs.Steps.{advanced}
-use Rattle.hart.specs.Effects.{register_value, next_pc, address, extended, load_width}
+use Rattle.hart.specs.{HartState, advanced, register_value, next_pc, address, extended, load_width}
 use Rattle.hart.proofs.Instructions.{IsAt}
 use Rattle.step_machine.specs.declared.events.Entry.{Entry}
-use Rattle.step_machine.specs.History.{OpeningValue}
-use Rattle.step_machine.specs.Access.{access_of}
-use Rattle.step_machine.specs.Paths.{number_read}
+use Rattle.step_machine.specs.Names.{OpeningValue, access_of, number_read}
 use Rattle.slot_queue.specs.Queues.{Queue, IsQueue, TellsFull, slot_of}
 use Rattle.queue_parties.specs.Parties.{the_receiver}
-use Rattle.queue_certificates.specs.declared.own.OwnWord.{OwnWord}
-use Rattle.queue_certificates.specs.OwnedRuns.{View, AllCounts, number_seen, ActsByCounts}
-use Rattle.queue_certificates.specs.RecordFields.{Field, MeetsField}
-use Rattle.queue_certificates.specs.Forms.{Form}
-use Rattle.queue_certificates.specs.States.{KnownValue, any, linear, index_for, signed_for, ends_as, has_bits, no_share, KnownState, Has, MeansAt}
-use Rattle.queue_certificates.specs.Steps.{last_below, position_at, offset_at, is_owned, with_result, address_value, addresses, is_look, may_load}
-use Rattle.queue_certificates.specs.Steps.{after_load, follow, instruction_at}
-use Rattle.queue_certificates.specs.Fields.{last_number, field_number, keeps_numbers, field_there, field_or, field_in, field_below, after_field, next_received}
+use Rattle.queue_certificates.specs.{OwnWord, View, AllCounts, number_seen, ActsByCounts, Field, MeetsField, Form, KnownValue, any, linear, index_for}
+use Rattle.queue_certificates.specs.{signed_for, ends_as, has_bits, no_share, KnownState, Has, MeansAt, last_below, position_at, offset_at, is_owned}
+use Rattle.queue_certificates.specs.{with_result, address_value, addresses, is_look, may_load, after_load, follow, instruction_at, last_number, field_number}
+use Rattle.queue_certificates.specs.{keeps_numbers, field_there, field_or, field_in, field_below, after_field, next_received}
 use Rattle.queue_certificates.proofs.Results.{Gives}
 use Rattle.queue_certificates.proofs.Stores.{placed-at}
 use Rattle.queue_certificates.proofs.Steps.{sign-low, Goes, nobody_told, nothing_sent}

@@ -1,15 +1,15 @@
 -- What an instruction leaves in a register has the result's value.
-use Rattle.std.proofs.Common.{ℕ, ℤ, pos, negsuc, zero, suc, ◌+◌, ◌-◌, ◌*◌, ◌/◌, ◌%◌, ◌^◌, ◌<◌, ◌≤◌, ◌≡◌, ◌==◌, ◌&&◌}
-use Rattle.std.proofs.Common.{◌+ℤ◌, inl, inr, if◌then◌else◌, not, Bool, true, false, Option, Some, None, List, ◌∷◌, refl, sym, ◌∙◌, ap, subst, arith}
+use Rattle.std.proofs.Common.{ℕ, ℤ, pos, negsuc, zero, suc, ◌+◌, ◌-◌, ◌*◌, ◌/◌, ◌%◌, ◌^◌, ◌<◌, ◌≤◌, ◌≡◌, ◌==◌, ◌&&◌, ◌+ℤ◌, inl, inr, if◌then◌else◌, not, Bool}
+use Rattle.std.proofs.Common.{true, false, Option, Some, None, List, ◌∷◌, refl, sym, ◌∙◌, ap, subst, arith}
 use Rattle.std.specs.Prelude.{int_lt, nat_lt, nat_le, ◌-ℤ◌, bit_and, bit_or, bit_xor, count_ones}
 use Rattle.std.specs.Int.{trailing_zeros, w32}
 use Rattle.std.specs.Int.Bits.{xor_add_and, and_zero_r}
 use Rattle.std.proofs.lemmas.Int.{ints}
 use Rattle.std.proofs.lemmas.Bool.{and_parts, eqb-true, eq-eqb, ne_eqb, ltb-true, leb-true, lt-ltb, le-ltb, cases_lt}
-use Rattle.std.proofs.lemmas.Nat.{le-div, pow_pos, pow-add, shr_split, field_of, and_mask, and_block, and_le_l}
-use Rattle.std.proofs.lemmas.Nat.{and_le_r, and_comm, mul-le, mul-mod_first, xor_lt, or_lt, shr_le}
-use Rattle.std.proofs.Math.Nat.{mod-eq_of_lt, mod-mod_of_dvd, div-mul-le_self, pow-le-pow_right, mul-div_cancel_left, mod-mod, mod-zero, zero-mod}
-use Rattle.std.proofs.Math.Nat.{mod_self, mod-lt, mod-add-div, add-mul, mul-add, add-mul-mod_self_left, mul_comm, dvd-sub}
+use Rattle.std.proofs.lemmas.Nat.{le-div, pow_pos, pow-add, shr_split, field_of, and_mask, and_block, and_le_l, and_le_r, and_comm, mul-le, mul-mod_first}
+use Rattle.std.proofs.lemmas.Nat.{xor_lt, or_lt, shr_le}
+use Rattle.std.proofs.Math.Nat.{mod-eq_of_lt, mod-mod_of_dvd, div-mul-le_self, pow-le-pow_right, mul-div_cancel_left, mod-mod, mod-zero, zero-mod, mod_self}
+use Rattle.std.proofs.Math.Nat.{mod-lt, mod-add-div, add-mul, mul-add, add-mul-mod_self_left, mul_comm, dvd-sub}
 use Rattle.std.proofs.lemmas.Nat.Gcd.{dvd_of_mod-eq-zero, mod-eq-zero_of_dvd}
 use Rattle.rv_decode.specs.declared.instruction.BranchOp.{BranchOp}
 use Rattle.rv_decode.specs.declared.instruction.BranchOp.TheVariants as branch
@@ -22,18 +22,16 @@ use Rattle.rv_decode.specs.declared.instruction.RegisterOp.TheVariants as regist
 use Rattle.rv_decode.specs.Word.{signed}
 use Rattle.hart.specs.Effects.{word, computed, with_immediate, shifted, sign_extended, is_taken, flag}
 use Rattle.slot_queue.specs.Queues.{Queue, index_word}
-use Rattle.queue_certificates.specs.Forms.{remainder_word, is_same, bounds_of, Form, form_value, number, first_variable, plus, times, lifted}
-use Rattle.queue_certificates.specs.Forms.{InRanges, Bounds, most}
-use Rattle.queue_certificates.specs.States.{KnownValue, any, linear, index_for, signed_for, ends_as, has_bits, Has, signed_word, scaled}
-use Rattle.queue_certificates.specs.Results.{Result, just, exactly, any_up_to, or_up_to, as_number, or_else, both, is_below}
-use Rattle.queue_certificates.specs.Results.{is_below_signed, set_less, negated, flag_of, shifted_right, sum_of, number_and, taken_known}
-use Rattle.queue_certificates.specs.Results.{Rest, of_rest, negative, rests_added, whole, rest_of, turned, result_by, shifted_left}
-use Rattle.queue_certificates.specs.Results.{xor_of, ending_in, ending_by, Bits, of_bits, bits_of, either_bits, or_of, kept_bits, sign_or, is_less}
-use Rattle.queue_certificates.specs.Results.{index_rest, is_count, counting, rest_counted, multiple_or, masked_row, if_unbounded, remaining}
-use Rattle.queue_certificates.specs.Results.{without, shifted_back, masked, masked_by, bounds, is_equal, immediate_part}
-use Rattle.queue_certificates.specs.Results.{of_immediate, shift_part, of_shift, register_part, of_registers, branch_part, is_branch_taken}
-use Rattle.queue_certificates.proofs.Forms.{taken-away, same-exactly, value-plus, value-times, value-number, value-first, value-lifted}
-use Rattle.queue_certificates.proofs.Forms.{mod-sum, mod-product, plus-value, times-value, round-up}
+use Rattle.queue_certificates.specs.{remainder_word, is_same, bounds_of, Form, form_value, number, first_variable, plus, times, lifted, InRanges, Bounds, most}
+use Rattle.queue_certificates.specs.{KnownValue, any, linear, index_for, signed_for, ends_as, has_bits, Has, signed_word, scaled, Result, just, exactly}
+use Rattle.queue_certificates.specs.{any_up_to, or_up_to, as_number, or_else, both, is_below, is_below_signed, set_less, negated, flag_of, shifted_right}
+use Rattle.queue_certificates.specs.{sum_of, number_and, taken_known, Rest, of_rest, negative, rests_added, whole, rest_of, turned, result_by, shifted_left}
+use Rattle.queue_certificates.specs.{xor_of, ending_in, ending_by, Bits, of_bits, bits_of, either_bits, or_of, kept_bits, sign_or, is_less, index_rest}
+use Rattle.queue_certificates.specs.{is_count, counting, rest_counted, multiple_or, masked_row, if_unbounded, remaining, without, shifted_back, masked}
+use Rattle.queue_certificates.specs.{masked_by, bounds, is_equal, immediate_part, of_immediate, shift_part, of_shift, register_part, of_registers, branch_part}
+use Rattle.queue_certificates.specs.{is_branch_taken}
+use Rattle.queue_certificates.proofs.Forms.{taken-away, same-exactly, value-plus, value-times, value-number, value-first, value-lifted, mod-sum, mod-product}
+use Rattle.queue_certificates.proofs.Forms.{plus-value, times-value, round-up}
 use Rattle.queue_certificates.proofs.Bounds.{value-word}
 use Rattle.queue_certificates.proofs.Values.{scaled-mod, value-scaled, value-offset, has-lifted, known-is, has-bounds, of-bits-has, bits-have}
 use Rattle.queue_certificates.proofs.KnownBits.{or-bits, kept-bits, shl-bits, shr-bits, highest-bit}

@@ -1,6 +1,6 @@
 -- What an instruction of a queue's sender does to its count and to its slots: its effect.
-use Rattle.std.proofs.Common.{ℕ, ℤ, ◌+◌, ◌*◌, ◌^◌, ◌<◌, ◌≤◌, ◌≡◌, ◌==◌, ◌&&◌, ◌||◌, ◌⊎◌, inl, inr, if◌then◌else◌}
-use Rattle.std.proofs.Common.{Bool, true, false, Option, Some, None, List, length, get_or, refl, sym, ◌∙◌, ap, subst, arith}
+use Rattle.std.proofs.Common.{ℕ, ℤ, ◌+◌, ◌*◌, ◌^◌, ◌<◌, ◌≤◌, ◌≡◌, ◌==◌, ◌&&◌, ◌||◌, ◌⊎◌, inl, inr, if◌then◌else◌, Bool, true, false, Option, Some, None, List}
+use Rattle.std.proofs.Common.{length, get_or, refl, sym, ◌∙◌, ap, subst, arith}
 use Rattle.std.proofs.lemmas.Bool.{and_parts, or_cases, ltb-true}
 use Rattle.rv_decode.specs.declared.instruction.Reg.{Reg}
 use Rattle.rv_decode.specs.declared.instruction.StoreOp.{StoreOp}
@@ -8,33 +8,19 @@ use Rattle.rv_decode.specs.declared.instruction.StoreOp.TheVariants as store_op
 use Rattle.rv_decode.specs.declared.instruction.AmoOp.{AmoOp}
 use Rattle.rv_decode.specs.declared.instruction.Instr.{Instr}
 use Rattle.rv_decode.specs.declared.instruction.Instr.TheVariants.{Load, Store, Amo}
-use Rattle.hart.specs.State.{HartState}
-use Rattle.hart.specs.Steps.{advanced}
-use Rattle.hart.specs.Effects.{register_value, address, stored, load_width, store_width, updated}
+use Rattle.hart.specs.{HartState, advanced, register_value, address, stored, load_width, store_width, updated}
 use Rattle.memory.specs.Writes.{write, covers, byte_after}
 use Rattle.memory.proofs.Bytes.{covers-from, covers-yes}
 use Rattle.step_machine.specs.declared.events.Entry.{Entry}
-use Rattle.step_machine.specs.History.{OpeningValue}
-use Rattle.step_machine.specs.Access.{load, store, exchange, access_of}
-use Rattle.step_machine.specs.Paths.{number_read}
-use Rattle.slot_queue.specs.Queues.{Queue, IsQueue, TellsFull, KeepsOff, least_count, slot_of}
-use Rattle.queue_parties.specs.Positions.{IsInBytes}
-use Rattle.queue_parties.specs.Parties.{the_sender, the_receiver, QueueCounts, known, with_known}
-use Rattle.slot_queue.specs.Ownership.{index, party_of, after_access}
-use Rattle.queue_certificates.specs.declared.own.OwnWord.{OwnWord}
-use Rattle.queue_certificates.specs.OwnedRuns.{View, AllCounts, ReadsFrom, ActsByCounts, view_then}
-use Rattle.queue_certificates.specs.RecordFields.{Field}
-use Rattle.queue_certificates.specs.Forms.{Form, form_value, most, Bounds}
-use Rattle.queue_certificates.specs.States.{KnownValue, any, linear, index_for, signed_for, ends_as, has_bits, no_share, KnownState, Has, HasShare, MeansAt}
-use Rattle.queue_certificates.specs.Results.{bounds}
-use Rattle.queue_certificates.specs.Steps.{all_below, last_below, is_just, anywhere, misses, is_off, is_owned, position_at, offset_at, register_at, operand}
-use Rattle.queue_certificates.specs.Steps.{address_value, addresses, is_own_index, value_loaded, updated_value, may_move, may_fill, may_store, leaves_words}
-use Rattle.queue_certificates.specs.Steps.{shares_moved, moved_share, store_by, exchange_by, exchanging, follow, instruction_at}
-use Rattle.queue_certificates.specs.Fields.{last_number}
-use Rattle.queue_certificates.specs.Effects.{published_by, filled_by, moves_head, effect_at, effect_of, value_stored}
-use Rattle.queue_certificates.specs.Filled.{is_number_of}
-use Rattle.queue_certificates.specs.declared.effect.Effect.{Effect}
-use Rattle.queue_certificates.specs.declared.effect.Effect.TheVariants.{Leaves, Fills, Publishes, PublishesSome}
+use Rattle.step_machine.specs.Names.{OpeningValue, load, store, exchange, access_of, number_read}
+use Rattle.slot_queue.specs.{Queue, IsQueue, TellsFull, KeepsOff, least_count, slot_of, index, party_of, after_access}
+use Rattle.queue_parties.specs.{IsInBytes, the_sender, the_receiver, QueueCounts, known, with_known}
+use Rattle.queue_certificates.specs.{OwnWord, View, AllCounts, ReadsFrom, ActsByCounts, view_then, Field, Form, form_value, most, Bounds, KnownValue, any}
+use Rattle.queue_certificates.specs.{linear, index_for, signed_for, ends_as, has_bits, no_share, KnownState, Has, HasShare, MeansAt, bounds, all_below}
+use Rattle.queue_certificates.specs.{last_below, is_just, anywhere, misses, is_off, is_owned, position_at, offset_at, register_at, operand, address_value}
+use Rattle.queue_certificates.specs.{addresses, is_own_index, value_loaded, updated_value, may_move, may_fill, may_store, leaves_words, shares_moved}
+use Rattle.queue_certificates.specs.{moved_share, store_by, exchange_by, exchanging, follow, instruction_at, last_number, published_by, filled_by, moves_head}
+use Rattle.queue_certificates.specs.{effect_at, effect_of, value_stored, is_number_of, Effect, Leaves, Fills, Publishes, PublishesSome}
 use Rattle.queue_certificates.proofs.Values.{has-bounds}
 use Rattle.queue_certificates.proofs.Forms.{value-plus}
 use Rattle.queue_certificates.proofs.States.{at-below}

@@ -2,8 +2,7 @@
 use Rattle.std.proofs.Common.{ℕ, ◌<◌, List}
 use Rattle.hart.specs.State.{HartState}
 use Rattle.step_machine.specs.declared.events.Entry.{Entry}
-use Rattle.step_machine.specs.History.{OpeningValue, history_of}
-use Rattle.step_machine.specs.Legal.{Legal}
+use Rattle.step_machine.specs.Names.{OpeningValue, history_of, Legal}
 use Rattle.queue_parties.specs.Parties.{Party}
 use Rattle.certified_runs.specs.Views.{view_of}
 use Rattle.certified_runs.specs.TwoParties.{hart_in, KeepsProtocol, counts_in}

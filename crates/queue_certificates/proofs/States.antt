@@ -1,25 +1,17 @@
 -- What a known state means after its forms are changed, in its cases, and where an arrow leads.
-use Rattle.std.proofs.Common.{ℕ, zero, suc, ◌+◌, ◌<◌, ◌≤◌, ◌≡◌, ◌≢◌, ◌==◌, ◌&&◌, ◌⊎◌, inl, inr, if◌then◌else◌, Bool}
-use Rattle.std.proofs.Common.{true, false, Option, Some, None, List, [], ◌∷◌, length, get_or, refl, sym, ◌∙◌, ap, subst, arith}
+use Rattle.std.proofs.Common.{ℕ, zero, suc, ◌+◌, ◌<◌, ◌≤◌, ◌≡◌, ◌≢◌, ◌==◌, ◌&&◌, ◌⊎◌, inl, inr, if◌then◌else◌, Bool, true, false, Option, Some, None, List, []}
+use Rattle.std.proofs.Common.{◌∷◌, length, get_or, refl, sym, ◌∙◌, ap, subst, arith}
 use Rattle.std.specs.Prelude.{nat_le, map, set, slice_index, slice_set}
 use Rattle.std.proofs.lemmas.Bool.{and_parts, eqb-true, lt-ltb, cases_lt, cases_eq}
 use Rattle.std.proofs.lemmas.List.{get_or-set_same, get_or-set_other, set_past, get_or_past}
 use Rattle.memory.proofs.Bytes.{joined-same}
-use Rattle.hart.specs.State.{HartState}
-use Rattle.hart.specs.Effects.{written_at}
-use Rattle.slot_queue.specs.Queues.{Queue}
+use Rattle.hart.specs.{HartState, written_at}
+use Rattle.slot_queue.specs.{Queue, end}
 use Rattle.queue_parties.specs.Parties.{Party, the_sender, the_receiver, QueueCounts, count, known}
-use Rattle.slot_queue.specs.Ownership.{end}
-use Rattle.queue_certificates.specs.declared.own.OwnWord.{OwnWord}
-use Rattle.queue_certificates.specs.OwnedRuns.{View, AllCounts, number_seen, IsSameFor}
-use Rattle.queue_certificates.specs.Forms.{Form, form_value, lifted, substituted, raised, settled, is_same, IsAtMost, InRanges, are_in}
-use Rattle.queue_certificates.specs.States.{KnownValue, any, Share, no_share, KnownState, value_by, share_by, state_by, Has, is_within, HasShare, MeansAt}
-use Rattle.queue_certificates.specs.States.{own_at, own_number}
-use Rattle.queue_certificates.specs.Results.{Result}
-use Rattle.queue_certificates.specs.Steps.{all_below, with_register, with_result, going_to}
-use Rattle.queue_certificates.specs.Tags.{tags_lead}
-use Rattle.queue_certificates.specs.Cases.{at_most, beyond, may_exceed, range_changed, with_low, with_high}
-use Rattle.queue_certificates.specs.Certificates.{all_within, is_share, leads_to, arrow_leads}
+use Rattle.queue_certificates.specs.{OwnWord, View, AllCounts, number_seen, IsSameFor, Form, form_value, lifted, substituted, raised, settled, is_same}
+use Rattle.queue_certificates.specs.{IsAtMost, InRanges, are_in, KnownValue, any, Share, no_share, KnownState, value_by, share_by, state_by, Has, is_within}
+use Rattle.queue_certificates.specs.{HasShare, MeansAt, own_at, own_number, Result, all_below, with_register, with_result, going_to, tags_lead, at_most, beyond}
+use Rattle.queue_certificates.specs.{may_exceed, range_changed, with_low, with_high, all_within, is_share, leads_to, arrow_leads}
 use Rattle.queue_certificates.proofs.Forms.{values_of, value-lifted, value-substituted, value-raised, same-exactly, less_at}
 use Rattle.queue_certificates.proofs.Bounds.{forms-in, value-settled}
 use Rattle.queue_certificates.proofs.Values.{has-by, has-back, within}

@@ -1,7 +1,6 @@
 -- What an instruction comes to: one of the states that may follow, and allowed accesses. Here of all that load and store nothing.
-use Rattle.std.proofs.Common.{ℕ, ℤ, pos, negsuc, ◌+ℤ◌, zero, suc, ◌+◌, ◌-◌, ◌*◌, ◌/◌, ◌%◌, ◌^◌, ◌<◌, ◌≤◌, ◌≡◌, ◌≢◌, ◌==◌, ◌&&◌}
-use Rattle.std.proofs.Common.{◌||◌, ◌⊎◌, inl, inr, if◌then◌else◌, Bool, true, false, Option, Some, None, List, [], ◌∷◌}
-use Rattle.std.proofs.Common.{length, get_or, refl, sym, ◌∙◌, ap, subst, arith}
+use Rattle.std.proofs.Common.{ℕ, ℤ, pos, negsuc, ◌+ℤ◌, zero, suc, ◌+◌, ◌-◌, ◌*◌, ◌/◌, ◌%◌, ◌^◌, ◌<◌, ◌≤◌, ◌≡◌, ◌≢◌, ◌==◌, ◌&&◌, ◌||◌, ◌⊎◌, inl, inr}
+use Rattle.std.proofs.Common.{if◌then◌else◌, Bool, true, false, Option, Some, None, List, [], ◌∷◌, length, get_or, refl, sym, ◌∙◌, ap, subst, arith}
 use Rattle.std.specs.Prelude.{nat_lt, nat_le, ◌-ℤ◌, not, map, slice_index, slice_set, set, bit_and}
 use Rattle.std.specs.List.{slice_get}
 use Rattle.std.proofs.lemmas.Bool.{and_parts, or_cases, eqb-true, eqb-false, ltb-true, leb-true, lt-ltb, cases_eq, cases_lt}
@@ -18,12 +17,10 @@ use Rattle.rv_decode.specs.declared.instruction.AmoOp.{AmoOp}
 use Rattle.rv_decode.specs.declared.instruction.AmoOp.TheVariants as amo
 use Rattle.rv_decode.specs.declared.instruction.StoreOp.TheVariants as store_op
 use Rattle.rv_decode.specs.declared.instruction.Instr.{Instr}
-use Rattle.rv_decode.specs.declared.instruction.Instr.TheVariants.{Lui, Auipc, Jal, Jalr, Branch, Load, Store}
-use Rattle.rv_decode.specs.declared.instruction.Instr.TheVariants.{Immediate, Shift, Register, Fence, FenceTso, Ecall, Ebreak, Amo}
-use Rattle.hart.specs.State.{HartState}
-use Rattle.hart.specs.Steps.{need_of, advanced, advanced_by, after_instruction, jump_need, access_need, is_full, called, given}
-use Rattle.hart.specs.Effects.{register_value, written_at, word, next_pc, address, is_taken, with_immediate, shifted}
-use Rattle.hart.specs.Effects.{computed, sign_extended, extended, load_width, stored, store_width, updated}
+use Rattle.rv_decode.specs.declared.instruction.Instr.TheVariants.{Lui, Auipc, Jal, Jalr, Branch, Load, Store, Immediate, Shift, Register, Fence, FenceTso}
+use Rattle.rv_decode.specs.declared.instruction.Instr.TheVariants.{Ecall, Ebreak, Amo}
+use Rattle.hart.specs.{HartState, need_of, advanced, advanced_by, after_instruction, jump_need, access_need, is_full, called, given, register_value, written_at}
+use Rattle.hart.specs.{word, next_pc, address, is_taken, with_immediate, shifted, computed, sign_extended, extended, load_width, stored, store_width, updated}
 use Rattle.hart.specs.declared.status.Stop.{Stop}
 use Rattle.hart.specs.declared.status.Stop.TheVariants as stop
 use Rattle.hart.specs.declared.status.Status.TheVariants as status
@@ -34,41 +31,33 @@ use Rattle.hart.specs.declared.need.Need.TheVariants as need
 use Rattle.hart.proofs.Advances.{advanced-as}
 use Rattle.hart.proofs.Instructions.{IsAt, IsPlain, need_at, after-at, illegal}
 use Rattle.step_machine.specs.declared.events.Entry.{Entry}
-use Rattle.step_machine.specs.History.{OpeningValue}
-use Rattle.step_machine.specs.Access.{Access, nothing, load, store, exchange, fence, land, access_of}
-use Rattle.step_machine.specs.Entries.{hart_of}
+use Rattle.step_machine.specs.Names.{OpeningValue, Access, nothing, load, store, exchange, fence, land, access_of, hart_of}
 use Rattle.step_machine.specs.Paths.{number_read, entry_of}
 use Rattle.store_buffers.specs.StoreBuffers.{LeavesByteBy}
 use Rattle.slot_queue.specs.Queues.{Queue, IsQueue, TellsFull, KeepsOff, index_word}
 use Rattle.queue_parties.specs.Parties.{Party, other, QueueCounts, count, known as known_of}
 use Rattle.slot_queue.specs.Ownership.{hart, index, party_of, after_load as after_load_of, after_access, KeepsAccess}
-use Rattle.queue_certificates.specs.declared.own.OwnWord.{OwnWord}
-use Rattle.queue_certificates.specs.OwnedRuns.{View, AllCounts, number_seen, view_then, ActsByCounts, ReadsFrom, IsSameFor, LoadsOwned, OwnsSlotsOf}
-use Rattle.queue_certificates.specs.Forms.{Form, form_value, number, plus, minus, is_same, most, fits_in, lifted, Bounds, remainder_word}
-use Rattle.queue_certificates.specs.States.{KnownValue, any, linear, index_for, signed_for, ends_as, has_bits, own_at, own_number}
-use Rattle.queue_certificates.specs.States.{signed_word, Share, no_share, share_by, KnownState}
-use Rattle.queue_certificates.specs.States.{value_by, state_by, scaled, plain, is_within, Has, HasShare, MeansAt}
-use Rattle.queue_certificates.specs.Results.{Result, just, exactly, as_number, bounds, sum_of, of_immediate, of_shift, of_registers, is_branch_taken}
-use Rattle.queue_certificates.specs.Results.{counting}
-use Rattle.queue_certificates.specs.Steps.{with_register, with_result, going_to, goes_by, operand, jumping}
-use Rattle.queue_certificates.specs.Steps.{low_form, low_bytes, stored_value, keeps_value, without_sign}
-use Rattle.queue_certificates.specs.Steps.{called as called_state, follow, register_at, instruction_at, loads_owned}
-use Rattle.queue_certificates.specs.Steps.{reads_owned, updated_value, after_exchange, exchanging, addresses}
-use Rattle.queue_certificates.specs.Steps.{address_value, anywhere, is_one, is_whole, misses, is_look, is_own_index}
-use Rattle.queue_certificates.specs.Steps.{is_own_word, word_loaded, index_loaded, value_loaded, extended_value}
-use Rattle.queue_certificates.specs.Steps.{is_index_below, signed_value, most_loaded, loaded, shared, with_equal, when_taken, when_passed}
-use Rattle.queue_certificates.specs.Steps.{last_below, is_just, may_load, after_load, looked_word, owned_then}
-use Rattle.queue_certificates.specs.Steps.{looked_share, back_of, loading, all_below, shares_moved, moved_share}
-use Rattle.queue_certificates.specs.Steps.{is_copy, immediate_result, is_cut, may_move, may_fill, may_store, leaves_words, is_off, is_owned, is_apart}
-use Rattle.queue_certificates.specs.Steps.{storable, word_then, words_then, after_store, storing}
+use Rattle.queue_certificates.specs.{OwnWord, View, AllCounts, number_seen, view_then, ActsByCounts, ReadsFrom, IsSameFor, LoadsOwned, OwnsSlotsOf, Form}
+use Rattle.queue_certificates.specs.{form_value, number, plus, minus, is_same, most, fits_in, lifted, Bounds, remainder_word, KnownValue, any, linear}
+use Rattle.queue_certificates.specs.{index_for, signed_for, ends_as, has_bits, own_at, own_number, signed_word, Share, no_share, share_by, KnownState, value_by}
+use Rattle.queue_certificates.specs.{state_by, scaled, plain, is_within, Has, HasShare, MeansAt, Result, just, exactly, as_number, bounds, sum_of, of_immediate}
+use Rattle.queue_certificates.specs.{of_shift, of_registers, is_branch_taken, counting, with_register, with_result, going_to, goes_by, operand, jumping}
+use Rattle.queue_certificates.specs.{low_form, low_bytes, stored_value, keeps_value, without_sign, follow, register_at, instruction_at, loads_owned}
+use Rattle.queue_certificates.specs.{reads_owned, updated_value, after_exchange, exchanging, addresses, address_value, anywhere, is_one, is_whole, misses}
+use Rattle.queue_certificates.specs.{is_look, is_own_index, is_own_word, word_loaded, index_loaded, value_loaded, extended_value, is_index_below, signed_value}
+use Rattle.queue_certificates.specs.{most_loaded, loaded, shared, with_equal, when_taken, when_passed, last_below, is_just, may_load, after_load, looked_word}
+use Rattle.queue_certificates.specs.{owned_then, looked_share, back_of, loading, all_below, shares_moved, moved_share, is_copy, immediate_result, is_cut}
+use Rattle.queue_certificates.specs.{may_move, may_fill, may_store, leaves_words, is_off, is_owned, is_apart, storable, word_then, words_then, after_store}
+use Rattle.queue_certificates.specs.{storing}
+use Rattle.queue_certificates.specs.Steps.{called as called_state}
 use Rattle.queue_certificates.proofs.Values.{word-linear, has-plain, known-is, has-bounds, within}
 use Rattle.queue_certificates.proofs.Forms.{same-value}
 use Rattle.queue_certificates.proofs.Results.{word-of-sum, word-small, word-has, sum-has, Gives, just-gives, divisor-below, counted-has, kept-has}
-use Rattle.queue_certificates.proofs.Results.{signed-of-bits, signed-fits, signed-rest, or-up-to-gives, exactly-gives}
-use Rattle.queue_certificates.proofs.Results.{immediate-gives, shift-gives, register-gives, branch-is}
+use Rattle.queue_certificates.proofs.Results.{signed-of-bits, signed-fits, signed-rest, or-up-to-gives, exactly-gives, immediate-gives, shift-gives}
+use Rattle.queue_certificates.proofs.Results.{register-gives, branch-is}
 use Rattle.queue_certificates.proofs.States.{means-result, means-going, means-lifted, means-moved, means-frame, written-has, at-below}
-use Rattle.queue_certificates.proofs.Stores.{width-divides, stored-low, apart-from, written-number, left-number, stored-whole, stored-part}
-use Rattle.queue_certificates.proofs.Stores.{keeps-off, Stored, stays-off, stays-filled, moves-on, owned-slots, off-slots}
+use Rattle.queue_certificates.proofs.Stores.{width-divides, stored-low, apart-from, written-number, left-number, stored-whole, stored-part, keeps-off, Stored}
+use Rattle.queue_certificates.proofs.Stores.{stays-off, stays-filled, moves-on, owned-slots, off-slots}
 use Rattle.queue_certificates.proofs.Bounds.{value-below, fits-below, value-word}
 use Rattle.slot_queue.proofs.Codes.{word-small as word-fits}
 use Rattle.queue_parties.proofs.Parties.{Whose, mine as is_party, theirs as is_third, whose}

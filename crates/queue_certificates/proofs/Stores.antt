@@ -1,6 +1,6 @@
 -- What single stores of a hart come to.
-use Rattle.std.proofs.Common.{ℕ, ◌+◌, ◌-◌, ◌*◌, ◌/◌, ◌%◌, ◌^◌, ◌<◌, ◌≤◌, ◌≡◌, ◌&&◌, inl, inr, if◌then◌else◌, Bool, true}
-use Rattle.std.proofs.Common.{false, Option, Some, None, List, refl, sym, ◌∙◌, ap, subst, arith}
+use Rattle.std.proofs.Common.{ℕ, ◌+◌, ◌-◌, ◌*◌, ◌/◌, ◌%◌, ◌^◌, ◌<◌, ◌≤◌, ◌≡◌, ◌&&◌, inl, inr, if◌then◌else◌, Bool, true, false, Option, Some, None, List, refl}
+use Rattle.std.proofs.Common.{sym, ◌∙◌, ap, subst, arith}
 use Rattle.std.specs.Prelude.{nat_lt, nat_le}
 use Rattle.std.specs.Int.{byte_at}
 use Rattle.std.proofs.lemmas.Bool.{and_parts, or_cases, ltb-true, leb-true}
@@ -13,17 +13,14 @@ use Rattle.memory.specs.Writes.{write, covers, byte_after}
 use Rattle.memory.proofs.Bytes.{joined-same, covers-yes, covers-from}
 use Rattle.memory.proofs.Joined.{joined-bytes}
 use Rattle.step_machine.specs.Access.{store}
-use Rattle.slot_queue.specs.Queues.{Queue, IsQueue, KeepsOff, index_word, slot_of}
-use Rattle.queue_parties.specs.Positions.{IsInBytes}
-use Rattle.queue_parties.specs.Parties.{Party, the_sender, the_receiver, QueueCounts, count, with_count}
-use Rattle.slot_queue.specs.Ownership.{index, end, moved, FillsOwned, KeepsAccess, after_access}
+use Rattle.slot_queue.specs.{Queue, IsQueue, KeepsOff, index_word, slot_of, index, end, moved, FillsOwned, KeepsAccess, after_access}
+use Rattle.queue_parties.specs.{IsInBytes, Party, the_sender, the_receiver, QueueCounts, count, with_count}
 use Rattle.queue_parties.proofs.Parties.{count-set}
 use Rattle.slot_queue.proofs.Looks.{end-set-count}
-use Rattle.queue_certificates.specs.OwnedRuns.{View, number_seen, view_then, OwnsSlotsOf}
+use Rattle.queue_certificates.specs.{View, number_seen, view_then, OwnsSlotsOf, Form, form_value, number, plus, times, minus, is_same, most, fits_in, remainder}
+use Rattle.queue_certificates.specs.{InRanges, Bounds, KnownValue, any, linear, index_for, signed_for, ends_as, has_bits, Share, Has, HasShare, is_apart}
+use Rattle.queue_certificates.specs.{is_off, position_at, offset_at, is_slot, is_owned, moved_share}
 use Rattle.queue_certificates.proofs.OwnedAccesses.{moves, fills, off, loads_owned}
-use Rattle.queue_certificates.specs.Forms.{Form, form_value, number, plus, times, minus, is_same, most, fits_in, remainder, InRanges, Bounds}
-use Rattle.queue_certificates.specs.States.{KnownValue, any, linear, index_for, signed_for, ends_as, has_bits, Share, Has, HasShare}
-use Rattle.queue_certificates.specs.Steps.{is_apart, is_off, position_at, offset_at, is_slot, is_owned, moved_share}
 use Rattle.queue_certificates.proofs.Bounds.{value-below, fits-below, value-remainder}
 use Rattle.queue_certificates.proofs.Forms.{value-plus, value-times, value-number, same-value, same-exactly}
 use Rattle.queue_certificates.proofs.Values.{within}

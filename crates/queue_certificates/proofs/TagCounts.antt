@@ -1,6 +1,5 @@
 -- What single accesses make of the counts of a queue whose slots tell, and of a party's share.
-use Rattle.std.proofs.Common.{ℕ, ◌+◌, ◌-◌, ◌<◌, ◌≤◌, ◌≡◌, true, if◌then◌else◌, Option, Some, None, List, ◌∷◌, refl}
-use Rattle.std.proofs.Common.{sym, ◌∙◌, ap, subst, arith}
+use Rattle.std.proofs.Common.{ℕ, ◌+◌, ◌-◌, ◌<◌, ◌≤◌, ◌≡◌, true, if◌then◌else◌, Option, Some, None, List, ◌∷◌, refl, sym, ◌∙◌, ap, subst, arith}
 use Rattle.memory.specs.declared.writes.Write.{Write}
 use Rattle.memory.specs.Writes.{write}
 use Rattle.memory.proofs.Bytes.{covers-from}
@@ -12,9 +11,7 @@ use Rattle.slots_that_tell.specs.Telling.{owned_end, told, moved, after_load, af
 use Rattle.slots_that_tell.proofs.Places.{moved-leaves, fills-leaves}
 use Rattle.slots_that_tell.proofs.Owned.{loaded-count, grows-load, stored-end}
 use Rattle.queue_certificates.proofs.ToldAccesses.{tag_loaded, told_owns, knows_of}
-use Rattle.queue_certificates.specs.Forms.{Form, form_value, number, plus, lifted, Bounds}
-use Rattle.queue_certificates.specs.States.{Share}
-use Rattle.queue_certificates.specs.Tags.{HasAtLeast, is_beside_slots}
+use Rattle.queue_certificates.specs.{Form, form_value, number, plus, lifted, Bounds, Share, HasAtLeast, is_beside_slots}
 use Rattle.queue_layouts.specs.Tagged.{slots_of}
 use Rattle.queue_layouts.specs.declared.tagged.TaggedQueue.{TaggedQueue}
 use Rattle.queue_certificates.proofs.Forms.{value-plus, value-number, value-lifted}

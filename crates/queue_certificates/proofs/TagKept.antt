@@ -1,6 +1,6 @@
 -- A state that may follow says of queues with tags what the state before did, as far as the instruction is of none.
-use Rattle.std.proofs.Common.{ℕ, ℤ, ◌<◌, ◌≤◌, ◌≡◌, ◌≢◌, if◌then◌else◌, Bool, true, false, Option, Some, None, List, [], ◌∷◌, length, get_or}
-use Rattle.std.proofs.Common.{refl, sym, ◌∙◌, ap, subst, arith}
+use Rattle.std.proofs.Common.{ℕ, ℤ, ◌<◌, ◌≤◌, ◌≡◌, ◌≢◌, if◌then◌else◌, Bool, true, false, Option, Some, None, List, [], ◌∷◌, length, get_or, refl, sym, ◌∙◌, ap}
+use Rattle.std.proofs.Common.{subst, arith}
 use Rattle.std.specs.Prelude.{map}
 use Rattle.std.proofs.lemmas.List.{length-set, length-map, get_or-set_other}
 use Rattle.rv_decode.specs.declared.instruction.Reg.{Reg}
@@ -9,20 +9,14 @@ use Rattle.rv_decode.specs.declared.instruction.BranchOp.TheVariants as branch
 use Rattle.rv_decode.specs.declared.instruction.LoadOp.{LoadOp}
 use Rattle.rv_decode.specs.declared.instruction.AmoOp.{AmoOp}
 use Rattle.rv_decode.specs.declared.instruction.Instr.{Instr}
-use Rattle.rv_decode.specs.declared.instruction.Instr.TheVariants.{Lui, Auipc, Jal, Jalr, Branch, Load, Store}
-use Rattle.rv_decode.specs.declared.instruction.Instr.TheVariants.{Immediate, Shift, Register, Fence, FenceTso, Ecall}
-use Rattle.rv_decode.specs.declared.instruction.Instr.TheVariants.{Ebreak, Amo}
+use Rattle.rv_decode.specs.declared.instruction.Instr.TheVariants.{Lui, Auipc, Jal, Jalr, Branch, Load, Store, Immediate, Shift, Register, Fence, FenceTso}
+use Rattle.rv_decode.specs.declared.instruction.Instr.TheVariants.{Ecall, Ebreak, Amo}
 use Rattle.hart.specs.Effects.{next_pc, load_width}
 use Rattle.slot_queue.specs.Queues.{Queue}
-use Rattle.queue_certificates.specs.declared.own.OwnWord.{OwnWord}
-use Rattle.queue_certificates.specs.RecordFields.{Field}
-use Rattle.queue_certificates.specs.Forms.{Form, lifted, Bounds}
-use Rattle.queue_certificates.specs.States.{KnownValue, any, linear, index_for, signed_for, ends_as, has_bits, Share, no_share, share_by, KnownState}
-use Rattle.queue_certificates.specs.Results.{Result}
-use Rattle.queue_certificates.specs.Steps.{last_below, with_result, going_to, goes_by, jumping, called, shared, when_taken, when_passed}
-use Rattle.queue_certificates.specs.Steps.{after_load, load_by, loading, shares_moved, after_store, storing, after_exchange}
-use Rattle.queue_certificates.specs.Steps.{exchanging, follow, moved_share, looked_share, is_look, is_own_index}
-use Rattle.queue_certificates.specs.Fields.{field_number, keeps_numbers, after_field, next_received}
+use Rattle.queue_certificates.specs.{OwnWord, Field, Form, lifted, Bounds, KnownValue, any, linear, index_for, signed_for, ends_as, has_bits, Share, no_share}
+use Rattle.queue_certificates.specs.{share_by, KnownState, Result, last_below, with_result, going_to, goes_by, jumping, called, shared, when_taken, when_passed}
+use Rattle.queue_certificates.specs.{after_load, load_by, loading, shares_moved, after_store, storing, after_exchange, exchanging, follow, moved_share}
+use Rattle.queue_certificates.specs.{looked_share, is_look, is_own_index, field_number, keeps_numbers, after_field, next_received}
 use Rattle.queue_certificates.proofs.Forms.{value-lifted}
 use Rattle.queue_certificates.proofs.Accesses.{found-below}
 use Rattle.queue_certificates.proofs.Received.{none-follows}

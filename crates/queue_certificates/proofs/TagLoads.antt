@@ -1,37 +1,24 @@
 -- Loads where there are queues with tags: of a whole tag, after which a party may be told that it has the position, and of anything else.
-use Rattle.std.proofs.Common.{ℕ, ℤ, ◌+◌, ◌^◌, ◌<◌, ◌≤◌, ◌≡◌, inl, inr, if◌then◌else◌, Bool, true, false}
-use Rattle.std.proofs.Common.{Option, Some, None, List, [], ◌∷◌, length, get_or, refl, sym, ◌∙◌, ap, subst, arith}
+use Rattle.std.proofs.Common.{ℕ, ℤ, ◌+◌, ◌^◌, ◌<◌, ◌≤◌, ◌≡◌, inl, inr, if◌then◌else◌, Bool, true, false, Option, Some, None, List, [], ◌∷◌, length, get_or}
+use Rattle.std.proofs.Common.{refl, sym, ◌∙◌, ap, subst, arith}
 use Rattle.std.specs.Prelude.{nat_lt, is_some}
 use Rattle.std.proofs.lemmas.Bool.{ltb-true}
 use Rattle.rv_decode.specs.declared.instruction.Reg.{Reg}
 use Rattle.rv_decode.specs.declared.instruction.LoadOp.{LoadOp}
 use Rattle.rv_decode.specs.declared.instruction.Instr.TheVariants.{Load}
-use Rattle.hart.specs.State.{HartState}
-use Rattle.hart.specs.Steps.{advanced}
-use Rattle.hart.specs.Effects.{register_value, address, next_pc, extended, load_width}
+use Rattle.hart.specs.{HartState, advanced, register_value, address, next_pc, extended, load_width}
 use Rattle.hart.specs.declared.status.Status.TheVariants as status
 use Rattle.step_machine.specs.declared.events.Entry.{Entry}
-use Rattle.step_machine.specs.History.{OpeningValue}
-use Rattle.step_machine.specs.Access.{Access, load, access_of}
-use Rattle.step_machine.specs.Paths.{number_read}
-use Rattle.slot_queue.specs.Queues.{Queue, IsQueue, TellsFull}
-use Rattle.slot_queue.specs.Ownership.{party_of, after_access}
+use Rattle.step_machine.specs.Names.{OpeningValue, Access, load, access_of, number_read}
+use Rattle.slot_queue.specs.{Queue, IsQueue, TellsFull, party_of, after_access}
 use Rattle.queue_parties.specs.Parties.{Party, count}
-use Rattle.slots_that_tell.specs.Slots.{IsSlots, tag_of}
-use Rattle.slots_that_tell.specs.Telling.{teller_hart, after_load, told_access}
+use Rattle.slots_that_tell.specs.{IsSlots, tag_of, teller_hart, after_load, told_access}
 use Rattle.slots_that_tell.proofs.Owned.{mine-of}
-use Rattle.queue_certificates.specs.declared.own.OwnWord.{OwnWord}
-use Rattle.queue_certificates.specs.ToldRuns.{TellsEither, SeesTags, OwnsAllButTags}
-use Rattle.queue_certificates.specs.OwnedRuns.{View, AllCounts, number_seen, ReadsFrom, view_then, ActsByCounts}
-use Rattle.queue_certificates.specs.Forms.{number, lifted, Bounds}
-use Rattle.queue_certificates.specs.States.{KnownValue, Share, no_share, KnownState, Has, MeansAt}
-use Rattle.queue_certificates.specs.Results.{Result}
-use Rattle.queue_certificates.specs.Steps.{address_value, addresses, with_result, instruction_at}
-use Rattle.queue_certificates.specs.Steps.{may_load}
-use Rattle.queue_certificates.specs.Tags.{party_in, is_tagged, is_codec, HasAtLeast, AreTold, loads_rest}
+use Rattle.queue_certificates.specs.{OwnWord, TellsEither, SeesTags, OwnsAllButTags, View, AllCounts, number_seen, ReadsFrom, view_then, ActsByCounts, number}
+use Rattle.queue_certificates.specs.{lifted, Bounds, KnownValue, Share, no_share, KnownState, Has, MeansAt, Result, address_value, addresses, with_result}
+use Rattle.queue_certificates.specs.{instruction_at, may_load, party_in, is_tagged, is_codec, HasAtLeast, AreTold, loads_rest, tag_position, told_value}
+use Rattle.queue_certificates.specs.{other_value, when_told, after_tag, load_tells, looked_tag, tag_at, tag_by, at_tag}
 use Rattle.queue_layouts.specs.Tagged.{slots_of}
-use Rattle.queue_certificates.specs.Tags.{tag_position, told_value, other_value, when_told, after_tag, load_tells}
-use Rattle.queue_certificates.specs.Tags.{looked_tag, tag_at, tag_by, at_tag}
 use Rattle.queue_layouts.specs.declared.tagged.TaggedQueue.{TaggedQueue}
 use Rattle.queue_certificates.proofs.Steps.{nobody_told, nothing_sent, IsNext, Goes}
 use Rattle.queue_certificates.proofs.Steps as steps

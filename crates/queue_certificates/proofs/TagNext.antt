@@ -1,6 +1,5 @@
 -- One of the states that may follow says what is so of queues with tags: after an access that is of none of them, or with one share changed.
-use Rattle.std.proofs.Common.{ℕ, ◌+◌, ◌<◌, ◌≤◌, ◌≡◌, ◌≢◌, ◌⊎◌, inl, inr, true}
-use Rattle.std.proofs.Common.{Some, List, [], ◌∷◌, length, get_or, refl, sym, ◌∙◌, ap, subst, arith}
+use Rattle.std.proofs.Common.{ℕ, ◌+◌, ◌<◌, ◌≤◌, ◌≡◌, ◌≢◌, ◌⊎◌, inl, inr, true, Some, List, [], ◌∷◌, length, get_or, refl, sym, ◌∙◌, ap, subst, arith}
 use Rattle.std.specs.Prelude.{set}
 use Rattle.std.proofs.lemmas.Bool.{cases_eq, cases_lt}
 use Rattle.std.proofs.lemmas.List.{get_or-set_same, get_or-set_other, set_past}
@@ -9,10 +8,8 @@ use Rattle.step_machine.specs.Access.{Access, load}
 use Rattle.slot_queue.specs.Queues.{Queue}
 use Rattle.queue_parties.specs.Parties.{Party}
 use Rattle.slots_that_tell.specs.Telling.{teller_hart, told_access}
-use Rattle.queue_certificates.specs.declared.own.OwnWord.{OwnWord}
-use Rattle.queue_certificates.specs.OwnedRuns.{View, AllCounts}
-use Rattle.queue_certificates.specs.States.{Share, no_share, KnownState, HasShare, MeansAt}
-use Rattle.queue_certificates.specs.Tags.{party_in, is_tagged, HasAtLeast, with_share, AreTold}
+use Rattle.queue_certificates.specs.{OwnWord, View, AllCounts, Share, no_share, KnownState, HasShare, MeansAt, party_in, is_tagged, HasAtLeast, with_share}
+use Rattle.queue_certificates.specs.{AreTold}
 use Rattle.queue_layouts.specs.Tagged.{slots_of}
 use Rattle.queue_layouts.specs.declared.tagged.TaggedQueue.{TaggedQueue}
 use Rattle.queue_certificates.proofs.Steps.{IsAmong}

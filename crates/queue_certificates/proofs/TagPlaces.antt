@@ -1,21 +1,16 @@
 -- What the tests of addresses mean, of a queue whose slots tell.
-use Rattle.std.proofs.Common.{ℕ, ◌+◌, ◌*◌, ◌%◌, ◌<◌, ◌≤◌, ◌≡◌, ◌==◌, ◌&&◌, ◌||◌, ◌⊎◌, inl, inr, not, if◌then◌else◌}
-use Rattle.std.proofs.Common.{Bool, true, false, Option, Some, None, List, refl, sym, ◌∙◌, ap, subst, arith}
+use Rattle.std.proofs.Common.{ℕ, ◌+◌, ◌*◌, ◌%◌, ◌<◌, ◌≤◌, ◌≡◌, ◌==◌, ◌&&◌, ◌||◌, ◌⊎◌, inl, inr, not, if◌then◌else◌, Bool, true, false, Option, Some, None, List}
+use Rattle.std.proofs.Common.{refl, sym, ◌∙◌, ap, subst, arith}
 use Rattle.std.specs.Prelude.{nat_lt, nat_le}
 use Rattle.std.proofs.lemmas.Bool.{and_parts, or_cases, ltb-true, leb-true, eq-eqb, eqb-true, not-true, cases_lt}
-use Rattle.queue_parties.specs.Parties.{Party, other, QueueCounts, count}
-use Rattle.queue_parties.specs.Positions.{IsInBytes}
+use Rattle.queue_parties.specs.{Party, other, QueueCounts, count, IsInBytes}
 use Rattle.slot_queue.specs.Queues.{Queue, slot_of}
 use Rattle.queue_parties.proofs.Positions.{slot-within}
-use Rattle.slots_that_tell.specs.Slots.{IsSlots, AreSlots, AreApart, tag_of, IsSlotByte, IsTagByte, IsOutside}
-use Rattle.slots_that_tell.specs.Telling.{owned_end, OwnsRest}
-use Rattle.queue_certificates.specs.ToldRuns.{IsOfTag, OwnsAllButTags}
-use Rattle.queue_certificates.specs.Forms.{Form, form_value, number, plus, remainder, InRanges, Bounds}
-use Rattle.queue_certificates.specs.States.{KnownValue, any, linear, index_for, signed_for, ends_as, has_bits, Share, Has}
-use Rattle.queue_certificates.specs.Steps.{position_at, offset_at, is_apart, is_slot, is_owned}
-use Rattle.queue_certificates.specs.Tags.{bare, elements, are_slots, HasAtLeast, is_in_element, tag_position}
+use Rattle.slots_that_tell.specs.{IsSlots, AreSlots, AreApart, tag_of, IsSlotByte, IsTagByte, IsOutside, owned_end, OwnsRest}
+use Rattle.queue_certificates.specs.{IsOfTag, OwnsAllButTags, Form, form_value, number, plus, remainder, InRanges, Bounds, KnownValue, any, linear, index_for}
+use Rattle.queue_certificates.specs.{signed_for, ends_as, has_bits, Share, Has, position_at, offset_at, is_apart, is_slot, is_owned, bare, elements, are_slots}
+use Rattle.queue_certificates.specs.{HasAtLeast, is_in_element, tag_position, is_of_rest, is_of_tag, is_beside_slots}
 use Rattle.queue_layouts.specs.Tagged.{slots_of}
-use Rattle.queue_certificates.specs.Tags.{is_of_rest, is_of_tag, is_beside_slots}
 use Rattle.queue_layouts.specs.declared.tagged.TaggedQueue.{TaggedQueue}
 use Rattle.queue_certificates.proofs.Stores.{apart-none, slot-place, position-near}
 

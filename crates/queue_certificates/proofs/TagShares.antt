@@ -1,6 +1,6 @@
 -- A hart's shares of queues with tags: where a run opens, after a state's forms are changed, in its cases, and where an arrow leads.
-use Rattle.std.proofs.Common.{ℕ, zero, suc, ◌+◌, ◌-◌, ◌*◌, ◌%◌, ◌^◌, ◌<◌, ◌≤◌, ◌≡◌, ◌≢◌, ◌==◌, ◌&&◌, ◌||◌, ◌⊎◌, inl, inr, not}
-use Rattle.std.proofs.Common.{true, false, Option, Some, List, [], ◌∷◌, length, get_or, refl, sym, ◌∙◌, ap, subst, arith}
+use Rattle.std.proofs.Common.{ℕ, zero, suc, ◌+◌, ◌-◌, ◌*◌, ◌%◌, ◌^◌, ◌<◌, ◌≤◌, ◌≡◌, ◌≢◌, ◌==◌, ◌&&◌, ◌||◌, ◌⊎◌, inl, inr, not, true, false, Option, Some, List}
+use Rattle.std.proofs.Common.{[], ◌∷◌, length, get_or, refl, sym, ◌∙◌, ap, subst, arith}
 use Rattle.std.specs.Prelude.{map, nat_le, nat_lt}
 use Rattle.std.proofs.lemmas.Bool.{and_parts, or_cases, eqb-true, eqb-false, leb-true, not-true}
 use Rattle.std.proofs.lemmas.List.Elements.{All-nil}
@@ -13,14 +13,10 @@ use Rattle.slot_queue.specs.Queues.{Queue}
 use Rattle.slots_that_tell.specs.Slots.{Slots, IsSlots, AreSlots, AreApart, gap, RestsAt, KeepsOff, tag_of}
 use Rattle.slots_that_tell.specs.Telling.{teller_of, teller_hart, owned_end}
 use Rattle.slots_that_tell.proofs.Codecs.{zero_differs, numbered_differs, bits_differ}
-use Rattle.queue_certificates.specs.declared.own.OwnWord.{OwnWord}
-use Rattle.queue_certificates.specs.ToldRuns.{telling}
-use Rattle.queue_certificates.specs.Forms.{Form, form_value, substituted, raised, settled, is_same, InRanges, most, fits_in}
-use Rattle.queue_certificates.specs.States.{Share, no_share, KnownState, share_by, state_by}
-use Rattle.queue_certificates.specs.Certificates.{QueueCertificate, tagged_at, tagged_start, SharesTold, opens_all_told, leads_to, arrow_leads}
-use Rattle.queue_certificates.specs.Cases.{at_most, beyond, range_changed, with_low, with_high}
-use Rattle.queue_certificates.specs.Certificates.{opens_told, opens_free}
-use Rattle.queue_certificates.specs.Tags.{party_in, are_slots, are_apart_from_slots, is_codec, is_tagged, HasAtLeast, AreTold, covers_share, tags_lead}
+use Rattle.queue_certificates.specs.{OwnWord, telling, Form, form_value, substituted, raised, settled, is_same, InRanges, most, fits_in, Share, no_share}
+use Rattle.queue_certificates.specs.{KnownState, share_by, state_by, QueueCertificate, tagged_at, tagged_start, SharesTold, opens_all_told, leads_to}
+use Rattle.queue_certificates.specs.{arrow_leads, opens_told, opens_free, at_most, beyond, range_changed, with_low, with_high, party_in, are_slots}
+use Rattle.queue_certificates.specs.{are_apart_from_slots, is_codec, is_tagged, HasAtLeast, AreTold, covers_share, tags_lead}
 use Rattle.queue_layouts.specs.Tagged.{slots_of, tells_by}
 use Rattle.queue_layouts.specs.declared.tagged.Codec.{Codec}
 use Rattle.queue_layouts.specs.declared.tagged.Codec.TheVariants as codec

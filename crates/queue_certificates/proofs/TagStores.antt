@@ -1,36 +1,25 @@
 -- Stores, and those of AMOs, where there are queues with tags: a party may make them, and which shares are then right.
-use Rattle.std.proofs.Common.{ℕ, ◌+◌, ◌<◌, ◌≤◌, ◌≡◌, ◌&&◌, ◌||◌, inl, inr, if◌then◌else◌, Bool, true, false}
-use Rattle.std.proofs.Common.{Option, Some, None, List, [], ◌∷◌, length, get_or, refl, sym, ◌∙◌, ap, subst, arith}
+use Rattle.std.proofs.Common.{ℕ, ◌+◌, ◌<◌, ◌≤◌, ◌≡◌, ◌&&◌, ◌||◌, inl, inr, if◌then◌else◌, Bool, true, false, Option, Some, None, List, [], ◌∷◌, length, get_or}
+use Rattle.std.proofs.Common.{refl, sym, ◌∙◌, ap, subst, arith}
 use Rattle.std.specs.Prelude.{map, nat_le, nat_lt}
 use Rattle.std.proofs.lemmas.Bool.{and_parts, or_cases, leb-true, ltb-true, eq-eqb, ne_eqb}
 use Rattle.rv_decode.specs.declared.instruction.StoreOp.{StoreOp}
 use Rattle.memory.specs.declared.writes.Write.{Write}
 use Rattle.memory.specs.Writes.{write}
 use Rattle.memory.proofs.Bytes.{covers-from, covers-yes}
-use Rattle.hart.specs.State.{HartState}
-use Rattle.hart.specs.Effects.{stored, store_width}
+use Rattle.hart.specs.{HartState, stored, store_width}
 use Rattle.step_machine.specs.Access.{store}
 use Rattle.slot_queue.specs.Queues.{Queue}
 use Rattle.queue_parties.specs.Parties.{Party, the_sender, other, count}
-use Rattle.slots_that_tell.specs.Slots.{IsSlots, tag_of, tagged_slot}
-use Rattle.slots_that_tell.specs.Telling.{MovesOn, MayStore, moved, teller_hart, told_access, TellsAccess, FillsOwned}
+use Rattle.slots_that_tell.specs.{IsSlots, tag_of, tagged_slot, MovesOn, MayStore, moved, teller_hart, told_access, TellsAccess, FillsOwned}
 use Rattle.slots_that_tell.proofs.Owned.{mine-of}
 use Rattle.slots_that_tell.proofs.Places.{moved-leaves, fills-leaves}
 use Rattle.queue_certificates.proofs.ToldAccesses.{moves}
-use Rattle.queue_certificates.specs.declared.own.OwnWord.{OwnWord}
-use Rattle.queue_certificates.specs.OwnedRuns.{View, AllCounts}
-use Rattle.queue_certificates.specs.Forms.{InRanges, Bounds}
-use Rattle.queue_certificates.specs.States.{KnownValue, any, linear, index_for, signed_for, ends_as, has_bits, Share, no_share, KnownState, Has}
-use Rattle.queue_certificates.specs.Steps.{is_just, is_owned, position_at, offset_at}
-use Rattle.queue_certificates.specs.Tags.{bare, party_in, is_tagged, HasAtLeast, with_share, AreTold}
+use Rattle.queue_certificates.specs.{OwnWord, View, AllCounts, InRanges, Bounds, KnownValue, any, linear, index_for, signed_for, ends_as, has_bits, Share}
+use Rattle.queue_certificates.specs.{no_share, KnownState, Has, is_just, is_owned, position_at, offset_at, bare, party_in, is_tagged, HasAtLeast, with_share}
+use Rattle.queue_certificates.specs.{AreTold, is_beside_slots, is_of_rest, tag_at, tag_by, moved_tag, may_tell, may_store_all, hands_over, handed, all_handed}
+use Rattle.queue_certificates.specs.{filled_by, tag_effect_at, Effect, Leaves, Fills, Publishes}
 use Rattle.queue_layouts.specs.Tagged.{slots_of}
-use Rattle.queue_certificates.specs.Tags.{is_beside_slots, is_of_rest}
-use Rattle.queue_certificates.specs.Tags.{tag_at, tag_by}
-use Rattle.queue_certificates.specs.Effects.{filled_by}
-use Rattle.queue_certificates.specs.TagEffects.{tag_effect_at}
-use Rattle.queue_certificates.specs.declared.effect.Effect.{Effect}
-use Rattle.queue_certificates.specs.declared.effect.Effect.TheVariants.{Leaves, Fills, Publishes}
-use Rattle.queue_certificates.specs.Tags.{moved_tag, may_tell, may_store_all, hands_over, handed, all_handed}
 use Rattle.queue_layouts.specs.declared.tagged.TaggedQueue.{TaggedQueue}
 use Rattle.queue_certificates.proofs.Steps.{IsAmong}
 use Rattle.queue_certificates.proofs.TagPlaces.{IsTagAt, tag-place, of-rest}

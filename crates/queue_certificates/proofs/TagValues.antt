@@ -1,7 +1,7 @@
 -- What a party loads from a tag, and what the number that it stores there tells the other: of each way to tell what its tag satisfies,
 -- and of that what a load leaves and what a store makes.
-use Rattle.std.proofs.Common.{ℕ, zero, suc, ◌+◌, ◌-◌, ◌^◌, ◌%◌, ◌<◌, ◌≤◌, ◌≡◌, ◌==◌, Bool, true, false, if◌then◌else◌, Option, Some, None, List, ◌∷◌}
-use Rattle.std.proofs.Common.{inl, inr, refl, sym, ◌∙◌, ap, subst, arith}
+use Rattle.std.proofs.Common.{ℕ, zero, suc, ◌+◌, ◌-◌, ◌^◌, ◌%◌, ◌<◌, ◌≤◌, ◌≡◌, ◌==◌, Bool, true, false, if◌then◌else◌, Option, Some, None, List, ◌∷◌, inl, inr}
+use Rattle.std.proofs.Common.{refl, sym, ◌∙◌, ap, subst, arith}
 use Rattle.std.specs.Prelude.{not, nat_le, nat_lt, bit_and, bit_or}
 use Rattle.std.specs.Int.Bits.{and_shifted, or_zero_r}
 use Rattle.std.proofs.lemmas.Nat.{and_comm, and_or_apart, and_le_l}
@@ -15,12 +15,10 @@ use Rattle.hart.specs.Effects.{extended, load_width, stored, store_width, sign_e
 use Rattle.queue_parties.specs.Parties.{Party, the_sender, the_receiver, other}
 use Rattle.slot_queue.specs.Queues.{Queue}
 use Rattle.slots_that_tell.specs.Slots.{gap}
-use Rattle.queue_certificates.specs.Forms.{Form, form_value, number, plus, first_variable, InRanges, Bounds}
-use Rattle.queue_certificates.specs.States.{KnownValue, any, linear, index_for, signed_for, ends_as, has_bits, signed_word, Has}
-use Rattle.queue_certificates.specs.Results.{bounds, Bits, of_bits, bits_of}
-use Rattle.queue_certificates.specs.Steps.{most_loaded}
-use Rattle.queue_certificates.specs.Tags.{is_codec, Told, nothing, something, number_of, bits_are, told_by, back_to, bits_above, value_told}
-use Rattle.queue_certificates.specs.Tags.{told_value, other_value, is_positive, is_number, are_these, makes, hands_over}
+use Rattle.queue_certificates.specs.{Form, form_value, number, plus, first_variable, InRanges, Bounds, KnownValue, any, linear, index_for, signed_for, ends_as}
+use Rattle.queue_certificates.specs.{has_bits, signed_word, Has, bounds, Bits, of_bits, bits_of, most_loaded, is_codec, Told, nothing, something, number_of}
+use Rattle.queue_certificates.specs.{bits_are, told_by, back_to, bits_above, value_told, told_value, other_value, is_positive, is_number, are_these, makes}
+use Rattle.queue_certificates.specs.{hands_over}
 use Rattle.queue_layouts.specs.Tagged.{slots_of, tells_by}
 use Rattle.queue_layouts.specs.declared.tagged.Codec.{Codec}
 use Rattle.queue_layouts.specs.declared.tagged.Codec.TheVariants as codec

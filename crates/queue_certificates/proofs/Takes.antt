@@ -1,30 +1,19 @@
 -- A receiver whose stores are apart from a queue's slots leaves each of their bytes.
-use Rattle.std.proofs.Common.{ℕ, ℤ, ◌*◌, ◌<◌, ◌≤◌, ◌≡◌, inl, inr, Bool, true, false}
-use Rattle.std.proofs.Common.{Option, Some, None, List, length, refl, sym, subst}
+use Rattle.std.proofs.Common.{ℕ, ℤ, ◌*◌, ◌<◌, ◌≤◌, ◌≡◌, inl, inr, Bool, true, false, Option, Some, None, List, length, refl, sym, subst}
 use Rattle.rv_decode.specs.declared.instruction.Reg.{Reg}
 use Rattle.rv_decode.specs.declared.instruction.StoreOp.{StoreOp}
 use Rattle.rv_decode.specs.declared.instruction.AmoOp.{AmoOp}
 use Rattle.rv_decode.specs.declared.instruction.Instr.{Instr}
 use Rattle.rv_decode.specs.declared.instruction.Instr.TheVariants.{Load, Store, Amo}
-use Rattle.hart.specs.State.{HartState}
-use Rattle.hart.specs.Effects.{register_value, address, stored, store_width}
-use Rattle.hart.specs.Steps.{advanced}
+use Rattle.hart.specs.{HartState, register_value, address, stored, store_width, advanced}
 use Rattle.step_machine.specs.declared.events.Entry.{Entry}
-use Rattle.step_machine.specs.History.{OpeningValue}
-use Rattle.step_machine.specs.Access.{Access, nothing, load, store, exchange, fence, land, access_of}
-use Rattle.step_machine.specs.Paths.{number_read}
+use Rattle.step_machine.specs.Names.{OpeningValue, Access, nothing, load, store, exchange, fence, land, access_of, number_read}
 use Rattle.store_buffers.specs.StoreBuffers.{LeavesByteBy}
 use Rattle.memory.specs.Writes.{write, covers}
-use Rattle.slot_queue.specs.Queues.{Queue, IsQueue, TellsFull}
-use Rattle.queue_parties.specs.Positions.{IsInBytes}
-use Rattle.queue_parties.specs.Parties.{QueueCounts}
-use Rattle.slot_queue.specs.Ownership.{KeepsAccess}
-use Rattle.queue_certificates.specs.OwnedRuns.{View, AllCounts, ActsByCounts}
-use Rattle.queue_certificates.specs.Forms.{Form, Bounds}
-use Rattle.queue_certificates.specs.States.{KnownValue, KnownState, MeansAt}
-use Rattle.queue_certificates.specs.Results.{bounds}
-use Rattle.queue_certificates.specs.Steps.{is_apart, anywhere, operand, addresses, register_at, exchanging, follow, instruction_at}
-use Rattle.queue_certificates.specs.Certificates.{QueueCertificate, queue_at, own_of, leaves_slots}
+use Rattle.slot_queue.specs.{Queue, IsQueue, TellsFull, KeepsAccess}
+use Rattle.queue_parties.specs.{IsInBytes, QueueCounts}
+use Rattle.queue_certificates.specs.{View, AllCounts, ActsByCounts, Form, Bounds, KnownValue, KnownState, MeansAt, bounds, is_apart, anywhere, operand}
+use Rattle.queue_certificates.specs.{addresses, register_at, exchanging, follow, instruction_at, QueueCertificate, queue_at, own_of, leaves_slots}
 use Rattle.queue_certificates.proofs.Values.{has-bounds}
 use Rattle.queue_certificates.proofs.Stores.{apart-from}
 use Rattle.queue_certificates.proofs.Steps.{nobody_told, nothing_sent, quiet-leaves}

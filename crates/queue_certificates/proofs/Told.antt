@@ -1,6 +1,6 @@
 -- What an instruction comes to where there are queues with tags: one of the states that may follow, and allowed accesses.
-use Rattle.std.proofs.Common.{ℕ, ℤ, ◌+◌, ◌<◌, ◌≤◌, ◌≡◌, ◌≢◌, inl, inr, if◌then◌else◌, Bool, true, false}
-use Rattle.std.proofs.Common.{Option, Some, None, List, length, get_or, refl, sym, ◌∙◌, ap, subst, arith}
+use Rattle.std.proofs.Common.{ℕ, ℤ, ◌+◌, ◌<◌, ◌≤◌, ◌≡◌, ◌≢◌, inl, inr, if◌then◌else◌, Bool, true, false, Option, Some, None, List, length, get_or, refl, sym}
+use Rattle.std.proofs.Common.{◌∙◌, ap, subst, arith}
 use Rattle.std.specs.Prelude.{All}
 use Rattle.rv_decode.specs.declared.instruction.Reg.{Reg}
 use Rattle.rv_decode.specs.declared.instruction.LoadOp.{LoadOp}
@@ -11,38 +11,22 @@ use Rattle.rv_decode.specs.declared.instruction.Instr.{Instr}
 use Rattle.rv_decode.specs.declared.instruction.Instr.TheVariants.{Load, Store, Amo}
 use Rattle.memory.specs.declared.writes.Write.{Write}
 use Rattle.memory.specs.Writes.{write}
-use Rattle.hart.specs.State.{HartState}
-use Rattle.hart.specs.Steps.{advanced}
-use Rattle.hart.specs.Effects.{register_value, address, load_width, stored, store_width, updated}
+use Rattle.hart.specs.{HartState, advanced, register_value, address, load_width, stored, store_width, updated}
 use Rattle.hart.specs.declared.status.Status.TheVariants as status
 use Rattle.step_machine.specs.declared.events.Entry.{Entry}
-use Rattle.step_machine.specs.History.{OpeningValue}
-use Rattle.step_machine.specs.Access.{Access, nothing, load, store, exchange, fence, land, access_of}
-use Rattle.step_machine.specs.Paths.{number_read}
+use Rattle.step_machine.specs.Names.{OpeningValue, Access, nothing, load, store, exchange, fence, land, access_of, number_read}
 use Rattle.store_buffers.specs.StoreBuffers.{LeavesByteBy}
-use Rattle.slot_queue.specs.Queues.{Queue, IsQueue, TellsFull}
-use Rattle.slot_queue.specs.Ownership.{hart, party_of, after_access, KeepsAccess}
+use Rattle.slot_queue.specs.{Queue, IsQueue, TellsFull, hart, party_of, after_access, KeepsAccess}
 use Rattle.queue_parties.specs.Parties.{Party, the_sender, QueueCounts}
 use Rattle.slots_that_tell.specs.Slots.{Slots, IsSlots, tagged_slot}
 use Rattle.slots_that_tell.specs.Telling.{teller_hart, told_access, TellsAccess}
 use Rattle.slots_that_tell.proofs.Owned.{loaded-count}
-use Rattle.queue_certificates.specs.declared.own.OwnWord.{OwnWord}
-use Rattle.queue_certificates.specs.ToldRuns.{SeesTags, LoadsRestOwned}
-use Rattle.queue_certificates.specs.OwnedRuns.{View, AllCounts, view_then, ActsByCounts, LoadsOwned}
-use Rattle.queue_certificates.specs.RecordFields.{Field, MeetsField}
-use Rattle.queue_certificates.specs.Forms.{Form, Bounds}
-use Rattle.queue_certificates.specs.States.{KnownValue, any, no_share, KnownState, Has, MeansAt, own_at}
-use Rattle.queue_certificates.specs.Results.{bounds}
-use Rattle.queue_certificates.specs.Steps.{anywhere, operand, address_value, addresses, updated_value, exchanging, register_at, follow, instruction_at}
-use Rattle.queue_certificates.specs.Steps.{share_at, loads_owned}
-use Rattle.queue_certificates.specs.Fields.{next_received}
-use Rattle.queue_certificates.specs.Tags.{party_in, is_tagged, AreTold, told_by_store, next_told, loads_rest}
-use Rattle.queue_certificates.specs.Effects.{WritesByte}
-use Rattle.queue_certificates.specs.TagEffects.{tag_effect_at, tag_effect_of}
-use Rattle.queue_certificates.specs.declared.effect.Effect.{Effect}
-use Rattle.queue_certificates.specs.declared.effect.Effect.TheVariants.{Leaves}
+use Rattle.queue_certificates.specs.{OwnWord, SeesTags, LoadsRestOwned, View, AllCounts, view_then, ActsByCounts, LoadsOwned, Field, MeetsField, Form, Bounds}
+use Rattle.queue_certificates.specs.{KnownValue, any, no_share, KnownState, Has, MeansAt, own_at, bounds, anywhere, operand, address_value, addresses}
+use Rattle.queue_certificates.specs.{updated_value, exchanging, register_at, follow, instruction_at, share_at, loads_owned, next_received, party_in, is_tagged}
+use Rattle.queue_certificates.specs.{AreTold, told_by_store, next_told, loads_rest, looked_tag, moved_tag, may_store_all, all_handed, store_tells, reads_rest}
+use Rattle.queue_certificates.specs.{WritesByte, tag_effect_at, tag_effect_of, Effect, Leaves}
 use Rattle.queue_layouts.specs.Tagged.{slots_of}
-use Rattle.queue_certificates.specs.Tags.{looked_tag, moved_tag, may_store_all, all_handed, store_tells, reads_rest}
 use Rattle.queue_layouts.specs.declared.tagged.TaggedQueue.{TaggedQueue}
 use Rattle.queue_certificates.proofs.Steps.{nobody_told, nothing_sent, IsQuiet, Goes}
 use Rattle.queue_certificates.proofs.Steps as steps

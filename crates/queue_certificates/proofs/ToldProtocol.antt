@@ -3,16 +3,13 @@ use Rattle.std.proofs.Common.{ℕ, ◌+◌, ◌<◌, ◌≤◌, ◌≡◌, inl, 
 use Rattle.std.proofs.lemmas.Bool.{cases_lt}
 use Rattle.memory.specs.Writes.{write}
 use Rattle.step_machine.specs.declared.events.Entry.{Entry}
-use Rattle.step_machine.specs.History.{OpeningValue}
-use Rattle.step_machine.specs.Access.{Access, nothing, load, store, exchange, fence, land}
-use Rattle.step_machine.specs.Entries.{read}
+use Rattle.step_machine.specs.Names.{OpeningValue, Access, nothing, load, store, exchange, fence, land, read}
 use Rattle.queue_parties.specs.Parties.{Party, the_sender, the_receiver, other, QueueCounts, count, known, IsWindow}
 use Rattle.queue_parties.proofs.Parties.{twice, count-set-other, known-set-count, known-set-other}
 use Rattle.certified_runs.specs.Views.{view_of}
 use Rattle.certified_runs.proofs.TwoParties.{IsOfParties}
 use Rattle.slots_that_tell.specs.Slots.{Slots, IsSlots, gap, tag_of}
-use Rattle.slots_that_tell.specs.Telling.{teller_hart, owned_end, moved, after_load, told_access, TellsAccess, told_counts}
-use Rattle.slots_that_tell.specs.Laws.{FollowsTelling}
+use Rattle.slots_that_tell.specs.{teller_hart, owned_end, moved, after_load, told_access, TellsAccess, told_counts, FollowsTelling}
 use Rattle.slots_that_tell.proofs.Looks.{false_tag}
 use Rattle.slots_that_tell.proofs.Owned.{loaded, loaded-count}
 use Rattle.slots_that_tell.proofs.Runs.{memory_counts, held-of, window}

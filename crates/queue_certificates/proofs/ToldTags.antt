@@ -4,14 +4,12 @@ use Rattle.std.proofs.lemmas.Bool.{cases_lt}
 use Rattle.memory.specs.Writes.{joined}
 use Rattle.memory.proofs.Bytes.{joined-same}
 use Rattle.step_machine.specs.declared.events.Entry.{Entry}
-use Rattle.step_machine.specs.History.{OpeningValue}
-use Rattle.step_machine.specs.Entries.{pending, memory_byte, read_byte, read}
+use Rattle.step_machine.specs.Names.{OpeningValue, pending, memory_byte, read_byte, read}
 use Rattle.queue_parties.specs.Parties.{Party, other, QueueCounts, count}
 use Rattle.queue_parties.proofs.Parties.{twice}
 use Rattle.queue_parties.proofs.Positions.{same_slot}
 use Rattle.slots_that_tell.specs.Slots.{Slots, IsSlots, gap, tag_of, memory_tag}
-use Rattle.slots_that_tell.specs.Telling.{teller_hart}
-use Rattle.slots_that_tell.specs.Laws.{moved_on}
+use Rattle.slots_that_tell.specs.{teller_hart, moved_on}
 use Rattle.slots_that_tell.proofs.Looks.{after_all, newest-after, tidy-none, tidy-one}
 use Rattle.slots_that_tell.proofs.Places.{tag-turn, slot-turn}
 use Rattle.slots_that_tell.proofs.Sides.{Held, gaps, within}

@@ -1,18 +1,15 @@
 -- What has a value, and what follows from that.
-use Rattle.std.proofs.Common.{ℕ, ◌-◌, ◌+◌, ◌*◌, ◌/◌, ◌%◌, ◌^◌, ◌<◌, ◌≤◌, ◌≡◌, ◌==◌, ◌&&◌, inl, inr, if◌then◌else◌, Bool}
-use Rattle.std.proofs.Common.{true, false, Option, Some, None, List, ◌∷◌, refl, sym, ◌∙◌, ap, subst, arith}
+use Rattle.std.proofs.Common.{ℕ, ◌-◌, ◌+◌, ◌*◌, ◌/◌, ◌%◌, ◌^◌, ◌<◌, ◌≤◌, ◌≡◌, ◌==◌, ◌&&◌, inl, inr, if◌then◌else◌, Bool, true, false, Option, Some, None, List}
+use Rattle.std.proofs.Common.{◌∷◌, refl, sym, ◌∙◌, ap, subst, arith}
 use Rattle.std.specs.Prelude.{nat_lt, nat_le, bit_and}
 use Rattle.std.specs.Int.Bits.{and_zero_r}
-use Rattle.std.proofs.lemmas.Bool.{and_parts, eqb-true, ltb-true, eq-eqb, ne_eqb}
+use Rattle.std.proofs.lemmas.Bool.{and_parts, eqb-true, ltb-true, eq-eqb, ne_eqb, cases_eq}
 use Rattle.std.proofs.Math.Nat.{mod-lt, mod-eq_of_lt, mod-add-div, add-mul-mod_self_left, mul-add, mul_assoc, zero-mul, mul-zero}
 use Rattle.std.proofs.lemmas.Nat.{mul-le, and_mask}
-use Rattle.std.proofs.lemmas.Bool.{cases_eq}
 use Rattle.slot_queue.specs.Queues.{Queue, index_word}
-use Rattle.queue_certificates.specs.Forms.{Form, form_value, number, plus, times, lifted, vanishes, remainder, most}
-use Rattle.queue_certificates.specs.Forms.{fits_in, is_same, InRanges, Bounds, bounds_of}
-use Rattle.queue_certificates.specs.States.{KnownValue, any, linear, index_for, signed_for, ends_as, has_bits, value_by, Has, signed_word, EndAlike}
-use Rattle.queue_certificates.specs.States.{plain, scaled, of_remainder, is_within_plain, is_within}
-use Rattle.queue_certificates.specs.Results.{as_number, bounds, bounds_by, is_nothing, Bits, of_bits, number_bits, bits_of}
+use Rattle.queue_certificates.specs.{Form, form_value, number, plus, times, lifted, vanishes, remainder, most, fits_in, is_same, InRanges, Bounds, bounds_of}
+use Rattle.queue_certificates.specs.{KnownValue, any, linear, index_for, signed_for, ends_as, has_bits, value_by, Has, signed_word, EndAlike, plain, scaled}
+use Rattle.queue_certificates.specs.{of_remainder, is_within_plain, is_within, as_number, bounds, bounds_by, is_nothing, Bits, of_bits, number_bits, bits_of}
 use Rattle.queue_certificates.proofs.Forms.{value-plus, value-times, value-lifted, value-number, same-value, constant-value, mod-sum}
 use Rattle.queue_certificates.proofs.Bounds.{IsBetween, value-between, value-below, fits-below, value-remainder}
 use Rattle.queue_certificates.proofs.Endings.{alike-same, alike-zero}

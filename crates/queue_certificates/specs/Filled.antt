@@ -46,9 +46,10 @@ is_number_of rs (linear g) f = lies_in (bounds_of (2 ^ 32) rs g) g f
 abbrev pub is_beside : Field → (offset width : ℕ) → Bool
 is_beside f offset width = nat_le (f.at + f.width) offset || nat_le (offset + width) f.at
 
--- after a store of a number to these bytes of its slot, where it was right before or not
-abbrev pub is_right_after : List (Option ℕ) → (stored : KnownValue) → Field → (offset width : ℕ) → (was : Bool) → Bool
-is_right_after rs v f offset width was = if (f.at == offset) && (f.width == width) then is_number_of rs v f else (is_beside f offset width && was)
+-- after a store of a number to these bytes of its slot, by whether it was right before
+abbrev pub is_right_after : List (Option ℕ) → (stored : KnownValue) → Field → (offset width : ℕ) → (right_before : Bool) → Bool
+is_right_after rs v f offset width right_before =
+    if (f.at == offset) && (f.width == width) then is_number_of rs v f else (is_beside f offset width && right_before)
 
 abbrev pub is_filled_after : List (Option ℕ) → Queue → List Field → (stored : KnownValue) → Filled → Effect → (d j : ℕ) → Bool
 is_filled_after rs q fs v ms Leaves d j = is_filled q.size ms d j

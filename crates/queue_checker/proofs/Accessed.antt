@@ -2,10 +2,8 @@
 use Rattle.std.specs.Prelude.{ℕ, ◌≡◌, ◌+◌, ◌*◌, Bool, true, Option, None, Some, length, refl}
 use Rattle.rv_decode.specs.declared.instruction.Instr.{Instr}
 use Rattle.rv_decode.specs.declared.instruction.Instr.TheVariants.{Load, Store, Amo}
-use Rattle.queue_certificates.specs.States.{KnownState}
-use Rattle.queue_certificates.specs.Steps.{is_apart, share_at, reads_owned, loads_owned}
-use Rattle.queue_certificates.specs.Tags.{reads_rest, loads_rest}
-use Rattle.queue_certificates.specs.Certificates.{QueueCertificate, queue_at, tagged_at, leaves_slots}
+use Rattle.queue_certificates.specs.{KnownState, is_apart, share_at, reads_owned, loads_owned, reads_rest, loads_rest, QueueCertificate, queue_at, tagged_at}
+use Rattle.queue_certificates.specs.{leaves_slots}
 use Rattle.queue_checker.specs.declared.targets.Target.{Target}
 use Rattle.queue_checker.specs.Operands.{load_target, store_target}
 

@@ -1,6 +1,6 @@
 -- Nothing is found exactly where all holds.
-use Rattle.std.specs.Prelude.{ℕ, zero, suc, ◌≡◌, ◌+◌, ◌-◌, ◌*◌, ◌%◌, ◌^◌, ◌==◌, ◌&&◌, ◌||◌, ◌↔◌, not, nat_le, nat_lt, Bool, true}
-use Rattle.std.specs.Prelude.{false, Option, None, Some, [], length, get_or, refl}
+use Rattle.std.specs.Prelude.{ℕ, zero, suc, ◌≡◌, ◌+◌, ◌-◌, ◌*◌, ◌%◌, ◌^◌, ◌==◌, ◌&&◌, ◌||◌, ◌↔◌, not, nat_le, nat_lt, Bool, true, false, Option, None, Some, []}
+use Rattle.std.specs.Prelude.{length, get_or, refl}
 use Rattle.std.specs.List.{list_all}
 use Rattle.std.specs.Option.{option_map}
 use Rattle.std.proofs.Common.{sym, ap, subst, ◌∙◌}
@@ -8,21 +8,17 @@ use Rattle.std.proofs.lemmas.Bool.{and_parts}
 use Rattle.slot_queue.specs.Queues.{Queue as SlotQueue, index_word}
 use Rattle.store_buffers.specs.StoreBuffers.{memory_number}
 use Rattle.step_machine.specs.History.{OpeningValue}
-use Rattle.queue_certificates.specs.Steps.{all_below}
-use Rattle.queue_certificates.specs.Certificates.{QueueCertificate, queue_at, start_at, fields_at, part_of, accepts, accepts_loads, accepts_hart, no_hart}
-use Rattle.queue_certificates.specs.Certificates.{tagged_at, tagged_start, opens_free, accepts_rest}
-use Rattle.queue_certificates.specs.Tags.{are_slots, are_apart_from_slots, is_tagged, is_codec}
+use Rattle.queue_certificates.specs.{all_below, QueueCertificate, queue_at, start_at, fields_at, part_of, accepts, accepts_loads, accepts_hart, no_hart}
+use Rattle.queue_certificates.specs.{tagged_at, tagged_start, opens_free, accepts_rest, are_apart, is_queue, opens_empty, are_slots, are_apart_from_slots}
+use Rattle.queue_certificates.specs.{is_tagged, is_codec, is_field}
 use Rattle.queue_layouts.specs.declared.tagged.Codec.{Codec}
 use Rattle.queue_layouts.specs.declared.tagged.Codec.TheVariants as codec
 use Rattle.queue_layouts.specs.declared.tagged.TaggedQueue.{TaggedQueue}
-use Rattle.queue_certificates.specs.Fields.{is_field}
-use Rattle.queue_certificates.specs.Certificates.{are_apart, is_queue, opens_empty}
 use Rattle.queue_checker.specs.declared.flaws.Flaw.TheVariants.{Queue, Tagged, Opening, State}
 use Rattle.queue_checker.specs.declared.flaws.QueueFlaw.TheVariants as flaw
 use Rattle.queue_checker.specs.declared.flaws.TaggedFlaw.TheVariants as tag
-use Rattle.queue_checker.specs.Flaws.{opening_holds, state_holds, loads_hold, first_of, first_below, unless, hart_flaw, first_flaw, first_unowned}
-use Rattle.queue_checker.specs.Flaws.{shape_flaw, queue_flaw, flaw_of_queue, rest_holds, codec_flaw, tag_flaw, tagged_flaw, flaw_of_tagged}
-use Rattle.queue_checker.specs.Flaws.{first_unowned_rest}
+use Rattle.queue_checker.specs.Flaws.{opening_holds, state_holds, loads_hold, first_of, first_below, unless, hart_flaw, first_flaw, first_unowned, shape_flaw}
+use Rattle.queue_checker.specs.Flaws.{queue_flaw, flaw_of_queue, rest_holds, codec_flaw, tag_flaw, tagged_flaw, flaw_of_tagged, first_unowned_rest}
 
 -- x is nothing exactly where b holds
 pub record IsSame {A : Type 0} (b : Bool) (x : Option A) : Type 0 where

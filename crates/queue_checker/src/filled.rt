@@ -69,14 +69,14 @@ fn is_right_after(
     field: Field,
     offset: u64,
     width: u64,
-    was: bool,
+    right_before: bool,
 ) -> Result<bool, Lack>
-    ensures { IfOk result (λ right. right ≡ is_right_after ranges.now stored.now field offset width was) }
+    ensures { IfOk result (λ right. right ≡ is_right_after ranges.now stored.now field offset width right_before) }
 {
     if u64::from(field.at) == offset && u64::from(field.width) == width {
         is_number_of(alloc, ranges, stored, field)
     } else {
-        Ok(is_beside(field, offset, width)? && was)
+        Ok(is_beside(field, offset, width)? && right_before)
     }
 }
 
@@ -111,13 +111,13 @@ fn is_filled_after(
             offset,
             width,
         } => {
-            let was = is_filled(size, slots, position, field);
+            let right_before = is_filled(size, slots, position, field);
             if filled == position {
                 let its = field_numbered(sending.fields, field);
                 let (ranges, stored) = (sending.ranges, sending.stored);
-                is_right_after(alloc, ranges, stored, its, offset, width, was)
+                is_right_after(alloc, ranges, stored, its, offset, width, right_before)
             } else {
-                Ok(was)
+                Ok(right_before)
             }
         }
         Effect::Publishes(n) => Ok(is_filled(size, slots, sum(position, n)?, field)),

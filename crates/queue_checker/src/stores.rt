@@ -186,6 +186,7 @@ fn may_store(
     }
 }
 
+/// `left && right`: a call is one case of a caller's proof, and the operator two.
 fn both(left: bool, right: bool) -> bool
     ensures { result ≡ (left && right) }
 {

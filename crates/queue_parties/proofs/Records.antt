@@ -1,11 +1,10 @@
 -- Lists of records by their positions: what entries pass is a number for each position, from the count before to the one after.
-use Rattle.std.proofs.Common.{ℕ, zero, suc, ◌+◌, ◌-◌, ◌<◌, ◌≤◌, ◌≡◌, inl, inr, Bool, true, false, if◌then◌else◌}
-use Rattle.std.proofs.Common.{List, [], ◌∷◌, ◌++◌, refl, sym, ◌∙◌, ap, arith, append-nil, append_assoc}
+use Rattle.std.proofs.Common.{ℕ, zero, suc, ◌+◌, ◌-◌, ◌<◌, ◌≤◌, ◌≡◌, inl, inr, Bool, true, false, if◌then◌else◌, List, [], ◌∷◌, ◌++◌, refl, sym, ◌∙◌, ap, arith}
+use Rattle.std.proofs.Common.{append-nil, append_assoc}
 use Rattle.std.specs.Prelude.{nat_lt}
 use Rattle.std.proofs.lemmas.Bool.{cases_lt, lt-ltb, ltb-true}
 use Rattle.step_machine.specs.declared.events.Entry.{Entry}
-use Rattle.queue_parties.specs.Parties.{QueueCounts, counts_from}
-use Rattle.queue_parties.specs.Positions.{IsPrefix, numbers_from, records_passed}
+use Rattle.queue_parties.specs.{QueueCounts, counts_from, IsPrefix, numbers_from, records_passed}
 use Rattle.queue_parties.proofs.Parties.{Passed}
 
 pub numbers-none : (R : ℕ → ℕ) (k : ℕ) → numbers_from R k 0 ≡ []

@@ -1,28 +1,23 @@
 -- A hart that runs or has ended in every run, alone: its stores land, and then it executes n instructions, the stores of which land at once, unless it
 -- ends before.
-use Rattle.std.proofs.Common.{ℕ, zero, suc, ◌+◌, ◌≤◌, ◌≡◌, ◌≢◌, ◌==◌, ◌&&◌, ◌⊎◌, inl, inr, if◌then◌else◌, Bool, true, false, Some}
-use Rattle.std.proofs.Common.{List, [], ◌∷◌, ◌++◌, drop, refl, sym, ◌∙◌, ap, subst, arith, append_assoc, append-nil}
+use Rattle.std.proofs.Common.{ℕ, zero, suc, ◌+◌, ◌≤◌, ◌≡◌, ◌≢◌, ◌==◌, ◌&&◌, ◌⊎◌, inl, inr, if◌then◌else◌, Bool, true, false, Some, List, [], ◌∷◌, ◌++◌, drop}
+use Rattle.std.proofs.Common.{refl, sym, ◌∙◌, ap, subst, arith, append_assoc, append-nil}
 use Rattle.std.specs.Prelude.{All, option_map}
 use Rattle.std.proofs.lemmas.List.Elements.{All-nil, All-cons, All-append, All-head, All-tail}
 use Rattle.std.proofs.lemmas.Bool.{ne_eqb}
 use Rattle.memory.specs.declared.writes.Write.{Write}
-use Rattle.hart.specs.State.{HartState}
-use Rattle.hart.specs.Steps.{need_of}
+use Rattle.hart.specs.{HartState, need_of}
 use Rattle.hart.specs.declared.need.Need.{Need}
 use Rattle.hart.specs.declared.status.Status.TheVariants as status
 use Rattle.step_machine.specs.declared.events.Event.TheVariants as event
 use Rattle.step_machine.specs.declared.events.Outcome.TheVariants as outcome
 use Rattle.step_machine.specs.declared.events.Entry.{Entry}
 use Rattle.step_machine.specs.declared.events.Entry.TheVariants as entry
-use Rattle.step_machine.specs.History.{OpeningValue, history_of, with_entry}
-use Rattle.step_machine.specs.Access.{Access, land, access_of}
-use Rattle.step_machine.specs.Entries.{hart_of, is_land, is_own, stored_by, landed_by, pending}
+use Rattle.step_machine.specs.Names.{OpeningValue, history_of, with_entry, Access, land, access_of, hart_of, is_land, is_own, stored_by, landed_by, pending}
+use Rattle.step_machine.specs.Names.{WellFormed, Allowed}
 use Rattle.step_machine.specs.Paths.{entry_of}
-use Rattle.step_machine.specs.Legal.{WellFormed, Allowed}
 use Rattle.step_machine.proofs.Acts.{HasToWait, decide, does, land_happens}
-use Rattle.step_machine.proofs.Running.{kept-happens}
-use Rattle.step_machine.proofs.OwnRuns.{kept-front}
-use Rattle.step_machine.proofs.Stays.{pending-other, pending-land}
+use Rattle.step_machine.proofs.{kept-happens, kept-front, pending-other, pending-land}
 use Rattle.store_buffers.proofs.Effects.{stored_none}
 use Rattle.store_buffers.proofs.OwnEntries.{own_is}
 use Rattle.queue_progress.specs.Rows.{executed, RunsOrEnds, HasEnded, Comes}

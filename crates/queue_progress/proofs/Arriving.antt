@@ -7,28 +7,16 @@ use Rattle.memory.specs.declared.writes.Write.{Write}
 use Rattle.hart.specs.State.{HartState}
 use Rattle.hart.specs.declared.status.Status.TheVariants as status
 use Rattle.step_machine.specs.declared.events.Entry.{Entry}
-use Rattle.step_machine.specs.History.{OpeningValue, history_of}
-use Rattle.step_machine.specs.Entries.{pending}
-use Rattle.step_machine.specs.Legal.{WellFormed}
+use Rattle.step_machine.specs.Names.{OpeningValue, history_of, pending, WellFormed}
 use Rattle.step_machine.proofs.OwnRuns.{kept-front}
 use Rattle.queue_parties.specs.Parties.{Party, the_sender, the_receiver, all_at}
-use Rattle.slot_queue.specs.Queues.{index_word}
-use Rattle.slot_queue.specs.Ownership.{hart}
-use Rattle.slot_queue.specs.Laws.{moved_on}
-use Rattle.slot_queue.proofs.Sides.{Side}
-use Rattle.slot_queue.proofs.Runs.{sides-of, memory_at}
-use Rattle.slots_that_tell.specs.Slots.{is_tag}
-use Rattle.slots_that_tell.specs.Telling.{teller_hart}
+use Rattle.slot_queue.specs.{index_word, hart, moved_on}
+use Rattle.slot_queue.proofs.{Side, sides-of, memory_at}
+use Rattle.slots_that_tell.specs.{is_tag, teller_hart}
 use Rattle.queue_certificates.specs.Certificates.{QueueCertificate, queue_at, tagged_at, start_at, accepts}
-use Rattle.queue_certificates.proofs.TagShares.{tagged-fine}
-use Rattle.queue_certificates.proofs.Accepted.{fine, fine-tagged}
-use Rattle.queue_certificates.proofs.EveryRun.{accepted_runs}
-use Rattle.queue_progress.specs.declared.pace.Pace.{Pace}
-use Rattle.queue_progress.specs.Rows.{executed, counts_at, HaveLanded}
-use Rattle.queue_progress.specs.Shown.{keeps_going}
-use Rattle.queue_progress.specs.Told.{slots_at, teller_at, told_counts_at, told_within}
-use Rattle.queue_progress.specs.Rows.{Lasts, RunsOrEnds, HasEnded, Comes, MovesOn, MovesOnOrEnds, moved_at, Arrives, ArrivesOrEnds}
-use Rattle.queue_progress.specs.Told.{told_moved_at, ToldArrives, ToldArrivesOrEnds}
+use Rattle.queue_certificates.proofs.{tagged-fine, fine, fine-tagged, accepted_runs}
+use Rattle.queue_progress.specs.{Pace, executed, counts_at, HaveLanded, Lasts, RunsOrEnds, HasEnded, Comes, MovesOn, MovesOnOrEnds, moved_at, Arrives}
+use Rattle.queue_progress.specs.{ArrivesOrEnds, keeps_going, slots_at, teller_at, told_counts_at, told_within, told_moved_at, ToldArrives, ToldArrivesOrEnds}
 use Rattle.queue_progress.proofs.Moved.{all-grow}
 use Rattle.queue_progress.proofs.Alone.{executed-append, before, still-empty, landing, acting-on}
 use Rattle.queue_progress.proofs.Standing.{grown, stands}

@@ -7,17 +7,11 @@ use Rattle.std.proofs.lemmas.List.{get_or-map, length-map}
 use Rattle.std.proofs.lemmas.List.Folds.{list_all-append}
 use Rattle.hart.specs.State.{HartState}
 use Rattle.step_machine.specs.declared.events.Entry.{Entry}
-use Rattle.step_machine.specs.History.{OpeningValue, history_of}
-use Rattle.step_machine.specs.Legal.{WellFormed}
-use Rattle.queue_certificates.specs.Forms.{Form}
-use Rattle.queue_certificates.specs.States.{KnownState}
+use Rattle.step_machine.specs.Names.{OpeningValue, history_of, WellFormed}
+use Rattle.queue_certificates.specs.{Form, KnownState, QueueCertificate, part_of, state_at, nowhere, accepts, ListedState}
 use Rattle.queue_certificates.specs.Cases.{Arrow, Cases, leaf, split, with_low, with_high, may_exceed, each_leaf}
-use Rattle.queue_certificates.specs.Certificates.{QueueCertificate, part_of, state_at, nowhere, accepts, ListedState}
 use Rattle.queue_certificates.proofs.States.{at-below}
-use Rattle.queue_progress.specs.Graphs.{Stay, is_in, leads_into, within, are_within}
-use Rattle.queue_progress.specs.Stays.{targets}
-use Rattle.queue_progress.specs.Rows.{executed, EachAfter}
-use Rattle.queue_progress.specs.Shown.{at_leaves}
+use Rattle.queue_progress.specs.{Stay, is_in, leads_into, within, are_within, targets, executed, EachAfter, at_leaves}
 use Rattle.queue_progress.proofs.Rows.{Bounds, Executes, GoesFirst, row_bounded}
 
 -- what the leaves of a state do by two cases, of which the higher one may be

@@ -1,22 +1,14 @@
 -- What is found of a party is so: the numbers bound its rows.
-use Rattle.std.proofs.Common.{◌&&◌, ℕ, zero, suc, ◌+◌, ◌<◌, ◌≤◌, ◌≡◌, if◌then◌else◌, Bool, true, false, Option, None, Some, List, [], ◌∷◌, length}
-use Rattle.std.proofs.Common.{refl, sym, subst, arith}
+use Rattle.std.proofs.Common.{◌&&◌, ℕ, zero, suc, ◌+◌, ◌<◌, ◌≤◌, ◌≡◌, if◌then◌else◌, Bool, true, false, Option, None, Some, List, [], ◌∷◌, length, refl, sym}
+use Rattle.std.proofs.Common.{subst, arith}
 use Rattle.std.specs.Prelude.{nat_le}
 use Rattle.std.proofs.lemmas.Bool.{leb-true, leb-false, le-leb}
-use Rattle.queue_certificates.specs.Forms.{fits_in}
+use Rattle.queue_certificates.specs.{fits_in, QueueCertificate, queue_at}
 use Rattle.step_machine.specs.History.{OpeningValue}
-use Rattle.queue_certificates.specs.Certificates.{QueueCertificate, queue_at}
-use Rattle.queue_progress.specs.declared.pace.Pace.{Pace}
-use Rattle.queue_progress.specs.declared.pace.Progress.TheVariants.{GoesOn}
-use Rattle.queue_progress.specs.Graphs.{Stay, may_own_more, looks_away, are_within}
-use Rattle.queue_progress.specs.Longest.{longest, state_or}
-use Rattle.queue_progress.specs.Harts.{is_side, least_capacity, hart_graph, each_lacking, hart_keeps_going}
-use Rattle.queue_progress.specs.Progress.{least_owned, progress_with, progress_owning, progress_by, progress_of, worse, hart_sight}
-use Rattle.queue_progress.specs.Progress.{hart_progress_with, hart_progress_owning, hart_progress_by, hart_progress_of}
-use Rattle.queue_progress.specs.Shown.{graph_of, keeps_going}
-use Rattle.queue_progress.specs.declared.pace.ToldProgress.{ToldProgress}
-use Rattle.queue_progress.specs.declared.pace.ToldProgress.TheVariants.{Within, Endless}
-use Rattle.queue_progress.specs.Told.{told_graph, told_within, told_progress_by, told_progress_in, told_progress_of}
+use Rattle.queue_progress.specs.{Pace, GoesOn, Stay, may_own_more, looks_away, are_within, longest, state_or, is_side, least_capacity, hart_graph, each_lacking}
+use Rattle.queue_progress.specs.{hart_keeps_going, least_owned, progress_with, progress_owning, progress_by, progress_of, worse, hart_sight, hart_progress_with}
+use Rattle.queue_progress.specs.{hart_progress_owning, hart_progress_by, hart_progress_of, graph_of, keeps_going, ToldProgress, Within, Endless, told_graph}
+use Rattle.queue_progress.specs.{told_within, told_progress_by, told_progress_in, told_progress_of}
 use Rattle.queue_progress.proofs.Halving.{found-passes}
 
 pub bounds-all : (kind : Stay → Bool) (graph : List (List Stay)) (r : ℕ) → longest kind graph ≡ Some r → are_within kind graph r ≡ true

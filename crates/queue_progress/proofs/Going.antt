@@ -1,33 +1,22 @@
 -- A row of instructions that are stuck is short: until the first look they are blind, and after it they are idle.
-use Rattle.std.proofs.Common.{ℕ, ◌+◌, ◌<◌, ◌≤◌, ◌≡◌, ◌≢◌, ◌==◌, ◌&&◌, ◌⊎◌, inl, inr, if◌then◌else◌, Bool, true, false, Some, List, [], ◌∷◌, ◌++◌, length}
-use Rattle.std.proofs.Common.{refl, sym, ◌∙◌, ap, subst, arith, append_assoc}
+use Rattle.std.proofs.Common.{ℕ, ◌+◌, ◌<◌, ◌≤◌, ◌≡◌, ◌≢◌, ◌==◌, ◌&&◌, ◌⊎◌, inl, inr, if◌then◌else◌, Bool, true, false, Some, List, [], ◌∷◌, ◌++◌, length, refl}
+use Rattle.std.proofs.Common.{sym, ◌∙◌, ap, subst, arith, append_assoc}
 use Rattle.std.proofs.lemmas.Bool.{and_parts, eqb-true, cases_eq, not-false}
 use Rattle.step_machine.specs.declared.events.Entry.{Entry}
-use Rattle.step_machine.specs.History.{OpeningValue, history_of}
-use Rattle.step_machine.specs.Access.{Access, nothing, load, store, exchange, fence, land, access_of}
-use Rattle.step_machine.specs.Entries.{hart_of, is_own}
-use Rattle.step_machine.specs.Legal.{WellFormed}
+use Rattle.step_machine.specs.Names.{OpeningValue, history_of, Access, nothing, load, store, exchange, fence, land, access_of, hart_of, is_own, WellFormed}
 use Rattle.step_machine.proofs.OwnRuns.{kept-front}
 use Rattle.store_buffers.proofs.OwnEntries.{own_parts}
 use Rattle.queue_parties.specs.Parties.{Party, the_sender, the_receiver, other, QueueCounts, count, known, with_known, all_at, counts_from}
 use Rattle.queue_parties.proofs.Parties.{counts-append}
 use Rattle.certified_runs.specs.TwoParties.{IsSameFor}
 use Rattle.certified_runs.proofs.TwoParties.{left-same}
-use Rattle.slot_queue.specs.Queues.{Queue, IsQueue, least_count}
-use Rattle.slot_queue.specs.Ownership.{hart, party_of, index, end, after_load, after_access, counts_next, moved}
-use Rattle.queue_certificates.specs.OwnedRuns.{owning}
+use Rattle.slot_queue.specs.{Queue, IsQueue, least_count, hart, party_of, index, end, after_load, after_access, counts_next, moved}
+use Rattle.queue_certificates.specs.{owning, QueueCertificate, queue_at, start_at, accepts, fits_in, instruction_at}
 use Rattle.queue_certificates.proofs.Counted.{is_of_parties}
-use Rattle.queue_certificates.specs.Certificates.{QueueCertificate, queue_at, start_at, accepts}
-use Rattle.queue_certificates.proofs.Accesses.{hart-party}
-use Rattle.queue_certificates.proofs.Accepted.{fine}
-use Rattle.queue_progress.specs.declared.pace.Pace.{Pace}
-use Rattle.queue_progress.specs.Rows.{executed, counts_at, IsIdleStep, LooksBy, IsBlindStep, IsStuckStep, EachOwn, EachAfter}
-use Rattle.queue_progress.specs.Shown.{keeps_pace, keeps_looking, keeps_going}
+use Rattle.queue_certificates.proofs.{hart-party, fine}
+use Rattle.queue_progress.specs.{Pace, executed, counts_at, IsIdleStep, LooksBy, IsBlindStep, IsStuckStep, EachOwn, EachAfter, keeps_pace, keeps_looking}
+use Rattle.queue_progress.specs.{keeps_going, may_own_more, looks_away, code_of, moves, most_owned, looks}
 use Rattle.queue_progress.proofs.Alone.{executed-append}
-use Rattle.queue_certificates.specs.Forms.{fits_in}
-use Rattle.queue_certificates.specs.Steps.{instruction_at}
-use Rattle.queue_progress.specs.Graphs.{may_own_more, looks_away}
-use Rattle.queue_progress.specs.Stays.{code_of, moves, most_owned, looks}
 use Rattle.queue_progress.proofs.Leaves.{moves-on, owns-few, looks-so}
 use Rattle.queue_progress.proofs.Bounded.{uncut, bounded}
 

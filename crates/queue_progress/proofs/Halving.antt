@@ -1,19 +1,16 @@
 -- The least number of positions of which rows have a bound: if they have one for some number, then for each greater one.
-use Rattle.std.proofs.Common.{ℕ, zero, suc, ◌+◌, ◌<◌, ◌≤◌, ◌≡◌, ◌||◌, not, inl, inr, Bool, true, false, Option, None, Some, List, [], ◌∷◌, length, map}
-use Rattle.std.proofs.Common.{refl, sym, ◌∙◌, ap, subst, arith}
+use Rattle.std.proofs.Common.{ℕ, zero, suc, ◌+◌, ◌<◌, ◌≤◌, ◌≡◌, ◌||◌, not, inl, inr, Bool, true, false, Option, None, Some, List, [], ◌∷◌, length, map, refl}
+use Rattle.std.proofs.Common.{sym, ◌∙◌, ap, subst, arith}
 use Rattle.std.specs.Option.{is_some}
 use Rattle.std.specs.List.{list_all}
 use Rattle.std.specs.Prelude.{nat_le}
 use Rattle.std.proofs.lemmas.Bool.{and_parts, cases_eq, leb-true, le-leb, not-false}
 use Rattle.std.proofs.lemmas.List.{length-map}
-use Rattle.queue_certificates.specs.Forms.{fits_in}
-use Rattle.queue_certificates.specs.Steps.{all_below}
+use Rattle.queue_certificates.specs.{fits_in, all_below}
 use Rattle.queue_certificates.proofs.States.{at-below}
 use Rattle.queue_checker.specs.Flaws.{first_of, first_below, unless}
 use Rattle.queue_checker.proofs.FlawLaws.{IsSame, same-unless, same-below}
-use Rattle.queue_progress.specs.Graphs.{Stay, may_own_more, is_in, leads_into, within, are_within}
-use Rattle.queue_progress.specs.Longest.{longest}
-use Rattle.queue_progress.specs.Progress.{is_bounded}
+use Rattle.queue_progress.specs.{Stay, may_own_more, is_in, leads_into, within, are_within, longest, is_bounded}
 use Rattle.queue_progress.proofs.Numbers.{all-from}
 
 -- ---- what is found at the first number at which something isn't so, and the first that passes

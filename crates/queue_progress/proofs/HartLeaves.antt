@@ -1,6 +1,6 @@
 -- What a leaf says of all queues of its hart together, an entry of a run does.
-use Rattle.std.proofs.Common.{ℕ, zero, suc, ◌+◌, ◌<◌, ◌≤◌, ◌≡◌, ◌&&◌, ◌⊎◌, not, inl, inr, if◌then◌else◌, Bool, true, false}
-use Rattle.std.proofs.Common.{Option, Some, None, List, length, refl, sym, ◌∙◌, ap, arith}
+use Rattle.std.proofs.Common.{ℕ, zero, suc, ◌+◌, ◌<◌, ◌≤◌, ◌≡◌, ◌&&◌, ◌⊎◌, not, inl, inr, if◌then◌else◌, Bool, true, false, Option, Some, None, List, length}
+use Rattle.std.proofs.Common.{refl, sym, ◌∙◌, ap, arith}
 use Rattle.std.specs.Prelude.{nat_lt, nat_le}
 use Rattle.std.specs.Option.{is_some}
 use Rattle.std.proofs.lemmas.Bool.{and_parts, or_cases, ltb-true, lt-ltb}
@@ -9,17 +9,10 @@ use Rattle.step_machine.specs.declared.events.Entry.{Entry}
 use Rattle.step_machine.specs.History.{OpeningValue}
 use Rattle.queue_parties.specs.Parties.{Party, count}
 use Rattle.slot_queue.specs.Ownership.{hart, party_of, end}
-use Rattle.queue_certificates.specs.Forms.{Form, fits_in}
-use Rattle.queue_certificates.specs.States.{KnownState}
-use Rattle.queue_certificates.specs.Steps.{share_at, instruction_at}
-use Rattle.queue_certificates.specs.Certificates.{QueueCertificate, queue_at, accepts}
-use Rattle.queue_certificates.proofs.Accesses.{party-hart}
-use Rattle.queue_certificates.proofs.Accepted.{fine}
-use Rattle.queue_progress.specs.Stays.{code_of, moves, most_owned, looks}
-use Rattle.queue_progress.specs.Rows.{counts_at}
-use Rattle.queue_progress.specs.Harts.{is_side, moves_some, lesser, fewest_owned, is_among, differs_at, differs}
-use Rattle.queue_progress.specs.Harts.{owns_more, has_more, LeavesCounts}
-use Rattle.queue_progress.specs.Harts.{IsHartBlind}
+use Rattle.queue_certificates.specs.{Form, fits_in, KnownState, share_at, instruction_at, QueueCertificate, queue_at, accepts}
+use Rattle.queue_certificates.proofs.{party-hart, fine}
+use Rattle.queue_progress.specs.{code_of, moves, most_owned, looks, counts_at, is_side, moves_some, lesser, fewest_owned, is_among, differs_at, differs}
+use Rattle.queue_progress.specs.{owns_more, has_more, LeavesCounts, IsHartBlind}
 use Rattle.queue_progress.proofs.Leaves.{moves-on, owns-few, owns-many, looks-so}
 use Rattle.queue_progress.proofs.Numbers.{Some-below, some-below}
 use Rattle.queue_progress.proofs.Rows.{Executes}

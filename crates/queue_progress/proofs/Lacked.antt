@@ -1,9 +1,8 @@
 -- The queues that a hart lacks, as a list.
-use Rattle.std.proofs.Common.{ℕ, zero, suc, ◌<◌, ◌≤◌, ◌≡◌, ◌&&◌, ◌||◌, not, inl, inr, if◌then◌else◌, Bool, true, false, List, [], ◌∷◌}
-use Rattle.std.proofs.Common.{refl, sym, ◌∙◌, ap, arith}
+use Rattle.std.proofs.Common.{ℕ, zero, suc, ◌<◌, ◌≤◌, ◌≡◌, ◌&&◌, ◌||◌, not, inl, inr, if◌then◌else◌, Bool, true, false, List, [], ◌∷◌, refl, sym, ◌∙◌, ap}
+use Rattle.std.proofs.Common.{arith}
 use Rattle.std.proofs.lemmas.Bool.{and_parts, cases_eq, eq-eqb, ne_eqb}
-use Rattle.queue_certificates.specs.Certificates.{QueueCertificate}
-use Rattle.queue_certificates.specs.Steps.{all_below}
+use Rattle.queue_certificates.specs.{QueueCertificate, all_below}
 use Rattle.queue_progress.specs.Harts.{is_among, is_side, each_lacking}
 
 -- those of the first n of which it isn't so, and these

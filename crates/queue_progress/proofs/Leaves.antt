@@ -3,34 +3,21 @@
 use Rattle.std.proofs.Common.{ℕ, ◌+◌, ◌-◌, ◌<◌, ◌≤◌, ◌≡◌, ◌==◌, inl, inr, true, Option, Some, List, [], ◌∷◌, length, sym, ◌∙◌, ap, subst, arith, refl}
 use Rattle.std.specs.Prelude.{nat_lt}
 use Rattle.std.proofs.lemmas.Bool.{and_parts, eqb-true, ltb-true}
-use Rattle.hart.specs.State.{HartState}
-use Rattle.hart.specs.Effects.{register_value, address, load_width}
-use Rattle.hart.specs.Steps.{advanced}
+use Rattle.hart.specs.{HartState, register_value, address, load_width, advanced}
 use Rattle.hart.specs.declared.status.Status.TheVariants as status
 use Rattle.rv_decode.specs.declared.instruction.Instr.{Instr}
 use Rattle.rv_decode.specs.declared.instruction.Instr.TheVariants.{Load}
 use Rattle.step_machine.specs.declared.events.Entry.{Entry}
-use Rattle.step_machine.specs.History.{OpeningValue}
-use Rattle.step_machine.specs.Access.{load, access_of}
-use Rattle.step_machine.specs.Paths.{number_read}
+use Rattle.step_machine.specs.Names.{OpeningValue, load, access_of, number_read}
 use Rattle.queue_parties.specs.Parties.{Party, other, count}
-use Rattle.slot_queue.specs.Queues.{Queue, IsQueue, TellsFull}
-use Rattle.slot_queue.specs.Ownership.{hart, party_of, index, end, after_access, counts_next}
-use Rattle.queue_certificates.specs.OwnedRuns.{View, AllCounts, ActsByCounts, view_then}
-use Rattle.queue_certificates.specs.Forms.{form_value, plus, minus, lifted, is_same, Bounds, fits_in, Form}
-use Rattle.queue_certificates.specs.States.{Share, KnownState, MeansAt}
-use Rattle.queue_certificates.specs.Steps.{share_at, addresses, is_look, is_one, is_whole, instruction_at}
-use Rattle.queue_certificates.specs.Certificates.{QueueCertificate, queue_at, own_of, SharesTold, HasFields, MeetsFields, accepts}
-use Rattle.queue_certificates.proofs.Forms.{same-exactly, value-plus, value-lifted}
-use Rattle.queue_certificates.proofs.Bounds.{value-below, fits-below}
-use Rattle.queue_certificates.proofs.Steps.{nobody_told, nothing_sent, untold}
+use Rattle.slot_queue.specs.{Queue, IsQueue, TellsFull, hart, party_of, index, end, after_access, counts_next}
+use Rattle.queue_certificates.specs.{View, AllCounts, ActsByCounts, view_then, form_value, plus, minus, lifted, is_same, Bounds, fits_in, Form, Share}
+use Rattle.queue_certificates.specs.{KnownState, MeansAt, share_at, addresses, is_look, is_one, is_whole, instruction_at, QueueCertificate, queue_at, own_of}
+use Rattle.queue_certificates.specs.{SharesTold, HasFields, MeetsFields, accepts}
+use Rattle.queue_certificates.proofs.{same-exactly, value-plus, value-lifted, value-below, fits-below, nobody_told, nothing_sent, untold, hart-party, Makes}
+use Rattle.queue_certificates.proofs.{next-access, IsAmongAll, fine}
 use Rattle.queue_certificates.proofs.Steps as steps
-use Rattle.queue_certificates.proofs.Accesses.{hart-party}
-use Rattle.queue_certificates.proofs.NextAccess.{Makes, next-access}
-use Rattle.queue_certificates.proofs.Leaves.{IsAmongAll}
-use Rattle.queue_progress.specs.Stays.{is_further, all_further, most_owned, looks, code_of, moves, follow_further}
-use Rattle.queue_certificates.proofs.Accepted.{fine}
-use Rattle.queue_progress.specs.Rows.{counts_at, LooksBy}
+use Rattle.queue_progress.specs.{is_further, all_further, most_owned, looks, code_of, moves, follow_further, counts_at, LooksBy}
 use Rattle.queue_progress.proofs.Rows.{Executes, Sees, Then, ThenTold}
 
 further-value : (s t : Share) (y : ℕ) (xs : List ℕ) → is_further s t ≡ true → form_value s.own xs < form_value t.own (y ∷ xs)

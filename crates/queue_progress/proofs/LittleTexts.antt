@@ -4,8 +4,7 @@ use Rattle.std.proofs.Common.{◌≡◌, refl}
 use Rattle.rv_decode.specs.Meaning.{meaning}
 use Rattle.queue_certificates.proofs.OneSlotQueue.{text, certificate}
 use Rattle.queue_certificates.specs.Tags.{told_by_store}
-use Rattle.queue_progress.specs.declared.pace.Progress.TheVariants.{GoesOn}
-use Rattle.queue_progress.specs.Progress.{progress_of}
+use Rattle.queue_progress.specs.{GoesOn, progress_of}
 
 sender_goes_on : progress_of text certificate 0 0 ≡ GoesOn (record { owned = 0; pace = 7; sight = 4 })
 unfolding meaning told_by_store

@@ -1,15 +1,13 @@
 -- How many positions were published and taken, together: the sum grows as its parts do. And in a row with more instructions of a party than may be
 -- stuck in a row more moves, or the party finds that it has to wait, which is so until something moves.
-use Rattle.std.proofs.Common.{◌+◌, ◌<◌, ◌≤◌, ◌≡◌, ◌≢◌, inl, inr, refl, arith, ℕ, ◌⊎◌, Bool, true, false, List, [], ◌∷◌, ◌++◌, sym, ◌∙◌, ap, subst}
-use Rattle.std.proofs.Common.{append_assoc, append-nil}
+use Rattle.std.proofs.Common.{◌+◌, ◌<◌, ◌≤◌, ◌≡◌, ◌≢◌, inl, inr, refl, arith, ℕ, ◌⊎◌, Bool, true, false, List, [], ◌∷◌, ◌++◌, sym, ◌∙◌, ap, subst, append_assoc}
+use Rattle.std.proofs.Common.{append-nil}
 use Rattle.std.proofs.lemmas.Bool.{cases_lt, cases_eq}
 use Rattle.queue_parties.specs.Parties.{Party, the_sender, the_receiver, other, QueueCounts, count}
 use Rattle.queue_parties.proofs.Parties.{Grows}
 use Rattle.queue_progress.specs.Rows.{all_moved, executed, EachAfter}
 use Rattle.step_machine.specs.declared.events.Entry.{Entry}
-use Rattle.step_machine.specs.History.{OpeningValue, history_of}
-use Rattle.step_machine.specs.Entries.{is_own}
-use Rattle.step_machine.specs.Legal.{WellFormed}
+use Rattle.step_machine.specs.Names.{OpeningValue, history_of, is_own, WellFormed}
 use Rattle.step_machine.proofs.OwnRuns.{kept-front}
 
 all-parts : (p : Party) (c : QueueCounts) → all_moved c ≡ count p c + count (other p) c

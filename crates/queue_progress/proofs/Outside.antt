@@ -1,19 +1,14 @@
 -- Where no number bounds all rows, a walk stays outside of the states from which rows are no longer than there are states.
-use Rattle.std.proofs.Common.{ℕ, zero, suc, ◌+◌, ◌-◌, ◌≡◌, not, if◌then◌else◌, Bool, true, false, Option, None, Some, List, [], ◌∷◌, length, get_or}
-use Rattle.std.proofs.Common.{refl, ◌∙◌, ap, subst, arith}
+use Rattle.std.proofs.Common.{ℕ, zero, suc, ◌+◌, ◌-◌, ◌≡◌, not, if◌then◌else◌, Bool, true, false, Option, None, Some, List, [], ◌∷◌, length, get_or, refl, ◌∙◌}
+use Rattle.std.proofs.Common.{ap, subst, arith}
 use Rattle.std.specs.Option.{is_some}
 use Rattle.std.specs.List.{find}
 use Rattle.step_machine.specs.History.{OpeningValue}
-use Rattle.queue_certificates.specs.Certificates.{QueueCertificate, queue_at}
-use Rattle.queue_certificates.specs.Steps.{all_below}
+use Rattle.queue_certificates.specs.{QueueCertificate, queue_at, all_below}
 use Rattle.queue_checker.specs.Flaws.{first_of, unless}
-use Rattle.queue_progress.specs.declared.pace.Progress.TheVariants.{NoPace, NoLook}
-use Rattle.queue_progress.specs.Graphs.{Stay, may_own_more, looks_away, is_in, within, are_within}
-use Rattle.queue_progress.specs.Longest.{longest, first_outside, first_step, state_or, walked, on_cycle}
-use Rattle.queue_progress.specs.Progress.{is_bounded, least_owned, progress_with, progress_by, progress_of}
-use Rattle.queue_progress.specs.Shown.{graph_of}
-use Rattle.queue_progress.specs.declared.pace.ToldProgress.TheVariants.{Endless}
-use Rattle.queue_progress.specs.Told.{told_graph, told_progress_by, told_progress_of}
+use Rattle.queue_progress.specs.{NoPace, NoLook, Stay, may_own_more, looks_away, is_in, within, are_within, longest, first_outside, first_step, state_or}
+use Rattle.queue_progress.specs.{walked, on_cycle, is_bounded, least_owned, progress_with, progress_by, progress_of, graph_of, Endless, told_graph}
+use Rattle.queue_progress.specs.{told_progress_by, told_progress_of}
 use Rattle.queue_checker.proofs.FlawLaws.{same-unless, same-below}
 use Rattle.queue_progress.proofs.Halving.{within-length, found-below, some-passes, found-passes}
 

@@ -1,16 +1,15 @@
 -- A state's rank is the most stays of the kind that may follow on one another from there; from a state without a rank there is no bound. No rank
 -- is greater than the number of states.
-use Rattle.std.proofs.Common.{ℕ, zero, suc, ◌+◌, ◌<◌, ◌≤◌, ◌≡◌, ◌&&◌, ◌||◌, ◌⊎◌, not, inl, inr, if◌then◌else◌, Bool, true, false}
-use Rattle.std.proofs.Common.{Option, None, Some, List, [], ◌∷◌, length, map, get_or, refl, sym, ◌∙◌, ap, subst, arith}
+use Rattle.std.proofs.Common.{ℕ, zero, suc, ◌+◌, ◌<◌, ◌≤◌, ◌≡◌, ◌&&◌, ◌||◌, ◌⊎◌, not, inl, inr, if◌then◌else◌, Bool, true, false, Option, None, Some, List, []}
+use Rattle.std.proofs.Common.{◌∷◌, length, map, get_or, refl, sym, ◌∙◌, ap, subst, arith}
 use Rattle.std.specs.Prelude.{nat_le}
 use Rattle.std.specs.Option.{is_some}
 use Rattle.std.specs.List.{list_all}
 use Rattle.std.proofs.lemmas.Bool.{and_parts, eqb-true, leb-true, le-leb, lt-leb, cases_lt}
 use Rattle.std.proofs.lemmas.List.{ext_get_or, get_or-map, get_or_past, length-map}
 use Rattle.queue_certificates.proofs.States.{at-below}
-use Rattle.queue_progress.specs.Graphs.{Stay, is_in, leads_into, within, are_within}
-use Rattle.queue_progress.specs.Longest.{longest}
-use Rattle.queue_progress.specs.Ranks.{farther, greatest, farthest, led_to, one_more, rank_of, is_same_rank, are_ranks_of}
+use Rattle.queue_progress.specs.{Stay, is_in, leads_into, within, are_within, longest, farther, greatest, farthest, led_to, one_more, rank_of, is_same_rank}
+use Rattle.queue_progress.specs.{are_ranks_of}
 use Rattle.queue_progress.proofs.Halving.{within-length, none-passes, first-passes}
 use Rattle.queue_progress.proofs.Numbers.{all-from, lacking, less-lacking}
 

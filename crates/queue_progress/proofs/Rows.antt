@@ -1,38 +1,23 @@
 -- A row of instructions of one kind is no longer than a bound of the states from which it may begin: by induction over the row.
-use Rattle.std.proofs.Common.{ℕ, zero, suc, ◌+◌, ◌<◌, ◌≤◌, ◌≡◌, ◌⊎◌, ◌&&◌, inl, inr, if◌then◌else◌, Bool, true, false}
-use Rattle.std.proofs.Common.{Option, Some, None, List, [], ◌∷◌, ◌++◌, take, length, refl, sym, ◌∙◌, ap, subst, arith, append_assoc}
+use Rattle.std.proofs.Common.{ℕ, zero, suc, ◌+◌, ◌<◌, ◌≤◌, ◌≡◌, ◌⊎◌, ◌&&◌, inl, inr, if◌then◌else◌, Bool, true, false, Option, Some, None, List, [], ◌∷◌, ◌++◌}
+use Rattle.std.proofs.Common.{take, length, refl, sym, ◌∙◌, ap, subst, arith, append_assoc}
 use Rattle.std.specs.Prelude.{nat_lt}
 use Rattle.std.specs.List.{list_all}
 use Rattle.std.proofs.lemmas.Bool.{and_parts}
 use Rattle.std.proofs.lemmas.Option.{get_or_from_slice_get}
-use Rattle.hart.specs.State.{HartState}
-use Rattle.hart.specs.Steps.{advanced}
+use Rattle.hart.specs.{HartState, advanced}
 use Rattle.hart.specs.declared.status.Status.TheVariants as status
 use Rattle.step_machine.specs.declared.events.Entry.{Entry}
-use Rattle.step_machine.specs.History.{OpeningValue, history_of}
-use Rattle.step_machine.specs.Access.{access_of}
-use Rattle.step_machine.specs.Entries.{hart_of, is_land, is_own, read_byte}
-use Rattle.step_machine.specs.Paths.{number_read, state_of}
-use Rattle.step_machine.specs.Legal.{WellFormed}
+use Rattle.step_machine.specs.Names.{OpeningValue, history_of, access_of, hart_of, is_land, is_own, read_byte, number_read, state_of, WellFormed}
 use Rattle.step_machine.proofs.OwnRuns.{kept-front}
 use Rattle.store_buffers.proofs.OwnEntries.{same_state, next_state, own_parts}
 use Rattle.slot_queue.specs.Ownership.{party_of, after_access}
-use Rattle.queue_certificates.specs.OwnedRuns.{View, AllCounts, view_then, ActsByCounts, IsSameFor, kept_beside}
+use Rattle.queue_certificates.specs.{View, AllCounts, view_then, ActsByCounts, IsSameFor, kept_beside, Form, KnownState, MeansAt, Arrow, each_leaf}
+use Rattle.queue_certificates.specs.{QueueCertificate, queue_at, part_of, own_of, state_at, tagged_at, told_beside, HasFields, MeetsFields, IsKeptByte}
+use Rattle.queue_certificates.specs.{MeansAll, SharesTold, next_states, arrow_leads, each_leads, all_lead, accepts, no_hart}
 use Rattle.queue_certificates.proofs.Every as every
-use Rattle.queue_certificates.specs.Forms.{Form}
-use Rattle.queue_certificates.specs.States.{KnownState, MeansAt}
-use Rattle.queue_certificates.specs.Cases.{Arrow, each_leaf}
-use Rattle.queue_certificates.specs.Certificates.{QueueCertificate, queue_at, part_of, own_of, state_at, tagged_at, told_beside}
-use Rattle.queue_certificates.specs.Certificates.{HasFields, MeetsFields, IsKeptByte, MeansAll, SharesTold, next_states, arrow_leads, each_leads, all_lead}
-use Rattle.queue_certificates.specs.Certificates.{accepts, no_hart}
-use Rattle.queue_certificates.proofs.States.{means-frame}
-use Rattle.queue_certificates.proofs.TagShares.{told-frame}
-use Rattle.queue_certificates.proofs.Accepted.{OfHart, of-hart}
-use Rattle.queue_certificates.proofs.AtLeaf.{at-leaf}
-use Rattle.queue_certificates.proofs.Leaves.{IsAmongAll, among-leads, leaf-goes}
-use Rattle.queue_certificates.proofs.EveryRun.{sets, accepted_fields}
-use Rattle.queue_progress.specs.Rows.{executed, counts_at, EachAfter}
-use Rattle.queue_progress.specs.Stays.{code_of, targets}
+use Rattle.queue_certificates.proofs.{means-frame, told-frame, OfHart, of-hart, at-leaf, IsAmongAll, among-leads, leaf-goes, sets, accepted_fields}
+use Rattle.queue_progress.specs.{executed, counts_at, EachAfter, code_of, targets}
 
 -- What `least` says of a number and a state of hart h, the state's leaves say: each is of another kind, or leads to states of which `least`
 -- says so with one less: along its first arrow alone, where `cut` says so. Of a listed state it says nothing with 0

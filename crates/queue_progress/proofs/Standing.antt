@@ -1,34 +1,22 @@
 -- While both indices have landed, no run stands still for long: the looks of both parties are exact as long as nothing moves, and both can't find
 -- that they have to wait.
-use Rattle.std.proofs.Common.{ℕ, ◌+◌, ◌<◌, ◌≤◌, ◌≡◌, ◌==◌, ◌&&◌, ◌⊎◌, inl, inr, if◌then◌else◌, true, Some}
-use Rattle.std.proofs.Common.{List, [], ◌∷◌, ◌++◌, length, sym, ◌∙◌, ap, subst, arith, append_assoc, append-nil}
+use Rattle.std.proofs.Common.{ℕ, ◌+◌, ◌<◌, ◌≤◌, ◌≡◌, ◌==◌, ◌&&◌, ◌⊎◌, inl, inr, if◌then◌else◌, true, Some, List, [], ◌∷◌, ◌++◌, length, sym, ◌∙◌, ap, subst}
+use Rattle.std.proofs.Common.{arith, append_assoc, append-nil}
 use Rattle.std.proofs.lemmas.Bool.{eq-eqb, cases_lt}
 use Rattle.step_machine.specs.declared.events.Entry.{Entry}
-use Rattle.step_machine.specs.History.{OpeningValue, history_of}
-use Rattle.step_machine.specs.Access.{Access, nothing, load, store, exchange, fence, land, access_of}
-use Rattle.step_machine.specs.Entries.{hart_of, is_own, pending, read, write_of}
-use Rattle.step_machine.specs.Legal.{WellFormed, AllowedBy}
-use Rattle.step_machine.proofs.Appended.{LegalAfter-back}
-use Rattle.step_machine.proofs.OwnRuns.{kept-front}
+use Rattle.step_machine.specs.Names.{OpeningValue, history_of, Access, nothing, load, store, exchange, fence, land, access_of, hart_of, is_own, pending, read}
+use Rattle.step_machine.specs.Names.{write_of, WellFormed, AllowedBy}
+use Rattle.step_machine.proofs.{LegalAfter-back, kept-front}
 use Rattle.store_buffers.proofs.OwnEntries.{own_parts}
 use Rattle.memory.specs.Writes.{write}
 use Rattle.queue_parties.specs.Parties.{Party, the_sender, the_receiver, other, QueueCounts, count, known, with_known, all_at, counts_from}
 use Rattle.queue_parties.proofs.Parties.{Grows, counts-append, harts-apart, known-set, twice}
-use Rattle.slot_queue.specs.Queues.{Queue, index_word, least_count}
-use Rattle.slot_queue.specs.Ownership.{hart, index, end, after_load, after_access, counts_next, moved}
-use Rattle.slot_queue.specs.Laws.{FollowsOwnership}
-use Rattle.slot_queue.proofs.Codes.{least-near}
-use Rattle.slot_queue.proofs.Sides.{Side, moved_on-more}
-use Rattle.slot_queue.proofs.Looks.{allowance, allowances, end-is, reads-other, found, Bounds, bounds}
-use Rattle.slot_queue.proofs.Runs.{sides-of, memory_at, memory-last}
-use Rattle.slot_queue.proofs.Owned.{grows-after}
+use Rattle.slot_queue.specs.{Queue, index_word, least_count, hart, index, end, after_load, after_access, counts_next, moved, FollowsOwnership}
+use Rattle.slot_queue.proofs.{least-near, Side, moved_on-more, allowance, allowances, end-is, reads-other, found, Bounds, bounds, sides-of, memory_at}
+use Rattle.slot_queue.proofs.{memory-last, grows-after}
 use Rattle.queue_certificates.specs.Certificates.{QueueCertificate, queue_at, start_at, accepts}
-use Rattle.queue_certificates.proofs.Accesses.{hart-party}
-use Rattle.queue_certificates.proofs.Accepted.{fine}
-use Rattle.queue_certificates.proofs.EveryRun.{accepted_runs}
-use Rattle.queue_progress.specs.declared.pace.Pace.{Pace}
-use Rattle.queue_progress.specs.Rows.{executed, counts_at, LooksBy, IsStuckStep, EachOwn, EachAfter, all_moved, HaveLanded}
-use Rattle.queue_progress.specs.Shown.{keeps_going}
+use Rattle.queue_certificates.proofs.{hart-party, fine, accepted_runs}
+use Rattle.queue_progress.specs.{Pace, executed, counts_at, LooksBy, IsStuckStep, EachOwn, EachAfter, all_moved, HaveLanded, keeps_going}
 use Rattle.queue_progress.proofs.Moved.{same-part, turn}
 use Rattle.queue_progress.proofs.Going.{looks?, counted-known, going}
 

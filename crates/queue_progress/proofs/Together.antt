@@ -1,16 +1,13 @@
 -- A hart of several queues: a row of its instructions that are stuck is short. It is idle where the hart owns more of each queue; else blind up to
 -- a load of the index of one of which it owns no more, and after that it owns more of one queue more.
-use Rattle.std.proofs.Common.{ℕ, zero, suc, ◌+◌, ◌*◌, ◌<◌, ◌≤◌, ◌≡◌, ◌⊎◌, inl, inr, if◌then◌else◌, Bool, true, false}
-use Rattle.std.proofs.Common.{Option, None, Some, not, List, [], ◌∷◌, ◌++◌, length, refl, sym, ◌∙◌, ap, subst, arith, append_assoc, append-nil}
+use Rattle.std.proofs.Common.{ℕ, zero, suc, ◌+◌, ◌*◌, ◌<◌, ◌≤◌, ◌≡◌, ◌⊎◌, inl, inr, if◌then◌else◌, Bool, true, false, Option, None, Some, not, List, [], ◌∷◌}
+use Rattle.std.proofs.Common.{◌++◌, length, refl, sym, ◌∙◌, ap, subst, arith, append_assoc, append-nil}
 use Rattle.std.specs.Prelude.{nat_lt}
 use Rattle.std.specs.Option.{is_some}
 use Rattle.std.proofs.Math.Nat.{suc-mul}
 use Rattle.std.proofs.lemmas.Bool.{and_parts, not-false, cases_eq, leb-true}
 use Rattle.step_machine.specs.declared.events.Entry.{Entry}
-use Rattle.step_machine.specs.History.{OpeningValue, history_of}
-use Rattle.step_machine.specs.Access.{access_of}
-use Rattle.step_machine.specs.Entries.{hart_of, is_own}
-use Rattle.step_machine.specs.Legal.{WellFormed}
+use Rattle.step_machine.specs.Names.{OpeningValue, history_of, access_of, hart_of, is_own, WellFormed}
 use Rattle.step_machine.proofs.OwnRuns.{kept-front}
 use Rattle.store_buffers.proofs.OwnEntries.{own_parts}
 use Rattle.queue_parties.specs.Parties.{Party, count, known, all_at}
@@ -18,22 +15,12 @@ use Rattle.queue_parties.proofs.Parties.{counts-append}
 use Rattle.certified_runs.specs.TwoParties.{IsSameFor}
 use Rattle.certified_runs.proofs.TwoParties.{left-same}
 use Rattle.slot_queue.specs.Ownership.{hart, party_of, after_access, counts_next, end}
-use Rattle.queue_certificates.specs.OwnedRuns.{owning}
+use Rattle.queue_certificates.specs.{owning, fits_in, instruction_at, QueueCertificate, queue_at, start_at, accepts}
 use Rattle.queue_certificates.proofs.Counted.{is_of_parties}
-use Rattle.queue_certificates.specs.Forms.{fits_in}
-use Rattle.queue_certificates.specs.Steps.{instruction_at}
-use Rattle.queue_certificates.specs.Certificates.{QueueCertificate, queue_at, start_at, accepts}
-use Rattle.queue_certificates.proofs.States.{at-below}
-use Rattle.queue_certificates.proofs.Accesses.{hart-party, same-party}
-use Rattle.queue_certificates.proofs.Accepted.{fine}
-use Rattle.queue_progress.specs.declared.pace.Pace.{Pace}
-use Rattle.queue_progress.specs.Graphs.{may_own_more, looks_away, are_within}
-use Rattle.queue_progress.specs.Longest.{longest}
-use Rattle.queue_progress.specs.Stays.{code_of}
-use Rattle.queue_progress.specs.Rows.{executed, counts_at, LooksBy, EachAfter}
-use Rattle.queue_progress.specs.Harts.{is_side, sides, moves_some, fewest_owned, is_among, differs, hart_graph, each_lacking}
-use Rattle.queue_progress.specs.Harts.{hart_keeps_going, owns_more, has_more, has_more_of_all, LeavesCounts, HasMoreWhereItLooks}
-use Rattle.queue_progress.specs.Harts.{IsHartIdle, IsHartBlind, IsHartStuck}
+use Rattle.queue_certificates.proofs.{at-below, hart-party, same-party, fine}
+use Rattle.queue_progress.specs.{Pace, may_own_more, looks_away, are_within, longest, code_of, executed, counts_at, LooksBy, EachAfter, is_side, sides}
+use Rattle.queue_progress.specs.{moves_some, fewest_owned, is_among, differs, hart_graph, each_lacking, hart_keeps_going, owns_more, has_more, has_more_of_all}
+use Rattle.queue_progress.specs.{LeavesCounts, HasMoreWhereItLooks, IsHartIdle, IsHartBlind, IsHartStuck}
 use Rattle.queue_progress.proofs.Alone.{executed-append}
 use Rattle.queue_progress.proofs.Bounded.{uncut, bounded}
 use Rattle.queue_progress.proofs.Going.{looks?, end-of, known-kept}

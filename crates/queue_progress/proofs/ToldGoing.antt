@@ -1,32 +1,22 @@
 -- A row of instructions that are stuck at a queue with tags is no longer than the party's graph has: where it may learn that the slot is its own
 -- it does.
-use Rattle.std.proofs.Common.{ℕ, ◌+◌, ◌<◌, ◌≤◌, ◌≡◌, ◌==◌, inl, inr, Bool, true, false, Option, None, Some, List, [], ◌∷◌, ◌++◌, length}
-use Rattle.std.proofs.Common.{refl, sym, ◌∙◌, ap, subst, arith}
+use Rattle.std.proofs.Common.{ℕ, ◌+◌, ◌<◌, ◌≤◌, ◌≡◌, ◌==◌, inl, inr, Bool, true, false, Option, None, Some, List, [], ◌∷◌, ◌++◌, length, refl, sym, ◌∙◌, ap}
+use Rattle.std.proofs.Common.{subst, arith}
 use Rattle.std.proofs.lemmas.Bool.{and_parts, eqb-true}
 use Rattle.rv_decode.specs.declared.instruction.Instr.{Instr}
 use Rattle.rv_decode.specs.declared.instruction.Instr.TheVariants.{Load}
-use Rattle.hart.specs.State.{HartState}
-use Rattle.hart.specs.Steps.{advanced}
+use Rattle.hart.specs.{HartState, advanced}
 use Rattle.step_machine.specs.declared.events.Entry.{Entry}
-use Rattle.step_machine.specs.History.{HartOpeningValue, OpeningValue, history_of}
-use Rattle.step_machine.specs.Access.{load, access_of}
-use Rattle.step_machine.specs.Paths.{number_read}
-use Rattle.step_machine.specs.Legal.{WellFormed}
+use Rattle.step_machine.specs.Names.{HartOpeningValue, OpeningValue, history_of, load, access_of, number_read, WellFormed}
 use Rattle.queue_parties.specs.Parties.{Party, count, all_at}
 use Rattle.queue_parties.proofs.Parties.{counts-append}
 use Rattle.slots_that_tell.specs.Slots.{Slots, IsSlots, tag_of}
 use Rattle.slots_that_tell.specs.Telling.{teller_of, told_access, after_entry}
-use Rattle.queue_certificates.specs.OwnedRuns.{view_then}
-use Rattle.queue_certificates.specs.Forms.{Form, form_value}
-use Rattle.queue_certificates.specs.States.{KnownState}
-use Rattle.queue_certificates.specs.Steps.{instruction_at, share_at}
-use Rattle.queue_certificates.specs.Certificates.{QueueCertificate, tagged_at, tagged_start, accepts, next_states}
-use Rattle.queue_certificates.proofs.TagShares.{tagged-fine, teller-is}
-use Rattle.queue_certificates.proofs.Accepted.{OfHart, of-hart, fine-tagged}
-use Rattle.queue_progress.specs.Graphs.{looks_away}
-use Rattle.queue_progress.specs.Stays.{code_of, moves, follow_further}
-use Rattle.queue_progress.specs.Rows.{executed, counts_at, EachAfter}
-use Rattle.queue_progress.specs.Told.{slots_at, teller_at, told_counts_at, HasToWait, IsToldStuck, is_load, learns, may_learn, told_within}
+use Rattle.queue_certificates.specs.{view_then, Form, form_value, KnownState, instruction_at, share_at, QueueCertificate, tagged_at, tagged_start, accepts}
+use Rattle.queue_certificates.specs.{next_states}
+use Rattle.queue_certificates.proofs.{tagged-fine, teller-is, OfHart, of-hart, fine-tagged}
+use Rattle.queue_progress.specs.{looks_away, code_of, moves, follow_further, executed, counts_at, EachAfter, slots_at, teller_at, told_counts_at, HasToWait}
+use Rattle.queue_progress.specs.{IsToldStuck, is_load, learns, may_learn, told_within}
 use Rattle.queue_progress.proofs.Leaves.{moved}
 use Rattle.queue_progress.proofs.Rows.{Executes, GoesFirst, Sees, Told, Then, ThenTold}
 use Rattle.queue_progress.proofs.Bounded.{bounded}

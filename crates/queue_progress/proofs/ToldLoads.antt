@@ -1,7 +1,7 @@
 -- A load after which two states may follow, where the party owned no position for sure and owns one in the first of them: it is a load of the
 -- tag of that position.
-use Rattle.std.proofs.Common.{ℕ, ℤ, suc, zero, ◌+◌, ◌<◌, ◌≤◌, ◌≡◌, ◌⊎◌, inl, inr, if◌then◌else◌, Bool, true, false}
-use Rattle.std.proofs.Common.{Option, Some, None, List, [], ◌∷◌, length, get_or, refl, sym, ◌∙◌, ap, subst, arith}
+use Rattle.std.proofs.Common.{ℕ, ℤ, suc, zero, ◌+◌, ◌<◌, ◌≤◌, ◌≡◌, ◌⊎◌, inl, inr, if◌then◌else◌, Bool, true, false, Option, Some, None, List, [], ◌∷◌, length}
+use Rattle.std.proofs.Common.{get_or, refl, sym, ◌∙◌, ap, subst, arith}
 use Rattle.std.specs.Prelude.{nat_lt, map, set}
 use Rattle.std.proofs.lemmas.Bool.{cases_eq, cases_lt}
 use Rattle.std.proofs.lemmas.List.{length-map, get_or-set_same, get_or-set_other, set_past}
@@ -11,16 +11,11 @@ use Rattle.rv_decode.specs.declared.instruction.Instr.{Instr}
 use Rattle.rv_decode.specs.declared.instruction.Instr.TheVariants.{Load}
 use Rattle.hart.specs.Effects.{next_pc, load_width}
 use Rattle.queue_parties.specs.Parties.{Party}
-use Rattle.queue_certificates.specs.RecordFields.{Field}
-use Rattle.queue_certificates.specs.Forms.{Form, number, lifted, Bounds}
-use Rattle.queue_certificates.specs.States.{KnownValue, any, linear, index_for, signed_for, ends_as, has_bits, Share, no_share, share_by, KnownState}
-use Rattle.queue_certificates.specs.Results.{Result}
-use Rattle.queue_certificates.specs.Steps.{last_below, is_look, may_load, after_load, with_result, share_at, instruction_at}
-use Rattle.queue_certificates.specs.Steps.{address_value, addresses, follow}
-use Rattle.queue_certificates.specs.Fields.{field_number, keeps_numbers, field_below, after_field, next_received}
-use Rattle.queue_certificates.specs.Tags.{party_in, tag_position, tag_by, tag_at, looked_tag, told_value, other_value, when_told}
-use Rattle.queue_certificates.specs.Tags.{at_tag, load_tells, next_told}
-use Rattle.queue_certificates.specs.Certificates.{QueueCertificate, queue_at, fields_at, tagged_at, own_of, next_states}
+use Rattle.queue_certificates.specs.{Field, Form, number, lifted, Bounds, KnownValue, any, linear, index_for, signed_for, ends_as, has_bits, Share, no_share}
+use Rattle.queue_certificates.specs.{share_by, KnownState, Result, last_below, is_look, may_load, after_load, with_result, share_at, instruction_at}
+use Rattle.queue_certificates.specs.{address_value, addresses, follow, field_number, keeps_numbers, field_below, after_field, next_received, party_in}
+use Rattle.queue_certificates.specs.{tag_position, tag_by, tag_at, looked_tag, told_value, other_value, when_told, at_tag, load_tells, next_told}
+use Rattle.queue_certificates.specs.{QueueCertificate, queue_at, fields_at, tagged_at, own_of, next_states}
 use Rattle.queue_layouts.specs.declared.tagged.TaggedQueue.{TaggedQueue}
 
 lifted-constant : (ss : List Share) (i : ℕ) → (get_or (map (share_by lifted) ss) i no_share).owned.constant ≡ (get_or ss i no_share).owned.constant

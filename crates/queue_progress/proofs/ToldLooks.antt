@@ -1,55 +1,38 @@
 -- At such a load the party loads its own position's tag; where that tells it so, the hart is in the first of both states that may follow. A state
 -- that says besides that the party owns its position is as right after the load, and one state follows it.
-use Rattle.std.proofs.Common.{ℕ, zero, suc, ◌+◌, ◌-◌, ◌<◌, ◌≤◌, ◌≡◌, ◌≢◌, ◌==◌, ◌&&◌, ◌||◌, ◌⊎◌, inl, inr, if◌then◌else◌, Bool, true, false}
-use Rattle.std.proofs.Common.{Option, Some, None, List, [], ◌∷◌, length, get_or, refl, sym, ◌∙◌, ap, subst, arith}
+use Rattle.std.proofs.Common.{ℕ, zero, suc, ◌+◌, ◌-◌, ◌<◌, ◌≤◌, ◌≡◌, ◌≢◌, ◌==◌, ◌&&◌, ◌||◌, ◌⊎◌, inl, inr, if◌then◌else◌, Bool, true, false, Option, Some, None}
+use Rattle.std.proofs.Common.{List, [], ◌∷◌, length, get_or, refl, sym, ◌∙◌, ap, subst, arith}
 use Rattle.std.specs.Prelude.{nat_lt, is_some, map, set}
 use Rattle.std.proofs.lemmas.Bool.{and_parts, eqb-true, eq-eqb, ne_eqb, cases_eq, cases_lt}
 use Rattle.std.proofs.lemmas.List.{length-set, length-map, get_or-set_same, get_or-set_other}
 use Rattle.rv_decode.specs.declared.instruction.Instr.{Instr}
 use Rattle.rv_decode.specs.declared.instruction.Instr.TheVariants.{Load}
-use Rattle.hart.specs.State.{HartState}
-use Rattle.hart.specs.Steps.{advanced}
-use Rattle.hart.specs.Effects.{register_value, address, next_pc, load_width}
+use Rattle.hart.specs.{HartState, advanced, register_value, address, next_pc, load_width}
 use Rattle.hart.specs.declared.status.Status.TheVariants as status
 use Rattle.step_machine.specs.declared.events.Entry.{Entry}
-use Rattle.step_machine.specs.History.{HartOpeningValue, OpeningValue}
-use Rattle.step_machine.specs.Access.{load, access_of}
-use Rattle.step_machine.specs.Paths.{number_read}
-use Rattle.slot_queue.specs.Queues.{slot_of}
-use Rattle.slot_queue.specs.Ownership.{party_of, after_access}
+use Rattle.step_machine.specs.Names.{HartOpeningValue, OpeningValue, load, access_of, number_read}
+use Rattle.slot_queue.specs.{slot_of, party_of, after_access}
 use Rattle.queue_parties.specs.Parties.{Party, QueueCounts, count, known}
 use Rattle.queue_parties.proofs.Parties.{count-set-known, known-set}
 use Rattle.slots_that_tell.specs.Slots.{Slots, IsSlots, tag_of}
 use Rattle.slots_that_tell.specs.Telling.{teller_hart, owned_end, told, after_load, told_access}
 use Rattle.slots_that_tell.specs.Telling as telling
 use Rattle.slots_that_tell.proofs.Owned.{mine-of}
-use Rattle.queue_certificates.specs.ToldRuns.{SeesTags}
-use Rattle.queue_certificates.specs.OwnedRuns.{View, AllCounts, number_seen, ReadsFrom, view_then, ActsByCounts, kept_beside}
-use Rattle.queue_certificates.specs.Forms.{Form, form_value, number, lifted, InRanges}
-use Rattle.queue_certificates.specs.States.{KnownValue, any, linear, index_for, signed_for, ends_as, has_bits, Share, no_share}
-use Rattle.queue_certificates.specs.States.{share_by, KnownState, Has, HasShare, MeansAt}
-use Rattle.queue_certificates.specs.Results.{Result}
-use Rattle.queue_certificates.specs.Steps.{last_below, is_just, is_look, misses, all_below, may_load, with_result}
-use Rattle.queue_certificates.specs.Steps.{share_at, instruction_at, position_at, offset_at}
-use Rattle.queue_certificates.specs.Steps.{address_value, addresses, follow}
+use Rattle.queue_certificates.specs.{SeesTags, View, AllCounts, number_seen, ReadsFrom, view_then, ActsByCounts, kept_beside, Form, form_value, number, lifted}
+use Rattle.queue_certificates.specs.{InRanges, KnownValue, any, linear, index_for, signed_for, ends_as, has_bits, Share, no_share, share_by, KnownState, Has}
+use Rattle.queue_certificates.specs.{HasShare, MeansAt, Result, last_below, is_just, is_look, misses, all_below, may_load, with_result, share_at}
+use Rattle.queue_certificates.specs.{instruction_at, position_at, offset_at, address_value, addresses, follow, field_below, after_field, next_received, bare}
+use Rattle.queue_certificates.specs.{party_in, tag_position, tag_by, tag_at, looked_tag, told_value, with_share, HasAtLeast, after_tag, at_tag}
+use Rattle.queue_certificates.specs.Tags.{is_in_slot}
+use Rattle.queue_certificates.specs.{load_tells, next_told, QueueCertificate, queue_at, fields_at, tagged_at, own_of, next_states, HasFields, MeetsFields}
+use Rattle.queue_certificates.specs.{SharesTold, told_beside, accepts}
 use Rattle.queue_certificates.specs.Steps as transfer
-use Rattle.queue_certificates.specs.Fields.{field_below, after_field, next_received}
-use Rattle.queue_certificates.specs.Tags.{bare, party_in, tag_position, is_in_slot, tag_by, tag_at, looked_tag, told_value, with_share}
-use Rattle.queue_certificates.specs.Tags.{HasAtLeast, after_tag, at_tag, load_tells, next_told}
-use Rattle.queue_certificates.specs.Certificates.{QueueCertificate, queue_at, fields_at, tagged_at, own_of, next_states, HasFields, MeetsFields, SharesTold}
-use Rattle.queue_certificates.specs.Certificates.{told_beside, accepts}
 use Rattle.queue_layouts.specs.Tagged.{slots_of}
 use Rattle.queue_layouts.specs.declared.tagged.TaggedQueue.{TaggedQueue}
-use Rattle.queue_certificates.proofs.Forms.{value-lifted, value-number}
-use Rattle.queue_certificates.proofs.Steps.{nobody_told, nothing_sent, untold}
+use Rattle.queue_certificates.proofs.{value-lifted, value-number, nobody_told, nothing_sent, untold, slot-place, tag_loaded, told_owns, knows_of, tagged-fine}
+use Rattle.queue_certificates.proofs.{teller-is, same-by, Stays, told_by, set-means, set-told, load-stays, Makes, next-access, OfHart, fine, fine-tagged}
+use Rattle.queue_certificates.proofs.{IsAmongAll, leaf-goes}
 use Rattle.queue_certificates.proofs.Steps as steps
-use Rattle.queue_certificates.proofs.Stores.{slot-place}
-use Rattle.queue_certificates.proofs.ToldAccesses.{tag_loaded, told_owns, knows_of}
-use Rattle.queue_certificates.proofs.TagShares.{tagged-fine, teller-is, same-by}
-use Rattle.queue_certificates.proofs.TagNext.{Stays, told_by, set-means, set-told, load-stays}
-use Rattle.queue_certificates.proofs.NextAccess.{Makes, next-access}
-use Rattle.queue_certificates.proofs.Accepted.{OfHart, fine, fine-tagged}
-use Rattle.queue_certificates.proofs.Leaves.{IsAmongAll, leaf-goes}
 use Rattle.queue_progress.proofs.ToldLoads.{last-same, by-own, IsTagLoad}
 
 -- ---- the place of the own position's tag

@@ -1,33 +1,26 @@
 -- While no store to a tag is pending, no run stands still for long at a queue with tags: as long as nothing moves, a party that has to wait does so
 -- because the queue is full, or empty, and it isn't both.
-use Rattle.std.proofs.Common.{ℕ, ◌+◌, ◌<◌, ◌≤◌, ◌≡◌, ◌≢◌, ◌==◌, ◌⊎◌, inl, inr, if◌then◌else◌, Bool, true, false, Some}
-use Rattle.std.proofs.Common.{List, [], ◌∷◌, ◌++◌, length, refl, sym, ◌∙◌, ap, subst, arith, append_assoc, append-nil}
+use Rattle.std.proofs.Common.{ℕ, ◌+◌, ◌<◌, ◌≤◌, ◌≡◌, ◌≢◌, ◌==◌, ◌⊎◌, inl, inr, if◌then◌else◌, Bool, true, false, Some, List, [], ◌∷◌, ◌++◌, length, refl, sym}
+use Rattle.std.proofs.Common.{◌∙◌, ap, subst, arith, append_assoc, append-nil}
 use Rattle.std.specs.Prelude.{All}
 use Rattle.std.proofs.lemmas.List.Elements.{All-nil, All-cons, All-append, All-drop, All-head, All-tail}
 use Rattle.std.proofs.lemmas.Bool.{cases_eq, eqb-true}
 use Rattle.memory.specs.declared.writes.Write.{Write}
 use Rattle.step_machine.specs.declared.events.Entry.{Entry}
-use Rattle.step_machine.specs.History.{OpeningValue, history_of}
-use Rattle.step_machine.specs.Access.{Access, nothing, load, store, exchange, fence, land, access_of}
-use Rattle.step_machine.specs.Entries.{hart_of, is_own, own_store, stored_by, land_of, pending}
-use Rattle.step_machine.specs.Legal.{WellFormed}
-use Rattle.step_machine.proofs.Appended.{pending-last}
+use Rattle.step_machine.specs.Names.{OpeningValue, history_of, Access, nothing, load, store, exchange, fence, land, access_of, hart_of, is_own, own_store}
+use Rattle.step_machine.specs.Names.{stored_by, land_of, pending, WellFormed}
+use Rattle.step_machine.proofs.{pending-last, kept-front}
 use Rattle.step_machine.proofs.Landings.{balanced}
-use Rattle.step_machine.proofs.OwnRuns.{kept-front}
 use Rattle.store_buffers.proofs.OwnEntries.{own_parts}
 use Rattle.queue_parties.specs.Parties.{Party, the_sender, the_receiver, other, QueueCounts, count, all_at, counts_from}
 use Rattle.queue_parties.proofs.Parties.{Grows, counts-append, count-set}
 use Rattle.slots_that_tell.specs.Slots.{Slots, IsSlots, gap, tag_of, is_tag}
-use Rattle.slots_that_tell.specs.Telling.{told_access, after_entry, moved}
-use Rattle.slots_that_tell.specs.Laws.{moved_on}
+use Rattle.slots_that_tell.specs.{told_access, after_entry, moved, moved_on}
 use Rattle.slots_that_tell.proofs.Owned.{grows-after}
 use Rattle.slots_that_tell.proofs.Runs.{look}
 use Rattle.queue_certificates.specs.Certificates.{QueueCertificate, tagged_at, tagged_start, accepts}
-use Rattle.queue_certificates.proofs.TagShares.{tagged-fine, teller-is}
-use Rattle.queue_certificates.proofs.Accepted.{fine-tagged}
-use Rattle.queue_certificates.proofs.EveryRun.{accepted_telling}
-use Rattle.queue_progress.specs.Rows.{executed, all_moved}
-use Rattle.queue_progress.specs.Told.{slots_at, teller_at, told_counts_at, HasToWait, IsToldStuck, TagsHaveLanded, told_within}
+use Rattle.queue_certificates.proofs.{tagged-fine, teller-is, fine-tagged, accepted_telling}
+use Rattle.queue_progress.specs.{executed, all_moved, slots_at, teller_at, told_counts_at, HasToWait, IsToldStuck, TagsHaveLanded, told_within}
 use Rattle.queue_progress.proofs.Moved.{all-grow, same-part, turn}
 use Rattle.queue_progress.proofs.ToldGoing.{told_going}
 

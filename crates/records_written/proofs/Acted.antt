@@ -1,6 +1,5 @@
 -- What an access of a party comes to, where its instruction has an effect: the party's count after it, and the bytes that it does.
-use Rattle.std.proofs.Common.{ℕ, ◌+◌, ◌<◌, ◌≤◌, ◌≡◌, if◌then◌else◌, Bool, true, false, Option, None, Some, List, refl, subst, arith}
-use Rattle.std.proofs.Common.{◌==◌}
+use Rattle.std.proofs.Common.{ℕ, ◌+◌, ◌<◌, ◌≤◌, ◌≡◌, if◌then◌else◌, Bool, true, false, Option, None, Some, List, refl, subst, arith, ◌==◌}
 use Rattle.std.proofs.lemmas.Bool.{eqb-true}
 use Rattle.hart.specs.State.{HartState}
 use Rattle.hart.specs.declared.status.Status.TheVariants as status
@@ -8,17 +7,13 @@ use Rattle.step_machine.specs.Access.{Access}
 use Rattle.queue_parties.specs.Parties.{Party, the_sender, the_receiver}
 use Rattle.certified_runs.specs.Views.{LoadsByte}
 use Rattle.slot_queue.specs.Ownership.{party_of, after_access}
-use Rattle.queue_certificates.specs.OwnedRuns.{AllCounts, kept_beside}
-use Rattle.queue_certificates.specs.Forms.{Form, form_value, most, InRanges}
-use Rattle.queue_certificates.specs.Certificates.{QueueCertificate, queue_at, told_beside}
-use Rattle.queue_certificates.specs.Effects.{WritesByte, published_by}
-use Rattle.queue_certificates.specs.Filled.{most_published}
+use Rattle.queue_certificates.specs.{AllCounts, kept_beside, Form, form_value, most, InRanges, QueueCertificate, queue_at, told_beside, WritesByte}
+use Rattle.queue_certificates.specs.{published_by, most_published}
 use Rattle.queue_certificates.specs.declared.effect.Effect.{Effect}
 use Rattle.queue_certificates.specs.declared.effect.Effect.TheVariants.{Leaves, Fills, Publishes, PublishesSome}
 use Rattle.queue_certificates.proofs.Bounds.{value-below}
 use Rattle.queue_certificates.proofs.Effects.{IsSent, Sends}
-use Rattle.records_written.specs.Parties.{hart_in, size_in, slot_in, count_of, end_of}
-use Rattle.records_written.specs.declared.parties.QueueNumber.{QueueNumber}
+use Rattle.records_written.specs.{hart_in, size_in, slot_in, count_of, end_of, QueueNumber}
 
 -- the counts after an access of hart h
 abbrev pub indexed_then : QueueCertificate → (h : ℕ) → Access → AllCounts → AllCounts

@@ -2,8 +2,7 @@
 use Rattle.std.proofs.Common.{ℕ, ◌≡◌, ◌<◌, arith, inl, inr, Bool, true, false, List, [], length, get_or, refl, subst, sym, ◌∙◌}
 use Rattle.std.proofs.lemmas.Bool.{cases_lt}
 use Rattle.std.proofs.lemmas.List.{get_or_past}
-use Rattle.records_written.specs.PartyLeaves.{PartyLeaf, may_hand_on}
-use Rattle.records_written.specs.Sure.{IsSurelyDone, IsSure, IsFirstUnsure}
+use Rattle.records_written.specs.{PartyLeaf, may_hand_on, IsSurelyDone, IsSure, IsFirstUnsure}
 
 module _ (graph : List (List PartyLeaf)) (first : ℕ) (mask : ℕ → Bool) where
   pub not-both : (n b : ℕ) → IsSure graph first mask → IsFirstUnsure graph first mask n b → ⊥

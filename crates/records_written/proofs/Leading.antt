@@ -1,50 +1,31 @@
 -- What an entry of a queue's party leads to from a state of the certificate: what a leaf of the state does, and a next state in which no
 -- more is marked than is done after it.
-use Rattle.std.proofs.Common.{ℕ, ◌<◌, ◌≤◌, ◌≡◌, ◌||◌, not, if◌then◌else◌, Bool, true, false, Option, Some, None, List, [], ◌∷◌}
-use Rattle.std.proofs.Common.{length, map, get_or, sym, ◌∙◌, ap, refl, subst}
+use Rattle.std.proofs.Common.{ℕ, ◌<◌, ◌≤◌, ◌≡◌, ◌||◌, not, if◌then◌else◌, Bool, true, false, Option, Some, None, List, [], ◌∷◌, length, map, get_or, sym, ◌∙◌}
+use Rattle.std.proofs.Common.{ap, refl, subst}
 use Rattle.std.specs.List.{slice_get, list_all, list_any}
 use Rattle.std.proofs.lemmas.Bool.{and_parts, and_from, or_parts, not_from_false}
 use Rattle.std.proofs.lemmas.List.{get_or-map}
 use Rattle.std.proofs.lemmas.List.Folds.{list_all-append}
 use Rattle.std.proofs.lemmas.Option.{get_or_from_slice_get}
 use Rattle.rv_decode.specs.declared.instruction.Instr.{Instr}
-use Rattle.hart.specs.State.{HartState}
-use Rattle.hart.specs.Steps.{advanced}
+use Rattle.hart.specs.{HartState, advanced}
 use Rattle.hart.specs.declared.status.Status.TheVariants as status
 use Rattle.step_machine.specs.declared.events.Entry.{Entry}
-use Rattle.step_machine.specs.History.{HartOpeningValue, OpeningValue}
-use Rattle.step_machine.specs.Access.{Access, access_of}
-use Rattle.step_machine.specs.Paths.{number_read}
-use Rattle.slot_queue.specs.Queues.{slot_of}
+use Rattle.step_machine.specs.Names.{HartOpeningValue, OpeningValue, Access, access_of, number_read}
+use Rattle.slot_queue.specs.{slot_of, after_access}
 use Rattle.queue_parties.specs.Parties.{Party, the_sender, the_receiver}
-use Rattle.slot_queue.specs.Ownership.{after_access}
 use Rattle.slots_that_tell.specs.Slots.{tagged_slot}
 use Rattle.queue_layouts.specs.Tagged.{slots_of}
-use Rattle.queue_certificates.specs.OwnedRuns.{View, AllCounts, view_then, ActsByCounts, kept_beside}
-use Rattle.queue_certificates.specs.Forms.{Form}
-use Rattle.queue_certificates.specs.States.{KnownState, MeansAt}
-use Rattle.queue_certificates.specs.Steps.{follow, instruction_at}
+use Rattle.queue_certificates.specs.{View, AllCounts, view_then, ActsByCounts, kept_beside, Form, KnownState, MeansAt, follow, instruction_at, QueueCertificate}
+use Rattle.queue_certificates.specs.{queue_at, fields_at, part_of, own_of, state_at, tagged_at, HasFields, MeetsFields, SharesTold, MeansAll, told_beside}
+use Rattle.queue_certificates.specs.{no_hart, nowhere, next_states, all_lead, accepts, next_received, effect_of, value_stored, tag_effect_of}
 use Rattle.queue_certificates.specs.Cases.{Arrow, Cases, leaf, split, with_low, with_high, may_exceed, each_leaf}
-use Rattle.queue_certificates.specs.Certificates.{QueueCertificate, queue_at, fields_at, part_of, own_of, state_at, tagged_at}
-use Rattle.queue_certificates.specs.Certificates.{HasFields, MeetsFields, SharesTold, MeansAll, told_beside, no_hart, nowhere, next_states}
-use Rattle.queue_certificates.specs.Certificates.{all_lead, accepts}
-use Rattle.queue_certificates.specs.Fields.{next_received}
-use Rattle.queue_certificates.specs.Effects.{effect_of, value_stored}
-use Rattle.queue_certificates.specs.TagEffects.{tag_effect_of}
 use Rattle.queue_certificates.specs.declared.effect.Effect.{Effect}
-use Rattle.queue_certificates.proofs.Steps.{untold}
-use Rattle.queue_certificates.proofs.Accesses.{hart-party}
-use Rattle.queue_certificates.proofs.Accepted.{fine, fine-tagged, past, OfHart, accepted-opens}
-use Rattle.queue_certificates.proofs.Leaves.{followed, Led, among-leads, leaf-goes}
+use Rattle.queue_certificates.proofs.{untold, hart-party, fine, fine-tagged, past, OfHart, accepted-opens, followed, Led, among-leads, leaf-goes, state-does}
 use Rattle.queue_certificates.proofs.Effects.{Sends, does-sends}
-use Rattle.queue_certificates.proofs.Sends.{state-does}
-use Rattle.records_written.specs.Parties.{IsListed, hart_in, sender_in, receiver_in, count_of, effect_in}
-use Rattle.records_written.specs.Receipts.{receipt_of, tag_receipt_of}
-use Rattle.records_written.specs.declared.parties.QueueNumber.{QueueNumber}
-use Rattle.records_written.specs.declared.parties.QueueNumber.TheVariants.{Indexed, Tagged}
-use Rattle.records_written.specs.PartyLeaves.{PartyLeaf, marked_after, may_hand, may_hand_on}
+use Rattle.records_written.specs.{IsListed, hart_in, sender_in, receiver_in, count_of, effect_in, receipt_of, tag_receipt_of, QueueNumber, Indexed, Tagged}
+use Rattle.records_written.specs.{PartyLeaf, marked_after, may_hand, may_hand_on, leaf_by, leaves_in, graph_of}
 use Rattle.records_written.specs.Sure.{Marks, keeps}
-use Rattle.records_written.specs.Marks.{leaf_by, leaves_in, graph_of}
 use Rattle.records_written.proofs.Acted.{ActsBy, indexed_then, tagged_then, sends-act}
 use Rattle.records_written.proofs.ReceivedIndices.{receipt-comes}
 use Rattle.records_written.proofs.ReceivedTags.{tag-receipt-comes}

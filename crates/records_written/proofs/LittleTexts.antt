@@ -1,36 +1,25 @@
 -- Texts held against the definitions by hand: of three slots that are published by one store; the same with one slot left as it was, which
 -- keeps the protocol of ownership, and of which that slot's first byte is the first that isn't shown to be written; and one whose receiver
 -- reads each record. And when an entry wrote a byte, or read it.
-use Rattle.std.proofs.Common.{ℕ, zero, suc, ◌≡◌, ◌<◌, ◌+◌, ◌*◌, ◌^◌, ◌&&◌, ◌||◌, not, Bool, true, false, Some, List, [], ◌∷◌, ◌++◌, length, get_or}
-use Rattle.std.proofs.Common.{refl, sym, ap, subst, arith, lit<, length-append, ◌≤◌}
+use Rattle.std.proofs.Common.{ℕ, zero, suc, ◌≡◌, ◌<◌, ◌+◌, ◌*◌, ◌^◌, ◌&&◌, ◌||◌, not, Bool, true, false, Some, List, [], ◌∷◌, ◌++◌, length, get_or, refl, sym}
+use Rattle.std.proofs.Common.{ap, subst, arith, lit<, length-append, ◌≤◌}
 use Rattle.std.specs.Prelude.{nat_lt, min}
 use Rattle.std.specs.List.{list_all}
 use Rattle.std.proofs.lemmas.Bool.Decides.{nat_tests}
 use Rattle.rv_decode.specs.Meaning.{meaning}
-use Rattle.step_machine.specs.History.{OpeningValue, history_of}
-use Rattle.step_machine.specs.Legal.{WellFormed}
+use Rattle.step_machine.specs.Names.{OpeningValue, history_of, WellFormed, access_of}
 use Rattle.queue_parties.specs.Parties.{the_sender, the_receiver}
 use Rattle.slot_queue.specs.Queues.{Queue}
-use Rattle.queue_certificates.specs.Forms.{number}
-use Rattle.queue_certificates.specs.States.{KnownValue, any, linear}
-use Rattle.queue_certificates.specs.Cases.{leaf}
-use Rattle.queue_certificates.specs.Certificates.{ListedState, QueueCertificate, accepts}
+use Rattle.queue_certificates.specs.{number, KnownValue, any, linear, leaf, ListedState, QueueCertificate, accepts, told_by_store}
 use Rattle.queue_certificates.proofs.OneSlotQueue.{text, certificate}
 use Rattle.queue_layouts.specs.declared.tagged.Codec.TheVariants as codec
-use Rattle.records_written.specs.declared.parties.QueueNumber.TheVariants.{Indexed, Tagged}
-use Rattle.records_written.specs.PartyLeaves.{PartyLeaf}
+use Rattle.records_written.specs.{Indexed, Tagged, PartyLeaf, graph_of, published_after, taken_after, owned_end_after, slot_in, IsRead, IsWritten}
 use Rattle.records_written.specs.Sure.{Marks, keeps, AreKept, IsSurelyDone, IsSureAt, IsSure, IsFirstUnsure}
-use Rattle.records_written.specs.Marks.{graph_of}
-use Rattle.records_written.specs.Parties.{published_after, taken_after, owned_end_after, slot_in}
-use Rattle.records_written.specs.Read.{IsRead}
-use Rattle.records_written.specs.Written.{IsWritten}
 use Rattle.records_written.proofs.Runs.{each_read}
-use Rattle.step_machine.specs.Access.{access_of}
 use Rattle.certified_runs.specs.Views.{LoadsByte}
 use Rattle.step_machine.specs.declared.events.Entry.{Entry}
 use Rattle.step_machine.specs.declared.events.Entry.TheVariants as entry
 use Rattle.queue_certificates.specs.declared.effect.Effect.TheVariants.{Leaves, Fills, Publishes}
-use Rattle.queue_certificates.specs.Tags.{told_by_store}
 
 -- the bytes of a word
 abbrev word : ℕ → Bool

@@ -1,7 +1,6 @@
 -- Lists of marks.
-use Rattle.std.proofs.Common.{ℕ, zero, suc, ◌≡◌, ◌<◌, ◌≤◌, ◌==◌, ◌&&◌, ◌||◌, not, Bool, true, false, Option, None, Some}
-use Rattle.std.proofs.Common.{List, [], ◌∷◌, ◌++◌, ◌+◌, length, take, get_or, refl, sym, ap, subst}
-use Rattle.std.proofs.Common.{◌∙◌, arith, inl, inr}
+use Rattle.std.proofs.Common.{ℕ, zero, suc, ◌≡◌, ◌<◌, ◌≤◌, ◌==◌, ◌&&◌, ◌||◌, not, Bool, true, false, Option, None, Some, List, [], ◌∷◌, ◌++◌, ◌+◌, length, take}
+use Rattle.std.proofs.Common.{get_or, refl, sym, ap, subst, ◌∙◌, arith, inl, inr}
 use Rattle.std.specs.Prelude.{nat_lt, min, set}
 use Rattle.std.proofs.lemmas.Bool.{and_from, or_cases, or_from, or_left, or_right, cases_lt, eqb-true, ltb-true, lt-ltb}
 use Rattle.std.proofs.lemmas.Bool.Decides.{nat_tests}
@@ -11,11 +10,8 @@ use Rattle.std.proofs.Math.Seq.{get_or-append_seam}
 use Rattle.std.proofs.Math.ListN.{get_or-append}
 use Rattle.record_bytes.specs.declared.ranges.ByteRange.{ByteRange}
 use Rattle.record_bytes.specs.Ranges.{has_byte}
-use Rattle.records_written.specs.declared.marking.Mark.{Mark}
-use Rattle.records_written.specs.declared.finding.Open.{Open}
-use Rattle.records_written.specs.PartyLeaves.{PartyLeaf, may_hand_on}
-use Rattle.records_written.specs.MarkLists.{is_mark, has_mark, marks_byte, marks_of, is_left, lower_of, lower, IsLowest}
-use Rattle.records_written.specs.MarkLists.{is_open, IsLowestOpen, IsEnd, IsFirstOpen}
+use Rattle.records_written.specs.{Mark, Open, PartyLeaf, may_hand_on, is_mark, has_mark, marks_byte, marks_of, is_left, lower_of, lower, IsLowest, is_open}
+use Rattle.records_written.specs.{IsLowestOpen, IsEnd, IsFirstOpen}
 
 abbrev pub no_mark : Mark
 no_mark = record { position = 0; bytes = record { first = 0; last = 0 } }

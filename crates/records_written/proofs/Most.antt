@@ -1,6 +1,5 @@
 -- Marks that a search narrows mark all that any marks do that the leaves keep; and where the leaves keep them too, they decide.
-use Rattle.std.proofs.Common.{ℕ, ◌≡◌, ◌<◌, ◌≤◌, ◌==◌, ◌&&◌, ◌||◌, not, Bool, true, false, Option, None, Some, List, []}
-use Rattle.std.proofs.Common.{◌∷◌, length, get_or, refl, sym, subst}
+use Rattle.std.proofs.Common.{ℕ, ◌≡◌, ◌<◌, ◌≤◌, ◌==◌, ◌&&◌, ◌||◌, not, Bool, true, false, Option, None, Some, List, [], ◌∷◌, length, get_or, refl, sym, subst}
 use Rattle.std.proofs.Common.{◌∙◌, inl, inr}
 use Rattle.std.specs.List.{list_all}
 use Rattle.std.proofs.lemmas.Bool.{and_parts, and_from, or_left, or_right, or_cases, cases_lt, eqb-true}
@@ -9,11 +8,8 @@ use Rattle.queue_certificates.specs.declared.effect.Effect.{Effect}
 use Rattle.queue_certificates.specs.declared.effect.Effect.TheVariants.{Leaves, Fills, Publishes, PublishesSome}
 use Rattle.record_bytes.specs.declared.ranges.ByteRange.{ByteRange}
 use Rattle.record_bytes.specs.Ranges.{has_byte}
-use Rattle.records_written.specs.declared.marking.Mark.{Mark}
-use Rattle.records_written.specs.declared.finding.Missing.{Missing}
-use Rattle.records_written.specs.PartyLeaves.{PartyLeaf, is_filled, marked_after, may_hand_on}
-use Rattle.records_written.specs.Sure.{keeps, AreKept, IsSurelyDone, IsSureAt, IsSure, IsFirstUnsure}
-use Rattle.records_written.specs.MarkLists.{marks_of, AreMost, is_left, are_left, is_open, IsOpenAt, IsFirstOf}
+use Rattle.records_written.specs.{Mark, Missing, PartyLeaf, is_filled, marked_after, may_hand_on, keeps, AreKept, IsSurelyDone, IsSureAt, IsSure, IsFirstUnsure}
+use Rattle.records_written.specs.{marks_of, AreMost, is_left, are_left, is_open, IsOpenAt, IsFirstOf}
 
 all-weaker : {A : Type 0} (p q : A → Bool) (xs : List A) → ((x : A) → p x ≡ true → q x ≡ true) → list_all p xs ≡ true → list_all q xs ≡ true
 all-weaker p q [] weaker ok = refl

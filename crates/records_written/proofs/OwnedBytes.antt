@@ -4,10 +4,8 @@ use Rattle.std.specs.Prelude.{nat_lt, nat_le}
 use Rattle.std.proofs.lemmas.Bool.{and_parts, ltb-true}
 use Rattle.hart.specs.State.{HartState}
 use Rattle.slot_queue.specs.Queues.{Queue, slot_of}
-use Rattle.queue_certificates.specs.Forms.{Form, form_value, number, plus, remainder, InRanges}
-use Rattle.queue_certificates.specs.States.{KnownValue, any, linear, index_for, signed_for, ends_as, has_bits, Share, Has}
-use Rattle.queue_certificates.specs.Steps.{position_at, offset_at, is_slot, is_owned}
-use Rattle.queue_certificates.specs.Effects.{filled_by}
+use Rattle.queue_certificates.specs.{Form, form_value, number, plus, remainder, InRanges, KnownValue, any, linear, index_for, signed_for, ends_as, has_bits}
+use Rattle.queue_certificates.specs.{Share, Has, position_at, offset_at, is_slot, is_owned, filled_by}
 use Rattle.queue_certificates.specs.declared.effect.Effect.TheVariants.{Leaves, Fills}
 use Rattle.queue_certificates.proofs.Stores.{slot-place}
 use Rattle.records_written.proofs.Acted.{Acted, acted}

@@ -1,6 +1,6 @@
 -- What an instruction of a receiver comes to, of a queue with indices: what it takes, and the bytes of owned slots that it reads.
-use Rattle.std.proofs.Common.{ℕ, ℤ, ◌+◌, ◌<◌, ◌≤◌, ◌≡◌, ◌==◌, ◌&&◌, ◌||◌, inl, inr, if◌then◌else◌, Bool, true, false}
-use Rattle.std.proofs.Common.{Option, Some, None, List, length, get_or, refl, sym, ◌∙◌, ap, subst, arith}
+use Rattle.std.proofs.Common.{ℕ, ℤ, ◌+◌, ◌<◌, ◌≤◌, ◌≡◌, ◌==◌, ◌&&◌, ◌||◌, inl, inr, if◌then◌else◌, Bool, true, false, Option, Some, None, List, length, get_or}
+use Rattle.std.proofs.Common.{refl, sym, ◌∙◌, ap, subst, arith}
 use Rattle.std.proofs.lemmas.Bool.{and_parts, ltb-true}
 use Rattle.rv_decode.specs.declared.instruction.Reg.{Reg}
 use Rattle.rv_decode.specs.declared.instruction.LoadOp.{LoadOp}
@@ -9,40 +9,24 @@ use Rattle.rv_decode.specs.declared.instruction.StoreOp.TheVariants as store_op
 use Rattle.rv_decode.specs.declared.instruction.AmoOp.{AmoOp}
 use Rattle.rv_decode.specs.declared.instruction.Instr.{Instr}
 use Rattle.rv_decode.specs.declared.instruction.Instr.TheVariants.{Load, Store, Amo}
-use Rattle.hart.specs.State.{HartState}
-use Rattle.hart.specs.Steps.{advanced}
-use Rattle.hart.specs.Effects.{register_value, address, stored, load_width, store_width, updated}
+use Rattle.hart.specs.{HartState, advanced, register_value, address, stored, load_width, store_width, updated}
 use Rattle.memory.specs.declared.writes.Write.{Write}
 use Rattle.memory.specs.Writes.{write}
 use Rattle.step_machine.specs.declared.events.Entry.{Entry}
-use Rattle.step_machine.specs.History.{OpeningValue}
-use Rattle.step_machine.specs.Access.{Access, load, store, exchange, access_of}
-use Rattle.step_machine.specs.Paths.{number_read}
-use Rattle.queue_parties.specs.Positions.{IsInBytes}
-use Rattle.queue_parties.specs.Parties.{the_sender, the_receiver, QueueCounts, known, with_known}
+use Rattle.step_machine.specs.Names.{OpeningValue, Access, load, store, exchange, access_of, number_read}
+use Rattle.queue_parties.specs.{IsInBytes, the_sender, the_receiver, QueueCounts, known, with_known}
 use Rattle.certified_runs.specs.Views.{LoadsByte}
-use Rattle.slot_queue.specs.Queues.{Queue, IsQueue, TellsFull, least_count, slot_of}
-use Rattle.slot_queue.specs.Ownership.{index, end, party_of, after_access}
-use Rattle.queue_certificates.specs.OwnedRuns.{View, AllCounts, ReadsFrom, ActsByCounts}
-use Rattle.queue_certificates.specs.Forms.{Form, form_value, most, Bounds}
-use Rattle.queue_certificates.specs.States.{KnownValue, no_share, KnownState, Has, HasShare, MeansAt}
-use Rattle.queue_certificates.specs.Results.{bounds}
-use Rattle.queue_certificates.specs.Steps.{all_below, last_below, is_just, anywhere, misses, register_at, operand, share_at, address_value, addresses}
-use Rattle.queue_certificates.specs.Steps.{is_own_index, value_loaded, updated_value, may_move, may_store, leaves_words, is_off, may_fill}
-use Rattle.queue_certificates.specs.Steps.{shares_moved, exchange_by, exchanging, follow, instruction_at, storing}
-use Rattle.queue_certificates.specs.Effects.{published_by, filled_by}
-use Rattle.queue_certificates.specs.Certificates.{QueueCertificate, queue_at, own_of}
+use Rattle.slot_queue.specs.{Queue, IsQueue, TellsFull, least_count, slot_of, index, end, party_of, after_access}
+use Rattle.queue_certificates.specs.{View, AllCounts, ReadsFrom, ActsByCounts, Form, form_value, most, Bounds, KnownValue, no_share, KnownState, Has, HasShare}
+use Rattle.queue_certificates.specs.{MeansAt, bounds, all_below, last_below, is_just, anywhere, misses, register_at, operand, share_at, address_value}
+use Rattle.queue_certificates.specs.{addresses, is_own_index, value_loaded, updated_value, may_move, may_store, leaves_words, is_off, may_fill, shares_moved}
+use Rattle.queue_certificates.specs.{exchange_by, exchanging, follow, instruction_at, storing, published_by, filled_by, QueueCertificate, queue_at, own_of}
 use Rattle.queue_certificates.specs.declared.effect.Effect.{Effect}
 use Rattle.queue_certificates.specs.declared.effect.Effect.TheVariants.{Leaves}
-use Rattle.queue_certificates.proofs.Values.{has-bounds}
-use Rattle.queue_certificates.proofs.Forms.{value-plus}
-use Rattle.queue_certificates.proofs.States.{at-below}
-use Rattle.queue_certificates.proofs.Accesses.{just-is, hart-party, missed}
-use Rattle.queue_certificates.proofs.Steps.{nobody_told, nothing_sent, IsQuiet, quiet-counts}
+use Rattle.queue_certificates.proofs.{has-bounds, value-plus, at-below, just-is, hart-party, missed, nobody_told, nothing_sent, IsQuiet, quiet-counts, Stops}
+use Rattle.queue_certificates.proofs.{Makes, next-access}
 use Rattle.queue_certificates.proofs.Steps as steps
-use Rattle.queue_certificates.proofs.NextAccess.{Stops, Makes, next-access}
-use Rattle.records_written.specs.Receipts.{receipt_of}
-use Rattle.records_written.specs.declared.parties.QueueNumber.TheVariants.{Indexed}
+use Rattle.records_written.specs.{receipt_of, Indexed}
 use Rattle.records_written.proofs.Acted.{Acted, DoesByte, acted, stopped, left, moved-by}
 use Rattle.records_written.proofs.OwnedBytes.{bytes-act}
 

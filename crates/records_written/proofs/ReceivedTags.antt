@@ -1,7 +1,6 @@
 -- What an instruction of a receiver comes to, of a queue with tags: whether it hands its own position back, and the bytes of owned slots
 -- that it reads.
-use Rattle.std.proofs.Common.{ℕ, ℤ, ◌+◌, ◌<◌, ◌≤◌, ◌≡◌, inl, inr, if◌then◌else◌, Bool, true, false}
-use Rattle.std.proofs.Common.{Option, Some, None, List, length, refl, sym, ◌∙◌, ap, subst}
+use Rattle.std.proofs.Common.{ℕ, ℤ, ◌+◌, ◌<◌, ◌≤◌, ◌≡◌, inl, inr, if◌then◌else◌, Bool, true, false, Option, Some, None, List, length, refl, sym, ◌∙◌, ap, subst}
 use Rattle.rv_decode.specs.declared.instruction.Reg.{Reg}
 use Rattle.rv_decode.specs.declared.instruction.LoadOp.{LoadOp}
 use Rattle.rv_decode.specs.declared.instruction.StoreOp.{StoreOp}
@@ -9,16 +8,11 @@ use Rattle.rv_decode.specs.declared.instruction.StoreOp.TheVariants as store_op
 use Rattle.rv_decode.specs.declared.instruction.AmoOp.{AmoOp}
 use Rattle.rv_decode.specs.declared.instruction.Instr.{Instr}
 use Rattle.rv_decode.specs.declared.instruction.Instr.TheVariants.{Load, Store, Amo}
-use Rattle.hart.specs.State.{HartState}
-use Rattle.hart.specs.Steps.{advanced}
-use Rattle.hart.specs.Effects.{register_value, address, stored, load_width, store_width, updated}
+use Rattle.hart.specs.{HartState, advanced, register_value, address, stored, load_width, store_width, updated}
 use Rattle.memory.specs.Writes.{write}
 use Rattle.step_machine.specs.declared.events.Entry.{Entry}
-use Rattle.step_machine.specs.History.{OpeningValue}
-use Rattle.step_machine.specs.Access.{Access, nothing, load, store, exchange, fence, land, access_of}
-use Rattle.step_machine.specs.Paths.{number_read}
-use Rattle.queue_parties.specs.Positions.{IsInBytes}
-use Rattle.queue_parties.specs.Parties.{Party, the_receiver, QueueCounts}
+use Rattle.step_machine.specs.Names.{OpeningValue, Access, nothing, load, store, exchange, fence, land, access_of, number_read}
+use Rattle.queue_parties.specs.{IsInBytes, Party, the_receiver, QueueCounts}
 use Rattle.certified_runs.specs.Views.{LoadsByte}
 use Rattle.slot_queue.specs.Queues.{Queue, IsQueue, TellsFull}
 use Rattle.slots_that_tell.specs.Slots.{Slots, IsSlots, tagged_slot}
@@ -26,26 +20,16 @@ use Rattle.slots_that_tell.specs.Telling.{owned_end, moved, told_access}
 use Rattle.slots_that_tell.proofs.Owned.{loaded-count}
 use Rattle.queue_layouts.specs.Tagged.{slots_of}
 use Rattle.queue_layouts.specs.declared.tagged.TaggedQueue.{TaggedQueue}
-use Rattle.queue_certificates.specs.OwnedRuns.{View, AllCounts, ActsByCounts}
-use Rattle.queue_certificates.specs.Forms.{Form, Bounds}
-use Rattle.queue_certificates.specs.States.{KnownValue, any, Share, KnownState, Has, MeansAt}
-use Rattle.queue_certificates.specs.Results.{bounds}
-use Rattle.queue_certificates.specs.Steps.{is_just, anywhere, register_at, operand, share_at, address_value, addresses}
-use Rattle.queue_certificates.specs.Steps.{updated_value, exchanging, follow, instruction_at}
-use Rattle.queue_certificates.specs.Tags.{bare, party_in, is_tagged, HasAtLeast}
-use Rattle.queue_certificates.specs.Tags.{moved_tag, may_store_all, told_by_store, next_told}
-use Rattle.queue_certificates.specs.Effects.{filled_by}
-use Rattle.queue_certificates.specs.Certificates.{QueueCertificate, queue_at, tagged_at, own_of, SharesTold}
+use Rattle.queue_certificates.specs.{View, AllCounts, ActsByCounts, Form, Bounds, KnownValue, any, Share, KnownState, Has, MeansAt, bounds, is_just, anywhere}
+use Rattle.queue_certificates.specs.{register_at, operand, share_at, address_value, addresses, updated_value, exchanging, follow, instruction_at, bare}
+use Rattle.queue_certificates.specs.{party_in, is_tagged, HasAtLeast, moved_tag, may_store_all, told_by_store, next_told, filled_by, QueueCertificate, queue_at}
+use Rattle.queue_certificates.specs.{tagged_at, own_of, SharesTold}
 use Rattle.queue_certificates.specs.declared.effect.Effect.{Effect}
 use Rattle.queue_certificates.specs.declared.effect.Effect.TheVariants.{Leaves, Publishes}
-use Rattle.queue_certificates.proofs.Values.{has-bounds}
-use Rattle.queue_certificates.proofs.Steps.{nobody_told, nothing_sent, IsQuiet}
-use Rattle.queue_certificates.proofs.Steps as steps
-use Rattle.queue_certificates.proofs.TagShares.{tagged-fine, teller-is}
+use Rattle.queue_certificates.proofs.{has-bounds, nobody_told, nothing_sent, IsQuiet, tagged-fine, teller-is, Stops, Makes, next-access}
 use Rattle.queue_certificates.proofs.TagStores.{store-counts}
-use Rattle.queue_certificates.proofs.NextAccess.{Stops, Makes, next-access}
-use Rattle.records_written.specs.Receipts.{tag_receipt_of}
-use Rattle.records_written.specs.declared.parties.QueueNumber.TheVariants.{Tagged}
+use Rattle.queue_certificates.proofs.Steps as steps
+use Rattle.records_written.specs.{tag_receipt_of, Tagged}
 use Rattle.records_written.proofs.Acted.{Acted, DoesByte, acted, stopped}
 use Rattle.records_written.proofs.OwnedBytes.{bytes-act}
 use Rattle.records_written.proofs.ReceivedIndices.{when-some}

@@ -1,48 +1,30 @@
 -- In every run all is done that surely is in the state in which a party is: by induction over the run's entries. The sender writes, and the
 -- receiver reads.
-use Rattle.std.proofs.Common.{ℕ, ◌+◌, ◌-◌, ◌<◌, ◌≤◌, ◌≡◌, ◌==◌, ◌&&◌, inl, inr, Bool, true, false}
-use Rattle.std.proofs.Common.{Option, Some, None, List, [], ◌∷◌, ◌++◌, length, refl, sym, ◌∙◌, ap, subst, arith, append-nil, append_assoc}
+use Rattle.std.proofs.Common.{ℕ, ◌+◌, ◌-◌, ◌<◌, ◌≤◌, ◌≡◌, ◌==◌, ◌&&◌, inl, inr, Bool, true, false, Option, Some, None, List, [], ◌∷◌, ◌++◌, length, refl, sym}
+use Rattle.std.proofs.Common.{◌∙◌, ap, subst, arith, append-nil, append_assoc}
 use Rattle.std.specs.Prelude.{nat_lt, nat_le, option_map}
 use Rattle.std.specs.List.{slice_get}
 use Rattle.std.proofs.lemmas.Bool.{and_parts, or_cases, eqb-true, ltb-true, leb-true, lt-ltb}
-use Rattle.hart.specs.State.{HartState}
-use Rattle.hart.specs.Steps.{advanced}
+use Rattle.hart.specs.{HartState, advanced}
 use Rattle.hart.specs.declared.status.Status.TheVariants as status
 use Rattle.step_machine.specs.declared.events.Entry.{Entry}
-use Rattle.step_machine.specs.History.{HartOpeningValue, OpeningValue, history_of}
-use Rattle.step_machine.specs.Access.{Access, access_of}
-use Rattle.step_machine.specs.Entries.{hart_of, is_land, is_own, read_byte}
-use Rattle.step_machine.specs.Paths.{number_read, opens_as, state_of}
-use Rattle.step_machine.specs.Legal.{WellFormed}
-use Rattle.step_machine.proofs.Follows.{state_after}
-use Rattle.step_machine.proofs.OwnRuns.{kept-front}
+use Rattle.step_machine.specs.Names.{HartOpeningValue, OpeningValue, history_of, Access, access_of, hart_of, is_land, is_own, read_byte, number_read, opens_as}
+use Rattle.step_machine.specs.Names.{state_of, WellFormed}
+use Rattle.step_machine.proofs.{state_after, kept-front}
 use Rattle.store_buffers.proofs.OwnEntries.{same_state, next_state, own_parts}
 use Rattle.slot_queue.specs.Ownership.{counts_after}
 use Rattle.queue_parties.specs.Parties.{Party, the_sender, the_receiver, all_at}
 use Rattle.slots_that_tell.specs.Telling.{told_counts}
 use Rattle.queue_layouts.specs.Tagged.{slots_of}
-use Rattle.queue_certificates.specs.OwnedRuns.{View, AllCounts, view_then, IsSameFor, kept_beside}
+use Rattle.queue_certificates.specs.{View, AllCounts, view_then, IsSameFor, kept_beside, KnownState, QueueCertificate, queue_at, start_at, part_of, own_of}
+use Rattle.queue_certificates.specs.{state_at, tagged_at, tagged_start, told_beside, IsKeptByte, MeansAll, next_states, all_lead, accepts, most_published}
 use Rattle.queue_certificates.proofs.Every as every
-use Rattle.queue_certificates.specs.States.{KnownState}
-use Rattle.queue_certificates.specs.Certificates.{QueueCertificate, queue_at, start_at, part_of, own_of, state_at, tagged_at}
-use Rattle.queue_certificates.specs.Certificates.{tagged_start, told_beside}
-use Rattle.queue_certificates.specs.Certificates.{IsKeptByte, MeansAll, next_states, all_lead, accepts}
-use Rattle.queue_certificates.specs.Filled.{most_published}
 use Rattle.queue_certificates.specs.declared.effect.Effect.{Effect}
 use Rattle.queue_certificates.specs.declared.effect.Effect.TheVariants.{Leaves, Fills, Publishes, PublishesSome}
-use Rattle.queue_certificates.proofs.States.{means-frame}
-use Rattle.queue_certificates.proofs.TagShares.{told-frame, told-opens}
-use Rattle.queue_certificates.proofs.Accepted.{fine-tagged, of-hart, opens-means}
-use Rattle.queue_certificates.proofs.AtLeaf.{at-leaf}
-use Rattle.queue_certificates.proofs.EveryRun.{sets}
-use Rattle.records_written.specs.declared.parties.QueueNumber.{QueueNumber}
-use Rattle.records_written.specs.declared.parties.QueueNumber.TheVariants.{Indexed, Tagged}
-use Rattle.records_written.specs.Parties.{IsListed, hart_in, slot_in, count_of, count_after, published_after, taken_after}
-use Rattle.records_written.specs.Written.{IsWritten}
-use Rattle.records_written.specs.Read.{IsRead}
-use Rattle.records_written.specs.PartyLeaves.{is_filled, marked_after, may_hand}
-use Rattle.records_written.specs.Sure.{IsSurelyDone}
-use Rattle.records_written.specs.Marks.{leaf_by, graph_of, first_of, IsShownDone, IsShownWritten, IsShownRead}
+use Rattle.queue_certificates.proofs.{means-frame, told-frame, told-opens, fine-tagged, of-hart, opens-means, at-leaf, sets}
+use Rattle.records_written.specs.{QueueNumber, Indexed, Tagged, IsListed, hart_in, slot_in, count_of, count_after, published_after, taken_after, IsWritten}
+use Rattle.records_written.specs.{IsRead, is_filled, marked_after, may_hand, IsSurelyDone, leaf_by, graph_of, first_of, IsShownDone, IsShownWritten}
+use Rattle.records_written.specs.{IsShownRead}
 use Rattle.records_written.proofs.Acted.{DoesByte, IsActed, Acted, indexed_then, tagged_then}
 use Rattle.records_written.proofs.Leading.{leaves-pass, hands, Leads, leads}
 

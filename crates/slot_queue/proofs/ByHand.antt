@@ -5,8 +5,7 @@ use Rattle.step_machine.specs.declared.events.Entry.TheVariants.{Load, Store, La
 use Rattle.step_machine.specs.History.{OpeningValue}
 use Rattle.queue_parties.specs.Parties.{the_sender, the_receiver, all_at}
 use Rattle.queue_parties.specs.Positions as positions
-use Rattle.slot_queue.specs.Queues.{Queue}
-use Rattle.slot_queue.specs.Laws.{records_by, records_learned, records_waiting}
+use Rattle.slot_queue.specs.{Queue, records_by, records_learned, records_waiting}
 
 -- two slots of a byte from address 4 on, and indices of a byte
 abbrev bytes : Queue

@@ -1,6 +1,6 @@
 -- A byte of a slot, handed over: where a party moves its count past the slot's position, the other reads there what the party's hart read.
-use Rattle.std.proofs.Common.{ℕ, ◌+◌, ◌<◌, ◌≤◌, ◌≡◌, ◌==◌, ◌⊎◌, inl, inr, if◌then◌else◌}
-use Rattle.std.proofs.Common.{List, [], ◌∷◌, ◌++◌, length, drop, Some, None, refl, sym, ◌∙◌, ap, subst, arith, append-nil, append_assoc, length-append}
+use Rattle.std.proofs.Common.{ℕ, ◌+◌, ◌<◌, ◌≤◌, ◌≡◌, ◌==◌, ◌⊎◌, inl, inr, if◌then◌else◌, List, [], ◌∷◌, ◌++◌, length, drop, Some, None, refl, sym, ◌∙◌, ap}
+use Rattle.std.proofs.Common.{subst, arith, append-nil, append_assoc, length-append}
 use Rattle.std.specs.Prelude.{All, slice_index_or, unwrap_or}
 use Rattle.std.proofs.lemmas.Bool.{cases_eq, cases_lt, eq-eqb, ne_eqb}
 use Rattle.std.proofs.lemmas.List.{drop-append-le, drop-drop, drop_all}
@@ -8,21 +8,17 @@ use Rattle.std.proofs.lemmas.List.Elements.{All-nil, All-cons, All-append, All-d
 use Rattle.memory.specs.declared.writes.Write.{Write}
 use Rattle.memory.specs.Writes.{write}
 use Rattle.step_machine.specs.declared.events.Entry.{Entry}
-use Rattle.step_machine.specs.History.{OpeningValue, history_of}
-use Rattle.step_machine.specs.Access.{Access, nothing, load, store, exchange, fence, land, access_of}
-use Rattle.step_machine.specs.Entries.{hart_of, pending, own_stores, lands, memory_byte, read_byte}
-use Rattle.step_machine.specs.Legal.{Legal}
-use Rattle.step_machine.proofs.Appended.{lands-append, LegalAfter-front, LegalAfter-back}
-use Rattle.step_machine.proofs.Landings.{balanced}
+use Rattle.step_machine.specs.Names.{OpeningValue, history_of, Access, nothing, load, store, exchange, fence, land, access_of, hart_of, pending, own_stores}
+use Rattle.step_machine.specs.Names.{lands, memory_byte, read_byte, Legal}
+use Rattle.step_machine.proofs.{lands-append, LegalAfter-front, LegalAfter-back, balanced}
 use Rattle.store_buffers.specs.StoreBuffers.{LeavesByte, LeavesByteBy, LeavesByteAt, AllLeaveByte, IsOnlyWriter}
 use Rattle.store_buffers.proofs.Reading.{passed_over}
 use Rattle.store_buffers.proofs.MessagePassing.{kept, handed_over}
 use Rattle.store_buffers.proofs.LateStores.{late-stores, all-by-parts, at-by-parts, leaves-at}
 use Rattle.queue_parties.specs.Parties.{Party, the_sender, the_receiver, other, QueueCounts, count, known}
 use Rattle.queue_parties.proofs.Parties.{Whose, mine, theirs, whose, two, twice, Grows, counts-append, keeps-at}
-use Rattle.slot_queue.specs.Queues.{Queue, IsByteOf, IsQueue}
-use Rattle.slot_queue.specs.Ownership.{party_of, hart, end, after_access, counts_next, counts_after, KeepsAccess, KeepsEntry, KeepsOwnership}
-use Rattle.slot_queue.specs.Laws.{FollowsOwnership}
+use Rattle.slot_queue.specs.{Queue, IsByteOf, IsQueue, party_of, hart, end, after_access, counts_next, counts_after, KeepsAccess, KeepsEntry, KeepsOwnership}
+use Rattle.slot_queue.specs.{FollowsOwnership}
 use Rattle.slot_queue.proofs.Runs.{window}
 use Rattle.slot_queue.proofs.Publication.{follows-front, published}
 use Rattle.slot_queue.proofs.Owned.{grows-after, Window, window-of, given-up, not-owned, not-yet, off-byte, Owned, access-byte, gap, moves-count, MovesCount}

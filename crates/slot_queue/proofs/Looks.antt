@@ -1,18 +1,15 @@
 -- What a load of the other's index says, and which counts an access leaves.
-use Rattle.std.proofs.Common.{ℕ, ◌+◌, ◌<◌, ◌≤◌, ◌≡◌, ◌≢◌, ◌==◌, ◌&&◌, ◌⊎◌, inl, inr, Bool, true, false, if◌then◌else◌}
-use Rattle.std.proofs.Common.{List, Some, None, refl, sym, ◌∙◌, ap, subst, arith}
+use Rattle.std.proofs.Common.{ℕ, ◌+◌, ◌<◌, ◌≤◌, ◌≡◌, ◌≢◌, ◌==◌, ◌&&◌, ◌⊎◌, inl, inr, Bool, true, false, if◌then◌else◌, List, Some, None, refl, sym, ◌∙◌, ap}
+use Rattle.std.proofs.Common.{subst, arith}
 use Rattle.std.specs.Prelude.{unwrap_or}
 use Rattle.std.proofs.lemmas.Bool.{cases_eq, eqb-true, eq-eqb, ne_eqb}
 use Rattle.memory.proofs.Bytes.{joined-same}
 use Rattle.step_machine.specs.declared.events.Entry.{Entry}
-use Rattle.step_machine.specs.History.{OpeningValue}
-use Rattle.step_machine.specs.Entries.{pending, memory_byte, read_byte, read}
+use Rattle.step_machine.specs.Names.{OpeningValue, pending, memory_byte, read_byte, read}
 use Rattle.store_buffers.proofs.Reading.{passed_over}
 use Rattle.queue_parties.specs.Parties.{Party, the_sender, the_receiver, other, QueueCounts, count, with_count, known, with_known}
 use Rattle.queue_parties.proofs.Parties.{both-equal, harts-apart, two, twice, count-set-known, known-set, known-set-other}
-use Rattle.slot_queue.specs.Queues.{Queue, index_word, least_count, IsQueue}
-use Rattle.slot_queue.specs.Ownership.{hart, index, end, after_load}
-use Rattle.slot_queue.specs.Laws.{moved_on}
+use Rattle.slot_queue.specs.{Queue, index_word, least_count, IsQueue, hart, index, end, after_load, moved_on}
 use Rattle.slot_queue.proofs.Codes.{least-near, least-low}
 use Rattle.slot_queue.proofs.Sides.{Side, moved_on-more}
 

@@ -1,6 +1,6 @@
 -- What a party reads in its own index, and what a look at the other's says.
-use Rattle.std.proofs.Common.{ℕ, zero, suc, ◌+◌, ◌-◌, ◌%◌, ◌^◌, ◌<◌, ◌≤◌, ◌≡◌, ◌≢◌, ◌==◌, ◌&&◌, ◌⊎◌, inl, inr, Bool, true, false, if◌then◌else◌}
-use Rattle.std.proofs.Common.{List, [], ◌∷◌, ◌++◌, Option, Some, None, refl, sym, ◌∙◌, ap, subst, arith, append_assoc}
+use Rattle.std.proofs.Common.{ℕ, zero, suc, ◌+◌, ◌-◌, ◌%◌, ◌^◌, ◌<◌, ◌≤◌, ◌≡◌, ◌≢◌, ◌==◌, ◌&&◌, ◌⊎◌, inl, inr, Bool, true, false, if◌then◌else◌, List, [], ◌∷◌}
+use Rattle.std.proofs.Common.{◌++◌, Option, Some, None, refl, sym, ◌∙◌, ap, subst, arith, append_assoc}
 use Rattle.std.specs.Prelude.{All, unwrap_or}
 use Rattle.std.specs.Int.{byte_at}
 use Rattle.std.proofs.lemmas.Bool.{eq-eqb}
@@ -9,17 +9,13 @@ use Rattle.memory.specs.declared.writes.Write.{Write}
 use Rattle.memory.specs.Writes.{covers, byte_after, newest_of, joined}
 use Rattle.memory.proofs.Bytes.{joined-same}
 use Rattle.step_machine.specs.declared.events.Entry.{Entry}
-use Rattle.step_machine.specs.History.{OpeningValue}
-use Rattle.step_machine.specs.Access.{load, access_of}
-use Rattle.step_machine.specs.Entries.{hart_of, pending, memory_byte, read}
-use Rattle.step_machine.specs.Legal.{AllowedBy, LegalAfter}
+use Rattle.step_machine.specs.Names.{OpeningValue, load, access_of, hart_of, pending, memory_byte, read, AllowedBy, LegalAfter}
 use Rattle.step_machine.proofs.Appended.{LegalAfter-back}
 use Rattle.store_buffers.proofs.Reading.{newest-first}
 use Rattle.queue_parties.specs.Parties.{Party, other, QueueCounts, count, with_known, known}
 use Rattle.queue_parties.proofs.Parties.{Whose, mine, theirs, whose, harts-apart, two, known-set, count-set-known, counts-append}
-use Rattle.slot_queue.specs.Queues.{Queue, index_word, least_count, IsQueue}
-use Rattle.slot_queue.specs.Ownership.{hart, index, moved, after_load, after_access, counts_next, counts_after}
-use Rattle.slot_queue.specs.Laws.{FollowsOwnership, moved_on}
+use Rattle.slot_queue.specs.{Queue, index_word, least_count, IsQueue, hart, index, moved, after_load, after_access, counts_next, counts_after, FollowsOwnership}
+use Rattle.slot_queue.specs.{moved_on}
 use Rattle.slot_queue.proofs.Sides.{IsClean, Side, clean-word}
 use Rattle.slot_queue.proofs.Looks.{reads-other, found}
 use Rattle.slot_queue.proofs.Runs.{sides-of, memory_at}

@@ -1,6 +1,6 @@
 -- Which positions a party owns at what time: what both parties own of one slot is never owned at once.
-use Rattle.std.proofs.Common.{ℕ, ◌+◌, ◌-◌, ◌*◌, ◌/◌, ◌%◌, ◌<◌, ◌≤◌, ◌≡◌, ◌≢◌, ◌==◌, ◌&&◌, ◌⊎◌, inl, inr, Bool, true, false, if◌then◌else◌}
-use Rattle.std.proofs.Common.{List, [], ◌∷◌, ◌++◌, Option, Some, None, refl, sym, ◌∙◌, ap, subst, arith}
+use Rattle.std.proofs.Common.{ℕ, ◌+◌, ◌-◌, ◌*◌, ◌/◌, ◌%◌, ◌<◌, ◌≤◌, ◌≡◌, ◌≢◌, ◌==◌, ◌&&◌, ◌⊎◌, inl, inr, Bool, true, false, if◌then◌else◌, List, [], ◌∷◌, ◌++◌}
+use Rattle.std.proofs.Common.{Option, Some, None, refl, sym, ◌∙◌, ap, subst, arith}
 use Rattle.std.proofs.Math.Nat.{lt_of_not-le}
 use Rattle.std.proofs.lemmas.Nat.{div-mul-add}
 use Rattle.std.proofs.lemmas.Bool.{eqb-true, ne_eqb}
@@ -8,19 +8,14 @@ use Rattle.memory.specs.declared.writes.Write.{Write}
 use Rattle.memory.specs.Writes.{write, covers}
 use Rattle.memory.proofs.Bytes.{covers-yes, covers-from}
 use Rattle.step_machine.specs.declared.events.Entry.{Entry}
-use Rattle.step_machine.specs.History.{OpeningValue}
-use Rattle.step_machine.specs.Access.{Access, nothing, load, store, exchange, fence, land, access_of}
-use Rattle.step_machine.specs.Entries.{hart_of}
+use Rattle.step_machine.specs.Names.{OpeningValue, Access, nothing, load, store, exchange, fence, land, access_of, hart_of}
 use Rattle.store_buffers.specs.StoreBuffers.{LeavesByte, LeavesByteBy}
-use Rattle.queue_parties.specs.Parties.{Party, the_sender, the_receiver, other, QueueCounts, IsWindow, count, with_count, known, with_known}
-use Rattle.queue_parties.specs.Positions.{IsInBytes}
-use Rattle.queue_parties.proofs.Parties.{both-equal, two, twice, count-set, count-set-other, count-set-known, known-set-count, known-set-other}
-use Rattle.queue_parties.proofs.Parties.{Grows, grows-same, grows-on, grows-count, grows-known, grows-from}
+use Rattle.queue_parties.specs.{Party, the_sender, the_receiver, other, QueueCounts, IsWindow, count, with_count, known, with_known, IsInBytes}
+use Rattle.queue_parties.proofs.Parties.{both-equal, two, twice, count-set, count-set-other, count-set-known, known-set-count, known-set-other, Grows}
+use Rattle.queue_parties.proofs.Parties.{grows-same, grows-on, grows-count, grows-known, grows-from}
 use Rattle.queue_parties.proofs.Positions.{far, slot-within}
-use Rattle.slot_queue.specs.Queues.{Queue, least_count, IsByteOf, IsQueue, KeepsOff}
-use Rattle.slot_queue.specs.Ownership.{party_of, index, end}
-use Rattle.slot_queue.specs.Ownership.{is_index_store, moved, after_load, after_store, after_access, counts_next, counts_after, MayStore, KeepsAccess, OwnsByte}
-use Rattle.slot_queue.specs.Laws.{FollowsOwnership}
+use Rattle.slot_queue.specs.{Queue, least_count, IsByteOf, IsQueue, KeepsOff, party_of, index, end, is_index_store, moved, after_load, after_store}
+use Rattle.slot_queue.specs.{after_access, counts_next, counts_after, MayStore, KeepsAccess, OwnsByte, FollowsOwnership}
 use Rattle.slot_queue.proofs.Sides.{moved-more, indices-apart, stores-leave}
 use Rattle.slot_queue.proofs.Looks.{Bounds, bounds}
 use Rattle.slot_queue.proofs.Runs.{sides-of, memory_at, stored-end}

@@ -1,6 +1,6 @@
 -- What a party's hart had stored before it moved its count on is in memory, once the other party knows of that count.
-use Rattle.std.proofs.Common.{ℕ, suc, ◌+◌, ◌-◌, ◌<◌, ◌≤◌, ◌≡◌, ◌≢◌, ◌==◌, ◌⊎◌, inl, inr, if◌then◌else◌}
-use Rattle.std.proofs.Common.{List, [], ◌∷◌, ◌++◌, length, take, drop, refl, sym, ◌∙◌, ap, subst, arith, append-nil, append_assoc, length-append, length-drop}
+use Rattle.std.proofs.Common.{ℕ, suc, ◌+◌, ◌-◌, ◌<◌, ◌≤◌, ◌≡◌, ◌≢◌, ◌==◌, ◌⊎◌, inl, inr, if◌then◌else◌, List, [], ◌∷◌, ◌++◌, length, take, drop, refl, sym, ◌∙◌}
+use Rattle.std.proofs.Common.{ap, subst, arith, append-nil, append_assoc, length-append, length-drop}
 use Rattle.std.specs.Prelude.{All}
 use Rattle.std.proofs.lemmas.Bool.{cases_eq, eq-eqb, ne_eqb}
 use Rattle.std.proofs.lemmas.List.{drop-append-le, drop-drop}
@@ -8,17 +8,13 @@ use Rattle.std.proofs.lemmas.List.Elements.{All-nil, All-cons, All-take}
 use Rattle.memory.specs.declared.writes.Write.{Write}
 use Rattle.memory.specs.Writes.{write}
 use Rattle.step_machine.specs.declared.events.Entry.{Entry}
-use Rattle.step_machine.specs.History.{OpeningValue, history_of}
-use Rattle.step_machine.specs.Access.{Access, nothing, load, store, exchange, fence, land, access_of}
-use Rattle.step_machine.specs.Entries.{hart_of, stored_by, landed_by, written_by, land_of, write_of, pending, own_stores, lands, read}
-use Rattle.step_machine.specs.Legal.{AllowedBy, Allowed, LegalAfter, Legal}
-use Rattle.step_machine.proofs.Appended.{LegalAfter-front, LegalAfter-back, LegalAfter-append, stores-append, lands-append}
-use Rattle.step_machine.proofs.Landings.{balanced}
+use Rattle.step_machine.specs.Names.{OpeningValue, history_of, Access, nothing, load, store, exchange, fence, land, access_of, hart_of, stored_by, landed_by}
+use Rattle.step_machine.specs.Names.{written_by, land_of, write_of, pending, own_stores, lands, read, AllowedBy, Allowed, LegalAfter, Legal}
+use Rattle.step_machine.proofs.{LegalAfter-front, LegalAfter-back, LegalAfter-append, stores-append, lands-append, balanced}
 use Rattle.queue_parties.specs.Parties.{Party, other, QueueCounts, count, known}
 use Rattle.queue_parties.proofs.Parties.{Whose, mine, theirs, whose, two, twice, counts-append, keeps-front, keeps-back}
-use Rattle.slot_queue.specs.Queues.{Queue, IsQueue}
-use Rattle.slot_queue.specs.Ownership.{party_of, hart, after_load, counts_next, counts_after, MayStore, KeepsAccess, KeepsEntry, KeepsOwnership}
-use Rattle.slot_queue.specs.Laws.{FollowsOwnership, moved_on}
+use Rattle.slot_queue.specs.{Queue, IsQueue, party_of, hart, after_load, counts_next, counts_after, MayStore, KeepsAccess, KeepsEntry, KeepsOwnership}
+use Rattle.slot_queue.specs.{FollowsOwnership, moved_on}
 use Rattle.slot_queue.proofs.Sides.{Leaves, Side, off-leaves, stores-leave, moved-leaves, moved-same, moved_on-more}
 use Rattle.slot_queue.proofs.Runs.{unmoved, one-on, memory_counts, memory_at, memory-last, holds-after, sides-of}
 

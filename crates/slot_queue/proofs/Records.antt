@@ -1,22 +1,18 @@
 -- Records in order, each once: what the receiver takes, and what it learns of, is a beginning of what waited and what the sender published.
-use Rattle.std.proofs.Common.{ℕ, ◌+◌, ◌-◌, ◌<◌, ◌≤◌, ◌≡◌, ◌⊎◌, inl, inr, Bool, true, false, if◌then◌else◌}
-use Rattle.std.proofs.Common.{List, [], ◌∷◌, ◌++◌, Some, refl, sym, ◌∙◌, ap, subst, arith, append_assoc}
+use Rattle.std.proofs.Common.{ℕ, ◌+◌, ◌-◌, ◌<◌, ◌≤◌, ◌≡◌, ◌⊎◌, inl, inr, Bool, true, false, if◌then◌else◌, List, [], ◌∷◌, ◌++◌, Some, refl, sym, ◌∙◌, ap, subst}
+use Rattle.std.proofs.Common.{arith, append_assoc}
 use Rattle.std.specs.Prelude.{nat_lt}
 use Rattle.std.proofs.lemmas.Bool.{cases_lt, lt-ltb, ltb-true}
 use Rattle.memory.proofs.Bytes.{joined-same}
 use Rattle.step_machine.specs.declared.events.Entry.{Entry}
-use Rattle.step_machine.specs.History.{OpeningValue}
-use Rattle.step_machine.specs.Access.{access_of}
-use Rattle.step_machine.specs.Entries.{hart_of, read_byte}
+use Rattle.step_machine.specs.Names.{OpeningValue, access_of, hart_of, read_byte}
 use Rattle.store_buffers.specs.StoreBuffers.{LeavesByteAt, LeavesByteBy}
 use Rattle.store_buffers.proofs.LateStores.{leaves-part, at-end}
-use Rattle.queue_parties.specs.Parties.{the_sender, the_receiver, QueueCounts, IsWindow, count, known}
-use Rattle.queue_parties.specs.Positions.{IsPrefix, numbers_from, records_passed}
+use Rattle.queue_parties.specs.{the_sender, the_receiver, QueueCounts, IsWindow, count, known, IsPrefix, numbers_from, records_passed}
 use Rattle.queue_parties.proofs.Parties.{Whose, mine, theirs, whose, harts-apart, Grows, grows-same, Passed, counts-append, keeps-at}
 use Rattle.queue_parties.proofs.Records.{numbers-same, numbers-split, numbers-prefix, not_less, passed, HasRecords, records-are, record_passed, own-records}
-use Rattle.slot_queue.specs.Queues.{Queue, slot_of, IsByteOf}
-use Rattle.slot_queue.specs.Ownership.{party_of, hart, after_access, counts_next, counts_after, KeepsAccess, KeepsEntry, KeepsOwnership}
-use Rattle.slot_queue.specs.Laws.{FollowsOwnership, LeavesSlotsAt, slot_record, records_by, records_learned, records_waiting}
+use Rattle.slot_queue.specs.{Queue, slot_of, IsByteOf, party_of, hart, after_access, counts_next, counts_after, KeepsAccess, KeepsEntry, KeepsOwnership}
+use Rattle.slot_queue.specs.{FollowsOwnership, LeavesSlotsAt, slot_record, records_by, records_learned, records_waiting}
 use Rattle.slot_queue.proofs.Runs.{window}
 use Rattle.slot_queue.proofs.Publication.{follows-front}
 use Rattle.slot_queue.proofs.Owned.{grows-entry, grows-after, learns-more, LearnsMore}

@@ -1,26 +1,20 @@
 -- Whole runs: the window.
-use Rattle.std.proofs.Common.{ℕ, ◌<◌, ◌≤◌, ◌≡◌, ◌==◌, ◌⊎◌, inl, inr, Bool}
-use Rattle.std.proofs.Common.{List, [], ◌∷◌, ◌++◌, length, take, Some, None, refl, sym, ◌∙◌, ap, subst, arith, append-nil, append_assoc}
+use Rattle.std.proofs.Common.{ℕ, ◌<◌, ◌≤◌, ◌≡◌, ◌==◌, ◌⊎◌, inl, inr, Bool, List, [], ◌∷◌, ◌++◌, length, take, Some, None, refl, sym, ◌∙◌, ap, subst, arith}
+use Rattle.std.proofs.Common.{append-nil, append_assoc}
 use Rattle.std.specs.Prelude.{All, IsTrue, slice_index_or}
 use Rattle.std.proofs.lemmas.List.Elements.{All-head, All-tail}
 use Rattle.memory.specs.declared.writes.Write.{Write}
 use Rattle.memory.specs.Writes.{write}
 use Rattle.step_machine.specs.declared.events.Entry.{Entry}
-use Rattle.step_machine.specs.History.{OpeningValue, history_of}
-use Rattle.step_machine.specs.Access.{Access, nothing, load, store, exchange, fence, land, access_of}
-use Rattle.step_machine.specs.Entries.{hart_of, stored_by, landed_by, written_by, write_of, pending, own_stores, lands, read}
-use Rattle.step_machine.specs.Legal.{AllowedBy, Allowed, LegalAfter, Legal}
-use Rattle.step_machine.proofs.Appended.{LegalAfter-front, LegalAfter-back, LegalAfter-append}
-use Rattle.step_machine.proofs.Landings.{balanced}
-use Rattle.step_machine.proofs.Changed.{some_first}
+use Rattle.step_machine.specs.Names.{OpeningValue, history_of, Access, nothing, load, store, exchange, fence, land, access_of, hart_of, stored_by, landed_by}
+use Rattle.step_machine.specs.Names.{written_by, write_of, pending, own_stores, lands, read, AllowedBy, Allowed, LegalAfter, Legal}
+use Rattle.step_machine.proofs.{LegalAfter-front, LegalAfter-back, LegalAfter-append, balanced, some_first}
 use Rattle.store_buffers.specs.StoreBuffers.{memory_number}
 use Rattle.queue_parties.specs.Parties.{Party, the_sender, the_receiver, other, QueueCounts, IsWindow, count, known}
-use Rattle.queue_parties.proofs.Parties.{Whose, mine, theirs, whose, harts-apart, two, twice, count-set}
-use Rattle.queue_parties.proofs.Parties.{count-set-other, known-set-count, count-set-known, keeps-front}
-use Rattle.slot_queue.specs.Queues.{Queue, index_word, IsQueue, IsAtRest, KeepsOff}
-use Rattle.slot_queue.specs.Ownership.{party_of, hart, index, end, after_load, after_store, moved, after_access, counts_next, counts_after}
-use Rattle.slot_queue.specs.Ownership.{MayStore, KeepsAccess, KeepsEntry, KeepsOwnership}
-use Rattle.slot_queue.specs.Laws.{FollowsOwnership, moved_on}
+use Rattle.queue_parties.proofs.Parties.{Whose, mine, theirs, whose, harts-apart, two, twice, count-set, count-set-other, known-set-count, count-set-known}
+use Rattle.queue_parties.proofs.Parties.{keeps-front}
+use Rattle.slot_queue.specs.{Queue, index_word, IsQueue, IsAtRest, KeepsOff, party_of, hart, index, end, after_load, after_store, moved, after_access}
+use Rattle.slot_queue.specs.{counts_next, counts_after, MayStore, KeepsAccess, KeepsEntry, KeepsOwnership, FollowsOwnership, moved_on}
 use Rattle.slot_queue.proofs.Sides.{Leaves, IsClean, Side, off-leaves, stores-clean, stores-leave, stores-room, moved-leaves, moved-same}
 use Rattle.slot_queue.proofs.Steps.{stays, stores, stores-past, exchanges, exchanges-past, exchanges-same, lands-one}
 use Rattle.slot_queue.proofs.Looks.{end-set-count, Bounds, bounds, sides-looked}

@@ -1,6 +1,6 @@
 -- What holds of one party's index: of its word in memory, of the pending stores to it, and of what is known of it.
-use Rattle.std.proofs.Common.{ℕ, ◌+◌, ◌-◌, ◌*◌, ◌%◌, ◌^◌, ◌<◌, ◌≤◌, ◌≡◌, ◌≢◌, ◌==◌, ◌&&◌, ◌⊎◌, inl, inr, Bool, true, false, if◌then◌else◌}
-use Rattle.std.proofs.Common.{List, [], ◌∷◌, ◌++◌, refl, sym, ◌∙◌, ap, subst, arith}
+use Rattle.std.proofs.Common.{ℕ, ◌+◌, ◌-◌, ◌*◌, ◌%◌, ◌^◌, ◌<◌, ◌≤◌, ◌≡◌, ◌≢◌, ◌==◌, ◌&&◌, ◌⊎◌, inl, inr, Bool, true, false, if◌then◌else◌, List, [], ◌∷◌, ◌++◌}
+use Rattle.std.proofs.Common.{refl, sym, ◌∙◌, ap, subst, arith}
 use Rattle.std.specs.Prelude.{All}
 use Rattle.std.specs.Int.{byte_at}
 use Rattle.std.proofs.Math.Nat.{mod-lt, mod-eq_of_lt}
@@ -11,19 +11,14 @@ use Rattle.memory.specs.Writes.{write, covers, byte_after, joined}
 use Rattle.memory.proofs.Bytes.{joined-same, covers-yes, covers-from}
 use Rattle.memory.proofs.Joined.{joined-bytes}
 use Rattle.step_machine.specs.declared.events.Entry.{Entry}
-use Rattle.step_machine.specs.History.{OpeningValue}
-use Rattle.step_machine.specs.Access.{exchange, access_of}
-use Rattle.step_machine.specs.Entries.{write_of, pending, memory_byte}
-use Rattle.step_machine.specs.Legal.{Allowed}
+use Rattle.step_machine.specs.Names.{OpeningValue, exchange, access_of, write_of, pending, memory_byte, Allowed}
 use Rattle.store_buffers.specs.StoreBuffers.{memory_number}
 use Rattle.store_buffers.proofs.Effects.{number-quiet, number-after, same-memory, amo-read}
-use Rattle.queue_parties.specs.Parties.{Party, the_sender, the_receiver, other, QueueCounts, count, known}
-use Rattle.queue_parties.specs.Positions.{IsInBytes}
+use Rattle.queue_parties.specs.{Party, the_sender, the_receiver, other, QueueCounts, count, known, IsInBytes}
 use Rattle.queue_parties.proofs.Parties.{both-equal}
 use Rattle.queue_parties.proofs.Positions.{slot-within}
-use Rattle.slot_queue.specs.Queues.{Queue, index_word, least_count, IsOutside, IsQueue, KeepsOff}
-use Rattle.slot_queue.specs.Ownership.{hart, index, end, is_index_store, moved, FillsOwned, MayStore}
-use Rattle.slot_queue.specs.Laws.{moved_on}
+use Rattle.slot_queue.specs.{Queue, index_word, least_count, IsOutside, IsQueue, KeepsOff, hart, index, end, is_index_store, moved, FillsOwned, MayStore}
+use Rattle.slot_queue.specs.{moved_on}
 use Rattle.slot_queue.proofs.Codes.{least-near, word-least, word-small}
 
 -- a write that leaves the party's index

@@ -6,16 +6,12 @@ use Rattle.std.proofs.lemmas.List.Elements.{All-head, All-tail, All-nil, All-con
 use Rattle.memory.specs.declared.writes.Write.{Write}
 use Rattle.memory.specs.Writes.{write}
 use Rattle.step_machine.specs.declared.events.Entry.{Entry}
-use Rattle.step_machine.specs.History.{OpeningValue}
-use Rattle.step_machine.specs.Access.{Access, store, exchange, land, access_of}
-use Rattle.step_machine.specs.Legal.{Allowed}
-use Rattle.step_machine.specs.Entries.{hart_of, stored_by, landed_by, written_by, own_store, land_of, write_of, pending, own_stores, lands}
+use Rattle.step_machine.specs.Names.{OpeningValue, Access, store, exchange, land, access_of, Allowed, hart_of, stored_by, landed_by, written_by, own_store}
+use Rattle.step_machine.specs.Names.{land_of, write_of, pending, own_stores, lands}
 use Rattle.store_buffers.proofs.Effects.{number-quiet, pending-quiet, pending-more, pending-first}
 use Rattle.store_buffers.specs.StoreBuffers.{memory_number}
-use Rattle.slot_queue.specs.Queues.{Queue, IsQueue, index_word}
+use Rattle.slot_queue.specs.{Queue, IsQueue, index_word, hart, index, end, moved, moved_on}
 use Rattle.queue_parties.specs.Parties.{Party, other, QueueCounts, count, known}
-use Rattle.slot_queue.specs.Ownership.{hart, index, end, moved}
-use Rattle.slot_queue.specs.Laws.{moved_on}
 use Rattle.slot_queue.proofs.Sides.{Leaves, IsClean, Side, moved-more, moved_on-append, moved-leaves, word-written, word-same, moved-same}
 
 module _ (q : Queue) (is : IsQueue q) (o : OpeningValue) (es : List Entry) (e : Entry) (even : (h : ℕ) → lands h es ≤ length (own_stores h es))

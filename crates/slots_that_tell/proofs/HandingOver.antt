@@ -1,6 +1,6 @@
 -- A byte of a slot, handed over: where a party stores the slot's tag, the other reads there what the party's hart read then.
-use Rattle.std.proofs.Common.{ℕ, ◌+◌, ◌<◌, ◌≤◌, ◌≡◌, ◌≢◌, ◌==◌, ◌⊎◌, inl, inr, if◌then◌else◌}
-use Rattle.std.proofs.Common.{List, [], ◌∷◌, ◌++◌, length, drop, Some, None, refl, sym, ◌∙◌, ap, subst, arith, append-nil, append_assoc}
+use Rattle.std.proofs.Common.{ℕ, ◌+◌, ◌<◌, ◌≤◌, ◌≡◌, ◌≢◌, ◌==◌, ◌⊎◌, inl, inr, if◌then◌else◌, List, [], ◌∷◌, ◌++◌, length, drop, Some, None, refl, sym, ◌∙◌, ap}
+use Rattle.std.proofs.Common.{subst, arith, append-nil, append_assoc}
 use Rattle.std.specs.Prelude.{All, slice_index_or, unwrap_or}
 use Rattle.std.proofs.lemmas.Bool.{cases_lt, eq-eqb, ne_eqb}
 use Rattle.std.proofs.lemmas.List.{drop-drop}
@@ -8,12 +8,9 @@ use Rattle.std.proofs.lemmas.List.Elements.{All-drop}
 use Rattle.memory.specs.declared.writes.Write.{Write}
 use Rattle.memory.specs.Writes.{write}
 use Rattle.step_machine.specs.declared.events.Entry.{Entry}
-use Rattle.step_machine.specs.History.{OpeningValue, history_of}
-use Rattle.step_machine.specs.Access.{Access, nothing, load, store, exchange, fence, land, access_of}
-use Rattle.step_machine.specs.Entries.{hart_of, stored_by, own_store, pending, own_stores, landed_by, land_of, lands, memory_byte, read_byte}
-use Rattle.step_machine.specs.Legal.{Legal}
-use Rattle.step_machine.proofs.Appended.{stores-append, lands-append, LegalAfter-front, LegalAfter-back}
-use Rattle.step_machine.proofs.Landings.{balanced}
+use Rattle.step_machine.specs.Names.{OpeningValue, history_of, Access, nothing, load, store, exchange, fence, land, access_of, hart_of, stored_by, own_store}
+use Rattle.step_machine.specs.Names.{pending, own_stores, landed_by, land_of, lands, memory_byte, read_byte, Legal}
+use Rattle.step_machine.proofs.{stores-append, lands-append, LegalAfter-front, LegalAfter-back, balanced}
 use Rattle.store_buffers.specs.StoreBuffers.{LeavesByte, LeavesByteBy, AllLeaveByte, IsOnlyWriter, LeavesByteAt}
 use Rattle.store_buffers.proofs.MessagePassing as passing
 use Rattle.store_buffers.proofs.MessagePassing.{handed_over}

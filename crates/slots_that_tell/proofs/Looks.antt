@@ -1,6 +1,6 @@
 -- What a look at a tag says.
-use Rattle.std.proofs.Common.{ℕ, ◌+◌, ◌-◌, ◌%◌, ◌^◌, ◌<◌, ◌≤◌, ◌≡◌, ◌≢◌, ◌⊎◌, inl, inr, Bool, true, false, if◌then◌else◌}
-use Rattle.std.proofs.Common.{List, [], ◌∷◌, Option, Some, None, refl, sym, ◌∙◌, ap, subst, arith}
+use Rattle.std.proofs.Common.{ℕ, ◌+◌, ◌-◌, ◌%◌, ◌^◌, ◌<◌, ◌≤◌, ◌≡◌, ◌≢◌, ◌⊎◌, inl, inr, Bool, true, false, if◌then◌else◌, List, [], ◌∷◌, Option, Some, None}
+use Rattle.std.proofs.Common.{refl, sym, ◌∙◌, ap, subst, arith}
 use Rattle.std.specs.Prelude.{unwrap_or}
 use Rattle.std.specs.Int.{byte_at}
 use Rattle.std.proofs.Math.Nat.{mod-lt}
@@ -9,14 +9,12 @@ use Rattle.memory.specs.declared.writes.Write.{Write}
 use Rattle.memory.specs.Writes.{covers, byte_after, newest_of, joined}
 use Rattle.memory.proofs.Bytes.{joined-same}
 use Rattle.step_machine.specs.declared.events.Entry.{Entry}
-use Rattle.step_machine.specs.History.{OpeningValue}
-use Rattle.step_machine.specs.Entries.{pending, memory_byte, read_byte, read}
+use Rattle.step_machine.specs.Names.{OpeningValue, pending, memory_byte, read_byte, read}
 use Rattle.queue_parties.proofs.Parties.{both-equal, twice}
 use Rattle.queue_parties.specs.Parties.{Party, other, QueueCounts, count, known, with_known}
 use Rattle.queue_parties.proofs.Positions.{same_slot, ahead, ahead-stands}
 use Rattle.slots_that_tell.specs.Slots.{Slots, IsSlots, gap, tag_of, element_at, is_tag, position_at, memory_tag}
-use Rattle.slots_that_tell.specs.Telling.{teller_hart, told, learned, after_load, moved}
-use Rattle.slots_that_tell.specs.Laws.{moved_on}
+use Rattle.slots_that_tell.specs.{teller_hart, told, learned, after_load, moved, moved_on}
 use Rattle.slots_that_tell.proofs.Places.{moved-leaves, moved-tag, tag-apart, tag-left, tag-stored, tag-turn, slot-turn, tag-same}
 use Rattle.slots_that_tell.proofs.Sides.{Tidy, Held, gaps, moved_on-more, within}
 

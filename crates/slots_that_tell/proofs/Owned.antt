@@ -1,23 +1,19 @@
 -- Which positions a party owns at what time: what both parties own of one slot is never owned at once.
-use Rattle.std.proofs.Common.{ℕ, ◌+◌, ◌-◌, ◌<◌, ◌≤◌, ◌≡◌, ◌⊎◌, inl, inr, Bool, true, false, if◌then◌else◌}
-use Rattle.std.proofs.Common.{List, ◌++◌, Option, Some, None, refl, sym, ◌∙◌, ap, subst, arith}
+use Rattle.std.proofs.Common.{ℕ, ◌+◌, ◌-◌, ◌<◌, ◌≤◌, ◌≡◌, ◌⊎◌, inl, inr, Bool, true, false, if◌then◌else◌, List, ◌++◌, Option, Some, None, refl, sym, ◌∙◌, ap}
+use Rattle.std.proofs.Common.{subst, arith}
 use Rattle.std.proofs.Math.Nat.{lt_of_not-le}
 use Rattle.memory.specs.declared.writes.Write.{Write}
 use Rattle.memory.specs.Writes.{write, covers}
 use Rattle.memory.proofs.Bytes.{covers-from}
 use Rattle.step_machine.specs.declared.events.Entry.{Entry}
-use Rattle.step_machine.specs.History.{OpeningValue}
-use Rattle.step_machine.specs.Access.{Access, nothing, load, store, exchange, fence, land, access_of}
-use Rattle.step_machine.specs.Entries.{hart_of}
+use Rattle.step_machine.specs.Names.{OpeningValue, Access, nothing, load, store, exchange, fence, land, access_of, hart_of}
 use Rattle.store_buffers.specs.StoreBuffers.{LeavesByte, LeavesByteBy}
 use Rattle.queue_parties.specs.Parties.{Party, the_sender, the_receiver, other, QueueCounts, count, known, with_known}
-use Rattle.queue_parties.proofs.Parties.{two, count-set, count-set-other, known-set-count, known-set-other, count-set-known}
-use Rattle.queue_parties.proofs.Parties.{Grows, grows-same, grows-on, Whose, mine, theirs, whose, grows-count, grows-known, grows-from}
+use Rattle.queue_parties.proofs.Parties.{two, count-set, count-set-other, known-set-count, known-set-other, count-set-known, Grows, grows-same, grows-on, Whose}
+use Rattle.queue_parties.proofs.Parties.{mine, theirs, whose, grows-count, grows-known, grows-from}
 use Rattle.slots_that_tell.specs.Slots.{Slots, IsSlots, gap, is_tag, position_at, IsSlotByte, KeepsOff}
-use Rattle.slots_that_tell.specs.Telling.{teller_of, owned_end, told, learned, moved, after_load, after_store}
-use Rattle.slots_that_tell.specs.Telling.{told_access, after_entry, told_counts, MayStore, TellsAccess}
-use Rattle.slots_that_tell.specs.Laws.{FollowsTelling}
-use Rattle.slots_that_tell.specs.Telling.{told_counts}
+use Rattle.slots_that_tell.specs.{teller_of, owned_end, told, learned, moved, after_load, after_store, told_access, after_entry, told_counts, MayStore}
+use Rattle.slots_that_tell.specs.{TellsAccess, FollowsTelling}
 use Rattle.slots_that_tell.proofs.Places.{tag-in-slot, slot-inside, far}
 use Rattle.slots_that_tell.proofs.Sides.{Held, moved-more, within}
 use Rattle.slots_that_tell.proofs.Runs.{memory_counts, held-of}

@@ -1,6 +1,6 @@
 -- Where slots and tags lie.
-use Rattle.std.proofs.Common.{ℕ, ◌+◌, ◌-◌, ◌*◌, ◌%◌, ◌^◌, ◌<◌, ◌≤◌, ◌≡◌, ◌≢◌, ◌==◌, ◌&&◌, inl, inr, Bool, true, false, if◌then◌else◌}
-use Rattle.std.proofs.Common.{refl, sym, ◌∙◌, ap, subst, arith}
+use Rattle.std.proofs.Common.{ℕ, ◌+◌, ◌-◌, ◌*◌, ◌%◌, ◌^◌, ◌<◌, ◌≤◌, ◌≡◌, ◌≢◌, ◌==◌, ◌&&◌, inl, inr, Bool, true, false, if◌then◌else◌, refl, sym, ◌∙◌, ap, subst}
+use Rattle.std.proofs.Common.{arith}
 use Rattle.std.specs.Int.{byte_at}
 use Rattle.std.proofs.Math.Nat.{mod-mod, add-mul-mod_self_left}
 use Rattle.std.proofs.lemmas.Bool.{eq-eqb}
@@ -9,11 +9,10 @@ use Rattle.memory.specs.Writes.{covers, byte_after, joined}
 use Rattle.memory.proofs.Bytes.{joined-same, covers-yes, covers-from}
 use Rattle.memory.proofs.Joined.{joined-bytes}
 use Rattle.queue_parties.proofs.Parties.{both-equal}
-use Rattle.queue_parties.specs.Parties.{Party, the_sender, the_receiver, QueueCounts}
+use Rattle.queue_parties.specs.{Party, the_sender, the_receiver, QueueCounts, IsInBytes, slot_from}
 use Rattle.queue_parties.proofs.Positions.{in_slot}
 use Rattle.queue_parties.proofs.Positions as positions
 use Rattle.slots_that_tell.specs.Slots.{Slots, IsSlots, gap, tag_of, IsSlotByte, IsTagByte, IsOutside, KeepsOff, element_at, is_tag}
-use Rattle.queue_parties.specs.Positions.{IsInBytes, slot_from}
 use Rattle.slots_that_tell.specs.Telling.{moved, FillsOwned, IsTagStore}
 
 -- a write that leaves all tags

@@ -1,21 +1,17 @@
 -- What a party's hart had stored before it moved its count on is in memory, once the other party knows of that count.
-use Rattle.std.proofs.Common.{ℕ, suc, ◌+◌, ◌-◌, ◌<◌, ◌≤◌, ◌≡◌, ◌≢◌, ◌==◌, ◌⊎◌, inl, inr, if◌then◌else◌}
-use Rattle.std.proofs.Common.{List, [], ◌∷◌, ◌++◌, length, take, drop, refl, sym, ◌∙◌, ap, subst, arith, append-nil, append_assoc, length-append, length-drop}
+use Rattle.std.proofs.Common.{ℕ, suc, ◌+◌, ◌-◌, ◌<◌, ◌≤◌, ◌≡◌, ◌≢◌, ◌==◌, ◌⊎◌, inl, inr, if◌then◌else◌, List, [], ◌∷◌, ◌++◌, length, take, drop, refl, sym, ◌∙◌}
+use Rattle.std.proofs.Common.{ap, subst, arith, append-nil, append_assoc, length-append, length-drop}
 use Rattle.std.proofs.lemmas.Bool.{cases_eq, cases_lt, eq-eqb, ne_eqb}
 use Rattle.std.proofs.lemmas.List.{drop-append-le, drop-drop}
 use Rattle.memory.specs.declared.writes.Write.{Write}
 use Rattle.step_machine.specs.declared.events.Entry.{Entry}
-use Rattle.step_machine.specs.History.{OpeningValue, history_of}
-use Rattle.step_machine.specs.Access.{Access, nothing, load, store, exchange, fence, land, access_of}
-use Rattle.step_machine.specs.Entries.{hart_of, landed_by, written_by, land_of, write_of, pending, own_stores, lands, read}
-use Rattle.step_machine.specs.Legal.{AllowedBy, Allowed, LegalAfter, Legal}
-use Rattle.step_machine.proofs.Appended.{LegalAfter-front, LegalAfter-back, LegalAfter-append, stores-append, lands-append}
-use Rattle.step_machine.proofs.Landings.{balanced}
+use Rattle.step_machine.specs.Names.{OpeningValue, history_of, Access, nothing, load, store, exchange, fence, land, access_of, hart_of, landed_by, written_by}
+use Rattle.step_machine.specs.Names.{land_of, write_of, pending, own_stores, lands, read, AllowedBy, Allowed, LegalAfter, Legal}
+use Rattle.step_machine.proofs.{LegalAfter-front, LegalAfter-back, LegalAfter-append, stores-append, lands-append, balanced}
 use Rattle.queue_parties.specs.Parties.{Party, other, QueueCounts, count, known}
 use Rattle.queue_parties.proofs.Parties.{counts-append, keeps-front, keeps-back}
 use Rattle.slots_that_tell.specs.Slots.{Slots, IsSlots}
-use Rattle.slots_that_tell.specs.Telling.{KeepsEntry, teller_hart, after_entry, told_counts, KeepsTelling}
-use Rattle.slots_that_tell.specs.Laws.{FollowsTelling, moved_on}
+use Rattle.slots_that_tell.specs.{KeepsEntry, teller_hart, after_entry, told_counts, KeepsTelling, FollowsTelling, moved_on}
 use Rattle.slots_that_tell.proofs.Sides.{Held, moved_on-more, moved_on-append}
 use Rattle.slots_that_tell.proofs.Steps.{next, next-mine, next-other, one-on}
 use Rattle.slots_that_tell.proofs.Runs.{memory_counts, holds-after, held-of}

@@ -1,27 +1,23 @@
 -- Records in order, each once: those that the receiver takes are a prefix of those that the sender published.
-use Rattle.std.proofs.Common.{ℕ, ◌+◌, ◌-◌, ◌<◌, ◌≤◌, ◌≡◌, ◌≢◌, ◌⊎◌, inl, inr, Bool, true, false, if◌then◌else◌}
-use Rattle.std.proofs.Common.{List, [], ◌∷◌, ◌++◌, Some, refl, sym, ◌∙◌, ap, subst, arith, append_assoc}
+use Rattle.std.proofs.Common.{ℕ, ◌+◌, ◌-◌, ◌<◌, ◌≤◌, ◌≡◌, ◌≢◌, ◌⊎◌, inl, inr, Bool, true, false, if◌then◌else◌, List, [], ◌∷◌, ◌++◌, Some, refl, sym, ◌∙◌, ap}
+use Rattle.std.proofs.Common.{subst, arith, append_assoc}
 use Rattle.std.specs.Prelude.{nat_lt}
 use Rattle.std.proofs.lemmas.Bool.{cases_lt, lt-ltb}
 use Rattle.memory.specs.declared.writes.Write.{Write}
 use Rattle.memory.specs.Writes.{write, covers}
 use Rattle.memory.proofs.Bytes.{joined-same, covers-from}
 use Rattle.step_machine.specs.declared.events.Entry.{Entry}
-use Rattle.step_machine.specs.History.{OpeningValue}
-use Rattle.step_machine.specs.Access.{Access, nothing, load, store, exchange, fence, land, access_of}
-use Rattle.step_machine.specs.Entries.{hart_of, read_byte}
+use Rattle.step_machine.specs.Names.{OpeningValue, Access, nothing, load, store, exchange, fence, land, access_of, hart_of, read_byte}
 use Rattle.store_buffers.specs.StoreBuffers.{LeavesByte, LeavesByteBy, LeavesByteAt}
-use Rattle.queue_parties.specs.Positions.{IsPrefix, numbers_from}
-use Rattle.queue_parties.specs.Parties.{Party, the_sender, the_receiver, QueueCounts, count, known}
+use Rattle.queue_parties.specs.{IsPrefix, numbers_from, Party, the_sender, the_receiver, QueueCounts, count, known}
 use Rattle.queue_parties.proofs.Parties.{count-set, Grows, Whose, mine, theirs, whose, counts-append, keeps-at, Passed}
 use Rattle.store_buffers.proofs.LateStores.{at-by-parts, leaves-part}
 use Rattle.queue_parties.proofs.Positions.{same_slot}
 use Rattle.queue_parties.proofs.Records.{numbers-prefix, numbers-same, numbers-split, not_less, passed, HasRecords, records-are, record_passed, own-records}
 use Rattle.slots_that_tell.specs.Slots.{Slots, IsSlots, tagged_slot, IsSlotByte, IsTagByte, tag_of}
-use Rattle.slots_that_tell.specs.Telling.{KeepsEntry, teller_of, owned_end, moved, after_load, after_store}
-use Rattle.slots_that_tell.specs.Telling.{told_access, after_entry, told_counts, MayStore, TellsAccess, KeepsTelling}
+use Rattle.slots_that_tell.specs.Telling.{KeepsEntry, teller_of, owned_end, moved, after_load, after_store, told_access, after_entry, told_counts, MayStore}
+use Rattle.slots_that_tell.specs.Telling.{TellsAccess, KeepsTelling}
 use Rattle.slots_that_tell.specs.Laws.{FollowsTelling, StoresTagsAlone, tagged_record, reading_at, records_by, records_learned, records_waiting}
-use Rattle.slots_that_tell.specs.Telling.{told_counts}
 use Rattle.slots_that_tell.proofs.Places.{one-tag, fills-leaves, moved-tag, far}
 use Rattle.slots_that_tell.proofs.Publication.{follows-front}
 use Rattle.slots_that_tell.proofs.Owned.{grows-entry, grows-after, Window, window-of, loaded-count, Owned, access-byte, Moving, moving, learning, mine-of}

@@ -4,16 +4,11 @@ use Rattle.std.specs.Prelude.{All, slice_index_or}
 use Rattle.std.proofs.lemmas.List.Elements.{All-head, All-tail}
 use Rattle.memory.specs.declared.writes.Write.{Write}
 use Rattle.step_machine.specs.declared.events.Entry.{Entry}
-use Rattle.step_machine.specs.History.{OpeningValue, history_of}
-use Rattle.step_machine.specs.Entries.{hart_of, pending, read}
-use Rattle.step_machine.specs.Access.{load, access_of}
-use Rattle.step_machine.specs.Legal.{AllowedBy, LegalAfter, Legal}
-use Rattle.step_machine.proofs.Appended.{LegalAfter-front, LegalAfter-back, LegalAfter-append}
-use Rattle.step_machine.proofs.Landings.{balanced}
+use Rattle.step_machine.specs.Names.{OpeningValue, history_of, hart_of, pending, read, load, access_of, AllowedBy, LegalAfter, Legal}
+use Rattle.step_machine.proofs.{LegalAfter-front, LegalAfter-back, LegalAfter-append, balanced}
 use Rattle.queue_parties.specs.Parties.{Party, the_sender, the_receiver, other, QueueCounts, count, known, IsWindow}
 use Rattle.slots_that_tell.specs.Slots.{Slots, IsSlots, RestsAt, KeepsOff, gap, tag_of, memory_tag}
-use Rattle.slots_that_tell.specs.Telling.{teller_hart, after_entry, told_counts, KeepsTelling}
-use Rattle.slots_that_tell.specs.Laws.{FollowsTelling, moved_on}
+use Rattle.slots_that_tell.specs.{teller_hart, after_entry, told_counts, KeepsTelling, FollowsTelling, moved_on}
 use Rattle.slots_that_tell.proofs.Places.{LeavesTags, moved-leaves, off-leaves}
 use Rattle.slots_that_tell.proofs.Sides.{Tidy, Side, Held, within}
 use Rattle.slots_that_tell.proofs.Looks.{false_tag}

@@ -1,21 +1,19 @@
 -- What holds of a party's tags in its buffer, and of the tags in memory.
-use Rattle.std.proofs.Common.{ℕ, ◌+◌, ◌%◌, ◌^◌, ◌<◌, ◌≤◌, ◌≡◌, ◌≢◌, ◌⊎◌, inl, inr, Bool, true, false, if◌then◌else◌}
-use Rattle.std.proofs.Common.{List, [], ◌∷◌, ◌++◌, refl, sym, ◌∙◌, ap, subst, arith}
+use Rattle.std.proofs.Common.{ℕ, ◌+◌, ◌%◌, ◌^◌, ◌<◌, ◌≤◌, ◌≡◌, ◌≢◌, ◌⊎◌, inl, inr, Bool, true, false, if◌then◌else◌, List, [], ◌∷◌, ◌++◌, refl, sym, ◌∙◌, ap}
+use Rattle.std.proofs.Common.{subst, arith}
 use Rattle.std.specs.Prelude.{All}
 use Rattle.std.proofs.lemmas.Bool.{cases_lt}
 use Rattle.memory.specs.declared.writes.Write.{Write}
 use Rattle.memory.specs.Writes.{covers, byte_after, joined}
 use Rattle.memory.proofs.Bytes.{joined-same}
 use Rattle.step_machine.specs.declared.events.Entry.{Entry}
-use Rattle.step_machine.specs.History.{OpeningValue}
-use Rattle.step_machine.specs.Entries.{write_of, pending, memory_byte}
+use Rattle.step_machine.specs.Names.{OpeningValue, write_of, pending, memory_byte}
 use Rattle.step_machine.proofs.Stays.{memory_byte-write, memory_byte-other}
 use Rattle.queue_parties.specs.Parties.{Party, the_sender, the_receiver, other, QueueCounts, count, known}
 use Rattle.queue_parties.proofs.Positions.{same_slot}
 use Rattle.queue_parties.proofs.Parties.{two, twice}
 use Rattle.slots_that_tell.specs.Slots.{Slots, IsSlots, gap, tag_of, IsTagByte, memory_tag}
-use Rattle.slots_that_tell.specs.Telling.{teller_hart, owned_end, moved, IsTagStore}
-use Rattle.slots_that_tell.specs.Laws.{moved_on}
+use Rattle.slots_that_tell.specs.{teller_hart, owned_end, moved, IsTagStore, moved_on}
 use Rattle.slots_that_tell.proofs.Places.{LeavesTags, tag-apart, tag-left, tag-stored, tag-turn, slot-turn}
 
 -- a party's stores to tags are of its positions from m on, one after the other

@@ -1,25 +1,22 @@
 -- What one entry makes of both parties' counts, their pending stores and the tags.
-use Rattle.std.proofs.Common.{ℕ, ◌+◌, ◌≤◌, ◌≡◌, ◌≢◌, ◌==◌, ◌⊎◌, inl, inr, Bool, true, false, if◌then◌else◌}
-use Rattle.std.proofs.Common.{List, [], ◌∷◌, ◌++◌, length, take, Some, None, refl, sym, ◌∙◌, ap, subst, arith}
+use Rattle.std.proofs.Common.{ℕ, ◌+◌, ◌≤◌, ◌≡◌, ◌≢◌, ◌==◌, ◌⊎◌, inl, inr, Bool, true, false, if◌then◌else◌, List, [], ◌∷◌, ◌++◌, length, take, Some, None, refl}
+use Rattle.std.proofs.Common.{sym, ◌∙◌, ap, subst, arith}
 use Rattle.std.specs.Prelude.{All}
 use Rattle.std.proofs.lemmas.Bool.{cases_eq, eq-eqb, ne_eqb}
 use Rattle.std.proofs.lemmas.List.Elements.{All-head, All-tail, All-nil, All-cons, All-append}
 use Rattle.memory.specs.declared.writes.Write.{Write}
 use Rattle.memory.specs.Writes.{write}
 use Rattle.step_machine.specs.declared.events.Entry.{Entry}
-use Rattle.step_machine.specs.History.{OpeningValue}
-use Rattle.step_machine.specs.Access.{Access, nothing, load, store, exchange, fence, land, access_of}
-use Rattle.step_machine.specs.Entries.{hart_of, stored_by, landed_by, written_by, own_store, land_of, write_of, pending, own_stores, lands, read}
-use Rattle.step_machine.specs.Legal.{AllowedBy, Allowed}
+use Rattle.step_machine.specs.Names.{OpeningValue, Access, nothing, load, store, exchange, fence, land, access_of, hart_of, stored_by, landed_by, written_by}
+use Rattle.step_machine.specs.Names.{own_store, land_of, write_of, pending, own_stores, lands, read, AllowedBy, Allowed}
 use Rattle.step_machine.proofs.Changed.{some_first}
 use Rattle.store_buffers.proofs.Effects.{stored_none, pending-quiet, pending-more, pending-first}
 use Rattle.queue_parties.specs.Parties.{Party, other, QueueCounts, count, known, with_known}
-use Rattle.queue_parties.proofs.Parties.{two, twice, count-set, count-set-other, known-set-count, count-set-known, known-set, known-set-other}
-use Rattle.queue_parties.proofs.Parties.{Whose, mine, theirs, whose, harts-apart}
+use Rattle.queue_parties.proofs.Parties.{two, twice, count-set, count-set-other, known-set-count, count-set-known, known-set, known-set-other, Whose, mine}
+use Rattle.queue_parties.proofs.Parties.{theirs, whose, harts-apart}
 use Rattle.slots_that_tell.specs.Slots.{Slots, IsSlots, gap, KeepsOff}
-use Rattle.slots_that_tell.specs.Telling.{teller_hart, teller_of, owned_end, moved, after_load, after_store}
-use Rattle.slots_that_tell.specs.Telling.{told_access, after_entry, IsTagStore, MayStore, TellsAccess}
-use Rattle.slots_that_tell.specs.Laws.{moved_on}
+use Rattle.slots_that_tell.specs.{teller_hart, teller_of, owned_end, moved, after_load, after_store, told_access, after_entry, IsTagStore, MayStore}
+use Rattle.slots_that_tell.specs.{TellsAccess, moved_on}
 use Rattle.slots_that_tell.proofs.Places.{LeavesTags, moved-leaves, moved-tag, off-leaves, fills-leaves}
 use Rattle.slots_that_tell.proofs.Sides.{Tidy, Side, Tags, Held, moved_on-more, moved_on-append, tidy-append, within, tags-quiet, tags-left, tags-one}
 use Rattle.slots_that_tell.proofs.Looks.{looked}

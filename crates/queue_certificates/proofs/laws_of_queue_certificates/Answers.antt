@@ -1,5 +1,5 @@
-use Rattle.queue_certificates.proofs.EveryRun.{accepted_runs, accepted_loads, accepted_deliveries, accepted_states, accepted_records}
-use Rattle.queue_certificates.proofs.EveryRun.{accepted_telling, accepted_rest, accepted_arrivals, accepted_tellings}
+use Rattle.queue_certificates.proofs.EveryRun.{accepted_runs, accepted_loads, accepted_deliveries, accepted_states, accepted_records, accepted_telling}
+use Rattle.queue_certificates.proofs.EveryRun.{accepted_rest, accepted_arrivals, accepted_tellings}
 use Rattle.queue_certificates.proofs.laws_of_queue_certificates.Goals as goal
 
 pub returns-clause-every_run : goal.returns-clause-every_run

@@ -1,8 +1,7 @@
 use Rattle.drawn_runs.specs.Samples.{runs_of}
 use Rattle.litmus.specs.LitmusTests.{LitmusTest}
 use Rattle.queue_certificates.specs.Certificates.{QueueCertificate}
-use Rattle.engine_support.specs.Inputs.{tests}
-use Rattle.engine_support.specs.inner.{text_and_value}
+use Rattle.engine_support.specs.{tests, text_and_value}
 use Rattle.engine_support.proofs.InputLaws.{made_after, read_after, refused_after}
 use Rattle.certifying.specs.Answers.{IsCertificateAnswer}
 use Rattle.certifying.specs.Questions.{questions_by}

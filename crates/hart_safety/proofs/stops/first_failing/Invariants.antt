@@ -1,6 +1,5 @@
 use Rattle.std.proofs.Common.{◌≡◌}
-use Rattle.queue_certificates.specs.Certificates.{state_at}
-use Rattle.queue_certificates.specs.Cases.{each_leaf}
+use Rattle.queue_certificates.specs.{state_at, each_leaf}
 use Rattle.queue_checker.specs.Flaws.{first_below, unless}
 use Rattle.hart_safety.proofs.stops.first_failing.Given as goal
 

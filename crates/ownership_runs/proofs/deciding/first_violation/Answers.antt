@@ -1,7 +1,6 @@
 use Rattle.std.proofs.Common.{take, ap, ◌∙◌}
 use Rattle.std.proofs.lemmas.List.{take_all}
-use Rattle.ownership_runs.specs.declared.deciding.RunNotes.{RunNotes}
-use Rattle.ownership_runs.specs.Violations.{first_ownership_violation}
+use Rattle.ownership_runs.specs.{RunNotes, first_ownership_violation}
 use Rattle.ownership_runs.proofs.Noting.{next-noted, first-noted}
 use Rattle.ownership_runs.proofs.deciding.first_violation.Goals as goal
 

@@ -1,8 +1,7 @@
 use Rattle.std.proofs.Common.{sym, ap, ◌∙◌}
 use Rattle.step_machine.specs.History.{at_opening}
 use Rattle.step_machine.proofs.Running.{run_more}
-use Rattle.ownership_runs.specs.declared.deciding.RunNotes.{RunNotes}
-use Rattle.ownership_runs.specs.inner.Noting.{noted_after}
+use Rattle.ownership_runs.specs.{RunNotes, noted_after}
 use Rattle.ownership_runs.proofs.Noting.{first-noted, all-noted, event-noted}
 use Rattle.ownership_runs.proofs.judging.judge.Goals as goal
 

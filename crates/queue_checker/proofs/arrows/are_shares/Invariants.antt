@@ -1,7 +1,5 @@
 use Rattle.std.proofs.Common.{◌≡◌, get_or}
-use Rattle.queue_certificates.specs.States.{no_share}
-use Rattle.queue_certificates.specs.Steps.{all_below}
-use Rattle.queue_certificates.specs.Certificates.{is_share}
+use Rattle.queue_certificates.specs.{no_share, all_below, is_share}
 use Rattle.queue_checker.proofs.arrows.are_shares.Given as goal
 
 abbrev pub invariant-loop-i : goal.invariant-loop-i

@@ -1,6 +1,5 @@
 use Rattle.std.proofs.Common.{◌≡◌}
-use Rattle.queue_certificates.specs.Certificates.{queue_at, fields_at}
-use Rattle.queue_certificates.specs.Fields.{field_below}
+use Rattle.queue_certificates.specs.{queue_at, fields_at, field_below}
 use Rattle.queue_checker.proofs.fields.field_of_any.Given as goal
 
 abbrev pub invariant-loop-i : goal.invariant-loop-i

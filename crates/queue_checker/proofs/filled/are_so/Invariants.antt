@@ -1,7 +1,6 @@
 use Rattle.std.proofs.Common.{◌≡◌, [], get_or}
 use Rattle.std.specs.List.{list_all}
-use Rattle.queue_certificates.specs.Steps.{all_below}
-use Rattle.queue_certificates.specs.Filled.{is_filled_after}
+use Rattle.queue_certificates.specs.{all_below, is_filled_after}
 use Rattle.queue_checker.proofs.filled.are_so.Given as goal
 
 abbrev pub invariant-loop-i : goal.invariant-loop-i

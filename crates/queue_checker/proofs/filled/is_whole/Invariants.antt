@@ -1,6 +1,5 @@
 use Rattle.std.proofs.Common.{◌≡◌}
-use Rattle.queue_certificates.specs.Steps.{all_below}
-use Rattle.queue_certificates.specs.Filled.{is_filled}
+use Rattle.queue_certificates.specs.{all_below, is_filled}
 use Rattle.queue_checker.proofs.filled.is_whole.Given as goal
 
 abbrev pub invariant-loop-field : goal.invariant-loop-field

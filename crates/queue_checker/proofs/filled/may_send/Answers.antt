@@ -1,7 +1,6 @@
 use Rattle.std.proofs.Common.{◌≡◌, ◌<◌, false, length, sym, arith}
 use Rattle.std.proofs.lemmas.Bool.Decides.{nat_tests}
-use Rattle.queue_certificates.specs.Steps.{all_below}
-use Rattle.queue_certificates.specs.Filled.{is_filled, most_published}
+use Rattle.queue_certificates.specs.{all_below, is_filled, most_published}
 use Rattle.queue_checker.proofs.Splits.{below_none}
 use Rattle.queue_checker.proofs.filled.may_send.Goals as goal
 

@@ -1,6 +1,5 @@
 use Rattle.std.proofs.Common.{◌≡◌, true, length}
-use Rattle.queue_certificates.specs.Steps.{all_below}
-use Rattle.queue_certificates.specs.Filled.{is_filled}
+use Rattle.queue_certificates.specs.{all_below, is_filled}
 use Rattle.queue_checker.proofs.filled.may_send.Given as goal
 
 abbrev pub invariant-loop-position : goal.invariant-loop-position

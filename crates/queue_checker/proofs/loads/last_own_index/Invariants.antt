@@ -1,6 +1,5 @@
 use Rattle.std.proofs.Common.{◌≡◌}
-use Rattle.queue_certificates.specs.Certificates.{queue_at}
-use Rattle.queue_certificates.specs.Steps.{last_below, is_own_index}
+use Rattle.queue_certificates.specs.{queue_at, last_below, is_own_index}
 use Rattle.queue_checker.proofs.loads.last_own_index.Given as goal
 
 abbrev pub invariant-loop-i : goal.invariant-loop-i

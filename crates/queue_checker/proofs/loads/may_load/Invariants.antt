@@ -1,8 +1,7 @@
 use Rattle.std.proofs.Common.{◌≡◌, length}
 use Rattle.std.specs.Prelude.{◌&&◌, ◌||◌, nat_lt}
 use Rattle.slot_queue.specs.Ownership.{party_of}
-use Rattle.queue_certificates.specs.Certificates.{queue_at}
-use Rattle.queue_certificates.specs.Steps.{all_below, is_just, misses}
+use Rattle.queue_certificates.specs.{queue_at, all_below, is_just, misses}
 use Rattle.queue_checker.proofs.loads.may_load.Given as goal
 
 abbrev pub invariant-loop-i : goal.invariant-loop-i

@@ -1,9 +1,6 @@
 use Rattle.std.proofs.Common.{◌≡◌, get_or}
 use Rattle.memory.specs.Writes.{byte_of}
-use Rattle.queue_certificates.specs.OwnedRuns.{number_seen}
-use Rattle.queue_certificates.specs.States.{any, own_at}
-use Rattle.queue_certificates.specs.Steps.{all_below}
-use Rattle.queue_certificates.specs.Certificates.{is_value}
+use Rattle.queue_certificates.specs.{number_seen, any, own_at, all_below, is_value}
 use Rattle.known_values.specs.Queues.{queue_in}
 use Rattle.queue_checker.proofs.opening.are_own_words.Given as goal
 

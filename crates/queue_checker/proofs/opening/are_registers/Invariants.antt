@@ -1,8 +1,6 @@
 use Rattle.std.proofs.Common.{◌≡◌, get_or}
 use Rattle.std.specs.Prelude.{slice_index, slice_set}
-use Rattle.queue_certificates.specs.States.{any}
-use Rattle.queue_certificates.specs.Steps.{all_below}
-use Rattle.queue_certificates.specs.Certificates.{is_value}
+use Rattle.queue_certificates.specs.{any, all_below, is_value}
 use Rattle.known_values.specs.Queues.{queue_in}
 use Rattle.queue_checker.proofs.opening.are_registers.Given as goal
 

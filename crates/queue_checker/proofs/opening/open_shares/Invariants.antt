@@ -1,8 +1,6 @@
 use Rattle.std.proofs.Common.{◌≡◌, get_or}
 use Rattle.slot_queue.specs.Ownership.{party_of}
-use Rattle.queue_certificates.specs.States.{no_share}
-use Rattle.queue_certificates.specs.Steps.{all_below}
-use Rattle.queue_certificates.specs.Certificates.{queue_at, start_at, opens_share}
+use Rattle.queue_certificates.specs.{no_share, all_below, queue_at, start_at, opens_share}
 use Rattle.queue_checker.proofs.opening.open_shares.Given as goal
 
 abbrev pub invariant-loop-i : goal.invariant-loop-i

@@ -1,7 +1,6 @@
 use Rattle.std.proofs.Common.{ap}
 use Rattle.step_machine.specs.History.{OpeningValue}
-use Rattle.queue_certificates.specs.Certificates.{QueueCertificate}
-use Rattle.queue_certificates.specs.States.{KnownState}
+use Rattle.queue_certificates.specs.{QueueCertificate, KnownState}
 use Rattle.queue_checker.proofs.opening.own_words_open.Goals as goal
 
 pub returns : goal.returns

@@ -1,8 +1,5 @@
 use Rattle.std.proofs.Common.{◌≡◌, ◌+◌, length, get_or}
-use Rattle.queue_certificates.specs.States.{no_share}
-use Rattle.queue_certificates.specs.Steps.{all_below}
-use Rattle.queue_certificates.specs.Tags.{party_in}
-use Rattle.queue_certificates.specs.Certificates.{tagged_at, tagged_start, opens_told}
+use Rattle.queue_certificates.specs.{no_share, all_below, party_in, tagged_at, tagged_start, opens_told}
 use Rattle.queue_checker.proofs.opening_tags.opens_all_told.Given as goal
 
 abbrev pub invariant-loop-t : goal.invariant-loop-t

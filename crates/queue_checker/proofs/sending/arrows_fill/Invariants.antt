@@ -1,6 +1,5 @@
 use Rattle.std.proofs.Common.{◌≡◌, length}
-use Rattle.queue_certificates.specs.Certificates.{arrows_fill}
-use Rattle.queue_certificates.specs.Filled.{is_filled_after}
+use Rattle.queue_certificates.specs.{arrows_fill, is_filled_after}
 use Rattle.queue_checker.proofs.sending.arrows_fill.Given as goal
 
 abbrev pub invariant-arrows : goal.invariant-arrows

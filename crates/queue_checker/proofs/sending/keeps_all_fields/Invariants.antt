@@ -1,6 +1,5 @@
 use Rattle.std.proofs.Common.{◌≡◌, ◌==◌, ◌||◌, [], length, get_or}
-use Rattle.queue_certificates.specs.Steps.{all_below}
-use Rattle.queue_certificates.specs.Certificates.{fields_at, keeps_fields}
+use Rattle.queue_certificates.specs.{all_below, fields_at, keeps_fields}
 use Rattle.queue_checker.proofs.sending.keeps_all_fields.Given as goal
 
 abbrev pub invariant-loop-i : goal.invariant-loop-i

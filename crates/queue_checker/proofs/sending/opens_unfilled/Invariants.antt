@@ -1,7 +1,5 @@
 use Rattle.std.proofs.Common.{◌≡◌, ◌==◌, ◌||◌, [], false, length, get_or}
-use Rattle.queue_certificates.specs.Steps.{all_below}
-use Rattle.queue_certificates.specs.Certificates.{fields_at}
-use Rattle.queue_certificates.specs.Filled.{are_so}
+use Rattle.queue_certificates.specs.{all_below, fields_at, are_so}
 use Rattle.queue_checker.proofs.sending.opens_unfilled.Given as goal
 
 abbrev pub invariant-loop-i : goal.invariant-loop-i

@@ -1,7 +1,6 @@
 use Rattle.std.proofs.Common.{◌≡◌, take}
 use Rattle.std.specs.Prelude.{map}
-use Rattle.queue_certificates.specs.Forms.{settled, raised}
-use Rattle.queue_certificates.specs.States.{share_by}
+use Rattle.queue_certificates.specs.{settled, raised, share_by}
 use Rattle.queue_checker.proofs.states.high_shares.Given as goal
 
 abbrev pub invariant-loop-share : goal.invariant-loop-share

@@ -1,7 +1,6 @@
 use Rattle.std.proofs.Common.{◌≡◌, take}
 use Rattle.std.specs.Prelude.{map}
-use Rattle.queue_certificates.specs.Forms.{lifted}
-use Rattle.queue_certificates.specs.States.{share_by}
+use Rattle.queue_certificates.specs.{lifted, share_by}
 use Rattle.queue_checker.proofs.states.lifted_shares.Given as goal
 
 abbrev pub invariant-loop-share : goal.invariant-loop-share

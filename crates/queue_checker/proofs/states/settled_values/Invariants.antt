@@ -1,7 +1,6 @@
 use Rattle.std.proofs.Common.{◌≡◌, take}
 use Rattle.std.specs.Prelude.{map}
-use Rattle.queue_certificates.specs.Forms.{settled}
-use Rattle.queue_certificates.specs.States.{value_by}
+use Rattle.queue_certificates.specs.{settled, value_by}
 use Rattle.queue_checker.proofs.states.settled_values.Given as goal
 
 abbrev pub invariant-loop-value : goal.invariant-loop-value

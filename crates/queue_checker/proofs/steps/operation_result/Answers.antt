@@ -1,7 +1,6 @@
 use Rattle.std.proofs.Common.{ap, rules, w32, SFits}
 use Rattle.std.proofs.lemmas.Int.{to_z-of_z}
-use Rattle.queue_certificates.specs.Certificates.{QueueCertificate}
-use Rattle.queue_certificates.specs.States.{KnownState}
+use Rattle.queue_certificates.specs.{QueueCertificate, KnownState}
 use Rattle.queue_checker.proofs.steps.operation_result.Goals as goal
 
 pub returns : goal.returns

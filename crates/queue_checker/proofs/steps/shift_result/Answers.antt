@@ -1,6 +1,5 @@
 use Rattle.std.proofs.Common.{ap}
-use Rattle.queue_certificates.specs.Certificates.{QueueCertificate}
-use Rattle.queue_certificates.specs.States.{KnownState}
+use Rattle.queue_certificates.specs.{QueueCertificate, KnownState}
 use Rattle.queue_checker.proofs.steps.shift_result.Goals as goal
 
 pub returns : goal.returns

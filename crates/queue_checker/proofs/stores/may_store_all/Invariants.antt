@@ -1,6 +1,5 @@
 use Rattle.std.proofs.Common.{◌≡◌}
-use Rattle.queue_certificates.specs.Certificates.{queue_at}
-use Rattle.queue_certificates.specs.Steps.{all_below, may_store}
+use Rattle.queue_certificates.specs.{queue_at, all_below, may_store}
 use Rattle.queue_checker.proofs.stores.may_store_all.Given as goal
 
 abbrev pub invariant-loop-i : goal.invariant-loop-i

@@ -1,7 +1,6 @@
 use Rattle.std.proofs.Common.{◌≡◌}
 use Rattle.slot_queue.specs.Ownership.{party_of}
-use Rattle.queue_certificates.specs.Certificates.{queue_at}
-use Rattle.queue_certificates.specs.Steps.{all_below, misses}
+use Rattle.queue_certificates.specs.{queue_at, all_below, misses}
 use Rattle.queue_checker.proofs.stores.misses_all.Given as goal
 
 abbrev pub invariant-loop-i : goal.invariant-loop-i

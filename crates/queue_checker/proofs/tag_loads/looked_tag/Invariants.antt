@@ -1,8 +1,6 @@
 use Rattle.std.proofs.Common.{◌≡◌, length}
 use Rattle.std.specs.Prelude.{is_some}
-use Rattle.queue_certificates.specs.Steps.{last_below}
-use Rattle.queue_certificates.specs.Tags.{tag_at}
-use Rattle.queue_certificates.specs.Certificates.{tagged_at}
+use Rattle.queue_certificates.specs.{last_below, tag_at, tagged_at}
 use Rattle.queue_checker.proofs.tag_loads.looked_tag.Given as goal
 
 abbrev pub invariant-loop-t : goal.invariant-loop-t

@@ -1,7 +1,6 @@
 use Rattle.std.proofs.Common.{◌≡◌, ◌+◌, length, take}
 use Rattle.std.specs.Prelude.{map}
-use Rattle.queue_certificates.specs.Steps.{share_at}
-use Rattle.queue_certificates.specs.Tags.{with_share, handed}
+use Rattle.queue_certificates.specs.{share_at, with_share, handed}
 use Rattle.queue_checker.proofs.tag_stores.handed_states.Given as goal
 
 abbrev pub invariant-loop-next : goal.invariant-loop-next

@@ -1,7 +1,5 @@
 use Rattle.std.proofs.Common.{◌≡◌, length}
-use Rattle.queue_certificates.specs.Steps.{all_below}
-use Rattle.queue_certificates.specs.Tags.{party_in, may_tell}
-use Rattle.queue_certificates.specs.Certificates.{tagged_at}
+use Rattle.queue_certificates.specs.{all_below, party_in, may_tell, tagged_at}
 use Rattle.queue_checker.proofs.tag_stores.may_store_all.Given as goal
 
 abbrev pub invariant-loop-t : goal.invariant-loop-t

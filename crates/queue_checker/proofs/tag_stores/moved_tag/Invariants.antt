@@ -1,7 +1,5 @@
 use Rattle.std.proofs.Common.{◌≡◌, length}
-use Rattle.queue_certificates.specs.Steps.{last_below, is_just}
-use Rattle.queue_certificates.specs.Tags.{tag_at}
-use Rattle.queue_certificates.specs.Certificates.{tagged_at}
+use Rattle.queue_certificates.specs.{last_below, is_just, tag_at, tagged_at}
 use Rattle.queue_checker.proofs.tag_stores.moved_tag.Given as goal
 
 abbrev pub invariant-loop-t : goal.invariant-loop-t

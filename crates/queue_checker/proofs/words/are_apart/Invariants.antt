@@ -1,6 +1,5 @@
 use Rattle.std.proofs.Common.{◌≡◌}
-use Rattle.queue_certificates.specs.States.{own_at}
-use Rattle.queue_certificates.specs.Steps.{all_below, is_apart}
+use Rattle.queue_certificates.specs.{own_at, all_below, is_apart}
 use Rattle.queue_checker.proofs.words.are_apart.Given as goal
 
 abbrev pub invariant-loop-j : goal.invariant-loop-j

@@ -1,7 +1,6 @@
 use Rattle.std.proofs.Common.{◌≡◌}
 use Rattle.std.specs.Prelude.{◌&&◌, ◌==◌}
-use Rattle.queue_certificates.specs.States.{own_at}
-use Rattle.queue_certificates.specs.Steps.{last_below, is_one}
+use Rattle.queue_certificates.specs.{own_at, last_below, is_one}
 use Rattle.queue_checker.proofs.words.last_own_word.Given as goal
 
 abbrev pub invariant-loop-i : goal.invariant-loop-i

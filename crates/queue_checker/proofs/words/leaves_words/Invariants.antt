@@ -1,6 +1,5 @@
 use Rattle.std.proofs.Common.{◌≡◌}
-use Rattle.queue_certificates.specs.Certificates.{own_of}
-use Rattle.queue_certificates.specs.Steps.{all_below, leaves_words}
+use Rattle.queue_certificates.specs.{own_of, all_below, leaves_words}
 use Rattle.queue_checker.proofs.words.leaves_words.Given as goal
 
 abbrev pub invariant-loop-other : goal.invariant-loop-other

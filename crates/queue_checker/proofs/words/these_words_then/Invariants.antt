@@ -1,6 +1,5 @@
 use Rattle.std.proofs.Common.{◌≡◌, ◌++◌, length}
-use Rattle.queue_certificates.specs.Certificates.{queue_at}
-use Rattle.queue_certificates.specs.Steps.{words_then}
+use Rattle.queue_certificates.specs.{queue_at, words_then}
 use Rattle.queue_checker.proofs.words.these_words_then.Given as goal
 
 abbrev pub invariant-words : goal.invariant-words

@@ -1,7 +1,6 @@
 use Rattle.std.proofs.Common.{◌≡◌, ◌&&◌}
 use Rattle.queue_checker.specs.Accesses.{any_below}
-use Rattle.queue_progress.specs.Stays.{moves}
-use Rattle.queue_progress.specs.Harts.{is_side}
+use Rattle.queue_progress.specs.{moves, is_side}
 use Rattle.queue_progress.proofs.harts.moves_some.Given as goal
 
 abbrev pub invariant-loop-i : goal.invariant-loop-i

@@ -1,6 +1,5 @@
 use Rattle.std.proofs.Common.{◌≡◌, ◌++◌, take}
-use Rattle.queue_progress.specs.Longest.{is_kind}
-use Rattle.queue_progress.specs.Ranks.{visits_along}
+use Rattle.queue_progress.specs.{is_kind, visits_along}
 use Rattle.queue_progress.proofs.order.push_along.Given as goal
 
 abbrev pub invariant-loop-stay : goal.invariant-loop-stay

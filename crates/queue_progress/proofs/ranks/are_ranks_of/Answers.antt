@@ -1,7 +1,5 @@
 use Rattle.std.proofs.Common.{ℕ, ◌<◌, ◌≤◌, ◌≡◌, Bool, false, Option, List, [], ◌∷◌, length, refl, sym, ◌∙◌, arith}
-use Rattle.queue_progress.specs.Graphs.{Stay}
-use Rattle.queue_progress.specs.Longest.{is_kind}
-use Rattle.queue_progress.specs.Ranks.{are_ranks_of}
+use Rattle.queue_progress.specs.{Stay, is_kind, are_ranks_of}
 use Rattle.queue_progress.proofs.ranks.are_ranks_of.Goals as goal
 
 too-many : (kind : Stay → Bool) (ranks rs : List (Option ℕ)) (graph : List (List Stay)) → length graph < 1 → 1 ≤ length rs

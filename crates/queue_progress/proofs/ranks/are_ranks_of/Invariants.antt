@@ -1,6 +1,5 @@
 use Rattle.std.proofs.Common.{◌≡◌, length}
-use Rattle.queue_progress.specs.Longest.{is_kind}
-use Rattle.queue_progress.specs.Ranks.{are_ranks_of}
+use Rattle.queue_progress.specs.{is_kind, are_ranks_of}
 use Rattle.queue_progress.proofs.ranks.are_ranks_of.Given as goal
 
 abbrev pub invariant-loop-graph : goal.invariant-loop-graph

@@ -1,6 +1,5 @@
 use Rattle.std.proofs.Common.{◌≡◌, length}
-use Rattle.queue_progress.specs.Longest.{is_kind}
-use Rattle.queue_progress.specs.Ranks.{farther, led_to}
+use Rattle.queue_progress.specs.{is_kind, farther, led_to}
 use Rattle.queue_progress.proofs.ranks.led_to.Given as goal
 
 abbrev pub invariant-loop-stays : goal.invariant-loop-stays

@@ -1,6 +1,5 @@
 use Rattle.std.proofs.Common.{◌≡◌, length}
-use Rattle.queue_progress.specs.Longest.{is_kind}
-use Rattle.queue_progress.specs.Ranks.{ranks_set}
+use Rattle.queue_progress.specs.{is_kind, ranks_set}
 use Rattle.queue_progress.proofs.ranks.set_ranks.Given as goal
 
 abbrev pub invariant-loop-order : goal.invariant-loop-order

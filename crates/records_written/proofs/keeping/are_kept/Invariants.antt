@@ -1,7 +1,6 @@
 use Rattle.std.proofs.Common.{ℕ, ◌≡◌, ◌<◌, true, [], get_or}
 use Rattle.std.specs.List.{list_all}
-use Rattle.records_written.specs.Sure.{keeps}
-use Rattle.records_written.specs.MarkLists.{marks_of}
+use Rattle.records_written.specs.{keeps, marks_of}
 use Rattle.records_written.proofs.keeping.are_kept.Given as goal
 
 abbrev pub invariant-loop-n : goal.invariant-loop-n

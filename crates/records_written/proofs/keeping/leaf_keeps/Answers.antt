@@ -2,8 +2,7 @@ use Rattle.std.proofs.Common.{ℕ, ◌≡◌, ◌||◌, not, Bool, true, List, O
 use Rattle.std.specs.List.{list_all}
 use Rattle.std.proofs.lemmas.Result.{IfOk-weaker}
 use Rattle.queue_certificates.specs.declared.effect.Effect.{Effect}
-use Rattle.records_written.specs.PartyLeaves.{PartyLeaf, marked_after}
-use Rattle.records_written.specs.MarkLists.{marks_byte, marks_of}
+use Rattle.records_written.specs.{PartyLeaf, marked_after, marks_byte, marks_of}
 use Rattle.records_written.proofs.keeping.leaf_keeps.Goals as goal
 
 pub returns : goal.returns

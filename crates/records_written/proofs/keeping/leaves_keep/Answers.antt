@@ -3,8 +3,7 @@ use Rattle.std.specs.List.{list_all}
 use Rattle.std.proofs.lemmas.Bool.{and_from}
 use Rattle.std.proofs.lemmas.List.{take_all}
 use Rattle.std.proofs.lemmas.List.Folds.{list_all_more}
-use Rattle.records_written.specs.PartyLeaves.{PartyLeaf, marked_after}
-use Rattle.records_written.specs.MarkLists.{marks_byte, marks_of}
+use Rattle.records_written.specs.{PartyLeaf, marked_after, marks_byte, marks_of}
 use Rattle.records_written.proofs.keeping.leaves_keep.Goals as goal
 use Rattle.records_written.proofs.keeping.leaves_keep.Goals.{then-all_keep, else-all_keep}
 

@@ -1,7 +1,6 @@
 use Rattle.std.proofs.Common.{ℕ, ◌≡◌, ◌||◌, not, true, take}
 use Rattle.std.specs.List.{list_all}
-use Rattle.records_written.specs.PartyLeaves.{marked_after}
-use Rattle.records_written.specs.MarkLists.{marks_byte, marks_of}
+use Rattle.records_written.specs.{marked_after, marks_byte, marks_of}
 use Rattle.records_written.proofs.keeping.leaves_keep.Given as goal
 
 abbrev pub invariant-loop-leaf : goal.invariant-loop-leaf

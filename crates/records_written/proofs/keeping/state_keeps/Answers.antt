@@ -1,10 +1,7 @@
 use Rattle.std.proofs.Common.{ℕ, ◌≡◌, ◌||◌, not, Bool, true, List, Option, sym, ap, ◌∙◌}
 use Rattle.std.specs.List.{list_all}
 use Rattle.std.proofs.lemmas.Result.{IfOk-weaker}
-use Rattle.records_written.specs.declared.marking.Mark.{Mark}
-use Rattle.records_written.specs.PartyLeaves.{PartyLeaf, marked_after}
-use Rattle.records_written.specs.Sure.{keeps}
-use Rattle.records_written.specs.MarkLists.{marks_byte, marks_of}
+use Rattle.records_written.specs.{Mark, PartyLeaf, marked_after, keeps, marks_byte, marks_of}
 use Rattle.records_written.proofs.keeping.state_keeps.Goals as goal
 
 pub returns : goal.returns

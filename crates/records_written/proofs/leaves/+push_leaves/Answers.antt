@@ -1,11 +1,9 @@
 use Rattle.std.proofs.Common.{ℕ, ◌≡◌, ◌++◌, Bool, true, Some, List, get_or, sym, ap, ◌∙◌, append_assoc}
-use Rattle.queue_certificates.specs.Forms.{Form}
-use Rattle.queue_certificates.specs.States.{KnownState}
+use Rattle.queue_certificates.specs.{Form, KnownState}
 use Rattle.queue_certificates.specs.Cases.{Arrow, Cases, split, with_low, with_high, may_exceed}
 use Rattle.queue_checker.specs.Trees.{tree_of}
 use Rattle.queue_layouts.specs.Sides.{the_party}
-use Rattle.records_written.specs.PartyLeaves.{PartyLeaf}
-use Rattle.records_written.specs.Marks.{leaf_by, leaves_in}
+use Rattle.records_written.specs.{PartyLeaf, leaf_by, leaves_in}
 use Rattle.records_written.proofs.leaves.+push_leaves.Goals as goal
 
 -- the leaves by two cases, of which the higher one may be

@@ -1,8 +1,7 @@
 use Rattle.std.proofs.Common.{◌+◌, List, Option, ℕ, take, get_or, subst, sym}
 use Rattle.std.proofs.lemmas.List.{take_all}
 use Rattle.std.proofs.lemmas.List.Folds.{list_any_more}
-use Rattle.records_written.specs.declared.marking.Mark.{Mark}
-use Rattle.records_written.specs.MarkLists.{is_mark, IsLowest}
+use Rattle.records_written.specs.{Mark, is_mark, IsLowest}
 use Rattle.records_written.proofs.MarkLaws.{no_mark, lowest-more}
 use Rattle.records_written.proofs.marking.lowest.Goals as goal
 

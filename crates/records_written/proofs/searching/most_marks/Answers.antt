@@ -1,6 +1,5 @@
 use Rattle.std.proofs.Common.{ℕ, ◌<◌, List, Option, sym, subst}
-use Rattle.records_written.specs.declared.marking.Mark.{Mark}
-use Rattle.records_written.specs.MarkLists.{AreMost}
+use Rattle.records_written.specs.{Mark, AreMost}
 use Rattle.records_written.proofs.Most.{most-opened}
 use Rattle.records_written.proofs.searching.most_marks.Goals as goal
 

@@ -1,9 +1,7 @@
 use Rattle.std.proofs.Common.{◌≡◌, ◌&&◌, List, Option, Some, [], get_or, sym, ap, ◌∙◌}
 use Rattle.std.proofs.lemmas.Bool.{ltb-true}
 use Rattle.std.proofs.lemmas.Result.{on_ok_weaker}
-use Rattle.records_written.specs.declared.marking.Mark.{Mark}
-use Rattle.records_written.specs.PartyLeaves.{PartyLeaf}
-use Rattle.records_written.specs.MarkLists.{marks_byte, marks_of, are_left}
+use Rattle.records_written.specs.{Mark, PartyLeaf, marks_byte, marks_of, are_left}
 use Rattle.records_written.proofs.MarkLaws.{any-default}
 use Rattle.records_written.proofs.searching.Search.follow.Goals as goal
 

@@ -1,9 +1,7 @@
 use Rattle.std.proofs.Common.{◌≡◌, true, List, Option, sym, ap, ◌∙◌}
 use Rattle.std.proofs.lemmas.Result.{on_ok_weaker}
 use Rattle.queue_certificates.specs.declared.effect.Effect.{Effect}
-use Rattle.records_written.specs.declared.marking.Mark.{Mark}
-use Rattle.records_written.specs.PartyLeaves.{PartyLeaf, marked_after}
-use Rattle.records_written.specs.MarkLists.{has_mark, marks_byte, marks_of}
+use Rattle.records_written.specs.{Mark, PartyLeaf, marked_after, has_mark, marks_byte, marks_of}
 use Rattle.records_written.proofs.MarkLaws.{left-none, same-left}
 use Rattle.records_written.proofs.searching.Search.follow_leaf.Goals as goal
 

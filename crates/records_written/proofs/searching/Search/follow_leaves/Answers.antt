@@ -1,7 +1,6 @@
 use Rattle.std.proofs.Common.{arith}
 use Rattle.std.proofs.lemmas.List.Folds.{list_all_more}
-use Rattle.records_written.specs.PartyLeaves.{marked_after}
-use Rattle.records_written.specs.MarkLists.{is_left, marks_byte}
+use Rattle.records_written.specs.{marked_after, is_left, marks_byte}
 use Rattle.records_written.proofs.searching.Search.follow_leaves.Goals as goal
 
 pub loop-leaf-preserved : goal.loop-leaf-preserved

@@ -1,6 +1,5 @@
 use Rattle.std.proofs.Common.{List, Option, sym, subst}
-use Rattle.records_written.specs.declared.marking.Mark.{Mark}
-use Rattle.records_written.specs.MarkLists.{AreMost}
+use Rattle.records_written.specs.{Mark, AreMost}
 use Rattle.records_written.proofs.Most.{most-followed}
 use Rattle.records_written.proofs.searching.Search.settle.Goals as goal
 
