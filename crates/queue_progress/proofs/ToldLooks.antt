@@ -1,72 +1,34 @@
 -- At such a load the party loads its own position's tag; where that tells it so, the hart is in the first of both states that may follow. A state
 -- that says besides that the party owns its position is as right after the load, and one state follows it.
-use Rattle.std.proofs.Common.{ℕ, zero, suc, ◌+◌, ◌-◌, ◌<◌, ◌≤◌, ◌≡◌, ◌≢◌, ◌==◌, ◌&&◌, ◌||◌, ◌⊎◌, inl, inr, if◌then◌else◌, Bool, true, false, Option, Some, None}
-use Rattle.std.proofs.Common.{List, [], ◌∷◌, length, get_or, refl, sym, ◌∙◌, ap, subst, arith}
+use Rattle.std.proofs.Common.{ℕ, zero, suc, ◌+◌, ◌-◌, ◌<◌, ◌≤◌, ◌≡◌, ◌≢◌, ◌==◌, ◌&&◌, ◌||◌, ◌⊎◌, inl, inr, if◌then◌else◌, Bool, true}
+use Rattle.std.proofs.Common.{Option, Some, None, List, [], ◌∷◌, length, get_or, refl, sym, ◌∙◌, ap, subst, arith}
 use Rattle.std.specs.Prelude.{nat_lt, is_some, map, set}
-use Rattle.std.proofs.lemmas.Bool.{and_parts, eqb-true, eq-eqb, ne_eqb, cases_eq, cases_lt}
+use Rattle.std.proofs.lemmas.Bool.{eq-eqb, ne_eqb, cases_eq, cases_lt}
 use Rattle.std.proofs.lemmas.List.{length-set, length-map, get_or-set_same, get_or-set_other}
-use Rattle.rv_decode.specs.declared.instruction.Instr.{Instr}
-use Rattle.rv_decode.specs.declared.instruction.Instr.TheVariants.{Load}
+use Rattle.rv_decode.specs.{Instr, Load}
 use Rattle.hart.specs.{HartState, advanced, register_value, address, next_pc, load_width}
 use Rattle.hart.specs.declared.status.Status.TheVariants as status
-use Rattle.step_machine.specs.declared.events.Entry.{Entry}
-use Rattle.step_machine.specs.Names.{HartOpeningValue, OpeningValue, load, access_of, number_read}
-use Rattle.slot_queue.specs.{slot_of, party_of, after_access}
-use Rattle.queue_parties.specs.Parties.{Party, QueueCounts, count, known}
+use Rattle.step_machine.specs.Names.{Entry, HartOpeningValue, OpeningValue, load, access_of, number_read}
+use Rattle.slot_queue.specs.{party_of, after_access}
+use Rattle.queue_parties.specs.{Party, QueueCounts, count, known}
 use Rattle.queue_parties.proofs.Parties.{count-set-known, known-set}
-use Rattle.slots_that_tell.specs.Slots.{Slots, IsSlots, tag_of}
-use Rattle.slots_that_tell.specs.Telling.{teller_hart, owned_end, told, after_load, told_access}
+use Rattle.slots_that_tell.specs.{IsSlots, tag_of, teller_hart, owned_end, told, after_load, told_access}
+use Rattle.slots_that_tell.specs.Slots.{Slots}
 use Rattle.slots_that_tell.specs.Telling as telling
 use Rattle.slots_that_tell.proofs.Owned.{mine-of}
 use Rattle.queue_certificates.specs.{SeesTags, View, AllCounts, number_seen, ReadsFrom, view_then, ActsByCounts, kept_beside, Form, form_value, number, lifted}
-use Rattle.queue_certificates.specs.{InRanges, KnownValue, any, linear, index_for, signed_for, ends_as, has_bits, Share, no_share, share_by, KnownState, Has}
-use Rattle.queue_certificates.specs.{HasShare, MeansAt, Result, last_below, is_just, is_look, misses, all_below, may_load, with_result, share_at}
-use Rattle.queue_certificates.specs.{instruction_at, position_at, offset_at, address_value, addresses, follow, field_below, after_field, next_received, bare}
-use Rattle.queue_certificates.specs.{party_in, tag_position, tag_by, tag_at, looked_tag, told_value, with_share, HasAtLeast, after_tag, at_tag}
-use Rattle.queue_certificates.specs.Tags.{is_in_slot}
+use Rattle.queue_certificates.specs.{KnownValue, Share, no_share, share_by, KnownState, HasShare, MeansAt, Result, last_below, is_just, is_look, misses}
+use Rattle.queue_certificates.specs.{all_below, may_load, with_result, share_at, instruction_at, address_value, addresses, follow, field_below, after_field}
+use Rattle.queue_certificates.specs.{next_received, party_in, tag_position, tag_by, tag_at, looked_tag, told_value, with_share, HasAtLeast, after_tag, at_tag}
 use Rattle.queue_certificates.specs.{load_tells, next_told, QueueCertificate, queue_at, fields_at, tagged_at, own_of, next_states, HasFields, MeetsFields}
 use Rattle.queue_certificates.specs.{SharesTold, told_beside, accepts}
 use Rattle.queue_certificates.specs.Steps as transfer
 use Rattle.queue_layouts.specs.Tagged.{slots_of}
-use Rattle.queue_layouts.specs.declared.tagged.TaggedQueue.{TaggedQueue}
-use Rattle.queue_certificates.proofs.{value-lifted, value-number, nobody_told, nothing_sent, untold, slot-place, tag_loaded, told_owns, knows_of, tagged-fine}
-use Rattle.queue_certificates.proofs.{teller-is, same-by, Stays, told_by, set-means, set-told, load-stays, Makes, next-access, OfHart, fine, fine-tagged}
-use Rattle.queue_certificates.proofs.{IsAmongAll, leaf-goes}
+use Rattle.queue_certificates.proofs.{value-lifted, value-number, untold, tag_loaded, told_owns, knows_of, tagged-fine, teller-is, same-by, Stays, told_by}
+use Rattle.queue_certificates.proofs.{set-means, set-told, load-stays, Makes, next-access, OfHart, fine, fine-tagged, IsAmongAll, leaf-goes}
 use Rattle.queue_certificates.proofs.Steps as steps
+use Rattle.queue_certificates.proofs.TagPlaces.{IsTagAt, tag-place}
 use Rattle.queue_progress.proofs.ToldLoads.{last-same, by-own, IsTagLoad}
-
--- ---- the place of the own position's tag
-
-record IsOwnTag (q : TaggedQueue) (n a width : ℕ) : Type 0 where
-  place : a ≡ tag_of (slots_of q) n
-  whole : width ≡ q.tag_width
-
-module _ (c : QueueCertificate) (q : TaggedQueue) (rs : List (Option ℕ)) (xs : List ℕ) (ranges : InRanges rs xs) (s : Share) (n : ℕ)
-    (own : n ≡ form_value s.own xs) where
-  own-tag : (place : KnownValue) (a width : ℕ) → Has (queue_at c) xs place a → tag_position rs q s place width ≡ Some 0 → IsOwnTag q n a width
-  own-tag any a width at is = absurd (cc)
-  own-tag (index_for i f) a width at is = absurd (cc)
-  own-tag (signed_for i f) a width at is = absurd (cc)
-  own-tag (ends_as m f) a width at is = absurd (cc)
-  own-tag (has_bits m b) a width at is = absurd (cc)
-  own-tag (linear f) a width at is = by ((width == q.tag_width) && (offset_at (bare q) f.constant == q.tag_offset) && is_in_slot rs q s f) refl is
-    where
-      by : (t : Bool) → ((width == q.tag_width) && (offset_at (bare q) f.constant == q.tag_offset) && is_in_slot rs q s f) ≡ t
-          → (if t then Some (position_at (bare q) s.own.constant f.constant) else None) ≡ Some 0 → IsOwnTag q n a width
-      by false other-place is = absurd (cc)
-      by true ok is =
-          let p2 = and_parts ((width == q.tag_width) && (offset_at (bare q) f.constant == q.tag_offset)) (is_in_slot rs q s f) ok in
-          let p1 = and_parts (width == q.tag_width) (offset_at (bare q) f.constant == q.tag_offset) p2.0 in
-          let first : position_at (bare q) s.own.constant f.constant ≡ 0 = cc in
-          let there = slot-place (bare q) rs xs ranges s.own f n (position_at (bare q) s.own.constant f.constant)
-          (offset_at (bare q) f.constant) a own at p2.1 in
-          let offset : offset_at (bare q) f.constant ≡ q.tag_offset = eqb-true (offset_at (bare q) f.constant) q.tag_offset p1.1 in
-          record {
-            place = there ∙ ap (λ j. slot_of (bare q) (n + j) + offset_at (bare q) f.constant) first
-                ∙ ap (λ m. slot_of (bare q) m + offset_at (bare q) f.constant) (let z : n + 0 ≡ n = omega arith in z)
-                ∙ ap (λ j. slot_of (bare q) n + j) offset;
-            whole = eqb-true width q.tag_width p1.0;
-          }
 
 -- ---- counts at which the party knows that it owns its position
 
@@ -224,16 +186,19 @@ module _ (M : ℕ) (o : OpeningValue) (c : QueueCertificate) (ok : accepts o c �
         | inr made ↦ made
       ]
 
-  tag : IsOwnTag (tagged_at c t) (count l.party (us t)) (address (register_value s.registers l.rs1) l.offset) (load_width l.op)
-  tag = own-tag c (tagged_at c t) k.ranges xs means.ranges (get_or k.shares (length c.queues + t) no_share) (count l.party (us t)) has.own
-      (address_value (queue_at c) k l.rs1 l.offset) (address (register_value s.registers l.rs1) l.offset) (load_width l.op)
+  tag : IsTagAt (tagged_at c t) is (queue_at c) k.ranges xs means.ranges (get_or k.shares (length c.queues + t) no_share) (count l.party (us t)) has.own
+      (address (register_value s.registers l.rs1) l.offset) (load_width l.op) 0
+  tag = tag-place (tagged_at c t) is (queue_at c) k.ranges xs means.ranges (get_or k.shares (length c.queues + t) no_share) (count l.party (us t)) has.own
+      (address_value (queue_at c) k l.rs1 l.offset) (address (register_value s.registers l.rs1) l.offset) (load_width l.op) 0
       (steps.address-has M o (queue_at c) (length c.queues) (own_of c) (length c.harts) h xs k s m cs e
       (untold M o (length c.queues) (queue_at c) (HasFields c) (MeetsFields c) h s m cs e acts) (subst (λ n. 32 ≤ n) (sym size) of.registers)
       (fine M o c ok) means l.rs1 l.offset) l.tag
 
   -- it loads the tag of the party's own position
   pub at-own-tag : access_of e ≡ load (tag_of (slots_of (tagged_at c t)) (count l.party (us t))) (tagged_at c t).tag_width (number_read e)
-  at-own-tag = loads ∙ ap (λ b. load b (load_width l.op) v) tag.place ∙ ap (λ w. load (tag_of q (count l.party d)) w v) tag.whole
+  at-own-tag = loads
+      ∙ ap (λ b. load b (load_width l.op) v) (tag.place ∙ ap (tag_of q) (let z : count l.party d + 0 ≡ count l.party d = omega arith in z))
+      ∙ ap (λ w. load (tag_of q (count l.party d)) w v) tag.whole
 
   module _ (tells : (slots_of (tagged_at c t)).tells l.party (count l.party (us t)) (number_read e) ≡ true) where
     abbrev knowing : QueueCounts
