@@ -10,3 +10,4 @@ pub mod Sending
 pub mod Told
 pub mod Losing
 pub mod Delivered
+pub mod ByHand
