@@ -8,7 +8,8 @@ SLOTS = 128
 
 
 class Slots(NamedTuple):
-    """The slots, where their tags lie, and how these tell: by zero for free, or by positions' numbers if there is a modulus."""
+    """The slots, where their tags lie, and how these tell: by zero for free, or by positions' numbers if there is a modulus. Tags lie in the slots, or
+    in elements beside them: where these begin, and the bytes of one."""
 
     size: int
     width: int
@@ -16,6 +17,7 @@ class Slots(NamedTuple):
     tag_width: int
     modulus: int = 0
     slots: int = SLOTS
+    apart: tuple = None
 
     # as many positions may be in use as there are slots
     @property
@@ -37,11 +39,23 @@ class Slots(NamedTuple):
     def slot_of(self, k):
         return self.slots + self.width * (k % self.size)
 
+    def elements(self):
+        return self.apart or (self.slots, self.width)
+
+    def element_at(self, addr):
+        tags, stride = self.elements()
+        return (addr - tags) // stride
+
+    def element_bytes(self):
+        tags, stride = self.elements()
+        return range(tags, tags + self.size * stride)
+
     def tag_of(self, k):
-        return self.slot_of(k) + self.tag_offset
+        tags, stride = self.elements()
+        return tags + stride * (k % self.size) + self.tag_offset
 
     def is_tag(self, addr, width):
-        return width == self.tag_width and addr == self.tag_of((addr - self.slots) // self.width)
+        return width == self.tag_width and addr == self.tag_of(self.element_at(addr))
 
 
 QUEUES = (
@@ -54,6 +68,9 @@ QUEUES = (
     Slots(2, 4, 0, 4, 2**32),
     Slots(3, 5, 4, 1, 256),
     Slots(2, 8, 4, 4, 2),
+    Slots(4, 4, 0, 1, apart=(96, 1)),
+    Slots(3, 5, 2, 2, apart=(224, 5)),
+    Slots(2, 8, 4, 4, 2**32, apart=(224, 8)),
 )
 # a round of few slots shows sooner that one is owned too early
 OF_FEW = tuple(queue for queue in QUEUES if queue.size < 3)
@@ -76,7 +93,7 @@ class Telling(Run):
 
     def opened(self, first):
         queue, machine, draw = self.queue, self.machine, self.draw
-        for x in range(queue.slots, queue.slots + queue.size * queue.width):
+        for x in (*range(queue.slots, queue.slots + queue.size * queue.width), *queue.element_bytes()):
             machine.put(x, 1, draw.below(256))
         taken = first + draw.between(0, queue.size)
         published = draw.between(taken, first + queue.size)
@@ -85,6 +102,13 @@ class Telling(Run):
         return Counts((published, taken), (first, draw.between(taken, published)))
 
     # ---- the protocol
+
+    def is_outside(self, x):
+        return super().is_outside(x) and x not in self.queue.element_bytes()
+
+    def tag_position(self, x, n):
+        """The first position from n on in whose element the byte lies."""
+        return n + (self.queue.element_at(x) - n) % self.queue.size
 
     def is_whole(self, p, access):
         return self.queue.is_tag(access.addr, access.width)
@@ -99,7 +123,7 @@ class Telling(Run):
     def learned(self, p, counts, access):
         if not self.is_whole(p, access):
             return counts
-        j = self.first_position(access.addr, counts.count[p])
+        j = self.tag_position(access.addr, counts.count[p])
         return counts.with_known(p, max(counts.known[p], self.told(p, j))) if self.queue.tells(p, j, access.loaded) else counts
 
     def is_tag_byte(self, k, x):
@@ -151,7 +175,8 @@ class Telling(Run):
         return self.queue.word(self.draw, 1 - p, k + self.gap(p))
 
     def drawn_byte(self):
-        return self.queue.slots + self.draw.below(self.queue.size * self.queue.width)
+        places = (*range(self.queue.slots, self.queue.slots + self.queue.size * self.queue.width), *(self.queue.element_bytes() if self.queue.apart else ()))
+        return self.draw.one_of(places)
 
     # ---- laws
 
@@ -162,7 +187,7 @@ class Telling(Run):
         """A tag that doesn't tell a party of its position: the other's pending stores make its count of one that hasn't handed it over."""
         if access.kind != "load" or hart == THIRD or not self.is_whole(hart, access):
             return
-        j = self.first_position(access.addr, self.counts.count[hart])
+        j = self.tag_position(access.addr, self.counts.count[hart])
         waiting = sum(self.is_whole(1 - hart, store) for store in self.machine.pending[1 - hart])
         i = self.counts.count[1 - hart] - waiting
         if not self.queue.tells(hart, j, access.loaded) and not 0 <= i <= j - self.gap(1 - hart):
@@ -265,7 +290,8 @@ class PartOfATag(Telling):
     queues = tuple(queue for queue in QUEUES if queue.tag_width > 1)
 
     def owns_rest(self, p, counts, x):
-        return self.is_slot_byte(x) and self.first_position(x, counts.count[p]) < self.end(p, counts)
+        return self.is_slot_byte(x) and self.first_position(x, counts.count[p]) < self.end(p, counts) \
+            or x in self.queue.element_bytes() and self.tag_position(x, counts.count[p]) < self.end(p, counts)
 
     def fills_owned(self, p, counts, access):
         return super().fills_owned(p, counts, access) and not self.is_whole(p, access)
@@ -303,7 +329,7 @@ class PendingAtTheStart(Telling):
     seldom_breaks = ("window", "publication", "publication_of_tag")
 
     def pending_places(self):
-        return range(self.queue.slots, self.queue.slots + self.queue.size * self.queue.width)
+        return (*range(self.queue.slots, self.queue.slots + self.queue.size * self.queue.width), *self.queue.element_bytes())
 
 
 class LearnedAfterTheAmo(Telling):

@@ -105,7 +105,7 @@ def place_of(test, word):
 def described(test, kind, text):
     given = dict(part.split("=") for part in text.split(","))
     if kind == "tagged":
-        return described_tags.described({"slots": place_of(test, given.pop("slots"))}, given, test)
+        return described_tags.described({name: place_of(test, given.pop(name)) for name in ("slots", "tags") if name in given}, given, test)
     if "base" in given:
         given["base"] = str(place_of(test, given["base"]))
     return descriptions.described({name: place_of(test, given.pop(name)) for name in ("head", "tail", "slots")}, given)

@@ -49,8 +49,9 @@ class Telling(Protocol, telling.Telling):  # pylint: disable=super-init-not-call
     """The protocol of slots that tell."""
 
     def __init__(self, queue, start):
-        self.queue = telling.Slots(queue.size, queue.width, queue.tag_offset, queue.tag_width, 2**32 if queue.codec == tags.NUMBER else 0, queue.slots)
-        self.begin(queue, start)
+        self.queue = telling.Slots(queue.size, queue.width, queue.tag_offset, queue.tag_width, 2**32 if queue.codec == tags.NUMBER else 0, queue.slots,
+                                   None if tags.are_slots(queue) else (queue.tags, queue.tag_stride))
+        self.begin(queue, start, (queue.tags, queue.size * queue.tag_stride))
 
     def may_be_read(self, p, x):
         return self.is_tag_byte(self.first_position(x, 0), x) or self.owns_rest(p, self.counts, x)
