@@ -1,6 +1,7 @@
 -- Losses by hand, of runs of two harts: what is decided of a run could be the wrong question, and no proof of a law would notice.
 use Rattle.std.proofs.Common.{ℕ, ◌≡◌, Option, None, Some, List, [], ◌∷◌, ◌++◌, refl}
-use Rattle.step_machine.specs.Names.{Entry, OpeningValue}
+use Rattle.step_machine.specs.declared.events.Entry.{Entry}
+use Rattle.step_machine.specs.Names.{OpeningValue}
 use Rattle.step_machine.specs.declared.events.Entry.TheVariants.{Load, Store, Land}
 use Rattle.queue_parties.specs.{all_at}
 use Rattle.queue_layouts.specs.declared.AnyQueue.{AnyQueue}

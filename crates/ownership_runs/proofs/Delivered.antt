@@ -5,13 +5,13 @@ use Rattle.std.specs.Int.{byte_at}
 use Rattle.std.proofs.lemmas.Bool.{cases_lt, eq-eqb}
 use Rattle.memory.specs.declared.writes.Write.{Write}
 use Rattle.memory.specs.Writes.{write, newest_of}
-use Rattle.memory.proofs.Newest.{newest_of-append}
+use Rattle.memory.proofs.WholeWords.{newest_of-append}
 use Rattle.memory.proofs.Joined.{byte_of_joined-any}
 use Rattle.step_machine.specs.declared.events.Entry.{Entry}
 use Rattle.step_machine.specs.Names.{OpeningValue, history_of, Access, load, store, exchange, access_of, hart_of, stored_by, landed_by, written_by, own_stores}
 use Rattle.step_machine.specs.Names.{lands, pending, read, read_byte, memory_byte, AllowedBy, Allowed, Legal}
 use Rattle.step_machine.proofs.{LegalAfter-front, LegalAfter-back, memory_byte-other, memory_byte-write}
-use Rattle.step_machine.proofs.Balanced.{balanced}
+use Rattle.step_machine.proofs.{balanced}
 use Rattle.store_buffers.specs.StoreBuffers.{LeavesByte, LeavesByteBy, LeavesByteAt}
 use Rattle.store_buffers.proofs.Effects.{read-below, same-memory, pending-quiet, pending-more}
 use Rattle.queue_parties.specs.Parties.{the_sender, the_receiver, QueueCounts}

@@ -5,10 +5,12 @@ use Rattle.std.proofs.Common.{Option, Some, None, List, [], ◌∷◌, length, g
 use Rattle.std.specs.Prelude.{nat_lt, is_some, map, set}
 use Rattle.std.proofs.lemmas.Bool.{eq-eqb, ne_eqb, cases_eq, cases_lt}
 use Rattle.std.proofs.lemmas.List.{length-set, length-map, get_or-set_same, get_or-set_other}
-use Rattle.rv_decode.specs.{Instr, Load}
+use Rattle.rv_decode.specs.declared.instruction.Instr.{Instr}
+use Rattle.rv_decode.specs.declared.instruction.Instr.TheVariants.{Load}
 use Rattle.hart.specs.{HartState, advanced, register_value, address, next_pc, load_width}
 use Rattle.hart.specs.declared.status.Status.TheVariants as status
-use Rattle.step_machine.specs.Names.{Entry, HartOpeningValue, OpeningValue, load, access_of, number_read}
+use Rattle.step_machine.specs.declared.events.Entry.{Entry}
+use Rattle.step_machine.specs.Names.{HartOpeningValue, OpeningValue, load, access_of, number_read}
 use Rattle.slot_queue.specs.{party_of, after_access}
 use Rattle.queue_parties.specs.{Party, QueueCounts, count, known}
 use Rattle.queue_parties.proofs.Parties.{count-set-known, known-set}
