@@ -1,5 +1,5 @@
 /* A byte for each slot, in an array beside the slots, says that a record is stored there, as in atomic_queue's AtomicQueue2.
-   tagged: slots=q.element,size=8,tag=q.state[0],tells=bit:255:0:1
+   tagged: slots=q.element,size=8,tag=q.state[0]+1,tells=bit:255:0:1
    answer: kept in every run, and goes on while its harts run */
 #include <stdatomic.h>
 
