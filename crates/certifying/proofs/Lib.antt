@@ -1,5 +1,4 @@
 mod AnswerLaws
-mod Certificates
 mod DrawnLaws
 mod GoingLaws
 mod HartLaws
