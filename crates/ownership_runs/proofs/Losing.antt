@@ -9,7 +9,8 @@ use Rattle.step_machine.specs.declared.events.Entry.{Entry}
 use Rattle.step_machine.specs.Names.{OpeningValue, Access, load, exchange, access_of, hart_of}
 use Rattle.queue_parties.specs.Parties.{Party, the_receiver, QueueCounts}
 use Rattle.queue_layouts.specs.declared.AnyQueue.{AnyQueue}
-use Rattle.ownership_runs.specs.{Loss, HasSlot, party_for, entry_counts, run_counts, Sent, nothing_sent, sent_after, sent_from, or_else, if_differs, if_told}
+use Rattle.ownership_runs.specs.{Loss, HasSlot, party_for, entry_counts, run_counts, SentBytes, nothing_sent}
+use Rattle.ownership_runs.specs.{sent_after, sent_from, or_else, if_differs, if_told}
 use Rattle.ownership_runs.specs.{byte_lost, first_byte, loss_by, loss_at, loss_from, position_told, first_loss, Loads, IsLossAt, IsLoss, IsFirstLoss}
 use Rattle.ownership_runs.proofs.Sending.{was-sent, still-sent}
 use Rattle.ownership_runs.proofs.Told.{last-told, told-last}
@@ -47,7 +48,7 @@ no-byte lost (suc n) i none less = by (λ before earlier. no-byte lost n i befor
 
 -- ---- a byte that is lost
 
-module _ (q : AnyQueue) (place h : ℕ) (c : QueueCounts) (s : Sent) (a w v i : ℕ) where
+module _ (q : AnyQueue) (place h : ℕ) (c : QueueCounts) (s : SentBytes) (a w v i : ℕ) where
   pub record IsLostByte (l : Loss) : Type 0 where
     pub position : ℕ
     pub sent : ℕ
@@ -107,20 +108,20 @@ or-none None b none = (refl, none)
 or-none (Some l) b none = cc
 
 module _ (q : AnyQueue) (o : OpeningValue) where
-  pub loss-append : (front : List Entry) (c : QueueCounts) (s : Sent) (xs ys : List Entry)
+  pub loss-append : (front : List Entry) (c : QueueCounts) (s : SentBytes) (xs ys : List Entry)
       → loss_from q o front c s (xs ++ ys)
       ≡ or_else (loss_from q o front c s xs) (loss_from q o (front ++ xs) (run_counts q c xs) (sent_from q o front c s xs) ys)
   loss-append front c s [] ys = ap (λ fs. loss_from q o fs c s ys) (sym (append-nil front))
   loss-append front c s (e ∷ xs) ys =
       let d : QueueCounts = entry_counts q c e in
-      let t : Sent = sent_after q o front c s e in
+      let t : SentBytes = sent_after q o front c s e in
       ap (or_else (loss_at q (length front) c s e)) (loss-append (front ++ e ∷ []) d t xs ys
       ∙ ap (λ fs. or_else (loss_from q o (front ++ e ∷ []) d t xs) (loss_from q o fs (run_counts q d xs) (sent_from q o (front ++ e ∷ []) d t xs) ys))
       (append_assoc front (e ∷ []) xs))
       ∙ or-assoc (loss_at q (length front) c s e) _ _
 
   -- the entry that is the first loss
-  record IsFirstAt (front : List Entry) (c : QueueCounts) (s : Sent) (es : List Entry) (l : Loss) : Type 0 where
+  record IsFirstAt (front : List Entry) (c : QueueCounts) (s : SentBytes) (es : List Entry) (l : Loss) : Type 0 where
     before : List Entry
     entry : Entry
     back : List Entry
@@ -128,7 +129,7 @@ module _ (q : AnyQueue) (o : OpeningValue) where
     none : loss_from q o front c s before ≡ None
     found : loss_at q (length (front ++ before)) (run_counts q c before) (sent_from q o front c s before) entry ≡ Some l
 
-  find : (front : List Entry) (c : QueueCounts) (s : Sent) (es : List Entry) (l : Loss) → loss_from q o front c s es ≡ Some l → IsFirstAt front c s es l
+  find : (front : List Entry) (c : QueueCounts) (s : SentBytes) (es : List Entry) (l : Loss) → loss_from q o front c s es ≡ Some l → IsFirstAt front c s es l
   find front c s [] l some = cc
   find front c s (e ∷ es) l some =
       by (λ more. find (front ++ e ∷ []) (entry_counts q c e) (sent_after q o front c s e) es l more) (loss_at q (length front) c s e) refl some
@@ -165,7 +166,7 @@ module _ (q : AnyQueue) (some : HasSlot q) (o : OpeningValue) (start : QueueCoun
     abbrev c : QueueCounts
     c = run_counts q start front
 
-    abbrev s : Sent
+    abbrev s : SentBytes
     s = sent_from q o [] start nothing_sent front
 
     of-bytes : (a w v : ℕ) (l : Loss) → party_for q (hart_of entry) ≡ Some the_receiver → Loads (access_of entry) a w v
@@ -206,7 +207,7 @@ module _ (q : AnyQueue) (some : HasSlot q) (o : OpeningValue) (start : QueueCoun
       let x : l.addr + i ≡ l.byte = (let low = loss.byte.0 in omega (arith, low)) in
       let less : i < l.width = (let low = loss.byte.0 in let high = loss.byte.1 in omega (arith, low, high)) in
       let d : QueueCounts = run_counts q start among.front in
-      let sent : Sent = sent_from q o [] start nothing_sent among.front in
+      let sent : SentBytes = sent_from q o [] start nothing_sent among.front in
       let was : sent l.position l.byte ≡ Some l.sent = still-sent q o l.hart loss.receives start among.front l.position l.byte l.sent loss.sent in
       let told : position_told q d l.byte ≡ Some l.position =
       told-last q some d l.byte l.position (record { of_record = loss.of_record; told = loss.told; last = loss.last }) in
@@ -220,7 +221,7 @@ module _ (q : AnyQueue) (some : HasSlot q) (o : OpeningValue) (start : QueueCoun
       (by (length among.front) (hart_of among.entry) d sent (access_of among.entry) l.addr l.width l.value loss.loads
       (ap (λ t. loss_by q t (length among.front) (hart_of among.entry) d sent (access_of among.entry)) (sym receives) ∙ here)) less)
     where
-      by : (place h : ℕ) (d : QueueCounts) (sent : Sent) (y : Access) (a w v : ℕ) → Loads y a w v → loss_by q (Some the_receiver) place h d sent y ≡ None
+      by : (place h : ℕ) (d : QueueCounts) (sent : SentBytes) (y : Access) (a w v : ℕ) → Loads y a w v → loss_by q (Some the_receiver) place h d sent y ≡ None
           → first_byte (byte_lost q place h d sent a w v) w ≡ None
       by place h d sent y a w v (inl does) at = subst (λ y. loss_by q (Some the_receiver) place h d sent y ≡ None) does at
       by place h d sent y a w v (inr does) at = subst (λ n. first_byte (byte_lost q place h d sent a n v) n ≡ None) (sym does.0)

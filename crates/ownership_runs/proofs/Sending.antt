@@ -15,7 +15,7 @@ use Rattle.slots_that_tell.proofs.Owned.{grows-entry as told-grows}
 use Rattle.queue_layouts.specs.declared.AnyQueue.{AnyQueue}
 use Rattle.queue_layouts.specs.declared.AnyQueue.TheVariants.{Indexed, Tagged}
 use Rattle.queue_layouts.specs.Tagged.{slots_of}
-use Rattle.ownership_runs.specs.{party_for, entry_counts, run_counts, Sent, nothing_sent, stores_over, sent_by, sent_after, sent_from, WasSent}
+use Rattle.ownership_runs.specs.{party_for, entry_counts, run_counts, SentBytes, nothing_sent, stores_over, sent_by, sent_after, sent_from, WasSent}
 
 pub grows : (q : AnyQueue) (c : QueueCounts) (e : Entry) → Grows c (entry_counts q c e)
 grows (Indexed q) c e = grows-entry q c e
@@ -53,7 +53,7 @@ not-over x y leaves = refl
 -- ---- runs in parts
 
 module _ (q : AnyQueue) (o : OpeningValue) where
-  pub sent-append : (front : List Entry) (c : QueueCounts) (s : Sent) (xs ys : List Entry)
+  pub sent-append : (front : List Entry) (c : QueueCounts) (s : SentBytes) (xs ys : List Entry)
       → sent_from q o front c s (xs ++ ys) ≡ sent_from q o (front ++ xs) (run_counts q c xs) (sent_from q o front c s xs) ys
   sent-append front c s [] ys = ap (λ fs. sent_from q o fs c s ys) (sym (append-nil front))
   sent-append front c s (e ∷ xs) ys = sent-append (front ++ e ∷ []) (entry_counts q c e) (sent_after q o front c s e) xs ys
@@ -74,7 +74,7 @@ module _ (q : AnyQueue) (o : OpeningValue) where
       reads : read_byte o (front ++ (before ++ entry ∷ [])) (hart_of entry) x ≡ b
       leaves : LeavesByteAt h x since
 
-    sent-is : (front : List Entry) (c : QueueCounts) (s : Sent) (es : List Entry) (k x b : ℕ) → sent_from q o front c s es k x ≡ Some b
+    sent-is : (front : List Entry) (c : QueueCounts) (s : SentBytes) (es : List Entry) (k x b : ℕ) → sent_from q o front c s es k x ≡ Some b
         → SentIn front c es k x b ⊎ ((s k x ≡ Some b) × LeavesByteAt h x es)
     sent-is front c s [] k x b is = inr (is, tt)
     sent-is front c s (e ∷ es) k x b is = elim (sent-is (front ++ e ∷ []) (entry_counts q c e) (sent_after q o front c s e) es k x b is) [
@@ -124,7 +124,7 @@ module _ (q : AnyQueue) (o : OpeningValue) where
         by leaves None neither now = inr (now, ((λ own. (let same = ap (party_for q) own in cc)), leaves))
 
     -- it stays while the receiver leaves the byte
-    stays-one : (front : List Entry) (c : QueueCounts) (s : Sent) (e : Entry) (k x b : ℕ) → s k x ≡ Some b → (hart_of e ≡ h → LeavesByteBy x (access_of e))
+    stays-one : (front : List Entry) (c : QueueCounts) (s : SentBytes) (e : Entry) (k x b : ℕ) → s k x ≡ Some b → (hart_of e ≡ h → LeavesByteBy x (access_of e))
         → k < c.published → sent_after q o front c s e k x ≡ Some b
     stays-one front c s e k x b is leaves less = by (party_for q (hart_of e)) refl
       where
@@ -137,7 +137,7 @@ module _ (q : AnyQueue) (o : OpeningValue) where
             (not-over x (access_of e) (leaves (one-receives q (hart_of e) h stores receives))) ∙ is
         by None neither = is
 
-    stays : (front : List Entry) (c : QueueCounts) (s : Sent) (es : List Entry) (k x b : ℕ) → s k x ≡ Some b → LeavesByteAt h x es → k < c.published
+    stays : (front : List Entry) (c : QueueCounts) (s : SentBytes) (es : List Entry) (k x b : ℕ) → s k x ≡ Some b → LeavesByteAt h x es → k < c.published
         → sent_from q o front c s es k x ≡ Some b
     stays front c s [] k x b is leaves less = is
     stays front c s (e ∷ es) k x b is leaves less =
@@ -164,7 +164,7 @@ module _ (q : AnyQueue) (o : OpeningValue) where
     pub still-sent : (start : QueueCounts) (es : List Entry) (k x b : ℕ) → WasSent q o start h es k x b → sent_from q o [] start nothing_sent es k x ≡ Some b
     still-sent start es k x b sent =
         let c : QueueCounts = run_counts q start sent.before in
-        let s : Sent = sent_from q o [] start nothing_sent sent.before in
+        let s : SentBytes = sent_from q o [] start nothing_sent sent.before in
         let end : run_counts q start (sent.before ++ sent.entry ∷ []) ≡ entry_counts q c sent.entry =
         counts-append (entry_counts q) start sent.before (sent.entry ∷ []) in
         let to : k < (entry_counts q c sent.entry).published = subst (λ (d : QueueCounts). k < d.published) end sent.to in
@@ -178,5 +178,5 @@ module _ (q : AnyQueue) (o : OpeningValue) where
         ∙ ap (λ r. if r then Some (read_byte o (sent.before ++ sent.entry ∷ []) (hart_of sent.entry) x) else s k x) within
         ∙ ap (λ (n : ℕ). Some n) sent.reads in
         ap (λ xs. sent_from q o [] start nothing_sent xs k x) sent.is
-        ∙ ap (λ (f : Sent). f k x) (sent-append [] start nothing_sent sent.before (sent.entry ∷ sent.since))
+        ∙ ap (λ (f : SentBytes). f k x) (sent-append [] start nothing_sent sent.before (sent.entry ∷ sent.since))
         ∙ stays (sent.before ++ sent.entry ∷ []) (entry_counts q c sent.entry) (sent_after q o sent.before c s sent.entry) sent.since k x b here sent.leaves to

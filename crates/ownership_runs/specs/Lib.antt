@@ -11,7 +11,7 @@ pub use Rattle.ownership_runs.specs.Keeping.{keeps_entry, keeps_store, may_fill,
 unfoldable pub use Rattle.ownership_runs.specs.Keeping.{fills}
 pub use Rattle.ownership_runs.specs.Violations.{IsFirstViolation, IsForeign, counts_before, first_ownership_violation, judged_entry, stored_of, violation_at}
 pub use Rattle.ownership_runs.specs.Violations.{violation_by, violation_from}
-pub use Rattle.ownership_runs.specs.Losses.{IsFirstLoss, IsLoss, IsLossAt, IsRecordByte, Loads, Sent, WasSent, byte_lost, first_loss, if_differs, if_told}
+pub use Rattle.ownership_runs.specs.Losses.{IsFirstLoss, IsLoss, IsLossAt, IsRecordByte, Loads, SentBytes, WasSent, byte_lost, first_loss, if_differs, if_told}
 pub use Rattle.ownership_runs.specs.Losses.{is_record_byte, last_of_slot, loss_at, loss_by, loss_from, nothing_sent, or_else, position_told, sent_after}
 pub use Rattle.ownership_runs.specs.Losses.{sent_by, sent_from, slot_number, slot_width, slots_from, stores_over}
 unfoldable pub use Rattle.ownership_runs.specs.Losses.{first_byte}

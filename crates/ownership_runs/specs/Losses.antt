@@ -51,10 +51,10 @@ position_told q c x = if is_record_byte q x then last_of_slot (slots_in q) c.kno
 -- ---- of each position and byte what the sender's hart read there just after it published the position, unless the receiver has stored
 -- there since: as it leaves the byte for the laws of the protocol, which an AMO does that writes the word that it read
 
-abbrev pub Sent : Type 0
-Sent = (k x : ℕ) → Option ℕ
+abbrev pub SentBytes : Type 0
+SentBytes = (k x : ℕ) → Option ℕ
 
-abbrev pub nothing_sent : Sent
+abbrev pub nothing_sent : SentBytes
 nothing_sent k x = None
 
 abbrev pub stores_over : Access → (x : ℕ) → Bool
@@ -63,16 +63,16 @@ stores_over (exchange a old new) x = not (new == old) && covers (write a 4 new) 
 stores_over other x = false
 
 -- after an access of a hart, which is a party or none, that made these counts of those: `reads` is what it reads just after it
-abbrev pub sent_by : Option Party → (c after : QueueCounts) → (reads : ℕ → ℕ) → Access → Sent → Sent
+abbrev pub sent_by : Option Party → (c after : QueueCounts) → (reads : ℕ → ℕ) → Access → SentBytes → SentBytes
 sent_by (Some the_sender) c after reads a s k x = if nat_le c.published k && nat_lt k after.published then Some (reads x) else s k x
 sent_by (Some the_receiver) c after reads a s k x = if stores_over a x then None else s k x
 sent_by None c after reads a s k x = s k x
 
 -- after an entry, which these come before; and after further entries of a run
-abbrev pub sent_after : AnyQueue → OpeningValue → (front : List Entry) → QueueCounts → Sent → Entry → Sent
+abbrev pub sent_after : AnyQueue → OpeningValue → (front : List Entry) → QueueCounts → SentBytes → Entry → SentBytes
 sent_after q o front c s e = sent_by (party_for q (hart_of e)) c (entry_counts q c e) (read_byte o (front ++ e ∷ []) (hart_of e)) (access_of e) s
 
-abbrev pub sent_from : AnyQueue → OpeningValue → (front : List Entry) → QueueCounts → Sent → List Entry → Sent
+abbrev pub sent_from : AnyQueue → OpeningValue → (front : List Entry) → QueueCounts → SentBytes → List Entry → SentBytes
 sent_from q o front c s [] = s
 sent_from q o front c s (e ∷ es) = sent_from q o (front ++ e ∷ []) (entry_counts q c e) (sent_after q o front c s e) es
 
@@ -96,11 +96,11 @@ if_differs place h a w v i k (Some b) = if b == byte_at i v then None else Some 
   sent = b;
 })
 
-abbrev pub if_told : (place hart : ℕ) → Sent → (a w v i : ℕ) → Option ℕ → Option Loss
+abbrev pub if_told : (place hart : ℕ) → SentBytes → (a w v i : ℕ) → Option ℕ → Option Loss
 if_told place h s a w v i None = None
 if_told place h s a w v i (Some k) = if_differs place h a w v i k (s k (a + i))
 
-abbrev pub byte_lost : AnyQueue → (place hart : ℕ) → QueueCounts → Sent → (a w v i : ℕ) → Option Loss
+abbrev pub byte_lost : AnyQueue → (place hart : ℕ) → QueueCounts → SentBytes → (a w v i : ℕ) → Option Loss
 byte_lost q place h c s a w v i = if_told place h s a w v i (position_told q c (a + i))
 
 -- the first of `number` bytes that is lost
@@ -109,15 +109,15 @@ first_byte lost zero = None
 first_byte lost (suc number) = or_else (first_byte lost number) (lost number)
 
 -- of an access of the receiver's that loads, an AMO's old word, with the counts before it
-abbrev pub loss_by : AnyQueue → Option Party → (place hart : ℕ) → QueueCounts → Sent → Access → Option Loss
+abbrev pub loss_by : AnyQueue → Option Party → (place hart : ℕ) → QueueCounts → SentBytes → Access → Option Loss
 loss_by q (Some the_receiver) place h c s (load a w v) = first_byte (byte_lost q place h c s a w v) w
 loss_by q (Some the_receiver) place h c s (exchange a old new) = first_byte (byte_lost q place h c s a 4 old) 4
 loss_by q t place h c s x = None
 
-abbrev pub loss_at : AnyQueue → (place : ℕ) → QueueCounts → Sent → Entry → Option Loss
+abbrev pub loss_at : AnyQueue → (place : ℕ) → QueueCounts → SentBytes → Entry → Option Loss
 loss_at q place c s e = loss_by q (party_for q (hart_of e)) place (hart_of e) c s (access_of e)
 
-abbrev pub loss_from : AnyQueue → OpeningValue → (front : List Entry) → QueueCounts → Sent → List Entry → Option Loss
+abbrev pub loss_from : AnyQueue → OpeningValue → (front : List Entry) → QueueCounts → SentBytes → List Entry → Option Loss
 loss_from q o front c s [] = None
 loss_from q o front c s (e ∷ es) = or_else (loss_at q (length front) c s e)
     (loss_from q o (front ++ e ∷ []) (entry_counts q c e) (sent_after q o front c s e) es)

@@ -51,7 +51,8 @@ pub fn laws_of_telling()
         → FollowsTelling B q start o before (es ++ fs) → (p : Party) → count p (told_counts q start es) < known (other p) (told_counts q start (es ++ fs))
         → length (own_stores (teller_hart q p) (before ++ es)) ≤ lands (teller_hart q p) (before ++ (es ++ fs)) }
     ensures publication_of_tag { (B : ℕ) (q : Slots) (start : QueueCounts) (o : OpeningValue) (before es : List Entry) (e : Entry) (fs : List Entry)
-        → FollowsTelling B q start o before ((es ++ e ∷ []) ++ fs) → (p : Party) → count p (told_counts q start es) < count p (told_counts q start (es ++ e ∷ []))
+        → FollowsTelling B q start o before ((es ++ e ∷ []) ++ fs) → (p : Party)
+        → count p (told_counts q start es) < count p (told_counts q start (es ++ e ∷ []))
         → count p (told_counts q start (es ++ e ∷ [])) ≤ known (other p) (told_counts q start ((es ++ e ∷ []) ++ fs))
         → length (own_stores (teller_hart q p) (before ++ (es ++ e ∷ []))) ≤ lands (teller_hart q p) (before ++ ((es ++ e ∷ []) ++ fs)) }
     ensures delivery { (B : ℕ) (q : Slots) (start : QueueCounts) (o : OpeningValue) (before es : List Entry) (e : Entry) (fs : List Entry)
