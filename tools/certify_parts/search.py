@@ -333,6 +333,16 @@ class Search:
             begin, end = self.widened(("t", which), begin, end, queue.turns())
         return Share(count, first, last, low, high, begin, end)
 
+    def with_ranges(self, state, before):
+        """A state with the ranges of those that were joined before too: where a range ended at a further edge then, a join of what was met has less."""
+        shares = list(state.shares)
+        for which, queue in enumerate(self.program.queues):
+            for share in [each.shares[which] for each in before if each.shares[which] and not queue.has_tags]:
+                one = shares[which]
+                shares[which] = Share(one.count, min(one.first, share.first), max(one.last, share.last), min(one.low, share.low), max(one.high, share.high),
+                                      min(one.begin, share.begin), max(one.end, share.end))
+        return state if tuple(shares) == state.shares else state._replace(shares=tuple(shares))
+
     def widened(self, variable, first, last, count):
         """A range up to where its variable was parted, or of all its numbers, from 0 to less than a count."""
         edges = self.program.edges.get(variable, ())
@@ -410,7 +420,7 @@ class Search:
             groups.add(Group([state], state))
             return state
         # the groups that it can be joined with and nothing is lost; if there are many others, the one with which least is lost
-        met, whole, least = [state], None, None
+        met, whole, least, before = [state], None, None, []
         self.spend(len(groups))
         for group in groups:
             if self.are_apart(state, group.state):
@@ -418,6 +428,7 @@ class Search:
             found, lost = self.joined(met + group.met, True)
             if lost == 0:
                 met, whole = met + group.met, found
+                before.append(group.state)
                 groups.remove(group)
         if whole is None and len(groups) >= self.apart:
             for group in groups:
@@ -426,8 +437,9 @@ class Search:
                     least = lost, group, found
             groups.remove(least[1])
             met, whole = met + least[1].met, least[2]
+            before.append(least[1].state)
         self.begins_anew |= self.mode == Mode.BY_PATH and whole is not None and state.pc in self.flow.outer
-        whole = whole or state
+        whole = self.with_ranges(whole or state, before)
         for group in groups:
             if self.covers(whole, group.state):
                 groups.remove(group)
