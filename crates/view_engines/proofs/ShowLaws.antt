@@ -75,4 +75,4 @@ words-there text test is = is.0.first_words.count
 -- so has one that was read
 pub words_named : (known : Option (List ℕ)) (test : LitmusTest) (heading : HeadingOf) → Reads (tests_with IsHeading) known (Ok (test, heading))
     → length test.opening.words ≡ length test.names
-words_named known test heading read = let (bytes, is) = some_bytes known _ read in words-there bytes test is.value_is.0
+words_named known test heading reads = let (bytes, is) = some_bytes known _ reads in words-there bytes test is.value_is.0
