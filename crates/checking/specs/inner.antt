@@ -116,7 +116,7 @@ abbrev pub SomeWritten : (B M : ℕ) → LitmusTest → (input before after : Op
 SomeWritten B M test input before after = (out : List ℕ) × Appends before after out × OfLines input (λ lines. IsFront B M lines test out)
 
 -- A line belongs to the text of which this was held, or it begins a record, and the text was closed.
-pub data TakesLine (B M : ℕ) (test : LitmusTest) (line held then : List ℕ) (old new : Tally) (before after : Option (List ℕ)) : Type 0 where
-  belongs : begins_record line ≡ false → ((whole : List ℕ) → IsHeld whole held → IsHeld (whole ++ line) then) → new ≡ old → after ≡ before
-      → TakesLine B M test line held then old new before after
-  begins : begins_record line ≡ true → Closes B M test held old new before after → then ≡ line → TakesLine B M test line held then old new before after
+pub data TakesLine (B M : ℕ) (test : LitmusTest) (line held kept : List ℕ) (old new : Tally) (before after : Option (List ℕ)) : Type 0 where
+  belongs : begins_record line ≡ false → ((whole : List ℕ) → IsHeld whole held → IsHeld (whole ++ line) kept) → new ≡ old → after ≡ before
+      → TakesLine B M test line held kept old new before after
+  begins : begins_record line ≡ true → Closes B M test held old new before after → kept ≡ line → TakesLine B M test line held kept old new before after
