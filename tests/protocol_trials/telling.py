@@ -252,8 +252,8 @@ class FilledAfterTheTag(Telling):
 class AnyTag(Telling):
     """the tag of any position that is owned may come first"""
 
-    breaks = ("window", "publication", "delivery", "look")
-    seldom_breaks = ("publication_of_tag", "handing_back", "in_order")
+    breaks = ("window", "publication", "look")
+    seldom_breaks = ("publication_of_tag", "delivery", "handing_back", "in_order")
 
     def moves_on(self, p, counts, access):
         return any(self.is_tag_store(p, k, access) for k in range(counts.count[p], min(self.end(p, counts), counts.count[p] + self.queue.size)))
