@@ -54,7 +54,7 @@ FOLDERS = {
     "bench": ("", ".md", ".py", ".c", ".rs", ".rattle", ".pml", ".litmus"),
     "litmus": (".litmus", ".expected", ".md"),
     "examples": (".litmus", ".certificate", ".schedule", ".steps", ".lists", ".asm", ".words", ".c", ".cpp", ".rs", ".h", ".s", ".S", ".ld",
-                 ".log", ".spike", ".vcd", ".md", ".py", ".sv", ".edits", ".yml"),
+                 ".log", ".spike", ".vcd", ".md", ".py", ".sv", ".edits", ".yml", ".txt"),
     "tools/page_parts": (".py", ".html", ".css", ".js", ".svg"),
     "tools/bring_parts": (".py", ".c", ".h"),
     "tools/core_log_parts": (".py",),

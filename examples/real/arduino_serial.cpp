@@ -1,9 +1,9 @@
-// Arduino's serial buffer: the interrupt of a byte that came, and read(). Its constructor doesn't run: of its members only
-// the addresses of ports aren't 0, and at 0 here lies a word of zeros, so each byte that comes is 0. The buffer isn't volatile
-// as the indices are, and gcc stores the index before the byte: right for an interrupt, not between two harts.
+// Arduino's serial buffer: the interrupt of a byte that came, and read(). Its constructor doesn't run, so the addresses of its
+// ports are 0, where each byte that comes is put, without the bit that says of a wrong parity. The buffer isn't volatile as the
+// indices are, and gcc stores the index before the byte: right for an interrupt, not between two harts.
 // package: arduino-core-avr
 // queue: head=room.serial._rx_buffer_head,tail=room.serial._rx_buffer_tail,slots=room.serial._rx_buffer,size=16,width=1,bytes=1,index=wrapping
-// flags: -D_GNU_SOURCE -DARDUINO=10819 -Ishims/avr -isystem out/usr/share/arduino/hardware/arduino/avr/cores/arduino
+// flags: -D_GNU_SOURCE -DARDUINO=10819 -Iout/shims/avr -isystem out/usr/share/arduino/hardware/arduino/avr/cores/arduino
 // flags: -isystem out/usr/share/arduino/hardware/arduino/avr/variants/standard
 // clang: -fstandalone-debug
 // answer: gcc 8, clang 10
@@ -19,8 +19,12 @@
 volatile int got;
 
 extern "C" void P0() {
-  for (;;)
+  volatile unsigned char *port = nullptr;
+  __asm__("" : "+r"(port));
+  for (unsigned char n = 1;; n = n % 3 + 1) {
+    *port = n;
     room.serial._rx_complete_irq();
+  }
 }
 
 extern "C" void P1() {

@@ -2,7 +2,7 @@
 // is stored there. Its constructor, which writes only zeros, doesn't run.
 // package: libatomic-queue-dev
 // tagged: slots=room.queue.elements_,size=8,tag=room.queue.states_[0],tells=bit:255:0:2
-// flags: -DNDEBUG -std=c++17 -U__UINT32_TYPE__ -D__UINT32_TYPE__=unsigned -Ishims/threads -isystem out/usr/include
+// flags: -DNDEBUG -std=c++17 -U__UINT32_TYPE__ -D__UINT32_TYPE__=unsigned -Iout/shims/threads -isystem out/usr/include
 // clang: -fstandalone-debug
 // answer: gcc 0, clang 0
 #include <atomic_queue/atomic_queue.h>

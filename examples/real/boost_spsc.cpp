@@ -2,7 +2,7 @@
 // constructor, which writes only zeros, doesn't run.
 // package: libboost1.74-dev
 // queue: head=room.queue.write_index_,tail=room.queue.read_index_,slots=room.queue.storage_,size=8,width=4,index=wrapping
-// flags: -D_GNU_SOURCE -Ishims/threads -isystem out/usr/include
+// flags: -D_GNU_SOURCE -Iout/shims/threads -isystem out/usr/include
 // clang: -fstandalone-debug
 // answer: gcc 0, clang 0
 #include <boost/lockfree/spsc_queue.hpp>

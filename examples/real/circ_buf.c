@@ -1,7 +1,7 @@
 /* Linux's circular buffer as its documentation has it used: numbers of slots, of which one stays free.
    package: linux-headers-6.12.117+deb12-common
    queue: head=buffer.head,tail=buffer.tail,slots=bytes,size=16,index=wrapping
-   flags: -D__KERNEL__ -Ishims/kernel -isystem out/usr/src/linux-headers-6.12.117+deb12-common/include
+   flags: -D__KERNEL__ -Iout/shims/kernel -isystem out/usr/src/linux-headers-6.12.117+deb12-common/include
    answer: gcc 0, clang 0 */
 #include <linux/types.h>
 #include <linux/circ_buf.h>

@@ -1,7 +1,7 @@
 /* Linux's circular buffer, filled up to its end at once: two words if CIRC_SPACE_TO_END has room for them, else one.
    package: linux-headers-6.12.117+deb12-common
    queue: head=head,tail=tail,slots=words,size=16,index=wrapping
-   flags: -D__KERNEL__ -Ishims/kernel -isystem out/usr/src/linux-headers-6.12.117+deb12-common/include
+   flags: -D__KERNEL__ -Iout/shims/kernel -isystem out/usr/src/linux-headers-6.12.117+deb12-common/include
    answer: gcc 0, clang 0 */
 #include <linux/types.h>
 #include <linux/circ_buf.h>

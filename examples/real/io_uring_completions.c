@@ -1,7 +1,7 @@
 /* liburing's completion queue. The library receives; the kernel's half is ours. Of an entry `res` is read.
    package: liburing-dev
    queue: head=tail,tail=head,slots=entry,size=8
-   flags: -Ishims/posix -Ishims -isystem out/usr/include
+   flags: -Iout/shims/posix -Iout/shims -isystem out/usr/include
    read: 8-11
    answer: gcc 0, clang 0 */
 #include <liburing.h>

@@ -2,7 +2,7 @@
 // capacity that it would write stands here.
 // package: juce-modules-source-data
 // queue: head=opened.end,tail=opened.start,slots=slot,size=8,index=wrapping
-// flags: -D_GNU_SOURCE -std=c++17 -Ishims/threads -isystem out/usr/share/juce/modules
+// flags: -D_GNU_SOURCE -std=c++17 -Iout/shims/threads -isystem out/usr/share/juce/modules
 // answer: gcc 0, clang 0
 #include <algorithm>
 #include <atomic>

@@ -1,7 +1,7 @@
 /* Linux's kfifo of structs: kfifo_put and kfifo_get copy one whole.
    package: linux-headers-6.12.117+deb12-common
    queue: head=fifo.kfifo.in,tail=fifo.kfifo.out,slots=fifo.buf,size=8,width=12
-   flags: -D__KERNEL__ -Ishims/kernel -isystem out/usr/src/linux-headers-6.12.117+deb12-common/include
+   flags: -D__KERNEL__ -Iout/shims/kernel -isystem out/usr/src/linux-headers-6.12.117+deb12-common/include
    answer: gcc 0, clang 0 */
 #include <linux/kfifo.h>
 

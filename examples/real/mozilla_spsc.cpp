@@ -2,7 +2,7 @@
 // write the capacity and the address of the slots stand here.
 // package: libmozjs-102-dev
 // queue: head=opened.write,tail=opened.read,slots=slot,size=8,index=wrapping
-// flags: -D_GNU_SOURCE -DNDEBUG -std=c++17 -Ishims/threads -isystem out/usr/include/mozjs-102
+// flags: -D_GNU_SOURCE -DNDEBUG -std=c++17 -Iout/shims/threads -isystem out/usr/include/mozjs-102
 // answer: gcc 0, clang 0
 #include <mozilla/SPSCQueue.h>
 

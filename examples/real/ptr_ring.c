@@ -1,7 +1,7 @@
 /* Linux's ptr_ring, which hands back one slot at a time: a slot that holds 0 is free.
    package: linux-headers-6.12.117+deb12-common
    tagged: slots=slot,size=8
-   flags: -D__KERNEL__ -Ishims/kernel -isystem out/usr/src/linux-headers-6.12.117+deb12-common/include
+   flags: -D__KERNEL__ -Iout/shims/kernel -isystem out/usr/src/linux-headers-6.12.117+deb12-common/include
    answer: gcc 0, clang 0 */
 #include <linux/ptr_ring.h>
 

@@ -1,7 +1,7 @@
 /* Linux's ptr_ring, which hands back four slots at a time, the last one first.
    package: linux-headers-6.12.117+deb12-common
    tagged: slots=slot,size=8
-   flags: -D__KERNEL__ -Ishims/kernel -isystem out/usr/src/linux-headers-6.12.117+deb12-common/include
+   flags: -D__KERNEL__ -Iout/shims/kernel -isystem out/usr/src/linux-headers-6.12.117+deb12-common/include
    answer: gcc 11, clang 11 */
 #include <linux/ptr_ring.h>
 

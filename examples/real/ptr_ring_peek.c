@@ -1,7 +1,7 @@
 /* Linux's ptr_ring whose receiver looks at the pointer first, as network drivers do, and then drops it.
    package: linux-headers-6.12.117+deb12-common
    tagged: slots=slot,size=8
-   flags: -D__KERNEL__ -Ishims/kernel -isystem out/usr/src/linux-headers-6.12.117+deb12-common/include
+   flags: -D__KERNEL__ -Iout/shims/kernel -isystem out/usr/src/linux-headers-6.12.117+deb12-common/include
    answer: gcc 0, clang 0 */
 #include <linux/ptr_ring.h>
 

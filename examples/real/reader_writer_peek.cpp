@@ -2,7 +2,7 @@
 // for memory and doesn't run: what it would make stands here.
 // package: libreaderwriterqueue-dev
 // queue: head=block.tail,tail=block.front,slots=slot,size=8,index=wrapping
-// flags: -D_GNU_SOURCE -D__unix__ -DNDEBUG -fno-strict-aliasing -Ishims/threads -isystem out/usr/include
+// flags: -D_GNU_SOURCE -D__unix__ -DNDEBUG -fno-strict-aliasing -Iout/shims/threads -isystem out/usr/include
 // answer: gcc 0, clang 0
 #include <readerwriterqueue.h>
 

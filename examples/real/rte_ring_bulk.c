@@ -1,7 +1,7 @@
 /* DPDK's rte_ring, two objects at a time: both or none.
    package: libdpdk-dev
    queue: head=place.ring.prod.tail,tail=place.ring.cons.tail,slots=place.slot,size=8,capacity=7
-   flags: -Ishims/dpdk -isystem out/usr/include/dpdk
+   flags: -Iout/shims/dpdk -isystem out/usr/include/dpdk
    answer: gcc 0, clang 0 */
 #include <rte_ring.h>
 

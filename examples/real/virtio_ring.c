@@ -1,7 +1,7 @@
 /* virtio's split ring: descriptors that are made available, and used in order. The header has the ring's layout; the loops are ours.
    package: linux-libc-dev
    queue: head=available.idx,tail=used.idx,slots=available.ring,size=8,width=2,bytes=2
-   flags: -Ishims -isystem out/usr/include
+   flags: -Iout/shims -isystem out/usr/include
    answer: gcc 0, clang 0 */
 #include <linux/virtio_ring.h>
 

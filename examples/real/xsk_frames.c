@@ -1,7 +1,7 @@
 /* libxdp's rings of AF_XDP sockets, as they send frames: descriptors of 16 bytes, two at a time. `len` is read.
    package: libxdp-dev
    queue: head=sent,tail=taken,slots=slot,size=8
-   flags: -Ishims -isystem out/usr/include
+   flags: -Iout/shims -isystem out/usr/include
    read: 8-11
    answer: gcc 0, clang 0 */
 #include <xdp/xsk.h>

@@ -1,7 +1,7 @@
 /* libxdp's rings of AF_XDP sockets: the library's sender and receiver, each with its copy of the other's index.
    package: libxdp-dev
    queue: head=sent,tail=taken,slots=slot,size=8
-   flags: -Ishims -isystem out/usr/include
+   flags: -Iout/shims -isystem out/usr/include
    answer: gcc 0, clang 0 */
 #include <xdp/xsk.h>
 

@@ -1,4 +1,4 @@
-//! Tests of the crates that read texts and words or keep what a machine is made of, a module for each.
+//! Tests of the crates that read texts and words or keep what a machine is made of, in modules by what they test.
 //!
 //! Without its tests this crate is empty: it promises nothing, and no crate uses it.
 
@@ -18,14 +18,10 @@ fn same<T: PartialEq + Drop>(left: T, right: T) -> Result<(), (T, T)> {
 }
 
 #[cfg(test)]
-mod of_assembler;
-#[cfg(test)]
-mod of_hart;
-#[cfg(test)]
-mod of_litmus_tokens;
+mod of_instructions;
 #[cfg(test)]
 mod of_memory;
 #[cfg(test)]
-mod of_rv_decode;
+mod of_readers;
 #[cfg(test)]
 mod of_texts;

@@ -1,7 +1,7 @@
 /* libxdp's rings with a receiver that releases two slots after it has peeked at one.
    package: libxdp-dev
    queue: head=sent,tail=taken,slots=slot,size=8
-   flags: -Ishims -isystem out/usr/include
+   flags: -Iout/shims -isystem out/usr/include
    answer: gcc 8, clang 8 */
 #include <xdp/xsk.h>
 

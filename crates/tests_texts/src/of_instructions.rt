@@ -1,9 +1,11 @@
-//! A hart by itself: neither memory nor buffers.
+//! Words as LLVM's assembler makes them, and a hart by itself: neither memory nor buffers.
 
 ghost use Rattle.std.specs.Prelude.{◌≤◌, length};
 
 use hart::{Code, Hart, Need, Report, Status};
+use rv_decode::{decode, encode, fits};
 use std::process::Abort;
+use std::test::Fail;
 
 /// A hart of 4096 words of memory, with this code, and all its registers at `word`.
 fn hart_at(rt: &(impl Abort + AllocGlobal), code: &[u32], word: u32, inbox: &[u32]) -> Hart
@@ -56,4 +58,19 @@ fn a_restarted_hart_does_the_same_again(rt: HostRuntime) {
         );
         hart.restart();
     }
+}
+
+#[test]
+fn words_are_encoded_as_they_were(rt: HostRuntime) -> Result<(), Fail> {
+    let words = [
+        0x123462B7, 0xFFFFF197, 0xFD1FF06F, 0x7FFFF0EF, 0x00008067, 0x02058663, 0xFE638EE3,
+        0x00042383, 0xFFF55483, 0x00532023, 0x7FFF0FA3, 0xFFF28293, 0x41F2D313, 0x40628233,
+        0x0FF0000F, 0x8330000F, 0x00000073, 0x00100073, 0x08B6252F, 0xC421A0AF,
+    ];
+    for word in words {
+        let instr = decode(word).ok_or("a word of the table")?;
+        assert!(rt; fits(&instr), "at {word:#010x}");
+        assert_same!(rt; encode(&instr), word);
+    }
+    Ok(())
 }

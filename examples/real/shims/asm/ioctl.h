@@ -1,1 +1,0 @@
-#include <asm-generic/ioctl.h>

@@ -1,1 +1,0 @@
-/* No instruction of its own swaps bytes. */

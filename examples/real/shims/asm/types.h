@@ -1,1 +1,0 @@
-#include <asm-generic/int-ll64.h>

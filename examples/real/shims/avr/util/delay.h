@@ -1,1 +1,0 @@
-/* The drivers use none of it. */

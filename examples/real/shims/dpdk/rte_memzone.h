@@ -1,1 +1,0 @@
-#include <rte_memory.h>

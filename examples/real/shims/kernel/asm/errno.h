@@ -1,2 +1,0 @@
-/* The C library's numbers. */
-#include <errno.h>

@@ -1,1 +1,0 @@
-#define ARRAY_SIZE(array) (sizeof(array) / sizeof *(array))
