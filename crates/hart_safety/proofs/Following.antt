@@ -65,9 +65,9 @@ module _ (tagged : ℕ → TaggedQueue) (T : ℕ) (queues : ℕ → Queue) (N : 
     tag-next t (Some p) (Some j) = by (nat_lt j (share_at k (N + t)).owned.constant)
       where
         by : (u : Bool) → Reaches (next_pc k.pc)
-            (if u then with_result k rd.number (next_pc k.pc) (told_value (tagged t).codec p op (share_at k (N + t)).own j) ∷ []
+            (if u then with_result k rd.number (next_pc k.pc) (told_value k.ranges (tagged t) (tagged t).codec p op (share_at k (N + t)).own j) ∷ []
             else when_told tagged N k p op rd.number t j (share_at k (N + t))
-            ∷ with_result k rd.number (next_pc k.pc) (other_value (tagged t) (tagged t).codec p op (share_at k (N + t)).own j) ∷ [])
+            ∷ with_result k rd.number (next_pc k.pc) (other_value k.ranges (tagged t) (tagged t).codec p op (share_at k (N + t)).own j) ∷ [])
         by true = inl refl
         by false = inl refl
 

@@ -1,4 +1,4 @@
--- Where none of a run's events can go without its violation, the last one adds the violation.
+-- Where none of a run's events can go without its violation, or its loss, the last one adds it.
 use Rattle.std.proofs.Common.{ℕ, suc, ◌+◌, ◌<◌, ◌≡◌, ◌⊎◌, Bool, true, false, List, [], ◌∷◌, ◌++◌, length, drop, Some, None, Ok, Err, inl, inr, refl, sym, ap}
 use Rattle.std.proofs.Common.{◌∙◌, subst, arith}
 use Rattle.std.specs.Prelude.{Option, if◌then◌else◌}
@@ -7,7 +7,7 @@ use Rattle.std.proofs.Math.Seq.{take-append_seam}
 use Rattle.step_machine.specs.declared.events.Event.{Event}
 use Rattle.step_machine.specs.declared.events.Entry.{Entry}
 use Rattle.step_machine.specs.declared.events.Outcome.TheVariants as outcome
-use Rattle.step_machine.specs.Names.{OpeningValue, History, at_opening, hart_of, Adds, Idles, Run}
+use Rattle.step_machine.specs.Names.{OpeningValue, History, at_opening, hart_of, with_entry, Adds, Idles, Run}
 use Rattle.step_machine.proofs.Running.{shape_of, hart_follows, opening_kept}
 use Rattle.queue_parties.specs.Parties.{QueueCounts}
 use Rattle.queue_layouts.specs.declared.AnyQueue.{AnyQueue}
@@ -15,7 +15,9 @@ use Rattle.shrink.specs.Shrinking.{without}
 use Rattle.drawn_runs.proofs.Bursts.{LastHappens, last_happens}
 use Rattle.judged_runs.specs.Telling.{IsFlawTold}
 use Rattle.ownership_runs.specs.{Violation, RunNotes, entry_counts, run_counts, keeps_entry, violation_at, first_ownership_violation, HasKeptRun, HasBrokenRun}
-use Rattle.ownership_runs.specs.{IsOfOneKind, EndsInViolation, nothing_noted, noted_as, noted_more, noted_all}
+use Rattle.ownership_runs.specs.{IsOfOneKind, EndsInViolation, nothing_noted, noted_as, noted_more, noted_all, HasSlot, Loss, first_loss, loss_at, sent_from}
+use Rattle.ownership_runs.specs.{nothing_sent, or_else, IsLossAt, LosesNothing, HasLoss, IsLossOfOneKind, EndsInLoss}
+use Rattle.ownership_runs.proofs.Losing.{is-loss, loss-append}
 use Rattle.ownership_runs.proofs.Noting.{noted-append, first-noted, all-noted, nothing-more}
 
 -- ---- a list and its last event
@@ -78,42 +80,74 @@ module _ (q : AnyQueue) (start : QueueCounts) (es : List Entry) (e : Entry) (b :
       by (Some a) some = inl (sym (first-noted q start es)
           ∙ ap (λ (n : RunNotes). n.found) (sym (nothing-more q notes a e (first-noted q start es ∙ some))) ∙ more)
 
-module _ (B M : ℕ) (o : OpeningValue) (q : AnyQueue) (start : QueueCounts) (part : List Event) (b : Violation) where
-  -- none of its events can go
-  abbrev IsShort : Type 0
-  IsShort = (i : ℕ) → i < length part → HasBrokenRun B M o q start (without i 1 part) b → ⊥
+-- ---- the loss of the last entry
 
-  module _ (has : HasBrokenRun B M o q start part b) (short : IsShort) where
-    of-none : part ≡ [] → EndsInViolation B M o q start part b
+module _ (q : AnyQueue) (some : HasSlot q) (o : OpeningValue) (start : QueueCounts) (es : List Entry) (e : Entry) (l : Loss)
+    (found : first_loss q o start (es ++ e ∷ []) ≡ Some l) where
+  before-or-lost : (first_loss q o start es ≡ Some l) ⊎ IsLossAt q o start es e l
+  before-or-lost = by (first_loss q o start es) refl (sym (loss-append q o [] start nothing_sent es (e ∷ [])) ∙ found)
+    where
+      here : Option Loss
+      here = loss_at q (length es) (run_counts q start es) (sent_from q o [] start nothing_sent es) e
+
+      at : (x : Option Loss) → here ≡ x → or_else x None ≡ Some l → IsLossAt q o start es e l
+      at None none is = cc
+      at (Some m) same is = is-loss q some o start es e l (same ∙ is)
+
+      by : (before : Option Loss) → first_loss q o start es ≡ before → or_else before (or_else here None) ≡ Some l
+          → (first_loss q o start es ≡ Some l) ⊎ IsLossAt q o start es e l
+      by None none is = inr (at here refl is)
+      by (Some m) same is = inl (same ∙ is)
+
+-- ---- what the entries of a run are found to have first, which none of its events can go without
+
+module _ {X : Type 0} (B M : ℕ) (o : OpeningValue) (found : List Entry → Option X) (IsMade : List Entry → Entry → X → Type 0)
+    (nothing : (x : X) → found [] ≡ Some x → ⊥)
+    (either : (es : List Entry) (e : Entry) (x : X) → found (es ++ e ∷ []) ≡ Some x → (found es ≡ Some x) ⊎ IsMade es e x) where
+  record HasFirst (events : List Event) (x : X) : Type 0 where
+    history : History
+    run : Run B M o events history
+    first : found history.entries ≡ Some x
+
+  -- the last event adds an entry that makes it
+  record EndsIn (part : List Event) (x : X) : Type 0 where
+    front : List Event
+    last : Event
+    before : History
+    entry : Entry
+    events_are : part ≡ front ++ last ∷ []
+    run : Run B M o front before
+    adds : Adds B M before last entry (with_entry before entry)
+    first : found (before.entries ++ entry ∷ []) ≡ Some x
+    made : IsMade before.entries entry x
+    of_hart : hart_of entry < length o.harts
+
+  module _ (part : List Event) (x : X) (has : HasFirst part x) (short : (i : ℕ) → i < length part → HasFirst (without i 1 part) x → ⊥) where
+    of-none : part ≡ [] → EndsIn part x
     of-none none =
         let run : Run B M o [] has.history = subst (λ xs. Run B M o xs has.history) none has.run in
-        let nothing : first_ownership_violation q start [] ≡ Some b = ap (λ (t : History). first_ownership_violation q start t.entries) (sym run) ∙ has.first in
-        cc
+        absurd (nothing x (ap (λ (t : History). found t.entries) (sym run) ∙ has.first))
 
     module _ (l : HasLast part) where
       split : LastHappens B M (at_opening o) l.front l.last has.history
       split = last_happens B M (at_opening o) l.front l.last has.history (subst (λ xs. Run B M o xs has.history) l.is has.run)
 
       -- the events before the last one have no such run
-      not-before : first_ownership_violation q start split.before.entries ≡ Some b → ⊥
+      not-before : found split.before.entries ≡ Some x → ⊥
       not-before first =
           let within : length l.front < length (l.front ++ l.last ∷ []) = omega (arith, length-append l.front (l.last ∷ [])) in
           short (length l.front) (subst (λ xs. length l.front < length xs) (sym l.is) within)
-          (subst (λ xs. HasBrokenRun B M o q start xs b) (sym (ap (without (length l.front) 1) l.is ∙ without-last l.front l.last))
+          (subst (λ xs. HasFirst xs x) (sym (ap (without (length l.front) 1) l.is ∙ without-last l.front l.last))
           (record { history = split.before; run = split.ran; first = first }))
 
-      of-added : (e : Entry) → Adds B M split.before l.last e has.history → EndsInViolation B M o q start part b
+      of-added : (e : Entry) → Adds B M split.before l.last e has.history → EndsIn part x
       of-added e adds =
-          let found : first_ownership_violation q start (split.before.entries ++ e ∷ []) ≡ Some b =
-          ap (λ (t : History). first_ownership_violation q start t.entries) (sym adds.after) ∙ has.first in
-          at found (before-or-last q start split.before.entries e b found)
+          let first : found (split.before.entries ++ e ∷ []) ≡ Some x = ap (λ (t : History). found t.entries) (sym adds.after) ∙ has.first in
+          at first (either split.before.entries e x first)
         where
-          at : first_ownership_violation q start (split.before.entries ++ e ∷ []) ≡ Some b
-              → (first_ownership_violation q start split.before.entries ≡ Some b)
-              ⊎ (b ≡ violation_at q (length split.before.entries) (run_counts q start split.before.entries) e)
-              → EndsInViolation B M o q start part b
-          at found (inl first) = absurd (not-before first)
-          at found (inr is) = record {
+          at : found (split.before.entries ++ e ∷ []) ≡ Some x → (found split.before.entries ≡ Some x) ⊎ IsMade split.before.entries e x → EndsIn part x
+          at first (inl before) = absurd (not-before before)
+          at first (inr made) = record {
             front = l.front;
             last = l.last;
             before = split.before;
@@ -121,30 +155,65 @@ module _ (B M : ℕ) (o : OpeningValue) (q : AnyQueue) (start : QueueCounts) (pa
             events_are = l.is;
             run = split.ran;
             adds = subst (λ (t : History). Adds B M split.before l.last e t) adds.after adds;
-            first = found;
-            place = ap (λ (x : Violation). x.place) is;
+            first = first;
+            made = made;
             of_hart =
                 let opening : split.before.opening ≡ o = opening_kept B M o l.front split.before split.ran in
-                subst (λ (h : ℕ). h < length o.harts) (sym (ap (λ (x : Violation). x.hart) is))
-                (subst (λ (x : OpeningValue). hart_of e < length x.harts) opening (hart_follows B M split.before e adds.follows));
+                subst (λ (x : OpeningValue). hart_of e < length x.harts) opening (hart_follows B M split.before e adds.follows);
           }
 
-      of-last : EndsInViolation B M o q start part b
+      of-last : EndsIn part x
       of-last = at (shape_of B M split.before l.last split.outcome has.history split.happens)
         where
           at : ((e : Entry) × (split.outcome ≡ outcome.Did e) × Adds B M split.before l.last e has.history)
-              ⊎ Idles B M split.before l.last split.outcome has.history → EndsInViolation B M o q start part b
+              ⊎ Idles B M split.before l.last split.outcome has.history → EndsIn part x
           at (inl added) = of-added added.0 added.2
-          at (inr idles) =
-              absurd (not-before (ap (λ (t : History). first_ownership_violation q start t.entries) (sym idles.after) ∙ has.first))
+          at (inr idles) = absurd (not-before (ap (λ (t : History). found t.entries) (sym idles.after) ∙ has.first))
 
-    of-part : (part ≡ []) ⊎ HasLast part → EndsInViolation B M o q start part b
-    of-part (inl none) = of-none none
-    of-part (inr l) = of-last l
+    ends-in : EndsIn part x
+    ends-in = at (none-or-last part)
+      where
+        at : (part ≡ []) ⊎ HasLast part → EndsIn part x
+        at (inl none) = of-none none
+        at (inr l) = of-last l
 
-pub ends-told : (B M : ℕ) (o : OpeningValue) (q : AnyQueue) (start : QueueCounts) (schedule : ℕ → List Event) (runs : ℕ) (part : List Event) (b : Violation)
-    → IsFlawTold (HasKeptRun B M o q start) (HasBrokenRun B M o q start) IsOfOneKind schedule runs part b → EndsInViolation B M o q start part b
-ends-told B M o q start schedule runs part b told = of-part B M o q start part b told.shown.has short (none-or-last part)
-  where
-    short : (i : ℕ) → i < length part → HasBrokenRun B M o q start (without i 1 part) b → ⊥
-    short i less has = told.shown.minimal i less (record { other = b; has = has; alike = told.shown.alike })
+module _ (B M : ℕ) (o : OpeningValue) (q : AnyQueue) (start : QueueCounts) (schedule : ℕ → List Event) (runs : ℕ) (part : List Event) where
+  pub ends-told : (b : Violation) → IsFlawTold (HasKeptRun B M o q start) (HasBrokenRun B M o q start) IsOfOneKind schedule runs part b
+      → EndsInViolation B M o q start part b
+  ends-told b told =
+      let has = told.shown.has in
+      let e = ends-in B M o (first_ownership_violation q start) (λ es e b. b ≡ violation_at q (length es) (run_counts q start es) e) (λ b is. absurd (cc))
+      (before-or-last q start) part b (record { history = has.history; run = has.run; first = has.first }) (λ i less has. told.shown.minimal i less
+      (record { other = b; has = record { history = has.history; run = has.run; first = has.first }; alike = told.shown.alike })) in
+      record {
+        front = e.front;
+        last = e.last;
+        before = e.before;
+        entry = e.entry;
+        events_are = e.events_are;
+        run = e.run;
+        adds = e.adds;
+        first = e.first;
+        place = ap (λ (x : Violation). x.place) e.made;
+        of_hart = subst (λ (h : ℕ). h < length o.harts) (sym (ap (λ (x : Violation). x.hart) e.made)) e.of_hart;
+      }
+
+  pub loss-told : (l : Loss) → HasSlot q → IsFlawTold (LosesNothing B M o q start) (HasLoss B M o q start) IsLossOfOneKind schedule runs part l
+      → EndsInLoss B M o q start part l
+  loss-told l some told =
+      let has = told.shown.has in
+      let e = ends-in B M o (first_loss q o start) (IsLossAt q o start) (λ l is. absurd (cc)) (before-or-lost q some o start) part l
+      (record { history = has.history; run = has.run; first = has.first }) (λ i less has. told.shown.minimal i less
+      (record { other = l; has = record { history = has.history; run = has.run; first = has.first }; alike = told.shown.alike })) in
+      record {
+        front = e.front;
+        last = e.last;
+        before = e.before;
+        entry = e.entry;
+        events_are = e.events_are;
+        run = e.run;
+        adds = e.adds;
+        first = e.first;
+        is_loss = e.made;
+        of_hart = subst (λ (h : ℕ). h < length o.harts) e.made.hart e.of_hart;
+      }

@@ -1,5 +1,5 @@
 -- What the judgement of runs says of them.
-use Rattle.std.proofs.Common.{ℕ, ◌≡◌, ◌+◌, min, List, [], ◌∷◌, ◌++◌, Some, sym, ap, subst, ◌∙◌, arith}
+use Rattle.std.proofs.Common.{ℕ, ◌≡◌, ◌+◌, min, List, [], ◌∷◌, ◌++◌, Option, None, Some, sym, ap, subst, ◌∙◌, arith}
 use Rattle.step_machine.specs.declared.events.Event.{Event}
 use Rattle.step_machine.specs.declared.events.Entry.{Entry}
 use Rattle.step_machine.specs.Names.{OpeningValue, History, history_of, at_opening, Legal, WellFormed, Run}
@@ -10,7 +10,7 @@ use Rattle.queue_layouts.specs.declared.AnyQueue.TheVariants.{Indexed, Tagged}
 use Rattle.judged_runs.specs.Telling.{MOST, summed}
 use Rattle.judged_runs.proofs.Histories.{capped_both, runs_both, runs_one, total_both}
 use Rattle.ownership_runs.specs.{Violation, Moved, Keeps, HasSlot, IsAnyQueue, Rests, Follows, first_ownership_violation, HasKeptRun, BreaksNothing}
-use Rattle.ownership_runs.specs.{HasBrokenRun, published_in, taken_in, HasMoved, AreMovesOf}
+use Rattle.ownership_runs.specs.{HasBrokenRun, published_in, taken_in, HasMoved, AreMovesOf, Loss, first_loss, LosesNothing, HasLoss}
 use Rattle.ownership_runs.proofs.First.{kept-all, none-first}
 
 follows : (B : ℕ) (q : AnyQueue) (start : QueueCounts) (o : OpeningValue) (es : List Entry) → IsAnyQueue q → Legal B (history_of o es) → Rests q o [] start
@@ -18,20 +18,35 @@ follows : (B : ℕ) (q : AnyQueue) (start : QueueCounts) (o : OpeningValue) (es 
 follows B (Indexed q) start o es queue legal rest keeps = record { queue = queue; legal = legal; rest = rest; keeps = keeps }
 follows B (Tagged q) start o es slots legal rest keeps = record { slots = slots; legal = legal; rest = rest; keeps = keeps }
 
+-- what is found of a run is one, or nothing
+module _ {X : Type 0} (found : List Entry → Option X) (B M : ℕ) (o : OpeningValue) (events : List Event) (t u : History)
+    (run : Run B M o events t) (other : Run B M o events u) where
+  same-found : found t.entries ≡ found u.entries
+  same-found = ap (λ (h : History). found h.entries) (run-one B M (at_opening o) events t u run other)
+
+  one-found : (a b : X) → found t.entries ≡ Some a → found u.entries ≡ Some b → a ≡ b
+  one-found a b is also = let both : Some a ≡ Some b = sym is ∙ same-found ∙ also in cc
+
+  none-or-found : (b : X) → found t.entries ≡ None → found u.entries ≡ Some b → ⊥
+  none-or-found b none is = let some = same-found ∙ is in absurd (cc)
+
 module _ (B M : ℕ) (o : OpeningValue) (q : AnyQueue) (start : QueueCounts) where
   module _ (events : List Event) where
     -- a run has one first violation, or none
     pub one-violation : (b d : Violation) → HasBrokenRun B M o q start events b → HasBrokenRun B M o q start events d → b ≡ d
     one-violation b d has also =
-        let same : has.history ≡ also.history = run-one B M (at_opening o) events has.history also.history has.run also.run in
-        let both : Some b ≡ Some d = sym has.first ∙ ap (λ (t : History). first_ownership_violation q start t.entries) same ∙ also.first in cc
+        one-found (first_ownership_violation q start) B M o events has.history also.history has.run also.run b d has.first also.first
 
     pub none-or-one : (b : Violation) → BreaksNothing B M o q start events → HasBrokenRun B M o q start events b → ⊥
     none-or-one b free has =
-        let same : free.history ≡ has.history = run-one B M (at_opening o) events free.history has.history free.run has.run in
-        let none = free.none in
-        let some = ap (λ (t : History). first_ownership_violation q start t.entries) same ∙ has.first in
-        absurd (cc)
+        none-or-found (first_ownership_violation q start) B M o events free.history has.history free.run has.run b free.none has.first
+
+    -- and one first loss, or none
+    pub one-loss : (l m : Loss) → HasLoss B M o q start events l → HasLoss B M o q start events m → l ≡ m
+    one-loss l m has also = one-found (first_loss q o start) B M o events has.history also.history has.run also.run l m has.first also.first
+
+    pub none-or-lost : (l : Loss) → LosesNothing B M o q start events → HasLoss B M o q start events l → ⊥
+    none-or-lost l free has = none-or-found (first_loss q o start) B M o events free.history has.history free.run has.run l free.none has.first
 
     -- one that keeps the protocol has none
     pub keeps-or-breaks : (b : Violation) → HasSlot q → HasKeptRun B M o q start events → HasBrokenRun B M o q start events b → ⊥

@@ -11,3 +11,6 @@ pub mod Told
 pub mod Losing
 pub mod Delivered
 pub mod ByHand
+pub mod Logs
+pub mod Reach
+pub mod LossSteps

@@ -1,6 +1,6 @@
 -- The first loss of a run: there is one exactly where an entry is one.
 use Rattle.std.proofs.Common.{ℕ, zero, suc, ◌+◌, ◌-◌, ◌<◌, ◌≡◌, ◌≢◌, ◌==◌, inl, inr, Bool, true, false, Option, None, Some, List, [], ◌∷◌, ◌++◌, length, refl}
-use Rattle.std.proofs.Common.{sym, ap, ◌∙◌, subst, arith, append-nil, append_assoc}
+use Rattle.std.proofs.Common.{sym, ap, ◌∙◌, subst, add-one, arith, append-nil, append_assoc}
 use Rattle.std.specs.Prelude.{if◌then◌else◌}
 use Rattle.std.specs.Int.{byte_at}
 use Rattle.std.proofs.Math.Nat.{add-sub_cancel_left}
@@ -45,6 +45,32 @@ no-byte lost (suc n) i none less = by (λ before earlier. no-byte lost n i befor
       | inl earlier ↦ rest before earlier
       | inr last ↦ (let at : i ≡ n = omega (arith, less, last) in ap lost at ∙ here)
     ]
+
+-- one more that isn't, or that is the first
+pub first-more : (lost : ℕ → Option Loss) (n : ℕ) → first_byte lost n ≡ None → lost n ≡ None → first_byte lost (n + 1) ≡ None
+unfolding first_byte
+first-more lost n none here = rw add-one (ap (λ found. or_else found (lost n)) none ∙ here)
+
+pub first-here : (lost : ℕ → Option Loss) (i n : ℕ) (l : Loss) → first_byte lost i ≡ None → lost i ≡ Some l → i < n → first_byte lost n ≡ Some l
+unfolding first_byte
+first-here lost i zero l none here less = absurd (omega (arith, less))
+first-here lost i (suc n) l none here less = elim (cases_lt i n) [
+  | inl earlier ↦ ap (λ found. or_else found (lost n)) (first-here lost i n l none here earlier)
+  | inr last ↦
+      let at : i ≡ n = omega (arith, less, last) in
+      ap (λ found. or_else found (lost n)) (subst (λ m. first_byte lost m ≡ None) at none) ∙ subst (λ m. lost m ≡ Some l) at here
+]
+
+pub first-none : (lost : ℕ → Option Loss) → first_byte lost 0 ≡ None
+unfolding first_byte
+first-none lost = refl
+
+pub first-same : (lost other : ℕ → Option Loss) (n : ℕ) → ((i : ℕ) → i < n → lost i ≡ other i) → first_byte lost n ≡ first_byte other n
+unfolding first_byte
+first-same lost other zero same = refl
+first-same lost other (suc n) same =
+    ap (λ found. or_else found (lost n)) (first-same lost other n (λ i less. same i (omega (arith, less))))
+    ∙ ap (or_else (first_byte other n)) (same n (omega arith))
 
 -- ---- a byte that is lost
 
@@ -191,7 +217,7 @@ module _ (q : AnyQueue) (some : HasSlot q) (o : OpeningValue) (start : QueueCoun
           differs = λ same. lost.differs (same ∙ ap (λ (n : ℕ). byte_at n v) (add-sub_cancel_left a i));
         })
 
-    is-loss : (l : Loss) → loss_at q (length front) c s entry ≡ Some l → IsLossAt q o start front entry l
+    pub is-loss : (l : Loss) → loss_at q (length front) c s entry ≡ Some l → IsLossAt q o start front entry l
     is-loss l found = by (party_for q (hart_of entry)) refl (access_of entry) refl found
       where
         by : (t : Option Party) → party_for q (hart_of entry) ≡ t → (x : Access) → access_of entry ≡ x

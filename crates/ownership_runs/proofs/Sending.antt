@@ -2,7 +2,7 @@
 use Rattle.std.proofs.Common.{ℕ, ◌<◌, ◌≤◌, ◌≡◌, ◌==◌, ◌&&◌, ◌⊎◌, inl, inr, Bool, true, false, Option, None, Some, List, [], ◌∷◌, ◌++◌, refl, sym, ap, ◌∙◌}
 use Rattle.std.proofs.Common.{subst, arith, append-nil, append_assoc}
 use Rattle.std.specs.Prelude.{nat_le, nat_lt, not, if◌then◌else◌}
-use Rattle.std.proofs.lemmas.Bool.{eq-eqb, eqb-true, and_parts, and_from, and_right, leb-true, le-leb, lt-leb}
+use Rattle.std.proofs.lemmas.Bool.{eq-eqb, eqb-true, and_parts, and_from, and_right, leb-true, le-leb, le-ltb, lt-leb}
 use Rattle.std.proofs.lemmas.Bool.Decides.{Decides-ltb}
 use Rattle.memory.specs.Writes.{write, covers}
 use Rattle.step_machine.specs.declared.events.Entry.{Entry}
@@ -60,6 +60,28 @@ module _ (q : AnyQueue) (o : OpeningValue) where
       ∙ ap (λ fs. sent_from q o fs (run_counts q (entry_counts q c e) xs)
       (sent_from q o (front ++ e ∷ []) (entry_counts q c e) (sent_after q o front c s e) xs) ys)
       (append_assoc front (e ∷ []) xs)
+
+  -- nothing is sent of a position that wasn't published
+  pub unsent : (front : List Entry) (c : QueueCounts) (s : SentBytes) (es : List Entry) → ((k x : ℕ) → c.published ≤ k → s k x ≡ None)
+      → (k x : ℕ) → (run_counts q c es).published ≤ k → sent_from q o front c s es k x ≡ None
+  unsent front c s [] none k x past = none k x past
+  unsent front c s (e ∷ es) none k x past = unsent (front ++ e ∷ []) (entry_counts q c e) (sent_after q o front c s e) es next k x past
+    where
+      next : (k x : ℕ) → (entry_counts q c e).published ≤ k → sent_after q o front c s e k x ≡ None
+      next k x past = by (party_for q (hart_of e))
+        where
+          before : c.published ≤ k
+          before = let more : c.published ≤ (entry_counts q c e).published = (grows q c e).counts the_sender in omega (arith, more, past)
+
+          by : (t : Option Party) → sent_by t c (entry_counts q c e) (read_byte o (front ++ e ∷ []) (hart_of e)) (access_of e) s k x ≡ None
+          by (Some the_sender) = ap (λ b. if b then Some (read_byte o (front ++ e ∷ []) (hart_of e) x) else s k x)
+              (and_right (nat_le c.published k) (nat_lt k (entry_counts q c e).published) (le-ltb k (entry_counts q c e).published past)) ∙ none k x before
+          by (Some the_receiver) = over (stores_over (access_of e) x)
+            where
+              over : (b : Bool) → (if b then None else s k x) ≡ None
+              over true = refl
+              over false = none k x before
+          by None = none k x before
 
   module _ (h : ℕ) (receives : party_for q h ≡ Some the_receiver) where
     -- sent among these entries, which come after others

@@ -12,7 +12,7 @@ use Rattle.ownership_runs.specs.{Owned, is_in_bytes, position_from, is_of_owned}
 use Rattle.ownership_runs.proofs.Bytes.{decides-bytes}
 
 -- a product has room only where its second factor isn't 0
-second-positive : (size width y : ℕ) → y < size * width → 0 < width
+pub second-positive : (size width y : ℕ) → y < size * width → 0 < width
 second-positive size width y less = elim (cases_lt 0 width) [
   | inl some ↦ some
   | inr none ↦ (let zero_is : width ≡ 0 = omega (arith, none) in

@@ -96,9 +96,13 @@ is-record (Tagged q) some k x at = (Decides-and _ _ (decides-bytes q.slots (q.si
       λ tag. at.1 (subst (λ (a : ℕ). IsInBytes a q.tag_width x) (tag-there (slots_of q) some k x at.0) tag),
     )
 
-has-slot : (q : AnyQueue) → HasSlot q → 1 ≤ slots_in q
+pub has-slot : (q : AnyQueue) → HasSlot q → 1 ≤ slots_in q
 has-slot (Indexed q) some = some
 has-slot (Tagged q) some = some
+
+pub slot-has : (q : AnyQueue) → 1 ≤ slots_in q → HasSlot q
+slot-has (Indexed q) some = some
+slot-has (Tagged q) some = some
 
 -- ---- the last position of which the receiver was told
 

@@ -15,8 +15,9 @@ pub use Rattle.ownership_runs.specs.Losses.{IsFirstLoss, IsLoss, IsLossAt, IsRec
 pub use Rattle.ownership_runs.specs.Losses.{is_record_byte, last_of_slot, loss_at, loss_by, loss_from, nothing_sent, or_else, position_told, sent_after}
 pub use Rattle.ownership_runs.specs.Losses.{sent_by, sent_from, slot_number, slot_width, slots_from, stores_over}
 unfoldable pub use Rattle.ownership_runs.specs.Losses.{first_byte}
-pub use Rattle.ownership_runs.specs.Runs.{AreMovesOf, BreaksNothing, HasBrokenRun, HasKeptRun, HasMoved, IsOfOneKind, published_in, taken_in}
-pub use Rattle.ownership_runs.specs.Ends.{EndsInViolation}
+pub use Rattle.ownership_runs.specs.Runs.{AreMovesOf, BreaksNothing, CountsNothing, HasBrokenRun, HasKeptRun, HasLoss, HasMoved, IsLossOfOneKind}
+pub use Rattle.ownership_runs.specs.Runs.{IsOfOneKind, LosesNothing, published_in, taken_in}
+pub use Rattle.ownership_runs.specs.Ends.{EndsInLoss, EndsInViolation}
 pub use Rattle.ownership_runs.specs.inner.Noting.{noted_after, noted_all, noted_as, noted_more, nothing_noted}
 pub use Rattle.ownership_runs.specs.declared.deciding.RunNotes.{RunNotes}
 pub use Rattle.ownership_runs.specs.declared.losses.Loss.{Loss}

@@ -10,6 +10,8 @@ use Rattle.ownership_runs.specs.declared.violations.Violation.{Violation}
 use Rattle.ownership_runs.specs.declared.runs.Moved.{Moved}
 use Rattle.ownership_runs.specs.Protocols.{run_counts, Keeps}
 use Rattle.ownership_runs.specs.Violations.{first_ownership_violation}
+use Rattle.ownership_runs.specs.declared.losses.Loss.{Loss}
+use Rattle.ownership_runs.specs.Losses.{first_loss}
 
 -- the run of these events keeps the protocol
 pub record HasKeptRun (B M : ℕ) (o : OpeningValue) (q : AnyQueue) (start : QueueCounts) (events : List Event) : Type 0 where
@@ -32,6 +34,28 @@ pub record HasBrokenRun (B M : ℕ) (o : OpeningValue) (q : AnyQueue) (start : Q
 -- one hart's, which both are described or neither is
 abbrev pub IsOfOneKind : (violation other : Violation) → Type 0
 IsOfOneKind violation other = (violation.hart ≡ other.hart) × (violation.described ≡ other.described)
+
+-- ---- what is lost
+
+-- the run of these events loses nothing of a queue's records
+pub record LosesNothing (B M : ℕ) (o : OpeningValue) (q : AnyQueue) (start : QueueCounts) (events : List Event) : Type 0 where
+  pub history : History
+  pub run : Run B M o events history
+  pub none : first_loss q o start history.entries ≡ None
+
+-- its first loss is this one
+pub record HasLoss (B M : ℕ) (o : OpeningValue) (q : AnyQueue) (start : QueueCounts) (events : List Event) (loss : Loss) : Type 0 where
+  pub history : History
+  pub run : Run B M o events history
+  pub first : first_loss q o start history.entries ≡ Some loss
+
+-- one hart's
+abbrev pub IsLossOfOneKind : (loss other : Loss) → Type 0
+IsLossOfOneKind loss other = loss.hart ≡ other.hart
+
+-- runs that lose nothing count to nothing
+abbrev pub CountsNothing : Type 0
+CountsNothing = Unit {0}
 
 -- ---- by how much the parties moved on
 

@@ -6,8 +6,11 @@ ghost use Rattle.drawn_runs.specs.Samples.{runs_of, schedule_in};
 ghost use Rattle.judged_runs.specs.Telling.{IsTold};
 ghost use Rattle.ownership_runs.specs.Protocols.{HasSlot};
 ghost use Rattle.ownership_runs.specs.Runs.{HasKeptRun, HasBrokenRun, AreMovesOf, IsOfOneKind};
+ghost use Rattle.ownership_runs.specs.Runs.{LosesNothing, HasLoss, IsLossOfOneKind, CountsNothing};
 
 use crate::counts::Counts;
+use crate::loss_runs::LossJudge;
+use crate::losses::Loss;
 use crate::runs::{Moved, OwnershipJudge};
 use crate::violations::Violation;
 use drawn_runs::parallel::in_rounds;
@@ -62,6 +65,54 @@ pub fn check_runs<
         judge: &judge,
         generator: &from,
         draw: sample.draw,
+        size: runs.length,
+    };
+    let found = in_rounds(rt, alloc, &drawn, runs.number, runs.jobs, progress);
+    progress.end();
+    told_of_runs(alloc, &drawn, runs.number, found?)
+}
+
+/// Makes the runs of a sample from an opening, as [`check_runs`] does, and judges each by what is lost of this queue's records.
+///
+/// If nothing is, it says so. Otherwise it is a part of the events of the first run with a loss, from which events were left out until
+/// none could go without the first loss being another hart's or none, and the first loss of the part's run. The answer depends neither
+/// on the jobs nor on the progress.
+pub fn check_losses<
+    const B: usize,
+    const M: usize,
+    G: Jump + Sync + Drop,
+    T: Threads + Sync,
+    P: Progress,
+>(
+    rt: &T,
+    alloc: Global,
+    opening: &Opening,
+    queue: &AnyQueue,
+    start: Counts,
+    sample: &Sample<'_, G>,
+    progress: &mut P,
+) -> Result<Told<(), Loss>, AllocError>
+    requires some_capacity { 1 ≤ B }
+    requires capacity { B ≤ 64 }
+    requires some_word { 1 ≤ M }
+    requires size { M ≤ 65536 }
+    requires fits { FitsIn M opening.now }
+    requires some_slot { HasSlot queue.now }
+    ensures { IfOk result (λ told. IsTold (LosesNothing B M opening.now queue.now start) (HasLoss B M opening.now queue.now start) IsLossOfOneKind
+        (λ all nothing. CountsNothing)
+        (schedule_in (runs_of B M G.Rng.stream sample.now) (length opening.now.harts)) sample.now.runs.number told) }
+{
+    let judge = LossJudge::<B, M> {
+        opening,
+        queue,
+        start,
+    };
+    let (draw, runs) = (sample.draw, sample.runs);
+    let after = sample.generator.ahead(runs.skip, runs.length)?;
+    let drawn = JudgedRuns {
+        judge: &judge,
+        generator: &after,
+        draw,
         size: runs.length,
     };
     let found = in_rounds(rt, alloc, &drawn, runs.number, runs.jobs, progress);

@@ -14,8 +14,8 @@ ghost use Rattle.ownership_runs.specs.Violations.{IsFirstViolation, IsForeign, f
 ghost use Rattle.ownership_runs.specs.declared.losses.Loss.{Loss};
 ghost use Rattle.ownership_runs.specs.Losses.{IsLossAt, IsLoss, IsFirstLoss, first_loss};
 ghost use Rattle.judged_runs.specs.Telling.{IsFlawTold};
-ghost use Rattle.ownership_runs.specs.Runs.{HasKeptRun, HasBrokenRun, IsOfOneKind};
-ghost use Rattle.ownership_runs.specs.Ends.{EndsInViolation};
+ghost use Rattle.ownership_runs.specs.Runs.{HasKeptRun, HasBrokenRun, IsOfOneKind, LosesNothing, HasLoss, IsLossOfOneKind};
+ghost use Rattle.ownership_runs.specs.Ends.{EndsInLoss, EndsInViolation};
 
 /// Of a queue of either kind with a slot. It does nothing.
 ///
@@ -41,6 +41,8 @@ pub fn laws_of_violations()
 ///   protocol speak: `slot_queue::laws_of_ownership`, or `slots_that_tell::laws_of_telling`.
 /// - `apart`: none both keeps it and breaks it.
 /// - `ends`: the events that are returned with a violation end with the event that makes it.
+/// - `lost_or_not`: none both has a loss and has none.
+/// - `loses`: the events that are returned with a loss of a queue with a slot end with the event that loads it.
 pub fn laws_of_judged_runs()
     ensures follows { (B M : ℕ) (o : OpeningValue) (q : AnyQueue) (start : QueueCounts) (events : List Event) (t : History) → IsAnyQueue q
         → Rests q o [] start → HasKeptRun B M o q start events → Run B M o events t → Follows B q start o [] t.entries }
@@ -48,6 +50,11 @@ pub fn laws_of_judged_runs()
         → HasKeptRun B M o q start events → HasBrokenRun B M o q start events b → ⊥ }
     ensures ends { (B M : ℕ) (o : OpeningValue) (q : AnyQueue) (start : QueueCounts) (schedule : ℕ → List Event) (runs : ℕ) (part : List Event) (b : Violation)
         → IsFlawTold (HasKeptRun B M o q start) (HasBrokenRun B M o q start) IsOfOneKind schedule runs part b → EndsInViolation B M o q start part b }
+    ensures lost_or_not { (B M : ℕ) (o : OpeningValue) (q : AnyQueue) (start : QueueCounts) (events : List Event) (l : Loss)
+        → LosesNothing B M o q start events → HasLoss B M o q start events l → ⊥ }
+    ensures loses { (B M : ℕ) (o : OpeningValue) (q : AnyQueue) (start : QueueCounts) (schedule : ℕ → List Event) (runs : ℕ) (part : List Event) (l : Loss)
+        → HasSlot q → IsFlawTold (LosesNothing B M o q start) (HasLoss B M o q start) IsLossOfOneKind schedule runs part l
+        → EndsInLoss B M o q start part l }
 {}
 
 /// Of a queue of either kind with a slot. It does nothing.

@@ -1,6 +1,7 @@
 //! Quotients and remainders by any number, ranges of bytes, and the positions that lie in a slot.
 
 ghost use Rattle.std.specs.Prelude.{◌≡◌, ◌≤◌, ◌<◌, ◌+◌, ◌/◌, ◌%◌, ◌^◌};
+ghost use Rattle.std.specs.Int.{byte_at};
 ghost use Rattle.ownership_runs.specs.Keeping.{is_in_bytes, position_from};
 ghost use Rattle.ownership_runs.specs.inner.Bounds.{ROOM};
 
@@ -37,4 +38,15 @@ pub(crate) fn position_from(size: u32, from: u128, slot: u128) -> u128
 {
     let size = u128::from(size);
     from + remainder(slot + size.saturating_sub(remainder(from, size)), size)
+}
+
+/// Byte `place` of a number, and 0 past its last one.
+pub(crate) fn byte_at(value: u32, place: u32) -> u8
+    ensures { result ≡ byte_at place value }
+{
+    if place < 4 {
+        value.to_le_bytes()[place as usize]
+    } else {
+        0
+    }
 }

@@ -2,7 +2,7 @@
 
 ghost use Rattle.std.specs.Prelude.{◌≡◌, ◌+◌, ℕ, option_map};
 ghost use Rattle.step_machine.specs.Access.{load, store};
-ghost use Rattle.ownership_runs.specs.Protocols.{party_for, end_in, access_counts};
+ghost use Rattle.ownership_runs.specs.Protocols.{party_for, end_in, access_counts, entry_counts};
 ghost use Rattle.ownership_runs.specs.Keeping.{is_load_alone, moves_on};
 ghost use Rattle.ownership_runs.specs.inner.Bounds.{STEP, ROOM, AreCountsWithin};
 ghost use Rattle.queue_layouts.specs.Sides.{the_party};
@@ -11,6 +11,7 @@ use crate::counts::RunCounts;
 use crate::{indexed_moves, tagged_moves};
 use memory::writes::Write;
 use queue_layouts::{AnyQueue, Party, party_among};
+use step_machine::Entry;
 
 /// Which party a hart is.
 pub(crate) fn party_for(queue: &AnyQueue, hart: u32) -> Option<Party>
@@ -99,5 +100,38 @@ pub(crate) fn is_load_alone(queue: &AnyQueue, old: u32, new: u32) -> bool
     match queue {
         AnyQueue::Indexed(_) => new == old,
         AnyQueue::Tagged(_) => false,
+    }
+}
+
+/// The counts after an entry.
+pub(crate) fn after_entry(queue: &AnyQueue, counts: RunCounts, entry: Entry) -> RunCounts
+    requires { AreCountsWithin ROOM ROOM counts }
+    ensures value { result ≡ entry_counts queue.now counts entry }
+    ensures within { (n : ℕ) → AreCountsWithin n n counts → AreCountsWithin (n + STEP) (n + STEP) result }
+{
+    let party = party_for(queue, entry.hart());
+    match entry {
+        Entry::Load {
+            addr,
+            width,
+            value,
+            ..
+        } => after_load(queue, party, addr, width, value, counts),
+        Entry::Store {
+            addr,
+            width,
+            value,
+            ..
+        } => after_store(queue, party, Write { addr, width, value }, counts),
+        Entry::Amo { addr, old, new, .. } => {
+            let write = Write {
+                addr,
+                width: 4,
+                value: new,
+            };
+            let loaded = after_load(queue, party, addr, 4, old, counts);
+            after_store(queue, party, write, loaded)
+        }
+        _ => counts,
     }
 }

@@ -3,6 +3,7 @@
 ghost use Rattle.std.specs.Prelude.{◌≡◌, ◌≤◌, ◌+◌, ◌*◌, option_map, Some};
 ghost use Rattle.ownership_runs.specs.Keeping.{is_in_bytes, is_outside, is_of_owned, is_to_fill, may_fill, fills, owned_by, keeps_store};
 ghost use Rattle.ownership_runs.specs.Keeping.{slots_in, owning_all, is_described};
+ghost use Rattle.ownership_runs.specs.Losses.{slots_from, slot_width, slot_number, is_record_byte};
 ghost use Rattle.ownership_runs.specs.inner.Bounds.{STEP, ROOM, AreCountsWithin};
 ghost use Rattle.queue_layouts.specs.Sides.{the_party};
 
@@ -21,6 +22,47 @@ fn is_in_slots(slots: u32, size: u32, width: u32, x: u64) -> bool
 {
     let bytes = u64::from(size) * u64::from(width);
     is_in_bytes(u128::from(slots), bytes, x)
+}
+
+/// Where the slots begin.
+pub(crate) fn slots_from(queue: &AnyQueue) -> u32
+    ensures { result ≡ slots_from queue.now }
+{
+    match queue {
+        AnyQueue::Indexed(queue) => queue.slots,
+        AnyQueue::Tagged(queue) => queue.slots,
+    }
+}
+
+/// How many bytes a slot has.
+pub(crate) fn slot_width(queue: &AnyQueue) -> u32
+    ensures { result ≡ slot_width queue.now }
+{
+    match queue {
+        AnyQueue::Indexed(queue) => queue.width,
+        AnyQueue::Tagged(queue) => queue.width,
+    }
+}
+
+/// In which slot x lies.
+pub(crate) fn slot_number(queue: &AnyQueue, x: u64) -> u128
+    ensures value { result ≡ slot_number queue.now x }
+    ensures small { result ≤ x }
+{
+    let place = x.saturating_sub(u64::from(slots_from(queue)));
+    quotient(u128::from(place), u128::from(slot_width(queue)))
+}
+
+/// Whether x is a byte of a slot, and of no tag.
+pub(crate) fn is_record_byte(queue: &AnyQueue, x: u64) -> bool
+    ensures { result ≡ is_record_byte queue.now x }
+{
+    match queue {
+        AnyQueue::Indexed(queue) => is_in_slots(queue.slots, queue.size, queue.width, x),
+        AnyQueue::Tagged(queue) => {
+            is_in_slots(queue.slots, queue.size, queue.width, x) && !is_tag_byte(queue, x)
+        }
+    }
 }
 
 /// Whether x is no byte of the queue.
@@ -124,7 +166,7 @@ pub(crate) fn keeps_store(
 }
 
 /// How many slots there are.
-fn slots_in(queue: &AnyQueue) -> u32
+pub(crate) fn slots_in(queue: &AnyQueue) -> u32
     ensures { result ≡ slots_in queue.now }
 {
     match queue {

@@ -1,9 +1,10 @@
 //! Queues with tags: how accesses to the tags move the counts on.
 
-ghost use Rattle.std.specs.Prelude.{◌≡◌, ◌≤◌, ◌<◌, ◌+◌, ◌-◌, ◌%◌, ◌^◌, ◌==◌, ℕ};
+ghost use Rattle.std.specs.Prelude.{◌≡◌, ◌≤◌, ◌<◌, ◌+◌, ◌-◌, ◌%◌, ◌^◌, ◌==◌, ℕ, bit_and};
 ghost use Rattle.queue_parties.specs.Parties.{other};
 ghost use Rattle.slots_that_tell.specs.Slots.{gap, tag_of, element_at, is_tag};
 ghost use Rattle.slots_that_tell.specs.Telling.{owned_end, told, after_load, after_store};
+ghost use Rattle.slots_that_tell.specs.Codecs.{bits_under};
 ghost use Rattle.queue_layouts.specs.Tagged.{tells_by, slots_of};
 ghost use Rattle.ownership_runs.specs.Keeping.{is_tag_byte, is_tag_store, hands_on};
 ghost use Rattle.ownership_runs.specs.inner.Bounds.{STEP, ROOM, AreCountsWithin};
@@ -35,12 +36,22 @@ pub(crate) fn owned_end(queue: &TaggedQueue, party: Party, counts: RunCounts) ->
     known(party, counts) + gap(queue, other(party))
 }
 
-/// Whether a tag of this value tells a party that it has a position.
-fn tells(codec: Codec, party: Party, position: u128, value: u32) -> bool
-    requires { position < 2 ^ 128 - 1 }
-    ensures { result ≡ tells_by codec (the_party party) position value }
+/// Whether these bits are the ones that tell a party: `free` the sender, `full` the receiver.
+fn are_bits(party: Party, bits: u32, free: u32, full: u32) -> bool
+    ensures { (mask position value : ℕ) → bit_and value mask ≡ bits → result ≡ bits_under mask free full (the_party party) position value }
 {
-    match codec {
+    match party {
+        Party::Sender => bits == free,
+        Party::Receiver => bits == full,
+    }
+}
+
+/// Whether a tag of this value tells a party that it has a position.
+fn tells(queue: &TaggedQueue, party: Party, position: u128, value: u32) -> bool
+    requires { position < 2 ^ 128 - 1 }
+    ensures { result ≡ tells_by queue.now.size queue.now.codec (the_party party) position value }
+{
+    match queue.codec {
         Codec::Zero => match party {
             Party::Sender => value == 0,
             Party::Receiver => value != 0,
@@ -52,10 +63,20 @@ fn tells(codec: Codec, party: Party, position: u128, value: u32) -> bool
             };
             u128::from(value) == number % 4_294_967_296
         }
-        Codec::Bit { mask, free, full } => match party {
-            Party::Sender => value & mask == free,
-            Party::Receiver => value & mask == full,
-        },
+        Codec::Bit { mask, free, full } => are_bits(party, value & mask, free, full),
+        Codec::Phases {
+            mask,
+            free,
+            full,
+            odd_free,
+            odd_full,
+        } => {
+            if quotient(position, u128::from(queue.size)) % 2 == 0 {
+                are_bits(party, value & mask, free, full)
+            } else {
+                are_bits(party, value & mask, odd_free, odd_full)
+            }
+        }
     }
 }
 
@@ -128,7 +149,7 @@ pub(crate) fn after_load(
     }
     let element = element_at(queue, u64::from(address));
     let position = position_from(queue.size, count(party, counts), element);
-    if tells(queue.codec, party, position, value) {
+    if tells(queue, party, position, value) {
         let knows = known(party, counts);
         let more = told(queue, party, position).saturating_sub(knows);
         with_known(party, knows + more, counts)
@@ -176,7 +197,7 @@ fn is_tag_store(queue: &TaggedQueue, party: Party, n: u128, write: Write) -> boo
     let value = low_bytes(write.value, queue.tag_width);
     is_tag_of(queue, n, write.addr)
         && write.width == queue.tag_width
-        && tells(queue.codec, other(party), n + gap(queue, party), value)
+        && tells(queue, other(party), n + gap(queue, party), value)
 }
 
 /// Whether a write hands the party's own position over, which it owns.

@@ -37,7 +37,7 @@ newest-below x d found (w ∷ ws) low = at (covers w x) (λ f less. newest-below
     at true more = more (Some (byte_at (x - w.addr) w.value)) (byte_below (x - w.addr) w.value)
     at false more = more found low
 
-memory-below : (o : OpeningValue) (es : List Entry) (x : ℕ) → memory_byte o es x < 256
+pub memory-below : (o : OpeningValue) (es : List Entry) (x : ℕ) → memory_byte o es x < 256
 memory-below o es x = newest-below x (opening_byte o x) None (landed es) (byte_below (x % 4) (slice_index o.words (x / 4)))
 
 -- and each that a hart reads

@@ -4,7 +4,9 @@ use crate::given::{NoProgress, amo, load, store};
 use drawn_runs::{Draw, Runs, Sample};
 use judged_runs::Told;
 use litmus::Test;
-use ownership_runs::{Counts, Moved, Owned, Violation, check_runs, first_violation};
+use ownership_runs::{
+    Counts, Loss, Moved, Owned, Violation, check_losses, check_runs, first_violation,
+};
 use queue_layouts::{AnyQueue, Codec, Queue, TaggedQueue};
 use rand_core::SeedableRng;
 use rand_pcg::Pcg32;
@@ -309,6 +311,94 @@ fn a_violation_is_shown_by_the_events_that_it_needs(rt: HostRuntime) {
                 assert_same!(rt; part.len(), 3);
                 assert_same!(rt; flaw == violation(2, 0, 12, 1, Some((1, 1)), true), true);
             }
+        }
+    }
+}
+
+/// As above, but hart 1 loads what it takes.
+const LOADED: &str = "RISCV loaded
+{
+int none; int head; int tail; int slot;
+}
+ P0            | P1               ;
+ addi x5,x0,1  | L0: lw x6,4(x0)  ;
+ addi x7,x0,9  | beq x6,x0,L0     ;
+ sw x7,12(x0)  | lw x8,12(x0)     ;
+ sw x5,4(x0)   | sw x6,8(x0)      ;
+exists (1:x6=1)
+";
+
+const LOADED_TOO_LATE: &str = "RISCV loaded too late
+{
+int none; int head; int tail; int slot;
+}
+ P0            | P1               ;
+ addi x5,x0,1  | L0: lw x6,4(x0)  ;
+ addi x7,x0,9  | beq x6,x0,L0     ;
+ sw x5,4(x0)   | lw x8,12(x0)     ;
+ sw x7,12(x0)  | sw x6,8(x0)      ;
+exists (1:x6=1)
+";
+
+fn lost<T: Threads + Sync>(
+    rt: &T,
+    alloc: Global,
+    test: &Test,
+    draw: Draw,
+) -> Result<Told<(), Loss>, AllocError> {
+    let generator = Pcg32::seed_from_u64(1);
+    let sample = Sample {
+        draw,
+        generator: &generator,
+        runs: Runs {
+            skip: 3,
+            number: 20,
+            length: 400,
+            jobs: 2,
+        },
+    };
+    let opening = test.opening(alloc)?;
+    check_losses::<4, 1024, _, _, _>(
+        rt,
+        alloc,
+        &opening,
+        &AnyQueue::Indexed(WORDS),
+        counts(0, 0),
+        &sample,
+        &mut NoProgress,
+    )
+}
+
+#[test]
+fn drawn_runs_that_deliver_lose_nothing(rt: HostRuntime) {
+    let test = litmus_reader::read(rt.alloc(), LOADED).expect(&rt, "a test");
+    for draw in [Draw::Uniform, Draw::Bursts] {
+        match lost(&rt, rt.alloc(), &test, draw).expect(&rt, "an answer") {
+            Told::Good(_) => {}
+            Told::Flawed { .. } => assert_same!(rt; true, false),
+        }
+    }
+}
+
+/// Hart 0 publishes the slot before it fills it, and hart 1 loads what is filled in later.
+#[test]
+fn a_loss_is_shown_by_the_events_that_it_needs(rt: HostRuntime) {
+    let test = litmus_reader::read(rt.alloc(), LOADED_TOO_LATE).expect(&rt, "a test");
+    match lost(&rt, rt.alloc(), &test, Draw::Uniform).expect(&rt, "an answer") {
+        Told::Good(_) => assert_same!(rt; true, false),
+        Told::Flawed { part, flaw } => {
+            let wanted = Loss {
+                place: 8,
+                hart: 1,
+                addr: 12,
+                width: 4,
+                value: 9,
+                position: 0,
+                byte: 12,
+                sent: 0,
+            };
+            assert_same!(rt; part.len(), 9);
+            assert_same!(rt; flaw == wanted, true);
         }
     }
 }

@@ -1,0 +1,282 @@
+//! The first loss of a run, as its entries come.
+
+ghost use Rattle.std.specs.Prelude.{◌≡◌, ◌≤◌, ◌<◌, ◌+◌, ◌-◌, ◌*◌, ◌^◌, ◌++◌, ◌∷◌, ℕ, List, [], None, length, IfOk, OnOk};
+ghost use Rattle.step_machine.specs.declared.events.Entry.{Entry};
+ghost use Rattle.step_machine.specs.Access.{access_of};
+ghost use Rattle.step_machine.specs.Entries.{hart_of};
+ghost use Rattle.step_machine.specs.Runs.{Run};
+ghost use Rattle.queue_parties.specs.Parties.{QueueCounts};
+ghost use Rattle.ownership_runs.specs.Protocols.{HasSlot};
+ghost use Rattle.ownership_runs.specs.Losses.{last_of_slot, position_told, byte_lost, first_byte, loss_at, first_loss};
+ghost use Rattle.ownership_runs.specs.inner.Bounds.{ROOM, AreCountsWithin};
+ghost use Rattle.ownership_runs.specs.inner.Logging.{answered, IsAccessWithin};
+ghost use Rattle.ownership_runs.specs.inner.LossNoting.{AreLossNotes, AreLossNotesWithin, HasHappened};
+
+use crate::counts::{Counts, RunCounts, at_start};
+use crate::losses::Loss;
+use crate::numbers::{byte_at, position_from};
+use crate::protocols::{after_entry, party_for};
+use crate::sent::{SentByte, log_entry, logged};
+use crate::stores::{is_record_byte, slot_number, slots_in};
+use queue_layouts::{AnyQueue, Party};
+use std::alloc::AllocError;
+use step_machine::{Entry, Event, Machine, Outcome};
+
+/// The last of the positions below `known` that lie in a slot of `size`, if there is one among the last `size` of them.
+fn last_of_slot(size: u32, known: u128, slot: u128) -> Option<u128>
+    requires known { known ≤ ROOM }
+    requires slot { slot < 2 ^ 64 }
+    ensures { result ≡ last_of_slot size known slot }
+{
+    let position = position_from(size, known.saturating_sub(u128::from(size)), slot);
+    if position < known {
+        Some(position)
+    } else {
+        None
+    }
+}
+
+/// Of the positions that the receiver was told of, the last whose record has the byte at x.
+fn position_told(queue: &AnyQueue, counts: RunCounts, x: u64) -> Option<u128>
+    requires { AreCountsWithin ROOM ROOM counts }
+    ensures { result ≡ position_told queue.now counts x }
+{
+    if is_record_byte(queue, x) {
+        last_of_slot(
+            slots_in(queue),
+            counts.known_published,
+            slot_number(queue, x),
+        )
+    } else {
+        None
+    }
+}
+
+/// What the receiver loads: a number of `width` bytes from an address on.
+#[derive(Clone, Copy)]
+struct Loaded {
+    addr: u32,
+    width: u32,
+    value: u32,
+}
+
+/// Whether a byte of a load of the receiver's isn't what was sent.
+fn byte_lost(
+    queue: &AnyQueue,
+    place: usize,
+    hart: u32,
+    counts: RunCounts,
+    log: &[SentByte],
+    load: Loaded,
+    number: u32,
+) -> Option<Loss>
+    requires counts { AreCountsWithin ROOM ROOM counts }
+    requires address { load.addr + number < 2 ^ 32 }
+    ensures { result ≡ byte_lost queue.now place hart counts (answered counts log.now) load.addr load.width load.value number }
+{
+    let byte = load.addr + number;
+    let Some(position) = position_told(queue, counts, u64::from(byte)) else {
+        return None
+    };
+    if position >= counts.published {
+        return None;
+    }
+    let Some(sent) = logged(log, position, u64::from(byte)) else {
+        return None
+    };
+    if sent == byte_at(load.value, number) {
+        return None;
+    }
+    Some(Loss {
+        place,
+        hart,
+        addr: load.addr,
+        width: load.width,
+        value: load.value,
+        position,
+        byte,
+        sent,
+    })
+}
+
+/// The first byte of a load of the receiver's that isn't what was sent.
+fn first_lost(
+    queue: &AnyQueue,
+    place: usize,
+    hart: u32,
+    counts: RunCounts,
+    log: &[SentByte],
+    load: Loaded,
+) -> Option<Loss>
+    requires counts { AreCountsWithin ROOM ROOM counts }
+    requires address { load.addr + load.width ≤ 2 ^ 32 }
+    ensures { result ≡ first_byte (byte_lost queue.now place hart counts (answered counts log.now) load.addr load.width load.value) load.width }
+{
+    for number in 0..load.width {
+        if let Some(loss) = byte_lost(queue, place, hart, counts, log, load, number) {
+            return Some(loss);
+        }
+    }
+    None
+}
+
+/// The loss that an entry is, before which `place` others come, and what they logged.
+fn loss_at(
+    queue: &AnyQueue,
+    place: usize,
+    counts: RunCounts,
+    log: &[SentByte],
+    entry: Entry,
+) -> Option<Loss>
+    requires counts { AreCountsWithin ROOM ROOM counts }
+    requires within { IsAccessWithin (2 ^ 30) (access_of entry) }
+    ensures { result ≡ loss_at queue.now place counts (answered counts log.now) entry }
+{
+    let hart = entry.hart();
+    let Some(Party::Receiver) = party_for(queue, hart) else {
+        return None
+    };
+    let load = match entry {
+        Entry::Load {
+            addr,
+            width,
+            value,
+            ..
+        } => Loaded { addr, width, value },
+        Entry::Amo { addr, old, .. } => Loaded {
+            addr,
+            width: 4,
+            value: old,
+        },
+        _ => return None,
+    };
+    first_lost(queue, place, hart, counts, log, load)
+}
+
+/// What is noted of a run: its first loss, if there is one. While there is none, the counts, and how many entries there were.
+#[derive(Clone, Copy)]
+pub(crate) struct LossNotes {
+    pub(crate) found: Option<Loss>,
+    pub(crate) counts: RunCounts,
+    pub(crate) place: usize,
+}
+
+/// What is noted before the first entry of a run that begins where the parties have come as far as `start`.
+fn no_loss_noted(start: Counts) -> LossNotes
+    ensures found { result.found ≡ None }
+    ensures counts { result.counts ≡ start }
+    ensures place { result.place ≡ 0 }
+    ensures within { AreLossNotesWithin 0 result }
+{
+    LossNotes {
+        found: None,
+        counts: at_start(start),
+        place: 0,
+    }
+}
+
+/// Takes in an entry of a run that has lost nothing before. The machine stands after it.
+fn note_next<const B: usize, const M: usize>(
+    queue: &AnyQueue,
+    machine: &Machine<B, M>,
+    notes: LossNotes,
+    entry: Entry,
+    log: &mut Vec<SentByte>,
+) -> Result<LossNotes, AllocError>
+    requires size { M ≤ 65536 }
+    requires some_slot { HasSlot queue.now }
+    requires hart { hart_of entry < length machine.now.history.opening.harts }
+    requires within { IsAccessWithin M (access_of entry) }
+    requires counts { AreCountsWithin ROOM ROOM notes.counts }
+    requires place { notes.place < 2 ^ 64 - 1 }
+    requires none { notes.found ≡ None }
+    ensures noted { IfOk result (λ new. (start : QueueCounts) (es : List Entry) → machine.now.history.entries ≡ es ++ entry ∷ []
+        → AreLossNotes M queue.now machine.now.history.opening start es log.old.items notes
+        → AreLossNotes M queue.now machine.now.history.opening start machine.now.history.entries log.new.items new) }
+    ensures within { IfOk result (λ new. (i : ℕ) → AreLossNotesWithin i notes → AreLossNotesWithin (i + 1) new) }
+{
+    let found = loss_at(queue, notes.place, notes.counts, log, entry);
+    let counts = after_entry(queue, notes.counts, entry);
+    log_entry(queue, machine, notes.counts, counts, entry, log)?;
+    Ok(LossNotes {
+        found,
+        counts,
+        place: notes.place + 1,
+    })
+}
+
+/// Takes in an entry, after which the machine stands.
+fn note_entry<const B: usize, const M: usize>(
+    queue: &AnyQueue,
+    machine: &Machine<B, M>,
+    notes: LossNotes,
+    entry: Entry,
+    log: &mut Vec<SentByte>,
+) -> Result<LossNotes, AllocError>
+    requires size { M ≤ 65536 }
+    requires some_slot { HasSlot queue.now }
+    requires hart { hart_of entry < length machine.now.history.opening.harts }
+    requires within { IsAccessWithin M (access_of entry) }
+    requires counts { AreCountsWithin ROOM ROOM notes.counts }
+    requires place { notes.place < 2 ^ 64 - 1 }
+    ensures noted { IfOk result (λ new. (start : QueueCounts) (es : List Entry) → machine.now.history.entries ≡ es ++ entry ∷ []
+        → AreLossNotes M queue.now machine.now.history.opening start es log.old.items notes
+        → AreLossNotes M queue.now machine.now.history.opening start machine.now.history.entries log.new.items new) }
+    ensures within { IfOk result (λ new. (i : ℕ) → AreLossNotesWithin i notes → AreLossNotesWithin (i + 1) new) }
+{
+    match notes.found {
+        Some(_) => Ok(notes),
+        None => note_next(queue, machine, notes, entry, log),
+    }
+}
+
+/// Lets an event happen, and takes in what it did.
+fn note_event<const B: usize, const M: usize>(
+    queue: &AnyQueue,
+    machine: &mut Machine<B, M>,
+    notes: LossNotes,
+    event: Event,
+    log: &mut Vec<SentByte>,
+) -> Result<LossNotes, AllocError>
+    requires size { M ≤ 65536 }
+    requires some_slot { HasSlot queue.now }
+    requires counts { AreCountsWithin ROOM ROOM notes.counts }
+    requires place { notes.place < 2 ^ 64 - 1 }
+    ensures happened { OnOk result (HasHappened B M event machine.old.history machine.new.history) }
+    ensures opening { machine.new.history.opening ≡ machine.old.history.opening }
+    ensures noted { IfOk result (λ new. (start : QueueCounts)
+        → AreLossNotes M queue.now machine.old.history.opening start machine.old.history.entries log.old.items notes
+        → AreLossNotes M queue.now machine.old.history.opening start machine.new.history.entries log.new.items new) }
+    ensures within { IfOk result (λ new. (i : ℕ) → AreLossNotesWithin i notes → AreLossNotesWithin (i + 1) new) }
+{
+    match machine.step(event)? {
+        Outcome::Did(entry) => note_entry(queue, machine, notes, entry, log),
+        Outcome::Waited => Ok(notes),
+        Outcome::NothingToLand => Ok(notes),
+        Outcome::Over => Ok(notes),
+        Outcome::NoHart => Ok(notes),
+    }
+}
+
+/// The first loss of the run of these events. The machine ends at its end, whatever it did before, and the log has what was sent.
+pub(crate) fn first_loss<const B: usize, const M: usize>(
+    queue: &AnyQueue,
+    start: Counts,
+    machine: &mut Machine<B, M>,
+    log: &mut Vec<SentByte>,
+    events: &[Event],
+) -> Result<Option<Loss>, AllocError>
+    requires size { M ≤ 65536 }
+    requires some_slot { HasSlot queue.now }
+    ensures run { OnOk result (Run B M machine.old.history.opening events.now machine.new.history) }
+    ensures found { IfOk result (λ found. found ≡ first_loss queue.now machine.old.history.opening start machine.new.history.entries) }
+    ensures opening { machine.new.history.opening ≡ machine.old.history.opening }
+{
+    machine.restart();
+    log.clear();
+    let mut notes = no_loss_noted(start);
+    for event in events {
+        notes = note_event(queue, machine, notes, *event, log)?;
+    }
+    Ok(notes.found)
+}
