@@ -8,8 +8,9 @@ SLOTS = 128
 
 
 class Slots(NamedTuple):
-    """The slots, where their tags lie, and how these tell: by zero for free, or by positions' numbers if there is a modulus. Tags lie in the slots, or
-    in elements beside them: where these begin, and the bytes of one."""
+    """The slots, where their tags lie, and how these tell: by zero for free, by positions' numbers if there is a modulus, or by the bits under a mask: for
+    each of the rounds, which follow one another again and again, those of a free slot and of a full one. Tags lie in the slots, or in elements
+    beside them: where these begin, and the bytes of one."""
 
     size: int
     width: int
@@ -18,6 +19,8 @@ class Slots(NamedTuple):
     modulus: int = 0
     slots: int = SLOTS
     apart: tuple = None
+    mask: int = 0
+    rounds: tuple = ()
 
     # as many positions may be in use as there are slots
     @property
@@ -26,15 +29,29 @@ class Slots(NamedTuple):
 
     def tells(self, p, k, v):
         """Whether the tag tells the sender that the slot is free for position k, or the receiver that position k is in it."""
+        if self.rounds:
+            return v & self.mask == self.bits(p, k)
         if self.modulus:
             return v == (k + p) % self.modulus
         return (v == 0) == (p == SENDER)
 
+    def bits(self, p, k):
+        """The bits that tell so."""
+        return self.rounds[k // self.size % len(self.rounds)][p]
+
     def word(self, draw, p, k):
         """A word that tells so."""
+        if self.rounds:
+            return draw.below(256**self.tag_width) & ~self.mask | self.bits(p, k)
         if self.modulus:
             return (k + p) % self.modulus
         return 0 if p == SENDER else draw.between(1, 256**self.tag_width - 1)
+
+    def law(self):
+        """The law that this is a way to tell."""
+        if self.rounds:
+            return "bits_tell" if len(self.rounds) == 1 else "phases_tell"
+        return "numbers_tell" if self.modulus else "zero_tells"
 
     def slot_of(self, k):
         return self.slots + self.width * (k % self.size)
@@ -71,6 +88,10 @@ QUEUES = (
     Slots(4, 4, 0, 1, apart=(96, 1)),
     Slots(3, 5, 2, 2, apart=(224, 5)),
     Slots(2, 8, 4, 4, 2**32, apart=(224, 8)),
+    Slots(4, 8, 4, 4, mask=2**31, rounds=((0, 2**31),)),
+    Slots(2, 4, 0, 2, mask=0x8080, rounds=((0, 0x80), (0x8080, 0x8000))),
+    Slots(1, 4, 0, 4, mask=0x8080, rounds=((0, 0x80), (0x8080, 0x8000))),
+    Slots(3, 5, 2, 1, mask=3, rounds=((0, 1), (2, 1)), apart=(224, 5)),
 )
 # a round of few slots shows sooner that one is owned too early
 OF_FEW = tuple(queue for queue in QUEUES if queue.size < 3)
@@ -80,7 +101,7 @@ class Telling(Run):
     """the protocol of slots that tell"""
 
     laws = ("window", "publication", "publication_of_tag", "delivery", "handing_back", "waiting", "in_order",
-            "in_order_as_learned", "look", "zero_tells", "numbers_tell")
+            "in_order_as_learned", "look", "zero_tells", "numbers_tell", "bits_tell", "phases_tell")
     queues = QUEUES
     published_with = "publication_of_tag"
     hands_what_stands_after = True
@@ -197,7 +218,7 @@ class Telling(Run):
         """What tells a party that it has a position doesn't tell the other that it has the one that it will be handed."""
         p, k = self.draw.below(2), self.draw.below(2**33)
         if self.queue.tells(1 - p, k + self.gap(p), self.queue.word(self.draw, p, k)):
-            self.broken.add("numbers_tell" if self.queue.modulus else "zero_tells")
+            self.broken.add(self.queue.law())
 
 
 # ---- wrong protocols
@@ -319,14 +340,22 @@ class BothAlike(Telling):
 
     breaks = ("window", "publication", "publication_of_tag", "delivery", "in_order", "in_order_as_learned", "look", "zero_tells")
     seldom_breaks = ("handing_back",)
-    queues = tuple(Alike(*queue) for queue in QUEUES if not queue.modulus)
+    queues = tuple(Alike(*queue) for queue in QUEUES if queue.law() == "zero_tells")
+
+
+class RoundsAlike(Telling):
+    """bits of a full slot are those of the slot free in the next round"""
+
+    breaks = ("window", "publication", "publication_of_tag", "delivery", "in_order", "look", "phases_tell")
+    seldom_breaks = ("handing_back",)
+    queues = (Slots(1, 8, 4, 4, mask=3, rounds=((0, 1), (1, 2))), Slots(3, 8, 4, 4, mask=3, rounds=((2, 1), (0, 2))))
 
 
 class PendingAtTheStart(Telling):
     """stores to slots are pending at the start"""
 
-    breaks = ("delivery", "in_order", "look")
-    seldom_breaks = ("window", "publication", "publication_of_tag")
+    breaks = ("in_order", "look")
+    seldom_breaks = ("window", "publication", "publication_of_tag", "delivery")
 
     def pending_places(self):
         return (*range(self.queue.slots, self.queue.slots + self.queue.size * self.queue.width), *self.queue.element_bytes())
@@ -341,4 +370,4 @@ class LearnedAfterTheAmo(Telling):
 
 
 PROTOCOLS = (Telling, SenderOwnsMore, ReceiverOwnsMore, FilledAfterTheTag, AnyTag, TellsNothing, ThirdHart, PartOfATag, ToldOfMore,
-             NumbersStay, BothAlike, PendingAtTheStart, LearnedAfterTheAmo)
+             NumbersStay, BothAlike, RoundsAlike, PendingAtTheStart, LearnedAfterTheAmo)

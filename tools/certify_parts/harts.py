@@ -113,9 +113,10 @@ class Harts:
                 self.needed[queue.sender] = self.needed[queue.sender].with_hands(test.harts[queue.sender].code)
         self.flows = [flow_of(hart.code) for hart in test.harts]
         # of each hart at which turn and way it begins, which copies were seen, which ways came to an end, by which numbers positions are parted, and
-        # which bytes and halves are its own
+        # which bytes and halves are its own, as the ways show it that don't count that a sender opens with all slots, and as the others do: without, what
+        # it stores is seen later, or never
         self.begins, self.copies, self.ended, self.parts, self.narrow = (
-            [each() for _ in test.harts] for each in (lambda: (0, 0), frozenset, set, dict, Narrow))
+            [each() for _ in test.harts] for each in (lambda: (0, 0), frozenset, set, dict, lambda: (Narrow(), Narrow())))
         # where a word of counts wraps, position and slot part if the number of slots doesn't divide 2^32: more time seldom shows anything then
         self.may_be_covered = not any(not queue.has_tags and queue.is_linear() and SIZE % queue.size for queue in queues)
         self.shared = {place for place in test.words if any(queue.meets(place, 4) for queue in queues)}
@@ -143,7 +144,7 @@ class Harts:
         is_tagged = any(queue.has_tags and queue.party(hart) is not None for queue in self.queues)
         is_sender = any(queue.has_tags and queue.sender == hart for queue in self.queues)
         # beside bits that tell a loaded word may be stored
-        least = 0 if any(queue.has_tags and isinstance(queue.tells, tags.BitsTell) for queue in self.queues) else 4
+        least = 0 if any(queue.has_tags and queue.has_bits() for queue in self.queues) else 4
         loads_bytes = any(word & 127 == LOAD and word >> 12 & 7 >= least for word in self.test.harts[hart].code)
         # where an index counts few rounds, remainders of sums tell little: what joins least without them comes first
         begins_anew = any(not queue.has_tags and queue.party(hart) is not None and queue.begins_soon_anew() for queue in self.queues)
@@ -171,7 +172,7 @@ class Harts:
             if found.refused and (not refused or refused.refused.pc is None):
                 refused = found
             if not found.refused or found.refused.pc is not None:
-                self.ended[hart] |= {(each, self.numbers_kept(hart, others), *asked[2:]) for each in self.alike(asked[0], found.program)}
+                self.ended[hart] |= {(each, self.numbers_kept(hart, others, way), *asked[2:]) for each in self.alike(asked[0], found.program)}
             if self.is_whole(found):
                 # a further round begins here
                 self.begins[hart] = at
@@ -180,15 +181,15 @@ class Harts:
             self.copies[hart] |= found.search.seen
         return (reads or refused)._replace(turn=last)
 
-    def kept(self, hart, others):
+    def kept(self, hart, others, way):
         """The hart's own words, and the bytes and halves among these, each where it lies and its bytes."""
         stored = {place for low, end in others for place in range(low & ~3, end, 4)}
         words = [(place, 4) for place in set(self.test.words) - self.shared - stored]
-        return sorted(words + [own for own in self.narrow[hart].kept if are_apart(own, others)])
+        return sorted(words + [own for own in self.narrow[hart][way.opens_full].kept if are_apart(own, others)])
 
-    def numbers_kept(self, hart, others):
+    def numbers_kept(self, hart, others, way):
         """How many own words a hart has, and how often what it has of bytes and halves changed."""
-        return len(self.kept(hart, others)), self.narrow[hart].changes
+        return len(self.kept(hart, others, way)), self.narrow[hart][way.opens_full].changes
 
     def may_be_own(self, others, place, width):
         """Whether a byte or a half that a hart loads may be its own."""
@@ -198,7 +199,7 @@ class Harts:
     def asked(self, hart, others, way, turn):
         """What a search depends on, except for its work."""
         far = way.mode == Mode.BY_PATH and tuple(told_apart_of(queue, not turn) for queue in self.queues)
-        return (way._replace(work=()), self.numbers_kept(hart, others), self.copies[hart], far, self.records and self.records.known(),
+        return (way._replace(work=()), self.numbers_kept(hart, others, way), self.copies[hart], far, self.records and self.records.known(),
                 tuple(self.parts_at(hart, turn).items()))
 
     def parts_at(self, hart, turn):
@@ -233,19 +234,19 @@ class Harts:
 
     def searched(self, hart, others, way, work, turn, wants_all=False):
         """What one way finds of a hart, where the others store there. If that isn't all, it is sought anew with the bytes and halves of its own."""
-        narrow, before = self.narrow[hart], None
+        narrow, before = self.narrow[hart][way.opens_full], None
         narrow.may_be_own = partial(self.may_be_own, others)
         while True:
             kept = narrow.kept
             found = self.searched_with(hart, others, way, work, turn, wants_all)
             is_over = found.refused and found.refused.pc is None
-            if not is_over and narrow.leave(found.program):
-                if before and narrow.kept == before[0]:
-                    return before[1]
-            elif not (found.refused or found.program.unowned) or not narrow.keep(found.program.asked_for) or is_over:
-                return found
-            else:
+            if (found.refused or found.program.unowned) and narrow.keep(found.program.asked_for) and not is_over:
                 before = kept, found
+            # one that was refused may not have come to the stores of what it keeps
+            elif found.refused or not narrow.leave(found.program):
+                return found
+            elif before and narrow.kept == before[0]:
+                return before[1]
 
     def searched_with(self, hart, others, way, work, turn, wants_all):
         """The same with what is kept of bytes and halves, anew as long as what it stores turns out to matter at further places. With `wants_all` it
@@ -253,8 +254,8 @@ class Harts:
         while True:
             parts = self.parts_at(hart, turn)
             queues = [queue.parted(parts[which]) if which in parts else queue.counting() if way.loosens else queue for which, queue in enumerate(self.queues)]
-            program = Program(self.test, queues, hart, self.kept(hart, others), self.narrow[hart], self.needed[hart], way.with_bytes, way.loosens,
-                              self.records, way.opens_full, way.mode == Mode.BY_ROOM, wants_all)
+            program = Program(self.test, queues, hart, self.kept(hart, others, way), self.narrow[hart][way.opens_full], self.needed[hart], way.with_bytes,
+                              way.loosens, self.records, way.opens_full, way.mode == Mode.BY_ROOM, wants_all)
             search = Search(program, way, self.copies[hart], int(work * WORK), self.clock, self.flows[hart], not turn)
             try:
                 search.run_by_path() if way.mode == Mode.BY_PATH else search.run()

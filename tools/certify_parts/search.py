@@ -72,6 +72,8 @@ class Search:
         # up to which count numbers of it are told apart between the outermost joins
         self.far = [queue.start + told_apart_of(queue, is_short) for queue in program.queues]
         self.groups = {}
+        # the queues whose even rounds are told apart from odd ones
+        self.phased = [which for which, queue, _ in program.tagged if queue.has_phases()]
         self.flow = flow
         # whether what was found from there on is left, since there are other states where an outermost loop begins
         self.begins_anew = False
@@ -129,7 +131,7 @@ class Search:
         positions = tuple((share.first, share.last) for share in shares) if self.mode in (Mode.BY_POSITION, Mode.BY_OWNED) else ()
         owned = tuple((share.low, share.high) if self.mode == Mode.BY_OWNED else (share.low > 0, share.first // BLOCK) for share in shares)
         owned = owned if self.mode in (Mode.BY_OWNED, Mode.BY_ROOM) else ()
-        return state.pc, positions, owned, state.others, state.is_apart
+        return state.pc, positions, owned, tuple(state.shares[which].begin for which in self.phased), state.others, state.is_apart
 
     # ---- values
 

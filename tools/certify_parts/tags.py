@@ -7,6 +7,7 @@ from typing import NamedTuple
 
 import certificates
 import tags as reference
+from certificate_lines import TELLS
 from tags import NUMBER, WORD, ZERO
 
 from .forms import SIZE, Form, numbers_of, variable_of
@@ -14,20 +15,27 @@ from .queues import Wrong, numbers_given
 from .values import FEW_TRIED
 
 PARTIES = certificates.SENDER, certificates.RECEIVER
-BITS = "bits"
+BITS, PHASES = "bits", "phases"
 
 
 class BitsTell(reference.Bits):
     """The tag's bits under a mask are these in a free slot and in a full one."""
 
     def __str__(self):
-        return f"{BITS} {self.mask} {self.free} {self.full}"
+        return " ".join(map(str, (BITS, *self)))
+
+
+class PhasesTell(reference.Phases):
+    """These turn with the rounds: they are `free` and `full` in even ones, and other two in odd ones."""
+
+    def __str__(self):
+        return " ".join(map(str, (PHASES, *self)))
 
 
 class Tagged(NamedTuple):
     """For each slot there is an element of `tag_stride` bytes, itself or one of an array from `tags` on, of which the `tag_width` bytes from `tag_offset`
     on tell whose the slot is: with `zero` it is free if they are 0 and full otherwise, with `number` it is free for position k if they are k, and
-    full of it if they are k + 1, else some bits of them tell. Position k lies in slot k mod `size`."""
+    full of it if they are k + 1, else some bits of them tell. Position k lies in slot k mod `size`, in round k / `size`."""
 
     sender: int
     receiver: int
@@ -38,16 +46,21 @@ class Tagged(NamedTuple):
     tag_stride: int
     tag_offset: int
     tag_width: int
-    tells: object  # ZERO, NUMBER or BitsTell
+    tells: object  # ZERO, NUMBER, BitsTell or PhasesTell
     start: int
 
     has_tags = True
 
     def turns(self):
-        return 1
+        return 2 if self.has_phases() else 1
 
     def period(self):
         return self.size
+
+    @staticmethod
+    def has_known_words():
+        """No index has words that stand for counts."""
+        return False
 
     def counting(self):
         return self
@@ -57,6 +70,14 @@ class Tagged(NamedTuple):
 
     def first_owned(self, party):
         return 0 if party else self.size
+
+    def has_bits(self):
+        """Whether some bits of a tag tell, whatever the others are."""
+        return not isinstance(self.tells, str)
+
+    def has_phases(self):
+        """Whether what tells depends on the round, so that even and odd ones are told apart, as turns."""
+        return isinstance(self.tells, PhasesTell)
 
     def has_tags_apart(self):
         """Whether tags lie beside the slots, in elements of their own."""
@@ -88,24 +109,28 @@ class Tagged(NamedTuple):
 
     def free(self, position):
         """The tag of a slot that is free for a position, or the bits of it that tell."""
-        return self.tells.free if isinstance(self.tells, BitsTell) else 0 if self.tells == ZERO else position % SIZE
+        if self.has_phases():
+            return reference.bits_in(self.tells, position // self.size % 2 == 0).free
+        return self.tells.free if self.has_bits() else 0 if self.tells == ZERO else position % SIZE
 
     def found(self, position, test):
         """What of the tag tells, as it opens."""
         tag = test.number(self.tag(position), self.tag_width)
-        return tag & self.tells.mask if isinstance(self.tells, BitsTell) else tag
+        return tag & self.tells.mask if self.has_bits() else tag
 
     def opened(self, test, is_given):
-        """The queue with the position with which it opens: the given one, or else 0 or the first of the positions whose numbers the tags are."""
+        """The queue with the position with which it opens: the given one, or else 0 or the first of which the tags say it, by numbers or by the bits of
+        two rounds."""
         first = self
-        if not is_given and self.tells == NUMBER:
+        if not is_given and (self.tells == NUMBER or self.has_phases()):
             round_before = test.number(self.tag(0), self.tag_width) - self.size
-            starts = [position % SIZE for position in range(round_before + 1, round_before + self.size + 1)]
+            starts = range(2 * self.size) if self.has_phases() else [
+                position % SIZE for position in range(round_before + 1, round_before + self.size + 1)]
             first = self._replace(start=next((start for start in starts if self._replace(start=start).is_free(test)), 0))
         for position in range(first.start, first.start + first.size):
             found, wanted = first.found(position, test), first.free(position)
             if found != wanted:
-                bits = f"'s bits under {first.tells.mask} open" if isinstance(first.tells, BitsTell) else " opens"
+                bits = f"'s bits under {first.tells.mask} open" if first.has_bits() else " opens"
                 raise Wrong(f"the tag of slot {position % first.size}{bits} as {found}, and not as {wanted}, which says that it is free for position "
                             f"{position}: a queue opens with all slots free, and start= and tells= say what their tags are")
         return first
@@ -117,9 +142,9 @@ class Tagged(NamedTuple):
 
 def of_words(words):
     """The queue of a certificate's line, after its first word."""
-    tells, at = words[7], 11 if words[7] == BITS else 8
-    elements = words[at + 1:] or (words[2], words[4])
-    return Tagged(*map(int, (*words[:5], *elements, *words[5:7])), BitsTell(*map(int, words[8:at])) if tells == BITS else tells, int(words[at]))
+    tells, at = words[7], 8 + TELLS[words[7]]
+    elements, bits = words[at + 1:] or (words[2], words[4]), {BITS: BitsTell, PHASES: PhasesTell}.get(tells)
+    return Tagged(*map(int, (*words[:5], *elements, *words[5:7])), bits(*map(int, words[8:at])) if bits else tells, int(words[at]))
 
 
 NUMBERS = {"size": None, "width": WORD, "tag_stride": None, "start": 0, "sender": 0, "receiver": 1}
@@ -134,28 +159,45 @@ def tag_given(text, width):
     return int(offset), int(count) if plus else min(WORD, max(width - int(offset), 1))
 
 
+# what is said of bits in place of numbers: those that may be left out have another one
+BIT, BITS_SAID, PHASES_SAID = "bit", ("MASK", "FREE", "FULL"), ("MASK", "FREE", "FULL", "ODD_FREE", "ODD_FULL")
+
+
 def tells_given(text, width):
     """How a tag of so many bytes tells."""
     if text in (ZERO, NUMBER):
         return text
     name, *numbers = text.split(":")
-    if name != "bit" or not 1 <= len(numbers) <= 3:
+    if not (name == BIT and 1 <= len(numbers) <= len(BITS_SAID) or name == PHASES and len(numbers) == len(PHASES_SAID)):
         raise Wrong("tells is zero, number, or bit:MASK, bit:MASK:FREE or bit:MASK:FREE:FULL, where MASK has the bits that tell, which are FREE (0) in a "
-                    "free slot and FULL (all of them) in a full one")
+                    f"free slot and FULL (all of them) in a full one, or {PHASES}:{':'.join(PHASES_SAID)}, where they are the last two in every other round")
     try:
-        mask, free, full = (int(each, 0) for each in (*numbers, "0", numbers[0])[:3] if each.isascii())
-    except ValueError as error:
-        raise Wrong(f"tells={text}: {error}") from error
-    if len(numbers) == 2:
-        full = mask
+        mask, *bits = (int(each.encode("ascii"), 0) for each in numbers)
+    except ValueError:
+        raise Wrong(f"of tells={text} each number is in decimal, or as 0x80000000") from None
     if not 0 < mask < 256 ** width:
         raise Wrong(f"the mask of tells={text} has bits that a tag of {width} bytes doesn't have" if mask > 0 else f"the mask of tells={text} has no bit")
-    for each in (free, full):
+    for each in bits:
         if each & mask != each:
             raise Wrong(f"of tells={text} {each} has bits that aren't of the mask")
-    if free == full:
+    return phases_of(text, mask, bits) if name == PHASES else bits_of(text, mask, *bits)
+
+
+def bits_of(text, mask, free=0, full=None):
+    """Bits that are the same in all rounds."""
+    found = BitsTell(mask, free, mask if full is None else full)
+    if found.free == found.full:
         raise Wrong(f"of tells={text} the bits of a free slot are those of a full one")
-    return BitsTell(mask, free, full)
+    return found
+
+
+def phases_of(text, mask, bits):
+    """Bits that turn with the rounds: those of a slot go from one to the next, and from the last to the first."""
+    for at, (one, other) in enumerate(zip(bits, bits[1:] + bits[:1])):
+        if one == other:
+            raise Wrong(f"of tells={text} {PHASES_SAID[1:][at]} and {(PHASES_SAID[2:] + PHASES_SAID[1:2])[at]} are the same: a slot's bits are to change each "
+                        "time that it is filled or emptied")
+    return PhasesTell(mask, *bits)
 
 
 def described(places, given, test):
@@ -245,9 +287,15 @@ def read_rest(program, which, state, place, width):
 def after_load(program, state, to, which, position, op):
     """The states after a load of a tag by this instruction: the party is told that it owns up to that position, or not yet."""
     queue, party, own = program.asked[which], PARTIES[program.parties[which]], variable_of("n", which)
-    layout = program.layout(program.ranges(state), (own,), True)
-    told, other = (left(layout.found(result, len(state.others))) for result in (
-        reference.told_value(queue.codec, party, op, layout.form(own), position), reference.other_value(queue, party, op, layout.form(own), position)))
+
+    def loaded(ranges):
+        layout = program.layout(ranges, (own,), True)
+        return layout, [value_of(layout.most, queue, party, op, layout.form(own), position) for value_of in (reference.told_value, reference.other_value)]
+
+    layout, results = loaded(program.ranges(state))
+    if program.queues[which].has_phases() and results[0].value is certificates.ANY:
+        program.split_for(lambda ranges: loaded(ranges)[1][0].value, (own,), state, SIZE)
+    told, other = (left(layout.found(result, len(state.others))) for result in results)
     is_owned = position < state.shares[which].low
     found = [program.put(state, to, **told, told=None if is_owned else (which, position + 1))]
     return found if is_owned else [*found, program.put(state, to, **other)]
@@ -293,10 +341,12 @@ def check_handed(program, which, state, value):
 
     if hands_over(program.ranges(state)):
         return
-    wanted = reference.told_by(queue.codec, certificates.other(party), certificates.number(queue.size if party == PARTIES[1] else 0))
+    layout, gap = program.layout(program.ranges(state), (own,)), queue.size if party == PARTIES[1] else 0
+    counted = layout.form(own)
+    wanted = reference.told_by(layout.most, queue.size, queue.codec, certificates.other(party), reference.further(counted, gap))
     if isinstance(wanted, reference.NumberOf):
         program.split_for(hands_over, (value, own), state, FEW_TRIED)
-        program.refuse(pc, f"the tag that it stores isn't known to be the position's number and {wanted.form.constant}")
+        program.refuse(pc, f"the tag that it stores isn't known to be the position's number and {wanted.form.constant - counted.constant}")
     if wanted == reference.NOTHING:
         program.refuse(pc, "the tag that it stores isn't known to be 0")
     if wanted != reference.SOMETHING:

@@ -66,7 +66,7 @@ class Values:
         self.asked = [queue.asked() for queue in queues]
         self.indexed = [queue for queue in self.asked if isinstance(queue, reference.Queue)]
         # whether some bits of a tag tell, which the others are stored beside
-        self.tells_by_bits = any(queue.has_tags and not isinstance(queue.tells, str) for queue in queues)
+        self.tells_by_bits = any(queue.has_tags and queue.has_bits() for queue in queues)
 
     def ranges(self, state):
         """The range of each variable that has one; not to be changed."""

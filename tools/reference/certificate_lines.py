@@ -15,7 +15,7 @@ KNOWN = ("reg", "word", "share", "filled")
 # the bytes that an own word may have
 WIDTHS = (1, 2, 4)
 # how a tag tells, and how many numbers follow the word
-TELLS = {"zero": 0, "number": 0, "bits": 3}
+TELLS = {"zero": 0, "number": 0, "bits": 3, "phases": 5}
 ROUND = 2**32
 MOST = str(ROUND)
 # a certificate says the same numbers and forms again and again: the last ones are remembered, of each up to this number

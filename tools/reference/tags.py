@@ -22,6 +22,16 @@ class Bits(NamedTuple):
     full: int
 
 
+class Phases(NamedTuple):
+    """The bits of a tag under a mask turn with the rounds, each of as many positions as there are slots: in even rounds they are `free` in a free slot and
+    `full` in a full one, and in odd rounds these are `odd_free` and `odd_full`."""
+
+    mask: int
+    free: int
+    full: int
+    odd_free: int
+    odd_full: int
+
 
 class TaggedQueue(NamedTuple):
     """Each of the elements of `tag_stride` bytes from `tags` on has, from `tag_offset` on, `tag_width` bytes that are the tag of the slot of its number,
@@ -36,7 +46,7 @@ class TaggedQueue(NamedTuple):
     tag_stride: int
     tag_offset: int
     tag_width: int
-    codec: object  # ZERO, NUMBER or Bits
+    codec: object  # ZERO, NUMBER, Bits or Phases
 
 
 class OpenedTagged(NamedTuple):
@@ -60,7 +70,18 @@ def bits_under(bits, party, v):
     return v & bits.mask == (bits.free if party == certificates.SENDER else bits.full)
 
 
-def tells_by(codec, party, k, v):
+def bits_in(phases, is_even):
+    """The bits of the positions of a round."""
+    return Bits(phases.mask, phases.free, phases.full) if is_even else Bits(phases.mask, phases.odd_free, phases.odd_full)
+
+
+def phase_bits(size, phases, party, k, v):
+    return bits_under(bits_in(phases, certificates.div(k, size) % 2 == 0), party, v)
+
+
+def tells_by(size, codec, party, k, v):
+    if isinstance(codec, Phases):
+        return phase_bits(size, codec, party, k, v)
     if isinstance(codec, Bits):
         return bits_under(codec, party, v)
     return zero_is_free(party, v) if codec == ZERO else position_number(certificates.M32, party, k, v)
@@ -93,9 +114,16 @@ def tag_of(q, k):
     return q.tags + q.tag_stride * certificates.mod(k, q.size) + q.tag_offset
 
 
+def always_change(bits):
+    """Each time that a slot is filled or emptied, its bits are other ones."""
+    if isinstance(bits, Phases):
+        return bits.free != bits.full != bits.odd_free != bits.odd_full != bits.free
+    return bits.free != bits.full
+
+
 def tag_flaws(q):
     """What `is_tagged` asks, in its order, each with what is wrong where it isn't so."""
-    number, bits = q.codec == NUMBER, q.codec if isinstance(q.codec, Bits) else None
+    number, bits = q.codec == NUMBER, q.codec if isinstance(q.codec, (Bits, Phases)) else None
     return ((q.sender != q.receiver, "one hart as its sender and its receiver"),
             (q.size >= 1, "no slot"),
             (q.tag_width >= 1, "a tag without a byte"),
@@ -105,7 +133,7 @@ def tag_flaws(q):
             (not number or q.tag_width == WORD, "numbers in a tag that isn't a word"),
             (not number or q.size % certificates.M32 != 1, "numbers that are the same for free and for full slots"),
             (not bits or bits.mask < 256 ** min(q.tag_width, WORD), "a mask with bits that its tag doesn't have"),
-            (not bits or bits.free != bits.full, "bits that are the same for free and for full slots"))
+            (not bits or always_change(bits), "bits that are the same for free and for full slots"))
 
 
 def is_tagged(q):
@@ -160,12 +188,27 @@ class NumberOf(NamedTuple):
     form: object  # a form of certificates.py
 
 
-NOTHING, SOMETHING = "it is 0", "it isn't 0"
+NOTHING, SOMETHING, UNKNOWN = "it is 0", "it isn't 0", "it isn't known"
 
 
-def told_by(codec, party, position):
-    """What a tag satisfies that tells the party that it has the position that a form is: NOTHING, SOMETHING, a NumberOf, or the bits of a HasBits."""
+def is_even_between(size, b):
+    """Whether a position is of an even round, of which these are the bounds of its remainder by two rounds; or None."""
+    if b is None:
+        return None
+    return True if b.high < size else False if size <= b.low else None
+
+
+def is_of_even_round(ranges, size, position):
+    return is_even_between(size, certificates.bounds_of(2 * size, ranges, position))
+
+
+def told_by(ranges, size, codec, party, position):
+    """What a tag satisfies that tells the party that it has the position that a form is: NOTHING, SOMETHING, a NumberOf, the bits of a HasBits, or
+    UNKNOWN, anything."""
     sends = party == certificates.SENDER
+    if isinstance(codec, Phases):
+        is_even = is_of_even_round(ranges, size, position)
+        return UNKNOWN if is_even is None else told_by(ranges, size, bits_in(codec, is_even), party, position)
     if isinstance(codec, Bits):
         return certificates.HasBits(codec.mask, codec.free if sends else codec.full)
     if codec == ZERO:
@@ -173,8 +216,11 @@ def told_by(codec, party, position):
     return NumberOf(position if sends else further(position, 1))
 
 
-def back_to(q, party):
-    return 0 if party == certificates.SENDER else certificates.M32 - q.size % certificates.M32
+def back_to(q, codec, party):
+    """From a position of the sender's, the party's own one of that slot: as far on, by what tells, as it lies back."""
+    if party == certificates.SENDER:
+        return 0
+    return q.size if isinstance(codec, Phases) else certificates.M32 - q.size % certificates.M32
 
 
 # the bits that an unsigned load leaves 0
@@ -195,6 +241,8 @@ def some_up_to(n):
 
 def value_told(op, told):
     """What a load leaves of such a tag."""
+    if told == UNKNOWN:
+        return certificates.or_up_to(certificates.most_loaded(op), certificates.ANY)
     if told == NOTHING:
         return certificates.just(certificates.Linear(certificates.number(0)))
     if told == SOMETHING:
@@ -204,15 +252,15 @@ def value_told(op, told):
     return certificates.just(certificates.of_bits(extended(op, told.mask) | ABOVE.get(op, 0), extended(op, told.bits)))
 
 
-def told_value(codec, party, op, own, j):
+def told_value(ranges, q, party, op, own, j):
     """What the party loads that has the position j further."""
-    return value_told(op, told_by(codec, party, further(own, j)))
+    return value_told(op, told_by(ranges, q.size, q.codec, party, further(own, j)))
 
 
-def other_value(q, party, op, own, j):
+def other_value(ranges, q, party, op, own, j):
     """What it loads where the other still has the slot."""
     other = certificates.other(party)
-    return value_told(op, told_by(q.codec, other, further(own, j + back_to(q, other))))
+    return value_told(op, told_by(ranges, q.size, q.codec, other, further(own, j + back_to(q, q.codec, other))))
 
 
 def is_positive(width, b):
@@ -229,6 +277,8 @@ def are_these(known, mask, bits):
 
 def makes(ranges, width, told, v):
     """Whether a stored value makes a tag that tells so."""
+    if told == UNKNOWN:
+        return False
     if told == NOTHING:
         return is_number(256 ** width, v, certificates.number(0))
     if told == SOMETHING:
@@ -241,7 +291,7 @@ def makes(ranges, width, told, v):
 def hands_over(ranges, q, party, own, v):
     """The sender hands over its own position, and the receiver the slot's next one."""
     gap = 0 if party == certificates.SENDER else q.size
-    return makes(ranges, q.tag_width, told_by(q.codec, certificates.other(party), further(own, gap)), v)
+    return makes(ranges, q.tag_width, told_by(ranges, q.size, q.codec, certificates.other(party), further(own, gap)), v)
 
 
 def handed(s):
@@ -277,11 +327,11 @@ class Tags:
 
     def after_tag(self, k, op, rd, t, j):
         q, party, s = self.tagged[t], self.parties[t], self.tag_share(k, t)
-        told = self.after(k, rd, told_value(q.codec, party, op, s.own, j))
+        told = self.after(k, rd, told_value(k.ranges, q, party, op, s.own, j))
         if j < s.owned.constant:
             return [told]
         owns = certificates.Share(certificates.lifted(s.own), certificates.number(j + 1))
-        return [self.with_share(t, owns, told), self.after(k, rd, other_value(q, party, op, s.own, j))]
+        return [self.with_share(t, owns, told), self.after(k, rd, other_value(k.ranges, q, party, op, s.own, j))]
 
     def load_tells(self, k, op, rd, place, b, states):
         width = certificates.LOADS[op]
@@ -378,7 +428,7 @@ def opens_free(opening, q, start):
     # what lies past memory's words is 0, so of tags that 0 frees only those within are looked at
     within = max(0, 4 * len(opening.words) - q.tags) // q.tag_stride + 1
     slots = range(min(q.size, within) if q.codec == ZERO else q.size)
-    return all(tells_by(q.codec, certificates.SENDER, k, certificates.number_seen(opening, tag_of(q, k), q.tag_width))
+    return all(tells_by(q.size, q.codec, certificates.SENDER, k, certificates.number_seen(opening, tag_of(q, k), q.tag_width))
                for k in (start + (slot - start) % q.size for slot in slots))
 
 

@@ -215,6 +215,8 @@ codec_solid codec.Zero fits = (solid_by_test (codes "zero") refl, tt)
 codec_solid codec.Number fits = (solid_by_test (codes "number") refl, tt)
 codec_solid (codec.Bit mask free full) fits =
     (solid_by_test (codes "bits") refl, all_map FitsWord Solid decimal word_solid (mask ∷ free ∷ full ∷ []) fits)
+codec_solid (codec.Phases mask free full odd_free odd_full) fits =
+    (solid_by_test (codes "phases") refl, all_map FitsWord Solid decimal word_solid (mask ∷ free ∷ full ∷ odd_free ∷ odd_full ∷ []) fits)
 
 elements_solid : (o : OpenedTagged) → FitsTagged o → AllByRecursion Solid (map decimal (element_numbers o.queue))
 elements_solid o fits = by ((o.queue.tags == o.queue.slots) && (o.queue.tag_stride == o.queue.width))

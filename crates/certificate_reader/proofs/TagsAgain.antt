@@ -13,7 +13,7 @@ use Rattle.certificate_reader.specs.declared.stages.Keyword.TheVariants as keywo
 use Rattle.certificate_reader.specs.declared.stages.Stage.{Stage}
 use Rattle.certificate_reader.specs.declared.stages.Stage.TheVariants as stage
 use Rattle.certificate_reader.specs.Stages.{keyword_named, stage_after, lists_queues}
-use Rattle.certificate_reader.specs.Tags.{bits_in, codec_by, first_codec_in, elements_in, tagged_of, with_tagged}
+use Rattle.certificate_reader.specs.Tags.{bits_in, phases_in, codec_by, first_codec_in, elements_in, tagged_of, with_tagged}
 use Rattle.certificate_reader.specs.Drafts.{DraftValue}
 use Rattle.certificate_reader.specs.Writing.{codec_words, element_numbers, tagged_line}
 use Rattle.certificate_reader.specs.Written.{FitsCodec, FitsTagged}
@@ -24,7 +24,7 @@ use Rattle.certificate_reader.proofs.Turns.{each_line}
 -- ---- a line
 
 first_codec_again : (c : Codec) (words : List (List ℕ)) → FitsCodec c → first_codec_in (codec_words c ++ words) ≡ Ok (c, words)
-unfolding first_codec_in codec_by bits_in
+unfolding first_codec_in codec_by bits_in phases_in
 first_codec_again codec.Zero words fits = refl
 first_codec_again codec.Number words fits = refl
 first_codec_again (codec.Bit mask free full) words fits = rw (
@@ -32,6 +32,7 @@ first_codec_again (codec.Bit mask free full) words fits = rw (
   first_word_again free (decimal full ∷ words) fits.1.0,
   first_word_again full words fits.1.1.0,
 ) refl
+first_codec_again (codec.Phases mask free full odd_free odd_full) words fits = rw (five_again mask free full odd_free odd_full words fits) refl
 
 elements_again : (o : OpenedTagged) → FitsTagged o
     → elements_in o.queue.slots o.queue.width (map decimal (element_numbers o.queue)) ≡ Ok ((o.queue.tags, o.queue.tag_stride), [])

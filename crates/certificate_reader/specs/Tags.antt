@@ -26,8 +26,14 @@ bits_in words = do
   full ← first_word_in free.1
   Ok (codec.Bit mask.0 free.0 full.0, full.1)
 
+-- phase bits: a mask, what is under it in even rounds, and what in odd ones
+unfoldable pub phases_in : List (List ℕ) → Result (Codec × List (List ℕ)) CertificateFault
+phases_in words = do
+  a ← five_at words
+  Ok (codec.Phases a.0.0 a.0.1 a.0.2 a.0.3 a.0.4, a.1)
+
 unfoldable pub codec_by : (word : List ℕ) (others : List (List ℕ)) → Result (Codec × List (List ℕ)) CertificateFault
-codec_by word others = if bytes_eq word (codes "bits") then bits_in others else (do
+codec_by word others = if bytes_eq word (codes "bits") then bits_in others else if bytes_eq word (codes "phases") then phases_in others else (do
   codec ← or_bad_line (codec_of word)
   Ok (codec, others))
 

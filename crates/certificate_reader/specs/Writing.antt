@@ -169,11 +169,12 @@ field_line f = (codes "field", map decimal (field_numbers f))
 abbrev pub queue_lines : OpenedQueue → List LineOfWords
 queue_lines o = queue_line o ∷ map field_line o.fields
 
--- how its tags tell: of bits the mask, and what they are of a free slot and of a full one
+-- how its tags tell: of bits the mask, and what they are of a free slot and of a full one; of phase bits this of even rounds, and of odd ones
 abbrev pub codec_words : Codec → List (List ℕ)
 codec_words codec.Zero = codes "zero" ∷ []
 codec_words codec.Number = codes "number" ∷ []
 codec_words (codec.Bit mask free full) = codes "bits" ∷ map decimal (mask ∷ free ∷ full ∷ [])
+codec_words (codec.Phases mask free full odd_free odd_full) = codes "phases" ∷ map decimal (mask ∷ free ∷ full ∷ odd_free ∷ odd_full ∷ [])
 
 -- numbers, how tags tell, and more numbers
 abbrev pub telling_line : (before : List ℕ) → Codec → (after : List ℕ) → LineOfWords

@@ -127,6 +127,7 @@ abbrev pub FitsCodec : Codec → Type 0
 FitsCodec codec.Zero = Unit {0}
 FitsCodec codec.Number = Unit {0}
 FitsCodec (codec.Bit mask free full) = AllByRecursion FitsWord (mask ∷ free ∷ full ∷ [])
+FitsCodec (codec.Phases mask free full odd_free odd_full) = AllByRecursion FitsWord (mask ∷ free ∷ full ∷ odd_free ∷ odd_full ∷ [])
 
 pub record FitsTagged (o : OpenedTagged) : Type 0 where
   pub slots : AllByRecursion FitsWord (o.queue.sender ∷ o.queue.receiver ∷ o.queue.slots ∷ o.queue.size ∷ o.queue.width ∷ [])

@@ -3,7 +3,7 @@
 ghost use Rattle.std.specs.Prelude.{◌≡◌};
 ghost use Rattle.texts.specs.Results.{GivesUpToMemory, refusal_of};
 ghost use Rattle.texts.specs.Cutting.{tokens};
-ghost use Rattle.certificate_reader.specs.Tags.{codec_of, bits_in, first_codec_in, elements_in, tagged_of, with_tagged};
+ghost use Rattle.certificate_reader.specs.Tags.{codec_of, bits_in, phases_in, first_codec_in, elements_in, tagged_of, with_tagged};
 
 use crate::faults::{BAD, LineError, TOO_MANY};
 use crate::limits::{MAX_SLOTS, MAX_TAGGED};
@@ -35,6 +35,24 @@ fn bits(text: &[u8]) -> Result<(Codec, &[u8]), LineError>
     Ok((Codec::Bit { mask, free, full }, rest))
 }
 
+/// The same of bits that turn with the rounds: a mask, what is under it in a free slot and in a full one in even rounds, and what in odd ones.
+#[tactic(auto, unfolding(crate::specs::Tags::phases_in))]
+fn phases(text: &[u8]) -> Result<(Codec, &[u8]), LineError>
+    ensures { GivesUpToMemory refusal_of (λ cut. (cut.0, tokens cut.1.now)) result (phases_in (tokens text.now)) }
+{
+    let ((mask, free, full, odd_free, odd_full), rest) = first_five(text)?;
+    Ok((
+        Codec::Phases {
+            mask,
+            free,
+            full,
+            odd_free,
+            odd_full,
+        },
+        rest,
+    ))
+}
+
 /// How a tag tells as the first words say it, and what follows.
 #[tactic(auto, unfolding(crate::specs::Tags::first_codec_in, crate::specs::Tags::codec_by))]
 fn first_codec(text: &[u8]) -> Result<(Codec, &[u8]), LineError>
@@ -43,6 +61,9 @@ fn first_codec(text: &[u8]) -> Result<(Codec, &[u8]), LineError>
     let (word, rest) = first_token(text).ok_or(BAD)?;
     if word == b"bits".as_slice() {
         return bits(rest);
+    }
+    if word == b"phases".as_slice() {
+        return phases(rest);
     }
     let codec = codec(word).ok_or(BAD)?;
     Ok((codec, rest))

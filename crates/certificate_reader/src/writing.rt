@@ -195,6 +195,23 @@ fn push_codec(out: &mut String, codec: Codec) -> Result<(), AllocError>
             out.push_str(" bits")?;
             push_numbers(out, &[u64::from(mask), u64::from(free), u64::from(full)])
         }
+        Codec::Phases {
+            mask,
+            free,
+            full,
+            odd_free,
+            odd_full,
+        } => {
+            out.push_str(" phases")?;
+            let numbers = [
+                u64::from(mask),
+                u64::from(free),
+                u64::from(full),
+                u64::from(odd_free),
+                u64::from(odd_full),
+            ];
+            push_numbers(out, &numbers)
+        }
     }
 }
 

@@ -137,7 +137,7 @@ module _ (B M : ℕ) (o : OpeningValue) (c : QueueCertificate) (ok : accepts o c
       → hart_of e ≡ (tagged_at c t).receiver → (k v : ℕ) → access_of e ≡ load (tag_of (slots_of (tagged_at c t)) k) (tagged_at c t).tag_width v
       → (told_counts (slots_of (tagged_at c t)) (all_at (tagged_start c t)) es).taken ≤ k
       → k < (told_counts (slots_of (tagged_at c t)) (all_at (tagged_start c t)) es).taken + (tagged_at c t).size
-      → tells_by (tagged_at c t).codec the_receiver k v ≡ true
+      → tells_by (tagged_at c t).size (tagged_at c t).codec the_receiver k v ≡ true
       → (v ≡ read o (es ++ e ∷ []) (tagged_at c t).receiver (tag_of (slots_of (tagged_at c t)) k) (tagged_at c t).tag_width)
       × ((x : ℕ) → IsSlotByte (slots_of (tagged_at c t)) k x → HasArrived (slots_of (tagged_at c t)) (all_at (tagged_start c t)) o (es ++ e ∷ []) x)
   accepted_tellings t less es e run here k v does from near tells = let f = accepted_telling (es ++ e ∷ []) run t less in (

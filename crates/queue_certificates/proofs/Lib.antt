@@ -26,6 +26,7 @@ pub mod Takes
 pub mod TagPlaces
 pub mod TagShares
 mod TagCounts
+mod Rounds
 mod TagValues
 pub mod NextAccess
 mod TagKept

@@ -139,9 +139,9 @@ module _ (M : ℕ) (o : OpeningValue) (queues : ℕ → Queue) (N : ℕ) (own_of
       still-told r x i under p at = stays i under p at x _ ((lifted-keeps r).same (N + i) (omega arith) x xs)
 
       when-told : (slots_of (tagged t)).tells p (count p (us t) + j) (number_read e) ≡ true
-          → Gives queues xs (told_value (tagged t).codec p op (get_or k.shares (N + t) no_share).own j) (extended op (number_read e))
-      when-told tells = told-gives queues xs (get_or k.shares (N + t) no_share).own (count p (us t)) has.own (tagged t) codec-fine p op j (number_read e)
-          at.whole low tells
+          → Gives queues xs (told_value k.ranges (tagged t) (tagged t).codec p op (get_or k.shares (N + t) no_share).own j) (extended op (number_read e))
+      when-told tells = told-gives queues xs (get_or k.shares (N + t) no_share).own (count p (us t)) has.own (tagged t) k.ranges means.ranges codec-fine
+          p op j (number_read e) at.whole low tells
 
       -- it owns up to there, then
       owns-then : (slots_of (tagged t)).tells p (count p (us t) + j) (number_read e) ≡ true → (x : ℕ) (r : Party) → h ≡ teller_hart (slots_of (tagged t)) r
@@ -180,12 +180,12 @@ module _ (M : ℕ) (o : OpeningValue) (queues : ℕ → Queue) (N : ℕ) (own_of
               → IsAmongTold tagged T queues N own_of H h xs
               (when_told tagged N k p op rd.number t j (get_or k.shares (N + t) no_share)
               ∷ with_result k rd.number (next_pc k.pc)
-              (other_value (tagged t) (tagged t).codec p op (get_or k.shares (N + t) no_share).own j) ∷ [])
+              (other_value k.ranges (tagged t) (tagged t).codec p op (get_or k.shares (N + t) no_share).own j) ∷ [])
               (advanced s (number_read e)) (view_then (access_of e) m) (λ i. after_access (queues i) (party_of (queues i) h) (access_of e) (cs i))
               (told_by tagged T queues N own_of H h (access_of e) us)
           others true tells =
-              let r : Result = told_value (tagged t).codec p op (get_or k.shares (N + t) no_share).own j in
-              let w = leads (told_value (tagged t).codec p op (get_or k.shares (N + t) no_share).own j) (when-told tells) runs in
+              let r : Result = told_value k.ranges (tagged t) (tagged t).codec p op (get_or k.shares (N + t) no_share).own j in
+              let w = leads (told_value k.ranges (tagged t) (tagged t).codec p op (get_or k.shares (N + t) no_share).own j) (when-told tells) runs in
               let u : Share = record { own = lifted (get_or k.shares (N + t) no_share).own; owned = number (j + 1) } in inl (
                 w.0,
                 set-means tagged T queues N own_of H h xs k t u (with_result k rd.number (next_pc k.pc) r) (w.0 ∷ xs) (advanced s (number_read e))
@@ -197,27 +197,29 @@ module _ (M : ℕ) (o : OpeningValue) (queues : ℕ → Queue) (N : ℕ) (own_of
           others false not-told = inr (inl (
             w.0,
             w.1,
-            still-told (other_value (tagged t) (tagged t).codec p op (get_or k.shares (N + t) no_share).own j) w.0,
+            still-told (other_value k.ranges (tagged t) (tagged t).codec p op (get_or k.shares (N + t) no_share).own j) w.0,
           ))
             where
-              gives : Gives queues xs (other_value (tagged t) (tagged t).codec p op (get_or k.shares (N + t) no_share).own j) (extended op (number_read e))
+              gives : Gives queues xs (other_value k.ranges (tagged t) (tagged t).codec p op (get_or k.shares (N + t) no_share).own j)
+                  (extended op (number_read e))
               gives = elim either [
                 | inl tells ↦ absurd (let no : true ≡ false = sym tells ∙ not-told in cc)
-                | inr w ↦ other-gives queues xs (get_or k.shares (N + t) no_share).own (count p (us t)) has.own (tagged t) codec-fine p op j (number_read e)
-                    at.whole low w.0 w.1 w.2
+                | inr w ↦ other-gives queues xs (get_or k.shares (N + t) no_share).own (count p (us t)) has.own (tagged t) k.ranges means.ranges codec-fine
+                    p op j (number_read e) at.whole low w.0 w.1 w.2
               ]
 
               w : IsNext queues N own_of h xs (with_result k rd.number (next_pc k.pc)
-                  (other_value (tagged t) (tagged t).codec p op (get_or k.shares (N + t) no_share).own j)) (advanced s (number_read e))
+                  (other_value k.ranges (tagged t) (tagged t).codec p op (get_or k.shares (N + t) no_share).own j)) (advanced s (number_read e))
                   (view_then (access_of e) m) (λ i. after_access (queues i) (party_of (queues i) h) (access_of e) (cs i))
-              w = leads (other_value (tagged t) (tagged t).codec p op (get_or k.shares (N + t) no_share).own j) gives runs
+              w = leads (other_value k.ranges (tagged t) (tagged t).codec p op (get_or k.shares (N + t) no_share).own j) gives runs
 
           by : (u : Bool) → nat_lt j (get_or k.shares (N + t) no_share).owned.constant ≡ u
               → IsAmongTold tagged T queues N own_of H h xs
-              (if u then with_result k rd.number (next_pc k.pc) (told_value (tagged t).codec p op (get_or k.shares (N + t) no_share).own j) ∷ [] else
+              (if u then with_result k rd.number (next_pc k.pc)
+              (told_value k.ranges (tagged t) (tagged t).codec p op (get_or k.shares (N + t) no_share).own j) ∷ [] else
               when_told tagged N k p op rd.number t j (get_or k.shares (N + t) no_share)
               ∷ with_result k rd.number (next_pc k.pc)
-              (other_value (tagged t) (tagged t).codec p op (get_or k.shares (N + t) no_share).own j) ∷ [])
+              (other_value k.ranges (tagged t) (tagged t).codec p op (get_or k.shares (N + t) no_share).own j) ∷ [])
               (advanced s (number_read e)) (view_then (access_of e) m) (λ i. after_access (queues i) (party_of (queues i) h) (access_of e) (cs i))
               (told_by tagged T queues N own_of H h (access_of e) us)
           by false beyond = others ((slots_of (tagged t)).tells p (count p (us t) + j) (number_read e)) refl
@@ -226,8 +228,8 @@ module _ (M : ℕ) (o : OpeningValue) (queues : ℕ → Queue) (N : ℕ) (own_of
               let tells : (slots_of (tagged t)).tells p (count p (us t) + j) (number_read e) ≡ true =
               ap ((slots_of (tagged t)).tells p (count p (us t) + j)) number-is
               ∙ known-sees.owned (count p (us t) + j) (omega arith) (omega (arith, less-j, has.own, has.upto)) in
-              let w = leads (told_value (tagged t).codec p op (get_or k.shares (N + t) no_share).own j) (when-told tells) runs in
-              inl (w.0, w.1, still-told (told_value (tagged t).codec p op (get_or k.shares (N + t) no_share).own j) w.0)
+              let w = leads (told_value k.ranges (tagged t) (tagged t).codec p op (get_or k.shares (N + t) no_share).own j) (when-told tells) runs in
+              inl (w.0, w.1, still-told (told_value k.ranges (tagged t) (tagged t).codec p op (get_or k.shares (N + t) no_share).own j) w.0)
 
     pub load-next : (ks ts : List KnownState) → Plain ks → AllKeep N k ks → access_of e ≡ y → (look : Option ℕ)
         → looked_tag tagged T N h k place (load_width op) ≡ look

@@ -12,7 +12,7 @@ use Rattle.certified_runs.specs.TwoParties.{AllCounts, IsSameFor}
 use Rattle.slot_queue.specs.Queues.{Queue}
 use Rattle.slots_that_tell.specs.Slots.{Slots, IsSlots, AreSlots, AreApart, gap, RestsAt, KeepsOff, tag_of}
 use Rattle.slots_that_tell.specs.Telling.{teller_of, teller_hart, owned_end}
-use Rattle.slots_that_tell.proofs.Codecs.{zero_differs, numbered_differs, bits_differ}
+use Rattle.slots_that_tell.proofs.Codecs.{zero_differs, numbered_differs, bits_differ, phases_differ}
 use Rattle.queue_certificates.specs.{OwnWord, telling, Form, form_value, substituted, raised, settled, is_same, InRanges, most, fits_in, Share, no_share}
 use Rattle.queue_certificates.specs.{KnownState, share_by, state_by, QueueCertificate, tagged_at, tagged_start, SharesTold, opens_all_told, leads_to}
 use Rattle.queue_certificates.specs.{arrow_leads, opens_told, opens_free, at_most, beyond, range_changed, with_low, with_high, party_in, are_slots}
@@ -63,7 +63,7 @@ tagged-is q ok =
     }
 
 pub tagged-fine : (q : TaggedQueue) → is_tagged q ≡ true → IsSlots (slots_of q)
-tagged-fine q ok = let is = tagged-is q ok in record {
+tagged-fine q tagged = let is = tagged-is q tagged in record {
   parties = is.parties;
   some = is.some;
   some_bytes = is.some_bytes;
@@ -72,15 +72,26 @@ tagged-fine q ok = let is = tagged-is q ok in record {
   differ = by q.codec is.codec;
 }
   where
-    by : (c : Codec) → is_codec q c ≡ true → (p : Party) (k v : ℕ) → tells_by c p k v ≡ true
-        → tells_by c (other p) (k + gap (slots_of q) p) v ≡ false
+    unlike : (a b : ℕ) → not (a == b) ≡ true → a ≢ b
+    unlike a b ok = eqb-false a b (not-true (a == b) ok)
+
+    by : (c : Codec) → is_codec q c ≡ true → (p : Party) (k v : ℕ) → tells_by q.size c p k v ≡ true
+        → tells_by q.size c (other p) (k + gap (slots_of q) p) v ≡ false
     by codec.Zero ok = zero_differs (slots_of q)
     by codec.Number ok =
         let parts = and_parts (q.tag_width == 4) (not (q.size % 2 ^ 32 == 1)) ok in
-        numbered_differs (2 ^ 32) (omega arith) (slots_of q) (eqb-false (q.size % 2 ^ 32) 1 (not-true (q.size % 2 ^ 32 == 1) parts.1))
+        numbered_differs (2 ^ 32) (omega arith) (slots_of q) (unlike (q.size % 2 ^ 32) 1 parts.1)
     by (codec.Bit mask free full) ok =
         let parts = and_parts (nat_lt mask (256 ^ q.tag_width)) (not (free == full)) ok in
-        bits_differ mask free full (eqb-false free full (not-true (free == full) parts.1)) (slots_of q)
+        bits_differ mask free full (unlike free full parts.1) (slots_of q)
+    by (codec.Phases mask free full odd_free odd_full) ok =
+        let fits = nat_lt mask (256 ^ q.tag_width) in
+        let p3 = and_parts (fits && not (free == full) && not (full == odd_free) && not (odd_free == odd_full)) (not (odd_full == free)) ok in
+        let p2 = and_parts (fits && not (free == full) && not (full == odd_free)) (not (odd_free == odd_full)) p3.0 in
+        let p1 = and_parts (fits && not (free == full)) (not (full == odd_free)) p2.0 in
+        let p0 = and_parts fits (not (free == full)) p1.0 in
+        phases_differ mask free full odd_free odd_full (unlike free full p0.1) (unlike full odd_free p1.1) (unlike odd_free odd_full p2.1)
+        (unlike odd_full free p3.1) (slots_of q) (tagged-is q tagged).some
 
 -- ---- shares
 
@@ -114,8 +125,8 @@ opens-free o q start is ok = record {
   };
   full = λ k from upto. absurd (omega (arith, from, upto));
   free = λ k from upto. (let place : start + (k - start) ≡ k = omega (arith, from) in
-      subst (λ i. tells_by q.codec the_sender i (memory_number o [] (tag_of (slots_of q) i) q.tag_width) ≡ true) place
-      (at-below q.size (λ d. tells_by q.codec the_sender (start + d) (memory_number o [] (tag_of (slots_of q) (start + d)) q.tag_width)) ok
+      subst (λ i. tells_by q.size q.codec the_sender i (memory_number o [] (tag_of (slots_of q) i) q.tag_width) ≡ true) place
+      (at-below q.size (λ d. tells_by q.size q.codec the_sender (start + d) (memory_number o [] (tag_of (slots_of q) (start + d)) q.tag_width)) ok
       (k - start) (omega (arith, from, upto))));
   pending = λ h. All-nil (KeepsOff (slots_of q));
 }

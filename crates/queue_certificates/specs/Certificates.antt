@@ -339,7 +339,7 @@ opens_empty o q start = (memory_number o [] q.head q.index_width == index_word q
 -- each slot of a round tells the sender that it is free
 abbrev pub opens_free : OpeningValue → TaggedQueue → (start : ℕ) → Bool
 opens_free o q start = all_below q.size
-    (λ d. tells_by q.codec the_sender (start + d) (memory_number o [] (tag_of (slots_of q) (start + d)) q.tag_width))
+    (λ d. tells_by q.size q.codec the_sender (start + d) (memory_number o [] (tag_of (slots_of q) (start + d)) q.tag_width))
 
 -- ---- all of it
 

@@ -46,10 +46,11 @@ pub use Rattle.queue_certificates.specs.Steps.{word_then, words_then}
 pub use Rattle.queue_certificates.specs.Fields.{after_field, field_below, field_in, field_number, field_or, field_there, is_field, keeps_numbers, last_number}
 pub use Rattle.queue_certificates.specs.Fields.{next_received}
 pub use Rattle.queue_certificates.specs.Tags.{AreTold, HasAtLeast, Told, after_tag, all_handed, are_apart_from_slots, are_slots, are_these, at_tag, back_to}
-pub use Rattle.queue_certificates.specs.Tags.{bare, bits_above, bits_are, covers_share, elements, handed, hands_over, is_beside_slots, is_codec, is_in_element}
-pub use Rattle.queue_certificates.specs.Tags.{is_number, is_of_rest, is_of_tag, is_positive, is_tagged, load_tells, loads_rest, looked_tag, makes}
-pub use Rattle.queue_certificates.specs.Tags.{may_store_all, may_tell, moved_tag, next_told, nothing, number_of, other_value, party_in, reads_rest, something}
-pub use Rattle.queue_certificates.specs.Tags.{store_tells, tag_at, tag_by, tag_position, tags_lead, told_by, told_value, value_told, when_told, with_share}
+pub use Rattle.queue_certificates.specs.Tags.{bare, bits_above, bits_are, bits_for, covers_share, elements, handed, hands_over, in_round, is_beside_slots}
+pub use Rattle.queue_certificates.specs.Tags.{is_codec, is_even_between, is_in_element, is_number, is_of_even_round, is_of_rest, is_of_tag, is_positive}
+pub use Rattle.queue_certificates.specs.Tags.{is_tagged, load_tells, loads_rest, looked_tag, makes, may_store_all, may_tell, moved_tag, next_told, nothing}
+pub use Rattle.queue_certificates.specs.Tags.{number_of, other_value, party_in, reads_rest, something, store_tells, tag_at, tag_by, tag_position, tags_lead}
+pub use Rattle.queue_certificates.specs.Tags.{told_by, told_value, unknown, value_told, when_told, with_share}
 unfoldable pub use Rattle.queue_certificates.specs.Tags.{told_by_store}
 pub use Rattle.queue_certificates.specs.Effects.{WritesByte, effect_at, effect_of, filled_by, moves_head, published_by, value_stored}
 pub use Rattle.queue_certificates.specs.TagEffects.{tag_effect_at, tag_effect_of}

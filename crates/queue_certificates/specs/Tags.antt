@@ -20,8 +20,9 @@ use Rattle.queue_layouts.specs.declared.tagged.TaggedQueue.{TaggedQueue}
 use Rattle.queue_layouts.specs.Tagged.{slots_of}
 use Rattle.queue_certificates.specs.declared.own.OwnWord.{OwnWord}
 use Rattle.queue_certificates.specs.Forms.{Form, form_value, number, first_variable, plus, lifted, substituted, is_same, most, fits_in, remainder, Bounds}
+use Rattle.queue_certificates.specs.Forms.{bounds_of}
 use Rattle.queue_certificates.specs.States.{KnownValue, any, linear, index_for, signed_for, ends_as, has_bits, Share, no_share, KnownState}
-use Rattle.queue_certificates.specs.Results.{Result, just, bounds, Bits, of_bits, bits_of}
+use Rattle.queue_certificates.specs.Results.{Result, just, or_up_to, bounds, Bits, of_bits, bits_of}
 use Rattle.queue_certificates.specs.Steps.{all_below, last_below, is_just, is_apart, position_at, offset_at, is_slot, is_owned}
 use Rattle.queue_certificates.specs.Steps.{most_loaded, with_result, share_at, operand, address_value, addresses, exchanged, may_load, updated_value}
 
@@ -58,11 +59,14 @@ abbrev pub are_apart_from_slots : TaggedQueue → Bool
 are_apart_from_slots q = nat_le (q.slots + q.size * q.width) q.tags || nat_le (q.tags + q.size * q.tag_stride) q.slots
 
 -- two harts, some slots, and for each a tag of at most a word, in it or beside all of them. Positions' numbers fill a word, and those of a
--- free slot and of a full one differ; bits are of the tag, and those of a free slot and of a full one differ
+-- free slot and of a full one differ; bits are of the tag, and those of a free slot and of a full one differ, as do phase bits from the
+-- next ones of their slot
 abbrev pub is_codec : TaggedQueue → Codec → Bool
 is_codec q codec.Zero = true
 is_codec q codec.Number = (q.tag_width == 4) && not (q.size % 2 ^ 32 == 1)
 is_codec q (codec.Bit mask free full) = nat_lt mask (256 ^ q.tag_width) && not (free == full)
+is_codec q (codec.Phases mask free full odd_free odd_full) = nat_lt mask (256 ^ q.tag_width) && not (free == full) && not (full == odd_free)
+    && not (odd_free == odd_full) && not (odd_full == free)
 
 abbrev pub is_tagged : TaggedQueue → Bool
 is_tagged q = not (q.sender == q.receiver) && nat_le 1 q.size && nat_le 1 q.tag_width && nat_le q.tag_width 4
@@ -114,28 +118,53 @@ is_of_tag rs q s (linear f) width = nat_le q.tag_offset (offset_at (elements q) 
 abbrev pub is_beside_slots : TaggedQueue → Bounds → (width : ℕ) → Bool
 is_beside_slots q b width = is_apart b width q.slots (q.size * q.width) && is_apart b width q.tags (q.size * q.tag_stride)
 
+-- ---- rounds, of as many positions as there are slots
+
+-- whether a position is of an even round, where its remainder by two rounds lies within one
+abbrev pub is_even_between : (size : ℕ) → Option Bounds → Option Bool
+is_even_between size None = None
+is_even_between size (Some b) = if nat_lt b.high size then Some true else if nat_le size b.low then Some false else None
+
+abbrev pub is_of_even_round : List (Option ℕ) → (size : ℕ) → (position : Form) → Option Bool
+is_of_even_round rs size f = is_even_between size (bounds_of (2 * size) rs f)
+
 -- ---- what a tag satisfies that tells a party that it has a position
 
--- it is 0; it isn't; it is the number that this form is, of a whole word; or its bits under this mask are these
+-- nothing is known of it; it is 0; it isn't; it is the number that this form is, of a whole word; or its bits under this mask are these
 pub data Told : Type 0 where
+  unknown : Told
   nothing : Told
   something : Told
   number_of : (f : Form) → Told
   bits_are : (mask bits : ℕ) → Told
 
--- of the position that the form is
-abbrev pub told_by : Codec → Party → (position : Form) → Told
-told_by codec.Zero the_sender f = nothing
-told_by codec.Zero the_receiver f = something
-told_by codec.Number the_sender f = number_of f
-told_by codec.Number the_receiver f = number_of (plus f (number 1))
-told_by (codec.Bit mask free full) the_sender f = bits_are mask free
-told_by (codec.Bit mask free full) the_receiver f = bits_are mask full
+-- the bits under a mask
+abbrev pub bits_for : (mask free full : ℕ) → Party → Told
+bits_for mask free full the_sender = bits_are mask free
+bits_for mask free full the_receiver = bits_are mask full
 
--- a position ahead of the own count, and the other party's own position of that slot, which are alike modulo 2 ^ 32
-abbrev pub back_to : TaggedQueue → Party → ℕ
-back_to q the_sender = 0
-back_to q the_receiver = 2 ^ 32 - q.size % 2 ^ 32
+-- what turns with the rounds, where it is known of which a position is
+abbrev pub in_round : Option Bool → (even odd : Told) → Told
+in_round None even odd = unknown
+in_round (Some true) even odd = even
+in_round (Some false) even odd = odd
+
+-- of the position that the form is, where there are `size` slots
+abbrev pub told_by : List (Option ℕ) → (size : ℕ) → Codec → Party → (position : Form) → Told
+told_by rs size codec.Zero the_sender f = nothing
+told_by rs size codec.Zero the_receiver f = something
+told_by rs size codec.Number the_sender f = number_of f
+told_by rs size codec.Number the_receiver f = number_of (plus f (number 1))
+told_by rs size (codec.Bit mask free full) p f = bits_for mask free full p
+told_by rs size (codec.Phases mask free full odd_free odd_full) p f =
+    in_round (is_of_even_round rs size f) (bits_for mask free full p) (bits_for mask odd_free odd_full p)
+
+-- a position ahead of the own count, and the other party's own position of that slot, which are alike: modulo 2 ^ 32, or two rounds where
+-- the tag's bits turn with these
+abbrev pub back_to : TaggedQueue → Codec → Party → ℕ
+back_to q c the_sender = 0
+back_to q (codec.Phases mask free full odd_free odd_full) the_receiver = q.size
+back_to q c the_receiver = 2 ^ 32 - q.size % 2 ^ 32
 
 -- ---- what a load leaves of such a tag
 
@@ -150,17 +179,18 @@ bits_above load.HalfUnsigned = 2 ^ 32 - 2 ^ 16
 bits_above op = 0
 
 abbrev pub value_told : LoadOp → Told → Result
+value_told op unknown = or_up_to (most_loaded op) any
 value_told op nothing = just (linear (number 0))
 value_told op something = some_up_to (most_loaded op)
 value_told op (number_of f) = just (linear f)
 value_told op (bits_are mask bits) = just (of_bits (bit_or (extended op mask) (bits_above op)) (extended op bits))
 
 -- what a party loads where the tag tells it of the position this far ahead of its own count, and where it tells the other party
-abbrev pub told_value : Codec → Party → LoadOp → (own : Form) → (position : ℕ) → Result
-told_value c p op own j = value_told op (told_by c p (plus own (number j)))
+abbrev pub told_value : List (Option ℕ) → TaggedQueue → Codec → Party → LoadOp → (own : Form) → (position : ℕ) → Result
+told_value rs q c p op own j = value_told op (told_by rs q.size c p (plus own (number j)))
 
-abbrev pub other_value : TaggedQueue → Codec → Party → LoadOp → (own : Form) → (position : ℕ) → Result
-other_value q c p op own j = value_told op (told_by c (other p) (plus own (number (j + back_to q (other p)))))
+abbrev pub other_value : List (Option ℕ) → TaggedQueue → Codec → Party → LoadOp → (own : Form) → (position : ℕ) → Result
+other_value rs q c p op own j = value_told op (told_by rs q.size c (other p) (plus own (number (j + back_to q c (other p)))))
 
 -- ---- what hands the own position over: a stored value that makes the tag tell the other party
 
@@ -181,6 +211,7 @@ are_these None mask bits = false
 are_these (Some b) mask bits = (bit_and b.mask mask == mask) && (bit_and b.bits mask == bits)
 
 abbrev pub makes : List (Option ℕ) → (width : ℕ) → Told → (stored : KnownValue) → Bool
+makes rs width unknown v = false
 makes rs width nothing v = is_number (256 ^ width) v (number 0)
 makes rs width something v = is_positive width (bounds rs v)
 makes rs width (number_of f) v = is_number (2 ^ 32) v f
@@ -188,7 +219,7 @@ makes rs width (bits_are mask bits) v = are_these (bits_of v) mask bits
 
 -- the sender hands over its own position, and the receiver the slot's next one
 abbrev pub hands_over : List (Option ℕ) → TaggedQueue → Codec → Party → (own : Form) → (stored : KnownValue) → Bool
-hands_over rs q c p own v = makes rs q.tag_width (told_by c (other p) (plus own (number (gap (slots_of q) p)))) v
+hands_over rs q c p own v = makes rs q.tag_width (told_by rs q.size c (other p) (plus own (number (gap (slots_of q) p)))) v
 
 -- one position is handed over
 abbrev pub handed : Share → Share
@@ -227,12 +258,13 @@ module _ (tagged : ℕ → TaggedQueue) (N : ℕ) where
   -- the tag tells the party that it has the position, so it owns up to there,
   abbrev pub when_told : KnownState → Party → LoadOp → (rd t position : ℕ) → Share → KnownState
   when_told k p op rd t j s = with_share (N + t) (record { own = lifted s.own; owned = number (j + 1) })
-      (with_result k rd (next_pc k.pc) (told_value (tagged t).codec p op s.own j))
+      (with_result k rd (next_pc k.pc) (told_value k.ranges (tagged t) (tagged t).codec p op s.own j))
 
   -- or it has it already, or the other still has it
   abbrev pub after_tag : KnownState → Party → LoadOp → (rd t position : ℕ) → Share → List KnownState
-  after_tag k p op rd t j s = if nat_lt j s.owned.constant then with_result k rd (next_pc k.pc) (told_value (tagged t).codec p op s.own j) ∷ []
-      else when_told k p op rd t j s ∷ with_result k rd (next_pc k.pc) (other_value (tagged t) (tagged t).codec p op s.own j) ∷ []
+  after_tag k p op rd t j s = if nat_lt j s.owned.constant
+      then with_result k rd (next_pc k.pc) (told_value k.ranges (tagged t) (tagged t).codec p op s.own j) ∷ []
+      else when_told k p op rd t j s ∷ with_result k rd (next_pc k.pc) (other_value k.ranges (tagged t) (tagged t).codec p op s.own j) ∷ []
 
   abbrev pub at_tag : KnownState → Option Party → LoadOp → (rd t : ℕ) → (position : Option ℕ) → Option (List KnownState)
   at_tag k None op rd t j = None

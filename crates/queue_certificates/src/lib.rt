@@ -99,7 +99,7 @@ pub fn laws_of_queue_certificates()
         → (k v : ℕ) → access_of e ≡ load (tag_of (slots_of (tagged_at c t)) k) (tagged_at c t).tag_width v
         → (told_counts (slots_of (tagged_at c t)) (all_at (tagged_start c t)) es).taken ≤ k
         → k < (told_counts (slots_of (tagged_at c t)) (all_at (tagged_start c t)) es).taken + (tagged_at c t).size
-        → tells_by (tagged_at c t).codec the_receiver k v ≡ true
+        → tells_by (tagged_at c t).size (tagged_at c t).codec the_receiver k v ≡ true
         → (v ≡ read o (es ++ e ∷ []) (tagged_at c t).receiver (tag_of (slots_of (tagged_at c t)) k) (tagged_at c t).tag_width)
         × ((x : ℕ) → IsSlotByte (slots_of (tagged_at c t)) k x
         → HasArrived (slots_of (tagged_at c t)) (all_at (tagged_start c t)) o (es ++ e ∷ []) x) }

@@ -123,6 +123,11 @@ same-codec q codec.Number = same-first_of (q.tag_width == 4) (not (q.size % 2 ^ 
     (same-unless (q.tag_width == 4) tag.NarrowNumber) (same-unless (not (q.size % 2 ^ 32 == 1)) tag.SameNumbers)
 same-codec q (codec.Bit mask free full) = same-first_of (nat_lt mask (256 ^ q.tag_width)) (not (free == full)) _ _
     (same-unless (nat_lt mask (256 ^ q.tag_width)) tag.WideMask) (same-unless (not (free == full)) tag.SameBits)
+same-codec q (codec.Phases mask free full odd_free odd_full) =
+    let fits = nat_lt mask (256 ^ q.tag_width) in
+    same-first_of (fits && not (free == full) && not (full == odd_free) && not (odd_free == odd_full)) (not (odd_full == free)) _ _
+    (four fits (not (free == full)) (not (full == odd_free)) (not (odd_free == odd_full)) tag.WideMask tag.SameBits tag.SameBits tag.SameBits)
+    (same-unless (not (odd_full == free)) tag.SameBits)
 
 same-tag : (q : TaggedQueue) → IsSame (is_tagged q) (tag_flaw q)
 same-tag q =

@@ -107,6 +107,9 @@ abbrev pub codec_flaw : TaggedQueue → Codec → Option TaggedFlaw
 codec_flaw q codec.Zero = None
 codec_flaw q codec.Number = unless (q.tag_width == 4) tag.NarrowNumber <|> unless (not (q.size % 2 ^ 32 == 1)) tag.SameNumbers
 codec_flaw q (codec.Bit mask free full) = unless (nat_lt mask (256 ^ q.tag_width)) tag.WideMask <|> unless (not (free == full)) tag.SameBits
+codec_flaw q (codec.Phases mask free full odd_free odd_full) = unless (nat_lt mask (256 ^ q.tag_width)) tag.WideMask
+    <|> unless (not (free == full)) tag.SameBits <|> unless (not (full == odd_free)) tag.SameBits <|> unless (not (odd_free == odd_full)) tag.SameBits
+    <|> unless (not (odd_full == free)) tag.SameBits
 
 abbrev pub tag_flaw : TaggedQueue → Option TaggedFlaw
 tag_flaw q = unless (not (q.sender == q.receiver)) tag.OneHart

@@ -55,7 +55,7 @@ pub enum TaggedFlaw {
     SameNumbers,
     /// The mask has a bit that the tag doesn't.
     WideMask,
-    /// The bits of a free slot are those of a full one.
+    /// The bits of a free slot are those of a full one; with phase bits, of those that come before or after.
     SameBits,
     /// Memory opens with a slot that isn't free for its position.
     NotFree,

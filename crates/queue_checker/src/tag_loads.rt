@@ -75,12 +75,13 @@ fn when_known(
     state: &KnownState,
     look: &Look,
 ) -> Result<KnownState, Lack>
-    ensures { IfOk result (λ s. s ≡ with_result state.now look.now.rd (next_pc state.now.pc) (told_value (tagged_at certificate.now look.now.queue).codec
-        (the_party look.now.party) look.now.op look.now.share.own look.now.position)) }
+    ensures { IfOk result (λ s. s ≡ with_result state.now look.now.rd (next_pc state.now.pc) (told_value state.now.ranges
+        (tagged_at certificate.now look.now.queue) (tagged_at certificate.now look.now.queue).codec (the_party look.now.party) look.now.op
+        look.now.share.own look.now.position)) }
 {
-    let codec = tagged_in(&certificate.tagged, look.queue).codec;
-    let own = &look.share.own;
-    let outcome = told_value(alloc, codec, look.party, look.op, own, look.position)?;
+    let queue = tagged_in(&certificate.tagged, look.queue);
+    let (party, op, own) = (look.party, look.op, &look.share.own);
+    let outcome = told_value(alloc, &state.ranges, queue, party, op, own, look.position)?;
     with_result(alloc, state, look.rd, next_pc(state.pc), outcome)
 }
 
@@ -107,12 +108,13 @@ fn when_not_told(
     state: &KnownState,
     look: &Look,
 ) -> Result<KnownState, Lack>
-    ensures { IfOk result (λ s. s ≡ with_result state.now look.now.rd (next_pc state.now.pc) (other_value (tagged_at certificate.now look.now.queue)
-        (tagged_at certificate.now look.now.queue).codec (the_party look.now.party) look.now.op look.now.share.own look.now.position)) }
+    ensures { IfOk result (λ s. s ≡ with_result state.now look.now.rd (next_pc state.now.pc) (other_value state.now.ranges
+        (tagged_at certificate.now look.now.queue) (tagged_at certificate.now look.now.queue).codec (the_party look.now.party) look.now.op
+        look.now.share.own look.now.position)) }
 {
     let queue = tagged_in(&certificate.tagged, look.queue);
-    let own = &look.share.own;
-    let outcome = other_value(alloc, queue, look.party, look.op, own, look.position)?;
+    let (party, op, own) = (look.party, look.op, &look.share.own);
+    let outcome = other_value(alloc, &state.ranges, queue, party, op, own, look.position)?;
     with_result(alloc, state, look.rd, next_pc(state.pc), outcome)
 }
 

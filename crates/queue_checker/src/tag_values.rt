@@ -5,19 +5,20 @@ ghost use Rattle.hart.specs.Effects.{extended};
 ghost use Rattle.slots_that_tell.specs.Slots.{gap};
 ghost use Rattle.queue_layouts.specs.declared.tagged.Codec.TheVariants as codecs;
 ghost use Rattle.queue_certificates.specs.Forms.{Form, number, plus};
-ghost use Rattle.queue_certificates.specs.Tags.{number_of, bits_are, told_by, back_to, some_up_to, bits_above, value_told, told_value, other_value};
-ghost use Rattle.queue_certificates.specs.Tags.{is_positive, is_number, are_these, makes, hands_over};
+ghost use Rattle.queue_certificates.specs.Tags.{is_even_between, is_of_even_round, number_of, bits_are, bits_for, in_round, told_by, back_to, some_up_to};
+ghost use Rattle.queue_certificates.specs.Tags.{bits_above, value_told, told_value, other_value, is_positive, is_number, are_these, makes, hands_over};
 ghost use Rattle.queue_layouts.specs.Sides.{the_party};
 ghost use Rattle.queue_layouts.specs.Tagged.{slots_of};
 
 use crate::loads::most_loaded;
 use known_values::bits::{bits_of, of_bits};
+use known_values::bounds::bounds_of;
 use known_values::forms::{first_variable, is_same, number, plus};
 use known_values::lack::sum;
 use known_values::numbers::bounds;
 use known_values::queues::words_of;
-use known_values::results::just;
-use known_values::values::linear;
+use known_values::results::{just, or_up_to};
+use known_values::values::{any, linear};
 use known_values::{Bits, Bounds, Form, Known, KnownValue, Lack, Outcome};
 use queue_layouts::{Codec, Party, TaggedQueue, other};
 use rv_decode::instruction::LoadOp;
@@ -65,9 +66,36 @@ fn bits_above(op: LoadOp) -> u32
     }
 }
 
+/// Whether a position is of an even round, where its remainder by two rounds lies between these bounds.
+fn is_even_between(size: u32, bounds: Option<Bounds>) -> Option<bool>
+    ensures { result ≡ is_even_between size bounds }
+{
+    let bounds = bounds?;
+    if bounds.high < u64::from(size) {
+        Some(true)
+    } else if u64::from(size) <= bounds.low {
+        Some(false)
+    } else {
+        None
+    }
+}
+
+/// Whether a position is of an even round; `None`, if that isn't known.
+fn is_of_even_round(
+    alloc: Global,
+    ranges: &[Option<u64>],
+    size: u32,
+    position: &Form,
+) -> Result<Option<bool>, Lack>
+    ensures { IfOk result (λ even. even ≡ is_of_even_round ranges.now size position.now) }
+{
+    let rounds = 2 * u64::from(size);
+    Ok(is_even_between(size, bounds_of(alloc, rounds, ranges, position)?))
+}
+
 /// The bits of a slot's tag that tell the party, where bits under a mask do.
 fn bits_for(party: Party, free: u32, full: u32) -> u32
-    ensures { (mask : ℕ) (position : Form) → bits_are mask result ≡ told_by (codecs.Bit mask free full) (the_party party) position }
+    ensures { (mask : ℕ) → bits_are mask result ≡ bits_for mask free full (the_party party) }
 {
     match party {
         Party::Sender => free,
@@ -77,7 +105,7 @@ fn bits_for(party: Party, free: u32, full: u32) -> u32
 
 /// The number of a slot's tag that tells the party of this position, where positions' numbers do.
 fn number_for(alloc: Global, party: Party, position: &Form) -> Result<Form, Lack>
-    ensures { IfOk result (λ f. number_of f ≡ told_by codecs.Number (the_party party) position.now) }
+    ensures { (ranges : List (Option ℕ)) (size : ℕ) → IfOk result (λ f. number_of f ≡ told_by ranges size codecs.Number (the_party party) position.now) }
 {
     match party {
         Party::Sender => position.copy(alloc),
@@ -87,7 +115,8 @@ fn number_for(alloc: Global, party: Party, position: &Form) -> Result<Form, Lack
 
 /// What a load leaves of a tag that tells the party, where 0 is free.
 fn zero_told(alloc: Global, op: LoadOp, party: Party) -> Result<Outcome, Lack>
-    ensures { (position : Form) → IfOk result (λ r. r ≡ value_told op (told_by codecs.Zero (the_party party) position)) }
+    ensures { (ranges : List (Option ℕ)) (size : ℕ) (position : Form)
+        → IfOk result (λ r. r ≡ value_told op (told_by ranges size codecs.Zero (the_party party) position)) }
 {
     match party {
         Party::Sender => just(alloc, &linear(number(alloc, 0))),
@@ -103,21 +132,52 @@ fn bits_told(alloc: Global, op: LoadOp, mask: u32, bits: u32) -> Result<Outcome,
     just(alloc, &of_bits(alloc, known, extended(op, bits)))
 }
 
+/// What a load leaves of a tag that has some bits under a mask in even rounds, and others in odd ones.
+fn round_told(
+    alloc: Global,
+    op: LoadOp,
+    is_even: Option<bool>,
+    mask: u32,
+    even: u32,
+    odd: u32,
+) -> Result<Outcome, Lack>
+    ensures { IfOk result (λ r. r ≡ value_told op (in_round is_even (bits_are mask even) (bits_are mask odd))) }
+{
+    match is_even {
+        None => or_up_to(alloc, most_loaded(op), &any()),
+        Some(true) => bits_told(alloc, op, mask, even),
+        Some(false) => bits_told(alloc, op, mask, odd),
+    }
+}
+
 /// What a load leaves of a tag that tells the party of this position.
 fn value_told(
     alloc: Global,
+    ranges: &[Option<u64>],
+    queue: TaggedQueue,
     op: LoadOp,
-    codec: Codec,
     party: Party,
     position: &Form,
 ) -> Result<Outcome, Lack>
-    ensures { IfOk result (λ r. r ≡ value_told op (told_by codec (the_party party) position.now)) }
+    ensures { IfOk result (λ r. r ≡ value_told op (told_by ranges.now queue.size queue.codec (the_party party) position.now)) }
 {
-    match codec {
+    match queue.codec {
         Codec::Zero => zero_told(alloc, op, party),
         Codec::Number => just(alloc, &linear(number_for(alloc, party, position)?)),
         Codec::Bit { mask, free, full } => {
             bits_told(alloc, op, mask, bits_for(party, free, full))
+        }
+        Codec::Phases {
+            mask,
+            free,
+            full,
+            odd_free,
+            odd_full,
+        } => {
+            let is_even = is_of_even_round(alloc, ranges, queue.size, position)?;
+            let even = bits_for(party, free, full);
+            let odd = bits_for(party, odd_free, odd_full);
+            round_told(alloc, op, is_even, mask, even, odd)
         }
     }
 }
@@ -125,41 +185,50 @@ fn value_told(
 /// What a load of a tag leaves that tells the party that it has the position that is so much further than its own count.
 pub(crate) fn told_value(
     alloc: Global,
-    codec: Codec,
-    party: Party,
-    op: LoadOp,
-    own: &Form,
-    position: u64,
-) -> Result<Outcome, Lack>
-    ensures { IfOk result (λ r. r ≡ told_value codec (the_party party) op own.now position) }
-{
-    value_told(alloc, op, codec, party, &further(alloc, own, position)?)
-}
-
-/// How much further a party's own position of a slot is than the other's, modulo 2^32.
-fn back_to(queue: TaggedQueue, party: Party) -> u64
-    ensures { result ≡ back_to queue (the_party party) }
-{
-    match party {
-        Party::Sender => 0,
-        Party::Receiver => WORDS.saturating_sub(u64::from(queue.size) % WORDS),
-    }
-}
-
-/// And what it leaves while the other party has it.
-pub(crate) fn other_value(
-    alloc: Global,
+    ranges: &[Option<u64>],
     queue: TaggedQueue,
     party: Party,
     op: LoadOp,
     own: &Form,
     position: u64,
 ) -> Result<Outcome, Lack>
-    ensures { IfOk result (λ r. r ≡ other_value queue queue.codec (the_party party) op own.now position) }
+    ensures { IfOk result (λ r. r ≡ told_value ranges.now queue queue.codec (the_party party) op own.now position) }
+{
+    let position = further(alloc, own, position)?;
+    value_told(alloc, ranges, queue, op, party, &position)
+}
+
+/// How much further a party's own position of a slot is than the other's, modulo 2^32, or two rounds where bits turn with these.
+fn back_to(queue: TaggedQueue, party: Party) -> u64
+    ensures { result ≡ back_to queue queue.codec (the_party party) }
+{
+    match party {
+        Party::Sender => 0,
+        Party::Receiver => match queue.codec {
+            Codec::Phases { .. } => u64::from(queue.size),
+            Codec::Zero | Codec::Number | Codec::Bit { .. } => {
+                WORDS.saturating_sub(u64::from(queue.size) % WORDS)
+            }
+        },
+    }
+}
+
+/// And what it leaves while the other party has it.
+pub(crate) fn other_value(
+    alloc: Global,
+    ranges: &[Option<u64>],
+    queue: TaggedQueue,
+    party: Party,
+    op: LoadOp,
+    own: &Form,
+    position: u64,
+) -> Result<Outcome, Lack>
+    ensures { IfOk result (λ r. r ≡ other_value ranges.now queue queue.codec (the_party party) op own.now position) }
 {
     let theirs = other(party);
     let by = sum(position, back_to(queue, theirs))?;
-    value_told(alloc, op, queue.codec, theirs, &further(alloc, own, by)?)
+    let position = further(alloc, own, by)?;
+    value_told(alloc, ranges, queue, op, theirs, &position)
 }
 
 /// Whether numbers between these are words of `width` bytes, and not 0.
@@ -204,7 +273,8 @@ fn makes_by_zero(
     party: Party,
     stored: &KnownValue,
 ) -> Result<bool, Lack>
-    ensures { (position : Form) → IfOk result (λ made. made ≡ makes ranges.now width (told_by codecs.Zero (the_party party) position) stored.now) }
+    ensures { (size : ℕ) (position : Form)
+        → IfOk result (λ made. made ≡ makes ranges.now width (told_by ranges.now size codecs.Zero (the_party party) position) stored.now) }
 {
     match party {
         Party::Sender => Ok(is_number(words_of(width)?, stored, &number(alloc, 0))),
@@ -212,23 +282,47 @@ fn makes_by_zero(
     }
 }
 
+/// Whether a stored value makes a tag that has some bits under the mask in even rounds, and others in odd ones.
+fn makes_round(is_even: Option<bool>, mask: u32, even: u32, odd: u32, stored: &KnownValue) -> bool
+    ensures { (ranges : List (Option ℕ)) (width : ℕ)
+        → result ≡ makes ranges width (in_round is_even (bits_are mask even) (bits_are mask odd)) stored.now }
+{
+    match is_even {
+        None => false,
+        Some(true) => are_these(bits_of(stored), mask, even),
+        Some(false) => are_these(bits_of(stored), mask, odd),
+    }
+}
+
 /// Whether a stored value makes a tag that tells the party of this position.
 fn makes(
     alloc: Global,
     ranges: &[Option<u64>],
-    width: u32,
-    codec: Codec,
+    queue: TaggedQueue,
     party: Party,
     position: &Form,
     stored: &KnownValue,
 ) -> Result<bool, Lack>
-    ensures { IfOk result (λ made. made ≡ makes ranges.now width (told_by codec (the_party party) position.now) stored.now) }
+    ensures { IfOk result (λ made. made ≡ makes ranges.now queue.tag_width (told_by ranges.now queue.size queue.codec (the_party party) position.now)
+        stored.now) }
 {
-    match codec {
-        Codec::Zero => makes_by_zero(alloc, ranges, width, party, stored),
+    match queue.codec {
+        Codec::Zero => makes_by_zero(alloc, ranges, queue.tag_width, party, stored),
         Codec::Number => Ok(is_number(WORDS, stored, &number_for(alloc, party, position)?)),
         Codec::Bit { mask, free, full } => {
             Ok(are_these(bits_of(stored), mask, bits_for(party, free, full)))
+        }
+        Codec::Phases {
+            mask,
+            free,
+            full,
+            odd_free,
+            odd_full,
+        } => {
+            let is_even = is_of_even_round(alloc, ranges, queue.size, position)?;
+            let even = bits_for(party, free, full);
+            let odd = bits_for(party, odd_free, odd_full);
+            Ok(makes_round(is_even, mask, even, odd, stored))
         }
     }
 }
@@ -256,13 +350,5 @@ pub(crate) fn hands_over(
 {
     let position = further(alloc, own, gap(queue, party))?;
     let theirs = other(party);
-    makes(
-        alloc,
-        ranges,
-        queue.tag_width,
-        queue.codec,
-        theirs,
-        &position,
-        stored,
-    )
+    makes(alloc, ranges, queue, theirs, &position, stored)
 }

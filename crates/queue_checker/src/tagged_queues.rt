@@ -1,6 +1,6 @@
 //! What of what a certificate says of a queue with tags doesn't hold.
 
-ghost use Rattle.std.specs.Prelude.{◌≡◌, ◌+◌, IfOk, [], length, get_or, option_map};
+ghost use Rattle.std.specs.Prelude.{◌≡◌, ◌+◌, ◌/◌, ◌%◌, ◌==◌, IfOk, [], length, get_or, option_map};
 ghost use Rattle.store_buffers.specs.StoreBuffers.{memory_number};
 ghost use Rattle.queue_parties.specs.Parties.{the_sender};
 ghost use Rattle.slots_that_tell.specs.Slots.{tag_of};
@@ -141,6 +141,21 @@ fn codec_flaw(queue: TaggedQueue) -> Result<Option<TaggedFlaw>, Lack>
                 Ok(None)
             }
         }
+        Codec::Phases {
+            mask,
+            free,
+            full,
+            odd_free,
+            odd_full,
+        } => {
+            if u64::from(mask) >= words_of(queue.tag_width)? {
+                Ok(Some(TaggedFlaw::WideMask))
+            } else if free == full || full == odd_free || odd_free == odd_full || odd_full == free {
+                Ok(Some(TaggedFlaw::SameBits))
+            } else {
+                Ok(None)
+            }
+        }
     }
 }
 
@@ -169,11 +184,18 @@ fn tag_flaw(queue: TaggedQueue) -> Result<Option<TaggedFlaw>, Lack>
     codec_flaw(queue)
 }
 
-/// Whether a tag of this number tells the sender that its slot is free for a position.
-fn tells_free(codec: Codec, position: u64, number: u64) -> bool
-    ensures { result ≡ tells_by codec the_sender position number }
+/// Whether a position is of an even round; without slots each is.
+fn is_even(size: u32, position: u64) -> bool
+    ensures { result ≡ (position / size % 2 == 0) }
 {
-    match codec {
+    size == 0 || position / u64::from(size) % 2 == 0
+}
+
+/// Whether a tag of this number tells the sender that its slot is free for a position.
+fn tells_free(queue: TaggedQueue, position: u64, number: u64) -> bool
+    ensures { result ≡ tells_by queue.size queue.codec the_sender position number }
+{
+    match queue.codec {
         Codec::Zero => number == 0,
         Codec::Number => number == position % WORDS,
         Codec::Bit {
@@ -181,6 +203,20 @@ fn tells_free(codec: Codec, position: u64, number: u64) -> bool
             free,
             full: _,
         } => number & u64::from(mask) == u64::from(free),
+        Codec::Phases {
+            mask,
+            free,
+            full: _,
+            odd_free,
+            odd_full: _,
+        } => {
+            let these = if is_even(queue.size, position) {
+                free
+            } else {
+                odd_free
+            };
+            number & u64::from(mask) == u64::from(these)
+        }
     }
 }
 
@@ -197,11 +233,11 @@ fn tag_of(queue: TaggedQueue, position: u64) -> Result<u64, Lack>
 }
 
 fn opens_free_at(opening: &Opening, queue: TaggedQueue, position: u64) -> Result<bool, Lack>
-    ensures { IfOk result (λ free. free ≡ tells_by queue.codec the_sender position (memory_number opening.now [] (tag_of (slots_of queue) position)
+    ensures { IfOk result (λ free. free ≡ tells_by queue.size queue.codec the_sender position (memory_number opening.now [] (tag_of (slots_of queue) position)
         queue.tag_width)) }
 {
     let number = number_at(&opening.words, tag_of(queue, position)?, queue.tag_width)?;
-    Ok(tells_free(queue.codec, position, number))
+    Ok(tells_free(queue, position, number))
 }
 
 /// Whether each slot is free for its position of the round that begins at `start`, as the machine opens.

@@ -2,15 +2,17 @@
 use Rattle.std.specs.Prelude.{ℕ, ◌^◌, Bool}
 use Rattle.queue_parties.specs.Parties.{Party}
 use Rattle.slots_that_tell.specs.Slots.{Slots}
-use Rattle.slots_that_tell.specs.Codecs.{zero_is_free, position_number, bits_under}
+use Rattle.slots_that_tell.specs.Codecs.{zero_is_free, position_number, bits_under, phase_bits}
 use Rattle.queue_layouts.specs.declared.tagged.Codec.{Codec}
 use Rattle.queue_layouts.specs.declared.tagged.Codec.TheVariants as codec
 use Rattle.queue_layouts.specs.declared.tagged.TaggedQueue.{TaggedQueue}
 
-abbrev pub tells_by : Codec → Party → (k v : ℕ) → Bool
-tells_by codec.Zero = zero_is_free
-tells_by codec.Number = position_number (2 ^ 32)
-tells_by (codec.Bit mask free full) = bits_under mask free full
+-- where there are `size` slots
+abbrev pub tells_by : (size : ℕ) → Codec → Party → (k v : ℕ) → Bool
+tells_by size codec.Zero = zero_is_free
+tells_by size codec.Number = position_number (2 ^ 32)
+tells_by size (codec.Bit mask free full) = bits_under mask free full
+tells_by size (codec.Phases mask free full odd_free odd_full) = phase_bits size mask free full odd_free odd_full
 
 abbrev pub slots_of : TaggedQueue → Slots
 slots_of q = record {
@@ -23,5 +25,5 @@ slots_of q = record {
   tag_stride = q.tag_stride;
   tag_offset = q.tag_offset;
   tag_width = q.tag_width;
-  tells = tells_by q.codec;
+  tells = tells_by q.size q.codec;
 }

@@ -8,7 +8,20 @@ pub enum Codec {
     /// By positions' numbers modulo 2^32: by k where the slot is free for position k, and by k + 1 where it is full of it.
     Number,
     /// By its bits under a mask, as an OWN bit is: `free` where the slot is free, and `full` where it is full.
-    Bit { mask: u32, free: u32, full: u32 },
+    Bit {
+        mask: u32,
+        free: u32,
+        full: u32,
+    },
+    /// By its bits under a mask, which turn with the rounds, as phase bits do: `free` and `full` for the positions of even rounds, and
+    /// `odd_free` and `odd_full` for those of odd ones. A round is as many positions as there are slots.
+    Phases {
+        mask: u32,
+        free: u32,
+        full: u32,
+        odd_free: u32,
+        odd_full: u32,
+    },
 }
 
 /// The harts that send and receive; where the slots begin, how many they are, and how many bytes one has; where the elements with the

@@ -93,7 +93,7 @@ module _ (c : QueueCertificate) (h : ℕ) (code : List ℕ) (t : ℕ) where
         (tag : tag_position k.ranges (tagged_at c w) (share_at k (length c.queues + w)) place wide ≡ Some j)
         (first : when_told (tagged_at c) (length c.queues) k p op rd.number w j (share_at k (length c.queues + w)) ≡ a) where
       abbrev told : Result
-      told = told_value (tagged_at c w).codec p op (share_at k (length c.queues + w)).own j
+      told = told_value k.ranges (tagged_at c w) (tagged_at c w).codec p op (share_at k (length c.queues + w)).own j
 
       abbrev after : List Share
       after = map (share_by lifted) k.shares
@@ -167,9 +167,9 @@ module _ (c : QueueCertificate) (h : ℕ) (code : List ℕ) (t : ℕ) where
     of-tag w may unseen looked (Some p) mine (Some j) tag is-two = by (nat_lt j (share_at k (length c.queues + w)).owned.constant) is-two
       where
         by : (u : Bool) → Some (if u then with_result k rd.number (next_pc k.pc)
-            (told_value (tagged_at c w).codec p op (share_at k (length c.queues + w)).own j) ∷ [] else
+            (told_value k.ranges (tagged_at c w) (tagged_at c w).codec p op (share_at k (length c.queues + w)).own j) ∷ [] else
             when_told (tagged_at c) (length c.queues) k p op rd.number w j (share_at k (length c.queues + w)) ∷ with_result k rd.number (next_pc k.pc)
-            (other_value (tagged_at c w) (tagged_at c w).codec p op (share_at k (length c.queues + w)).own j) ∷ []) ≡ Some (a ∷ z ∷ []) → IsTagLoad k a
+            (other_value k.ranges (tagged_at c w) (tagged_at c w).codec p op (share_at k (length c.queues + w)).own j) ∷ []) ≡ Some (a ∷ z ∷ []) → IsTagLoad k a
         by true is-two = absurd (cc)
         by false is-two = load-of may unseen w looked p mine j tag
             (let same : when_told (tagged_at c) (length c.queues) k p op rd.number w j (share_at k (length c.queues + w)) ≡ a = cc in same)

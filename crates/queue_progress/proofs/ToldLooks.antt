@@ -86,11 +86,11 @@ module _ (c : QueueCertificate) (h : ℕ) (code : List ℕ) (t : ℕ) (k a : Kno
   wide = load_width l.op
 
   abbrev result : Result
-  result = told_value (tagged_at c t).codec l.party l.op (share_at k i).own 0
+  result = told_value k.ranges (tagged_at c t) (tagged_at c t).codec l.party l.op (share_at k i).own 0
 
   abbrev pub next : KnownState
   next = with_result (with_share (length c.queues + t) (record { own = (share_at k (length c.queues + t)).own; owned = number 1 }) k) l.rd.number
-      (next_pc k.pc) (told_value (tagged_at c t).codec l.party l.op (share_at k (length c.queues + t)).own 0)
+      (next_pc k.pc) (told_value k.ranges (tagged_at c t) (tagged_at c t).codec l.party l.op (share_at k (length c.queues + t)).own 0)
 
   owning-share : share_at owning i ≡ one
   owning-share = get_or-set_same k.shares i one no_share l.listed
@@ -317,4 +317,4 @@ module _ (M : ℕ) (o : OpeningValue) (c : QueueCertificate) (ok : accepts o c �
 
         plain : KnownState
         plain = with_result k l.rd.number (next_pc k.pc)
-            (told_value (tagged_at c t).codec l.party l.op (share_at k (length c.queues + t)).own 0)
+            (told_value k.ranges (tagged_at c t) (tagged_at c t).codec l.party l.op (share_at k (length c.queues + t)).own 0)

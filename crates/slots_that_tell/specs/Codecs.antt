@@ -1,5 +1,5 @@
--- Three ways for a tag to tell.
-use Rattle.std.specs.Prelude.{ℕ, ◌+◌, ◌%◌, ◌==◌, not, bit_and, Bool}
+-- Four ways for a tag to tell.
+use Rattle.std.specs.Prelude.{ℕ, ◌+◌, ◌/◌, ◌%◌, ◌==◌, not, bit_and, if◌then◌else◌, Bool}
 use Rattle.queue_parties.specs.Parties.{Party, the_sender, the_receiver}
 
 -- FastForward's: 0 is free, anything else is full
@@ -18,3 +18,9 @@ position_number m the_receiver k v = v == (k + 1) % m
 abbrev pub bits_under : (mask free full : ℕ) → Party → (k v : ℕ) → Bool
 bits_under mask free full the_sender k v = bit_and v mask == free
 bits_under mask free full the_receiver k v = bit_and v mask == full
+
+-- phase bits, which turn with the rounds of `size` positions each: those under the mask are `free` and `full` in even rounds, and other two
+-- in odd ones
+abbrev pub phase_bits : (size mask free full odd_free odd_full : ℕ) → Party → (k v : ℕ) → Bool
+phase_bits size mask free full odd_free odd_full p k v =
+    if k / size % 2 == 0 then bits_under mask free full p k v else bits_under mask odd_free odd_full p k v

@@ -10,7 +10,7 @@ use Rattle.store_buffers.specs.StoreBuffers.{LeavesByteAt}
 use Rattle.queue_parties.specs.Parties.{Party, the_sender, the_receiver, QueueCounts, count, known}
 use Rattle.queue_parties.specs.Positions.{numbers_from, records_passed}
 use Rattle.slots_that_tell.specs.Slots.{Slots, IsSlots, RestsAt, tagged_slot, IsSlotByte, IsTagByte}
-use Rattle.slots_that_tell.specs.Telling.{teller_hart, after_entry, told_counts, moved, KeepsTelling}
+use Rattle.slots_that_tell.specs.Telling.{teller_hart, after_entry, moved, KeepsTelling}
 
 -- the entries of a run from where the queue was at rest with these counts: they are legal after those before, and keep the protocol
 pub record FollowsTelling (B : ℕ) (q : Slots) (start : QueueCounts) (o : OpeningValue) (before es : List Entry) : Type 0 where

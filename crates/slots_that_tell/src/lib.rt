@@ -18,7 +18,7 @@ ghost use Rattle.queue_parties.specs.Positions.{IsPrefix};
 ghost use Rattle.queue_parties.specs.Parties.{Party, the_sender, the_receiver, other, QueueCounts, count, known, IsWindow};
 ghost use Rattle.slots_that_tell.specs.Slots.{Slots, gap, tag_of, IsSlotByte};
 ghost use Rattle.slots_that_tell.specs.Telling.{teller_hart, told_counts};
-ghost use Rattle.slots_that_tell.specs.Codecs.{zero_is_free, position_number, bits_under};
+ghost use Rattle.slots_that_tell.specs.Codecs.{zero_is_free, position_number, bits_under, phase_bits};
 ghost use Rattle.slots_that_tell.specs.Laws.{FollowsTelling, moved_on, StoresTagsAlone, records_by, records_learned, records_waiting};
 ghost use Rattle.store_buffers.specs.StoreBuffers.{LeavesByteAt};
 
@@ -44,6 +44,8 @@ ghost use Rattle.store_buffers.specs.StoreBuffers.{LeavesByteAt};
 /// - `zero_tells`: 0 for free and anything else for full is a way to tell.
 /// - `numbers_tell`: so are positions' numbers mod m, unless the size is 1 mod m.
 /// - `bits_tell`: so are bits under a mask, where a free slot's and a full one's differ.
+/// - `phases_tell`: so are bits that turn with the rounds, where a slot's next bits always differ: free, full, and these two of the round
+///   after.
 pub fn laws_of_telling()
     ensures window { (B : ℕ) (q : Slots) (start : QueueCounts) (o : OpeningValue) (before es : List Entry) → FollowsTelling B q start o before es
         → IsWindow q.size (told_counts q start es) }
@@ -85,4 +87,7 @@ pub fn laws_of_telling()
         → position_number m (other p) (k + gap q p) v ≡ false }
     ensures bits_tell { (mask free full : ℕ) → free ≢ full → (q : Slots) (p : Party) (k v : ℕ) → bits_under mask free full p k v ≡ true
         → bits_under mask free full (other p) (k + gap q p) v ≡ false }
+    ensures phases_tell { (mask free full odd_free odd_full : ℕ) → free ≢ full → full ≢ odd_free → odd_free ≢ odd_full → odd_full ≢ free
+        → (q : Slots) → 1 ≤ q.size → (p : Party) (k v : ℕ) → phase_bits q.size mask free full odd_free odd_full p k v ≡ true
+        → phase_bits q.size mask free full odd_free odd_full (other p) (k + gap q p) v ≡ false }
 {}

@@ -37,5 +37,5 @@ static int fetch(volatile struct frame *frame) {
   return 1;
 }
 
-void P0(void) { for (;;) while (!transmit(given.buffer, given.length)) {} }
+void P0(void) { for (unsigned n = 0;; n++) while (!transmit(n, given.length)) {} }
 void P1(void) { for (;;) fetch(&taken); }

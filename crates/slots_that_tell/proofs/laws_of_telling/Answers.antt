@@ -2,7 +2,7 @@ use Rattle.slots_that_tell.proofs.Runs.{window, look}
 use Rattle.slots_that_tell.proofs.Publication.{published}
 use Rattle.slots_that_tell.proofs.HandingOver.{published_by, handed, waited}
 use Rattle.slots_that_tell.proofs.Records.{in_order, in_order_as_learned}
-use Rattle.slots_that_tell.proofs.Codecs.{zero_differs, numbered_differs, bits_differ}
+use Rattle.slots_that_tell.proofs.Codecs.{zero_differs, numbered_differs, bits_differ, phases_differ}
 use Rattle.queue_parties.specs.Parties.{the_sender, the_receiver}
 use Rattle.std.proofs.Common.{arith}
 use Rattle.slots_that_tell.proofs.laws_of_telling.Goals as goal
@@ -41,6 +41,10 @@ returns-clause-numbers_tell c = λ m two q apart p k v has. numbered_differs m t
 
 pub returns-clause-bits_tell : goal.returns-clause-bits_tell
 returns-clause-bits_tell c = λ mask free full apart q p k v has. bits_differ mask free full apart q p k v has
+
+pub returns-clause-phases_tell : goal.returns-clause-phases_tell
+returns-clause-phases_tell c = λ mask free full odd_free odd_full even turn odd back q some p k v has.
+    phases_differ mask free full odd_free odd_full even turn odd back q some p k v has
 
 pub returns-clause-waiting : goal.returns-clause-waiting
 returns-clause-waiting c = λ B q start o before es follows k x of_k sent given left g h. waited B q start o before es follows k x of_k sent given left g h

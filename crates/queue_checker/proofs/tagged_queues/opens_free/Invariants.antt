@@ -8,4 +8,4 @@ use Rattle.queue_checker.proofs.tagged_queues.opens_free.Given as goal
 
 abbrev pub invariant-loop-d : goal.invariant-loop-d
 invariant-loop-d l = let q = l.queue in
-    l.all ≡ all_below l.d (λ d. tells_by q.codec the_sender (l.start + d) (memory_number l.opening [] (tag_of (slots_of q) (l.start + d)) q.tag_width))
+    l.all ≡ all_below l.d (λ d. tells_by q.size q.codec the_sender (l.start + d) (memory_number l.opening [] (tag_of (slots_of q) (l.start + d)) q.tag_width))
