@@ -22,7 +22,7 @@ OTHER, RING = "head=q_sent,tail=q_taken,slots=q_word,size=8", "head=q_put,tail=q
 LEFT = ["answer.json", "index.html"]
 REPORTS = [
     ("running_indices.litmus", RING, (), 0, "kept in every run, and goes on while its harts run", None),
-    ("wrong/no_look.litmus", OTHER, (), 8, "broken: hart 0 at pc 28, ", "row 104 breaks the protocol; row 8 stored there before"),
+    ("wrong/no_look.litmus", OTHER, (), 8, "broken: hart 0 at pc 28, ", "row 118 loads another byte than was sent; row 104 stored there before"),
     ("wrong/both_write.litmus", OTHER, ("--buffer", "1"), 11, "does not keep the protocol described: hart 0 at pc 92, ", " breaks the protocol"),
     ("no_look.litmus", RING, ("--runs", "20", "--length", "60"), 7, "not shown: ", None),
 ]

@@ -49,8 +49,10 @@ class Telling(Protocol, telling.Telling):  # pylint: disable=super-init-not-call
     """The protocol of slots that tell."""
 
     def __init__(self, queue, start):
+        # of bits the mask, and those of the rounds
+        mask, *bits = queue.codec if isinstance(queue.codec, tuple) else (0,)
         self.queue = telling.Slots(queue.size, queue.width, queue.tag_offset, queue.tag_width, 2**32 if queue.codec == tags.NUMBER else 0, queue.slots,
-                                   None if tags.are_slots(queue) else (queue.tags, queue.tag_stride))
+                                   None if tags.are_slots(queue) else (queue.tags, queue.tag_stride), mask, tuple(zip(bits[::2], bits[1::2])))
         self.begin(queue, start, (queue.tags, queue.size * queue.tag_stride))
 
     def may_be_read(self, p, x):

@@ -1,5 +1,5 @@
 """An answer about queues as a folder to keep: a page without scripts, the same for scripts as JSON, and the files that belong to it. The
-picture of a broken queue's run is the program's, with the sources' lines; two of its rows are marked."""
+picture of its schedule's run is the program's, with the sources' lines; two of its rows are marked."""
 
 import json
 import os
@@ -21,9 +21,11 @@ from machine import Machine
 PAGE, DATA = "index.html", "answer.json"
 STEPPER = "page"
 NEWLINE, WRAPS = "\n", " class='wraps'"
-BREAKS, BEFORE = "breaks the protocol", "stored there before"
-# what an event that stores is called, its address, and its bytes if they aren't 4
-STORED = re.compile(r"(?:store(?P<bytes>[12])?|amo) [0-9]+ (?P<at>[0-9]+) ")
+# the last event of a run that breaks the protocol, and of one that loses a record, and what is stored where it loads or stores
+BREAKS, LOSES, BEFORE = "breaks the protocol", "loads another byte than was sent", "stored there before"
+OTHER_PROTOCOL = 11
+# what an event that loads or stores is called, its address, and its bytes if they aren't 4
+ACCESS = re.compile(r"(?P<kind>load|store|amo)(?P<bytes>[12])? [0-9]+ (?P<at>[0-9]+) ")
 # a verdict's kind by the status: kept, broken, and what isn't shown
 KINDS = {0: "kept", 8: "broken"}
 STYLE = """
@@ -41,8 +43,8 @@ dt{font-weight:bold}dd{margin:0 0 .5rem;overflow-wrap:anywhere}
 
 @dataclass(frozen=True)
 class Report:
-    """What a report has: the status, the verdict without of what it is, what was asked, the queues' descriptions, the files, the schedule of a
-    broken queue, or None, and the stores that a buffer holds."""
+    """What a report has: the status, the verdict without of what it is, what was asked, the queues' descriptions, the files, the answer's
+    schedule, or None, and the stores that a buffer holds."""
     status: int
     verdict: str
     about: About
@@ -65,33 +67,33 @@ def check_folder(folder):
         raise Refused(f"{folder}: a report needs a new or empty folder, and this one isn't empty")
 
 
-def stores_in(test, buffer, steps):
-    """Each store and AMO of a run: its row in the picture, its first byte, and the one after its last."""
+def accesses_in(test, buffer, steps):
+    """Each load, store and AMO of a run: its row in the picture, its first byte, the one after its last, and whether it is no load."""
     machine = Machine(test, buffer)
     state, row = machine.opening, 0
     for event, _ in steps:
         outcome, is_entry, state = machine.step(state, event)
         row += is_entry
-        if shape := STORED.match(outcome):
-            yield row, int(shape["at"]), int(shape["at"]) + int(shape["bytes"] or 4)
+        if shape := ACCESS.match(outcome):
+            yield row, int(shape["at"]), int(shape["at"]) + int(shape["bytes"] or 4), shape["kind"] != "load"
 
 
-def marks_of(test, buffer, schedule):
-    """The rows that are marked: the store that breaks the protocol, which is the schedule's last event, and the last one before it to any of
-    its bytes."""
-    stores = list(stores_in(test, buffer, schedules.read_steps(schedule)))
-    if not stores:
+def marks_of(test, report):
+    """The rows that are marked: what breaks the protocol, or loses a record, which is the schedule's last event, and the last store before it to
+    any of its bytes."""
+    accesses = list(accesses_in(test, report.buffer, schedules.read_steps(report.schedule)))
+    if not accesses:
         return {}
-    row, begin, end = stores[-1]
-    before = [other for other, first, last in stores[:-1] if first < end and begin < last]
-    return {row: BREAKS, **{other: BEFORE for other in before[-1:]}}
+    row, begin, end, _ = accesses[-1]
+    before = [other for other, first, last, stores in accesses[:-1] if stores and first < end and begin < last]
+    return {row: BREAKS if report.status == OTHER_PROTOCOL else LOSES, **{other: BEFORE for other in before[-1:]}}
 
 
 def picture_of(report, program):
-    """The picture of a broken queue's run, with the marks, and these."""
+    """The picture of the schedule's run, with the marks, and these."""
     test = texts.read(text_of(report.text), report.text).test
     drawn = c_lines.picture(program, report.text, test, report.schedule, report.buffer, ["--memory", "--svg"])
-    marks = marks_of(test, report.buffer, report.schedule)
+    marks = marks_of(test, report)
     return c_lines.marked_svg(drawn, marks), marks
 
 
@@ -100,7 +102,7 @@ def pre(text, is_wide=True):
 
 
 def stepped(report):
-    """The page's part with the command that opens a broken queue's run in a browser, or nothing of one that is too long for a link."""
+    """The page's part with the command that opens the schedule's run in a browser, or nothing of one that is too long for a link."""
     link = links.run_of(text_of(report.text), report.schedule, report.buffer)
     if len(link) > links.LONGEST:
         return ""
@@ -108,14 +110,15 @@ def stepped(report):
 
 
 def run_of(report, drawn):
-    """The page's part with the run that breaks a queue, below its picture or what is said in its place."""
+    """The page's part with the schedule's run, below its picture or what is said in its place."""
+    title = "breaks it" if report.status == OTHER_PROTOCOL else "loses a record"
     call = escape(f"ztso chart {report.text.name} {report.text.stem}.schedule --buffer {report.buffer}")
-    return (f"<h2>A run that breaks it</h2>\n{drawn}\n{pre(report.schedule, is_wide=False)}\n"
+    return (f"<h2>A run that {title}</h2>\n{drawn}\n{pre(report.schedule, is_wide=False)}\n"
             f"<p>In this folder <code>{call}</code> draws it.</p>\n{stepped(report)}")
 
 
 def drawn_in(report, program):
-    """The picture of a broken queue's run as a file's text, or None, and the page's part with it."""
+    """The picture of the schedule's run as a file's text, or None, and the page's part with it."""
     try:
         picture, marks = picture_of(report, program)
     except Refused as refused:

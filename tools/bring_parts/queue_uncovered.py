@@ -5,7 +5,6 @@ import re
 from collections import defaultdict
 
 from bring_parts.queue_words import support_function
-from certify_parts import tags
 
 import assembly
 import draws
@@ -140,7 +139,7 @@ def masked(instruction, known):
 
 def of_bits(hart, seen, _):
     """A line where a hart decides by some bits of a tag, or None."""
-    if any(queue.has_tags and isinstance(queue.tells, tags.BitsTell) for queue in seen.queues):
+    if any(queue.has_tags and queue.has_bits() for queue in seen.queues):
         return None
     code, marks = seen.codes[hart], followed(seen.codes[hart], seen.tags[hart], masked)
     for at in sorted(marks):

@@ -7,7 +7,7 @@ from bring_parts import compilers
 
 COUNT = re.compile(r"(queue [0-9]+: count n is the word )([0-9]+) \+ ([0-9]+) \* \(\(n \+ ([0-9]+)\) mod ([0-9]+)\)(.*)")
 ACCESS = re.compile(r"(queue [0-9]+: (?:stored to|loaded from) by hart ([0-9]+)) at pc ([0-9]+), (.*)")
-STORED = re.compile(r"(queue [0-9]+: it stored [0-9]+ to )the ([0-9]+) bytes at ([0-9]+)(.*)")
+PLACED = re.compile(r"(queue [0-9]+: it (?:stored [0-9]+ to|loaded [0-9]+ from) )the ([0-9]+) bytes at ([0-9]+)(.*)")
 INDICES = re.compile(r"(queue [0-9]+: its head is )the ([0-9]+) bytes at ([0-9]+), its tail those at ([0-9]+)")
 SLOTS = re.compile(r"(queue [0-9]+: it has )([0-9]+) slots of ([0-9]+) bytes from ([0-9]+) on(.*)")
 ELEMENT = re.compile(r"(queue [0-9]+: its tag is .* of each element of 1 byte)s( from [0-9]+ on, .*)")
@@ -46,7 +46,7 @@ def worded(line, name_of):
     """A line of the answer in these words; `name_of` gives the name of these bytes at a place, or None."""
     if shape := COUNT.fullmatch(line):
         return f"{shape[1]}{word_of_count(*map(int, shape.groups()[1:5]))}{shape[6]}"
-    if shape := STORED.fullmatch(line):
+    if shape := PLACED.fullmatch(line):
         width, place = int(shape[2]), int(shape[3])
         name = name_of(place, width)
         return f"{shape[1]}{name}, {bytes_at(width, place)}{shape[4]}" if name else f"{shape[1]}{bytes_at(width, place)}{shape[4]}"

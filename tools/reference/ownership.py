@@ -5,7 +5,7 @@ from collections import namedtuple
 import certificates
 import tags
 from draws import event_of, runs_of
-from machine import Machine
+from machine import MEMORY, Machine, byte_read
 from shrinking import part_of
 
 LOADS, STORES = {"load": 4, "load2": 2, "load1": 1}, {"store": 4, "store2": 2, "store1": 1}
@@ -13,6 +13,8 @@ MOST = 2**64 - 1
 
 # `described` says if the hart might make the store, were every slot its own
 Breach = namedtuple("Breach", "hart pc address width value owned described")
+# a load by which the receiver finds another byte than was sent of the position: `byte` is its address
+Loss = namedtuple("Loss", "hart pc address width value position byte sent")
 
 
 class Counts:
@@ -33,6 +35,16 @@ class Counts:
         """The first position from this one on that lies in the slot."""
         return own + (slot - own) % self.queue.size
 
+    def is_record_byte(self, byte):
+        """Whether a byte is of a slot, and of no tag."""
+        return self.is_slot_byte(byte)
+
+    def last_told(self, byte):
+        """The last position of which the receiver was told whose record has the byte, of those of the last round; or None."""
+        known = self.told()
+        position = self.position(max(known - self.queue.size, 0), byte) if self.is_record_byte(byte) else known
+        return position if position < known else None
+
     def may_store(self, *store):
         """Whether a hart may store that: the hart, the address, the width and the value."""
         return self.allows(self.owned(store[0]), *store)
@@ -52,6 +64,10 @@ class IndexCounts(Counts):
     def __init__(self, queue, start):
         super().__init__(queue, start)
         self.known = dict(self.own)
+
+    def told(self):
+        """Before which position the receiver was told of all."""
+        return self.known[self.queue.receiver]
 
     def index(self, hart):
         return self.queue.head if hart == self.queue.sender else self.queue.tail
@@ -116,6 +132,16 @@ class TagCounts(Counts):
         """The first position that a party doesn't own that knows of so many of the other's."""
         return known + (self.queue.size if hart == self.queue.sender else 0)
 
+    def told(self):
+        """Before which position the receiver was told of all."""
+        return self.end[self.queue.receiver]
+
+    def is_tag_byte(self, byte):
+        return 0 <= byte - tags.tag_of(self.queue, (byte - self.queue.slots) // self.queue.width) < self.queue.tag_width
+
+    def is_record_byte(self, byte):
+        return self.is_slot_byte(byte) and not self.is_tag_byte(byte)
+
     def is_element_byte(self, byte):
         return self.queue.tags <= byte < self.queue.tags + self.queue.size * self.queue.tag_stride
 
@@ -130,7 +156,7 @@ class TagCounts(Counts):
     def loaded(self, hart, address, width, value):
         if self.is_tag(hart, address, width):
             position = self.next_of(self.own[hart], self.element(address)[0])
-            if tags.tells_by(self.queue.codec, tags.party_in(self.queue, hart), position, value):
+            if tags.tells_by(self.queue.size, self.queue.codec, tags.party_in(self.queue, hart), position, value):
                 self.end[hart] = max(self.end[hart], position + 1)
 
     def allows(self, owned, hart, address, width, value):
@@ -138,19 +164,61 @@ class TagCounts(Counts):
         if self.is_tag(hart, address, width) and self.next_of(owned[0], self.element(address)[0]) == owned[0] < owned[1]:
             party = tags.party_in(self.queue, hart)
             handed = owned[0] + (0 if party == certificates.SENDER else self.queue.size)
-            if tags.tells_by(self.queue.codec, certificates.other(party), handed, value):
+            if tags.tells_by(self.queue.size, self.queue.codec, certificates.other(party), handed, value):
                 return True
         return all(self.may_fill(owned, byte) for byte in range(address, address + width))
 
     def may_fill(self, owned, byte):
         if not self.is_slot_byte(byte):
             return not self.is_element_byte(byte)
-        is_of_tag = 0 <= byte - tags.tag_of(self.queue, (byte - self.queue.slots) // self.queue.width) < self.queue.tag_width
-        return owned is not None and self.position(owned[0], byte) < owned[1] and not is_of_tag
+        return owned is not None and self.position(owned[0], byte) < owned[1] and not self.is_tag_byte(byte)
 
     def stored(self, hart, address, width, value):
         if self.is_tag(hart, address, width):
             self.own[hart] += 1
+
+
+class Sent:
+    """Of the bytes of records what the sender read there just after it published them, until the receiver stores there."""
+
+    def __init__(self):
+        # by byte: the positions of one publication, as the first and the one after the last, and what was read; the latest comes last
+        self.of = {}
+
+    def publish(self, counts, first, end, read):
+        """The sender published the positions from the first on and before the end."""
+        queue = counts.queue
+        for slot in range(queue.size):
+            start = queue.slots + slot * queue.width
+            if start >= MEMORY:
+                break
+            if counts.next_of(first, slot) >= end:
+                continue
+            for byte in filter(counts.is_record_byte, range(start, min(start + queue.width, MEMORY))):
+                self.of.setdefault(byte, []).append((first, end, read(byte)))
+
+    def store_over(self, address, width):
+        for byte in range(address, address + width):
+            self.of.pop(byte, None)
+
+    def at(self, position, byte):
+        return next((read for first, end, read in reversed(self.of.get(byte, ())) if first <= position < end), None)
+
+
+def access_of(outcome):
+    """A load, a store or an AMO of a hart: the hart, the address, the width, what is loaded and what is stored, each a number or None;
+    of another entry None."""
+    name, *numbers = outcome.split()
+    if name in LOADS:
+        hart, address, value = map(int, numbers)
+        return hart, address, LOADS[name], value, None
+    if name in STORES:
+        hart, address, value = map(int, numbers)
+        return hart, address, STORES[name], None, value
+    if name == "amo":
+        hart, address, old, new = map(int, numbers)
+        return hart, address, 4, old, new
+    return None
 
 
 class Runs:
@@ -165,56 +233,97 @@ class Runs:
             self.known[state, event] = self.machine.step(state, event)
         return self.known[state, event]
 
-    def judged(self, events):
-        """The first breach of a run, or None, and the counts."""
-        counts_of = TagCounts if isinstance(self.queue, tags.TaggedQueue) else IndexCounts
-        state, counts = self.machine.opening, counts_of(self.queue, self.start)
+    def counts(self):
+        return (TagCounts if isinstance(self.queue, tags.TaggedQueue) else IndexCounts)(self.queue, self.start)
+
+    def entries(self, events):
+        """The accesses of a run's entries, each with the machine's state before it and after it."""
+        state = self.machine.opening
         for event in events:
             outcome, is_entry, after = self.step(state, event)
-            if is_entry and event[0] == "a":
-                breach = self.breach(outcome, state, counts)
-                if breach:
-                    return breach, counts
+            access = access_of(outcome) if is_entry and event[0] == "a" else None
+            if access:
+                yield access, state, after
             state = after
+
+    def judged(self, events):
+        """The first breach of a run, or None, and the counts."""
+        counts = self.counts()
+        for access, state, _ in self.entries(events):
+            breach = self.breach(access, state, counts)
+            if breach:
+                return breach, counts
         return None, counts
 
     @staticmethod
-    def breach(outcome, state, counts):
+    def breach(access, state, counts):
         """What an entry of a hart breaks, or None; the counts take it in."""
-        name, *numbers = outcome.split()
-        if name not in (*LOADS, *STORES, "amo"):
+        hart, address, width, loaded, value = access
+        if loaded is not None:
+            counts.loaded(hart, address, width, loaded)
+        if value is None:
             return None
-        hart, *numbers = map(int, numbers)
-        if name in LOADS:
-            counts.loaded(hart, numbers[0], LOADS[name], numbers[1])
-            return None
-        if name == "amo":
-            address, old, value = numbers
-            counts.loaded(hart, address, 4, old)
-            width, is_free = 4, counts.is_load_alone and value == old
-        else:
-            (address, value), width, is_free = numbers, STORES[name], False
+        is_free = counts.is_load_alone and value == loaded
         if not is_free and not counts.may_store(hart, address, width, value):
             return Breach(hart, state[0][hart][0], address, width, value, counts.owned(hart), counts.is_described(hart, address, width, value))
         counts.stored(hart, address, width, value)
         return None
 
-    def breaks(self, events, shown):
-        """Whether a run shows this breach: the same hart's first one, which both are described or neither is."""
+    def loss(self, events):
+        """The first load of a run by which the receiver finds another byte than was sent, or None."""
+        counts, sent, queue = self.counts(), Sent(), self.queue
+        for access, state, after in self.entries(events):
+            hart, address, width, loaded, value = access
+            if hart == queue.receiver and loaded is not None:
+                for byte in range(address, address + width):
+                    position = counts.last_told(byte)
+                    was = None if position is None else sent.at(position, byte)
+                    if was is not None and was != loaded >> 8 * (byte - address) & 255:
+                        return Loss(hart, state[0][hart][0], address, width, loaded, position, byte, was)
+            if loaded is not None:
+                counts.loaded(hart, address, width, loaded)
+            if value is None:
+                continue
+            published = counts.own[queue.sender]
+            counts.stored(hart, address, width, value)
+            if hart == queue.sender and published < counts.own[queue.sender]:
+                _, _, _, pending, _ = after[0][hart]
+                sent.publish(counts, published, counts.own[queue.sender], lambda byte: byte_read(pending, after[1], byte))  # pylint: disable=cell-var-from-loop
+            if hart == queue.receiver and value != loaded:
+                sent.store_over(address, width)
+        return None
+
+    def shows(self, events):
+        """By which runs a breach may be shown: the same hart's first one, which both are described or neither is."""
         breach, _ = self.judged(events)
-        return breach is not None and (breach.hart, breach.described) == (shown.hart, shown.described)
+        return breach and (breach.hart, breach.described)
+
+
+def drawn(runs, number, drawing):
+    """The events of each run."""
+    for numbers in runs_of(runs.harts, number, *drawing):
+        yield [event_of(k, runs.harts) for k in numbers]
 
 
 def trial(runs, number, drawing):
     """The events of the first run that breaks the protocol, made short, and its breach; or None, and how many positions the parties
     published and took in all of them."""
     published = taken = 0
-    for numbers in runs_of(runs.harts, number, *drawing):
-        events = [event_of(k, runs.harts) for k in numbers]
+    for events in drawn(runs, number, drawing):
         breach, counts = runs.judged(events)
         if breach:
-            events = part_of(events, lambda left: runs.breaks(left, breach))  # pylint: disable=cell-var-from-loop
+            shown = breach.hart, breach.described
+            events = part_of(events, lambda left: runs.shows(left) == shown)  # pylint: disable=cell-var-from-loop
             return (events, runs.judged(events)[0]), None
         published += counts.own[runs.queue.sender] - runs.start
         taken += counts.own[runs.queue.receiver] - runs.start
     return None, (min(published, MOST), min(taken, MOST))
+
+
+def lost(runs, number, drawing):
+    """The events of the first run that loses a record, made short, and what it loses; or None."""
+    for events in drawn(runs, number, drawing):
+        if runs.loss(events):
+            events = part_of(events, lambda left: runs.loss(left) is not None)
+            return events, runs.loss(events)
+    return None

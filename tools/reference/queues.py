@@ -16,7 +16,7 @@ import words
 # what stands before the number and the form of a value that is no form
 MARKED = {"@": certificates.IndexFor, "~": certificates.SignedFor, "^": certificates.EndsAs}
 KEPT, READS_NOT_SHOWN, NOT_SHOWN, BROKEN, ASKED_NOT_SHOWN, PROGRESS_NOT_SHOWN, OTHER_PROTOCOL = 0, 6, 7, 8, 9, 10, 11
-# of a run that breaks the protocol, by whether its store is described
+# of a run that breaks the protocol, by whether a record is lost, too
 BREAKS = {True: ("broken", BROKEN), False: ("does not keep the protocol described", OTHER_PROTOCOL)}
 REGISTERS = 32
 # of how many queues a hart may be a party for a line about all of them together
@@ -69,7 +69,7 @@ def value_of(found):
 
 
 def codec_of(name, *numbers):
-    return tags.Bits(*numbers) if numbers else name
+    return {"bits": tags.Bits, "phases": tags.Phases}[name](*numbers) if numbers else name
 
 
 def cases_of(found):
@@ -171,7 +171,9 @@ def known_lines(listed):
 
 def tag_text(queue):
     """Where in its slot, or in its element, a tag lies, and how it tells."""
-    if isinstance(queue.codec, tags.Bits):
+    if isinstance(queue.codec, tags.Phases):
+        tells = "free where its bits under {} are {} and full where they are {}, in odd rounds {} and {}".format(*queue.codec)
+    elif isinstance(queue.codec, tags.Bits):
         tells = "free where its bits under {} are {} and full where they are {}".format(*queue.codec)
     else:
         tells = {tags.ZERO: "0 where it is free and any other number where it is full",
@@ -246,12 +248,12 @@ class Judge:
         return None
 
     def unread(self):
-        """The first load of a slot that isn't shown to be of an owned one, as a line; or None."""
+        """The first load of a slot that isn't shown to be of an owned one, as a line, and of which queue; or None."""
         for index, (queue, *_) in enumerate(self.opened):
             for hart in (queue.sender, queue.receiver):
                 state = self.first_unowned(index, hart)
                 if state is not None:
-                    return f"kept, but reads not shown: {self.state_place(hart, state)}, of queue {index}"
+                    return f"kept, but reads not shown: {self.state_place(hart, state)}, of queue {index}", index
         return None
 
     # ---- lines
@@ -403,19 +405,34 @@ class Judge:
 
     # ---- drawn runs
 
-    def broken(self, index, events, breach, capacity):
-        """The lines of a run that breaks a queue's protocol, of which the schedule is the last, and the exit status."""
+    @staticmethod
+    def schedule(events, capacity):
+        return [f"shown by this schedule, whose last event it is, with --buffer {capacity}:", *schedules.written(events).splitlines()]
+
+    def losing(self, index, capacity, number, drawing):
+        """The lines of what drawn runs lose of a queue, and whether they lose a record."""
+        queue, start, *_ = self.opened[index]
+        lost = ownership.lost(ownership.Runs(self.test, capacity, queue, start), number, drawing)
+        if not lost:
+            return [f"queue {index}: no record is lost in {number} drawn runs of {drawing[1]} events"], False
+        events, loss = lost
+        return [f"a record is lost: {self.place(loss.hart, loss.pc)}",
+                f"queue {index}: it loaded {loss.value} from the {loss.width} bytes at {loss.address}, of position {loss.position}, "
+                f"whose byte at {loss.byte} was sent as {loss.sent}", *self.schedule(events, capacity)], True
+
+    def broken(self, index, events, breach, capacity, number, drawing):
+        """The lines of a run that breaks a queue's protocol, of which a schedule is the last, and the exit status."""
         if breach.owned is None:
             owned = "and is neither party"
         elif breach.owned[0] < breach.owned[1]:
             owned = f"and owned positions {breach.owned[0]} to {breach.owned[1] - 1}"
         else:
             owned = "and owned no position"
-        verdict, status = BREAKS[breach.described]
+        losing, is_lost = self.losing(index, capacity, number, drawing) if breach.described else ([], False)
+        verdict, status = BREAKS[is_lost]
         return [f"{verdict}: {self.place(breach.hart, breach.pc)}",
                 f"queue {index}: it stored {breach.value} to the {breach.width} bytes at {breach.address}, {owned}", *self.form(index),
-                f"{FIT} {OF[self.has_tags(index)]}",
-                f"shown by this schedule, whose last event it is, with --buffer {capacity}:", *schedules.written(events).splitlines()], status
+                f"{FIT} {OF[self.has_tags(index)]}", *losing, *([] if is_lost else self.schedule(events, capacity))], status
 
     def tried(self, flaw, capacity, number, drawing):
         """What drawn runs show where the certificate has this flaw."""
@@ -423,14 +440,14 @@ class Judge:
         for index, (queue, start, *_) in enumerate(self.opened):
             shown, moved = ownership.trial(ownership.Runs(self.test, capacity, queue, start), number, drawing)
             if shown:
-                return self.broken(index, *shown, capacity)
+                return self.broken(index, *shown, capacity, number, drawing)
             lines.append(f"queue {index}: kept in {number} drawn runs of {drawing[1]} events, in which {moved[0]} positions were published and"
                          f" {moved[1]} taken")
         return [*flaw, *lines, "nothing is claimed"], NOT_SHOWN
 
-    def kept(self, written, read, harts, asks_progress):
+    def kept(self, losing, written, read, harts, asks_progress):
         """The lines, and the exit status, where the protocol is kept: of these bytes of records that are to be written, and to be read, if any, of
-        the harts and of whether the queues go on, if they are asked about."""
+        the harts and of whether the queues go on, if they are asked about. Where reads aren't shown, `losing` has the lines of what runs lose."""
         going = [self.going(index) for index in range(len(self.opened)) if asks_progress]
         goes = all(shown for _, shown in going)
         records = {sends: [self.records(index, text, sends) for index in range(len(self.opened)) if text is not None]
@@ -440,7 +457,7 @@ class Judge:
         is_shown = {sends: bool(found) and all(shown for _, shown in found) for sends, found in records.items()}
         limits = [f"not promised: {UNREAD[is_shown[False]]}, {FRESHLY[is_shown[True]]}, {REST}", PROGRESS[asks_progress and goes]]
         if unread := self.unread():
-            return [unread, *lines, self.protocol(), READS, *limits], READS_NOT_SHOWN
+            return [unread[0], *lines, self.protocol(), READS, *limits, *losing(unread[1])], READS_NOT_SHOWN
         if not goes:
             first, status = "kept in every run, but not shown to go on", PROGRESS_NOT_SHOWN
         elif not all(shown for _, shown in told):
@@ -455,4 +472,4 @@ class Judge:
             return self.tried(flaw, capacity, number, drawing) if self.may_draw else ([*flaw, "nothing is claimed"], NOT_SHOWN)
         if unused := self.unused():
             return [unused, "nothing is claimed"], NOT_SHOWN
-        return self.kept(written, read, harts, asks_progress)
+        return self.kept(lambda index: self.losing(index, capacity, number, drawing)[0], written, read, harts, asks_progress)

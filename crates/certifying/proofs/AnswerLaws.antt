@@ -1,6 +1,7 @@
 -- What answers a litmus text and a certificate is one answer, and what it promises holds.
-use Rattle.std.proofs.Common.{arith, ◌≡◌, ◌&&◌, ℕ, ◌+◌, ◌<◌, ◌↔◌, Bool, true, false, List, length, Result, Ok, Err, refl, sym, ap, ◌∙◌, subst}
-use Rattle.std.specs.Prelude.{Option, Some, None}
+use Rattle.std.proofs.Common.{arith, ◌≡◌, ◌&&◌, ℕ, ◌+◌, ◌<◌, ◌↔◌, ◌++◌, Bool, true, false, List, [], length, Result, Ok, Err, refl, sym, ap, ap₂, ◌∙◌, subst}
+use Rattle.std.proofs.Common.{append-nil, append_assoc, inr, zero, suc}
+use Rattle.std.specs.Prelude.{Option, Some, None, option_map}
 use Rattle.std.proofs.lemmas.Bool.{and_parts}
 use Rattle.texts.specs.Results.{map_err}
 use Rattle.litmus.specs.LitmusTests.{LitmusTest}
@@ -15,31 +16,31 @@ use Rattle.queue_certificates.specs.{accepts_rest}
 use Rattle.slot_queue.specs.Ownership.{hart}
 use Rattle.queue_layouts.specs.Tagged.{slots_of}
 use Rattle.queue_checker.specs.declared.flaws.Flaw.{Flaw}
-use Rattle.queue_checker.specs.Flaws.{first_flaw, first_unowned, first_unowned_rest}
+use Rattle.queue_checker.specs.Flaws.{first_below, first_flaw, first_of, first_unowned, first_unowned_rest}
 use Rattle.drawn_runs.specs.Samples.{DrawnRuns}
 use Rattle.engine_support.specs.declared.fault.Refusal.{Refusal}
 use Rattle.engine_support.specs.{read, tests}
 use Rattle.engine_support.proofs.InputLaws.{IsOne, alike_after, is_one, one_litmus_text}
-use Rattle.certifying.specs.Answers.{IsAnswerTo, IsCertificateAnswer, IsFlawAnswer, IsQueueAnswer, IsTrialAnswer, IsUseAnswer, is_of_queue, all_shown}
-use Rattle.certifying.specs.Answers.{asks_endings, judged_reads, kept_answer, kept_judgement}
+use Rattle.certifying.specs.Answers.{AreLinesAfter, IsAcceptedAnswer, IsAnswerTo, IsCertificateAnswer, IsFlawAnswer, IsQueueAnswer, IsTrialAnswer}
+use Rattle.certifying.specs.Answers.{IsUseAnswer, is_of_queue, all_shown, asks_endings, judged_reads, kept_answer, kept_judgement}
 use Rattle.certifying.specs.Questions.{Questions}
 use Rattle.certifying.specs.Endings.{all_endings}
 use Rattle.certifying.specs.Going.{all_going, all_going_lines}
 use Rattle.certifying.specs.Harts.{harts_lines, harts_safe}
 use Rattle.certifying.specs.Inputs.{SaysCertificate, certificate_of, certificates}
 use Rattle.certifying.specs.Kept.{AreSameAnswers, AreJudged, AreQueueAnswers, IsPromised, KeepsProtocol, KeepsTags, LoadsOwnedSlots, LinesHold}
-use Rattle.certifying.specs.Kept.{LoadsTagsOrOwned, ReceivesFields}
-use Rattle.certifying.specs.Queues.{queue_count, slots_by, tagged_number}
+use Rattle.certifying.specs.Kept.{LoadsTagsOrOwned, MayHaveSchedule, ReceivesFields}
+use Rattle.certifying.specs.Queues.{queue_count, slots_at, slots_by, tagged_number}
 use Rattle.certifying.specs.Records.{AreFound, are_read, are_written}
 use Rattle.certifying.specs.declared.records.QueueRecords.{QueueRecords}
-use Rattle.certifying.specs.Unread.{first_unread, unowned_by, unread_of}
+use Rattle.certifying.specs.Unread.{first_unread, unowned_by, unread_by, unread_of}
 use Rattle.certifying.specs.Unused.{first_unused}
 use Rattle.certifying.specs.declared.endings.Endings.{Endings}
 use Rattle.certifying.specs.declared.judgement.Judgement.{Judgement}
 use Rattle.certifying.specs.declared.judgement.Judgement.TheVariants as judgement
 use Rattle.certifying.specs.declared.unread.Unread.{Unread}
 use Rattle.certifying.specs.declared.unused.Unused.{Unused}
-use Rattle.certifying.proofs.DrawnLaws.{DrawnLaws, SomeSlots, breaks, no_first, none-below, one-trial, sized}
+use Rattle.certifying.proofs.DrawnLaws.{DrawnLaws, SomeSlots, breaks-and-loses, breaks-otherwise, no_first, none-below, one-trial, sized}
 use Rattle.certifying.proofs.GoingLaws.{GoingLaws, keeps-going, progress-holds}
 use Rattle.certifying.proofs.HartLaws.{HartLaws, harts-hold, keeps-harts}
 use Rattle.certifying.proofs.Numbers.{is_indexed, is_tagged}
@@ -67,6 +68,34 @@ module _ (laws : DrawnLaws) (firsts : FirstLaws) (d : DrawnRuns) (asked : Questi
       alike a b (kept_answer d.M asked o c other.found) (is.answer_is ∙ ap (kept_answer d.M asked o c) same) other.answer_is
   one_use (Some unused) a b is other = alike a b _ is other
 
+  -- what follows an answer without a schedule is nothing
+  no_lines : (j : Judgement) (lines : List ℕ) → (MayHaveSchedule j → ⊥) → AreLinesAfter d o c j lines → lines ≡ []
+  no_lines judgement.Kept lines none are = are
+  no_lines judgement.ReadsNotShown lines none are = absurd (none (inr (inr refl)))
+  no_lines judgement.ProgressNotShown lines none are = are
+  no_lines judgement.AskedNotShown lines none are = are
+  no_lines judgement.NotShown lines none are = are
+  no_lines judgement.Broken lines none are = are
+  no_lines judgement.OtherProtocol lines none are = are
+
+  one_accepted : (a b : List ℕ × Judgement) → IsAcceptedAnswer d asked o c a → IsAcceptedAnswer d asked o c b → AreSameAnswers a b
+  one_accepted a b is other = (kind, λ none. text (λ may. none (subst MayHaveSchedule (sym at) may)))
+    where
+      same : AreSameAnswers is.used other.used
+      same = one_use (first_unused o c) is.used other.used is.is_used other.is_used
+
+      at : a.1 ≡ is.used.1
+      at = ap (λ (x : List ℕ × Judgement). x.1) is.answer_is
+
+      kind : a.1 ≡ b.1
+      kind = at ∙ same.0 ∙ sym (ap (λ (x : List ℕ × Judgement). x.1) other.answer_is)
+
+      text : (MayHaveSchedule is.used.1 → ⊥) → a.0 ≡ b.0
+      text none = ap (λ (x : List ℕ × Judgement). x.0) is.answer_is
+          ∙ ap₂ (λ (x y : List ℕ). x ++ y) (same.1 none) (no_lines is.used.1 is.lines none is.are_lines
+          ∙ sym (no_lines other.used.1 other.lines (λ may. none (subst MayHaveSchedule (sym same.0) may)) other.are_lines))
+          ∙ sym (ap (λ (x : List ℕ × Judgement). x.0) other.answer_is)
+
   one_flaw : (f : Flaw) → first_flaw o c ≡ Some f → (of_queue : Bool) → is_of_queue f ≡ of_queue → (a b : List ℕ × Judgement)
       → IsFlawAnswer d o c f of_queue a → IsFlawAnswer d o c f of_queue b → AreSameAnswers a b
   one_flaw f first true queue a b is other = alike a b _ is other
@@ -74,7 +103,7 @@ module _ (laws : DrawnLaws) (firsts : FirstLaws) (d : DrawnRuns) (asked : Questi
 
   one_by : (f : Option Flaw) → first_flaw o c ≡ f → (a b : List ℕ × Judgement) → IsAnswerTo d asked o c f a → IsAnswerTo d asked o c f b
       → AreSameAnswers a b
-  one_by None first a b is other = one_use (first_unused o c) a b is other
+  one_by None first a b is other = one_accepted a b is other
   one_by (Some f) first a b is other = one_flaw f first (is_of_queue f) refl a b is other
 
   one_judged : (a b : Result (List ℕ × Judgement) Refusal) → IsCertificateAnswer d asked o c a → IsCertificateAnswer d asked o c b
@@ -91,6 +120,32 @@ one_queue_answer laws firsts d asked file certificate =
     alike_after tests (λ r s. r.number ≡ s.number) one_litmus_text AreQueueAnswers (λ r s e. e) file _
     (λ (q : LitmusTest). alike_after certificates (λ r s. r ≡ s) one_certificate AreQueueAnswers
     (λ r s e. ap (λ (x : Refusal). x.number) e) certificate (IsCertificateAnswer d asked q.opening) (λ c. one_judged laws firsts d asked q.opening c))
+
+-- ---- the first load that isn't shown is of a queue
+
+first-within : {A : Type 0} (f : ℕ → Option A) (n : ℕ) (x : A) → first_below n f ≡ Some x → (i : ℕ) × (i < n) × (f i ≡ Some x)
+first-within f zero x is = absurd (cc)
+first-within f (suc n) x is = at (λ earlier. first-within f n x earlier) (first_below n f) refl is
+  where
+    at : (first_below n f ≡ Some x → (i : ℕ) × (i < n) × (f i ≡ Some x)) → (before : Option _) → first_below n f ≡ before → first_of before (f n) ≡ Some x
+        → (i : ℕ) × (i < suc n) × (f i ≡ Some x)
+    at rest None none here = (n, omega arith, here)
+    at rest (Some y) some here = let found = rest (some ∙ here) in (found.0, omega (arith, found.1), found.2)
+
+module _ (o : OpeningValue) (c : QueueCertificate) where
+  of-queue : (i h : ℕ) (n : Option ℕ) (u : Unread) → option_map (λ n. record { queue = i; hart = h; state = n }) n ≡ Some u → u.queue ≡ i
+  of-queue i h None u is = absurd (cc)
+  of-queue i h (Some n) u is = let same : record { queue = i; hart = h; state = n } ≡ u = cc in sym (ap (λ (x : Unread). x.queue) same)
+
+  pub unread-inside : (u : Unread) → first_unread o c ≡ Some u → u.queue < queue_count c
+  unread-inside u is = let found = first-within (unread_of o c) (queue_count c) u is in
+      let same : u.queue ≡ found.0 = by found.0 (unread_by o c found.0 (slots_at c found.0).sender) refl found.2 in
+      omega (arith, same, found.1)
+    where
+      by : (i : ℕ) (sends : Option Unread) → unread_by o c i (slots_at c i).sender ≡ sends
+          → first_of sends (unread_by o c i (slots_at c i).receiver) ≡ Some u → u.queue ≡ i
+      by i None none is = of-queue i (slots_at c i).receiver (unowned_by o c i (tagged_number c i) (slots_at c i).receiver) u is
+      by i (Some v) some is = of-queue i (slots_at c i).sender (unowned_by o c i (tagged_number c i) (slots_at c i).sender) u (some ∙ is)
 
 -- ---- what is promised
 
@@ -212,7 +267,12 @@ module _ (laws : Laws) (o : OpeningValue) (c : QueueCertificate) where
         → LinesHold M asked o c (answered found u) → IsPromised M asked (answered found u) o c
     promised_reads none found are None e hold = promised_all none e found are _ (all_going o c asked.progress) refl
         (all_shown found (harts_safe o c ends asked.harts)) refl hold
-    promised_reads none found are (Some unread) e hold = (keeps none, keeps_tags none, receives none, hold)
+    promised_reads none found are (Some unread) e hold = (
+      keeps none,
+      keeps_tags none,
+      receives none,
+      record { front = (answered found (Some unread)).0; more = []; text_is = sym (append-nil (answered found (Some unread)).0); hold = hold },
+    )
 
     promised_use : first_flaw o c ≡ None → (u : Option Unused) → (answer : List ℕ × Judgement) → IsUseAnswer M asked o c u answer
         → IsPromised M asked answer o c
@@ -224,8 +284,8 @@ module _ (laws : Laws) (o : OpeningValue) (c : QueueCertificate) where
   module _ (d : DrawnRuns) (asked : Questions) where
     promised_trial : (f : Flaw) → SomeSlots o c → (answer : List ℕ × Judgement) → IsTrialAnswer d o c f answer → IsPromised d.M asked answer o c
     promised_trial f some (text, judgement.NotShown) is = tt
-    promised_trial f some (text, judgement.Broken) is = breaks d o c laws.drawn some true text is
-    promised_trial f some (text, judgement.OtherProtocol) is = breaks d o c laws.drawn some false text is
+    promised_trial f some (text, judgement.Broken) is = breaks-and-loses d o c laws.drawn some text is
+    promised_trial f some (text, judgement.OtherProtocol) is = breaks-otherwise d o c laws.drawn some text is
     promised_trial f some (text, judgement.Kept) is = absurd is
     promised_trial f some (text, judgement.ReadsNotShown) is = absurd is
     promised_trial f some (text, judgement.ProgressNotShown) is = absurd is
@@ -236,9 +296,38 @@ module _ (laws : Laws) (o : OpeningValue) (c : QueueCertificate) where
     promised_flaw f first true queue answer is = rw is tt
     promised_flaw f first false none answer is = promised_trial f (sized o c f first none) answer is
 
+    nothing_more : (text lines : List ℕ) (j : Judgement) → lines ≡ [] → IsPromised d.M asked (text, j) o c → IsPromised d.M asked (text ++ lines, j) o c
+    nothing_more text lines j none p = subst (λ (xs : List ℕ). IsPromised d.M asked (xs, j) o c)
+        (sym (ap (λ (ys : List ℕ). text ++ ys) none ∙ append-nil text)) p
+
+    -- lines may follow where reads aren't shown
+    promised_more : (text lines : List ℕ) (j : Judgement) → AreLinesAfter d o c j lines → IsPromised d.M asked (text, j) o c
+        → IsPromised d.M asked (text ++ lines, j) o c
+    promised_more text lines judgement.ReadsNotShown are p = (
+      p.0,
+      p.1,
+      p.2,
+      record {
+        front = p.3.front;
+        more = p.3.more ++ lines;
+        text_is = ap (λ (xs : List ℕ). xs ++ lines) p.3.text_is ∙ append_assoc p.3.front p.3.more lines;
+        hold = p.3.hold;
+      },
+    )
+    promised_more text lines judgement.ProgressNotShown none p = nothing_more text lines judgement.ProgressNotShown none p
+    promised_more text lines judgement.AskedNotShown none p = nothing_more text lines judgement.AskedNotShown none p
+    promised_more text lines judgement.Kept none p = p
+    promised_more text lines judgement.NotShown none p = p
+    promised_more text lines judgement.Broken none p = p
+    promised_more text lines judgement.OtherProtocol none p = p
+
+    promised_accepted : first_flaw o c ≡ None → (answer : List ℕ × Judgement) → IsAcceptedAnswer d asked o c answer → IsPromised d.M asked answer o c
+    promised_accepted none answer is = rw is.answer_is (promised_more is.used.0 is.lines is.used.1 is.are_lines
+        (promised_use d.M asked none (first_unused o c) is.used is.is_used))
+
     promised_by : (f : Option Flaw) → first_flaw o c ≡ f → (answer : List ℕ × Judgement) → IsAnswerTo d asked o c f answer
         → IsPromised d.M asked answer o c
-    promised_by None first answer is = promised_use d.M asked first (first_unused o c) answer is
+    promised_by None first answer is = promised_accepted first answer is
     promised_by (Some f) first answer is = promised_flaw f first (is_of_queue f) refl answer is
 
     promised_of : (answer : List ℕ × Judgement) → IsAnswerTo d asked o c (first_flaw o c) answer → IsPromised d.M asked answer o c

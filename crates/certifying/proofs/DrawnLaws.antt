@@ -21,11 +21,13 @@ use Rattle.queue_checker.proofs.FlawLaws.{no_queue_flaw}
 use Rattle.drawn_runs.specs.Samples.{DrawnRuns}
 use Rattle.ownership_runs.specs.declared.violations.Violation.{Violation}
 use Rattle.ownership_runs.specs.declared.runs.Moved.{Moved}
-use Rattle.ownership_runs.specs.{HasSlot, Keeps, first_ownership_violation, HasKeptRun, HasBrokenRun}
+use Rattle.ownership_runs.specs.{HasSlot, Keeps, first_ownership_violation, HasKeptRun, HasBrokenRun, IsFirstLoss, first_loss, LosesNothing, HasLoss}
+use Rattle.ownership_runs.specs.declared.losses.Loss.{Loss}
 use Rattle.judged_runs.specs.Finding.{IsFirstFlawed}
 use Rattle.ownership_runs.proofs.Judged.{moves-one, one-violation}
-use Rattle.certifying.specs.Answers.{IsBrokenText, IsTriedText, IsTrialAnswer, is_of_queue, tried_text}
-use Rattle.certifying.specs.Kept.{AreSameAnswers, BreaksProtocol, HasSchedule}
+use Rattle.certifying.specs.Answers.{IsBrokenText, IsOtherText, IsTriedText, IsTrialAnswer, is_of_queue, tried_text}
+use Rattle.certifying.specs.Kept.{AreSameAnswers, BreaksAndLoses, BreaksProtocol, LosesRecord}
+use Rattle.certifying.specs.Lost.{IsRecordLost, NoneLost}
 use Rattle.certifying.specs.Queues.{any_queue, any_start, queue_by, queue_count}
 use Rattle.certifying.specs.Trials.{AllKeep, EndsBroken, IsBrokenBy, IsFirstBroken, IsOfTrial, IsTrialBroken, QueuesKeep, trial_schedule}
 use Rattle.certifying.specs.declared.trials.Trial.{Trial}
@@ -39,6 +41,9 @@ pub record DrawnLaws : Type 0 where
   pub none : (q : AnyQueue) (c : QueueCounts) (es : List _) → HasSlot q → Keeps q c es → first_ownership_violation q c es ≡ None
   pub apart : (B M : ℕ) (o : OpeningValue) (q : AnyQueue) (start : QueueCounts) (events : List Event) (b : Violation) → HasSlot q
       → HasKeptRun B M o q start events → HasBrokenRun B M o q start events b → ⊥
+  pub lost : (q : AnyQueue) (o : OpeningValue) (c : QueueCounts) (es : List _) (l : Loss) → HasSlot q → first_loss q o c es ≡ Some l → IsFirstLoss q o c es l
+  pub lost_or_not : (B M : ℕ) (o : OpeningValue) (q : AnyQueue) (start : QueueCounts) (events : List Event) (l : Loss)
+      → LosesNothing B M o q start events → HasLoss B M o q start events l → ⊥
 
 -- ---- queues that open at their counts have slots
 
@@ -104,15 +109,24 @@ module _ (o : OpeningValue) (c : QueueCertificate) where
       let harts_and_slots = no_first _ _ (no_first _ _ (no_first _ _ (no_first _ _ (no_first _ _ (no_first _ _ tag.0).0).0).0).0).0 in
       leb-true 1 (tagged_at c t).size (holds-unless _ _ harts_and_slots.1)
 
+  -- where the queues of both kinds have no flaw
+  unflawed : first_below (length c.queues) (flaw_of_queue o c) ≡ None → first_below (length c.tagged) (flaw_of_tagged o c) ≡ None → SomeSlots
+  unflawed none free = of_either c (λ (i : ℕ) (t : Option ℕ). HasSlot (queue_by c i t))
+      (λ i less. some-slot i (no_queue_flaw o c i (none-below (flaw_of_queue o c) (length c.queues) i none less)))
+      (λ t less. some-tagged-slot (length c.queues + t) t (none-below (flaw_of_tagged o c) (length c.tagged) t free less))
+
+  pub all-sized : first_flaw o c ≡ None → SomeSlots
+  all-sized none =
+      let queues = (no_first _ _ none).0 in
+      let either = no_first _ _ queues in unflawed either.0 either.1
+
   pub sized : (f : Flaw) → first_flaw o c ≡ Some f → is_of_queue f ≡ false → SomeSlots
   sized f first other = at (first_below (length c.queues) (flaw_of_queue o c)) (first_below (length c.tagged) (flaw_of_tagged o c)) refl refl first
     where
       at : (indexed tagged : Option Flaw) → first_below (length c.queues) (flaw_of_queue o c) ≡ indexed
           → first_below (length c.tagged) (flaw_of_tagged o c) ≡ tagged
           → first_of (first_of indexed tagged) (first_below (length o.harts) (hart_flaw o c)) ≡ Some f → SomeSlots
-      at None None none free later = of_either c (λ (i : ℕ) (t : Option ℕ). HasSlot (queue_by c i t))
-          (λ i less. some-slot i (no_queue_flaw o c i (none-below (flaw_of_queue o c) (length c.queues) i none less)))
-          (λ t less. some-tagged-slot (length c.queues + t) t (none-below (flaw_of_tagged o c) (length c.tagged) t free less))
+      at None None none free later = unflawed none free
       at None (Some g) none free is =
           let queue = first-of-queues (flaw_of_tagged o c) one-of-tagged (length c.tagged) f (free ∙ is) in absurd (cc)
       at (Some g) tagged some free is =
@@ -187,9 +201,10 @@ module _ (d : DrawnRuns) (o : OpeningValue) (c : QueueCertificate) where
         laws.apart d.B d.M o (any_queue c i) (all_at (any_start c i)) (trial_schedule d o first.told.number) first.told.flaw (some i first.inside)
         (kept.good first.told.number (omega arith) flawed.within) flawed.has
 
-    never-both : (f : Flaw) (described : Bool) (text other : List ℕ) → IsTriedText d o c f text → IsBrokenText d o c described other → ⊥
-    never-both f described text other is broken = not-kept broken.queue broken.part broken.violation broken.pc broken.is_first is.moved
-        (subst (λ (n : ℕ). broken.queue < n) (sym is.count) broken.is_first.inside) is.kept
+    never-both : (f : Flaw) (text : List ℕ) → IsTriedText d o c f text → (i : ℕ) (part : List Event) (b : Violation) (pc : ℕ)
+        → IsFirstBroken d o c i part b pc → ⊥
+    never-both f text is i part b pc first =
+        not-kept i part b pc first is.moved (subst (λ (n : ℕ). i < n) (sym is.count) first.inside) is.kept
 
     -- of two runs that are the first ones neither comes before the other, nor does one's queue
     not-before : (i j : ℕ) (part rest : List Event) (a b : Violation) (pc at : ℕ) → IsFirstBroken d o c i part a pc → IsFirstBroken d o c j rest b at
@@ -229,72 +244,115 @@ module _ (d : DrawnRuns) (o : OpeningValue) (c : QueueCertificate) where
           let same = one-flaw is.number also.number is.flaw also.flaw is.is_first also.is_first in
           sym is.shown.alike.1 ∙ ap (λ (v : Violation). v.described) same ∙ also.shown.alike.1
 
-    one-described : (x y : Bool) (text other : List ℕ) → IsBrokenText d o c x text → IsBrokenText d o c y other → x ≡ y
-    one-described x y text other is also =
-        let same = one-queue is.queue also.queue is.part also.part is.violation also.violation is.pc also.pc is.is_first also.is_first in
-        let told = subst (λ (i : ℕ). IsBrokenBy d o c i also.part also.violation) (sym same) also.is_first.told in
-        sym is.by ∙ one-kind is.queue is.is_first.inside is.part also.part is.violation also.violation is.is_first.told told ∙ also.by
+    -- no run loses a record of a queue of which one does
+    not-lost : (i : ℕ) (part : List Event) (l : Loss) (pc : ℕ) → IsRecordLost d o c i part l pc → NoneLost d o c i → ⊥
+    not-lost i part l pc is none =
+        let flawed = is.told.is_first in
+        laws.lost_or_not d.B d.M o (any_queue c i) (all_at (any_start c i)) (trial_schedule d o is.told.number) is.told.flaw
+        (none is.told.number (omega arith) flawed.within) flawed.has
 
-    -- ---- an answer after drawn runs, by whether one of them breaks the protocol
+    -- a store that is described, and a record lost, or not both
+    not-other : (text other : List ℕ) → IsBrokenText d o c text → IsOtherText d o c other → ⊥
+    not-other text other is also = by also.other
+      where
+        same : is.queue ≡ also.queue
+        same = one-queue is.queue also.queue is.part also.part is.violation also.violation is.pc also.pc is.is_first also.is_first
 
-    abbrev broken-of : (described : Bool) → Judgement
-    broken-of true = judgement.Broken
-    broken-of false = judgement.OtherProtocol
+        told : IsBrokenBy d o c is.queue also.part also.violation
+        told = subst (λ (i : ℕ). IsBrokenBy d o c i also.part also.violation) (sym same) also.is_first.told
 
-    shows-schedule : (described : Bool) (a : Judgement) → a ≡ broken-of described → HasSchedule a
-    shows-schedule true a is = inl is
-    shows-schedule false a is = inr is
+        kind : is.violation.described ≡ also.violation.described
+        kind = one-kind is.queue is.is_first.inside is.part also.part is.violation also.violation is.is_first.told told
 
-    record IsBroken (answer : List ℕ × Judgement) : Type 0 where
-      described : Bool
-      is : IsBrokenText d o c described answer.0
-      kind : answer.1 ≡ broken-of described
+        by : (also.violation.described ≡ false) ⊎ NoneLost d o c also.queue → ⊥
+        by (inl off) = absurd (let no : true ≡ false = sym is.described ∙ kind ∙ off in cc)
+        by (inr none) = not-lost is.queue is.lost_part is.loss is.lost_at is.is_lost (subst (λ (i : ℕ). NoneLost d o c i) (sym same) none)
 
-    abbrev IsEither : Flaw → List ℕ × Judgement → Type 0
-    IsEither f answer = (IsTriedText d o c f answer.0 × (answer.1 ≡ judgement.NotShown)) ⊎ IsBroken answer
+    -- ---- an answer after drawn runs
 
-    either : (f : Flaw) (answer : List ℕ × Judgement) → IsTrialAnswer d o c f answer → IsEither f answer
-    either f (text, judgement.NotShown) is = inl (is, refl)
-    either f (text, judgement.Broken) is = inr (record { described = true; is = is; kind = refl })
-    either f (text, judgement.OtherProtocol) is = inr (record { described = false; is = is; kind = refl })
-    either f (text, judgement.Kept) is = absurd is
-    either f (text, judgement.ReadsNotShown) is = absurd is
-    either f (text, judgement.ProgressNotShown) is = absurd is
-    either f (text, judgement.AskedNotShown) is = absurd is
+    abbrev IsOneOf : Flaw → List ℕ × Judgement → Type 0
+    IsOneOf f answer = (IsTriedText d o c f answer.0 × (answer.1 ≡ judgement.NotShown)) ⊎ (IsBrokenText d o c answer.0 × (answer.1 ≡ judgement.Broken))
+        ⊎ (IsOtherText d o c answer.0 × (answer.1 ≡ judgement.OtherProtocol))
+
+    one-of : (f : Flaw) (answer : List ℕ × Judgement) → IsTrialAnswer d o c f answer → IsOneOf f answer
+    one-of f (text, judgement.NotShown) is = inl (is, refl)
+    one-of f (text, judgement.Broken) is = inr (inl (is, refl))
+    one-of f (text, judgement.OtherProtocol) is = inr (inr (is, refl))
+    one-of f (text, judgement.Kept) is = absurd is
+    one-of f (text, judgement.ReadsNotShown) is = absurd is
+    one-of f (text, judgement.ProgressNotShown) is = absurd is
+    one-of f (text, judgement.AskedNotShown) is = absurd is
 
     pub one-trial : (f : Flaw) (a b : List ℕ × Judgement) → IsTrialAnswer d o c f a → IsTrialAnswer d o c f b → AreSameAnswers a b
-    one-trial f a b is also = by (either f a is) (either f b also)
+    one-trial f a b is also = by (one-of f a is) (one-of f b also)
       where
-        by : IsEither f a → IsEither f b → AreSameAnswers a b
+        not-tried : (text : List ℕ) → IsTriedText d o c f text → (other : List ℕ) → IsBrokenText d o c other ⊎ IsOtherText d o c other → ⊥
+        not-tried text tried other (inl broken) = never-both f text tried broken.queue broken.part broken.violation broken.pc broken.is_first
+        not-tried text tried other (inr broken) = never-both f text tried broken.queue broken.part broken.violation broken.pc broken.is_first
+
+        by : IsOneOf f a → IsOneOf f b → AreSameAnswers a b
         by (inl tried) (inl other) = (tried.1 ∙ sym other.1, λ shows. one-tried f a.0 b.0 tried.0 other.0)
-        by (inl tried) (inr broken) = absurd (never-both f broken.described a.0 b.0 tried.0 broken.is)
-        by (inr broken) (inl tried) = absurd (never-both f broken.described b.0 a.0 tried.0 broken.is)
-        by (inr broken) (inr other) = (
-          broken.kind ∙ ap broken-of (one-described broken.described other.described a.0 b.0 broken.is other.is) ∙ sym other.kind,
-          λ none. absurd (none (shows-schedule broken.described a.1 broken.kind)),
-        )
+        by (inl tried) (inr (inl broken)) = absurd (not-tried a.0 tried.0 b.0 (inl broken.0))
+        by (inl tried) (inr (inr other)) = absurd (not-tried a.0 tried.0 b.0 (inr other.0))
+        by (inr (inl broken)) (inl tried) = absurd (not-tried b.0 tried.0 a.0 (inl broken.0))
+        by (inr (inr other)) (inl tried) = absurd (not-tried b.0 tried.0 a.0 (inr other.0))
+        by (inr (inl broken)) (inr (inl other)) = (broken.1 ∙ sym other.1, λ none. absurd (none (inl broken.1)))
+        by (inr (inr broken)) (inr (inr other)) = (broken.1 ∙ sym other.1, λ none. absurd (none (inr (inl broken.1))))
+        by (inr (inl broken)) (inr (inr other)) = absurd (not-other a.0 b.0 broken.0 other.0)
+        by (inr (inr other)) (inr (inl broken)) = absurd (not-other b.0 a.0 broken.0 other.0)
 
-    -- ---- a run that breaks the protocol
+    -- ---- a run that breaks the protocol, and one that loses a record
 
-    pub breaks : (described : Bool) (text : List ℕ) → IsBrokenText d o c described text → BreaksProtocol described o c
-    breaks described text is =
-        let first = is.is_first in
+    breaks : (i : ℕ) (part : List Event) (b : Violation) (pc : ℕ) → IsFirstBroken d o c i part b pc → BreaksProtocol b.described o c
+    breaks i part b pc first =
         let has = first.told.shown.has in
-        let q = any_queue c is.queue in
-        let start = all_at (any_start c is.queue) in
-        let formed : WellFormed d.B d.M has.history = kept-run d.B d.M (at_opening o) is.part has.history (kept-at_opening d.B d.M o) has.run in
+        let q = any_queue c i in
+        let start = all_at (any_start c i) in
+        let formed : WellFormed d.B d.M has.history = kept-run d.B d.M (at_opening o) part has.history (kept-at_opening d.B d.M o) has.run in
         record {
           B = d.B;
           M = d.M;
           entries = has.history.entries;
           legal = subst (λ (x : OpeningValue). WellFormed d.B d.M (history_of x has.history.entries))
-              (opening_kept d.B d.M o is.part has.history has.run) formed;
-          queue = is.queue;
+              (opening_kept d.B d.M o part has.history has.run) formed;
+          queue = i;
           inside = first.inside;
           breaks = λ keeps. (let none : first_ownership_violation q start has.history.entries ≡ None =
-              laws.none q start has.history.entries (some is.queue first.inside) keeps in
+              laws.none q start has.history.entries (some i first.inside) keeps in
               let found = has.first in absurd (cc));
-          violation = is.violation;
+          violation = b;
           first = has.first;
-          by = is.by;
+          by = refl;
         }
+
+    pub loses : (i : ℕ) → i < queue_count c → (part : List Event) (l : Loss) (pc : ℕ) → IsRecordLost d o c i part l pc → LosesRecord o c i
+    loses i inside part l pc is =
+        let has = is.told.shown.has in
+        let formed : WellFormed d.B d.M has.history = kept-run d.B d.M (at_opening o) part has.history (kept-at_opening d.B d.M o) has.run in
+        record {
+          B = d.B;
+          M = d.M;
+          entries = has.history.entries;
+          legal = subst (λ (x : OpeningValue). WellFormed d.B d.M (history_of x has.history.entries))
+              (opening_kept d.B d.M o part has.history has.run) formed;
+          loss = l;
+          first = laws.lost (any_queue c i) o (all_at (any_start c i)) has.history.entries l (some i inside) has.first;
+        }
+
+    pub breaks-and-loses : (text : List ℕ) → IsBrokenText d o c text → BreaksAndLoses o c
+    unfolding breaks
+    breaks-and-loses text is = at is.violation.described is.described (breaks is.queue is.part is.violation is.pc is.is_first) refl
+      where
+        at : (described : Bool) → described ≡ true → (b : BreaksProtocol described o c) → b.queue ≡ is.queue → BreaksAndLoses o c
+        at true on b same = record {
+          breaks = b;
+          loses = subst (LosesRecord o c) (sym same) (loses is.queue is.is_first.inside is.lost_part is.loss is.lost_at is.is_lost);
+        }
+        at false off b same = absurd (cc)
+
+    pub breaks-otherwise : (text : List ℕ) → IsOtherText d o c text → BreaksProtocol false o c ⊎ BreaksProtocol true o c
+    breaks-otherwise text is = at is.violation.described (breaks is.queue is.part is.violation is.pc is.is_first)
+      where
+        at : (described : Bool) → BreaksProtocol described o c → BreaksProtocol false o c ⊎ BreaksProtocol true o c
+        at false b = inl b
+        at true b = inr b

@@ -1,9 +1,11 @@
 -- The command `queue`: whether a certificate shows that every run of a litmus text keeps the protocol of its queues, and what is promised then.
-use Rattle.std.specs.Prelude.{ℕ, ◌≡◌, ◌==◌, ◌&&◌, ◌||◌, Bool, true, false, List, [], ◌∷◌, ◌++◌, length, codes, Option, Some, None, is_some, Result, Ok, Err}
+use Rattle.std.specs.Prelude.{ℕ, ◌≡◌, ◌⊎◌, ◌==◌, ◌&&◌, ◌||◌, Bool, true, false, List, [], ◌∷◌, ◌++◌, length, codes, Option, Some, None}
+use Rattle.std.specs.Prelude.{is_some, Result, Ok, Err}
 use Rattle.step_machine.specs.History.{OpeningValue}
 use Rattle.step_machine.specs.declared.events.Event.{Event}
 use Rattle.queue_certificates.specs.Certificates.{QueueCertificate}
 use Rattle.drawn_runs.specs.Samples.{DrawnRuns}
+use Rattle.ownership_runs.specs.declared.losses.Loss.{Loss}
 use Rattle.ownership_runs.specs.declared.violations.Violation.{Violation}
 use Rattle.ownership_runs.specs.declared.runs.Moved.{Moved}
 use Rattle.queue_checker.specs.Flaws.{first_flaw}
@@ -19,12 +21,13 @@ use Rattle.engine_support.specs.declared.fault.Refusal.{Refusal}
 use Rattle.engine_support.specs.Inputs.{After, tests}
 use Rattle.engine_support.specs.OpeningTexts.{numbered}
 use Rattle.certifying.specs.Questions.{Questions}
-use Rattle.certifying.specs.Broken.{broken_text, runs_line}
+use Rattle.certifying.specs.Broken.{broken_text, lost_text, other_text, runs_line, unlost_line}
 use Rattle.certifying.specs.Descriptions.{all_queue_lines}
 use Rattle.certifying.specs.Endings.{all_endings}
 use Rattle.certifying.specs.Going.{all_going, all_going_lines}
 use Rattle.certifying.specs.Harts.{harts_lines, harts_safe}
 use Rattle.certifying.specs.Inputs.{certificates}
+use Rattle.certifying.specs.Lost.{IsRecordLost, NoneLost}
 use Rattle.certifying.specs.NotShown.{flaw_line, likely_line}
 use Rattle.certifying.specs.Queues.{queue_count}
 use Rattle.certifying.specs.Records.{AreFound, are_read, are_written, record_lines}
@@ -168,6 +171,35 @@ abbrev pub IsUseAnswer : (M : ℕ) → Questions → OpeningValue → QueueCerti
 IsUseAnswer M asked o c None answer = IsKeptAnswer M asked o c answer
 IsUseAnswer M asked o c (Some unused) answer = answer ≡ (unused_text unused, NotShown)
 
+-- ---- what drawn runs lose of a queue whose reads aren't shown
+
+pub record IsLostText (d : DrawnRuns) (o : OpeningValue) (c : QueueCertificate) (i : ℕ) (lines : List ℕ) : Type 0 where
+  pub part : List Event
+  pub loss : Loss
+  pub pc : ℕ
+  pub is_lost : IsRecordLost d o c i part loss pc
+  pub lines_are : lines ≡ lost_text d.B o i part loss pc
+
+abbrev pub IsUnlostText : DrawnRuns → OpeningValue → QueueCertificate → (i : ℕ) → (lines : List ℕ) → Type 0
+IsUnlostText d o c i lines = NoneLost d o c i × (lines ≡ unlost_line d.number d.size i)
+
+abbrev pub AreLossLines : DrawnRuns → OpeningValue → QueueCertificate → Option Unread → (lines : List ℕ) → Type 0
+AreLossLines d o c None lines = lines ≡ []
+AreLossLines d o c (Some unread) lines = IsLostText d o c unread.queue lines ⊎ IsUnlostText d o c unread.queue lines
+
+-- after an answer of this judgement
+abbrev pub AreLinesAfter : DrawnRuns → OpeningValue → QueueCertificate → Judgement → (lines : List ℕ) → Type 0
+AreLinesAfter d o c ReadsNotShown lines = AreLossLines d o c (first_unread o c) lines
+AreLinesAfter d o c other lines = lines ≡ []
+
+-- what is answered where the certificate is accepted
+pub record IsAcceptedAnswer (d : DrawnRuns) (asked : Questions) (o : OpeningValue) (c : QueueCertificate) (answer : List ℕ × Judgement) : Type 0 where
+  pub used : List ℕ × Judgement
+  pub is_used : IsUseAnswer d.M asked o c (first_unused o c) used
+  pub lines : List ℕ
+  pub are_lines : AreLinesAfter d o c used.1 lines
+  pub answer_is : answer ≡ (used.0 ++ lines, used.1)
+
 -- ---- where it isn't shown
 
 -- drawn runs keep the protocol of each queue
@@ -181,20 +213,34 @@ pub record IsTriedText (d : DrawnRuns) (o : OpeningValue) (c : QueueCertificate)
   pub kept : QueuesKeep d o c 0 moved
   pub text_is : text ≡ tried_text d o c flaw moved
 
--- one breaks it, by a store of the protocol described, or by another
-pub record IsBrokenText (d : DrawnRuns) (o : OpeningValue) (c : QueueCertificate) (described : Bool) (text : List ℕ) : Type 0 where
+-- one breaks it by a store that the protocol described has, and one loses a record of that queue
+pub record IsBrokenText (d : DrawnRuns) (o : OpeningValue) (c : QueueCertificate) (text : List ℕ) : Type 0 where
   pub queue : ℕ
   pub part : List Event
   pub violation : Violation
   pub pc : ℕ
   pub is_first : IsFirstBroken d o c queue part violation pc
-  pub by : violation.described ≡ described
-  pub text_is : text ≡ broken_text d.B o c queue part violation pc
+  pub described : violation.described ≡ true
+  pub lost_part : List Event
+  pub loss : Loss
+  pub lost_at : ℕ
+  pub is_lost : IsRecordLost d o c queue lost_part loss lost_at
+  pub text_is : text ≡ broken_text d.B o c queue violation pc lost_part loss lost_at
+
+-- one breaks it, by a store that the protocol described doesn't have, or none loses a record of that queue
+pub record IsOtherText (d : DrawnRuns) (o : OpeningValue) (c : QueueCertificate) (text : List ℕ) : Type 0 where
+  pub queue : ℕ
+  pub part : List Event
+  pub violation : Violation
+  pub pc : ℕ
+  pub is_first : IsFirstBroken d o c queue part violation pc
+  pub other : (violation.described ≡ false) ⊎ NoneLost d o c queue
+  pub text_is : text ≡ other_text d.number d.size d.B o c queue part violation pc
 
 abbrev pub IsTrialAnswer : DrawnRuns → OpeningValue → QueueCertificate → Flaw → List ℕ × Judgement → Type 0
 IsTrialAnswer d o c flaw (text, NotShown) = IsTriedText d o c flaw text
-IsTrialAnswer d o c flaw (text, Broken) = IsBrokenText d o c true text
-IsTrialAnswer d o c flaw (text, OtherProtocol) = IsBrokenText d o c false text
+IsTrialAnswer d o c flaw (text, Broken) = IsBrokenText d o c text
+IsTrialAnswer d o c flaw (text, OtherProtocol) = IsOtherText d o c text
 IsTrialAnswer d o c flaw (text, other) = ⊥
 
 -- a queue isn't one, or doesn't open as it says: then no run is drawn
@@ -210,7 +256,7 @@ IsFlawAnswer d o c flaw false answer = IsTrialAnswer d o c flaw answer
 
 -- the text and the judgement of an opening and a certificate, whose first flaw is this one
 abbrev pub IsAnswerTo : DrawnRuns → Questions → OpeningValue → QueueCertificate → Option Flaw → List ℕ × Judgement → Type 0
-IsAnswerTo d asked o c None answer = IsUseAnswer d.M asked o c (first_unused o c) answer
+IsAnswerTo d asked o c None answer = IsAcceptedAnswer d asked o c answer
 IsAnswerTo d asked o c (Some flaw) answer = IsFlawAnswer d o c flaw (is_of_queue flaw) answer
 
 -- a certificate of whose check some number passes 2 ^ 64 - 1: it isn't decided

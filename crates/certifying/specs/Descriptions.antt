@@ -7,7 +7,7 @@ use Rattle.slot_queue.specs.Queues.{Queue}
 use Rattle.queue_certificates.specs.RecordFields.{Field}
 use Rattle.queue_certificates.specs.Certificates.{OpenedQueue, QueueCertificate, no_queue, no_tagged}
 use Rattle.queue_layouts.specs.declared.tagged.Codec.{Codec}
-use Rattle.queue_layouts.specs.declared.tagged.Codec.TheVariants.{Zero, Number, Bit}
+use Rattle.queue_layouts.specs.declared.tagged.Codec.TheVariants.{Zero, Number, Bit, Phases}
 use Rattle.queue_layouts.specs.declared.tagged.TaggedQueue.{TaggedQueue}
 use Rattle.queue_layouts.specs.declared.tagged.OpenedTagged.{OpenedTagged}
 use Rattle.queue_certificates.specs.Tags.{are_slots}
@@ -89,10 +89,15 @@ unfoldable pub bits_text : (mask free full : ℕ) → List ℕ
 bits_text mask free full = codes "free where its bits under " ++ (decimal mask ++ (codes " are " ++ (decimal free
     ++ (codes " and full where they are " ++ decimal full))))
 
+-- where they turn with the rounds, these are of even ones
+unfoldable pub odd_text : (odd_free odd_full : ℕ) → List ℕ
+odd_text odd_free odd_full = codes ", in odd rounds " ++ (decimal odd_free ++ (codes " and " ++ decimal odd_full))
+
 abbrev pub codec_text : Codec → List ℕ
 codec_text Zero = codes "0 where it is free and any other number where it is full"
 codec_text Number = codes "k where it is free for position k and k + 1 where it is full of it, modulo 4294967296"
 codec_text (Bit mask free full) = bits_text mask free full
+codec_text (Phases mask free full odd_free odd_full) = bits_text mask free full ++ odd_text odd_free odd_full
 
 unfoldable pub opens_end : (start : ℕ) → List ℕ
 opens_end start = codes ", and it opens at " ++ (decimal start ++ 10 ∷ [])

@@ -22,7 +22,9 @@ use Rattle.slot_queue.specs.Laws.{FollowsOwnership}
 use Rattle.queue_certificates.specs.OwnedRuns.{ReadsOwned}
 use Rattle.queue_certificates.specs.Certificates.{QueueCertificate, queue_at, start_at, tagged_at, tagged_start, MeetsFields}
 use Rattle.queue_layouts.specs.Tagged.{slots_of}
+use Rattle.ownership_runs.specs.declared.losses.Loss.{Loss}
 use Rattle.ownership_runs.specs.declared.violations.Violation.{Violation}
+use Rattle.ownership_runs.specs.Losses.{IsFirstLoss}
 use Rattle.ownership_runs.specs.Protocols.{Keeps}
 use Rattle.ownership_runs.specs.Violations.{first_ownership_violation}
 use Rattle.record_bytes.specs.Naming.{names_byte}
@@ -274,6 +276,28 @@ pub record BreaksProtocol (described : Bool) (o : OpeningValue) (c : QueueCertif
   pub first : first_ownership_violation (any_queue c queue) (all_at (any_start c queue)) entries ≡ Some violation
   pub by : violation.described ≡ described
 
+-- a legal run loses a record of queue i: its receiver loads another byte than the sender's hart read there just after it published the record
+-- (`laws_of_losses`, clause `lost`)
+pub record LosesRecord (o : OpeningValue) (c : QueueCertificate) (i : ℕ) : Type 0 where
+  pub B : ℕ
+  pub M : ℕ
+  pub entries : List Entry
+  pub legal : WellFormed B M (history_of o entries)
+  pub loss : Loss
+  pub first : IsFirstLoss (any_queue c i) o (all_at (any_start c i)) entries loss
+
+-- it breaks the protocol of a queue of which one loses a record
+pub record BreaksAndLoses (o : OpeningValue) (c : QueueCertificate) : Type 0 where
+  pub breaks : BreaksProtocol true o c
+  pub loses : LosesRecord o c breaks.queue
+
+-- The text begins with the lines of such an answer.
+pub record BeginsWithLines (M : ℕ) (asked : Questions) (o : OpeningValue) (c : QueueCertificate) (text : List ℕ) (judgement : Judgement) : Type 0 where
+  pub front : List ℕ
+  pub more : List ℕ
+  pub text_is : text ≡ front ++ more
+  pub hold : LinesHold M asked o c (front, judgement)
+
 -- what the readers give stands for a test and a certificate, of which this holds
 pub record AreJudged (file certificate : Option (List ℕ)) (Holds : OpeningValue → QueueCertificate → Type 0) : Type 0 where
   pub test : LitmusTest
@@ -291,18 +315,18 @@ IsPromised M asked (text, AskedNotShown) o c = KeepsProtocol o c × KeepsTags o 
 IsPromised M asked (text, ProgressNotShown) o c = KeepsProtocol o c × KeepsTags o c × ReceivesFields o c × LoadsOwnedSlots o c
     × LoadsTagsOrOwned o c × LinesHold M asked o c (text, ProgressNotShown)
 IsPromised M asked (text, ReadsNotShown) o c = KeepsProtocol o c × KeepsTags o c × ReceivesFields o c
-    × LinesHold M asked o c (text, ReadsNotShown)
+    × BeginsWithLines M asked o c text ReadsNotShown
 IsPromised M asked (text, NotShown) o c = Unit {0}
-IsPromised M asked (text, Broken) o c = BreaksProtocol true o c
-IsPromised M asked (text, OtherProtocol) o c = BreaksProtocol false o c
+IsPromised M asked (text, Broken) o c = BreaksAndLoses o c
+IsPromised M asked (text, OtherProtocol) o c = BreaksProtocol false o c ⊎ BreaksProtocol true o c
 
--- an answer of this judgement shows a schedule
-abbrev pub HasSchedule : Judgement → Type 0
-HasSchedule judgement = (judgement ≡ Broken) ⊎ (judgement ≡ OtherProtocol)
+-- an answer of this judgement may show a schedule
+abbrev pub MayHaveSchedule : Judgement → Type 0
+MayHaveSchedule judgement = (judgement ≡ Broken) ⊎ (judgement ≡ OtherProtocol) ⊎ (judgement ≡ ReadsNotShown)
 
--- one judgement, and one text unless they show a schedule
+-- one judgement, and one text unless they may show a schedule
 abbrev pub AreSameAnswers : (a b : List ℕ × Judgement) → Type 0
-AreSameAnswers a b = (a.1 ≡ b.1) × ((HasSchedule a.1 → ⊥) → a.0 ≡ b.0)
+AreSameAnswers a b = (a.1 ≡ b.1) × ((MayHaveSchedule a.1 → ⊥) → a.0 ≡ b.0)
 
 -- Two answers are alike, or are refusals of one number, except that a check may be given up undecided.
 abbrev pub AreQueueAnswers : Result (List ℕ × Judgement) Refusal → Result (List ℕ × Judgement) Refusal → Type 0

@@ -12,6 +12,7 @@ pub mod ByteTexts
 pub mod Records
 pub mod Harts
 pub mod Trials
+pub mod Lost
 pub mod Broken
 pub mod Answers
 pub mod Inputs

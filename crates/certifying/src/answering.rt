@@ -1,6 +1,6 @@
 //! The command `queue`: a litmus text and a certificate in, what is promised of each run out.
 
-ghost use Rattle.std.specs.Prelude.{◌≡◌, ◌≤◌, ◌<◌, ◌++◌, ℕ, Some, IfOk, OnOk, length};
+ghost use Rattle.std.specs.Prelude.{◌≡◌, ◌≤◌, ◌<◌, ◌++◌, ℕ, List, None, Some, IfOk, OnOk, length};
 ghost use Rattle.std.specs.String.{string_bytes};
 ghost use Rattle.engine_support.specs.Engines.{Ends};
 ghost use Rattle.engine_support.specs.Faults.{AnswersAs};
@@ -13,22 +13,25 @@ ghost use Rattle.step_machine.specs.History.{FitsIn};
 ghost use Rattle.ownership_runs.specs.Protocols.{HasSlot};
 ghost use Rattle.certifying.specs.Queues.{any_queue, queue_count};
 ghost use Rattle.queue_checker.specs.Flaws.{first_flaw};
-ghost use Rattle.certifying.specs.Answers.{IsAnswerTo, IsCertificateAnswer, IsFlawAnswer, IsKeptAnswer, IsQueueAnswer, IsTrialAnswer, IsUseAnswer};
-ghost use Rattle.certifying.specs.Answers.{asks_endings, fault_of, is_of_queue, judged_reads, kept_judgement, kept_text, nothing_line};
+ghost use Rattle.certifying.specs.Answers.{AreLinesAfter, AreLossLines, IsAcceptedAnswer, IsAnswerTo, IsCertificateAnswer, IsFlawAnswer, IsKeptAnswer};
+ghost use Rattle.certifying.specs.Answers.{IsQueueAnswer, IsTrialAnswer, IsUseAnswer, asks_endings, fault_of, is_of_queue, judged_reads, kept_judgement};
+ghost use Rattle.certifying.specs.Answers.{kept_text, nothing_line};
 ghost use Rattle.certifying.specs.Questions.{questions_by};
 ghost use Rattle.certifying.specs.Broken.{runs_line};
 ghost use Rattle.certifying.specs.NotShown.{flaw_line, likely_line};
 ghost use Rattle.certifying.specs.Answers.{unread_text, unused_text};
 ghost use Rattle.certifying.specs.Unread.{first_unread};
+ghost use Rattle.certifying.specs.Trials.{IsFirstBroken};
 ghost use Rattle.certifying.specs.Unused.{first_unused};
 
 use crate::answer_texts::{flaw_text, kept_text, tried_text, unread_text, unused_text};
-use crate::breaking::broken_text;
+use crate::breaking::{broken_text, other_text, push_lost_text, push_unlost};
 use crate::endings::all_endings;
 use crate::going::push_going;
 use crate::harts::{HartsTold, harts_told};
 use crate::input::read_certificate;
 use crate::judgement::Judgement;
+use crate::lost::lost_of;
 use crate::questions::Questions;
 use crate::records::{QueueRecords, are_read, are_written, found_in};
 use crate::trials::{Trial, trial_of};
@@ -41,11 +44,12 @@ use engine_support::litmus_text::read_test;
 use engine_support::output::end_with;
 use known_values::Lack;
 use litmus::Test;
+use ownership_runs::Violation;
 use queue_checker::{Flaw, QueueCertificate, first_flaw};
 use std::alloc::Global;
 use std::io::{Read, Write};
 use std::thread::Threads;
-use step_machine::Opening;
+use step_machine::{Event, Opening};
 
 /// A certificate of whose check some number passes 2^64 - 1.
 pub const UNDECIDED: u8 = 50;
@@ -180,6 +184,185 @@ fn judged_use(
     }
 }
 
+/// Appends what drawn runs lose of the queue of the first load that isn't shown to be of an owned slot, if there is one.
+fn push_losses<
+    const B: usize,
+    const M: usize,
+    G: Jump + Sync + Drop,
+    T: Threads + Sync,
+    P: Progress,
+>(
+    rt: &T,
+    alloc: Global,
+    out: &mut String,
+    opening: &Opening,
+    certificate: &QueueCertificate,
+    sample: &Sample<'_, G>,
+    progress: &mut P,
+) -> Result<(), Lack>
+    requires some_capacity { 1 ≤ B }
+    requires capacity { B ≤ 64 }
+    requires some_word { 1 ≤ M }
+    requires size { M ≤ 65536 }
+    requires fits { FitsIn M opening.now }
+    requires accepted { first_flaw opening.now certificate.now ≡ None }
+    ensures { OnOk result ((lines : List ℕ) × (string_bytes out.new ≡ string_bytes out.old ++ lines)
+        × AreLossLines (runs_of B M G.Rng.stream sample.now) opening.now certificate.now (first_unread opening.now certificate.now) lines) }
+{
+    let Some(unread) = first_unread(alloc, opening, certificate)? else {
+        return Ok(());
+    };
+    let queue = unread.queue;
+    match lost_of::<B, M, G, T, P>(rt, alloc, opening, certificate, queue, sample, progress)? {
+        None => push_unlost(out, sample.runs, queue)?,
+        Some(lost) => push_lost_text(alloc, out, B, opening, queue, &lost)?,
+    }
+    Ok(())
+}
+
+/// Appends the lines that follow an answer of this judgement.
+fn push_after<
+    const B: usize,
+    const M: usize,
+    G: Jump + Sync + Drop,
+    T: Threads + Sync,
+    P: Progress,
+>(
+    rt: &T,
+    alloc: Global,
+    out: &mut String,
+    judgement: Judgement,
+    opening: &Opening,
+    certificate: &QueueCertificate,
+    sample: &Sample<'_, G>,
+    progress: &mut P,
+) -> Result<(), Lack>
+    requires some_capacity { 1 ≤ B }
+    requires capacity { B ≤ 64 }
+    requires some_word { 1 ≤ M }
+    requires size { M ≤ 65536 }
+    requires fits { FitsIn M opening.now }
+    requires accepted { first_flaw opening.now certificate.now ≡ None }
+    ensures { OnOk result ((lines : List ℕ) × (string_bytes out.new ≡ string_bytes out.old ++ lines)
+        × AreLinesAfter (runs_of B M G.Rng.stream sample.now) opening.now certificate.now judgement lines) }
+{
+    match judgement {
+        Judgement::ReadsNotShown => push_losses::<B, M, G, T, P>(
+            rt,
+            alloc,
+            out,
+            opening,
+            certificate,
+            sample,
+            progress,
+        ),
+        Judgement::Kept => Ok(()),
+        Judgement::ProgressNotShown => Ok(()),
+        Judgement::AskedNotShown => Ok(()),
+        Judgement::NotShown => Ok(()),
+        Judgement::Broken => Ok(()),
+        Judgement::OtherProtocol => Ok(()),
+    }
+}
+
+/// What is answered where the certificate is accepted: also what drawn runs lose of a queue whose reads aren't shown.
+fn judged_accepted<
+    const B: usize,
+    const M: usize,
+    G: Jump + Sync + Drop,
+    T: Threads + Sync,
+    P: Progress,
+>(
+    rt: &T,
+    alloc: Global,
+    opening: &Opening,
+    certificate: &QueueCertificate,
+    asked: Questions<'_>,
+    sample: &Sample<'_, G>,
+    progress: &mut P,
+) -> Result<(String, Judgement), Lack>
+    requires some_capacity { 1 ≤ B }
+    requires capacity { B ≤ 64 }
+    requires some_word { 1 ≤ M }
+    requires size { M ≤ 65536 }
+    requires fits { FitsIn M opening.now }
+    requires accepted { first_flaw opening.now certificate.now ≡ None }
+    ensures { IfOk result (λ answer. IsAcceptedAnswer (runs_of B M G.Rng.stream sample.now) (questions_by asked.entry) opening.now certificate.now
+        (text_and_value answer)) }
+{
+    let (mut text, judgement) = judged_use(alloc, opening, certificate, M as u64, asked)?;
+    push_after::<B, M, G, T, P>(
+        rt,
+        alloc,
+        &mut text,
+        judgement,
+        opening,
+        certificate,
+        sample,
+        progress,
+    )?;
+    Ok((text, judgement))
+}
+
+/// What is answered where a run of these events breaks the protocol of this queue: whether a record of it is lost, too.
+fn judged_broken<
+    const B: usize,
+    const M: usize,
+    G: Jump + Sync + Drop,
+    T: Threads + Sync,
+    P: Progress,
+>(
+    rt: &T,
+    alloc: Global,
+    opening: &Opening,
+    certificate: &QueueCertificate,
+    flaw: Flaw,
+    queue: u32,
+    part: &[Event],
+    violation: Violation,
+    pc: u32,
+    sample: &Sample<'_, G>,
+    progress: &mut P,
+) -> Result<(String, Judgement), Lack>
+    requires some_capacity { 1 ≤ B }
+    requires capacity { B ≤ 64 }
+    requires some_word { 1 ≤ M }
+    requires size { M ≤ 65536 }
+    requires fits { FitsIn M opening.now }
+    requires some_slot { HasSlot (any_queue certificate.now queue) }
+    requires first { IsFirstBroken (runs_of B M G.Rng.stream sample.now) opening.now certificate.now queue part.now violation pc }
+    ensures { IfOk result (λ answer. IsTrialAnswer (runs_of B M G.Rng.stream sample.now) opening.now certificate.now flaw
+        (text_and_value answer)) }
+{
+    if violation.described {
+        let lost = lost_of::<B, M, G, T, P>(
+            rt,
+            alloc,
+            opening,
+            certificate,
+            queue,
+            sample,
+            progress,
+        )?;
+        if let Some(lost) = lost {
+            let text = broken_text(alloc, B, opening, certificate, queue, violation, pc, &lost)?;
+            return Ok((text, Judgement::Broken));
+        }
+    }
+    let text = other_text(
+        alloc,
+        B,
+        opening,
+        certificate,
+        queue,
+        part,
+        violation,
+        pc,
+        sample.runs,
+    )?;
+    Ok((text, Judgement::OtherProtocol))
+}
+
 /// What is answered where a certificate of queues isn't accepted: what drawn runs show.
 fn judged_by_runs<
     const B: usize,
@@ -215,14 +398,19 @@ fn judged_by_runs<
             part,
             violation,
             pc,
-        } => {
-            let text = broken_text(alloc, B, opening, certificate, queue, &part, violation, pc)?;
-            if violation.described {
-                Ok((text, Judgement::Broken))
-            } else {
-                Ok((text, Judgement::OtherProtocol))
-            }
-        }
+        } => judged_broken::<B, M, G, T, P>(
+            rt,
+            alloc,
+            opening,
+            certificate,
+            flaw,
+            queue,
+            &part,
+            violation,
+            pc,
+            sample,
+            progress,
+        ),
     }
 }
 
@@ -289,7 +477,15 @@ fn judged<const B: usize, const M: usize, G: Jump + Sync + Drop, T: Threads + Sy
         (first_flaw opening.now certificate.now) (text_and_value answer)) }
 {
     match first_flaw(alloc, opening, certificate)? {
-        None => judged_use(alloc, opening, certificate, M as u64, asked),
+        None => judged_accepted::<B, M, G, T, P>(
+            rt,
+            alloc,
+            opening,
+            certificate,
+            asked,
+            sample,
+            progress,
+        ),
         Some(flaw) => judged_flaw::<B, M, G, T, P>(
             rt,
             alloc,
@@ -362,9 +558,11 @@ fn made<
 /// keeps the protocol of each of its queues, with what is promised then. It returns the judgement.
 ///
 /// If the certificate isn't accepted, but its queues open as it says, the runs of the sample are made of the text for each queue,
-/// with store buffers of `B` pairs and `M` words of memory: then it writes a short schedule of the first run that breaks the protocol
-/// of the first such queue, or that all keep it. That depends neither on the jobs nor on the progress. Where the certificate is
-/// accepted `B` isn't part of the answer, and `M` only of whether harts may be stopped.
+/// with store buffers of `B` pairs and `M` words of memory: then it writes which store of the first run that breaks the protocol of the
+/// first such queue does so, with a short schedule of the first run that loses a record of that queue, or else of that run; or that all
+/// keep it. Where it is accepted, and the reads of a queue aren't shown, it writes what such runs lose of that queue. Neither depends on
+/// the jobs or on the progress. Else `B` isn't part of the answer where the certificate is accepted, and `M` only of whether harts may be
+/// stopped.
 ///
 /// What is asked besides is answered only where the certificate is accepted.
 ///

@@ -6,7 +6,7 @@ ghost use Rattle.std.specs.String.{string_bytes};
 ghost use Rattle.engine_support.specs.OpeningTexts.{numbered};
 ghost use Rattle.certifying.specs.Descriptions.{access_lines, all_queue_lines, bits_text, codec_text, count_end, count_front, count_line};
 ghost use Rattle.certifying.specs.Descriptions.{field_end, field_front, field_line, form_by, form_lines, from_end, indices_line, load_line};
-ghost use Rattle.certifying.specs.Descriptions.{opens_end, parties_line, place_in_element, place_in_slot, queue_lines};
+ghost use Rattle.certifying.specs.Descriptions.{odd_text, opens_end, parties_line, place_in_element, place_in_slot, queue_lines};
 ghost use Rattle.certifying.specs.Descriptions.{slots_end, slots_front, slots_line, store_line, tag_bytes, tag_front, tag_line, tag_place};
 ghost use Rattle.certifying.specs.Descriptions.{tagged_form_lines, tagged_lines, tagged_slots_line};
 ghost use Rattle.certifying.specs.Queues.{queue_count, tagged_number};
@@ -217,6 +217,14 @@ fn push_bits(out: &mut String, mask: u32, free: u32, full: u32) -> Result<(), Al
     )
 }
 
+/// What they are in odd rounds, where they turn with these.
+#[tactic(auto, unfolding(crate::specs::Descriptions::odd_text))]
+fn push_odd(out: &mut String, free: u32, full: u32) -> Result<(), AllocError>
+    ensures { OnOk result (string_bytes out.new ≡ string_bytes out.old ++ odd_text free full) }
+{
+    write!(out, ", in odd rounds {free} and {full}")
+}
+
 /// How a tag tells.
 fn push_codec(out: &mut String, codec: Codec) -> Result<(), AllocError>
     ensures { OnOk result (string_bytes out.new ≡ string_bytes out.old ++ codec_text codec) }
@@ -227,6 +235,16 @@ fn push_codec(out: &mut String, codec: Codec) -> Result<(), AllocError>
             "k where it is free for position k and k + 1 where it is full of it, modulo 4294967296",
         ),
         Codec::Bit { mask, free, full } => push_bits(out, mask, free, full),
+        Codec::Phases {
+            mask,
+            free,
+            full,
+            odd_free,
+            odd_full,
+        } => {
+            push_bits(out, mask, free, full)?;
+            push_odd(out, odd_free, odd_full)
+        }
     }
 }
 

@@ -1,15 +1,22 @@
 //! Laws of what the command answers.
 
-ghost use Rattle.std.specs.Prelude.{ℕ, List, Option, Result, Ok, Some};
+ghost use Rattle.std.specs.Prelude.{ℕ, ◌≡◌, ◌<◌, List, Option, Result, Ok, None, Some};
+ghost use Rattle.step_machine.specs.declared.events.Event.{Event};
+ghost use Rattle.step_machine.specs.History.{OpeningValue};
+ghost use Rattle.queue_certificates.specs.Certificates.{QueueCertificate};
+ghost use Rattle.queue_checker.specs.Flaws.{first_flaw};
+ghost use Rattle.ownership_runs.specs.declared.losses.Loss.{Loss};
 ghost use Rattle.engine_support.specs.declared.fault.Refusal.{Refusal};
 ghost use Rattle.certifying.specs.Answers.{IsQueueAnswer};
 ghost use Rattle.certifying.specs.Questions.{Questions};
-ghost use Rattle.certifying.specs.Kept.{AreJudged, AreQueueAnswers, IsPromised};
+ghost use Rattle.certifying.specs.Kept.{AreJudged, AreQueueAnswers, IsPromised, LosesRecord};
+ghost use Rattle.certifying.specs.Lost.{IsRecordLost};
+ghost use Rattle.certifying.specs.Queues.{queue_count};
 ghost use Rattle.drawn_runs.specs.Samples.{DrawnRuns};
 ghost use Rattle.certifying.specs.declared.judgement.Judgement.{Judgement};
 
 use hart_safety::laws_of_hart_safety;
-use ownership_runs::laws::{laws_of_judged_runs, laws_of_violations};
+use ownership_runs::laws::{laws_of_judged_runs, laws_of_losses, laws_of_violations};
 use queue_certificates::laws_of_queue_certificates;
 use queue_checker::flaws::laws_of_flaws;
 use queue_progress::laws_of_queue_progress;
@@ -32,14 +39,18 @@ use records_written::{laws_of_read_records, laws_of_written_records};
 ///   each queue and of each hart whose line says that it is shown; and where a line says that a hart moves on in one of several queues, or
 ///   has to wait for one, of as many of its instructions in a row one moves one of its indices, or is such a load of the other's index of
 ///   one of its queues. Where its answer is that the protocol is broken, some legal run of the text doesn't keep that of some queue, first
-///   by a store that is described; and where it is that the protocol described isn't kept, by one that isn't, which the protocol doesn't
-///   have then (`ownership_runs::laws_of_violations`, clause `foreign`).
-/// - `one`: two answers to one input by the same drawn runs have one judgement, and are one text unless it has a schedule; or they are
+///   by a store that is described, and some legal run loses a record of that queue (`ownership_runs::laws_of_losses`, clause `lost`); and
+///   where it is that the protocol described isn't kept, some legal run doesn't keep it, by a store that isn't described, which the protocol
+///   doesn't have then (`ownership_runs::laws_of_violations`, clause `foreign`), or by one that is where no drawn run loses a record.
+/// - `lost`: where drawn runs lose a record of a queue whose reads aren't shown, some legal run does.
+/// - `one`: two answers to one input by the same drawn runs have one judgement, and are one text unless it may have a schedule; or they are
 ///   refusals of one number, except that a check may be given up where a number in it passes 2^64 - 1. Of a refused litmus text it isn't said
 ///   on which line its first fault stands.
 pub fn laws_of_answers()
     ensures promised { (d : DrawnRuns) (asked : Questions) (file certificate : Option (List ℕ)) (text : List ℕ) (judgement : Judgement)
         → IsQueueAnswer d asked file certificate (Ok (text, judgement)) → AreJudged file certificate (IsPromised d.M asked (text, judgement)) }
+    ensures lost { (d : DrawnRuns) (o : OpeningValue) (c : QueueCertificate) (i : ℕ) (part : List Event) (l : Loss) (pc : ℕ) → first_flaw o c ≡ None
+        → i < queue_count c → IsRecordLost d o c i part l pc → LosesRecord o c i }
     ensures one { (d : DrawnRuns) (asked : Questions) (file certificate : List ℕ) (a b : Result (List ℕ × Judgement) Refusal)
         → IsQueueAnswer d asked (Some file) (Some certificate) a → IsQueueAnswer d asked (Some file) (Some certificate) b
         → AreQueueAnswers a b }
@@ -51,5 +62,6 @@ pub fn laws_of_answers()
     laws_of_queue_progress();
     laws_of_queue_certificates();
     laws_of_violations();
+    laws_of_losses();
     laws_of_judged_runs();
 }

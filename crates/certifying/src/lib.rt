@@ -22,6 +22,7 @@ pub mod input;
 pub mod instructions;
 pub mod judgement;
 pub mod laws;
+pub mod lost;
 pub mod not_shown;
 pub mod questions;
 pub mod queues;

@@ -36,7 +36,7 @@ pub enum Trial {
 }
 
 /// The counts of a queue that opens empty at this one.
-fn counts_at(start: u64) -> Counts
+pub(crate) fn counts_at(start: u64) -> Counts
     ensures { result ≡ all_at start }
 {
     Counts {
@@ -48,7 +48,7 @@ fn counts_at(start: u64) -> Counts
 }
 
 /// The pc of a hart before the last of these events.
-fn pc_before_last<const B: usize, const M: usize>(
+pub(crate) fn pc_before_last<const B: usize, const M: usize>(
     alloc: Global,
     opening: &Opening,
     events: &[Event],

@@ -1,4 +1,5 @@
 use Rattle.certifying.proofs.AnswerLaws as answers
+use Rattle.certifying.proofs.DrawnLaws.{all-sized, loses}
 use Rattle.certifying.proofs.laws.laws_of_answers.Goals as goal
 
 pub returns-clause-promised : goal.returns-clause-promised
@@ -35,14 +36,32 @@ returns-clause-promised c = answers.promised (record {
     runs = c.laws_of_hart_safety.ensures.runs;
     written_within = c.laws_of_hart_safety.ensures.written_within;
   };
-  drawn = record { none = c.laws_of_violations.ensures.none; apart = c.laws_of_judged_runs.ensures.apart };
+  drawn = record {
+    none = c.laws_of_violations.ensures.none;
+    apart = c.laws_of_judged_runs.ensures.apart;
+    lost = c.laws_of_losses.ensures.lost;
+    lost_or_not = c.laws_of_judged_runs.ensures.lost_or_not;
+  };
 })
 
 pub returns-clause-one : goal.returns-clause-one
-returns-clause-one c = answers.one_queue_answer (record { none = c.laws_of_violations.ensures.none; apart = c.laws_of_judged_runs.ensures.apart })
+returns-clause-one c = answers.one_queue_answer (record {
+  none = c.laws_of_violations.ensures.none;
+  apart = c.laws_of_judged_runs.ensures.apart;
+  lost = c.laws_of_losses.ensures.lost;
+  lost_or_not = c.laws_of_judged_runs.ensures.lost_or_not;
+})
     (record {
       either_written = c.laws_of_written_records.ensures.either;
       one_written = c.laws_of_written_records.ensures.one;
       either_read = c.laws_of_read_records.ensures.either;
       one_read = c.laws_of_read_records.ensures.one;
     })
+
+pub returns-clause-lost : goal.returns-clause-lost
+returns-clause-lost c = λ d o listed i part l pc none inside is. loses d o listed (record {
+  none = c.laws_of_violations.ensures.none;
+  apart = c.laws_of_judged_runs.ensures.apart;
+  lost = c.laws_of_losses.ensures.lost;
+  lost_or_not = c.laws_of_judged_runs.ensures.lost_or_not;
+}) (all-sized o listed none) i inside part l pc is
