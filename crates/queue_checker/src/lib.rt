@@ -12,10 +12,6 @@ pub mod accesses;
 mod arrows;
 pub mod certificate;
 mod checking;
-#[cfg(test)]
-mod checking_own;
-#[cfg(test)]
-mod checking_tags;
 pub mod closing;
 pub mod effects;
 mod fields;

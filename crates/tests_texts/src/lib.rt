@@ -22,6 +22,8 @@ mod of_instructions;
 #[cfg(test)]
 mod of_memory;
 #[cfg(test)]
+mod of_queue_checker;
+#[cfg(test)]
 mod of_readers;
 #[cfg(test)]
 mod of_texts;
