@@ -1,6 +1,5 @@
-/* Three records published by one store, and a receiver that takes all that wait. That its loop reads each of them isn't shown.
+/* Three records published by one store, and a receiver that takes all that wait.
    queue: head=q.sent,tail=q.taken,slots=q.word,size=8
-   read: none
    answer: kept in every run, and goes on while its harts run */
 #include <stdatomic.h>
 

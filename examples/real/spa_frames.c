@@ -1,9 +1,8 @@
-/* PipeWire's ring buffer of bytes, as audio has it: whole frames of 16 bytes. That the copy's loop
-   writes each byte isn't shown.
+/* PipeWire's ring buffer of bytes, as audio has it: whole frames of 16 bytes.
    package: libspa-0.2-dev
    queue: head=ring.writeindex,tail=ring.readindex,slots=bytes,size=64,width=1
    flags: -isystem out/usr/include/spa-0.2
-   answer: gcc 9, clang 9 */
+   answer: gcc 0, clang 0 */
 #include <spa/utils/ringbuffer.h>
 
 static struct spa_ringbuffer ring;

@@ -1,8 +1,7 @@
-/* PipeWire's ring buffer of bytes, as its streams use it: a word at a time. That the copy's loop reads each byte isn't shown.
+/* PipeWire's ring buffer of bytes, as its streams use it: a word at a time.
    package: libspa-0.2-dev
    queue: head=ring.writeindex,tail=ring.readindex,slots=bytes,size=32,width=1
    flags: -isystem out/usr/include/spa-0.2
-   read: none
    answer: gcc 0, clang 0 */
 #include <spa/utils/ringbuffer.h>
 

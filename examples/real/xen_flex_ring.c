@@ -1,9 +1,7 @@
-/* Xen's ring of bytes, which 9pfs and pvcalls take, by its own functions: packets of a word. That the copy's loop reads each
-   byte isn't shown.
+/* Xen's ring of bytes, which 9pfs and pvcalls take, by its own functions: packets of a word.
    package: libxen-dev
    queue: head=shared.prod,tail=shared.cons,slots=bytes,size=16,width=1
    flags: -D__XEN_TOOLS__ -isystem out/usr/include
-   read: none
    answer: gcc 0, clang 0 */
 #include <stdint.h>
 #include <stddef.h>

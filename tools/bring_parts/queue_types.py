@@ -30,6 +30,13 @@ class Array:
     number: int = None
 
 
+@dataclass(frozen=True)
+class Slots:
+    """Where the slots of a queue begin, and the bytes of one."""
+    slots: int
+    width: int
+
+
 class Types:
     """The types of a program's places, by its words of memory. Where the compiler says none, there are none."""
 
@@ -157,6 +164,13 @@ def names_of(line, queues, types):
         found = named(ranges_in(shape[1]), types.of_memory()) if shape else ""
     if found:
         yield f"    {found}"
+
+
+def slots_in(described):
+    """The slots of queues, by their descriptions as `completed` leaves them. What is malformed is left to tools/certify."""
+    found = [dict(part.partition("=")[::2] for part in text.split(",")) for text in described]
+    return [Slots(int(given["slots"]), int(given.get("width", "4"))) for given in found
+            if given.get("slots", "").isdecimal() and given.get("width", "4").isdecimal()]
 
 
 def bytes_by_types(queues, types):

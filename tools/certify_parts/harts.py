@@ -5,6 +5,7 @@ from itertools import chain
 from typing import NamedTuple
 
 from . import tags
+from .done import is_shown, wanted_of
 from .forms import SIZE
 from .handed import Hands
 from .live import flow_of, needed_of
@@ -17,8 +18,8 @@ from .values import Parts
 class Way(NamedTuple):
     """How a hart's states are searched: what is told apart, for how much work, first and, if no way succeeds, again (see WORK); whether sums of an
     index's words are taken by their remainders; whether bytes and halves that are loaded count as numbers of a range; by what values are spelled
-    first; whether it counts that a sender opens with all slots of a queue with tags; and how many states that can't be joined without loss are told
-    apart where all are joined."""
+    first; whether it counts that a sender opens with all slots of a queue with tags; how many states that can't be joined without loss are told
+    apart where all are joined; and whether states of which more and less is done of records (done.py) are told apart."""
 
     mode: Mode
     work: tuple
@@ -27,6 +28,7 @@ class Way(NamedTuple):
     order: Order = Order.COUNTS_FIRST
     opens_full: bool = False
     apart: int = APART
+    by_done: bool = False
 
 
 FEW_APART = 6
@@ -36,6 +38,8 @@ BY_SLOTS, WORK_BY_SLOTS = Way(Mode.TOGETHER, (0.5, 5), order=Order.POSITIONS_FIR
 SOON = BY_SLOTS, Way(Mode.BY_PATH, (12, 45)), Way(Mode.BY_POSITION, (1.5, 30), loosens=False)
 # ways that take little and join less, so that their states sooner show that the hart goes on
 TELLING = Way(Mode.TOGETHER, (2, 5), loosens=False), Way(Mode.BY_ROOM, (8, 20), loosens=False)
+# ways that take little where states are told apart by what is done of records
+DOING = TELLING[0], SOON[-1]
 # one way after the other is gone until one succeeds. What an earlier search saw of copies of the other's index is taken up, so the first is gone twice,
 # and soon is over the first time, where a number that isn't known grows in a loop
 WAYS = (Way(Mode.TOGETHER, (1, 5), apart=FEW_APART), Way(Mode.TOGETHER, (2, 5)), *TELLING, *SOON[1:], Way(Mode.BY_PATH, (9, 45), loosens=False), BY_SLOTS,
@@ -85,13 +89,15 @@ class Narrow:
 
 
 class FoundHart(NamedTuple):
-    """What was found of a hart: its program, the search, why it isn't covered, or None, and in which turn of the ways that was."""
+    """What was found of a hart: its program, the search, why it isn't covered, or None, in which turn of the ways that was, and, where it tells apart what
+    is done of records, what was found without, which mostly has fewer states."""
 
     hart: int
     program: Program
     search: Search
     refused: object
     turn: int
+    plain: object = None
 
     def is_apart(self, others):
         """Whether the same is found where other harts store there."""
@@ -103,10 +109,12 @@ class FoundHart(NamedTuple):
 
 
 class Harts:
-    """`clock` ends the search (certify_parts/clock.py): what isn't found by then is refused."""
+    """`clock` ends the search (certify_parts/clock.py): what isn't found by then is refused. `asked` are the bytes of each record that are to be written,
+    and those that are to be read, each as a text or None."""
 
-    def __init__(self, test, queues, clock, records=None):
+    def __init__(self, test, queues, clock, asked=(None, None), records=None):
         self.test, self.queues, self.clock, self.records = test, queues, clock, records
+        self.wanted = [[wanted_of(queue, hart, asked) for queue in queues] for hart in range(len(test.harts))]
         self.needed = [needed_of(hart.code) for hart in test.harts]
         for queue in queues:
             if queue.has_tags and queue.tells == tags.ZERO:
@@ -224,6 +232,25 @@ class Harts:
         further = (self.searched(found.hart, others, way, way.work[0], 0, True) for way in new)
         return next((each for each in chain([found], further) if self.is_whole(each) and goes_on(each.program, each.search)), found)
 
+    def doing_all(self, found):
+        """What was found of the harts; of those whose states don't show that they do to records all that is asked, what shows it, if that is found."""
+        after = list(found)
+        if not any(hart.refused or hart.program.unowned for hart in found):
+            for hart in found:
+                if not is_shown(hart.program, hart.search):
+                    rest = [each for other in after if other.hart != hart.hart for each in (other, other.plain) if each]
+                    after[hart.hart] = self.doing(hart, rest)
+        return after
+
+    def doing(self, found, rest):
+        """What was found of a hart, or what a few ways, and at last the one by which it was found, find where states are told apart by what is done of
+        records: if they find states, these show what is asked. `rest` is what was found of the others."""
+        others, may_stand = set().union(*(each.program.stored for each in rest)), not goes_on(found.program, found.search)
+        ways = [*((way, way.work[0]) for way in DOING), *((way, work) for at, way, work in self.ways(found.hart) if at == self.begins[found.hart])]
+        further = (self.searched(found.hart, others, way._replace(by_done=True), work, 0, True) for way, work in ways)
+        whole = (each for each in further if self.is_whole(each) and (may_stand or goes_on(each.program, each.search)))
+        return next((each._replace(plain=found) for each in whole if all(other.is_apart(each.program.stored) for other in rest)), found)
+
     def refused_soon(self):
         """Of how many harts each of a few searches names an instruction that isn't shown to keep the protocol."""
         def is_refused(hart, way):
@@ -255,7 +282,7 @@ class Harts:
             parts = self.parts_at(hart, turn)
             queues = [queue.parted(parts[which]) if which in parts else queue.counting() if way.loosens else queue for which, queue in enumerate(self.queues)]
             program = Program(self.test, queues, hart, self.kept(hart, others, way), self.narrow[hart][way.opens_full], self.needed[hart], way.with_bytes,
-                              way.loosens, self.records, way.opens_full, way.mode == Mode.BY_ROOM, wants_all)
+                              way.loosens, self.records, way.opens_full, way.mode == Mode.BY_ROOM, wants_all, self.wanted[hart], way.by_done)
             search = Search(program, way, self.copies[hart], int(work * WORK), self.clock, self.flows[hart], not turn)
             try:
                 search.run_by_path() if way.mode == Mode.BY_PATH else search.run()

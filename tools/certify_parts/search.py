@@ -9,6 +9,7 @@ from heapq import heappop, heappush
 from itertools import chain
 
 from . import handed
+from .done import tree_of
 from .forms import SIZE, Bits, Form, Word, bounds, number, signed, variable_of
 from .groups import Group, Groups
 from .steps import BLOCK, Refused, leaves
@@ -117,7 +118,7 @@ class Search:
             self.trees = {todo[0].state: None}
             while todo:
                 group = todo.pop()
-                tree = self.trees[group.state] = group.tree or self.program.tree(group.state)
+                tree = self.trees[group.state] = group.tree or tree_of(self.program, group.state)
                 for _, _, after in leaves(tree):
                     for found in [self.covering_group(following.state) for following in after]:
                         if found.state not in self.trees:
@@ -131,7 +132,7 @@ class Search:
         positions = tuple((share.first, share.last) for share in shares) if self.mode in (Mode.BY_POSITION, Mode.BY_OWNED) else ()
         owned = tuple((share.low, share.high) if self.mode == Mode.BY_OWNED else (share.low > 0, share.first // BLOCK) for share in shares)
         owned = owned if self.mode in (Mode.BY_OWNED, Mode.BY_ROOM) else ()
-        return state.pc, positions, owned, tuple(state.shares[which].begin for which in self.phased), state.others, state.is_apart
+        return state.pc, positions, owned, tuple(state.shares[which].begin for which in self.phased), state.others, state.is_apart, state.done
 
     # ---- values
 
@@ -454,7 +455,7 @@ class Search:
         groups = self.groups.get(self.key(state))
         group = groups and groups.of(state)
         if group:
-            tree = self.program.tree(state)
+            tree = tree_of(self.program, state)
             for number, (_, _, after) in enumerate(leaves(tree)):
                 self.spend(1)
                 yield from (following.state for following in after)

@@ -5,12 +5,11 @@ may store, until nothing new is stored: so numbers may go there and come back by
 store of the head may need. Like the whole search this is trusted with nothing.
 """
 
+from functools import partial
 from math import gcd
 from typing import NamedTuple
 
-import certificates as reference
-
-from .forms import Form, number, numbers_of, signed, variable_of
+from .forms import Form, numbers_of, signed, variable_of
 from .harts import Harts
 from .live import address_parts, following_of, lived
 from .steps import LOAD, STORE, Matters, Refused, leaves
@@ -172,19 +171,12 @@ class Records:
 
 def slot_store(program, which, state):
     """Of a store to a queue's slots: position and offset, the bytes, and the value as far as it is known; or None."""
-    if state.pc >= 4 * len(program.code):
+    access = program.accessed(state)
+    if not access or not access.stores:
         return None
-    op, *parts = reference.meaning(program.code[state.pc // 4])
-    if op in reference.STORES:
-        y, x, given = parts
-        place, width, value = program.offset(state.registers[x], given, state), reference.STORES[op], state.registers[y]
-    elif op.startswith("amo"):
-        place, width, value = number(program.place(state.registers[parts[2]], state)), 4, None
-    else:
-        return None
-    low, high = program.limits(place, state)
-    queue = program.queues[which]
-    return (program.positions(which, place, 1, state), width, value) if queue.meets_slots(low, high - low + width) else None
+    (low, high), queue = program.limits(access.place, state), program.queues[which]
+    is_of_slots = queue.meets_slots(low, high - low + access.width)
+    return (program.positions(which, access.place, 1, state), access.width, access.value) if is_of_slots else None
 
 
 # ---- which loads are of numbers that an address may be made of
@@ -286,10 +278,11 @@ def seek(records, found):
     return [None if is_new_to(hart) else hart for hart in found] if told or asked else None
 
 
-def sought(test, queues, clock):
-    """The fields that loads of records need and that all stores to them keep, in which ways the harts were searched, and what was found of them."""
+def sought(searching):
+    """The fields that loads of records need and that all stores to them keep, in which ways the harts were searched, and what was found of them.
+    `searching` makes the search over all harts, with what is known of records."""
     records, found = Records(seeks=True), None
-    harts = Harts(test, queues, clock, records)
+    harts = searching(records)
     while True:
         after = harts.found(found)
         found = seek(records, after)
@@ -301,15 +294,15 @@ def is_whole(records, found):
     return not any(hart.refused for hart in found) and all(records.are_shown(hart.program, hart.search) for hart in found)
 
 
-def searched(test, queues, clock, records, begins):
+def searched(searching, records, begins):
     """What is found of each hart with these fields, first in ways that served before."""
-    harts = Harts(test, queues, clock, records)
+    harts = searching(records)
     harts.begins = list(begins)
     found = harts.found()
-    return found if is_whole(records, found) else Harts(test, queues, clock, records).found()
+    return found if is_whole(records, found) else searching(records).found()
 
 
-def kept(test, queues, clock, records, begins, before):
+def kept(searching, records, begins, before):
     """What is found of each hart with these fields, less those that aren't right wherever they are published. `before` is what was found while these
     were sought."""
     # the same is found again, unless nothing is sent in a part that is loaded
@@ -318,7 +311,7 @@ def kept(test, queues, clock, records, begins, before):
         hart.program.records = records
     found = before if is_same and is_whole(records, before) else None
     while True:
-        found = found or searched(test, queues, clock, records, begins)
+        found = found or searched(searching, records, begins)
         try:
             for hart in found:
                 if not hart.refused:
@@ -334,13 +327,16 @@ def needs_records(hart):
     return hart.refused and not hart.program.slot_loads.isdisjoint(address_loads(hart.program.code, hart.program.needed.matters))
 
 
-def found_of(test, queues, clock):
-    """What is found of each hart: without fields, or where some hart isn't covered so, with the fields that it needs."""
-    found = Harts(test, queues, clock).found()
-    if not any(map(needs_records, found)):
-        return found
-    records, begins, before = sought(test, queues, clock)
-    if not records.numbers:
-        return found
-    other = kept(test, queues, clock, records, begins, before)
-    return found if any(hart.refused for hart in other) else other
+def found_of(test, queues, clock, asked):
+    """What is found of each hart: without fields, or where some hart isn't covered so, with the fields that it needs. At last comes what is asked of records
+    (`Harts`)."""
+    searching = partial(Harts, test, queues, clock, asked)
+    harts = searching()
+    found = harts.found()
+    if any(map(needs_records, found)):
+        records, begins, before = sought(searching)
+        other = kept(searching, records, begins, before) if records.numbers else found
+        if not any(hart.refused for hart in other):
+            harts, found = searching(other[0].program.records), other
+            harts.begins = list(begins)
+    return harts.doing_all(found)

@@ -56,11 +56,21 @@ class Next(NamedTuple):
     words: tuple
 
 
+class Access(NamedTuple):
+    """Where an instruction loads or stores, how many bytes, whether it loads, whether it stores, and what a plain store stores, as far as it is known."""
+
+    place: object
+    width: int
+    loads: bool
+    stores: bool
+    value: object
+
+
 class Program(Values):
     """One hart's code with what holds of all its states."""
 
     def __init__(self, test, queues, hart, kept, narrow, needed, with_bytes=False, loosens=True, records=None, opens_full=False, settles=False,
-                 wants_all=False):
+                 wants_all=False, wanted=(), by_done=False):
         self.hart, self.code = hart, test.harts[hart].code
         super().__init__(queues, hart, loosens)
         self.tagged = [(which, queue, party) for which, (queue, party) in enumerate(zip(queues, self.parties)) if queue.has_tags and party is not None]
@@ -95,7 +105,9 @@ class Program(Values):
         shares = tuple(None if party is None else Share(queue.start, *[queue.start % queue.period()] * 2, *[first] * 2,
                                                         *[queue.start // queue.period() % queue.turns()] * 2)
                        for queue, party, first in zip(queues, self.parties, owned))
-        self.start = State(0, registers, words, shares, ())
+        # of each queue the bytes of a record that the hart is to write, or to read
+        self.wanted = wanted
+        self.start = State(0, registers, words, shares, (), done=(0,) * len(queues) if by_done else ())
 
     # ---- memory
 
@@ -364,6 +376,21 @@ class Program(Values):
         if value is not None and share.low < share.high:
             raise Split(("A", which), share.low)
         raise Refused(state.pc, f"the own index isn't known to move on by at most {share.low}, which are owned there")
+
+    def accessed(self, state):
+        """What the instruction of a leaf loads or stores; or None."""
+        if state.pc >= 4 * len(self.code):
+            return None
+        op, *parts = reference.meaning(self.code[state.pc // 4])
+        if op in reference.LOADS:
+            return Access(self.offset(state.registers[parts[1]], parts[2], state), reference.LOADS[op], True, False, None)
+        if op in reference.STORES:
+            y, x, given = parts
+            return Access(self.offset(state.registers[x], given, state), reference.STORES[op], False, True, state.registers[y])
+        if op.startswith("amo"):
+            place = state.registers[parts[2]]
+            return Access(place if isinstance(place, Form) else number(self.place(place, state)), 4, True, True, None)
+        return None
 
     # ---- whole instructions
 

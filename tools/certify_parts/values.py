@@ -50,6 +50,7 @@ class State(NamedTuple):
     others: tuple     # the ranges of the variables ("z", k)
     handed: tuple = ()  # and of the variables ("w", k)
     is_apart: bool = False  # whether a branch just told what a value is, which is kept up to the next one
+    done: tuple = ()  # of each queue what is done of its records (done.py), where states are told apart by that
 
 
 class Values:
