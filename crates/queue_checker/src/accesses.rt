@@ -23,7 +23,7 @@ use std::alloc::Global;
 use step_machine::Opening;
 
 /// An instruction that in some state may access a byte of a queue's slots.
-#[derive(Clone, Copy, PartialEq, Eq, Debug)]
+#[derive(Clone, Copy, PartialEq, Eq)]
 pub struct SlotAccess {
     pub hart: u32,
     pub pc: u32,

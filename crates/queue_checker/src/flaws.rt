@@ -6,7 +6,7 @@ ghost use Rattle.queue_certificates.specs.Certificates.{QueueCertificate, accept
 ghost use Rattle.queue_checker.specs.Flaws.{first_flaw, first_unowned, first_unowned_rest};
 
 /// Why a queue of a certificate is none, or doesn't open at its count.
-#[derive(Clone, Copy, PartialEq, Eq, Debug)]
+#[derive(Clone, Copy, PartialEq, Eq)]
 pub enum QueueFlaw {
     /// One hart sends and receives.
     OneHart,
@@ -35,7 +35,7 @@ pub enum QueueFlaw {
 }
 
 /// Why a queue with tags of a certificate is none, or doesn't open with its slots free.
-#[derive(Clone, Copy, PartialEq, Eq, Debug)]
+#[derive(Clone, Copy, PartialEq, Eq)]
 pub enum TaggedFlaw {
     /// One hart sends and receives.
     OneHart,
@@ -63,7 +63,7 @@ pub enum TaggedFlaw {
 
 /// The part of a certificate that isn't accepted: a queue with indices; a queue with tags, by its number among those; how a hart
 /// opens; or one of a hart's states.
-#[derive(Clone, Copy, PartialEq, Eq, Debug)]
+#[derive(Clone, Copy, PartialEq, Eq)]
 pub enum Flaw {
     Queue(u32, QueueFlaw),
     Tagged(u32, TaggedFlaw),
