@@ -578,8 +578,9 @@ def masked_by(queues, ranges, r, mask, otherwise):
 
 
 def kept_bits(m, b, mask, otherwise):
-    """Bits that a mask keeps of known ones, and 0 beside it. Low bits of which none is known are the other."""
-    return otherwise if mask + 1 == 1 << mask.bit_count() and m & mask == 0 else just(of_bits(m | mask ^ M32 - 1, b & mask))
+    """Bits that a mask keeps of known ones, and 0 beside it. Few enough low bits for the number of a slot, of which none is known, are the other."""
+    is_low = mask <= 65535 and mask + 1 == 1 << mask.bit_count()
+    return otherwise if is_low and m & mask == 0 else just(of_bits(m | mask ^ M32 - 1, b & mask))
 
 
 def ending_in(v, mask, otherwise):
@@ -642,12 +643,17 @@ def shifted_back(queues, ranges, v, amount):
     return shifted_right(b, amount)
 
 
+def shifted_with_sign(v, amount):
+    """Where the highest bit is known, so are the bits that it fills."""
+    return just(of_bits(COMPUTED["sra"](v.mask, amount), COMPUTED["sra"](v.bits, amount)) if isinstance(v, HasBits) else ANY)
+
+
 def shift_part(queues, ranges, op, v, amount):
     if op == "slli":
         return shifted_left(queues, v, amount)
     if op == "srli":
         return shifted_back(queues, ranges, v, amount)
-    return just(ANY)
+    return shifted_with_sign(v, amount)
 
 
 def of_shift(queues, ranges, op, v, amount):

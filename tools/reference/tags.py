@@ -275,6 +275,15 @@ def are_these(known, mask, bits):
     return known is not None and known.mask & mask == mask and known.bits & mask == bits
 
 
+def are_above(b, mask, bits):
+    """Whether bits are all above a number, and so 0."""
+    return b is not None and bits == 0 and b.high < (mask & -mask or certificates.M32)
+
+
+def has_these(ranges, v, mask, bits):
+    return are_these(certificates.bits_of(v), mask, bits) or are_above(certificates.bounds(ranges, v), mask, bits)
+
+
 def makes(ranges, width, told, v):
     """Whether a stored value makes a tag that tells so."""
     if told == UNKNOWN:
@@ -285,7 +294,7 @@ def makes(ranges, width, told, v):
         return is_positive(width, certificates.bounds(ranges, v))
     if isinstance(told, NumberOf):
         return is_number(certificates.M32, v, told.form)
-    return are_these(certificates.bits_of(v), *told)
+    return has_these(ranges, v, *told)
 
 
 def hands_over(ranges, q, party, own, v):

@@ -1,6 +1,6 @@
 //! Bits of a word, of which some are known.
 
-ghost use Rattle.std.specs.Prelude.{◌≡◌, ◌<◌, ◌+◌, ◌*◌, ◌/◌, ◌%◌, ◌^◌, ◌-◌, ◌==◌, ◌&&◌, bit_and, bit_or, bit_xor, count_ones, IfOk};
+ghost use Rattle.std.specs.Prelude.{◌≡◌, ◌<◌, ◌+◌, ◌*◌, ◌/◌, ◌%◌, ◌^◌, ◌-◌, ◌==◌, ◌&&◌, nat_le, bit_and, bit_or, bit_xor, count_ones, IfOk};
 ghost use Rattle.queue_certificates.specs.Results.{of_bits, number_bits, bits_of, either_bits, or_of, sign_or};
 
 use crate::forms::number;
@@ -8,6 +8,9 @@ use crate::numbers::as_number;
 use crate::values::{Known, KnownValue, any, has_bits, linear};
 use std::alloc::Global;
 use std::marker::Model;
+
+/// The low bits that may be the number of a slot.
+const SLOT_BITS: u32 = 0xffff;
 
 /// Those under the mask are `bits`.
 #[derive(Clone, Copy, PartialEq, Eq)]
@@ -93,12 +96,12 @@ pub fn known_beside(known: u32, mask: u32) -> u32
     known | (mask ^ u32::MAX)
 }
 
-/// Whether the mask keeps low bits alone, none of which is known.
+/// Whether the mask keeps low bits alone, few enough for the number of a slot, none of which is known.
 pub(crate) fn keeps_unknown(known: u32, mask: u32) -> bool
-    ensures { result ≡ ((mask + 1 == 2 ^ count_ones mask) && (bit_and known mask == 0)) }
+    ensures { result ≡ (nat_le mask 65535 && (mask + 1 == 2 ^ count_ones mask) && (bit_and known mask == 0)) }
 {
     let above = u64::from(mask) + 1;
-    above == 1 << mask.count_ones() && known & mask == 0
+    mask <= SLOT_BITS && above == 1 << mask.count_ones() && known & mask == 0
 }
 
 /// The mask, shifted left: the bits that come in are 0.

@@ -9,7 +9,7 @@ ghost use Rattle.queue_certificates.specs.Results.{just, exactly, any_up_to, or_
 ghost use Rattle.queue_certificates.specs.Results.{sum_of, xor_of, of_rest, rest_of, turned, counting, as_number};
 ghost use Rattle.queue_certificates.specs.Results.{rest_counted, remaining, multiple_or, masked_row, masked, masked_by, kept_bits, ending_in, ending_by};
 ghost use Rattle.queue_certificates.specs.Results.{without, shifted_back};
-ghost use Rattle.queue_certificates.specs.Results.{immediate_part, of_immediate, shift_part, of_shift, register_part, of_registers};
+ghost use Rattle.queue_certificates.specs.Results.{immediate_part, of_immediate, shift_part, shifted_with_sign, of_shift, register_part, of_registers};
 ghost use Rattle.queue_certificates.specs.Results.{is_less, branch_part, is_branch_taken};
 ghost use Rattle.known_values.specs.Queues.{queue_in};
 
@@ -352,7 +352,7 @@ pub fn masked(
     }
 }
 
-/// The bits that `mask` keeps of known ones; or the other, where it keeps low bits of which none is known.
+/// The bits that `mask` keeps of known ones; or the other, where it keeps few low bits of which none is known.
 fn kept_bits(
     alloc: Global,
     known: u32,
@@ -494,6 +494,19 @@ pub fn shifted_back(
     remaining(alloc, queues, ranges, 1 << (32 - amount), &part, other)
 }
 
+/// The value, shifted right with its sign.
+fn shifted_with_sign(alloc: Global, value: &KnownValue, amount: u32) -> Result<Outcome, Lack>
+    requires { amount < 32 }
+    ensures { IfOk result (λ r. r ≡ shifted_with_sign value.now amount) }
+{
+    let Known::HasBits(mask, bits) = &value.known else {
+        return just(alloc, &any());
+    };
+    let known = shifted(ShiftOp::RightArithmetic, *mask, amount);
+    let bits = shifted(ShiftOp::RightArithmetic, *bits, amount);
+    just(alloc, &of_bits(alloc, known, bits))
+}
+
 fn shift_part(
     alloc: Global,
     queues: &[OpenedQueue],
@@ -508,7 +521,7 @@ fn shift_part(
     match op {
         ShiftOp::Left => shifted_left(alloc, queues, value, amount),
         ShiftOp::Right => shifted_back(alloc, queues, ranges, value, amount),
-        ShiftOp::RightArithmetic => just(alloc, &any()),
+        ShiftOp::RightArithmetic => shifted_with_sign(alloc, value, amount),
     }
 }
 

@@ -210,3 +210,14 @@ signed-bits j c x m small-x small-m = elim (cases_lt (x + x) n) [
         sym (ap (λ y. bit_and y (1 * 2 ^ j + (m - 2 ^ j))) u ∙ ap (bit_and x) v) ∙ e in
         let at : bit_and x m ≡ 1 * 2 ^ j + bit_and (x - 2 ^ j) (m - 2 ^ j) = w ∙ ap (λ y. y * 2 ^ j + bit_and (x - 2 ^ j) (m - 2 ^ j)) one in
         omega (arith, at, twice)
+
+-- shifted right with its sign
+pub sar-bits : (x m b a : ℕ) → x < 2 ^ 32 → m < 2 ^ 32 → a ≤ 31 → bit_and x m ≡ b
+    → bit_and (signed_by (2 ^ (31 - a + 1)) ((2 ^ a - 1) * 2 ^ (31 - a + 1)) (x / 2 ^ a)) (signed_by (2 ^ (31 - a + 1)) ((2 ^ a - 1) * 2 ^ (31 - a + 1)) (m / 2 ^ a))
+    ≡ signed_by (2 ^ (31 - a + 1)) ((2 ^ a - 1) * 2 ^ (31 - a + 1)) (b / 2 ^ a)
+sar-bits x m b a small-x small-m low is = signed-bits (31 - a) (2 ^ a - 1) (x / 2 ^ a) (m / 2 ^ a) (few x small-x) (few m small-m)
+    ∙ ap (signed_by (2 ^ (31 - a + 1)) ((2 ^ a - 1) * 2 ^ (31 - a + 1))) (and-shr x m a ∙ ap (λ z. z / 2 ^ a) is)
+  where
+    few : (y : ℕ) → y < 2 ^ 32 → y / 2 ^ a < 2 ^ (31 - a + 1)
+    few y small = (div-lt_iff_lt-mul {k = 2 ^ a} {x = y} {y = 2 ^ (31 - a + 1)} (pow_pos a)).1
+        (subst (λ n. y < n) (ap (λ i. 2 ^ i) (let e : 32 ≡ 31 - a + 1 + a = omega (arith, low) in e) ∙ pow-add 2 (31 - a + 1) a) small)

@@ -6,10 +6,10 @@ use Rattle.std.specs.Int.{trailing_zeros, w32}
 use Rattle.std.specs.Int.Bits.{xor_add_and, and_zero_r}
 use Rattle.std.proofs.lemmas.Int.{ints}
 use Rattle.std.proofs.lemmas.Bool.{and_parts, eqb-true, eq-eqb, ne_eqb, ltb-true, leb-true, lt-ltb, le-ltb, cases_lt}
-use Rattle.std.proofs.lemmas.Nat.{le-div, pow_pos, pow-add, shr_split, field_of, and_mask, and_block, and_le_l, and_le_r, and_comm, mul-le, mul-mod_first}
+use Rattle.std.proofs.lemmas.Nat.{le-div, pow_pos, pow-add, div-mul-add, shr_split, field_of, and_mask, and_block, and_le_l, and_le_r, and_comm, mul-le, mul-mod_first}
 use Rattle.std.proofs.lemmas.Nat.{xor_lt, or_lt, shr_le}
 use Rattle.std.proofs.Math.Nat.{mod-eq_of_lt, mod-mod_of_dvd, div-mul-le_self, pow-le-pow_right, mul-div_cancel_left, mod-mod, mod-zero, zero-mod, mod_self}
-use Rattle.std.proofs.Math.Nat.{mod-lt, mod-add-div, add-mul, mul-add, add-mul-mod_self_left, mul_comm, dvd-sub}
+use Rattle.std.proofs.Math.Nat.{mod-lt, div-lt_iff_lt-mul, mod-add-div, add-mul, mul-add, add-mul-mod_self_left, mul_comm, dvd-sub}
 use Rattle.std.proofs.lemmas.Nat.Gcd.{dvd_of_mod-eq-zero, mod-eq-zero_of_dvd}
 use Rattle.rv_decode.specs.declared.instruction.BranchOp.{BranchOp}
 use Rattle.rv_decode.specs.declared.instruction.BranchOp.TheVariants as branch
@@ -20,12 +20,12 @@ use Rattle.rv_decode.specs.declared.instruction.ShiftOp.TheVariants as shift
 use Rattle.rv_decode.specs.declared.instruction.RegisterOp.{RegisterOp}
 use Rattle.rv_decode.specs.declared.instruction.RegisterOp.TheVariants as register
 use Rattle.rv_decode.specs.Word.{signed}
-use Rattle.hart.specs.Effects.{word, computed, with_immediate, shifted, sign_extended, is_taken, flag}
+use Rattle.hart.specs.Effects.{word, shifted_down, computed, with_immediate, shifted, sign_extended, is_taken, flag}
 use Rattle.slot_queue.specs.Queues.{Queue, index_word}
 use Rattle.queue_certificates.specs.{remainder_word, is_same, bounds_of, Form, form_value, number, first_variable, plus, times, lifted, InRanges, Bounds, most}
 use Rattle.queue_certificates.specs.{KnownValue, any, linear, index_for, signed_for, ends_as, has_bits, Has, signed_word, scaled, Result, just, exactly}
 use Rattle.queue_certificates.specs.{any_up_to, or_up_to, as_number, or_else, both, is_below, is_below_signed, set_less, negated, flag_of, shifted_right}
-use Rattle.queue_certificates.specs.{sum_of, number_and, taken_known, Rest, of_rest, negative, rests_added, whole, rest_of, turned, result_by, shifted_left}
+use Rattle.queue_certificates.specs.{sum_of, number_and, taken_known, Rest, of_rest, negative, rests_added, whole, rest_of, turned, result_by, shifted_left, shifted_with_sign}
 use Rattle.queue_certificates.specs.{xor_of, ending_in, ending_by, Bits, of_bits, bits_of, either_bits, or_of, kept_bits, sign_or, is_less, index_rest}
 use Rattle.queue_certificates.specs.{is_count, counting, rest_counted, multiple_or, masked_row, if_unbounded, remaining, without, shifted_back, masked}
 use Rattle.queue_certificates.specs.{masked_by, bounds, is_equal, immediate_part, of_immediate, shift_part, of_shift, register_part, of_registers, branch_part}
@@ -34,7 +34,7 @@ use Rattle.queue_certificates.proofs.Forms.{taken-away, same-exactly, value-plus
 use Rattle.queue_certificates.proofs.Forms.{plus-value, times-value, round-up}
 use Rattle.queue_certificates.proofs.Bounds.{value-word}
 use Rattle.queue_certificates.proofs.Values.{scaled-mod, value-scaled, value-offset, has-lifted, known-is, has-bounds, of-bits-has, bits-have}
-use Rattle.queue_certificates.proofs.KnownBits.{or-bits, kept-bits, shl-bits, shr-bits, highest-bit}
+use Rattle.queue_certificates.proofs.KnownBits.{or-bits, kept-bits, shl-bits, shr-bits, sar-bits, highest-bit}
 use Rattle.queue_certificates.proofs.Endings.{alike-same, alike-low, xor-alike}
 use Rattle.queue_certificates.proofs.Equals.{equal-is}
 
@@ -60,6 +60,73 @@ word-of-difference a (suc b) = word-of-sum a (negsuc b)
 
 signed-small : (x : ℕ) → x < 2 ^ 31 → signed x ≡ pos x
 signed-small x small = ap (λ t. if t then pos x else pos x -ℤ pos (2 ^ 32)) (lt-ltb x (2 ^ 31) small)
+
+-- a shift to the right with the sign, by what its highest bit fills
+shifted-signed : (x a : ℕ) → x < 2 ^ 32 → a ≤ 31 → shifted shift.RightArithmetic x a
+    ≡ (if nat_lt (x / 2 ^ a + x / 2 ^ a) (2 ^ (31 - a + 1)) then x / 2 ^ a else x / 2 ^ a + (2 ^ a - 1) * 2 ^ (31 - a + 1))
+shifted-signed x a small low = elim (cases_lt x (2 ^ 31)) [
+  | inl less ↦ ap (λ z. word (shifted_down z a)) (signed-small x less) ∙ mod-eq_of_lt (let le : q ≤ x = shr_le x a in omega (arith, le, small))
+      ∙ sym (ap (λ t. if t then q else q + (p - 1) * n) (lt-ltb (q + q) n (under less)))
+  | inr more ↦ ap (λ z. word (shifted_down z a)) (negative-of more) ∙ ap (λ y. 2 ^ 32 - 1 - y % 2 ^ 32) (turned-div more)
+      ∙ filled ∙ sym (ap (λ t. if t then q else q + (p - 1) * n) (le-ltb (q + q) n (over more)))
+]
+  where
+    p : ℕ
+    p = 2 ^ a
+
+    n : ℕ
+    n = 2 ^ (31 - a + 1)
+
+    q : ℕ
+    q = x / p
+
+    twice : n ≡ 2 ^ (31 - a) + 2 ^ (31 - a)
+    twice = pow-add 2 (31 - a) 1 ∙ (let e : 2 ^ (31 - a) * 2 ^ 1 ≡ 2 ^ (31 - a) + 2 ^ (31 - a) = omega arith in e)
+
+    half : 2 ^ 31 ≡ 2 ^ (31 - a) * p
+    half = ap (λ i. 2 ^ i) (let e : 31 ≡ 31 - a + a = omega (arith, low) in e) ∙ pow-add 2 (31 - a) a
+
+    whole : 2 ^ 32 ≡ n * p
+    whole = ap (λ i. 2 ^ i) (let e : 32 ≡ 31 - a + 1 + a = omega (arith, low) in e) ∙ pow-add 2 (31 - a + 1) a
+
+    under : x < 2 ^ 31 → q + q < n
+    under less = let few : q < 2 ^ (31 - a) = (div-lt_iff_lt-mul {k = p} {x = x} {y = 2 ^ (31 - a)} (pow_pos a)).1 (subst (λ k. x < k) half less) in
+        omega (arith, few, twice)
+
+    over : 2 ^ 31 ≤ x → n ≤ q + q
+    over more = elim (cases_lt q (2 ^ (31 - a))) [
+      | inl few ↦ absurd (let less : x < 2 ^ (31 - a) * p = (div-lt_iff_lt-mul {k = p} {x = x} {y = 2 ^ (31 - a)} (pow_pos a)).0 few in
+          omega (arith, less, half, more))
+      | inr many ↦ omega (arith, many, twice)
+    ]
+
+    negative-of : 2 ^ 31 ≤ x → signed x ≡ negsuc (2 ^ 32 - 1 - x)
+    negative-of more = ap (λ t. if t then pos x else pos x -ℤ pos (2 ^ 32)) (le-ltb x (2 ^ 31) more)
+        ∙ (let e : pos x -ℤ pos (2 ^ 32) ≡ negsuc (2 ^ 32 - 1 - x) = omega (arith, ints, small) in e)
+
+    few-rows : q < n
+    few-rows = (div-lt_iff_lt-mul {k = p} {x = x} {y = n} (pow_pos a)).1 (subst (λ k. x < k) whole small)
+
+    turned-div : 2 ^ 31 ≤ x → (2 ^ 32 - 1 - x) / p ≡ n - 1 - q
+    turned-div more =
+        let rest : x % p < p = mod-lt x (pow_pos a) in
+        let split : q * p + x % p ≡ x = shr_split x a in
+        let rows : n - 1 - q + 1 + q ≡ n = omega (arith, few-rows) in
+        let sum : (n - 1 - q) * p + p + q * p ≡ n * p =
+        (let e : (n - 1 - q) * p + p + q * p ≡ (n - 1 - q) * p + 1 * p + q * p = omega arith in e)
+        ∙ sym (add-mul (n - 1 - q + 1) q p ∙ ap (λ k. k + q * p) (add-mul (n - 1 - q) 1 p)) ∙ ap (λ k. k * p) rows in
+        let is : 2 ^ 32 - 1 - x ≡ (n - 1 - q) * p + (p - 1 - x % p) = omega (arith, rest, split, sum, whole) in
+        ap (λ y. y / p) is ∙ div-mul-add (n - 1 - q) p (p - 1 - x % p) (omega (arith, rest))
+
+    filled : 2 ^ 32 - 1 - (n - 1 - q) % 2 ^ 32 ≡ q + (p - 1) * n
+    filled =
+        let some : 1 ≤ p = pow_pos a in
+        let up : n ≤ n * p = (let e : n * 1 ≤ n * p = mul-le n 1 n p (omega arith) some in omega (arith, e)) in
+        let same : (p - 1) * n + n ≡ n * p =
+        (let e : (p - 1) * n + n ≡ (p - 1) * n + 1 * n = omega arith in e) ∙ sym (add-mul (p - 1) 1 n)
+        ∙ ap (λ k. k * n) (let e : p - 1 + 1 ≡ p = omega (arith, some) in e) ∙ mul_comm p n in
+        let rest : (n - 1 - q) % 2 ^ 32 ≡ n - 1 - q = mod-eq_of_lt (omega (arith, up, whole, few-rows)) in
+        omega (arith, rest, same, whole, few-rows, up)
 
 -- a signed load of `bits` bits, of a number that has no more
 pub signed-of-bits : (bits width x : ℕ) → 2 ^ (bits - 1) + 2 ^ (bits - 1) ≡ 256 ^ width → 2 ^ bits ≡ 256 ^ width → 256 ^ width ≤ 2 ^ 32
@@ -322,7 +389,7 @@ module _ (queues : ℕ → Queue) (xs : List ℕ) where
 
   kept-gives : (m b x mask : ℕ) (other : Result) → Has queues xs (has_bits m b) x → Gives other (bit_and x mask)
       → Gives (kept_bits m b mask other) (bit_and x mask)
-  kept-gives m b x mask other has gives = by ((mask + 1 == 2 ^ count_ones mask) && (bit_and m mask == 0))
+  kept-gives m b x mask other has gives = by (nat_le mask 65535 && (mask + 1 == 2 ^ count_ones mask) && (bit_and m mask == 0))
     where
       by : (t : Bool) → Gives (if t then other else just (of_bits (bit_or m (bit_xor mask (2 ^ 32 - 1))) (bit_and b mask))) (bit_and x mask)
       by true = gives
@@ -706,6 +773,31 @@ module _ (queues : ℕ → Queue) (xs : List ℕ) where
             at (without rs (2 ^ amount) f) (leb-true amount 32 p.0)
             (same-exactly f (times (2 ^ amount) (without rs (2 ^ amount) f)) xs p.1 ∙ value-times (2 ^ amount) (without rs (2 ^ amount) f) xs)
 
+    shifted-with-sign : (v : KnownValue) (x amount : ℕ) → Has queues xs v x → Gives (shifted_with_sign v amount) (shifted shift.RightArithmetic x amount)
+    shifted-with-sign any x amount has = just-gives any (shifted shift.RightArithmetic x amount) tt
+    shifted-with-sign (linear f) x amount has = just-gives any (shifted shift.RightArithmetic x amount) tt
+    shifted-with-sign (index_for i f) x amount has = just-gives any (shifted shift.RightArithmetic x amount) tt
+    shifted-with-sign (signed_for i f) x amount has = just-gives any (shifted shift.RightArithmetic x amount) tt
+    shifted-with-sign (ends_as n f) x amount has = just-gives any (shifted shift.RightArithmetic x amount) tt
+    shifted-with-sign (has_bits m b) x amount has = by (nat_lt m (2 ^ 32) && nat_lt amount 32) refl
+      where
+        s : ℕ → ℕ
+        s y = shifted shift.RightArithmetic y amount
+
+        at : m < 2 ^ 32 → amount < 32 → bit_and (s x) (s m) ≡ s b
+        at small few =
+            let low : amount ≤ 31 = omega (arith, few) in
+            let least : b < 2 ^ 32 = (let le : bit_and x m ≤ x = and_le_l x m in omega (arith, le, has.0, has.1)) in
+            ap (λ z. bit_and z (s m)) (shifted-signed x amount has.0 low) ∙ ap (bit_and _) (shifted-signed m amount small low)
+            ∙ sar-bits x m b amount has.0 small low has.1 ∙ sym (shifted-signed b amount least low)
+
+        by : (t : Bool) → (nat_lt m (2 ^ 32) && nat_lt amount 32) ≡ t
+            → Gives (if t then just (of_bits (s m) (s b)) else just any) (s x)
+        by false other = just-gives any (s x) tt
+        by true ok = let parts = and_parts (nat_lt m (2 ^ 32)) (nat_lt amount 32) ok in
+            just-gives (of_bits (s m) (s b)) (s x) (of-bits-has queues xs (s m) (s b) (s x) (word-small (shifted_down (signed x) amount))
+            (at (ltb-true m (2 ^ 32) parts.0) (ltb-true amount 32 parts.1)))
+
     immediate-part : (N : ℕ) (op : ImmediateOp) (v : KnownValue) (x : ℕ) (n : ℤ) → Has queues xs v x
         → Gives (immediate_part queues N rs op v n) (with_immediate op x n)
     immediate-part N immediate.Add v x n has = subst (Gives (of_rest (rests_added (rest_of queues v) (whole (number (word n)))))) (sym (word-of-sum x n))
@@ -729,7 +821,7 @@ module _ (queues : ℕ → Queue) (xs : List ℕ) where
     shift-part : (N : ℕ) (op : ShiftOp) (v : KnownValue) (x amount : ℕ) → Has queues xs v x → Gives (shift_part queues N rs op v amount) (shifted op x amount)
     shift-part N shift.Left v x amount has = shifted-left v x amount has
     shift-part N shift.Right v x amount has = shifted-back N v x amount has
-    shift-part N shift.RightArithmetic v x amount has = just-gives any (shifted shift.RightArithmetic x amount) tt
+    shift-part N shift.RightArithmetic v x amount has = shifted-with-sign v x amount has
 
     pub shift-gives : (N : ℕ) (op : ShiftOp) (v : KnownValue) (x amount : ℕ) → Has queues xs v x
         → Gives (of_shift queues N rs op v amount) (shifted op x amount)

@@ -1,12 +1,13 @@
 -- What a party loads from a tag, and what the number that it stores there tells the other: of each way to tell what its tag satisfies,
 -- and of that what a load leaves and what a store makes.
 use Rattle.std.proofs.Common.{ℕ, zero, suc, ◌+◌, ◌-◌, ◌^◌, ◌%◌, ◌<◌, ◌≤◌, ◌≡◌, ◌==◌, Bool, true, false, if◌then◌else◌, Option, Some, None, List, ◌∷◌}
-use Rattle.std.proofs.Common.{◌*◌, ◌&&◌, refl, sym, ◌∙◌, ap, subst, arith}
+use Rattle.std.proofs.Common.{◌*◌, ◌/◌, ◌&&◌, inl, inr, refl, sym, ◌∙◌, ap, subst, arith}
 use Rattle.std.specs.Prelude.{not, nat_le, nat_lt, bit_and, bit_or}
+use Rattle.std.specs.Int.{trailing_zeros, w32}
 use Rattle.std.specs.Int.Bits.{and_shifted, or_zero_r}
-use Rattle.std.proofs.lemmas.Nat.{and_comm, and_or_apart, and_le_l}
-use Rattle.std.proofs.lemmas.Bool.{and_parts, eqb-true, eqb-false, eq-eqb, ne_eqb, not-true, leb-true, ltb-true}
-use Rattle.std.proofs.Math.Nat.{mod-eq_of_lt, mod-mod, zero-mod, add-mod_right}
+use Rattle.std.proofs.lemmas.Nat.{shr_split, trailing_le, and_comm, and_or_apart, and_le_l}
+use Rattle.std.proofs.lemmas.Bool.{and_parts, or_cases, eqb-true, eqb-false, eq-eqb, ne_eqb, not-true, leb-true, ltb-true}
+use Rattle.std.proofs.Math.Nat.{mod-eq_of_lt, mod-mod, zero-mod, add-mod_right, pow-le-pow_right}
 use Rattle.rv_decode.specs.declared.instruction.LoadOp.{LoadOp}
 use Rattle.rv_decode.specs.declared.instruction.LoadOp.TheVariants as load_op
 use Rattle.rv_decode.specs.declared.instruction.StoreOp.{StoreOp}
@@ -19,7 +20,7 @@ use Rattle.slots_that_tell.specs.Codecs.{bits_under, phase_bits}
 use Rattle.queue_certificates.specs.{Form, form_value, number, plus, first_variable, InRanges, Bounds, KnownValue, any, linear, index_for, signed_for, ends_as}
 use Rattle.queue_certificates.specs.{has_bits, signed_word, Has, bounds, Bits, of_bits, bits_of, most_loaded, is_codec, Told, nothing, something, number_of}
 use Rattle.queue_certificates.specs.{unknown, bits_are, bits_for, in_round, is_of_even_round, told_by, back_to, bits_above, value_told, told_value, other_value}
-use Rattle.queue_certificates.specs.{is_positive, is_number, are_these, makes, hands_over}
+use Rattle.queue_certificates.specs.{is_positive, is_number, are_these, are_above, makes, hands_over}
 use Rattle.queue_layouts.specs.Tagged.{slots_of, tells_by}
 use Rattle.queue_layouts.specs.declared.tagged.Codec.{Codec}
 use Rattle.queue_layouts.specs.declared.tagged.Codec.TheVariants as codec
@@ -291,17 +292,38 @@ module _ (queues : ℕ → Queue) (xs : List ℕ) where
     made (number_of f) four ok =
         let all : 256 ^ width ≡ 2 ^ 32 = ap (λ m. 256 ^ m) four in
         stored-as f (subst (λ m. is_number m w f ≡ true) (sym all) ok) ∙ ap (λ m. form_value f xs % m) all
-    made (bits_are m b) fits ok = by (bits_of w) refl ok
+    made (bits_are m b) fits ok = elim (or_cases (are_these (bits_of w) m b) (are_above (bounds rs w) m b) ok) [
+      | inl these ↦ known-bits (bits_of w) refl these
+      | inr above ↦ low-bits (bounds rs w) refl above
+    ]
       where
-        by : (o : Option Bits) → bits_of w ≡ o → are_these o m b ≡ true → bit_and (stored op x % 256 ^ width) m ≡ b
-        by None is ok = absurd (cc)
-        by (Some k) is ok =
+        -- of the word, since a tag has no more bits
+        of-word : x < 2 ^ 32 → bit_and x m ≡ b → bit_and (stored op x % 256 ^ width) m ≡ b
+        of-word small same = ap (λ n. bit_and (stored op x % 256 ^ n) m) (sym whole)
+            ∙ stored-bits op x m small (subst (λ n. m < 256 ^ n) (sym whole) fits) ∙ same
+
+        known-bits : (o : Option Bits) → bits_of w ≡ o → are_these o m b ≡ true → bit_and (stored op x % 256 ^ width) m ≡ b
+        known-bits None is ok = absurd (cc)
+        known-bits (Some k) is ok =
             let known = bits-have queues xs w x k is has in
             let parts = and_parts (bit_and k.mask m == m) (bit_and k.bits m == b) ok in
-            ap (λ n. bit_and (stored op x % 256 ^ n) m) (sym whole)
-            ∙ stored-bits op x m known.0 (subst (λ n. m < 256 ^ n) (sym whole) fits)
-            ∙ fewer-bits x k.mask m (eqb-true (bit_and k.mask m) m parts.0)
-            ∙ ap (λ y. bit_and y m) known.1 ∙ eqb-true (bit_and k.bits m) b parts.1
+            of-word known.0 (fewer-bits x k.mask m (eqb-true (bit_and k.mask m) m parts.0)
+            ∙ ap (λ y. bit_and y m) known.1 ∙ eqb-true (bit_and k.bits m) b parts.1)
+
+        low-bits : (o : Option Bounds) → bounds rs w ≡ o → are_above o m b ≡ true → bit_and (stored op x % 256 ^ width) m ≡ b
+        low-bits None is ok = absurd (cc)
+        low-bits (Some k) is ok =
+            let t = trailing_zeros w32 m in
+            let parts = and_parts ((b == 0) && nat_lt k.high (2 ^ t)) (m % 2 ^ t == 0) ok in
+            let of-b = and_parts (b == 0) (nat_lt k.high (2 ^ t)) parts.0 in
+            let between = has-bounds queues rs xs w x k ranges is has in
+            let under : k.high < 2 ^ t = ltb-true k.high (2 ^ t) of-b.1 in
+            let small : x < 2 ^ t = omega (arith, between.1, under) in
+            let most : 2 ^ t ≤ 2 ^ 32 = pow-le-pow_right {n = 2} (omega arith) {i = t} {j = 32} (trailing_le 32 m) in
+            let multiple : m / 2 ^ t * 2 ^ t ≡ m = (let e : m / 2 ^ t * 2 ^ t + m % 2 ^ t ≡ m = shr_split m t in
+            let none : m % 2 ^ t ≡ 0 = eqb-true (m % 2 ^ t) 0 parts.1 in omega (arith, e, none)) in
+            of-word (omega (arith, small, most)) (and_comm x m ∙ ap (λ z. bit_and z x) (sym multiple) ∙ and_shifted (m / 2 ^ t) t x small
+            ∙ sym (eqb-true b 0 of-b.0))
 
   -- ---- of a party whose own count is n
 

@@ -181,14 +181,20 @@ shifted_left queues (linear f) amount = just (linear (times (2 ^ amount) f))
 shifted_left queues (has_bits m b) amount = just (of_bits (bit_or ((m * 2 ^ amount) % 2 ^ 32) (2 ^ amount - 1)) ((b * 2 ^ amount) % 2 ^ 32))
 shifted_left queues v amount = result_by (times (2 ^ amount)) (of_rest (rest_of queues v))
 
+-- with its sign: where the highest bit is known, so are the bits that it fills
+abbrev pub shifted_with_sign : KnownValue → (amount : ℕ) → Result
+shifted_with_sign (has_bits m b) amount = if nat_lt m (2 ^ 32) && nat_lt amount 32
+    then just (of_bits (shifted shift.RightArithmetic m amount) (shifted shift.RightArithmetic b amount)) else just any
+shifted_with_sign v amount = just any
+
 -- two numbers agree in their lowest bits where their `xor` is 0 in these, and where their difference is
 abbrev pub xor_of : KnownValue → KnownValue → KnownValue
 xor_of (linear f) (linear g) = ends_as 32 (plus f (times (2 ^ 32 - 1) g))
 xor_of v w = any
 
--- bits that a mask keeps of known ones, and 0 beside it. Low bits of which none is known are the other
+-- bits that a mask keeps of known ones, and 0 beside it. Few enough low bits for the number of a slot, of which none is known, are the other
 abbrev pub kept_bits : (m b mask : ℕ) → (other : Result) → Result
-kept_bits m b mask other = if (mask + 1 == 2 ^ count_ones mask) && (bit_and m mask == 0) then other
+kept_bits m b mask other = if nat_le mask 65535 && (mask + 1 == 2 ^ count_ones mask) && (bit_and m mask == 0) then other
     else just (of_bits (bit_or m (bit_xor mask (2 ^ 32 - 1))) (bit_and b mask))
 
 -- some of the lowest bits of a number of which that is known, or of a word of which some are; or the other
@@ -299,7 +305,7 @@ module _ (queues : ℕ → Queue) (N : ℕ) (ranges : List (Option ℕ)) where
   abbrev pub shift_part : ShiftOp → KnownValue → (amount : ℕ) → Result
   shift_part shift.Left v amount = shifted_left queues v amount
   shift_part shift.Right v amount = shifted_back v amount
-  shift_part shift.RightArithmetic v amount = just any
+  shift_part shift.RightArithmetic v amount = shifted_with_sign v amount
 
   abbrev pub of_shift : ShiftOp → KnownValue → (amount : ℕ) → Result
   of_shift op v amount = or_else (number_and (λ a. shifted op a amount) (as_number v)) (shift_part op v amount)

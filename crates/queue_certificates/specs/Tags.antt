@@ -2,6 +2,7 @@
 -- makes of a known state besides.
 use Rattle.std.specs.Prelude.{ℕ, ℤ, ◌≡◌, ◌+◌, ◌-◌, ◌*◌, ◌%◌, ◌^◌, ◌≤◌, ◌<◌, ◌==◌, ◌&&◌, ◌||◌, not, nat_le, nat_lt, if◌then◌else◌, Bool, true, false}
 use Rattle.std.specs.Prelude.{Option, None, Some, is_some, List, [], ◌∷◌, map, length, get_or, set, bit_and, bit_or}
+use Rattle.std.specs.Int.{trailing_zeros, w32}
 use Rattle.rv_decode.specs.declared.instruction.Reg.{Reg}
 use Rattle.rv_decode.specs.declared.instruction.LoadOp.{LoadOp}
 use Rattle.rv_decode.specs.declared.instruction.LoadOp.TheVariants as load
@@ -210,12 +211,20 @@ abbrev pub are_these : Option Bits → (mask bits : ℕ) → Bool
 are_these None mask bits = false
 are_these (Some b) mask bits = (bit_and b.mask mask == mask) && (bit_and b.bits mask == bits)
 
+-- bits that are all above a number are 0
+abbrev pub are_above : Option Bounds → (mask bits : ℕ) → Bool
+are_above None mask bits = false
+are_above (Some b) mask bits = (bits == 0) && nat_lt b.high (2 ^ trailing_zeros w32 mask) && (mask % 2 ^ trailing_zeros w32 mask == 0)
+
+abbrev pub has_these : List (Option ℕ) → KnownValue → (mask bits : ℕ) → Bool
+has_these rs v mask bits = are_these (bits_of v) mask bits || are_above (bounds rs v) mask bits
+
 abbrev pub makes : List (Option ℕ) → (width : ℕ) → Told → (stored : KnownValue) → Bool
 makes rs width unknown v = false
 makes rs width nothing v = is_number (256 ^ width) v (number 0)
 makes rs width something v = is_positive width (bounds rs v)
 makes rs width (number_of f) v = is_number (2 ^ 32) v f
-makes rs width (bits_are mask bits) v = are_these (bits_of v) mask bits
+makes rs width (bits_are mask bits) v = has_these rs v mask bits
 
 -- the sender hands over its own position, and the receiver the slot's next one
 abbrev pub hands_over : List (Option ℕ) → TaggedQueue → Codec → Party → (own : Form) → (stored : KnownValue) → Bool

@@ -6,7 +6,7 @@ ghost use Rattle.slots_that_tell.specs.Slots.{gap};
 ghost use Rattle.queue_layouts.specs.declared.tagged.Codec.TheVariants as codecs;
 ghost use Rattle.queue_certificates.specs.Forms.{Form, number, plus};
 ghost use Rattle.queue_certificates.specs.Tags.{is_even_between, is_of_even_round, number_of, bits_are, bits_for, in_round, told_by, back_to, some_up_to};
-ghost use Rattle.queue_certificates.specs.Tags.{bits_above, value_told, told_value, other_value, is_positive, is_number, are_these, makes, hands_over};
+ghost use Rattle.queue_certificates.specs.Tags.{bits_above, value_told, told_value, other_value, is_positive, is_number, are_these, are_above, has_these, makes, hands_over};
 ghost use Rattle.queue_layouts.specs.Sides.{the_party};
 ghost use Rattle.queue_layouts.specs.Tagged.{slots_of};
 
@@ -282,15 +282,52 @@ fn makes_by_zero(
     }
 }
 
+/// Whether all bits under the mask are above the numbers between these, and so 0, as `bits` are.
+fn are_above(bounds: Option<Bounds>, mask: u32, bits: u32) -> bool
+    ensures { result ≡ are_above bounds mask bits }
+{
+    match bounds {
+        None => false,
+        Some(bounds) => {
+            let lowest = 1u64 << mask.trailing_zeros();
+            bits == 0 && bounds.high < lowest && u64::from(mask) % lowest == 0
+        }
+    }
+}
+
+/// Whether a value surely has these bits under the mask, since they are known or above its greatest number.
+fn has_these(
+    alloc: Global,
+    ranges: &[Option<u64>],
+    value: &KnownValue,
+    mask: u32,
+    bits: u32,
+) -> Result<bool, Lack>
+    ensures { IfOk result (λ has. has ≡ has_these ranges.now value.now mask bits) }
+{
+    if are_these(bits_of(value), mask, bits) {
+        return Ok(true);
+    }
+    Ok(are_above(bounds(alloc, ranges, value)?, mask, bits))
+}
+
 /// Whether a stored value makes a tag that has some bits under the mask in even rounds, and others in odd ones.
-fn makes_round(is_even: Option<bool>, mask: u32, even: u32, odd: u32, stored: &KnownValue) -> bool
-    ensures { (ranges : List (Option ℕ)) (width : ℕ)
-        → result ≡ makes ranges width (in_round is_even (bits_are mask even) (bits_are mask odd)) stored.now }
+fn makes_round(
+    alloc: Global,
+    ranges: &[Option<u64>],
+    is_even: Option<bool>,
+    mask: u32,
+    even: u32,
+    odd: u32,
+    stored: &KnownValue,
+) -> Result<bool, Lack>
+    ensures { (width : ℕ)
+        → IfOk result (λ made. made ≡ makes ranges.now width (in_round is_even (bits_are mask even) (bits_are mask odd)) stored.now) }
 {
     match is_even {
-        None => false,
-        Some(true) => are_these(bits_of(stored), mask, even),
-        Some(false) => are_these(bits_of(stored), mask, odd),
+        None => Ok(false),
+        Some(true) => has_these(alloc, ranges, stored, mask, even),
+        Some(false) => has_these(alloc, ranges, stored, mask, odd),
     }
 }
 
@@ -310,7 +347,7 @@ fn makes(
         Codec::Zero => makes_by_zero(alloc, ranges, queue.tag_width, party, stored),
         Codec::Number => Ok(is_number(WORDS, stored, &number_for(alloc, party, position)?)),
         Codec::Bit { mask, free, full } => {
-            Ok(are_these(bits_of(stored), mask, bits_for(party, free, full)))
+            has_these(alloc, ranges, stored, mask, bits_for(party, free, full))
         }
         Codec::Phases {
             mask,
@@ -322,7 +359,7 @@ fn makes(
             let is_even = is_of_even_round(alloc, ranges, queue.size, position)?;
             let even = bits_for(party, free, full);
             let odd = bits_for(party, odd_free, odd_full);
-            Ok(makes_round(is_even, mask, even, odd, stored))
+            makes_round(alloc, ranges, is_even, mask, even, odd, stored)
         }
     }
 }
