@@ -213,7 +213,8 @@ signed-bits j c x m small-x small-m = elim (cases_lt (x + x) n) [
 
 -- shifted right with its sign
 pub sar-bits : (x m b a : ℕ) → x < 2 ^ 32 → m < 2 ^ 32 → a ≤ 31 → bit_and x m ≡ b
-    → bit_and (signed_by (2 ^ (31 - a + 1)) ((2 ^ a - 1) * 2 ^ (31 - a + 1)) (x / 2 ^ a)) (signed_by (2 ^ (31 - a + 1)) ((2 ^ a - 1) * 2 ^ (31 - a + 1)) (m / 2 ^ a))
+    → bit_and (signed_by (2 ^ (31 - a + 1)) ((2 ^ a - 1) * 2 ^ (31 - a + 1)) (x / 2 ^ a))
+    (signed_by (2 ^ (31 - a + 1)) ((2 ^ a - 1) * 2 ^ (31 - a + 1)) (m / 2 ^ a))
     ≡ signed_by (2 ^ (31 - a + 1)) ((2 ^ a - 1) * 2 ^ (31 - a + 1)) (b / 2 ^ a)
 sar-bits x m b a small-x small-m low is = signed-bits (31 - a) (2 ^ a - 1) (x / 2 ^ a) (m / 2 ^ a) (few x small-x) (few m small-m)
     ∙ ap (signed_by (2 ^ (31 - a + 1)) ((2 ^ a - 1) * 2 ^ (31 - a + 1))) (and-shr x m a ∙ ap (λ z. z / 2 ^ a) is)

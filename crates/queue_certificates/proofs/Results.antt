@@ -6,8 +6,8 @@ use Rattle.std.specs.Int.{trailing_zeros, w32}
 use Rattle.std.specs.Int.Bits.{xor_add_and, and_zero_r}
 use Rattle.std.proofs.lemmas.Int.{ints}
 use Rattle.std.proofs.lemmas.Bool.{and_parts, eqb-true, eq-eqb, ne_eqb, ltb-true, leb-true, lt-ltb, le-ltb, cases_lt}
-use Rattle.std.proofs.lemmas.Nat.{le-div, pow_pos, pow-add, div-mul-add, shr_split, field_of, and_mask, and_block, and_le_l, and_le_r, and_comm, mul-le, mul-mod_first}
-use Rattle.std.proofs.lemmas.Nat.{xor_lt, or_lt, shr_le}
+use Rattle.std.proofs.lemmas.Nat.{le-div, pow_pos, pow-add, shr_split, field_of, and_mask, and_block, and_le_l, and_le_r, and_comm, mul-le, mul-mod_first}
+use Rattle.std.proofs.lemmas.Nat.{xor_lt, or_lt, shr_le, div-mul-add}
 use Rattle.std.proofs.Math.Nat.{mod-eq_of_lt, mod-mod_of_dvd, div-mul-le_self, pow-le-pow_right, mul-div_cancel_left, mod-mod, mod-zero, zero-mod, mod_self}
 use Rattle.std.proofs.Math.Nat.{mod-lt, div-lt_iff_lt-mul, mod-add-div, add-mul, mul-add, add-mul-mod_self_left, mul_comm, dvd-sub}
 use Rattle.std.proofs.lemmas.Nat.Gcd.{dvd_of_mod-eq-zero, mod-eq-zero_of_dvd}
@@ -25,11 +25,11 @@ use Rattle.slot_queue.specs.Queues.{Queue, index_word}
 use Rattle.queue_certificates.specs.{remainder_word, is_same, bounds_of, Form, form_value, number, first_variable, plus, times, lifted, InRanges, Bounds, most}
 use Rattle.queue_certificates.specs.{KnownValue, any, linear, index_for, signed_for, ends_as, has_bits, Has, signed_word, scaled, Result, just, exactly}
 use Rattle.queue_certificates.specs.{any_up_to, or_up_to, as_number, or_else, both, is_below, is_below_signed, set_less, negated, flag_of, shifted_right}
-use Rattle.queue_certificates.specs.{sum_of, number_and, taken_known, Rest, of_rest, negative, rests_added, whole, rest_of, turned, result_by, shifted_left, shifted_with_sign}
+use Rattle.queue_certificates.specs.{sum_of, number_and, taken_known, Rest, of_rest, negative, rests_added, whole, rest_of, turned, result_by, shifted_left}
 use Rattle.queue_certificates.specs.{xor_of, ending_in, ending_by, Bits, of_bits, bits_of, either_bits, or_of, kept_bits, sign_or, is_less, index_rest}
 use Rattle.queue_certificates.specs.{is_count, counting, rest_counted, multiple_or, masked_row, if_unbounded, remaining, without, shifted_back, masked}
 use Rattle.queue_certificates.specs.{masked_by, bounds, is_equal, immediate_part, of_immediate, shift_part, of_shift, register_part, of_registers, branch_part}
-use Rattle.queue_certificates.specs.{is_branch_taken}
+use Rattle.queue_certificates.specs.{is_branch_taken, shifted_with_sign}
 use Rattle.queue_certificates.proofs.Forms.{taken-away, same-exactly, value-plus, value-times, value-number, value-first, value-lifted, mod-sum, mod-product}
 use Rattle.queue_certificates.proofs.Forms.{plus-value, times-value, round-up}
 use Rattle.queue_certificates.proofs.Bounds.{value-word}

@@ -32,7 +32,8 @@ pub use Rattle.queue_certificates.specs.Results.{ending_by, ending_in, exactly, 
 pub use Rattle.queue_certificates.specs.Results.{is_branch_taken, is_count, is_equal, is_less, is_nothing, just, kept_bits, masked, masked_by, masked_row}
 pub use Rattle.queue_certificates.specs.Results.{multiple_or, negated, negative, number_and, number_bits, of_bits, of_immediate, of_registers, of_rest}
 pub use Rattle.queue_certificates.specs.Results.{of_shift, or_else, or_of, or_up_to, register_part, remaining, rest_counted, rest_of, rests_added, result_by}
-pub use Rattle.queue_certificates.specs.Results.{set_less, shift_part, shifted_back, shifted_left, shifted_right, shifted_with_sign, sign_or, sum_of, taken_known, turned, whole}
+pub use Rattle.queue_certificates.specs.Results.{set_less, shift_part, shifted_back, shifted_left, shifted_right, shifted_with_sign, sign_or, sum_of}
+pub use Rattle.queue_certificates.specs.Results.{taken_known, turned, whole}
 pub use Rattle.queue_certificates.specs.Results.{without, xor_of}
 pub use Rattle.queue_certificates.specs.Steps.{address_value, addresses, after_exchange, after_load, after_store, all_below, anywhere, back_of, behind, called}
 pub use Rattle.queue_certificates.specs.Steps.{exchange_by, exchanged, exchanging, extended_value, follow, goes_by, going_to, immediate_result, index_loaded}
@@ -45,12 +46,12 @@ pub use Rattle.queue_certificates.specs.Steps.{value_loaded, when_passed, when_t
 pub use Rattle.queue_certificates.specs.Steps.{word_then, words_then}
 pub use Rattle.queue_certificates.specs.Fields.{after_field, field_below, field_in, field_number, field_or, field_there, is_field, keeps_numbers, last_number}
 pub use Rattle.queue_certificates.specs.Fields.{next_received}
-pub use Rattle.queue_certificates.specs.Tags.{AreTold, HasAtLeast, Told, after_tag, all_handed, are_above, are_apart_from_slots, are_slots, are_these, at_tag, back_to}
-pub use Rattle.queue_certificates.specs.Tags.{bare, bits_above, bits_are, bits_for, covers_share, elements, handed, hands_over, in_round, is_beside_slots}
-pub use Rattle.queue_certificates.specs.Tags.{is_codec, is_even_between, is_in_element, is_number, is_of_even_round, is_of_rest, is_of_tag, is_positive}
+pub use Rattle.queue_certificates.specs.Tags.{AreTold, HasAtLeast, Told, after_tag, all_handed, are_above, are_apart_from_slots, are_slots, are_these, at_tag}
+pub use Rattle.queue_certificates.specs.Tags.{back_to, bare, bits_above, bits_are, bits_for, covers_share, elements, handed, hands_over, has_these, in_round}
+pub use Rattle.queue_certificates.specs.Tags.{is_beside_slots, is_codec, is_even_between, is_in_element, is_number, is_of_even_round, is_of_rest, is_of_tag}
 pub use Rattle.queue_certificates.specs.Tags.{is_tagged, load_tells, loads_rest, looked_tag, makes, may_store_all, may_tell, moved_tag, next_told, nothing}
 pub use Rattle.queue_certificates.specs.Tags.{number_of, other_value, party_in, reads_rest, something, store_tells, tag_at, tag_by, tag_position, tags_lead}
-pub use Rattle.queue_certificates.specs.Tags.{told_by, told_value, unknown, value_told, when_told, with_share}
+pub use Rattle.queue_certificates.specs.Tags.{is_positive, told_by, told_value, unknown, value_told, when_told, with_share}
 unfoldable pub use Rattle.queue_certificates.specs.Tags.{told_by_store}
 pub use Rattle.queue_certificates.specs.Effects.{WritesByte, effect_at, effect_of, filled_by, moves_head, published_by, value_stored}
 pub use Rattle.queue_certificates.specs.TagEffects.{tag_effect_at, tag_effect_of}

@@ -6,7 +6,8 @@ ghost use Rattle.slots_that_tell.specs.Slots.{gap};
 ghost use Rattle.queue_layouts.specs.declared.tagged.Codec.TheVariants as codecs;
 ghost use Rattle.queue_certificates.specs.Forms.{Form, number, plus};
 ghost use Rattle.queue_certificates.specs.Tags.{is_even_between, is_of_even_round, number_of, bits_are, bits_for, in_round, told_by, back_to, some_up_to};
-ghost use Rattle.queue_certificates.specs.Tags.{bits_above, value_told, told_value, other_value, is_positive, is_number, are_these, are_above, has_these, makes, hands_over};
+ghost use Rattle.queue_certificates.specs.Tags.{bits_above, value_told, told_value, other_value, is_positive, is_number, are_these, are_above, has_these};
+ghost use Rattle.queue_certificates.specs.Tags.{makes, hands_over};
 ghost use Rattle.queue_layouts.specs.Sides.{the_party};
 ghost use Rattle.queue_layouts.specs.Tagged.{slots_of};
 
