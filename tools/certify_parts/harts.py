@@ -2,6 +2,7 @@
 
 from functools import partial
 from itertools import chain
+from math import gcd
 from typing import NamedTuple
 
 from . import tags
@@ -11,7 +12,7 @@ from .handed import Hands
 from .live import flow_of, needed_of
 from .progress import goes_on
 from .search import APART, Mode, Order, Search, told_apart_of
-from .steps import LOAD, Matters, Program, Refused
+from .steps import LOAD, Matters, Program, Refused, leaves
 from .values import Parts
 
 
@@ -106,6 +107,15 @@ class FoundHart(NamedTuple):
     def stands(self, others, turn):
         """Whether nothing more is to be sought in a turn where other harts store there: nothing more is found where something was refused."""
         return (self.refused or self.is_apart(others)) and (self.turn >= turn or not self.refused and not self.program.unowned)
+
+
+def strides_of(found):
+    """Of queues whose own count only moves on by several positions at once, in the states that were found, the greatest number that divides all these
+    steps and the slots, if it is more than 1."""
+    moved = [each.moved for tree in found.search.reached().values() for _, _, following in leaves(tree) for each in following]
+    strides = [gcd(queue.size, *steps) if any(steps) else 1 for queue, *steps in zip(found.program.queues, *moved)]
+    return {which: stride for which, (queue, stride) in enumerate(zip(found.program.queues, strides))
+            if stride > 1 and not queue.has_tags and queue.is_linear()}
 
 
 class Harts:
@@ -243,13 +253,21 @@ class Harts:
         return after
 
     def doing(self, found, rest):
-        """What was found of a hart, or what a few ways, and at last the one by which it was found, find where states are told apart by what is done of
-        records: if they find states, these show what is asked. `rest` is what was found of the others."""
-        others, may_stand = set().union(*(each.program.stored for each in rest)), not goes_on(found.program, found.search)
-        ways = [*((way, way.work[0]) for way in DOING), *((way, work) for at, way, work in self.ways(found.hart) if at == self.begins[found.hart])]
-        further = (self.searched(found.hart, others, way._replace(by_done=True), work, 0, True) for way, work in ways)
+        """What was found of a hart, or what shows that it does to records all that is asked. `rest` is what was found of the others."""
+        further, may_stand = self.by_done(found, set().union(*(each.program.stored for each in rest))), not goes_on(found.program, found.search)
         whole = (each for each in further if self.is_whole(each) and (may_stand or goes_on(each.program, each.search)))
         return next((each._replace(plain=found) for each in whole if all(other.is_apart(each.program.stored) for other in rest)), found)
+
+    def by_done(self, found, others):
+        """What a few ways, and at last the one by which a hart was found, find of it where states are told apart by what is done of records: if they find
+        states, these show what is asked. If the own count only moves on by several positions at once, positions are parted by that number at first: so it is
+        known of which records the slots' end is passed, mostly none."""
+        hart, parts, strides = found.hart, self.parts[found.hart], strides_of(found)
+        ways = [*((way, way.work[0]) for way in DOING), *((way, work) for at, way, work in self.ways(hart) if at == self.begins[hart])]
+        for parted in (strides, {}) if strides else ({},):
+            for way, work in ways:
+                self.parts[hart] = {**parted, **parts}
+                yield self.searched(hart, others, way._replace(by_done=True), work, 0, True)
 
     def refused_soon(self):
         """Of how many harts each of a few searches names an instruction that isn't shown to keep the protocol."""
