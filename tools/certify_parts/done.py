@@ -54,6 +54,7 @@ def tree_of(program, state):
 
 
 def with_done(program, tree):
+    """A case tree where what follows has what is done then."""
     if tree[0] == "split":
         return *tree[:3], with_done(program, tree[3]), with_done(program, tree[4])
     _, leaf, following = tree
