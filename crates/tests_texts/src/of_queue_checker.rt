@@ -5,6 +5,7 @@ use queue_checker::{
     Flaw, QueueCertificate, QueueFlaw, TaggedFlaw, first_flaw, first_unowned_rest,
 };
 use std::alloc::{AllocError, Global};
+use std::process::Abort;
 use std::test::Fail;
 use step_machine::{HartOpening, Opening};
 
@@ -34,7 +35,11 @@ fn pair(alloc: Global, sender: &[u32], receiver: &[u32]) -> Result<Opening, Allo
 }
 
 /// The certificate whose text, after the head, has these two parts.
-fn listed(rt: &HostRuntime, queues: &str, harts: &str) -> Result<QueueCertificate, Fail> {
+fn listed(
+    rt: &(impl Abort + AllocGlobal),
+    queues: &str,
+    harts: &str,
+) -> Result<QueueCertificate, AllocError> {
     let text = format!(in rt.alloc(); "ztso-queues 1\n{queues}{harts}")?;
     Ok(read_certificate(rt.alloc(), text.as_bytes()).expect(rt, "a certificate"))
 }
