@@ -152,7 +152,7 @@ def said_otherwise(refused, missing, language):
         return Refused(f"{refused}: libstdc++ has this header for systems alone; docs/from-objects.md has stand-ins", refused.before)
     if missing and (language == CXX or missing in ("string.h", "stdlib.h", "assert.h", "stdio.h")):
         return Refused(f"{refused}: {missing} is a C library's: apt-get install {PICOLIBC_PACKAGE} brings headers, and of the functions "
-                       "only memcpy and memset are here", refused.before)
+                       "only memcpy, memmove and memset are here", refused.before)
     if missing:
         return Refused(f"{refused}: it looks for headers beside the C file, and there is no C library", refused.before)
     if mapped := unmapped(refused.whole):

@@ -12,7 +12,7 @@ from bring_parts.instructions import TEXT
 from bring_parts.memory import WIDTH, Memory
 
 # what compilers call where RV32I has no instruction
-SUPPORT = {"__mulsi3", "__udivsi3", "__umodsi3", "__divsi3", "__modsi3", "memcpy", "memset"}
+SUPPORT = {"__mulsi3", "__udivsi3", "__umodsi3", "__divsi3", "__modsi3", "memcpy", "memmove", "memset"}
 ASKED = "the condition asks for"
 # how many of the functions that are there a refusal names
 SHOWN = 6
