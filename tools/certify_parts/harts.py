@@ -55,6 +55,10 @@ TURNS = 2
 MOST_ROUNDS = 60
 # the most bytes and halves that a hart loads of which it is asked whether they are its own
 MOST_NARROW = 24
+# what is said of a hart that isn't searched
+LATE = "the time was over before it was searched: say more --seconds"
+# ways of more work aren't gone where bytes and halves that no hart stores are what they open as, nor where all is shown of a hart if they are
+MOST_BESIDE = 2
 
 
 def are_apart(own, others):
@@ -65,10 +69,12 @@ def are_apart(own, others):
 
 class Narrow:
     """The bytes and halves that a hart loads and no other one stores to: those that the search keeps; and those that the hart wasn't seen to store,
-    which may be anything, as what a device writes. `may_be_own` says of a place and its bytes whether they may be the hart's own."""
+    which may be anything, as what a device writes, unless such are `constants`: what they open as, as words are. `may_be_own` says of a place and its
+    bytes whether they may be the hart's own."""
 
-    def __init__(self):
+    def __init__(self, constants=False):
         self.kept, self.inputs, self.stores, self.changes, self.may_be_own = frozenset(), frozenset(), frozenset(), 0, None
+        self.constants = constants
 
     def may_be_kept(self, place, width):
         return (place, width) not in self.inputs and self.may_be_own(place, width)
@@ -83,10 +89,14 @@ class Narrow:
 
     def leave(self, program):
         """Leaves those that were loaded and never stored; returns whether there are any."""
-        left = {program.kept[which] for which in program.reads if program.kept[which][1] < 4 and which not in program.word_stores} - self.stores
+        left = set() if self.constants else self.unstored(program)
         self.changes += bool(left)
         self.kept, self.inputs = self.kept - left, self.inputs | left
         return bool(left)
+
+    def unstored(self, program):
+        """Those that were loaded and never stored."""
+        return {program.kept[which] for which in program.reads if program.kept[which][1] < 4 and which not in program.word_stores} - self.stores
 
 
 class FoundHart(NamedTuple):
@@ -99,6 +109,11 @@ class FoundHart(NamedTuple):
     refused: object
     turn: int
     plain: object = None
+
+    def moves(self):
+        """Whether a hart that is covered moves its count of each of its queues somewhere."""
+        after = [each for tree in self.search.reached().values() for _, _, nexts in leaves(tree) for each in nexts]
+        return all(any(each.moved[which] for each in after) for which, party in enumerate(self.program.parties) if party is not None)
 
     def is_apart(self, others):
         """Whether the same is found where other harts store there."""
@@ -135,6 +150,8 @@ class Harts:
         # it stores is seen later, or never
         self.begins, self.copies, self.ended, self.parts, self.narrow = (
             [each() for _ in test.harts] for each in (lambda: (0, 0), frozenset, set, dict, lambda: (Narrow(), Narrow())))
+        # of each hart what was found, and at which turn and way, where bytes and halves that no hart stores are what they open as
+        self.by_constants = [None] * len(test.harts)
         # where a word of counts wraps, position and slot part if the number of slots doesn't divide 2^32: more time seldom shows anything then
         self.may_be_covered = not any(not queue.has_tags and queue.is_linear() and SIZE % queue.size for queue in queues)
         self.shared = {place for place in test.words if any(queue.meets(place, 4) for queue in queues)}
@@ -175,17 +192,17 @@ class Harts:
 
     def hart(self, hart, others, turn, before):
         """The search over one hart, whose own words are those that no other one stores to, up to a turn. `before` is what was found already."""
-        last = max(turn, self.begins[hart][0])
+        last, is_late = max(turn, self.begins[hart][0]), not before and self.clock.is_over()
         refused = before if before and before.refused else None
         reads = before if before and not before.refused and before.is_apart(others) else None
         for at, way, work in self.ways(hart):
             asked = self.asked(hart, others, way, at[0])
             # more work seldom shows which numbers it sends
-            is_idle = at[0] and (reads and self.records or not self.may_be_covered)
+            is_idle = at[0] and (reads and self.records or not self.may_be_covered) or way.work[0] > MOST_BESIDE and self.counts_constants(hart)
             if at < self.begins[hart] or at[0] > last or asked in self.ended[hart] or is_idle or self.clock.is_over() and (reads or refused):
                 continue
             self.clock.tell(hart, at[1] + 1, len(WAYS))
-            found = self.searched(hart, others, way, work, at[0], reads is not None)
+            found = self.searched(hart, others, way, work, at[0], reads is not None, at)
             # one that names an instruction is told first
             if found.refused and (not refused or refused.refused.pc is None):
                 refused = found
@@ -197,7 +214,22 @@ class Harts:
                 return self.going_on(found, others)
             reads = reads or (None if found.refused else found)
             self.copies[hart] |= found.search.seen
+        if is_late and not reads and refused.refused.pc is None:
+            refused = refused._replace(refused=Refused(None, LATE))
+        if self.by_constants[hart] and (not reads or reads.program.unowned):
+            return self.hart_by_constants(hart, others, turn, reads or refused)
         return (reads or refused)._replace(turn=last)
+
+    def hart_by_constants(self, hart, others, turn, before):
+        """The search over one hart that isn't covered else, from where bytes and halves that no hart stores are what they open as."""
+        without = self.begins[hart], self.narrow[hart], self.ended[hart]
+        (self.begins[hart], found), self.by_constants[hart] = self.by_constants[hart], None
+        self.narrow[hart], self.ended[hart] = (Narrow(True), Narrow(True)), set()
+        found = self.going_on(found, others) if self.is_whole(found) and found.is_apart(others) else self.hart(hart, others, turn, before)
+        if self.is_whole(found) and found.moves():
+            return found
+        self.begins[hart], self.narrow[hart], self.ended[hart] = without
+        return before._replace(turn=max(turn, without[0][0]))
 
     def kept(self, hart, others, way):
         """The hart's own words, and the bytes and halves among these, each where it lies and its bytes."""
@@ -235,6 +267,14 @@ class Harts:
 
     def is_whole(self, found):
         return not found.refused and not found.program.unowned and (not self.records or self.records.are_shown(found.program, found.search))
+
+    def is_whole_by_constants(self, hart):
+        """Whether all is shown of a hart where bytes and halves that no hart stores are what they open as."""
+        return self.by_constants[hart] is not None and self.is_whole(self.by_constants[hart][1])
+
+    def counts_constants(self, hart):
+        """Whether all is shown of a hart where bytes and halves that no hart stores are what they open as, or they are so where it is searched."""
+        return self.is_whole_by_constants(hart) or self.narrow[hart][0].constants
 
     def going_on(self, found, others):
         """What was found of a hart, or, if its states don't show that it goes on, what one of a few other ways finds of which they do."""
@@ -277,8 +317,9 @@ class Harts:
 
         return sum(all(is_refused(hart, way) for way in SOON) for hart in range(len(self.test.harts)))
 
-    def searched(self, hart, others, way, work, turn, wants_all=False):
-        """What one way finds of a hart, where the others store there. If that isn't all, it is sought anew with the bytes and halves of its own."""
+    def searched(self, hart, others, way, work, turn, wants_all=False, at=None):
+        """What one way finds of a hart, where the others store there. If that isn't all, it is sought anew with the bytes and halves of its own. `at` is the
+        turn and the way, where what those are that no hart stores may help."""
         narrow, before = self.narrow[hart][way.opens_full], None
         narrow.may_be_own = partial(self.may_be_own, others)
         while True:
@@ -290,8 +331,11 @@ class Harts:
             # one that was refused may not have come to the stores of what it keeps
             elif found.refused or not narrow.leave(found.program):
                 return found
-            elif before and narrow.kept == before[0]:
-                return before[1]
+            else:
+                if at and not self.is_whole_by_constants(hart) and found.moves():
+                    self.by_constants[hart] = at, found
+                if before and narrow.kept == before[0]:
+                    return before[1]
 
     def searched_with(self, hart, others, way, work, turn, wants_all):
         """The same with what is kept of bytes and halves, anew as long as what it stores turns out to matter at further places. With `wants_all` it

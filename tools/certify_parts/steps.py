@@ -235,7 +235,9 @@ class Program(Values):
                 raise Refused(state.pc, "a load that may be of the other's index")
 
     def own_word(self, state, place, width, is_signed):
-        """What a load of an own word leaves, if one lies there that has as many bytes."""
+        """What a load of an own word leaves, if one lies there that has as many bytes. A byte or a half that flows to slots alone, say, needn't be known."""
+        if width < 4 and not self.needed.hands and self.code[state.pc // 4] >> 7 & 31 not in self.needed.registers[state.pc // 4 + 1]:
+            return None
         which = self.at.get((place, width))
         if which is None:
             if width < 4 and self.narrow.may_be_kept(place, width):
