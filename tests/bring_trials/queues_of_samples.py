@@ -26,7 +26,8 @@ NAMED = [("ring::queue.write_", "queue_write"), ("queue_write", "queue_write"), 
 # places of a text and what their bytes are called
 CALLED = [((4, 1), "queue"), ((6, 1), "queue+2"), ((8, 4), None), ((79, 1), "queue_record_0_time+3")]
 # instructions, whether one's first source was loaded whole, and whether it leaves all of that (1), or some bits (2)
-MASKED = [(("andi", 5, 6, 255), 1), (("andi", 5, 6, -1), 1), (("andi", 5, 6, 1), 2), (("srli", 5, 6, 4), 2), (("addi", 5, 6, 1), 1), (("andi", 5, 7, 1), 0)]
+MASKED = [(("andi", 5, 6, 255), 1), (("andi", 5, 6, -1), 1), (("andi", 5, 6, 1), 2), (("srli", 5, 6, 4), 2), (("addi", 5, 6, 1), 1), (("andi", 5, 7, 1), 0),
+          (("sub", 5, 6, 7), 0), (("sub", 5, 7, 6), 0)]
 LOCATIONS = {"null": 0, "queue": 4, "queue_write": 68, "words_1_id": 72, "queue_record_0_time": 76}
 # what the search says and what is answered, the notes of a hart, a certificate's queue, and parts of what helps
 COUNTS, TAGS = "queue 0 1 4 8 1 12 16 8 16 0 1 0 256 0\n", "tagged 0 1 12 8 12 4 1 zero 0\n"
@@ -46,6 +47,8 @@ HINTS = [
     ("", BROKEN, [], COUNTS.replace("16 0 1 0 256", "15 0 1 0 16"), ["indices of 1 byte that go back to 0 after the last slot", "index=counting"]),
     ("", BROKEN, [], COUNTS.replace("0 1 0 256", "12 8 0 16"), ["whose word of count n is 12 + 8 * (n mod 16)"]),
     ("", BROKEN, [], TAGS, ["8 slots of 12 bytes with the tag in bytes 4-4 of each, 0 where it is free, the fault", "tag=, tells="]),
+    ("", BROKEN, [], TAGS.replace("zero", "bits 128 0 128"), ["in bytes 4-4 of each, its bits under 0x80 0x0 where it is free, the fault"]),
+    ("", BROKEN, [], TAGS.replace("zero", "phases 3 0 1 3 2"), ["its bits under 0x3 0x0 where it is free, in odd rounds 0x3, the fault"]),
     ("", "not shown\n" + DRAWN.format(10999), [], COUNTS, ["about 11 positions each, and one turn of its index is 256: try --length 47000 --runs 20"]),
     ("", "not shown\n" + DRAWN.format(10999), [], COUNTS.replace("256", "4294967296"),
      ["about 11 positions each, and one turn of its slots is 16: try --length 3000 --runs 20"]),
@@ -145,6 +148,9 @@ void P1(void) {
   }
 }
 """
+# where an input, which no hart stores to, would break it
+INPUT = RING.replace("TYPE", "uint32_t").replace("volatile int out;", "volatile int out; volatile uint16_t mode; _Atomic unsigned char halt; int more = 1;") \
+    .replace("    ring.head++;\n", "    if (mode) ring.head++;\n    ring.head += more;\n    if (halt) return;\n")
 OF_RING = "head=ring.head,tail=ring.tail,slots=ring.order"
 OF_TYPES = [(RING.replace("TYPE", f"uint{bits}_t"), "--queue", OF_RING,
              ["kept in every run", f"its head is ring.head, the {'byte' if bits == 8 else f'{bits // 8} bytes'} at ", "has 8 slots of 12 bytes"])
@@ -156,6 +162,7 @@ OF_TYPES += [
      ["broken: ", "\nif queue 0 isn't 8 slots of 12 bytes with indices of 1 byte that count on, the fault is in its description: "]),
     (re.sub("% 8|>= 8", lambda shape: shape[0].replace("8", "3"), RING).replace("[8]", "[3]").replace("TYPE", "uint32_t"), "--queue", OF_RING,
      ["is not covered", "not shown: ", "\n`%` and `/` by what is no power of two"]),
+    (INPUT, "--queue", OF_RING, ["kept in every run", "\nno hart stores to halt and mode, which are volatile or atomic: in every run each is what it opens as. "]),
     (FLAGS, "--tagged", "slots=slot,tag=slot[0].full", ["kept in every run", "its tag is the byte at 4 of each slot"]),
 ]
 ROW = re.compile(r"\| \[([\w-]+)\]\([\w.-]+\) \| `(head=.*?)` \| (.*) \|")

@@ -13,6 +13,7 @@ REFERENCE = re.compile(r"<(?:alt )?0x([0-9a-f]+)")
 ADDRESSES, ADDRESS = re.compile(r" +For compilation unit at offset (?:0x)?([0-9a-f]+):"), re.compile(r"\t([0-9]+):\t([0-9a-f]+)")
 # types that have the parts of the one that they name
 SAME = ("typedef", "const_type", "volatile_type", "atomic_type", "restrict_type")
+VOLATILE = {"volatile_type", "atomic_type"}
 POINTERS = ("pointer_type", "reference_type", "rvalue_reference_type")
 # the namespaces of the languages' libraries
 LIBRARIES = ("std", "core", "alloc")
@@ -72,12 +73,22 @@ class Information:
 
     def kind_of(self, entry):
         """The entry of an entry's type, without names and qualifiers, or None."""
-        for _ in range(64):
+        return self.types_of(entry)[-1]
+
+    def is_volatile(self, entry):
+        """Whether an entry's type is volatile or atomic."""
+        return any(each and each.tag in VOLATILE for each in self.types_of(entry))
+
+    def types_of(self, entry):
+        """The entries of an entry's names and qualifiers, and the one that these are of, or None."""
+        found = []
+        while len(found) < 64:
             shape = REFERENCE.match(entry.attributes.get("type", ""))
             entry = self.entries.get(shape[1]) if shape else None
+            found.append(entry)
             if entry is None or entry.tag not in SAME:
-                return entry
-        return None
+                return found
+        return [None]
 
     def origin(self, entry):
         """The entry that says the rest of an entry, or itself."""

@@ -1,7 +1,7 @@
 """What a program calls the parts of each object, such as `q.tail` and `q.slot[1]`, by its debugging information."""
 
 import re
-from dataclasses import dataclass
+from dataclasses import dataclass, replace
 from itertools import islice
 
 CLASSES = ("structure_type", "class_type", "union_type")
@@ -12,10 +12,11 @@ MOST = 16 * 1024
 
 @dataclass(frozen=True)
 class Part:
-    """A part of an object that has no parts: where it begins in the object, its bytes, and its name."""
+    """A part of an object that has no parts: where it begins in the object, its bytes, its name, and whether it is volatile or atomic."""
     at: int
     size: int
     name: str
+    is_volatile: bool = False
 
 
 class Parts:
@@ -29,13 +30,14 @@ class Parts:
         the name that is shown. A compiler may have taken it apart, and then these bytes have some of its parts."""
         entry = self.information.variable(name, begin)
         kind = self.information.kind_of(entry) if entry else None
-        found, pieces = self.of_kind(kind, shown) if not entry or entry.name() else self.of_members(kind), self.information.pieces(entry) if entry else []
+        is_volatile, pieces = (self.information.is_volatile(entry), self.information.pieces(entry)) if entry else (False, [])
+        found = self.of_kind(kind, shown, is_volatile) if not entry or entry.name() else self.of_members(kind, is_volatile)
         # of a union without a name clang says a variable for each member, of one name for the linker
         found += [part for each in self.information.variables_at(begin) if each is not entry and self.information.is_called(each, name)
-                  for part in self.of_kind(self.information.kind_of(each), each.name())]
+                  for part in self.of_kind(self.information.kind_of(each), each.name(), self.information.is_volatile(each))]
         if not pieces or len(pieces) == 1 and pieces[0][2] is None:
             return found if all(part.at + part.size <= size for part in found) else []
-        return [Part(address + part.at - offset - begin, part.size, part.name)
+        return [replace(part, at=address + part.at - offset - begin)
                 for part in found for offset, address, length in pieces
                 if offset <= part.at < offset + (length or MOST) and begin <= address + part.at - offset < begin + size]
 
@@ -52,13 +54,13 @@ class Parts:
         entry = self.information.variable(name, at)
         return entry is not None and len(self.information.pieces(entry)) > 1
 
-    def of_kind(self, kind, name):
+    def of_kind(self, kind, name, is_volatile=False):
         """The parts of an object of this type."""
-        return self.some(part for part in self.parts(kind, 0, name) if part.size)
+        return self.some(part for part in self.parts(kind, 0, name, is_volatile) if part.size)
 
-    def of_members(self, kind):
+    def of_members(self, kind, is_volatile):
         """The parts of a variable without a name, which is a union: its members are called as variables are."""
-        return [Part(part.at, part.size, part.name[1:]) for part in self.of_kind(kind, "")]
+        return [replace(part, name=part.name[1:]) for part in self.of_kind(kind, "", is_volatile)]
 
     def begins(self, kind, name):
         """Where in an object of this type the classes inside begin, by their names: before their first part, if a bit-field is before that."""
@@ -76,20 +78,22 @@ class Parts:
         except RecursionError:
             return []
 
-    def parts(self, kind, at, name):
+    def parts(self, kind, at, name, is_volatile=False):
         """The parts of an object of this type, at this place of a larger one, and before those of a class itself, without bytes."""
         if not self.size_of(kind):
             return  # or many objects without bytes would take long
         if kind.tag in CLASSES:
             yield Part(at, 0, name)
+            is_volatile = is_volatile or kind.is_library and kind.name().lower().startswith("atomic")
             for member, is_named in self.members(kind):
                 inner = member.name() if is_named else ""
                 yield from self.parts(self.information.kind_of(member), at + member.number("data_member_location"),
-                                      f"{name}.{inner}" if inner else name)
+                                      f"{name}.{inner}" if inner else name, is_volatile or self.information.is_volatile(member))
         elif kind.tag == "array_type":
-            yield from self.elements(self.information.kind_of(kind), [self.length(each) for each in kind.inside], at, name)
+            yield from self.elements(self.information.kind_of(kind), [self.length(each) for each in kind.inside], at, name,
+                                     is_volatile or self.information.is_volatile(kind))
         else:
-            yield Part(at, kind.number("byte_size", default=4), name)
+            yield Part(at, kind.number("byte_size", default=4), name, is_volatile)
 
     def whole(self, name, at):
         """The type of the variable that the linker calls so, if the compiler says one and didn't take it apart."""
@@ -138,13 +142,13 @@ class Parts:
             size *= self.length(each)
         return size
 
-    def elements(self, kind, lengths, at, name):
+    def elements(self, kind, lengths, at, name, is_volatile):
         """The parts of an array's elements, by its lengths from the outermost to the innermost."""
         if not lengths:
-            yield from self.parts(kind, at, name)
+            yield from self.parts(kind, at, name, is_volatile)
             return
         step = self.size_of(kind)
         for length in lengths[1:]:
             step *= length
         for number in range(min(lengths[0], MOST)):
-            yield from self.elements(kind, lengths[1:], at + number * step, f"{name}[{number}]")
+            yield from self.elements(kind, lengths[1:], at + number * step, f"{name}[{number}]", is_volatile)

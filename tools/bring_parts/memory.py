@@ -48,6 +48,7 @@ class Memory:
         # where objects and parts of them begin, and how many bytes each part has, by their names
         self.begins = {part.name: each.at + part.at for each in objects for part in each.parts} | {each.name: each.at for each in objects}
         self.sizes = {part.name: part.size for each in objects for part in each.parts}
+        self.volatile = {part.name for each in objects for part in each.parts if part.is_volatile}
         # all of these, and where objects inside begin that have parts
         self.starts = {name: each.at + at for each in objects for name, at in each.begins.items()} | self.begins
         # the objects of which all that is in no part is padding, and the first byte of each hart's stack

@@ -6,12 +6,15 @@ from bring_parts import listed
 from bring_parts.queue_types import counted, ranges_in
 from bring_parts.queue_uncovered import of_uncovered
 from bring_parts.queue_words import word_of_count
+from certify_parts.live import needed_of
 from certify_parts.queues import Queue
 from certify_parts import tags
 
 import assembly
+import certificates
 import litmus
 import progress
+import queue_questions
 from queues import Judge
 from words import text as text_of_instruction
 
@@ -120,6 +123,38 @@ def of_bytes(asked, queues):
                 yield f"--{option} {given}: a record of queue {number} has {counted(queue.width, 'byte')}, so at most 0-{queue.width - 1} are asked for"
 
 
+def is_met(place, width, stored):
+    """Whether a store touches these bytes. Each is from a byte on up to another one, or anywhere."""
+    return any(where is None or where[0] < place + width and place <= where[1] for where in stored)
+
+
+def loaded(judge, number):
+    """The words of a hart's own, each its first byte and its bytes, that it loads for more than what it stores to others' words; and where it stores."""
+    hart, own = queue_questions.Hart(judge.opening, judge.listed, number), {(each.at, each.width) for each in judge.listed.harts[number].own}
+    stores = [(judge.pc(number, state), where) for state, where in hart.stores()]
+    needed = needed_of(hart.code, {pc for pc, where in stores if any(is_met(*each, [where]) for each in own)}).registers
+    found = set()
+    for _, known in hart.leaves:
+        access = hart.steps.accessed(known, certificates.instruction_at(hart.code, known.pc))
+        if access and access[3] and hart.code[known.pc // 4] >> 7 & 31 in needed[known.pc // 4 + 1]:
+            bounds = certificates.bounds(known.ranges, access[0])
+            found |= {(bounds.low, access[2])} & own if bounds and bounds.low == bounds.high else set()
+    return found, [where for _, where in stores]
+
+
+def of_constants(judge, types):
+    """A line where a hart's own words change nowhere, and their author lets expect that they do."""
+    found = [loaded(judge, number) for number in range(len(judge.listed.harts))]
+    places = sorted(set().union(*(own for own, _ in found)))
+    stored = [where for _, stores in found for where in stores]
+    names = [types.name_at(*each) for each in places if not is_met(*each, stored)]
+    names = list(dict.fromkeys(name for name in names if name and types.is_volatile(name)))
+    if names:
+        which, they, one = ("which are", "each", "one") if len(names) > 1 else ("which is", "it", "it")
+        yield (f"no hart stores to {listed(names)}, {which} volatile or atomic: in every run {they} is what it opens as. Where {one} is an input, let a "
+               "further hart store to it")
+
+
 def counting(queue):
     """How a queue's indices count, in words."""
     if (queue.base, queue.scale, queue.offset) != (0, 1, 0) or queue.modulus not in (queue.size, 256 ** queue.index_width):
@@ -127,11 +162,17 @@ def counting(queue):
     return "that go back to 0 after the last slot" if queue.modulus == queue.size else "that count on"
 
 
+def bits_told(tells):
+    """How some bits of a tag tell of a free slot, and in odd rounds, if that turns."""
+    in_odd = f", in odd rounds {tells.odd_free:#x}" if isinstance(tells, tags.PhasesTell) else ""
+    return f"its bits under {tells.mask:#x} {tells.free:#x} where it is free{in_odd}"
+
+
 def or_described_wrong(number, queue):
     """What is to be looked at where a queue is broken."""
     slots = f"{counted(queue.size, 'slot')} of {counted(queue.width, 'byte')}"
     if queue.has_tags:
-        told = {"zero": "0 where it is free", "number": "the position's number where it is free"}.get(queue.tells, "the bits of a free slot where it is free")
+        told = {"zero": "0 where it is free", "number": "the position's number where it is free"}.get(queue.tells) or bits_told(queue.tells)
         of_each = f"element of {counted(queue.tag_stride, 'byte')} from {queue.tags} on" if queue.has_tags_apart() else ""
         form = f"{slots} with the tag in bytes {queue.tag_offset}-{queue.tag_offset + queue.tag_width - 1} of each{' ' * bool(of_each)}{of_each}, {told}"
         keys = f"size=, width=, tag=, {'tags=, tag_stride=, ' * bool(of_each)}tells=, sender= and receiver="

@@ -90,6 +90,10 @@ class Types:
         begin, name = (place, exact[0]) if exact else found[0] if len(found) == 1 else (place, None)
         return name and name + f"+{place - begin}" * (place > begin)
 
+    def is_volatile(self, name):
+        """Whether what is called so, or what it is a part of, is declared volatile or atomic."""
+        return name.partition("+")[0] in self.words.volatile
+
     def not_padding(self, queue):
         """The bytes of a record that aren't padding, or None where the types don't say which these are."""
         numbers = [array for array in self.arrays_at(str(queue.slots)) if array.number and queue.width % array.number == 0]

@@ -20,13 +20,13 @@ LENGTHS = ("hart {hart} takes a length from a slot, {place}: records of differen
 BITS = ("hart {hart} decides by some bits of a tag, as `status & OWN` does, at {place}: with tells=zero and tells=number the whole tag tells; where some of its "
         "bits do, say tells=bit:MASK")
 # the functions of the tools' own code that divide, and those that copy
-DIVISION, COPYING = {"divided", "size_of", "__udivsi3", "__umodsi3", "__divsi3", "__modsi3"}, {"memcpy", "memset"}
+DIVISION, COPYING = {"divided", "size_of", "__udivsi3", "__umodsi3", "__divsi3", "__modsi3"}, {"memcpy", "memmove", "memset"}
 # how many runs are drawn, of how many events, with what buffers
 RUNS, LENGTH, SEED, BUFFER = 4, 2000, 1, 4
 # where a copy's count is
 COUNT = 12
 # instructions that take bits of a number, and branches by its sign
-MASKS, SIGNS = ("andi", "and", "slli", "srli", "srai"), ("blt", "bge")
+MASKS, SUMS, SIGNS = ("andi", "and", "slli", "srli", "srai"), ("add", "sub"), ("blt", "bge")
 WHOLE = {-1, 0xFF, 0xFFFF}
 
 
@@ -132,8 +132,8 @@ def most(instruction, known):
 
 
 def masked(instruction, known):
-    """1 of what was loaded whole, 2 of some bits of it."""
-    mark = most(instruction, known)
+    """1 of what was loaded whole, 2 of some bits of it. Of a difference neither bits nor the sign are the tag's."""
+    mark = most(instruction, known) if instruction[0] not in SUMS else 0
     return 2 if mark and instruction[0] in MASKS and instruction[-1] not in WHOLE else mark
 
 
