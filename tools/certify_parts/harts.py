@@ -110,10 +110,13 @@ class FoundHart(NamedTuple):
     turn: int
     plain: object = None
 
+    def moved(self):
+        """By how many positions each step of a hart that is covered moves on its count of each queue."""
+        return [each.moved for tree in self.search.reached().values() for _, _, following in leaves(tree) for each in following]
+
     def moves(self):
         """Whether a hart that is covered moves its count of each of its queues somewhere."""
-        after = [each for tree in self.search.reached().values() for _, _, nexts in leaves(tree) for each in nexts]
-        return all(any(each.moved[which] for each in after) for which, party in enumerate(self.program.parties) if party is not None)
+        return all(party is None or any(steps) for party, *steps in zip(self.program.parties, *self.moved()))
 
     def is_apart(self, others):
         """Whether the same is found where other harts store there."""
@@ -127,8 +130,7 @@ class FoundHart(NamedTuple):
 def strides_of(found):
     """Of queues whose own count only moves on by several positions at once, in the states that were found, the greatest number that divides all these
     steps and the slots, if it is more than 1."""
-    moved = [each.moved for tree in found.search.reached().values() for _, _, following in leaves(tree) for each in following]
-    strides = [gcd(queue.size, *steps) if any(steps) else 1 for queue, *steps in zip(found.program.queues, *moved)]
+    strides = [gcd(queue.size, *steps) if any(steps) else 1 for queue, *steps in zip(found.program.queues, *found.moved())]
     return {which: stride for which, (queue, stride) in enumerate(zip(found.program.queues, strides))
             if stride > 1 and not queue.has_tags and queue.is_linear()}
 

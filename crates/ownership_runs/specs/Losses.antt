@@ -44,7 +44,7 @@ is_record_byte (Tagged q) x = is_in_bytes q.slots (q.size * q.width) x && not (i
 abbrev pub last_of_slot : (size known j : ℕ) → Option ℕ
 last_of_slot size known j = if nat_lt (position_from size (known - size) j) known then Some (position_from size (known - size) j) else None
 
--- of the positions that the receiver was told of, the last whose record has the byte at x
+-- the last position whose record has the byte at x and of which the receiver was told
 abbrev pub position_told : AnyQueue → QueueCounts → (x : ℕ) → Option ℕ
 position_told q c x = if is_record_byte q x then last_of_slot (slots_in q) c.known_published (slot_number q x) else None
 

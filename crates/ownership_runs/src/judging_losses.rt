@@ -36,7 +36,7 @@ fn last_of_slot(size: u32, known: u128, slot: u128) -> Option<u128>
     }
 }
 
-/// Of the positions that the receiver was told of, the last whose record has the byte at x.
+/// The last position whose record has the byte at x and of which the receiver was told.
 fn position_told(queue: &AnyQueue, counts: RunCounts, x: u64) -> Option<u128>
     requires { AreCountsWithin ROOM ROOM counts }
     ensures { result ≡ position_told queue.now counts x }
