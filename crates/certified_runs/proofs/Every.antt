@@ -7,7 +7,7 @@ use Rattle.std.proofs.lemmas.Bool.{cases_eq}
 use Rattle.std.proofs.lemmas.List.Elements.{All-nil}
 use Rattle.hart.specs.{HartState, advanced}
 use Rattle.step_machine.specs.declared.events.Entry.{Entry}
-use Rattle.step_machine.specs.Names.{HartOpeningValue, OpeningValue, history_of, Access, nothing, load, store, exchange, fence, land, access_of, hart_of}
+use Rattle.step_machine.specs.Names.{HartOpeningValue, OpeningValue, history_of, Access, load, exchange, land, access_of, hart_of}
 use Rattle.step_machine.specs.Names.{is_land, is_own, own, own_stores, lands, pending, read, number_read, opens_as, state_of, PathOf, WellFormed, Allowed}
 use Rattle.step_machine.specs.Names.{AllowedBy}
 use Rattle.step_machine.proofs.{LegalAfter-back, LegalAfter-front, balanced, state_after, kept-front, state_keeps}
@@ -62,12 +62,9 @@ module _ (B M : ℕ) (o : OpeningValue) (Counts : Type 0) (p : Protocol Counts) 
       le g = balanced B (history_of o done) g (LegalAfter-front B o [] done (e ∷ []) run.legal)
 
       reads_view : (h : ℕ) (y : Access) → AllowedBy B (pending h done) (read o done h) y → ReadsFrom (view_of o done h) y
-      reads_view h nothing a = tt
       reads_view h (load x width v) a = a
-      reads_view h (store w) a = tt
       reads_view h (exchange x old new) a = a.1
-      reads_view h (fence full) a = tt
-      reads_view h land a = tt
+      reads_view h other a = tt
 
       -- its state decides what a hart makes
       pub acts : (h : ℕ) (s : HartState) → hart_of e ≡ h → is_land e ≡ false → At M o h done s → Acts M o h s (view_of o done h) e

@@ -9,7 +9,7 @@ use Rattle.memory.specs.declared.writes.Write.{Write}
 use Rattle.memory.specs.Writes.{write, covers, newest_of}
 use Rattle.memory.proofs.WholeWords.{newest_of-append}
 use Rattle.step_machine.specs.declared.events.Entry.{Entry}
-use Rattle.step_machine.specs.Names.{OpeningValue, Access, nothing, load, store, exchange, fence, land, access_of, hart_of, stored_by, landed_by, written_by}
+use Rattle.step_machine.specs.Names.{OpeningValue, Access, store, exchange, land, access_of, hart_of, stored_by, landed_by, written_by}
 use Rattle.step_machine.specs.Names.{own_store, land_of, is_land, is_landing, own_stores, lands, pending, write_of, landed, opening_byte, read_byte, read}
 use Rattle.step_machine.specs.Names.{AllowedBy, Allowed}
 use Rattle.step_machine.proofs.Appended.{landed-last, pending-last}
@@ -24,9 +24,6 @@ chosen false b op g = refl
 core : (x op : ℕ) (f : Option ℕ) (mine : List Write) (y : Access) → is_landing y ≡ false → ((a old new : ℕ) → y ≡ exchange a old new → mine ≡ [])
     → unwrap_or (newest_of x (newest_of x f (written_by (take 1 mine) y)) (drop (landed_by true y) (mine ++ stored_by true y))) op
     ≡ byte_then y x (unwrap_or (newest_of x f mine) op)
-core x op f mine nothing act none = ap (λ ws. unwrap_or (newest_of x f ws) op) (append-nil mine)
-core x op f mine (load a width v) act none = ap (λ ws. unwrap_or (newest_of x f ws) op) (append-nil mine)
-core x op f mine (fence full) act none = ap (λ ws. unwrap_or (newest_of x f ws) op) (append-nil mine)
 core x op f mine (store w) act none =
     ap (λ g. unwrap_or g op) (newest_of-append x f mine (w ∷ []))
     ∙ chosen (covers w x) (byte_at (x - w.addr) w.value) op (newest_of x f mine)
@@ -34,6 +31,7 @@ core x op f mine (exchange a old new) act none = subst (λ ws. unwrap_or (newest
     ≡ byte_then (exchange a old new) x (unwrap_or (newest_of x f ws) op)) (sym (none a old new refl))
     (chosen (covers (write a 4 new) x) (byte_at (x - a) new) op f)
 core x op f mine land act none = absurd (let no : true ≡ false = act in cc)
+core x op f mine other act none = ap (λ ws. unwrap_or (newest_of x f ws) op) (append-nil mine)
 
 -- after an act of its own a hart reads what it wrote, and else what it read before
 pub own_view : (B : ℕ) (o : OpeningValue) (a x : ℕ) (es : List Entry) (e : Entry) → lands a es ≤ length (own_stores a es) → Allowed B o es e → hart_of e ≡ a

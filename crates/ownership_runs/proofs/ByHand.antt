@@ -45,32 +45,33 @@ abbrev told : List Entry
 told = Store 0 4 1 7 ∷ Store 0 0 1 1 ∷ Land 0 ∷ Land 0 ∷ Load 1 0 1 1 ∷ []
 
 -- it is loaded as it was sent; also what the receiver stored there itself
-pub right_by_hand : first_loss byte zeros (all_at 0) (told ++ Load 1 4 1 7 ∷ Store 1 1 1 1 ∷ []) ≡ None
+pub right_by_hand : first_loss None byte zeros (all_at 0) (told ++ Load 1 4 1 7 ∷ Store 1 1 1 1 ∷ []) ≡ None
 unfolding losses.first_byte
 right_by_hand = refl
 
-pub own_by_hand : first_loss byte zeros (all_at 0) (told ++ Store 1 4 1 5 ∷ Load 1 4 1 5 ∷ []) ≡ None
+pub own_by_hand : first_loss None byte zeros (all_at 0) (told ++ Store 1 4 1 5 ∷ Load 1 4 1 5 ∷ []) ≡ None
 unfolding losses.first_byte
 own_by_hand = refl
 
 -- the index is stored before the record
-pub early_by_hand : first_loss byte zeros (all_at 0) (Store 0 0 1 1 ∷ Store 0 4 1 7 ∷ Land 0 ∷ Land 0 ∷ Load 1 0 1 1 ∷ Load 1 4 1 7 ∷ []) ≡ loss 5 7 0 0
+pub early_by_hand : first_loss None byte zeros (all_at 0) (Store 0 0 1 1 ∷ Store 0 4 1 7 ∷ Land 0 ∷ Land 0 ∷ Load 1 0 1 1 ∷ Load 1 4 1 7 ∷ []) ≡ loss 5 7 0 0
 unfolding losses.first_byte
 early_by_hand = refl
 
 -- the sender publishes over a record that the receiver has not taken
-pub overrun_by_hand : first_loss byte zeros (all_at 0) (told ++ Store 0 4 1 9 ∷ Store 0 0 1 2 ∷ Land 0 ∷ Load 1 4 1 9 ∷ []) ≡ loss 8 9 0 7
+pub overrun_by_hand : first_loss None byte zeros (all_at 0) (told ++ Store 0 4 1 9 ∷ Store 0 0 1 2 ∷ Land 0 ∷ Load 1 4 1 9 ∷ []) ≡ loss 8 9 0 7
 unfolding losses.first_byte
 overrun_by_hand = refl
 
 -- the receiver loads the slot again after it has handed it back
-pub late_by_hand : first_loss byte zeros (all_at 0) (told ++ Load 1 4 1 7 ∷ Store 1 1 1 1 ∷ Land 1 ∷ Load 0 1 1 1 ∷ Store 0 4 1 9 ∷ Land 0 ∷ Load 1 4 1 9 ∷ [])
+pub late_by_hand : first_loss None byte zeros (all_at 0)
+    (told ++ Load 1 4 1 7 ∷ Store 1 1 1 1 ∷ Land 1 ∷ Load 0 1 1 1 ∷ Store 0 4 1 9 ∷ Land 0 ∷ Load 1 4 1 9 ∷ [])
     ≡ loss 11 9 0 7
 unfolding losses.first_byte
 late_by_hand = refl
 
 -- a tag is none of the record
-pub tag_by_hand : first_loss tagged zeros (all_at 0)
+pub tag_by_hand : first_loss None tagged zeros (all_at 0)
     (Store 0 5 1 7 ∷ Store 0 4 1 1 ∷ Land 0 ∷ Land 0 ∷ Load 1 4 1 1 ∷ Load 1 5 1 7 ∷ Store 1 4 1 0 ∷ Load 1 4 1 0 ∷ [])
     ≡ None
 unfolding losses.first_byte

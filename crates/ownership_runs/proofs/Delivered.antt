@@ -18,10 +18,10 @@ use Rattle.queue_parties.specs.Parties.{the_sender, the_receiver, QueueCounts}
 use Rattle.queue_parties.proofs.Parties.{counts-append, keeps-at}
 use Rattle.slot_queue.specs.{Queue, IsQueue, counts_next, counts_after, after_access, KeepsEntry, KeepsAccess, FollowsOwnership}
 use Rattle.slot_queue.proofs.{handed, loaded-count}
-use Rattle.slot_queue.proofs.Publication.{follows-front}
+use Rattle.slot_queue.proofs.Runs.{follows-front}
 use Rattle.slot_queue.proofs.Owned.{moves-count}
 use Rattle.slots_that_tell.specs.Laws.{FollowsTelling}
-use Rattle.slots_that_tell.proofs.Publication.{follows-front as told-front}
+use Rattle.slots_that_tell.proofs.Runs.{follows-front as told-front}
 use Rattle.slots_that_tell.proofs.HandingOver.{handed as told-handed}
 use Rattle.queue_layouts.specs.declared.AnyQueue.{AnyQueue}
 use Rattle.queue_layouts.specs.declared.AnyQueue.TheVariants.{Indexed, Tagged}

@@ -2,6 +2,7 @@
 use Rattle.std.proofs.Common.{ℕ, suc, ◌+◌, ◌<◌, ◌≡◌, ◌⊎◌, Bool, true, false, List, [], ◌∷◌, ◌++◌, length, drop, Some, None, Ok, Err, inl, inr, refl, sym, ap}
 use Rattle.std.proofs.Common.{◌∙◌, subst, arith}
 use Rattle.std.specs.Prelude.{Option, if◌then◌else◌}
+use Rattle.std.proofs.lemmas.Bool.Decides.{Decides-ltb}
 use Rattle.std.proofs.lemmas.List.{length-append}
 use Rattle.std.proofs.Math.Seq.{take-append_seam}
 use Rattle.step_machine.specs.declared.events.Event.{Event}
@@ -15,9 +16,9 @@ use Rattle.shrink.specs.Shrinking.{without}
 use Rattle.drawn_runs.proofs.Bursts.{LastHappens, last_happens}
 use Rattle.judged_runs.specs.Telling.{IsFlawTold}
 use Rattle.ownership_runs.specs.{Violation, RunNotes, entry_counts, run_counts, keeps_entry, violation_at, first_ownership_violation, HasKeptRun, HasBrokenRun}
-use Rattle.ownership_runs.specs.{IsOfOneKind, EndsInViolation, nothing_noted, noted_as, noted_more, noted_all, HasSlot, Loss, first_loss, loss_at, sent_from}
-use Rattle.ownership_runs.specs.{nothing_sent, or_else, IsLossAt, LosesNothing, HasLoss, IsLossOfOneKind, EndsInLoss}
-use Rattle.ownership_runs.proofs.Losing.{is-loss, loss-append}
+use Rattle.ownership_runs.specs.{IsOfOneKind, EndsInViolation, nothing_noted, noted_as, noted_more, noted_all, HasSlot, Loss, first_loss, sent_from}
+use Rattle.ownership_runs.specs.{nothing_sent, or_else, IsLossAt, LosesNothing, HasLoss, IsLossOfOneKind, EndsInLoss, judged_loss, loss_after, loss_since}
+use Rattle.ownership_runs.proofs.Losing.{counted-loss, is-first-loss, is-loss, loss-append}
 use Rattle.ownership_runs.proofs.Noting.{noted-append, first-noted, all-noted, nothing-more}
 
 -- ---- a list and its last event
@@ -82,22 +83,56 @@ module _ (q : AnyQueue) (start : QueueCounts) (es : List Entry) (e : Entry) (b :
 
 -- ---- the loss of the last entry
 
-module _ (q : AnyQueue) (some : HasSlot q) (o : OpeningValue) (start : QueueCounts) (es : List Entry) (e : Entry) (l : Loss)
-    (found : first_loss q o start (es ++ e ∷ []) ≡ Some l) where
-  before-or-lost : (first_loss q o start es ≡ Some l) ⊎ IsLossAt q o start es e l
-  before-or-lost = by (first_loss q o start es) refl (sym (loss-append q o [] start nothing_sent es (e ∷ [])) ∙ found)
+module _ (q : AnyQueue) (some : HasSlot q) (o : OpeningValue) (start : QueueCounts) (es : List Entry) (e : Entry) (l : Loss) where
+  before-or-lost : (since : Option ℕ) → first_loss since q o start (es ++ e ∷ []) ≡ Some l
+      → (first_loss since q o start es ≡ Some l) ⊎ IsLossAt q o start es e l
+  before-or-lost since found = by (first_loss since q o start es) refl (sym (loss-append since q o [] start nothing_sent es (e ∷ [])) ∙ found)
     where
       here : Option Loss
-      here = loss_at q (length es) (run_counts q start es) (sent_from q o [] start nothing_sent es) e
+      here = loss_since since q (length es) (run_counts q start es) (sent_from q o [] start nothing_sent es) e
 
       at : (x : Option Loss) → here ≡ x → or_else x None ≡ Some l → IsLossAt q o start es e l
       at None none is = cc
-      at (Some m) same is = is-loss q some o start es e l (same ∙ is)
+      at (Some m) same is = is-loss q some o start es e l (counted-loss since (length es) _ l (same ∙ is)).1
 
-      by : (before : Option Loss) → first_loss q o start es ≡ before → or_else before (or_else here None) ≡ Some l
-          → (first_loss q o start es ≡ Some l) ⊎ IsLossAt q o start es e l
+      by : (before : Option Loss) → first_loss since q o start es ≡ before → or_else before (or_else here None) ≡ Some l
+          → (first_loss since q o start es ≡ Some l) ⊎ IsLossAt q o start es e l
       by None none is = inr (at here refl is)
       by (Some m) same is = inl (same ∙ is)
+
+  -- nothing comes after the last entry
+  none-after : (b : Violation) → b.place ≡ length es → first_loss (Some b.place) q o start (es ++ e ∷ []) ≡ Some l → ⊥
+  none-after b at found =
+      let first = is-first-loss q some o start (Some b.place) (es ++ e ∷ []) l found in
+      let less : b.place < l.place = (Decides-ltb b.place l.place).0 first.after in
+      let here : l.place ≡ length first.front = first.loss_at.place in
+      let all : length (es ++ e ∷ []) ≡ length first.front + length (first.entry ∷ first.back) =
+      ap (λ (xs : List Entry). length xs) first.is ∙ length-append first.front (first.entry ∷ first.back) in
+      let more : length (es ++ e ∷ []) ≡ length es + 1 = length-append es (e ∷ []) in
+      absurd (omega (arith, less, here, all, more, at))
+
+  before-or-judged : (broken : Bool) → judged_loss broken q o start (es ++ e ∷ []) ≡ Some l
+      → (judged_loss broken q o start es ≡ Some l) ⊎ IsLossAt q o start es e l
+  before-or-judged false found = before-or-lost None found
+  before-or-judged true found = by (first_ownership_violation q start (es ++ e ∷ [])) refl found
+    where
+      by : (x : Option Violation) → first_ownership_violation q start (es ++ e ∷ []) ≡ x → loss_after q o start (es ++ e ∷ []) x ≡ Some l
+          → (judged_loss true q o start es ≡ Some l) ⊎ IsLossAt q o start es e l
+      by None none lost = cc
+      by (Some b) some lost = at b.described refl lost
+        where
+          at : (described : Bool) → b.described ≡ described → (if described then first_loss (Some b.place) q o start (es ++ e ∷ []) else None) ≡ Some l
+              → (judged_loss true q o start es ≡ Some l) ⊎ IsLossAt q o start es e l
+          at false off none = cc
+          at true on first = of (before-or-last q start es e b some) (before-or-lost (Some b.place) first)
+            where
+              of : (first_ownership_violation q start es ≡ Some b) ⊎ IsLast q start es e b some
+                  → (first_loss (Some b.place) q o start es ≡ Some l) ⊎ IsLossAt q o start es e l
+                  → (judged_loss true q o start es ≡ Some l) ⊎ IsLossAt q o start es e l
+              of broken (inr here) = inr here
+              of (inr last) later = absurd (none-after b (ap (λ (v : Violation). v.place) last) first)
+              of (inl before) (inl lost) = inl (ap (loss_after q o start es) before
+                  ∙ ap (λ r. if r then first_loss (Some b.place) q o start es else None) on ∙ lost)
 
 -- ---- what the entries of a run are found to have first, which none of its events can go without
 
@@ -178,6 +213,10 @@ module _ {X : Type 0} (B M : ℕ) (o : OpeningValue) (found : List Entry → Opt
         at (inr l) = of-last l
 
 module _ (B M : ℕ) (o : OpeningValue) (q : AnyQueue) (start : QueueCounts) (schedule : ℕ → List Event) (runs : ℕ) (part : List Event) where
+  nothing-lost : (broken : Bool) (l : Loss) → judged_loss broken q o start [] ≡ Some l → ⊥
+  nothing-lost true l is = absurd (cc)
+  nothing-lost false l is = absurd (cc)
+
   pub ends-told : (b : Violation) → IsFlawTold (HasKeptRun B M o q start) (HasBrokenRun B M o q start) IsOfOneKind schedule runs part b
       → EndsInViolation B M o q start part b
   ends-told b told =
@@ -198,11 +237,13 @@ module _ (B M : ℕ) (o : OpeningValue) (q : AnyQueue) (start : QueueCounts) (sc
         of_hart = subst (λ (h : ℕ). h < length o.harts) (sym (ap (λ (x : Violation). x.hart) e.made)) e.of_hart;
       }
 
-  pub loss-told : (l : Loss) → HasSlot q → IsFlawTold (LosesNothing B M o q start) (HasLoss B M o q start) IsLossOfOneKind schedule runs part l
-      → EndsInLoss B M o q start part l
-  loss-told l some told =
+  pub loss-told : (broken : Bool) (l : Loss) → HasSlot q
+      → IsFlawTold (LosesNothing B M o q start broken) (HasLoss B M o q start broken) IsLossOfOneKind schedule runs part l
+      → EndsInLoss B M o q start broken part l
+  loss-told broken l some told =
       let has = told.shown.has in
-      let e = ends-in B M o (first_loss q o start) (IsLossAt q o start) (λ l is. absurd (cc)) (before-or-lost q some o start) part l
+      let e = ends-in B M o (judged_loss broken q o start) (IsLossAt q o start) (λ l is. absurd (nothing-lost broken l is))
+      (λ es e l found. before-or-judged q some o start es e l broken found) part l
       (record { history = has.history; run = has.run; first = has.first }) (λ i less has. told.shown.minimal i less
       (record { other = l; has = record { history = has.history; run = has.run; first = has.first }; alike = told.shown.alike })) in
       record {

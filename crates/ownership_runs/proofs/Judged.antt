@@ -1,5 +1,5 @@
 -- What the judgement of runs says of them.
-use Rattle.std.proofs.Common.{ℕ, ◌≡◌, ◌+◌, min, List, [], ◌∷◌, ◌++◌, Option, None, Some, sym, ap, subst, ◌∙◌, arith}
+use Rattle.std.proofs.Common.{ℕ, ◌≡◌, ◌+◌, min, Bool, List, [], ◌∷◌, ◌++◌, Option, None, Some, sym, ap, subst, ◌∙◌, arith}
 use Rattle.step_machine.specs.declared.events.Event.{Event}
 use Rattle.step_machine.specs.declared.events.Entry.{Entry}
 use Rattle.step_machine.specs.Names.{OpeningValue, History, history_of, at_opening, Legal, WellFormed, Run}
@@ -10,8 +10,12 @@ use Rattle.queue_layouts.specs.declared.AnyQueue.TheVariants.{Indexed, Tagged}
 use Rattle.judged_runs.specs.Telling.{MOST, summed}
 use Rattle.judged_runs.proofs.Histories.{capped_both, runs_both, runs_one, total_both}
 use Rattle.ownership_runs.specs.{Violation, Moved, Keeps, HasSlot, IsAnyQueue, Rests, Follows, first_ownership_violation, HasKeptRun, BreaksNothing}
-use Rattle.ownership_runs.specs.{HasBrokenRun, published_in, taken_in, HasMoved, AreMovesOf, Loss, first_loss, LosesNothing, HasLoss}
+use Rattle.ownership_runs.specs.{HasBrokenRun, published_in, taken_in, HasMoved, AreMovesOf, Loss, judged_loss, LosesNothing, HasLoss}
+use Rattle.ownership_runs.specs.{AreSteps, BreaksAndLoses, Step, first_loss, loss_after}
+use Rattle.std.proofs.Common.{true, false, map, refl}
+use Rattle.std.specs.Prelude.{if◌then◌else◌}
 use Rattle.ownership_runs.proofs.First.{kept-all, none-first}
+use Rattle.ownership_runs.proofs.Stepping.{entries-are}
 
 follows : (B : ℕ) (q : AnyQueue) (start : QueueCounts) (o : OpeningValue) (es : List Entry) → IsAnyQueue q → Legal B (history_of o es) → Rests q o [] start
     → Keeps q start es → Follows B q start o [] es
@@ -41,13 +45,6 @@ module _ (B M : ℕ) (o : OpeningValue) (q : AnyQueue) (start : QueueCounts) whe
     none-or-one b free has =
         none-or-found (first_ownership_violation q start) B M o events free.history has.history free.run has.run b free.none has.first
 
-    -- and one first loss, or none
-    pub one-loss : (l m : Loss) → HasLoss B M o q start events l → HasLoss B M o q start events m → l ≡ m
-    one-loss l m has also = one-found (first_loss q o start) B M o events has.history also.history has.run also.run l m has.first also.first
-
-    pub none-or-lost : (l : Loss) → LosesNothing B M o q start events → HasLoss B M o q start events l → ⊥
-    none-or-lost l free has = none-or-found (first_loss q o start) B M o events free.history has.history free.run has.run l free.none has.first
-
     -- one that keeps the protocol has none
     pub keeps-or-breaks : (b : Violation) → HasSlot q → HasKeptRun B M o q start events → HasBrokenRun B M o q start events b → ⊥
     keeps-or-breaks b some keeps has =
@@ -66,6 +63,31 @@ module _ (B M : ℕ) (o : OpeningValue) (q : AnyQueue) (start : QueueCounts) whe
     -- one without a violation keeps the protocol
     pub kept-run : HasSlot q → BreaksNothing B M o q start events → HasKeptRun B M o q start events
     kept-run some free = record { history = free.history; run = free.run; keeps = kept-all q some start free.history.entries free.none }
+
+  -- one loss that is judged, or none
+  module _ (broken : Bool) (events : List Event) where
+    pub one-loss : (l m : Loss) → HasLoss B M o q start broken events l → HasLoss B M o q start broken events m → l ≡ m
+    one-loss l m has also = one-found (judged_loss broken q o start) B M o events has.history also.history has.run also.run l m has.first also.first
+
+    pub none-or-lost : (l : Loss) → LosesNothing B M o q start broken events → HasLoss B M o q start broken events l → ⊥
+    none-or-lost l free has = none-or-found (judged_loss broken q o start) B M o events free.history has.history free.run has.run l free.none has.first
+
+  -- where a record is lost after a violation, the steps have both
+  pub breaks-and-loses : (events : List Event) (l : Loss) (steps : List Step) → HasLoss B M o q start true events l → AreSteps B M o events steps
+      → BreaksAndLoses o q start (map (λ (s : Step). s.entry) steps) l
+  breaks-and-loses events l steps has are =
+      subst (λ es. BreaksAndLoses o q start es l) (sym (entries-are B M o events steps has.history are has.run))
+      (by (first_ownership_violation q start has.history.entries) refl has.first)
+    where
+      by : (x : Option Violation) → first_ownership_violation q start has.history.entries ≡ x → loss_after q o start has.history.entries x ≡ Some l
+          → BreaksAndLoses o q start has.history.entries l
+      by None none lost = cc
+      by (Some b) some lost = at b.described refl lost
+        where
+          at : (described : Bool) → b.described ≡ described → (if described then first_loss (Some b.place) q o start has.history.entries else None) ≡ Some l
+              → BreaksAndLoses o q start has.history.entries l
+          at true on first = record { violation = b; first = some; described = on; loses = first }
+          at false off none = cc
 
   -- ---- by how much the parties moved on
 

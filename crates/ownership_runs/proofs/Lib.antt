@@ -14,3 +14,4 @@ pub mod ByHand
 pub mod Logs
 pub mod Reach
 pub mod LossSteps
+pub mod Stepping

@@ -11,7 +11,8 @@ use Rattle.queue_parties.specs.Parties.{Party, the_receiver, QueueCounts}
 use Rattle.queue_layouts.specs.declared.AnyQueue.{AnyQueue}
 use Rattle.ownership_runs.specs.{Loss, HasSlot, party_for, entry_counts, run_counts, SentBytes, nothing_sent}
 use Rattle.ownership_runs.specs.{sent_after, sent_from, or_else, if_differs, if_told}
-use Rattle.ownership_runs.specs.{byte_lost, first_byte, loss_by, loss_at, loss_from, position_told, first_loss, Loads, IsLossAt, IsLoss, IsFirstLoss}
+use Rattle.ownership_runs.specs.{byte_lost, first_byte, is_after, loss_by, loss_at, loss_since, loss_from}
+use Rattle.ownership_runs.specs.{position_told, first_loss, Loads, IsLossAt, IsLoss, IsFirstLoss}
 use Rattle.ownership_runs.proofs.Sending.{was-sent, still-sent}
 use Rattle.ownership_runs.proofs.Told.{last-told, told-last}
 
@@ -133,18 +134,27 @@ or-none : (a b : Option Loss) → or_else a b ≡ None → (a ≡ None) × (b �
 or-none None b none = (refl, none)
 or-none (Some l) b none = cc
 
-module _ (q : AnyQueue) (o : OpeningValue) where
+pub counted-loss : (since : Option ℕ) (place : ℕ) (x : Option Loss) (l : Loss) → (if is_after since place then x else None) ≡ Some l
+    → (is_after since place ≡ true) × (x ≡ Some l)
+counted-loss since place x l = by (is_after since place)
+  where
+    by : (b : Bool) → (if b then x else None) ≡ Some l → (b ≡ true) × (x ≡ Some l)
+    by true found = (refl, found)
+    by false none = cc
+
+module _ (since : Option ℕ) (q : AnyQueue) (o : OpeningValue) where
   pub loss-append : (front : List Entry) (c : QueueCounts) (s : SentBytes) (xs ys : List Entry)
-      → loss_from q o front c s (xs ++ ys)
-      ≡ or_else (loss_from q o front c s xs) (loss_from q o (front ++ xs) (run_counts q c xs) (sent_from q o front c s xs) ys)
-  loss-append front c s [] ys = ap (λ fs. loss_from q o fs c s ys) (sym (append-nil front))
+      → loss_from since q o front c s (xs ++ ys)
+      ≡ or_else (loss_from since q o front c s xs) (loss_from since q o (front ++ xs) (run_counts q c xs) (sent_from q o front c s xs) ys)
+  loss-append front c s [] ys = ap (λ fs. loss_from since q o fs c s ys) (sym (append-nil front))
   loss-append front c s (e ∷ xs) ys =
       let d : QueueCounts = entry_counts q c e in
       let t : SentBytes = sent_after q o front c s e in
-      ap (or_else (loss_at q (length front) c s e)) (loss-append (front ++ e ∷ []) d t xs ys
-      ∙ ap (λ fs. or_else (loss_from q o (front ++ e ∷ []) d t xs) (loss_from q o fs (run_counts q d xs) (sent_from q o (front ++ e ∷ []) d t xs) ys))
+      ap (or_else (loss_since since q (length front) c s e)) (loss-append (front ++ e ∷ []) d t xs ys
+      ∙ ap (λ fs. or_else (loss_from since q o (front ++ e ∷ []) d t xs)
+      (loss_from since q o fs (run_counts q d xs) (sent_from q o (front ++ e ∷ []) d t xs) ys))
       (append_assoc front (e ∷ []) xs))
-      ∙ or-assoc (loss_at q (length front) c s e) _ _
+      ∙ or-assoc (loss_since since q (length front) c s e) _ _
 
   -- the entry that is the first loss
   record IsFirstAt (front : List Entry) (c : QueueCounts) (s : SentBytes) (es : List Entry) (l : Loss) : Type 0 where
@@ -152,18 +162,19 @@ module _ (q : AnyQueue) (o : OpeningValue) where
     entry : Entry
     back : List Entry
     is : es ≡ before ++ entry ∷ back
-    none : loss_from q o front c s before ≡ None
-    found : loss_at q (length (front ++ before)) (run_counts q c before) (sent_from q o front c s before) entry ≡ Some l
+    none : loss_from since q o front c s before ≡ None
+    found : loss_since since q (length (front ++ before)) (run_counts q c before) (sent_from q o front c s before) entry ≡ Some l
 
-  find : (front : List Entry) (c : QueueCounts) (s : SentBytes) (es : List Entry) (l : Loss) → loss_from q o front c s es ≡ Some l → IsFirstAt front c s es l
+  find : (front : List Entry) (c : QueueCounts) (s : SentBytes) (es : List Entry) (l : Loss)
+      → loss_from since q o front c s es ≡ Some l → IsFirstAt front c s es l
   find front c s [] l some = cc
   find front c s (e ∷ es) l some =
-      by (λ more. find (front ++ e ∷ []) (entry_counts q c e) (sent_after q o front c s e) es l more) (loss_at q (length front) c s e) refl some
+      by (λ more. find (front ++ e ∷ []) (entry_counts q c e) (sent_after q o front c s e) es l more) (loss_since since q (length front) c s e) refl some
     where
-      by : (loss_from q o (front ++ e ∷ []) (entry_counts q c e) (sent_after q o front c s e) es ≡ Some l
+      by : (loss_from since q o (front ++ e ∷ []) (entry_counts q c e) (sent_after q o front c s e) es ≡ Some l
           → IsFirstAt (front ++ e ∷ []) (entry_counts q c e) (sent_after q o front c s e) es l)
-          → (x : Option Loss) → loss_at q (length front) c s e ≡ x
-          → or_else x (loss_from q o (front ++ e ∷ []) (entry_counts q c e) (sent_after q o front c s e) es) ≡ Some l → IsFirstAt front c s (e ∷ es) l
+          → (x : Option Loss) → loss_since since q (length front) c s e ≡ x
+          → or_else x (loss_from since q o (front ++ e ∷ []) (entry_counts q c e) (sent_after q o front c s e) es) ≡ Some l → IsFirstAt front c s (e ∷ es) l
       by rest None none more =
           let f = rest more in
           record {
@@ -171,8 +182,8 @@ module _ (q : AnyQueue) (o : OpeningValue) where
             entry = f.entry;
             back = f.back;
             is = ap (λ xs. e ∷ xs) f.is;
-            none = ap (λ x. or_else x (loss_from q o (front ++ e ∷ []) (entry_counts q c e) (sent_after q o front c s e) f.before)) none ∙ f.none;
-            found = subst (λ (xs : List Entry). loss_at q (length xs) (run_counts q (entry_counts q c e) f.before)
+            none = ap (λ x. or_else x (loss_from since q o (front ++ e ∷ []) (entry_counts q c e) (sent_after q o front c s e) f.before)) none ∙ f.none;
+            found = subst (λ (xs : List Entry). loss_since since q (length xs) (run_counts q (entry_counts q c e) f.before)
                 (sent_from q o (front ++ e ∷ []) (entry_counts q c e) (sent_after q o front c s e) f.before) f.entry ≡ Some l)
                 (append_assoc front (e ∷ []) f.before) f.found;
           }
@@ -182,7 +193,7 @@ module _ (q : AnyQueue) (o : OpeningValue) where
         back = es;
         is = refl;
         none = refl;
-        found = subst (λ (xs : List Entry). loss_at q (length xs) c s e ≡ Some l) (sym (append-nil front)) (here ∙ same);
+        found = subst (λ (xs : List Entry). loss_since since q (length xs) c s e ≡ Some l) (sym (append-nil front)) (here ∙ same);
       }
 
 -- ---- what it is
@@ -226,41 +237,47 @@ module _ (q : AnyQueue) (some : HasSlot q) (o : OpeningValue) (start : QueueCoun
         by (Some the_receiver) receives (exchange a old new) does at = of-bytes a 4 old l receives (inr (refl, (new, does))) at
         by t party x does at = cc
 
-  pub none-lost : (es : List Entry) (l : Loss) → first_loss q o start es ≡ None → IsLoss q o start es l → ⊥
-  none-lost es l none among =
-      let loss = among.loss_at in
-      let i : ℕ = l.byte - l.addr in
-      let x : l.addr + i ≡ l.byte = (let low = loss.byte.0 in omega (arith, low)) in
-      let less : i < l.width = (let low = loss.byte.0 in let high = loss.byte.1 in omega (arith, low, high)) in
-      let d : QueueCounts = run_counts q start among.front in
-      let sent : SentBytes = sent_from q o [] start nothing_sent among.front in
-      let was : sent l.position l.byte ≡ Some l.sent = still-sent q o l.hart loss.receives start among.front l.position l.byte l.sent loss.sent in
-      let told : position_told q d l.byte ≡ Some l.position =
-      told-last q some d l.byte l.position (record { of_record = loss.of_record; told = loss.told; last = loss.last }) in
-      let parts : or_else (first_loss q o start among.front) (loss_from q o among.front d sent (among.entry ∷ among.back)) ≡ None =
-      sym (loss-append q o [] start nothing_sent among.front (among.entry ∷ among.back)) ∙ ap (first_loss q o start) (sym among.is) ∙ none in
-      let here : loss_at q (length among.front) d sent among.entry ≡ None = (or-none _ _ (or-none _ _ parts).1).0 in
-      let receives : party_for q (hart_of among.entry) ≡ Some the_receiver = ap (party_for q) loss.hart ∙ loss.receives in
-      byte-lost q (length among.front) (hart_of among.entry) d sent l.addr l.width l.value i l.position l.sent
-      (ap (position_told q d) x ∙ told) (ap (sent l.position) x ∙ was) loss.differs
-      (no-byte (byte_lost q (length among.front) (hart_of among.entry) d sent l.addr l.width l.value) l.width i
-      (by (length among.front) (hart_of among.entry) d sent (access_of among.entry) l.addr l.width l.value loss.loads
-      (ap (λ t. loss_by q t (length among.front) (hart_of among.entry) d sent (access_of among.entry)) (sym receives) ∙ here)) less)
-    where
-      by : (place h : ℕ) (d : QueueCounts) (sent : SentBytes) (y : Access) (a w v : ℕ) → Loads y a w v → loss_by q (Some the_receiver) place h d sent y ≡ None
-          → first_byte (byte_lost q place h d sent a w v) w ≡ None
-      by place h d sent y a w v (inl does) at = subst (λ y. loss_by q (Some the_receiver) place h d sent y ≡ None) does at
-      by place h d sent y a w v (inr does) at = subst (λ n. first_byte (byte_lost q place h d sent a n v) n ≡ None) (sym does.0)
-          (subst (λ y. loss_by q (Some the_receiver) place h d sent y ≡ None) does.1.1 at)
+  module _ (since : Option ℕ) where
+    pub none-lost : (es : List Entry) (l : Loss) → first_loss since q o start es ≡ None → is_after since l.place ≡ true → IsLoss q o start es l → ⊥
+    none-lost es l none after among =
+        let loss = among.loss_at in
+        let i : ℕ = l.byte - l.addr in
+        let x : l.addr + i ≡ l.byte = (let low = loss.byte.0 in omega (arith, low)) in
+        let less : i < l.width = (let low = loss.byte.0 in let high = loss.byte.1 in omega (arith, low, high)) in
+        let d : QueueCounts = run_counts q start among.front in
+        let sent : SentBytes = sent_from q o [] start nothing_sent among.front in
+        let was : sent l.position l.byte ≡ Some l.sent = still-sent q o l.hart loss.receives start among.front l.position l.byte l.sent loss.sent in
+        let told : position_told q d l.byte ≡ Some l.position =
+        told-last q some d l.byte l.position (record { of_record = loss.of_record; told = loss.told; last = loss.last }) in
+        let parts : or_else (first_loss since q o start among.front) (loss_from since q o among.front d sent (among.entry ∷ among.back)) ≡ None =
+        sym (loss-append since q o [] start nothing_sent among.front (among.entry ∷ among.back)) ∙ ap (first_loss since q o start) (sym among.is) ∙ none in
+        let counts : is_after since (length among.front) ≡ true = ap (is_after since) (sym loss.place) ∙ after in
+        let here : loss_at q (length among.front) d sent among.entry ≡ None =
+        ap (λ b. if b then loss_at q (length among.front) d sent among.entry else None) (sym counts) ∙ (or-none _ _ (or-none _ _ parts).1).0 in
+        let receives : party_for q (hart_of among.entry) ≡ Some the_receiver = ap (party_for q) loss.hart ∙ loss.receives in
+        byte-lost q (length among.front) (hart_of among.entry) d sent l.addr l.width l.value i l.position l.sent
+        (ap (position_told q d) x ∙ told) (ap (sent l.position) x ∙ was) loss.differs
+        (no-byte (byte_lost q (length among.front) (hart_of among.entry) d sent l.addr l.width l.value) l.width i
+        (by (length among.front) (hart_of among.entry) d sent (access_of among.entry) l.addr l.width l.value loss.loads
+        (ap (λ t. loss_by q t (length among.front) (hart_of among.entry) d sent (access_of among.entry)) (sym receives) ∙ here)) less)
+      where
+        by : (place h : ℕ) (d : QueueCounts) (sent : SentBytes) (y : Access) (a w v : ℕ) → Loads y a w v → loss_by q (Some the_receiver) place h d sent y ≡ None
+            → first_byte (byte_lost q place h d sent a w v) w ≡ None
+        by place h d sent y a w v (inl does) at = subst (λ y. loss_by q (Some the_receiver) place h d sent y ≡ None) does at
+        by place h d sent y a w v (inr does) at = subst (λ n. first_byte (byte_lost q place h d sent a n v) n ≡ None) (sym does.0)
+            (subst (λ y. loss_by q (Some the_receiver) place h d sent y ≡ None) does.1.1 at)
 
-  pub is-first-loss : (es : List Entry) (l : Loss) → first_loss q o start es ≡ Some l → IsFirstLoss q o start es l
-  is-first-loss es l found =
-      let f = find q o [] start nothing_sent es l found in
-      record {
-        front = f.before;
-        entry = f.entry;
-        back = f.back;
-        is = f.is;
-        loss_at = is-loss f.before f.entry l f.found;
-        earlier = λ other among. none-lost f.before other f.none among;
-      }
+    pub is-first-loss : (es : List Entry) (l : Loss) → first_loss since q o start es ≡ Some l → IsFirstLoss since q o start es l
+    is-first-loss es l found =
+        let f = find since q o [] start nothing_sent es l found in
+        let counted = counted-loss since (length f.before) _ l f.found in
+        let loss = is-loss f.before f.entry l counted.1 in
+        record {
+          front = f.before;
+          entry = f.entry;
+          back = f.back;
+          is = f.is;
+          loss_at = loss;
+          after = ap (is_after since) loss.place ∙ counted.0;
+          earlier = λ other after among. none-lost f.before other f.none after among;
+        }

@@ -18,7 +18,8 @@ use Rattle.queue_layouts.specs.declared.AnyQueue.{AnyQueue}
 use Rattle.queue_layouts.specs.declared.AnyQueue.TheVariants.{Indexed, Tagged}
 use Rattle.queue_layouts.specs.Tagged.{slots_of}
 use Rattle.ownership_runs.specs.{Loss, HasSlot, party_for, access_counts, entry_counts, run_counts, SentBytes, nothing_sent, sent_by, sent_after, sent_from}
-use Rattle.ownership_runs.specs.{or_else, if_told, byte_lost, loss_by, loss_at, first_loss, position_told, stores_over, slots_from, slot_width, slots_in}
+use Rattle.ownership_runs.specs.{or_else, if_told, byte_lost, loss_by, loss_since, is_after, first_loss, position_told}
+use Rattle.ownership_runs.specs.{stores_over, slots_from, slot_width, slots_in}
 use Rattle.ownership_runs.specs.{is_record_byte, slot_number, position_from, IsRecordByte}
 use Rattle.ownership_runs.specs.declared.sent.SentByte.{SentByte}
 use Rattle.ownership_runs.specs.declared.judging_losses.LossNotes.{LossNotes}
@@ -63,7 +64,7 @@ idle : (q : AnyQueue) (x : Access) (c : QueueCounts) → access_counts q None x 
 idle (Indexed q) x c = refl
 idle (Tagged q) x c = refl
 
-module _ (M : ℕ) (q : AnyQueue) (some : HasSlot q) (o : OpeningValue) (start : QueueCounts) (es : List Entry) (e : Entry) where
+module _ (since : Option ℕ) (M : ℕ) (q : AnyQueue) (some : HasSlot q) (o : OpeningValue) (start : QueueCounts) (es : List Entry) (e : Entry) where
   abbrev c : QueueCounts
   c = run_counts q start es
 
@@ -73,8 +74,9 @@ module _ (M : ℕ) (q : AnyQueue) (some : HasSlot q) (o : OpeningValue) (start :
   abbrev s : SentBytes
   s = sent_from q o [] start nothing_sent es
 
-  loss-more : first_loss q o start (es ++ e ∷ []) ≡ or_else (first_loss q o start es) (loss_at q (length es) c s e)
-  loss-more = loss-append q o [] start nothing_sent es (e ∷ []) ∙ ap (or_else (first_loss q o start es)) (or-right (loss_at q (length es) c s e))
+  loss-more : first_loss since q o start (es ++ e ∷ []) ≡ or_else (first_loss since q o start es) (loss_since since q (length es) c s e)
+  loss-more = loss-append since q o [] start nothing_sent es (e ∷ [])
+      ∙ ap (or_else (first_loss since q o start es)) (or-right (loss_since since q (length es) c s e))
 
   counts-more : run_counts q start (es ++ e ∷ []) ≡ d
   counts-more = counts-append (entry_counts q) start es (e ∷ [])
@@ -96,8 +98,8 @@ module _ (M : ℕ) (q : AnyQueue) (some : HasSlot q) (o : OpeningValue) (start :
         by None none = refl
         by (Some k) told = ap (Rattle.ownership_runs.specs.Losses.if_differs place h a w v i k) (answers k (a + i) told memory)
 
-    same-loss : IsAccessWithin M (access_of e) → loss_at q (length es) c (answered c log) e ≡ loss_at q (length es) c s e
-    same-loss reach = by (party_for q (hart_of e)) (access_of e) reach
+    same-loss : IsAccessWithin M (access_of e) → loss_since since q (length es) c (answered c log) e ≡ loss_since since q (length es) c s e
+    same-loss reach = ap (λ (l : Option Loss). if is_after since (length es) then l else None) (by (party_for q (hart_of e)) (access_of e) reach)
       where
         by : (t : Option Party) (x : Access) → IsAccessWithin M x
             → loss_by q t (length es) (hart_of e) c (answered c log) x ≡ loss_by q t (length es) (hart_of e) c s x
@@ -164,30 +166,31 @@ module _ (M : ℕ) (q : AnyQueue) (some : HasSlot q) (o : OpeningValue) (start :
   -- ---- the notes
 
   -- a run that has a loss keeps its first one
-  pub still-lost : (l : Loss) (log later : List SentByte) (notes : LossNotes) → notes.found ≡ Some l → AreLossNotes M q o start es log notes
-      → AreLossNotes M q o start (es ++ e ∷ []) later notes
+  pub still-lost : (l : Loss) (log later : List SentByte) (notes : LossNotes) → notes.found ≡ Some l → AreLossNotes since M q o start es log notes
+      → AreLossNotes since M q o start (es ++ e ∷ []) later notes
   still-lost l log later notes lost are = record {
-    found = lost ∙ sym (loss-more ∙ ap (λ x. or_else x (loss_at q (length es) c s e)) (sym are.found ∙ lost));
+    found = lost ∙ sym (loss-more ∙ ap (λ x. or_else x (loss_since since q (length es) c s e)) (sym are.found ∙ lost));
     counts = λ none. absurd (cc);
     place = λ none. absurd (cc);
     sent = λ none. absurd (cc);
   }
 
-  pub next-notes : (log later : List SentByte) (notes new : LossNotes) → notes.found ≡ None → AreLossNotes M q o start es log notes
+  pub next-notes : (log later : List SentByte) (notes new : LossNotes) → notes.found ≡ None → AreLossNotes since M q o start es log notes
       → IsAccessWithin M (access_of e)
-      → new.found ≡ loss_at q notes.place notes.counts (answered notes.counts log) e → new.counts ≡ entry_counts q notes.counts e → new.place ≡ notes.place + 1
+      → new.found ≡ loss_since since q notes.place notes.counts (answered notes.counts log) e
+      → new.counts ≡ entry_counts q notes.counts e → new.place ≡ notes.place + 1
       → ((k x : ℕ) → logged later k x ≡ logged_by M q (party_for q (hart_of e)) notes.counts.published new.counts.published
       (read_byte o (es ++ e ∷ []) (hart_of e)) (access_of e) (logged log) k x)
-      → AreLossNotes M q o start (es ++ e ∷ []) later new
+      → AreLossNotes since M q o start (es ++ e ∷ []) later new
   next-notes log later notes new none are reach found counts place becomes =
       let at : notes.counts ≡ c = are.counts none in
       let is : IsLogOf M q o start es log = are.sent none in
       let now : new.counts ≡ d = counts ∙ ap (λ (n : QueueCounts). entry_counts q n e) at in
-      let here : new.found ≡ loss_at q (length es) c s e =
-      found ∙ ap (λ (n : ℕ). loss_at q n notes.counts (answered notes.counts log) e) (are.place none)
-      ∙ ap (λ (n : QueueCounts). loss_at q (length es) n (answered n log) e) at ∙ same-loss log is reach in
+      let here : new.found ≡ loss_since since q (length es) c s e =
+      found ∙ ap (λ (n : ℕ). loss_since since q n notes.counts (answered notes.counts log) e) (are.place none)
+      ∙ ap (λ (n : QueueCounts). loss_since since q (length es) n (answered n log) e) at ∙ same-loss log is reach in
       record {
-        found = here ∙ sym (loss-more ∙ ap (λ x. or_else x (loss_at q (length es) c s e)) (sym are.found ∙ none));
+        found = here ∙ sym (loss-more ∙ ap (λ x. or_else x (loss_since since q (length es) c s e)) (sym are.found ∙ none));
         counts = λ _. now ∙ sym counts-more;
         place = λ _. (let far = length-append es (e ∷ []) in let before = are.place none in omega (arith, far, before, place));
         sent = λ _. next-log log is later (λ k x. becomes k x

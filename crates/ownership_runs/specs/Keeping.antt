@@ -82,7 +82,7 @@ moves_on (Tagged q) (Some p) c w = hands_on (slots_of q) p c w
 abbrev pub keeps_store : AnyQueue → Option Party → QueueCounts → Write → Bool
 keeps_store q p c w = moves_on q p c w || fills q (owned_by q p c) w.addr w.width
 
--- ---- a store of a hart that owned every slot
+-- ---- a store of a hart that owned many positions
 
 abbrev pub slots_in : AnyQueue → ℕ
 slots_in (Indexed q) = q.size
@@ -93,7 +93,8 @@ abbrev pub owning_all : AnyQueue → Option Party → QueueCounts → QueueCount
 owning_all q None c = c
 owning_all q (Some p) c = with_known p (count p c + slots_in q) c
 
--- the protocol has such a store of the hart then: the hart might make it if it owned every slot
+-- the protocol has such a store of the hart then: it might make it if it owned as many positions as there are slots, and a sender as many more as
+-- may be in use
 abbrev pub is_described : AnyQueue → Option Party → QueueCounts → Write → Bool
 is_described q p c w = keeps_store q p (owning_all q p c) w
 

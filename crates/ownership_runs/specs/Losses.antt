@@ -1,6 +1,6 @@
 -- A record that was lost: of a position of which it was told, the receiver loads something else than what the sender's hart read there just
 -- after it published that position.
-use Rattle.std.specs.Prelude.{ℕ, zero, suc, ◌≡◌, ◌≢◌, ◌⊎◌, ◌+◌, ◌-◌, ◌*◌, ◌/◌, ◌<◌, ◌≤◌, ◌==◌, ◌&&◌, not, nat_le, nat_lt, if◌then◌else◌, Bool, false}
+use Rattle.std.specs.Prelude.{ℕ, zero, suc, ◌≡◌, ◌≢◌, ◌⊎◌, ◌+◌, ◌-◌, ◌*◌, ◌/◌, ◌<◌, ◌≤◌, ◌==◌, ◌&&◌, not, nat_le, nat_lt, if◌then◌else◌, Bool, true, false}
 use Rattle.std.specs.Prelude.{Option, None, Some, List, [], ◌∷◌, ◌++◌, length}
 use Rattle.std.specs.Int.{byte_at}
 use Rattle.memory.specs.Writes.{write, covers}
@@ -117,13 +117,21 @@ loss_by q t place h c s x = None
 abbrev pub loss_at : AnyQueue → (place : ℕ) → QueueCounts → SentBytes → Entry → Option Loss
 loss_at q place c s e = loss_by q (party_for q (hart_of e)) place (hart_of e) c s (access_of e)
 
-abbrev pub loss_from : AnyQueue → OpeningValue → (front : List Entry) → QueueCounts → SentBytes → List Entry → Option Loss
-loss_from q o front c s [] = None
-loss_from q o front c s (e ∷ es) = or_else (loss_at q (length front) c s e)
-    (loss_from q o (front ++ e ∷ []) (entry_counts q c e) (sent_after q o front c s e) es)
+-- it comes after the entry at this place, if there is one
+abbrev pub is_after : (since : Option ℕ) → (place : ℕ) → Bool
+is_after None place = true
+is_after (Some n) place = nat_lt n place
 
-abbrev pub first_loss : AnyQueue → OpeningValue → (start : QueueCounts) → List Entry → Option Loss
-first_loss q o start es = loss_from q o [] start nothing_sent es
+abbrev pub loss_since : (since : Option ℕ) → AnyQueue → (place : ℕ) → QueueCounts → SentBytes → Entry → Option Loss
+loss_since since q place c s e = if is_after since place then loss_at q place c s e else None
+
+abbrev pub loss_from : (since : Option ℕ) → AnyQueue → OpeningValue → (front : List Entry) → QueueCounts → SentBytes → List Entry → Option Loss
+loss_from since q o front c s [] = None
+loss_from since q o front c s (e ∷ es) = or_else (loss_since since q (length front) c s e)
+    (loss_from since q o (front ++ e ∷ []) (entry_counts q c e) (sent_after q o front c s e) es)
+
+abbrev pub first_loss : (since : Option ℕ) → AnyQueue → OpeningValue → (start : QueueCounts) → List Entry → Option Loss
+first_loss since q o start es = loss_from since q o [] start nothing_sent es
 
 -- ---- what a loss is
 
@@ -170,11 +178,12 @@ pub record IsLoss (q : AnyQueue) (o : OpeningValue) (start : QueueCounts) (es : 
   pub is : es ≡ front ++ entry ∷ back
   pub loss_at : IsLossAt q o start front entry loss
 
--- and none before it is one
-pub record IsFirstLoss (q : AnyQueue) (o : OpeningValue) (start : QueueCounts) (es : List Entry) (loss : Loss) : Type 0 where
+-- it comes after the entry at this place, if there is one, and between them there is none
+pub record IsFirstLoss (since : Option ℕ) (q : AnyQueue) (o : OpeningValue) (start : QueueCounts) (es : List Entry) (loss : Loss) : Type 0 where
   pub front : List Entry
   pub entry : Entry
   pub back : List Entry
   pub is : es ≡ front ++ entry ∷ back
   pub loss_at : IsLossAt q o start front entry loss
-  pub earlier : (other : Loss) → IsLoss q o start front other → ⊥
+  pub after : is_after since loss.place ≡ true
+  pub earlier : (other : Loss) → is_after since other.place ≡ true → IsLoss q o start front other → ⊥

@@ -1,6 +1,7 @@
 -- Runs of lists of events, and a queue's protocol.
-use Rattle.std.specs.Prelude.{ℕ, ◌≡◌, ◌-◌, min, List, None, Some}
+use Rattle.std.specs.Prelude.{ℕ, ◌≡◌, ◌-◌, min, if◌then◌else◌, Bool, true, false, List, Option, None, Some}
 use Rattle.step_machine.specs.declared.events.Event.{Event}
+use Rattle.step_machine.specs.declared.events.Entry.{Entry}
 use Rattle.step_machine.specs.History.{OpeningValue, History}
 use Rattle.step_machine.specs.Runs.{Run}
 use Rattle.queue_parties.specs.Parties.{QueueCounts}
@@ -37,17 +38,34 @@ IsOfOneKind violation other = (violation.hart ≡ other.hart) × (violation.desc
 
 -- ---- what is lost
 
--- the run of these events loses nothing of a queue's records
-pub record LosesNothing (B M : ℕ) (o : OpeningValue) (q : AnyQueue) (start : QueueCounts) (events : List Event) : Type 0 where
-  pub history : History
-  pub run : Run B M o events history
-  pub none : first_loss q o start history.entries ≡ None
+-- after a first violation that is described
+abbrev pub loss_after : AnyQueue → OpeningValue → (start : QueueCounts) → List Entry → Option Violation → Option Loss
+loss_after q o start es None = None
+loss_after q o start es (Some b) = if b.described then first_loss (Some b.place) q o start es else None
 
--- its first loss is this one
-pub record HasLoss (B M : ℕ) (o : OpeningValue) (q : AnyQueue) (start : QueueCounts) (events : List Event) (loss : Loss) : Type 0 where
+-- a run's first loss, or its first one after such a violation
+abbrev pub judged_loss : (broken : Bool) → AnyQueue → OpeningValue → (start : QueueCounts) → List Entry → Option Loss
+judged_loss false q o start es = first_loss None q o start es
+judged_loss true q o start es = loss_after q o start es (first_ownership_violation q start es)
+
+-- the run of these events loses nothing of a queue's records, or nothing after such a violation
+pub record LosesNothing (B M : ℕ) (o : OpeningValue) (q : AnyQueue) (start : QueueCounts) (broken : Bool) (events : List Event) : Type 0 where
   pub history : History
   pub run : Run B M o events history
-  pub first : first_loss q o start history.entries ≡ Some loss
+  pub none : judged_loss broken q o start history.entries ≡ None
+
+-- the first that it loses so is this
+pub record HasLoss (B M : ℕ) (o : OpeningValue) (q : AnyQueue) (start : QueueCounts) (broken : Bool) (events : List Event) (loss : Loss) : Type 0 where
+  pub history : History
+  pub run : Run B M o events history
+  pub first : judged_loss broken q o start history.entries ≡ Some loss
+
+-- the first violation of these entries is described, and after it this is the first loss
+pub record BreaksAndLoses (o : OpeningValue) (q : AnyQueue) (start : QueueCounts) (es : List Entry) (loss : Loss) : Type 0 where
+  pub violation : Violation
+  pub first : first_ownership_violation q start es ≡ Some violation
+  pub described : violation.described ≡ true
+  pub loses : first_loss (Some violation.place) q o start es ≡ Some loss
 
 -- one hart's
 abbrev pub IsLossOfOneKind : (loss other : Loss) → Type 0

@@ -3,3 +3,4 @@ pub mod Bounds
 pub mod Noting
 pub mod Logging
 pub mod LossNoting
+pub mod Stepping

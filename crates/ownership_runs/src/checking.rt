@@ -74,8 +74,9 @@ pub fn check_runs<
 
 /// Makes the runs of a sample from an opening, as [`check_runs`] does, and judges each by what is lost of this queue's records.
 ///
-/// If nothing is, it says so. Otherwise it is a part of the events of the first run with a loss, from which events were left out until
-/// none could go without the first loss being another hart's or none, and the first loss of the part's run. The answer depends neither
+/// Where `broken` is given, only what a run loses after its first violation, if that is described. If nothing is lost, it says so. Otherwise it
+/// is a part of the events of the first run with a loss, from which events were left out until none could go without the first loss being
+/// another hart's or none, and the first loss of the part's run. The answer depends neither
 /// on the jobs nor on the progress.
 pub fn check_losses<
     const B: usize,
@@ -89,6 +90,7 @@ pub fn check_losses<
     opening: &Opening,
     queue: &AnyQueue,
     start: Counts,
+    broken: bool,
     sample: &Sample<'_, G>,
     progress: &mut P,
 ) -> Result<Told<(), Loss>, AllocError>
@@ -98,7 +100,7 @@ pub fn check_losses<
     requires size { M ≤ 65536 }
     requires fits { FitsIn M opening.now }
     requires some_slot { HasSlot queue.now }
-    ensures { IfOk result (λ told. IsTold (LosesNothing B M opening.now queue.now start) (HasLoss B M opening.now queue.now start) IsLossOfOneKind
+    ensures { IfOk result (λ told. IsTold (LosesNothing B M opening.now queue.now start broken) (HasLoss B M opening.now queue.now start broken) IsLossOfOneKind
         (λ all nothing. CountsNothing)
         (schedule_in (runs_of B M G.Rng.stream sample.now) (length opening.now.harts)) sample.now.runs.number told) }
 {
@@ -106,6 +108,7 @@ pub fn check_losses<
         opening,
         queue,
         start,
+        broken,
     };
     let (draw, runs) = (sample.draw, sample.runs);
     let after = sample.generator.ahead(runs.skip, runs.length)?;

@@ -86,7 +86,7 @@ pub(crate) fn after_load(
 }
 
 /// Whether a write is to the party's own index, whole.
-fn is_index_store(queue: &Queue, party: Party, write: Write) -> bool
+pub(crate) fn is_index_store(queue: &Queue, party: Party, write: Write) -> bool
     ensures { result ≡ is_index_store queue.now (the_party party) write }
 {
     write.addr == index(queue, party) && write.width == queue.index_width

@@ -7,7 +7,7 @@ ghost use Rattle.step_machine.specs.Entries.{hart_of};
 ghost use Rattle.step_machine.specs.Runs.{Run};
 ghost use Rattle.queue_parties.specs.Parties.{QueueCounts};
 ghost use Rattle.ownership_runs.specs.Protocols.{HasSlot};
-ghost use Rattle.ownership_runs.specs.Losses.{last_of_slot, position_told, byte_lost, first_byte, loss_at, first_loss};
+ghost use Rattle.ownership_runs.specs.Losses.{last_of_slot, position_told, byte_lost, first_byte, is_after, loss_at, loss_since, first_loss};
 ghost use Rattle.ownership_runs.specs.inner.Bounds.{ROOM, AreCountsWithin};
 ghost use Rattle.ownership_runs.specs.inner.Logging.{answered, IsAccessWithin};
 ghost use Rattle.ownership_runs.specs.inner.LossNoting.{AreLossNotes, AreLossNotesWithin, HasHappened};
@@ -153,7 +153,37 @@ fn loss_at(
     first_lost(queue, place, hart, counts, log, load)
 }
 
-/// What is noted of a run: its first loss, if there is one. While there is none, the counts, and how many entries there were.
+/// Whether a place comes after the given one, if there is one.
+fn is_after(since: Option<usize>, place: usize) -> bool
+    ensures { result ≡ is_after since place }
+{
+    match since {
+        None => true,
+        Some(first) => first < place,
+    }
+}
+
+/// The loss that an entry is, if it counts.
+fn loss_since(
+    since: Option<usize>,
+    queue: &AnyQueue,
+    place: usize,
+    counts: RunCounts,
+    log: &[SentByte],
+    entry: Entry,
+) -> Option<Loss>
+    requires counts { AreCountsWithin ROOM ROOM counts }
+    requires within { IsAccessWithin (2 ^ 30) (access_of entry) }
+    ensures { result ≡ loss_since since queue.now place counts (answered counts log.now) entry }
+{
+    if is_after(since, place) {
+        loss_at(queue, place, counts, log, entry)
+    } else {
+        None
+    }
+}
+
+/// What is noted of a run: its first loss that counts, if there is one. While there is none, the counts, and how many entries there were.
 #[derive(Clone, Copy)]
 pub(crate) struct LossNotes {
     pub(crate) found: Option<Loss>,
@@ -177,6 +207,7 @@ fn no_loss_noted(start: Counts) -> LossNotes
 
 /// Takes in an entry of a run that has lost nothing before. The machine stands after it.
 fn note_next<const B: usize, const M: usize>(
+    since: Option<usize>,
     queue: &AnyQueue,
     machine: &Machine<B, M>,
     notes: LossNotes,
@@ -191,11 +222,11 @@ fn note_next<const B: usize, const M: usize>(
     requires place { notes.place < 2 ^ 64 - 1 }
     requires none { notes.found ≡ None }
     ensures noted { IfOk result (λ new. (start : QueueCounts) (es : List Entry) → machine.now.history.entries ≡ es ++ entry ∷ []
-        → AreLossNotes M queue.now machine.now.history.opening start es log.old.items notes
-        → AreLossNotes M queue.now machine.now.history.opening start machine.now.history.entries log.new.items new) }
+        → AreLossNotes since M queue.now machine.now.history.opening start es log.old.items notes
+        → AreLossNotes since M queue.now machine.now.history.opening start machine.now.history.entries log.new.items new) }
     ensures within { IfOk result (λ new. (i : ℕ) → AreLossNotesWithin i notes → AreLossNotesWithin (i + 1) new) }
 {
-    let found = loss_at(queue, notes.place, notes.counts, log, entry);
+    let found = loss_since(since, queue, notes.place, notes.counts, log, entry);
     let counts = after_entry(queue, notes.counts, entry);
     log_entry(queue, machine, notes.counts, counts, entry, log)?;
     Ok(LossNotes {
@@ -207,6 +238,7 @@ fn note_next<const B: usize, const M: usize>(
 
 /// Takes in an entry, after which the machine stands.
 fn note_entry<const B: usize, const M: usize>(
+    since: Option<usize>,
     queue: &AnyQueue,
     machine: &Machine<B, M>,
     notes: LossNotes,
@@ -220,18 +252,19 @@ fn note_entry<const B: usize, const M: usize>(
     requires counts { AreCountsWithin ROOM ROOM notes.counts }
     requires place { notes.place < 2 ^ 64 - 1 }
     ensures noted { IfOk result (λ new. (start : QueueCounts) (es : List Entry) → machine.now.history.entries ≡ es ++ entry ∷ []
-        → AreLossNotes M queue.now machine.now.history.opening start es log.old.items notes
-        → AreLossNotes M queue.now machine.now.history.opening start machine.now.history.entries log.new.items new) }
+        → AreLossNotes since M queue.now machine.now.history.opening start es log.old.items notes
+        → AreLossNotes since M queue.now machine.now.history.opening start machine.now.history.entries log.new.items new) }
     ensures within { IfOk result (λ new. (i : ℕ) → AreLossNotesWithin i notes → AreLossNotesWithin (i + 1) new) }
 {
     match notes.found {
         Some(_) => Ok(notes),
-        None => note_next(queue, machine, notes, entry, log),
+        None => note_next(since, queue, machine, notes, entry, log),
     }
 }
 
 /// Lets an event happen, and takes in what it did.
 fn note_event<const B: usize, const M: usize>(
+    since: Option<usize>,
     queue: &AnyQueue,
     machine: &mut Machine<B, M>,
     notes: LossNotes,
@@ -245,12 +278,12 @@ fn note_event<const B: usize, const M: usize>(
     ensures happened { OnOk result (HasHappened B M event machine.old.history machine.new.history) }
     ensures opening { machine.new.history.opening ≡ machine.old.history.opening }
     ensures noted { IfOk result (λ new. (start : QueueCounts)
-        → AreLossNotes M queue.now machine.old.history.opening start machine.old.history.entries log.old.items notes
-        → AreLossNotes M queue.now machine.old.history.opening start machine.new.history.entries log.new.items new) }
+        → AreLossNotes since M queue.now machine.old.history.opening start machine.old.history.entries log.old.items notes
+        → AreLossNotes since M queue.now machine.old.history.opening start machine.new.history.entries log.new.items new) }
     ensures within { IfOk result (λ new. (i : ℕ) → AreLossNotesWithin i notes → AreLossNotesWithin (i + 1) new) }
 {
     match machine.step(event)? {
-        Outcome::Did(entry) => note_entry(queue, machine, notes, entry, log),
+        Outcome::Did(entry) => note_entry(since, queue, machine, notes, entry, log),
         Outcome::Waited => Ok(notes),
         Outcome::NothingToLand => Ok(notes),
         Outcome::Over => Ok(notes),
@@ -258,8 +291,10 @@ fn note_event<const B: usize, const M: usize>(
     }
 }
 
-/// The first loss of the run of these events. The machine ends at its end, whatever it did before, and the log has what was sent.
+/// The first loss of the run of these events after the entry at a place, if that is given. The machine ends at its end, whatever it did before,
+/// and the log has what was sent.
 pub(crate) fn first_loss<const B: usize, const M: usize>(
+    since: Option<usize>,
     queue: &AnyQueue,
     start: Counts,
     machine: &mut Machine<B, M>,
@@ -269,14 +304,14 @@ pub(crate) fn first_loss<const B: usize, const M: usize>(
     requires size { M ≤ 65536 }
     requires some_slot { HasSlot queue.now }
     ensures run { OnOk result (Run B M machine.old.history.opening events.now machine.new.history) }
-    ensures found { IfOk result (λ found. found ≡ first_loss queue.now machine.old.history.opening start machine.new.history.entries) }
+    ensures found { IfOk result (λ found. found ≡ first_loss since queue.now machine.old.history.opening start machine.new.history.entries) }
     ensures opening { machine.new.history.opening ≡ machine.old.history.opening }
 {
     machine.restart();
     log.clear();
     let mut notes = no_loss_noted(start);
     for event in events {
-        notes = note_event(queue, machine, notes, *event, log)?;
+        notes = note_event(since, queue, machine, notes, *event, log)?;
     }
     Ok(notes.found)
 }

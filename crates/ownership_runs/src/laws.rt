@@ -1,6 +1,6 @@
 //! Laws of what is decided.
 
-ghost use Rattle.std.specs.Prelude.{◌≡◌, ◌≤◌, ◌<◌, ℕ, List, [], ◌∷◌, ◌++◌, None, Some, true, false};
+ghost use Rattle.std.specs.Prelude.{◌≡◌, ◌≤◌, ◌<◌, ℕ, map, List, [], ◌∷◌, ◌++◌, Option, None, Some, Bool, true, false};
 ghost use Rattle.step_machine.specs.declared.events.Entry.{Entry};
 ghost use Rattle.step_machine.specs.declared.events.Event.{Event};
 ghost use Rattle.step_machine.specs.History.{OpeningValue, History};
@@ -12,10 +12,12 @@ ghost use Rattle.ownership_runs.specs.Protocols.{run_counts, Keeps, HasSlot, IsA
 ghost use Rattle.ownership_runs.specs.Keeping.{keeps_entry};
 ghost use Rattle.ownership_runs.specs.Violations.{IsFirstViolation, IsForeign, first_ownership_violation};
 ghost use Rattle.ownership_runs.specs.declared.losses.Loss.{Loss};
-ghost use Rattle.ownership_runs.specs.Losses.{IsLossAt, IsLoss, IsFirstLoss, first_loss};
+ghost use Rattle.ownership_runs.specs.Losses.{IsLossAt, IsLoss, IsFirstLoss, first_loss, is_after};
 ghost use Rattle.judged_runs.specs.Telling.{IsFlawTold};
-ghost use Rattle.ownership_runs.specs.Runs.{HasKeptRun, HasBrokenRun, IsOfOneKind, LosesNothing, HasLoss, IsLossOfOneKind};
+ghost use Rattle.ownership_runs.specs.Runs.{HasKeptRun, BreaksAndLoses, HasBrokenRun, IsOfOneKind, LosesNothing, HasLoss, IsLossOfOneKind};
 ghost use Rattle.ownership_runs.specs.Ends.{EndsInLoss, EndsInViolation};
+ghost use Rattle.ownership_runs.specs.declared.steps.Step.{Step};
+ghost use Rattle.ownership_runs.specs.Steps.{AreSteps};
 
 /// Of a queue of either kind with a slot. It does nothing.
 ///
@@ -42,6 +44,7 @@ pub fn laws_of_violations()
 /// - `apart`: none both keeps it and breaks it.
 /// - `ends`: the events that are returned with a violation end with the event that makes it.
 /// - `lost_or_not`: none both has a loss and has none.
+/// - `both`: the steps of one that loses a record after a first violation that is described have these.
 /// - `loses`: the events that are returned with a loss of a queue with a slot end with the event that loads it.
 pub fn laws_of_judged_runs()
     ensures follows { (B M : ℕ) (o : OpeningValue) (q : AnyQueue) (start : QueueCounts) (events : List Event) (t : History) → IsAnyQueue q
@@ -50,22 +53,25 @@ pub fn laws_of_judged_runs()
         → HasKeptRun B M o q start events → HasBrokenRun B M o q start events b → ⊥ }
     ensures ends { (B M : ℕ) (o : OpeningValue) (q : AnyQueue) (start : QueueCounts) (schedule : ℕ → List Event) (runs : ℕ) (part : List Event) (b : Violation)
         → IsFlawTold (HasKeptRun B M o q start) (HasBrokenRun B M o q start) IsOfOneKind schedule runs part b → EndsInViolation B M o q start part b }
-    ensures lost_or_not { (B M : ℕ) (o : OpeningValue) (q : AnyQueue) (start : QueueCounts) (events : List Event) (l : Loss)
-        → LosesNothing B M o q start events → HasLoss B M o q start events l → ⊥ }
-    ensures loses { (B M : ℕ) (o : OpeningValue) (q : AnyQueue) (start : QueueCounts) (schedule : ℕ → List Event) (runs : ℕ) (part : List Event) (l : Loss)
-        → HasSlot q → IsFlawTold (LosesNothing B M o q start) (HasLoss B M o q start) IsLossOfOneKind schedule runs part l
-        → EndsInLoss B M o q start part l }
+    ensures lost_or_not { (B M : ℕ) (o : OpeningValue) (q : AnyQueue) (start : QueueCounts) (broken : Bool) (events : List Event) (l : Loss)
+        → LosesNothing B M o q start broken events → HasLoss B M o q start broken events l → ⊥ }
+    ensures both { (B M : ℕ) (o : OpeningValue) (q : AnyQueue) (start : QueueCounts) (events : List Event) (l : Loss) (steps : List Step)
+        → HasLoss B M o q start true events l → AreSteps B M o events steps → BreaksAndLoses o q start (map (λ (s : Step). s.entry) steps) l }
+    ensures loses { (B M : ℕ) (o : OpeningValue) (q : AnyQueue) (start : QueueCounts) (broken : Bool) (schedule : ℕ → List Event) (runs : ℕ)
+        (part : List Event) (l : Loss) → HasSlot q
+        → IsFlawTold (LosesNothing B M o q start broken) (HasLoss B M o q start broken) IsLossOfOneKind schedule runs part l
+        → EndsInLoss B M o q start broken part l }
 {}
 
 /// Of a queue of either kind with a slot. It does nothing.
 ///
-/// - `lost` and `none`: an entry of a run is a loss exactly where there is a first one, which is it.
+/// - `lost` and `none`: an entry of a run, after one of a place if that is given, is a loss exactly where there is a first one, which is it.
 /// - `kept`: in a run that keeps the protocol from where the queue is at rest, the receiver has handed the lost position back already.
 pub fn laws_of_losses()
-    ensures lost { (q : AnyQueue) (o : OpeningValue) (c : QueueCounts) (es : List Entry) (l : Loss) → HasSlot q → first_loss q o c es ≡ Some l
-        → IsFirstLoss q o c es l }
-    ensures none { (q : AnyQueue) (o : OpeningValue) (c : QueueCounts) (es : List Entry) (l : Loss) → HasSlot q → first_loss q o c es ≡ None
-        → IsLoss q o c es l → ⊥ }
+    ensures lost { (since : Option ℕ) (q : AnyQueue) (o : OpeningValue) (c : QueueCounts) (es : List Entry) (l : Loss) → HasSlot q
+        → first_loss since q o c es ≡ Some l → IsFirstLoss since q o c es l }
+    ensures none { (since : Option ℕ) (q : AnyQueue) (o : OpeningValue) (c : QueueCounts) (es : List Entry) (l : Loss) → HasSlot q
+        → first_loss since q o c es ≡ None → is_after since l.place ≡ true → IsLoss q o c es l → ⊥ }
     ensures kept { (B : ℕ) (q : AnyQueue) (o : OpeningValue) (c : QueueCounts) (front : List Entry) (e : Entry) (back : List Entry) (l : Loss)
         → Follows B q c o [] (front ++ e ∷ back) → IsLossAt q o c front e l → l.position < (run_counts q c front).taken }
 {}

@@ -28,10 +28,11 @@ pub mod loss_runs;
 pub mod losses;
 mod numbers;
 mod parties;
-mod protocols;
+pub mod protocols;
 pub mod runs;
 mod sent;
-mod stores;
+pub mod steps;
+pub mod stores;
 mod tagged_moves;
 pub mod violations;
 
@@ -40,5 +41,10 @@ pub use counts::Counts;
 pub use deciding::first_violation;
 pub use laws::{laws_of_judged_runs, laws_of_losses, laws_of_violations};
 pub use losses::Loss;
+pub use protocols::party_for;
 pub use runs::Moved;
+pub use steps::{
+    Done, Recalled, Step, entries_of, handed_back, pc_at, recall, steps_before, steps_of,
+};
+pub use stores::slots_in;
 pub use violations::{Owned, Violation};

@@ -1,11 +1,14 @@
 //! The runs of an opening, each judged by its first loss.
 
-ghost use Rattle.std.specs.Prelude.{◌≡◌, ◌≤◌};
+ghost use Rattle.std.specs.Prelude.{◌≡◌, ◌≤◌, IfOk, OnOk};
 ghost use Rattle.step_machine.specs.History.{FitsIn};
+ghost use Rattle.step_machine.specs.Runs.{Run};
 ghost use Rattle.ownership_runs.specs.Keeping.{slots_in};
-ghost use Rattle.ownership_runs.specs.Runs.{LosesNothing, HasLoss, IsLossOfOneKind, CountsNothing};
+ghost use Rattle.ownership_runs.specs.Protocols.{HasSlot};
+ghost use Rattle.ownership_runs.specs.Runs.{LosesNothing, HasLoss, IsLossOfOneKind, CountsNothing, judged_loss};
 
 use crate::counts::Counts;
+use crate::judging::judge;
 use crate::judging_losses::first_loss;
 use crate::losses::Loss;
 use crate::sent::SentByte;
@@ -13,6 +16,37 @@ use judged_runs::Judge;
 use queue_layouts::AnyQueue;
 use std::alloc::{AllocError, Global};
 use step_machine::{Event, Machine, Opening};
+
+/// The loss that is judged of the run of these events: its first one, or the first one after a violation that is described. The machine ends at
+/// its end, whatever it did before.
+fn judged_loss<const B: usize, const M: usize>(
+    queue: &AnyQueue,
+    start: Counts,
+    broken: bool,
+    machine: &mut Machine<B, M>,
+    log: &mut Vec<SentByte>,
+    events: &[Event],
+) -> Result<Option<Loss>, AllocError>
+    requires size { M ≤ 65536 }
+    requires some_slot { HasSlot queue.now }
+    ensures run { OnOk result (Run B M machine.old.history.opening events.now machine.new.history) }
+    ensures found { IfOk result (λ found. found ≡ judged_loss broken queue.now machine.old.history.opening start machine.new.history.entries) }
+    ensures opening { machine.new.history.opening ≡ machine.old.history.opening }
+{
+    if !broken {
+        return first_loss(None, queue, start, machine, log, events);
+    }
+    match judge(queue, start, machine, events)?.found {
+        None => Ok(None),
+        Some(violation) => {
+            if violation.described {
+                first_loss(Some(violation.place), queue, start, machine, log, events)
+            } else {
+                Ok(None)
+            }
+        }
+    }
+}
 
 /// What runs are judged on: a machine of the opening, and the log of what was sent in the last run.
 #[derive(Drop)]
@@ -28,6 +62,8 @@ pub struct LossJudge<'a, const B: usize, const M: usize> {
     pub opening: &'a Opening,
     pub queue: &'a AnyQueue,
     pub start: Counts,
+    /// Whether only what is lost after a first violation that is described counts.
+    pub broken: bool,
     ghost can: { (1 ≤ B) × (B ≤ 64) × (1 ≤ M) × (M ≤ 65536) × FitsIn M opening.now × (1 ≤ slots_in queue.now) },
 }
 
@@ -46,9 +82,9 @@ impl<'a, const B: usize, const M: usize> Judge for LossJudge<'a, B, M> {
 
     ghost noted = { λ it events bench. CountsNothing };
 
-    ghost is_good = { λ it events. LosesNothing B M it.opening.now it.queue.now it.start events };
+    ghost is_good = { λ it events. LosesNothing B M it.opening.now it.queue.now it.start it.broken events };
 
-    ghost has = { λ it events loss. HasLoss B M it.opening.now it.queue.now it.start events loss };
+    ghost has = { λ it events loss. HasLoss B M it.opening.now it.queue.now it.start it.broken events loss };
 
     ghost alike = { λ it loss other. IsLossOfOneKind loss other };
 
@@ -72,9 +108,10 @@ impl<'a, const B: usize, const M: usize> Judge for LossJudge<'a, B, M> {
         bench: &mut LossBench<B, M>,
         events: &[Event],
     ) -> Result<Option<Loss>, AllocError> {
-        first_loss(
+        judged_loss(
             self.queue,
             self.start,
+            self.broken,
             &mut bench.machine,
             &mut bench.log,
             events,

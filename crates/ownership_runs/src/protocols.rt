@@ -14,7 +14,7 @@ use queue_layouts::{AnyQueue, Party, party_among};
 use step_machine::Entry;
 
 /// Which party a hart is.
-pub(crate) fn party_for(queue: &AnyQueue, hart: u32) -> Option<Party>
+pub fn party_for(queue: &AnyQueue, hart: u32) -> Option<Party>
     ensures { option_map the_party result ≡ party_for queue.now hart }
 {
     match queue {

@@ -166,7 +166,7 @@ pub(crate) fn keeps_store(
 }
 
 /// How many slots there are.
-pub(crate) fn slots_in(queue: &AnyQueue) -> u32
+pub fn slots_in(queue: &AnyQueue) -> u32
     ensures { result ≡ slots_in queue.now }
 {
     match queue {
@@ -175,7 +175,7 @@ pub(crate) fn slots_in(queue: &AnyQueue) -> u32
     }
 }
 
-/// The counts of a party that knows the other to have come so far that it owns every slot.
+/// The counts of a party that knows of as many more of the other's positions as there are slots.
 fn owning_all(queue: &AnyQueue, party: Option<Party>, counts: RunCounts) -> RunCounts
     requires { AreCountsWithin ROOM (ROOM + STEP) counts }
     ensures value { result ≡ owning_all queue.now (option_map the_party party) counts }
@@ -186,7 +186,7 @@ fn owning_all(queue: &AnyQueue, party: Option<Party>, counts: RunCounts) -> RunC
     with_known(party, end, counts)
 }
 
-/// Whether a hart might make a store if it owned every slot.
+/// Whether a hart might make a store if it knew of all that `owning_all` lets a party know of.
 pub(crate) fn is_described(
     queue: &AnyQueue,
     party: Option<Party>,

@@ -81,7 +81,7 @@ fn tells(queue: &TaggedQueue, party: Party, position: u128, value: u32) -> bool
 }
 
 /// Whether the tag of position `n` begins at an address.
-fn is_tag_of(queue: &TaggedQueue, n: u128, address: u32) -> bool
+pub(crate) fn is_tag_of(queue: &TaggedQueue, n: u128, address: u32) -> bool
     ensures { result ≡ (address == tag_of (slots_of queue.now) n) }
 {
     let first = u128::from(queue.tags) + u128::from(queue.tag_offset);
@@ -102,7 +102,7 @@ fn element_at(queue: &TaggedQueue, x: u64) -> u128
 }
 
 /// Whether a whole tag lies at an address.
-fn is_tag(queue: &TaggedQueue, address: u32, width: u32) -> bool
+pub(crate) fn is_tag(queue: &TaggedQueue, address: u32, width: u32) -> bool
     ensures { result ≡ is_tag (slots_of queue.now) address width }
 {
     is_tag_of(queue, element_at(queue, u64::from(address)), address) && width == queue.tag_width

@@ -19,7 +19,7 @@ pub struct Violation {
     pub value: u32,
     /// What the hart owned then, an AMO's after it has read; nothing if the hart neither sends nor receives.
     pub owned: Option<Owned>,
-    /// Whether the hart might have made this store if it had owned every slot, from its own count on. Otherwise the queue's protocol has no
-    /// such store of it then, whatever the other party did.
+    /// Whether the hart might have made this store if it had owned as many positions as there are slots, from its own count on, and a sender
+    /// as many more as may be in use. Otherwise the queue's protocol has no such store of it then, whatever the other party did.
     pub described: bool,
 }

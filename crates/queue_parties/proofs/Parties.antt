@@ -42,6 +42,24 @@ two the_sender the_receiver = inr refl
 two the_receiver the_sender = inr refl
 two the_receiver the_receiver = inl refl
 
+-- a party's hart is its alone
+pub party-is : (s r : ℕ) → s ≢ r → (p : Party) (h : ℕ) → h ≡ hart_among s r p → party_among s r h ≡ Some p
+party-is s r apart p h here = by (whose s r h)
+  where
+    by : Whose s r h → party_among s r h ≡ Some p
+    by (theirs far none) = absurd (far p here)
+    by (mine t at party) = elim (two p t) [
+      | inl same ↦ party ∙ ap (λ u. Some u) same
+      | inr same ↦ absurd (harts-apart s r apart p (sym here ∙ at ∙ ap (hart_among s r) same))
+    ]
+
+pub hart-is : (s r : ℕ) (p : Party) (h : ℕ) → party_among s r h ≡ Some p → h ≡ hart_among s r p
+hart-is s r p h party = by (whose s r h)
+  where
+    by : Whose s r h → h ≡ hart_among s r p
+    by (mine t at found) = let same : Some t ≡ Some p = sym found ∙ party in at ∙ ap (hart_among s r) (let level : t ≡ p = cc in level)
+    by (theirs far none) = absurd (let wrong : None ≡ Some p = sym none ∙ party in cc)
+
 pub twice : (r : Party) → other (other r) ≡ r
 twice the_sender = refl
 twice the_receiver = refl

@@ -1,5 +1,6 @@
 -- The two parties of a queue between two harts, and how far each has come.
 use Rattle.std.specs.Prelude.{ℕ, ◌≤◌, ◌+◌, ◌==◌, if◌then◌else◌, Option, None, Some, List, [], ◌∷◌}
+use Rattle.memory.specs.declared.writes.Write.{Write}
 use Rattle.step_machine.specs.declared.events.Entry.{Entry}
 
 pub data Party : Type 0 where
@@ -53,6 +54,18 @@ pub record IsWindow (capacity : ℕ) (c : QueueCounts) : Type 0 where
   pub known_taken : c.known_taken ≤ c.taken
   pub taken : c.taken ≤ c.known_published
 
+-- A party owns the positions from its own count up to here, this one not: the sender those that are free as far as it knows, where `capacity` may be
+-- in use at once, and the receiver those that are published as far as it knows
+abbrev pub owned_until : (capacity : ℕ) → Party → QueueCounts → ℕ
+owned_until capacity the_sender c = c.known_taken + capacity
+owned_until capacity the_receiver c = c.known_published
+
+-- how far on the position is that a party hands over with position k, where a slot's next position is `size` further: the sender hands over position k
+-- itself, and the receiver the slot's next one
+abbrev pub handed_on : (size : ℕ) → Party → ℕ
+handed_on size the_sender = 0
+handed_on size the_receiver = size
+
 -- ---- runs: `next` is what an entry makes of the counts, and `May` which entries are allowed at which counts
 
 abbrev pub counts_from : (next : QueueCounts → Entry → QueueCounts) → QueueCounts → List Entry → QueueCounts
@@ -62,3 +75,9 @@ counts_from next c (e ∷ es) = counts_from next (next c e) es
 abbrev pub KeepsEach : (next : QueueCounts → Entry → QueueCounts) (May : QueueCounts → Entry → Type 0) → QueueCounts → List Entry → Type 0
 KeepsEach next May c [] = Unit {0}
 KeepsEach next May c (e ∷ es) = May c e × KeepsEach next May (next c e) es
+
+-- ---- a number after these writes, each of which moves it on
+
+abbrev pub moved_through : (moved : ℕ → Write → ℕ) → (n : ℕ) → List Write → ℕ
+moved_through moved n [] = n
+moved_through moved n (w ∷ ws) = moved_through moved (moved n w) ws

@@ -1,6 +1,9 @@
 //! What the protocols of queues between two harts share: the two parties and how far each has come, the positions of a queue
 //! and the slots in which they lie, and records in the order of their positions.
 //!
+//! proofs/Runs and proofs/InOrder have the theory of both: what a party stored in a slot is what the other reads there, and records come
+//! in order. The protocols show that their runs are such (`Run`), and their crates state what follows.
+//!
 //! The contract is that of [`laws_of_positions`]. This crate runs nothing, and knows neither an index nor a tag.
 //!
 //! Called by none, and cited by more than 6 crates, from `slot_queue` to `certifying`.

@@ -1,5 +1,5 @@
 -- Records by hand, of a run of two harts: definitions that only conclusions cite could be wrong, and no proof of a law would notice.
-use Rattle.std.proofs.Common.{ℕ, ◌≡◌, List, [], ◌∷◌, refl}
+use Rattle.std.proofs.Common.{◌≡◌, List, [], ◌∷◌, refl}
 use Rattle.step_machine.specs.declared.events.Entry.{Entry}
 use Rattle.step_machine.specs.declared.events.Entry.TheVariants.{Load, Store, Land}
 use Rattle.step_machine.specs.History.{OpeningValue}

@@ -10,8 +10,7 @@ module _ (q : Queue) (is : IsQueue q) where
   some = omega (arith, is.words)
 
   index_of : (j : ℕ) → (index_word q j - q.base) / q.scale ≡ (j + q.offset) % q.modulus
-  index_of j = (let less : index_word q j - q.base ≡ q.scale * ((j + q.offset) % q.modulus) = omega arith in ap (λ x. x / q.scale) less)
-      ∙ mul-div_cancel_left ((j + q.offset) % q.modulus) (omega (arith, is.scale))
+  index_of j = grind (arith, mul-div_cancel_left)
 
   least-ahead : (n j : ℕ) → least_count q n (index_word q j) ≡ n + ahead q.modulus (n + q.offset) ((j + q.offset) % q.modulus)
   least-ahead n j = ap (λ i. n + ahead q.modulus (n + q.offset) i) (index_of j)
@@ -42,8 +41,4 @@ module _ (q : Queue) (is : IsQueue q) where
       ∙ ap (λ x. q.base + q.scale * x) (ahead-stands q.modulus (n + q.offset) ((j + q.offset) % q.modulus) some ∙ mod-mod (j + q.offset) q.modulus)
 
   pub word-small : (n : ℕ) → index_word q n < 256 ^ q.index_width
-  word-small n =
-      let low : (n + q.offset) % q.modulus < q.modulus = mod-lt (n + q.offset) some in
-      let most : q.scale * ((n + q.offset) % q.modulus) ≤ q.scale * (q.modulus - 1) =
-      mul-le q.scale ((n + q.offset) % q.modulus) q.scale (q.modulus - 1) (omega arith) (omega (arith, low)) in
-      omega (arith, most, is.small)
+  word-small n = grind (arith, mod-lt, mul-le)

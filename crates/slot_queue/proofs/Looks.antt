@@ -1,25 +1,16 @@
 -- What a load of the other's index says, and which counts an access leaves.
-use Rattle.std.proofs.Common.{ℕ, ◌+◌, ◌<◌, ◌≤◌, ◌≡◌, ◌≢◌, ◌==◌, ◌&&◌, ◌⊎◌, inl, inr, Bool, true, false, if◌then◌else◌, List, Some, None, refl, sym, ◌∙◌, ap}
+use Rattle.std.proofs.Common.{ℕ, ◌+◌, ◌<◌, ◌≤◌, ◌≡◌, ◌≢◌, ◌==◌, ◌&&◌, ◌⊎◌, inl, inr, Bool, true, false, if◌then◌else◌, List, None, refl, sym, ◌∙◌, ap}
 use Rattle.std.proofs.Common.{subst, arith}
 use Rattle.std.specs.Prelude.{unwrap_or}
-use Rattle.std.proofs.lemmas.Bool.{cases_eq, eqb-true, eq-eqb, ne_eqb}
 use Rattle.memory.proofs.Bytes.{joined-same}
 use Rattle.step_machine.specs.declared.events.Entry.{Entry}
 use Rattle.step_machine.specs.Names.{OpeningValue, pending, memory_byte, read_byte, read}
 use Rattle.store_buffers.proofs.Reading.{passed_over}
-use Rattle.queue_parties.specs.Parties.{Party, the_sender, the_receiver, other, QueueCounts, count, with_count, known, with_known}
+use Rattle.queue_parties.specs.Parties.{Party, the_sender, the_receiver, other, QueueCounts, count, known, with_known}
 use Rattle.queue_parties.proofs.Parties.{both-equal, harts-apart, two, twice, count-set-known, known-set, known-set-other}
 use Rattle.slot_queue.specs.{Queue, index_word, least_count, IsQueue, hart, index, end, after_load, moved_on}
 use Rattle.slot_queue.proofs.Codes.{least-near, least-low}
 use Rattle.slot_queue.proofs.Sides.{Side, moved_on-more}
-
--- ---- what a new count leaves
-
-pub end-set-count : (q : Queue) (r p : Party) (n : ℕ) (c : QueueCounts) → end q p (with_count r n c) ≡ end q p c
-end-set-count q the_sender the_sender n c = refl
-end-set-count q the_sender the_receiver n c = refl
-end-set-count q the_receiver the_sender n c = refl
-end-set-count q the_receiver the_receiver n c = refl
 
 -- how far past what it knows a party owns
 abbrev pub allowance : Queue → Party → ℕ
@@ -82,19 +73,7 @@ module _ (q : Queue) (is : IsQueue q) (o : OpeningValue) (es : List Entry) (c : 
             → ((if b then with_known r (least_count q (known r c) v) c else c) ≡ c)
             ⊎ ((k : ℕ) × ((if b then with_known r (least_count q (known r c) v) c else c) ≡ with_known r k c) × (known r c ≤ k) × (k ≤ m (other r)))
         by false off = inl refl
-        by true on =
-            let parts = both-equal a (index q (other r)) width q.index_width on in
-            let place : a ≡ index q (other r) = parts.0 in
-            let whole : width ≡ q.index_width = parts.1 in
-            let word : v ≡ index_word q (m (other r)) = is_read ∙ ap (λ x. read o es (hart q r) x width) place
-            ∙ ap (read o es (hart q r) (index q (other r))) whole
-            ∙ reads-other q o es c (other r) (m (other r)) (sides (other r)) (hart q r) (harts-apart q.sender q.receiver is.parties r) in
-            inr (
-              least_count q (known r c) v,
-              refl,
-              omega arith,
-              subst (λ x. least_count q (known r c) x ≤ m (other r)) (sym word) (least-low q is (known r c) (m (other r)) known-low),
-            )
+        by true on = grind (arith, both-equal, reads-other, harts-apart, least-low)
 
     -- so what holds of both indices holds still
     knows-more : (k : ℕ) → known r c ≤ k → k ≤ m (other r) → (p : Party) → Side q o es (with_known r k c) p (m p)
@@ -110,22 +89,12 @@ module _ (q : Queue) (is : IsQueue q) (o : OpeningValue) (es : List Entry) (c : 
     }
       where
         less : (p ≡ r) ⊎ (p ≡ other r) → known (other p) (with_known r k c) ≤ m p
-        less (inl same) = subst (λ t. known (other t) (with_known r k c) ≤ m t) (sym same)
-            (let at : known (other r) (with_known r k c) ≡ known (other r) c = known-set-other r k c in omega (arith, at, (sides r).known_less))
-        less (inr same) = subst (λ t. known (other t) (with_known r k c) ≤ m t) (sym same)
-            (subst (λ t. known t (with_known r k c) ≤ m (other r)) (sym (twice r))
-            (let at : known r (with_known r k c) ≡ k = known-set r k c in omega (arith, at, upto)))
+        less (inl same) = grind (arith, known-set-other)
+        less (inr same) = grind (arith, twice, known-set)
 
         further : (p ≡ r) ⊎ (p ≡ other r) → end q p c ≤ end q p (with_known r k c)
-        further (inl same) = subst (λ t. end q t c ≤ end q t (with_known r k c)) (sym same)
-            (let one : end q r c ≡ known r c + allowance q r = end-is q r c in
-            let new : end q r (with_known r k c) ≡ known r (with_known r k c) + allowance q r = end-is q r (with_known r k c) in
-            let at : known r (with_known r k c) ≡ k = known-set r k c in omega (arith, one, new, at, from))
-        further (inr same) = subst (λ t. end q t c ≤ end q t (with_known r k c)) (sym same)
-            (let one : end q (other r) c ≡ known (other r) c + allowance q (other r) = end-is q (other r) c in
-            let new : end q (other r) (with_known r k c) ≡ known (other r) (with_known r k c) + allowance q (other r) =
-            end-is q (other r) (with_known r k c) in
-            let at : known (other r) (with_known r k c) ≡ known (other r) c = known-set-other r k c in omega (arith, one, new, at))
+        further (inl same) = grind (arith, end-is, known-set)
+        further (inr same) = grind (arith, end-is, known-set-other)
 
     pub sides-looked : (p : Party) → Side q o es c2 p (m p)
     sides-looked p = elim looked [

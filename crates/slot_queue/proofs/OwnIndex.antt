@@ -1,12 +1,11 @@
 -- What a party reads in its own index, and what a look at the other's says.
-use Rattle.std.proofs.Common.{ℕ, zero, suc, ◌+◌, ◌-◌, ◌%◌, ◌^◌, ◌<◌, ◌≤◌, ◌≡◌, ◌≢◌, ◌==◌, ◌&&◌, ◌⊎◌, inl, inr, Bool, true, false, if◌then◌else◌, List, [], ◌∷◌}
-use Rattle.std.proofs.Common.{◌++◌, Option, Some, None, refl, sym, ◌∙◌, ap, subst, arith, append_assoc}
+use Rattle.std.proofs.Common.{ℕ, ◌+◌, ◌<◌, ◌≡◌, ◌==◌, ◌&&◌, inl, inr, if◌then◌else◌, List, [], ◌∷◌}
+use Rattle.std.proofs.Common.{◌++◌, Some, None, refl, sym, ◌∙◌, ap, subst, append_assoc}
 use Rattle.std.specs.Prelude.{All, unwrap_or}
-use Rattle.std.specs.Int.{byte_at}
 use Rattle.std.proofs.lemmas.Bool.{eq-eqb}
 use Rattle.std.proofs.lemmas.List.Elements.{All-head, All-tail}
 use Rattle.memory.specs.declared.writes.Write.{Write}
-use Rattle.memory.specs.Writes.{covers, byte_after, newest_of, joined}
+use Rattle.memory.specs.Writes.{byte_after, newest_of, joined}
 use Rattle.memory.proofs.Bytes.{joined-same}
 use Rattle.step_machine.specs.declared.events.Entry.{Entry}
 use Rattle.step_machine.specs.Names.{OpeningValue, load, access_of, hart_of, pending, memory_byte, read, AllowedBy, LegalAfter}
@@ -19,7 +18,7 @@ use Rattle.slot_queue.specs.{moved_on}
 use Rattle.slot_queue.proofs.Sides.{IsClean, Side, clean-word}
 use Rattle.slot_queue.proofs.Looks.{reads-other, found}
 use Rattle.slot_queue.proofs.Runs.{sides-of, memory_at}
-use Rattle.slot_queue.proofs.Publication.{follows-front}
+use Rattle.slot_queue.proofs.Runs.{follows-front}
 
 module _ (q : Queue) (is : IsQueue q) (p : Party) where
   abbrev a : ℕ

@@ -1,24 +1,23 @@
--- Which positions a party owns at what time: what both parties own of one slot is never owned at once.
-use Rattle.std.proofs.Common.{ℕ, ◌+◌, ◌-◌, ◌*◌, ◌/◌, ◌%◌, ◌<◌, ◌≤◌, ◌≡◌, ◌≢◌, ◌==◌, ◌&&◌, ◌⊎◌, inl, inr, Bool, true, false, if◌then◌else◌, List, [], ◌∷◌, ◌++◌}
-use Rattle.std.proofs.Common.{Option, Some, None, refl, sym, ◌∙◌, ap, subst, arith}
-use Rattle.std.proofs.Math.Nat.{lt_of_not-le}
-use Rattle.std.proofs.lemmas.Nat.{div-mul-add}
-use Rattle.std.proofs.lemmas.Bool.{eqb-true, ne_eqb}
+-- What an access does to a byte of a slot, and to the counts: it leaves the byte, or its party owned it; and only a party's own access moves its count on.
+use Rattle.std.proofs.Common.{ℕ, ◌*◌, ◌<◌, ◌≡◌, ◌≢◌, ◌==◌, ◌&&◌, ◌⊎◌, inl, inr, Bool, true, false, if◌then◌else◌, List}
+use Rattle.std.proofs.Common.{Option, Some, refl, sym, ◌∙◌, ap, subst, arith}
+use Rattle.std.proofs.lemmas.Bool.{ne_eqb}
 use Rattle.memory.specs.declared.writes.Write.{Write}
 use Rattle.memory.specs.Writes.{write, covers}
 use Rattle.memory.proofs.Bytes.{covers-yes, covers-from}
 use Rattle.step_machine.specs.declared.events.Entry.{Entry}
-use Rattle.step_machine.specs.Names.{OpeningValue, Access, nothing, load, store, exchange, fence, land, access_of, hart_of}
+use Rattle.step_machine.specs.Names.{Access, load, store, exchange, access_of, hart_of}
 use Rattle.store_buffers.specs.StoreBuffers.{LeavesByte, LeavesByteBy}
-use Rattle.queue_parties.specs.{Party, the_sender, the_receiver, other, QueueCounts, IsWindow, count, with_count, known, with_known, IsInBytes}
+use Rattle.queue_parties.specs.{Party, the_sender, the_receiver, other, QueueCounts, count, known, with_known, IsInBytes}
 use Rattle.queue_parties.proofs.Parties.{both-equal, two, twice, count-set, count-set-other, count-set-known, known-set-count, known-set-other, Grows}
 use Rattle.queue_parties.proofs.Parties.{grows-same, grows-on, grows-count, grows-known, grows-from}
-use Rattle.queue_parties.proofs.Positions.{far, slot-within}
+use Rattle.queue_parties.proofs.Positions.{slot-within}
+use Rattle.queue_parties.proofs.Positions.{Owned, owned-on}
 use Rattle.slot_queue.specs.{Queue, least_count, IsByteOf, IsQueue, KeepsOff, party_of, index, end, is_index_store, moved, after_load, after_store}
-use Rattle.slot_queue.specs.{after_access, counts_next, counts_after, MayStore, KeepsAccess, OwnsByte, FollowsOwnership}
+use Rattle.slot_queue.specs.{after_access, counts_next, counts_after, MayStore, KeepsAccess}
 use Rattle.slot_queue.proofs.Sides.{moved-more, indices-apart, stores-leave}
-use Rattle.slot_queue.proofs.Looks.{Bounds, bounds}
-use Rattle.slot_queue.proofs.Runs.{sides-of, memory_at, stored-end}
+use Rattle.slot_queue.proofs.Runs.{stored-end}
+use Rattle.slot_queue.proofs.Runs.{shape}
 
 -- ---- counts never go back
 
@@ -34,14 +33,11 @@ module _ (q : Queue) where
   grows-store r w c = grows-count r (moved q r (count r c) w) c (moved-more q r (count r c) w)
 
   pub grows-access : (t : Option Party) (x : Access) (c : QueueCounts) → Grows c (after_access q t x c)
-  grows-access (Some r) nothing c = grows-same c
   grows-access (Some r) (load a width v) c = grows-load r a width v c
   grows-access (Some r) (store w) c = grows-store r w c
   grows-access (Some r) (exchange a old new) c =
       grows-on (after_store q r (write a 4 new) (after_load q r a 4 old c)) (grows-load r a 4 old c) (grows-store r (write a 4 new) (after_load q r a 4 old c))
-  grows-access (Some r) (fence full) c = grows-same c
-  grows-access (Some r) land c = grows-same c
-  grows-access None x c = grows-same c
+  grows-access other beside c = grows-same c
 
   pub grows-entry : (c : QueueCounts) (e : Entry) → Grows c (counts_next q c e)
   grows-entry c e = grows-access (party_of q (hart_of e)) (access_of e) c
@@ -49,63 +45,7 @@ module _ (q : Queue) where
   pub grows-after : (c : QueueCounts) (es : List Entry) → Grows c (counts_after q c es)
   grows-after c es = grows-from (counts_next q) grows-entry c es
 
--- ---- the window of each party
-
-pub record Window (q : Queue) (c : QueueCounts) : Type 0 where
-  pub known_less : (p : Party) → known (other p) c ≤ count p c
-  pub within : (p : Party) → count p c ≤ end q p c
-
-pub window-of : (B : ℕ) (q : Queue) (start : QueueCounts) (o : OpeningValue) (before es : List Entry)
-    → FollowsOwnership B q start o before es → Window q (counts_after q start es)
-window-of B q start o before es f = record {
-  known_less = λ p. (let b : Bounds q (counts_after q start es) p (memory_at q start before es p) = bounds q o (before ++ es) (counts_after q start es) p
-      (memory_at q start before es p) (sides-of B q start o before es f p) in omega (arith, b.known_there, b.there));
-  within = λ p. (sides-of B q start o before es f p).room;
-}
-
--- ---- positions of one byte
-
--- how far a slot's next position is, where a party hands it over: the sender hands over position k itself, and the receiver k for the sender's k + size
-abbrev pub gap : Queue → Party → ℕ
-gap q the_sender = 0
-gap q the_receiver = q.size
-
 module _ (q : Queue) (is : IsQueue q) (x : ℕ) where
-  -- what the other party owned of the slot, once or now, it has given up as far as this party knows
-  pub given-up : (p : Party) (d c : QueueCounts) (k j : ℕ) → Window q d → Window q c → Grows d c → IsByteOf q k x
-      → IsByteOf q j x → count p c ≤ k → k < end q p c
-      → j < end q (other p) d → j < known p c
-  given-up the_sender d c k j was now grows of_k of_j from below owned =
-      let one : known the_receiver d ≤ count the_sender d = was.known_less the_sender in
-      let two : count the_sender d ≤ count the_sender c = grows.counts the_sender in
-      let back : j + q.size ≤ k = far q.slots q.width q.size is.some j k x of_j of_k (omega (arith, one, two, from, owned)) in
-      omega (arith, back, below, is.fits)
-  given-up the_receiver d c k j was now grows of_k of_j from below owned =
-      let one : known the_sender d ≤ count the_receiver d = was.known_less the_receiver in
-      let two : count the_receiver d ≤ count the_receiver c = grows.counts the_receiver in
-      lt_of_not-le (λ le. (let on : k + q.size ≤ j = far q.slots q.width q.size is.some k j x of_k of_j (omega (arith, le, below)) in
-      omega (arith, on, owned, one, two, from, is.fits)))
-
-  -- while the other party has position k, or k + size, this one owns none of that slot
-  pub not-owned : (p : Party) (c d later : QueueCounts) (k j : ℕ) → Window q d → Grows d later → IsByteOf q k x → IsByteOf q j x → k < count p c → count p c ≤ j
-      → j < end q p d → count (other p) later ≤ k + gap q p → ⊥
-  not-owned the_sender c d later k j was grows of_k of_j past from owned taken =
-      let one : known the_sender d ≤ count the_receiver d = was.known_less the_receiver in
-      let two : count the_receiver d ≤ count the_receiver later = grows.counts the_receiver in
-      let on : k + q.size ≤ j = far q.slots q.width q.size is.some k j x of_k of_j (omega (arith, past, from)) in
-      omega (arith, on, owned, one, two, taken, is.fits)
-  not-owned the_receiver c d later k j was grows of_k of_j past from owned sent =
-      let one : known the_receiver d ≤ count the_sender d = was.known_less the_sender in
-      let two : count the_sender d ≤ count the_sender later = grows.counts the_sender in
-      let on : k + q.size ≤ j = far q.slots q.width q.size is.some k j x of_k of_j (omega (arith, past, from)) in
-      omega (arith, on, owned, one, two, sent)
-
-  -- before the receiver learns of a position that the sender owned it owns none of that slot
-  pub not-yet : (c : QueueCounts) (k j : ℕ) → IsWindow q.capacity c → IsByteOf q k x → IsByteOf q j x → k < c.known_taken + q.capacity → c.taken ≤ j → j < k → ⊥
-  not-yet c k j was of_k of_j sent from yet =
-      let back : j + q.size ≤ k = far q.slots q.width q.size is.some j k x of_j of_k yet in
-      omega (arith, back, sent, from, was.known_taken, is.fits)
-
   -- ---- what a party's access does to a byte of a slot
 
   index-off : (p : Party) (k : ℕ) → IsByteOf q k x → IsInBytes (index q p) q.index_width x → ⊥
@@ -131,7 +71,7 @@ module _ (q : Queue) (is : IsQueue q) (x : ℕ) where
       by false off = refl
       by true on = absurd ((keeps x on).slots (slot-within q.slots q.width q.size is.some k x of_k))
 
-  stores-byte : (k : ℕ) → IsByteOf q k x → (p : Party) (c : QueueCounts) (w : Write) → MayStore q p c w → LeavesByte x w ⊎ OwnsByte q p c x
+  stores-byte : (k : ℕ) → IsByteOf q k x → (p : Party) (c : QueueCounts) (w : Write) → MayStore q p c w → LeavesByte x w ⊎ Owned (shape q) x p c c
   stores-byte k of_k p c w (inl moves) = inl (by (covers w x) refl)
     where
       by : (b : Bool) → covers w x ≡ b → b ≡ false
@@ -140,46 +80,28 @@ module _ (q : Queue) (is : IsQueue q) (x : ℕ) where
           absurd (index-off p k of_k (omega (arith, part.0, moves.place), omega (arith, part.1, moves.place, moves.width)))
   stores-byte k of_k p c w (inr fills) = by (covers w x) refl
     where
-      by : (b : Bool) → covers w x ≡ b → (b ≡ false) ⊎ OwnsByte q p c x
+      by : (b : Bool) → covers w x ≡ b → (b ≡ false) ⊎ Owned (shape q) x p c c
       by false off = inl refl
       by true on = elim (fills x on) [
         | inl out ↦ absurd (out.slots (slot-within q.slots q.width q.size is.some k x of_k))
-        | inr owns ↦ inr owns
+        | inr owns ↦ inr (record { position = owns.position; from = owns.from; before = owns.before; byte = owns.byte })
       ]
-
-  pub record Owned (p : Party) (c d : QueueCounts) : Type 0 where
-    pub position : ℕ
-    pub from : count p c ≤ position
-    pub before : position < end q p d
-    pub byte : IsByteOf q position x
 
   -- it leaves the byte, or the party owned it
   pub access-byte : (k : ℕ) → IsByteOf q k x → (p : Party) (c : QueueCounts) (y : Access) → KeepsAccess q (Some p) c y
-      → LeavesByteBy x y ⊎ Owned p c (after_access q (Some p) y c)
-  access-byte k of_k p c nothing keeps = inl tt
-  access-byte k of_k p c (load a width v) keeps = inl tt
-  access-byte k of_k p c (fence full) keeps = inl tt
-  access-byte k of_k p c land keeps = inl tt
+      → LeavesByteBy x y ⊎ Owned (shape q) x p c (after_access q (Some p) y c)
   access-byte k of_k p c (store w) keeps = elim (stores-byte k of_k p c w keeps) [
     | inl leaves ↦ inl leaves
-    | inr owns ↦ inr (record {
-      position = owns.position;
-      from = owns.from;
-      before = (let same : end q p (after_store q p w c) ≡ end q p c = stored-end q p p w c in omega (arith, same, owns.before));
-      byte = owns.byte;
-    })
+    | inr owns ↦ inr (owned-on (shape q) x p (moved q p (count p c) w) c c (grows-same c) owns)
   ]
   access-byte k of_k p c (exchange a old new) (inl same) = inl (inl same)
-  access-byte k of_k p c (exchange a old new) (inr may) = elim (stores-byte k of_k p (after_load q p a 4 old c) (write a 4 new) may) [
-    | inl leaves ↦ inl (inr leaves)
-    | inr owns ↦ inr (record {
-      position = owns.position;
-      from = (let more : count p c ≤ count p (after_load q p a 4 old c) = (grows-load q p a 4 old c).counts p in omega (arith, more, owns.from));
-      before = (let same : end q p (after_store q p (write a 4 new) (after_load q p a 4 old c)) ≡ end q p (after_load q p a 4 old c) =
-          stored-end q p p (write a 4 new) (after_load q p a 4 old c) in omega (arith, same, owns.before));
-      byte = owns.byte;
-    })
-  ]
+  access-byte k of_k p c (exchange a old new) (inr may) =
+      let c1 : QueueCounts = after_load q p a 4 old c in
+      elim (stores-byte k of_k p c1 (write a 4 new) may) [
+        | inl leaves ↦ inl (inr leaves)
+        | inr owns ↦ inr (owned-on (shape q) x p (moved q p (count p c1) (write a 4 new)) c c1 (grows-load q p a 4 old c) owns)
+      ]
+  access-byte k of_k p c other keeps = inl tt
 
 -- ---- an access that moves a party's count on is the party's own store to its index
 
@@ -207,10 +129,7 @@ module _ (q : Queue) (is : IsQueue q) (p : Party) where
     where
       by : (b : Bool) → is_index_store q p w ≡ b → count p c < count p (after_store q p w c) → b ≡ true
       by true on more = refl
-      by false off more =
-          let n : count p (after_store q p w c) ≡ moved q p (count p c) w = count-set p (moved q p (count p c) w) c in
-          let none : moved q p (count p c) w ≡ count p c = ap (λ b. if b then least_count q (count p c) w.value else count p c) off in
-          absurd (omega (arith, n, none, more))
+      by false off more = grind (arith, count-set)
 
   -- a store to the index leaves every slot
   index-leaves-byte : (w : Write) → is_index_store q p w ≡ true → (x k : ℕ) → IsByteOf q k x → LeavesByte x w
@@ -225,10 +144,6 @@ module _ (q : Queue) (is : IsQueue q) (p : Party) where
           absurd (index-off q is x p k of_k (omega (arith, part.0, parts.0), omega (arith, part.1, parts.0, parts.1)))
 
   pub moves-count : (t : Option Party) (c : QueueCounts) (y : Access) → count p c < count p (after_access q t y c) → MovesCount t c y
-  moves-count None c y more = absurd (omega (arith, more))
-  moves-count (Some r) c nothing more = absurd (omega (arith, more))
-  moves-count (Some r) c (fence full) more = absurd (omega (arith, more))
-  moves-count (Some r) c land more = absurd (omega (arith, more))
   moves-count (Some r) c (load a width v) more =
       absurd (let n : count p (after_load q r a width v c) ≡ count p c = loaded-count r a width v c in omega (arith, n, more))
   moves-count (Some r) c (store w) more =
@@ -247,6 +162,7 @@ module _ (q : Queue) (is : IsQueue q) (p : Party) where
         same_end = stored-end q r p (write a 4 new) (after_load q r a 4 old c) ∙ ap (end q p) none;
         leaves = λ x k of_k keeps. inr (index-leaves-byte (write a 4 new) at.1 x k of_k);
       }
+  moves-count other c beside more = absurd (omega (arith, more))
 
 -- ---- an access by which a party learns of more is its load of the other's index
 
@@ -265,15 +181,7 @@ module _ (q : Queue) (is : IsQueue q) (p : Party) where
       by : (b : Bool) → (a == index q (other r) && width == q.index_width) ≡ b
           → known p c < known p (if b then with_known r (least_count q (known r c) v) c else c) → (p ≡ r) × (a ≡ index q (other r)) × (width ≡ q.index_width)
       by false off more = absurd (omega (arith, more))
-      by true on more = elim (two r p) [
-        | inl same ↦ let parts = both-equal a (index q (other r)) width q.index_width on in (same, parts.0, parts.1)
-        | inr same ↦
-            let still : known (other r) (with_known r (least_count q (known r c) v) c) ≡ known (other r) c =
-            known-set-other r (least_count q (known r c) v) c in
-            let less : known (other r) c < known (other r) (with_known r (least_count q (known r c) v) c) =
-            subst (λ t. known t c < known t (with_known r (least_count q (known r c) v) c)) same more in
-            absurd (omega (arith, still, less))
-      ]
+      by true on more = grind (arith, two, both-equal, known-set-other)
 
   -- an AMO of the other's index, whole, may only write what it read
   amo-back : (r : Party) (c : QueueCounts) (a new : ℕ) → a ≡ index q (other r) → 4 ≡ q.index_width → MayStore q r c (write a 4 new) → ⊥
@@ -284,10 +192,6 @@ module _ (q : Queue) (is : IsQueue q) (p : Party) where
       let no : true ≡ false = sym held ∙ left in cc
 
   pub learns-more : (t : Option Party) (c : QueueCounts) (y : Access) → known p c < known p (after_access q t y c) → LearnsMore t c y
-  learns-more None c y more = absurd (omega (arith, more))
-  learns-more (Some r) c nothing more = absurd (omega (arith, more))
-  learns-more (Some r) c (fence full) more = absurd (omega (arith, more))
-  learns-more (Some r) c land more = absurd (omega (arith, more))
   learns-more (Some r) c (store w) more = absurd (let still : known p (after_store q r w c) ≡ known p c = stored-knows r w c in omega (arith, still, more))
   learns-more (Some r) c (load a width v) more =
       record { same_counts = λ s. loaded-count q is s r a width v c; leaves = λ x k of_k keeps. tt }
@@ -310,3 +214,4 @@ module _ (q : Queue) (is : IsQueue q) (p : Party) where
           | inr may ↦ absurd (amo-back r c1 a new at.1 at.2 may)
         ];
       }
+  learns-more other c beside more = absurd (omega (arith, more))

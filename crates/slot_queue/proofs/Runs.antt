@@ -1,7 +1,7 @@
--- Whole runs: the window.
+-- Whole runs: the window, and what moves a count in memory.
 use Rattle.std.proofs.Common.{ℕ, ◌<◌, ◌≤◌, ◌≡◌, ◌==◌, ◌⊎◌, inl, inr, Bool, List, [], ◌∷◌, ◌++◌, length, take, Some, None, refl, sym, ◌∙◌, ap, subst, arith}
 use Rattle.std.proofs.Common.{append-nil, append_assoc}
-use Rattle.std.specs.Prelude.{All, IsTrue, slice_index_or}
+use Rattle.std.specs.Prelude.{All, slice_index_or}
 use Rattle.std.proofs.lemmas.List.Elements.{All-head, All-tail}
 use Rattle.memory.specs.declared.writes.Write.{Write}
 use Rattle.memory.specs.Writes.{write}
@@ -11,20 +11,36 @@ use Rattle.step_machine.specs.Names.{written_by, write_of, pending, own_stores, 
 use Rattle.step_machine.proofs.{LegalAfter-front, LegalAfter-back, LegalAfter-append, balanced, some_first}
 use Rattle.store_buffers.specs.StoreBuffers.{memory_number}
 use Rattle.queue_parties.specs.Parties.{Party, the_sender, the_receiver, other, QueueCounts, IsWindow, count, known}
-use Rattle.queue_parties.proofs.Parties.{Whose, mine, theirs, whose, harts-apart, two, twice, count-set, count-set-other, known-set-count, count-set-known}
-use Rattle.queue_parties.proofs.Parties.{keeps-front}
+use Rattle.queue_parties.proofs.Parties.{Whose, mine, theirs, whose, harts-apart, two, twice, count-set, count-set-other, known-set-count}
 use Rattle.slot_queue.specs.{Queue, index_word, IsQueue, IsAtRest, KeepsOff, party_of, hart, index, end, after_load, after_store, moved, after_access}
-use Rattle.slot_queue.specs.{counts_next, counts_after, MayStore, KeepsAccess, KeepsEntry, KeepsOwnership, FollowsOwnership, moved_on}
-use Rattle.slot_queue.proofs.Sides.{Leaves, IsClean, Side, off-leaves, stores-clean, stores-leave, stores-room, moved-leaves, moved-same}
+use Rattle.slot_queue.specs.{counts_next, counts_after, MayStore, KeepsAccess, KeepsOwnership, FollowsOwnership, moved_on}
+use Rattle.slot_queue.proofs.Sides.{Leaves, Side, off-leaves, stores-clean, stores-leave, stores-room, moved-leaves, moved-same}
 use Rattle.slot_queue.proofs.Steps.{stays, stores, stores-past, exchanges, exchanges-past, exchanges-same, lands-one}
-use Rattle.slot_queue.proofs.Looks.{end-set-count, Bounds, bounds, sides-looked}
+use Rattle.queue_parties.proofs.Positions.{end-set-count}
+use Rattle.slot_queue.proofs.Looks.{Bounds, bounds, sides-looked}
+use Rattle.std.proofs.Common.{ℕ, ◌≡◌, ◌≢◌, inl, inr, List, [], ◌∷◌, ◌++◌, take, refl, sym, ◌∙◌, ap, subst, arith, append_assoc}
+use Rattle.std.proofs.lemmas.List.Elements.{All-take}
+use Rattle.memory.specs.declared.writes.Write.{Write}
+use Rattle.memory.specs.Writes.{write}
+use Rattle.step_machine.specs.declared.events.Entry.{Entry}
+use Rattle.step_machine.specs.Names.{OpeningValue, Access, exchange, land, access_of, hart_of, written_by, write_of, pending, Allowed}
+use Rattle.step_machine.specs.Names.{LegalAfter}
+use Rattle.step_machine.proofs.{LegalAfter-front, LegalAfter-back}
+use Rattle.queue_parties.specs.Parties.{Party, other, QueueCounts, count}
+use Rattle.queue_parties.proofs.Parties.{Whose, mine, theirs, whose, two, twice, keeps-front, keeps-at}
+use Rattle.queue_parties.proofs.Landed.{Moves}
+use Rattle.queue_parties.proofs.Positions.{Shape}
+use Rattle.queue_parties.proofs.Runs.{Counting}
+use Rattle.slot_queue.specs.{Queue, IsQueue, party_of, hart, after_load, moved, counts_next, counts_after, MayStore, KeepsAccess, KeepsEntry, KeepsOwnership}
+use Rattle.slot_queue.specs.{FollowsOwnership, moved_on}
+use Rattle.slot_queue.proofs.Sides.{Leaves, Side, off-leaves, stores-leave, moved-leaves, moved-same, moved-more}
 
 -- what is stored at once or later leaves known counts
 pub stored-known : (q : Queue) (r p : Party) (w : Write) (c : QueueCounts) → known p (after_store q r w c) ≡ known p c
 stored-known q r p w c = known-set-count r p (moved q r (count r c) w) c
 
 pub stored-end : (q : Queue) (r p : Party) (w : Write) (c : QueueCounts) → end q p (after_store q r w c) ≡ end q p c
-stored-end q r p w c = end-set-count q r p (moved q r (count r c) w) c
+stored-end q r p w c = end-set-count q.capacity r p (moved q r (count r c) w) c
 
 module _ (B : ℕ) (q : Queue) (is : IsQueue q) (o : OpeningValue) (es : List Entry) (e : Entry)
     (even : (h : ℕ) → lands h es ≤ length (own_stores h es)) where
@@ -268,3 +284,76 @@ window B q start o before es f =
       known_taken = omega (arith, t.known_there, t.there);
       taken = omega (arith, t.count_end);
     }
+
+-- ---- what moves a count in memory: a party's own writes alone
+
+-- what another hart's entry writes leaves the count of the party's index in memory
+module _ (B : ℕ) (q : Queue) (is : IsQueue q) (o : OpeningValue) (es : List Entry) (e : Entry) (c : QueueCounts) (p : Party) (m : ℕ) (side : Side q o es c p m)
+    (apart : hart_of e ≢ hart q p) (allowed : Allowed B o es e) where
+  -- an AMO by whichever party or third hart
+  amo-unmoved : (a old new : ℕ) → access_of e ≡ exchange a old new → KeepsAccess q (party_of q (hart_of e)) c (exchange a old new)
+      → moved_on q p m (write a 4 new ∷ []) ≡ m
+  amo-unmoved a old new does keeps = by (whose q.sender q.receiver (hart_of e))
+    where
+      back : new ≡ old → moved_on q p m (write a 4 new ∷ []) ≡ m
+      back same = moved-same q is B o es e a old new does same allowed p m side.word
+
+      by : Whose q.sender q.receiver (hart_of e) → moved_on q p m (write a 4 new ∷ []) ≡ m
+      by (theirs far party) = grind (arith, back, moved-leaves, off-leaves)
+      by (mine r at party) = elim (two r p) [
+        | inl same ↦ absurd (apart (at ∙ ap (hart q) (sym same)))
+        | inr same ↦ elim (subst (λ t. KeepsAccess q t c (exchange a old new)) party keeps) [
+          | inl level ↦ back level
+          | inr may ↦ moved-leaves q is p m (write a 4 new) (stores-leave q is p (after_load q r a 4 old c) (write a 4 new)
+              (subst (λ t. MayStore q t (after_load q r a 4 old c) (write a 4 new)) (sym (ap other same ∙ twice r)) may))
+        ]
+      ]
+
+  pub others-unmoved : KeepsAccess q (party_of q (hart_of e)) c (access_of e) → moved_on q p m (write_of es e) ≡ m
+  others-unmoved keeps = by (access_of e) refl keeps
+    where
+      ws : List Write
+      ws = take 1 (pending (hart_of e) es)
+
+      by : (x : Access) → access_of e ≡ x → KeepsAccess q (party_of q (hart_of e)) c x → moved_on q p m (written_by ws x) ≡ m
+      by land does keeps = unmoved q is p m ws (All-take (Leaves q p) 1 (pending (hart_of e) es) (side.others (hart_of e) apart))
+      by (exchange a old new) does keeps = amo-unmoved a old new does keeps
+      by x does keeps = refl
+
+pub follows-front : (B : ℕ) (q : Queue) (start : QueueCounts) (o : OpeningValue) (before es fs : List Entry) → FollowsOwnership B q start o before (es ++ fs)
+    → FollowsOwnership B q start o before es
+follows-front B q start o before es fs f = record {
+  queue = f.queue;
+  legal = LegalAfter-front B o [] (before ++ es) fs (subst (LegalAfter B o []) (sym (append_assoc before es fs)) f.legal);
+  rest = f.rest;
+  keeps = keeps-front (counts_next q) (KeepsEntry q) start es fs f.keeps;
+}
+
+-- the two harts and the slots, of which all else is said in queue_parties
+abbrev pub shape : Queue → Shape
+shape q = record { sender = q.sender; receiver = q.receiver; slots = q.slots; width = q.width; size = q.size; capacity = q.capacity }
+
+module _ (B : ℕ) (q : Queue) (start : QueueCounts) (o : OpeningValue) (before es : List Entry) (f : FollowsOwnership B q start o before es) (p : Party) where
+  side-of : (done rest : List Entry) → es ≡ done ++ rest → Side q o (before ++ done) (counts_after q start done) p (memory_at q start before done p)
+  side-of done rest split = sides-of B q start o before done
+      (follows-front B q start o before done rest (subst (FollowsOwnership B q start o before) split f)) p
+
+  moves : (done : List Entry) (e : Entry) (rest : List Entry) → es ≡ done ++ e ∷ rest → Moves B o (hart q p) (moved q p) (moved-more q p) (before ++ done) e
+      (memory_at q start before done p) (memory_at q start before (done ++ e ∷ []) p)
+  moves done e rest split = (
+    λ here. memory-last q (λ t. count t start) before done e p,
+    λ apart. memory-last q (λ t. count t start) before done e p ∙ others-unmoved B q f.queue o (before ++ done) e (counts_after q start done) p
+        (memory_at q start before done p) (side-of done (e ∷ rest) split) apart (LegalAfter-back B o [] (before ++ done) (e ∷ rest)
+        (subst (LegalAfter B o []) (ap (λ xs. before ++ xs) split ∙ sym (append_assoc before done (e ∷ rest))) f.legal)).0
+        (keeps-at (counts_next q) (KeepsEntry q) start done e rest (subst (KeepsOwnership q start) split f.keeps)),
+  )
+
+  pub counting : Counting (shape q) (counts_next q) start B o before es p
+  counting = record {
+    moved = moved q p;
+    more_moved = moved-more q p;
+    memory = λ done. memory_at q start before done p;
+    moves = moves;
+    count_is = λ done rest is. (side-of done rest is).count_is;
+    known_less = (sides-of B q start o before es f p).known_less;
+  }

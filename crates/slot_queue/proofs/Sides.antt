@@ -1,11 +1,10 @@
 -- What holds of one party's index: of its word in memory, of the pending stores to it, and of what is known of it.
-use Rattle.std.proofs.Common.{ℕ, ◌+◌, ◌-◌, ◌*◌, ◌%◌, ◌^◌, ◌<◌, ◌≤◌, ◌≡◌, ◌≢◌, ◌==◌, ◌&&◌, ◌⊎◌, inl, inr, Bool, true, false, if◌then◌else◌, List, [], ◌∷◌, ◌++◌}
+use Rattle.std.proofs.Common.{ℕ, ◌+◌, ◌-◌, ◌*◌, ◌^◌, ◌<◌, ◌≤◌, ◌≡◌, ◌≢◌, ◌⊎◌, inl, inr, Bool, true, false, if◌then◌else◌, List, [], ◌∷◌, ◌++◌}
 use Rattle.std.proofs.Common.{refl, sym, ◌∙◌, ap, subst, arith}
 use Rattle.std.specs.Prelude.{All}
 use Rattle.std.specs.Int.{byte_at}
-use Rattle.std.proofs.Math.Nat.{mod-lt, mod-eq_of_lt}
-use Rattle.std.proofs.lemmas.Nat.{mul-le}
-use Rattle.std.proofs.lemmas.Bool.{eqb-true, eq-eqb}
+use Rattle.std.proofs.Math.Nat.{mod-eq_of_lt}
+use Rattle.std.proofs.lemmas.Bool.{eq-eqb}
 use Rattle.memory.specs.declared.writes.Write.{Write}
 use Rattle.memory.specs.Writes.{write, covers, byte_after, joined}
 use Rattle.memory.proofs.Bytes.{joined-same, covers-yes, covers-from}
@@ -13,8 +12,9 @@ use Rattle.memory.proofs.Joined.{joined-bytes}
 use Rattle.step_machine.specs.declared.events.Entry.{Entry}
 use Rattle.step_machine.specs.Names.{OpeningValue, exchange, access_of, write_of, pending, memory_byte, Allowed}
 use Rattle.store_buffers.specs.StoreBuffers.{memory_number}
-use Rattle.store_buffers.proofs.Effects.{number-quiet, number-after, same-memory, amo-read}
+use Rattle.store_buffers.proofs.Effects.{number-after, same-memory, amo-read}
 use Rattle.queue_parties.specs.{Party, the_sender, the_receiver, other, QueueCounts, count, known, IsInBytes}
+use Rattle.queue_parties.proofs.Landed.{moved_through-more, moved_through-append}
 use Rattle.queue_parties.proofs.Parties.{both-equal}
 use Rattle.queue_parties.proofs.Positions.{slot-within}
 use Rattle.slot_queue.specs.{Queue, index_word, least_count, IsOutside, IsQueue, KeepsOff, hart, index, end, is_index_store, moved, FillsOwned, MayStore}
@@ -55,13 +55,10 @@ moved-more q p n w = by (is_index_store q p w)
     by false = omega arith
 
 pub moved_on-more : (q : Queue) (p : Party) (n : ℕ) (ws : List Write) → n ≤ moved_on q p n ws
-moved_on-more q p n [] = omega arith
-moved_on-more q p n (w ∷ ws) = let one : n ≤ moved q p n w = moved-more q p n w in
-    let more : moved q p n w ≤ moved_on q p (moved q p n w) ws = moved_on-more q p (moved q p n w) ws in omega (arith, one, more)
+moved_on-more q p n ws = moved_through-more (moved q p) (moved-more q p) n ws
 
 pub moved_on-append : (q : Queue) (p : Party) (n : ℕ) (ws vs : List Write) → moved_on q p n (ws ++ vs) ≡ moved_on q p (moved_on q p n ws) vs
-moved_on-append q p n [] vs = refl
-moved_on-append q p n (w ∷ ws) vs = moved_on-append q p (moved q p n w) ws vs
+moved_on-append q p n ws vs = moved_through-append (moved q p) n ws vs
 
 pub moved-leaves : (q : Queue) → IsQueue q → (p : Party) (n : ℕ) (w : Write) → Leaves q p w → moved q p n w ≡ n
 moved-leaves q is p n w leaves = by (is_index_store q p w) refl
@@ -75,24 +72,17 @@ moved-leaves q is p n w leaves = by (is_index_store q p w) refl
         absurd (let no : true ≡ false = sym held ∙ leaves (index q p) (omega arith, omega (arith, is.some_bytes)) in cc)
 
 pub moved-index : (q : Queue) (p : Party) (n : ℕ) (w : Write) → IsIndexWord q p w → moved q p n w ≡ least_count q n w.value
-moved-index q p n w is = ap (λ b. if b && (w.width == q.index_width) then least_count q n w.value else n) (eq-eqb w.addr (index q p) is.place)
-    ∙ ap (λ b. if b then least_count q n w.value else n) (eq-eqb w.width q.index_width is.width)
+moved-index q p n w is = grind (arith, eq-eqb)
 
 -- ---- which stores are clean
 
 module _ (q : Queue) (is : IsQueue q) where
   pub both-apart : (p : Party) → (index q p + q.index_width ≤ index q (other p)) ⊎ (index q (other p) + q.index_width ≤ index q p)
   both-apart the_sender = is.apart
-  both-apart the_receiver = elim is.apart [
-    | inl l ↦ inr l
-    | inr l ↦ inl l
-  ]
+  both-apart the_receiver = grind arith
 
   pub indices-apart : (p : Party) → index q p ≢ index q (other p)
-  indices-apart p e = elim (both-apart p) [
-    | inl l ↦ omega (arith, l, e, is.some_bytes)
-    | inr l ↦ omega (arith, l, e, is.some_bytes)
-  ]
+  indices-apart p e = grind (arith, both-apart)
 
   off-index : (p : Party) (x : ℕ) → IsOutside q x → IsInBytes (index q p) q.index_width x → ⊥
   off-index the_sender x out within = out.head within
@@ -147,9 +137,7 @@ module _ (q : Queue) (is : IsQueue q) where
 
   -- a store keeps a count within what is owned
   pub stores-room : (p : Party) (c : QueueCounts) (w : Write) → MayStore q p c w → count p c ≤ end q p c → moved q p (count p c) w ≤ end q p c
-  stores-room p c w (inl moves) le =
-      let at : moved q p (count p c) w ≡ least_count q (count p c) w.value = moved-index q p (count p c) w
-      (record { place = moves.place; width = moves.width; of = least_count q (count p c) w.value; word = moves.word }) in omega (arith, at, moves.owned)
+  stores-room p c w (inl moves) le = grind (arith, moved-index)
   stores-room p c w (inr fills) le =
       let at : moved q p (count p c) w ≡ count p c = moved-leaves q is p (count p c) w (fills-leaves p p c w fills) in
       omega (arith, at, le)
@@ -158,9 +146,7 @@ module _ (q : Queue) (is : IsQueue q) where
 
   pub clean-word : (p : Party) (w : Write) (f : ℕ → ℕ) (m : ℕ) → IsClean q p w → joined (λ i. f (index q p + i)) q.index_width ≡ index_word q m
       → joined (λ i. byte_after w (index q p + i) (f (index q p + i))) q.index_width ≡ index_word q (moved q p m w)
-  clean-word p w f m (inl leaves) word = joined-same (λ i. byte_after w (index q p + i) (f (index q p + i))) (λ i. f (index q p + i)) q.index_width
-      (λ i lt. ap (λ b. if b then byte_at (index q p + i - w.addr) w.value else f (index q p + i)) (leaves (index q p + i) (omega arith, omega (arith, lt))))
-      ∙ word ∙ ap (index_word q) (sym (moved-leaves q is p m w leaves))
+  clean-word p w f m (inl leaves) word = grind (arith, joined-same, moved-leaves)
   clean-word p w f m (inr of_index) word =
       joined-same (λ i. byte_after w (index q p + i) (f (index q p + i))) (λ i. byte_at i w.value) q.index_width
       (λ i lt. let held : covers w (index q p + i) ≡ true =

@@ -61,8 +61,7 @@ module _ (q : Queue) (is : IsQueue q) (o : OpeningValue) (es : List Entry) (e : 
     more-of = pending-more es e (hart_of e) (even (hart_of e)) w stored-of (lands-by (store w) does (hart_of e))
 
     kept-of : (g : ℕ) → hart_of e ≢ g → pending g after ≡ pending g es
-    kept-of g apart = pending-quiet es e g (even g) (stores-by (store w) does g ∙ ap (λ b. stored_by b (store w)) (ne_eqb (hart_of e) g apart))
-        (lands-by (store w) does g)
+    kept-of g apart = grind (arith, pending-quiet, stores-by, ne_eqb, lands-by)
 
     pub stores : hart_of e ≡ h → IsClean q p w → count p c2 ≡ moved q p (count p c) w → known (other p) c2 ≤ m → count p c2 ≤ end q p c2 → Next c2
     stores mine clean same knows room = next-by c2 [] (writes-by (store w) does) (record {
@@ -131,12 +130,10 @@ module _ (q : Queue) (is : IsQueue q) (o : OpeningValue) (es : List Entry) (e : 
   -- a landing, of which no count knows
   module _ (does : access_of e ≡ land) (w : Write) (rest : List Write) (first : pending (hart_of e) es ≡ w ∷ rest) where
     left-of : pending (hart_of e) after ≡ rest
-    left-of = pending-first es e (hart_of e) (even (hart_of e)) w rest first (stores-by land does (hart_of e))
-        (lands-by land does (hart_of e) ∙ ap (λ b. if b then 1 else 0) (eq-eqb (hart_of e) (hart_of e) refl))
+    left-of = grind (arith, pending-first, stores-by, lands-by, eq-eqb)
 
     unlanded : (g : ℕ) → hart_of e ≢ g → pending g after ≡ pending g es
-    unlanded g apart = pending-quiet es e g (even g) (stores-by land does g)
-        (lands-by land does g ∙ ap (λ b. if b then 1 else 0) (ne_eqb (hart_of e) g apart))
+    unlanded g apart = grind (arith, pending-quiet, stores-by, lands-by, ne_eqb)
 
     writes : write_of es e ≡ w ∷ []
     writes = writes-by land does ∙ ap (take 1) first

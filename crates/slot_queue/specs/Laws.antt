@@ -1,12 +1,12 @@
 -- A run that keeps the protocol of ownership, and what its laws speak of.
-use Rattle.std.specs.Prelude.{ℕ, ◌+◌, ◌-◌, List, [], ◌∷◌, ◌++◌}
+use Rattle.std.specs.Prelude.{ℕ, ◌-◌, List, [], ◌∷◌, ◌++◌}
 use Rattle.memory.specs.declared.writes.Write.{Write}
 use Rattle.step_machine.specs.declared.events.Entry.{Entry}
 use Rattle.step_machine.specs.History.{OpeningValue, history_of}
 use Rattle.step_machine.specs.Legal.{Legal}
 use Rattle.step_machine.specs.Entries.{read}
 use Rattle.store_buffers.specs.StoreBuffers.{LeavesByteAt}
-use Rattle.queue_parties.specs.Parties.{Party, the_receiver, QueueCounts, count, known}
+use Rattle.queue_parties.specs.Parties.{Party, the_receiver, QueueCounts, count, known, moved_through}
 use Rattle.queue_parties.specs.Positions.{numbers_from, records_passed}
 use Rattle.slot_queue.specs.Queues.{Queue, IsQueue, IsAtRest, slot_of, IsByteOf}
 use Rattle.slot_queue.specs.Ownership.{hart, counts_next, moved, KeepsOwnership}
@@ -20,8 +20,7 @@ pub record FollowsOwnership (B : ℕ) (q : Queue) (start : QueueCounts) (o : Ope
 
 -- a count after these writes of the party's
 abbrev pub moved_on : Queue → Party → (n : ℕ) → List Write → ℕ
-moved_on q p n [] = n
-moved_on q p n (w ∷ ws) = moved_on q p (moved q p n w) ws
+moved_on q p n ws = moved_through (moved q p) n ws
 
 -- this hart writes nothing over any byte of the slots
 abbrev pub LeavesSlotsAt : Queue → (h : ℕ) → List Entry → Type 0

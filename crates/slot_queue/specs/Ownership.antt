@@ -1,12 +1,12 @@
 -- The protocol of ownership: what the entries of a run say of the counts of both parties, and which stores a party may make.
-use Rattle.std.specs.Prelude.{ℕ, ◌≡◌, ◌⊎◌, ◌+◌, ◌<◌, ◌≤◌, ◌==◌, ◌&&◌, if◌then◌else◌, Bool, Option, None, Some, List, true}
+use Rattle.std.specs.Prelude.{ℕ, ◌≡◌, ◌⊎◌, ◌<◌, ◌≤◌, ◌==◌, ◌&&◌, if◌then◌else◌, Bool, Option, None, Some, List, true}
 use Rattle.memory.specs.declared.writes.Write.{Write}
 use Rattle.memory.specs.Writes.{write, covers}
 use Rattle.step_machine.specs.declared.events.Entry.{Entry}
 use Rattle.step_machine.specs.Access.{Access, load, store, exchange, access_of}
 use Rattle.step_machine.specs.Entries.{hart_of}
 use Rattle.queue_parties.specs.Parties.{Party, the_sender, the_receiver, other, hart_among, party_among, QueueCounts, count, with_count, known, with_known}
-use Rattle.queue_parties.specs.Parties.{counts_from, KeepsEach}
+use Rattle.queue_parties.specs.Parties.{owned_until, counts_from, KeepsEach}
 use Rattle.slot_queue.specs.Queues.{Queue, index_word, least_count, IsByteOf, IsOutside, KeepsOff}
 
 abbrev pub party_of : Queue → (h : ℕ) → Option Party
@@ -20,11 +20,9 @@ abbrev pub index : Queue → Party → ℕ
 index q the_sender = q.head
 index q the_receiver = q.tail
 
--- A party owns the positions from its own count up to here, this one not: the sender those that are free as far as it knows, and
--- the receiver those that are published as far as it knows
+-- a party owns the positions from its own count up to here, this one not
 abbrev pub end : Queue → Party → QueueCounts → ℕ
-end q the_sender c = c.known_taken + q.capacity
-end q the_receiver c = c.known_published
+end q p c = owned_until q.capacity p c
 
 -- x is a byte of the slot of a position that the party owns
 pub record OwnsByte (q : Queue) (p : Party) (c : QueueCounts) (x : ℕ) : Type 0 where

@@ -1,5 +1,5 @@
 -- The codecs keep the two readings apart.
-use Rattle.std.proofs.Common.{ℕ, ◌+◌, ◌/◌, ◌%◌, ◌≤◌, ◌≡◌, ◌≢◌, ◌==◌, if◌then◌else◌, Bool, true, false, refl, sym, ◌∙◌, ap, subst, arith, inl, inr}
+use Rattle.std.proofs.Common.{ℕ, ◌+◌, ◌/◌, ◌%◌, ◌≤◌, ◌≡◌, ◌≢◌, ◌==◌, if◌then◌else◌, Bool, true, false, refl, sym, ◌∙◌, ap, subst, arith}
 use Rattle.std.specs.Prelude.{not, bit_and}
 use Rattle.std.proofs.lemmas.Bool.{cases_eq, eqb-true, eq-eqb, ne_eqb}
 use Rattle.std.proofs.Math.Nat.{add-div_right}
@@ -40,10 +40,7 @@ turns : (size k : ℕ) → 1 ≤ size → ((k + size) / size % 2 == 0) ≡ not (
 turns size k some = ap (λ n. n % 2 == 0) (add-div_right k some) ∙ by (k / size)
   where
     by : (n : ℕ) → ((n + 1) % 2 == 0) ≡ not (n % 2 == 0)
-    by n = elim (cases_eq (n % 2) 0) [
-      | inl even ↦ ne_eqb ((n + 1) % 2) 0 (λ z. omega (arith, even, z)) ∙ sym (ap not (eq-eqb (n % 2) 0 even))
-      | inr odd ↦ eq-eqb ((n + 1) % 2) 0 (omega (arith, odd)) ∙ sym (ap not (ne_eqb (n % 2) 0 odd))
-    ]
+    by n = grind (arith, cases_eq, ne_eqb, eq-eqb)
 
 pub phases_differ : (mask free full odd_free odd_full : ℕ) → free ≢ full → full ≢ odd_free → odd_free ≢ odd_full → odd_full ≢ free
     → (q : Slots) → 1 ≤ q.size → (p : Party) (k v : ℕ) → phase_bits q.size mask free full odd_free odd_full p k v ≡ true
@@ -68,8 +65,7 @@ phases_differ mask free full odd_free odd_full even turn odd back q some the_rec
 
 virtio_tells : (q : Slots) → 1 ≤ q.size → (p : Party) (k v : ℕ) → phase_bits q.size 32896 0 128 32896 32768 p k v ≡ true
     → phase_bits q.size 32896 0 128 32896 32768 (other p) (k + gap q p) v ≡ false
-virtio_tells = phases_differ 32896 0 128 32896 32768 (λ e. omega (arith, e)) (λ e. omega (arith, e)) (λ e. omega (arith, e))
-    (λ e. omega (arith, e))
+virtio_tells = grind (arith, phases_differ)
 
 -- of two slots, the number 1 tells the receiver of position 0, and the sender of position 2 of the same slot
 one_bit_tells_both : (phase_bits 2 1 0 1 1 0 the_receiver 0 1 ≡ true) × (phase_bits 2 1 0 1 1 0 the_sender 2 1 ≡ true)

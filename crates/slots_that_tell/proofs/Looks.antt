@@ -1,5 +1,5 @@
 -- What a look at a tag says.
-use Rattle.std.proofs.Common.{ℕ, ◌+◌, ◌-◌, ◌%◌, ◌^◌, ◌<◌, ◌≤◌, ◌≡◌, ◌≢◌, ◌⊎◌, inl, inr, Bool, true, false, if◌then◌else◌, List, [], ◌∷◌, Option, Some, None}
+use Rattle.std.proofs.Common.{ℕ, ◌+◌, ◌-◌, ◌%◌, ◌^◌, ◌<◌, ◌≤◌, ◌≡◌, ◌≢◌, ◌⊎◌, inl, inr, Bool, true, false, if◌then◌else◌, List, [], ◌∷◌, Option, Some}
 use Rattle.std.proofs.Common.{refl, sym, ◌∙◌, ap, subst, arith}
 use Rattle.std.specs.Prelude.{unwrap_or}
 use Rattle.std.specs.Int.{byte_at}
@@ -9,7 +9,7 @@ use Rattle.memory.specs.declared.writes.Write.{Write}
 use Rattle.memory.specs.Writes.{covers, byte_after, newest_of, joined}
 use Rattle.memory.proofs.Bytes.{joined-same}
 use Rattle.step_machine.specs.declared.events.Entry.{Entry}
-use Rattle.step_machine.specs.Names.{OpeningValue, pending, memory_byte, read_byte, read}
+use Rattle.step_machine.specs.Names.{OpeningValue, pending, memory_byte, read}
 use Rattle.queue_parties.proofs.Parties.{both-equal, twice}
 use Rattle.queue_parties.specs.Parties.{Party, other, QueueCounts, count, known, with_known}
 use Rattle.queue_parties.proofs.Positions.{same_slot, ahead, ahead-stands}
@@ -87,9 +87,7 @@ module _ (q : Slots) (is : IsSlots q) (r : Party) where
 module _ (q : Slots) (is : IsSlots q) (o : OpeningValue) (es : List Entry) (c : QueueCounts) (m : Party → ℕ) (held : Held q o es c m) (r : Party) where
   tag_read : (k : ℕ) → read o es (teller_hart q r) (tag_of q k) q.tag_width
       ≡ joined (λ i. after_all (pending (teller_hart q r) es) (tag_of q k + i) (memory_byte o es (tag_of q k + i))) q.tag_width
-  tag_read k = joined-same (λ i. read_byte o es (teller_hart q r) (tag_of q k + i))
-      (λ i. after_all (pending (teller_hart q r) es) (tag_of q k + i) (memory_byte o es (tag_of q k + i))) q.tag_width
-      (λ i lt. newest-after (tag_of q k + i) (memory_byte o es (tag_of q k + i)) None (pending (teller_hart q r) es))
+  tag_read k = grind (arith, joined-same, newest-after)
 
   abbrev ws : List Write
   ws = pending (teller_hart q r) es
@@ -122,8 +120,7 @@ module _ (q : Slots) (is : IsSlots q) (o : OpeningValue) (es : List Entry) (c : 
           turned = omega (arith, le)
 
           not_mine : (v : ℕ) → q.tells (other r) k v ≡ true → q.tells r j v ≡ false
-          not_mine v theirs = ap (λ i. q.tells r i v) (sym turned)
-              ∙ subst (λ s. q.tells s (k + gap q (other r)) v ≡ false) (twice r) (is.differ (other r) k v theirs)
+          not_mine v theirs = grind (arith, twice)
 
           at : (k < m r + gap q r) ⊎ (m r + gap q r ≤ k) → ⊥
           at (inl less) =
@@ -181,10 +178,7 @@ module _ (q : Slots) (is : IsSlots q) (o : OpeningValue) (es : List Entry) (c : 
           word = is_read ∙ ap (λ x. read o es (teller_hart q r) x width) place ∙ ap (read o es (teller_hart q r) (tag_of q j)) parts.1
 
           near : j < count r c + q.size
-          near =
-              let low : ahead q.size (count r c) (element_at q a) < q.size =
-              mod-lt (element_at q a + (q.size - count r c % q.size)) some in
-              omega (arith, low)
+          near = grind (arith, ahead, mod-lt)
 
           told_by : (t : Bool) → q.tells r j v ≡ t → ((if t then with_known r (known r c + (told q r j - known r c)) c else c) ≡ c)
               ⊎ ((k : ℕ) × ((if t then with_known r (known r c + (told q r j - known r c)) c else c) ≡ with_known r k c) × (known r c ≤ k) × (k ≤ m (other r)))

@@ -1,5 +1,5 @@
 -- Where slots and tags lie.
-use Rattle.std.proofs.Common.{ℕ, ◌+◌, ◌-◌, ◌*◌, ◌%◌, ◌^◌, ◌<◌, ◌≤◌, ◌≡◌, ◌≢◌, ◌==◌, ◌&&◌, inl, inr, Bool, true, false, if◌then◌else◌, refl, sym, ◌∙◌, ap, subst}
+use Rattle.std.proofs.Common.{ℕ, ◌+◌, ◌-◌, ◌*◌, ◌%◌, ◌^◌, ◌<◌, ◌≤◌, ◌≡◌, ◌≢◌, inl, inr, Bool, true, false, if◌then◌else◌, refl, sym, ◌∙◌, ap, subst}
 use Rattle.std.proofs.Common.{arith}
 use Rattle.std.specs.Int.{byte_at}
 use Rattle.std.proofs.Math.Nat.{mod-mod, add-mul-mod_self_left}
@@ -69,14 +69,10 @@ module _ (q : Slots) (is : IsSlots q) where
   element_at-tag k = in_slot q.tag_stride (k % q.size) (tag_of q k - q.tags) (omega arith) (omega (arith, is.some_bytes, is.tag_within))
 
   pub is_tag-tag : (k : ℕ) → is_tag q (tag_of q k) q.tag_width ≡ true
-  is_tag-tag k =
-      let at : tag_of q k ≡ tag_of q (element_at q (tag_of q k)) = sym (ap (tag_of q) (element_at-tag k) ∙ tag-same (k % q.size) k (mod-mod k q.size)) in
-      ap (λ b. b && (q.tag_width == q.tag_width)) (eq-eqb (tag_of q k) (tag_of q (element_at q (tag_of q k))) at)
-      ∙ eq-eqb q.tag_width q.tag_width refl
+  is_tag-tag k = grind (arith, element_at-tag, tag-same, mod-mod, eq-eqb)
 
   pub moved-tag : (p : Party) (n m : ℕ) (w : Write) → IsTagStore q p n w → moved q m w ≡ m + 1
-  moved-tag p n m w tag = ap (λ b. if b then m + 1 else m)
-      (ap (λ a. is_tag q a w.width) tag.place ∙ ap (is_tag q (tag_of q n)) tag.width ∙ is_tag-tag n)
+  moved-tag p n m w tag = grind (arith, is_tag-tag)
 
   pub moved-leaves : (n : ℕ) (w : Write) → LeavesTags q w → moved q n w ≡ n
   moved-leaves n w leaves = by (is_tag q w.addr w.width) refl
@@ -121,8 +117,7 @@ module _ (q : Slots) (is : IsSlots q) where
   -- what a tag holds after a write past it, or of it
   pub tag-left : (w : Write) (f : ℕ → ℕ) (k : ℕ) → ((x : ℕ) → IsTagByte q k x → covers w x ≡ false)
       → joined (λ i. byte_after w (tag_of q k + i) (f (tag_of q k + i))) q.tag_width ≡ joined (λ i. f (tag_of q k + i)) q.tag_width
-  tag-left w f k leaves = joined-same (λ i. byte_after w (tag_of q k + i) (f (tag_of q k + i))) (λ i. f (tag_of q k + i)) q.tag_width
-      (λ i lt. ap (λ b. if b then byte_at (tag_of q k + i - w.addr) w.value else f (tag_of q k + i)) (leaves (tag_of q k + i) (omega arith, omega (arith, lt))))
+  tag-left w f k leaves = grind (arith, joined-same)
 
   pub tag-stored : (w : Write) (f : ℕ → ℕ) (k : ℕ) → w.addr ≡ tag_of q k → w.width ≡ q.tag_width
       → joined (λ i. byte_after w (tag_of q k + i) (f (tag_of q k + i))) q.tag_width ≡ w.value % 256 ^ q.tag_width

@@ -1,4 +1,4 @@
--- Whole runs: the window, and what a look says.
+-- Whole runs: the window, what a look says, and what moves a count in memory.
 use Rattle.std.proofs.Common.{ℕ, ◌+◌, ◌<◌, ◌≤◌, ◌≡◌, inl, true, false, List, [], ◌∷◌, ◌++◌, refl, sym, ◌∙◌, ap, subst, arith, append-nil, append_assoc}
 use Rattle.std.specs.Prelude.{All, slice_index_or}
 use Rattle.std.proofs.lemmas.List.Elements.{All-head, All-tail}
@@ -13,11 +13,34 @@ use Rattle.slots_that_tell.proofs.Places.{LeavesTags, moved-leaves, off-leaves}
 use Rattle.slots_that_tell.proofs.Sides.{Tidy, Side, Held, within}
 use Rattle.slots_that_tell.proofs.Looks.{false_tag}
 use Rattle.slots_that_tell.proofs.Steps.{next, one-on}
+use Rattle.std.proofs.Common.{◌≤◌, ◌≡◌, List, [], ◌∷◌, ◌++◌, length, refl, sym, ℕ, ◌∙◌, subst, append_assoc}
+use Rattle.step_machine.specs.declared.events.Entry.{Entry}
+use Rattle.step_machine.specs.Names.{OpeningValue, history_of, write_of, own_stores, lands, LegalAfter}
+use Rattle.step_machine.proofs.{LegalAfter-front, balanced}
+use Rattle.queue_parties.specs.Parties.{Party, QueueCounts, count}
+use Rattle.queue_parties.proofs.Parties.{keeps-front}
+use Rattle.queue_parties.proofs.Landed.{Moves}
+use Rattle.queue_parties.proofs.Positions.{Shape}
+use Rattle.queue_parties.proofs.Runs.{Counting}
+use Rattle.slots_that_tell.specs.Slots.{Slots}
+use Rattle.slots_that_tell.specs.{KeepsEntry, teller_hart, after_entry, told_counts, moved, FollowsTelling}
+use Rattle.slots_that_tell.proofs.Sides.{Held, moved-more}
+use Rattle.slots_that_tell.proofs.Steps.{next-mine, next-other}
 
 -- what memory's counts are after more entries
 unfoldable pub memory_counts : Slots → (Party → ℕ) → (before es : List Entry) → Party → ℕ
 memory_counts q m before [] = m
 memory_counts q m before (e ∷ es) = memory_counts q (next q before e m) (before ++ e ∷ []) es
+
+-- the counts that the tags in memory stand for, after a run's entries
+abbrev pub memory_at : Slots → QueueCounts → (before es : List Entry) → Party → ℕ
+memory_at q start before es = memory_counts q (λ t. count t start) before es
+
+pub memory-last : (q : Slots) (m : Party → ℕ) (before es : List Entry) (e : Entry) (p : Party)
+    → memory_counts q m before (es ++ e ∷ []) p ≡ next q (before ++ es) e (memory_counts q m before es) p
+unfolding memory_counts
+memory-last q m before [] e p = rw append-nil refl
+memory-last q m before (d ∷ es) e p = rw (← append_assoc before (d ∷ []) es) (memory-last q (next q before d m) (before ++ d ∷ []) es e p)
 
 pub holds-after : (B : ℕ) (q : Slots) (is : IsSlots q) (o : OpeningValue) (before : List Entry) (c : QueueCounts) (m : Party → ℕ) (es : List Entry)
     → Held q o before c m → Legal B (history_of o before) → LegalAfter B o before es → KeepsTelling q c es
@@ -125,3 +148,44 @@ look B q start o before es e f p j v at does from below silent =
     front : (q : Slots) (c : QueueCounts) (es fs : List Entry) → KeepsTelling q c (es ++ fs) → KeepsTelling q c es
     front q c [] fs keeps = tt
     front q c (d ∷ es) fs keeps = (keeps.0, front q (after_entry q c d) es fs keeps.1)
+
+-- ---- what moves a count in memory: a party's own writes alone
+
+pub follows-front : (B : ℕ) (q : Slots) (start : QueueCounts) (o : OpeningValue) (before es fs : List Entry) → FollowsTelling B q start o before (es ++ fs)
+    → FollowsTelling B q start o before es
+follows-front B q start o before es fs f = record {
+  slots = f.slots;
+  legal = LegalAfter-front B o [] (before ++ es) fs (subst (LegalAfter B o []) (sym (append_assoc before es fs)) f.legal);
+  rest = f.rest;
+  keeps = keeps-front (after_entry q) (KeepsEntry q) start es fs f.keeps;
+}
+
+-- the two harts and the slots, of which all else is said in queue_parties
+abbrev pub shape : Slots → Shape
+shape q = record { sender = q.sender; receiver = q.receiver; slots = q.slots; width = q.width; size = q.size; capacity = q.size }
+
+module _ (B : ℕ) (q : Slots) (start : QueueCounts) (o : OpeningValue) (before es : List Entry) (f : FollowsTelling B q start o before es) (p : Party) where
+  held-at : (done rest : List Entry) → es ≡ done ++ rest → Held q o (before ++ done) (told_counts q start done) (memory_at q start before done)
+  held-at done rest split = held-of B q start o before done (follows-front B q start o before done rest (subst (FollowsTelling B q start o before) split f))
+
+  moves : (done : List Entry) (e : Entry) (rest : List Entry) → es ≡ done ++ e ∷ rest → Moves B o (teller_hart q p) (moved q) (moved-more q) (before ++ done) e
+      (memory_at q start before done p) (memory_at q start before (done ++ e ∷ []) p)
+  moves done e rest split =
+      let even : (h : ℕ) → lands h (before ++ done) ≤ length (own_stores h (before ++ done)) = λ h.
+      balanced B (history_of o (before ++ done)) h
+      (follows-front B q start o before done (e ∷ rest) (subst (FollowsTelling B q start o before) split f)).legal
+      in (
+        λ here. memory-last q (λ t. count t start) before done e p
+            ∙ next-mine B q f.slots o (before ++ done) e even (memory_at q start before done) p here (write_of (before ++ done) e) refl,
+        λ apart. memory-last q (λ t. count t start) before done e p ∙ next-other B q f.slots o (before ++ done) e even (memory_at q start before done) p apart,
+      )
+
+  pub counting : Counting (shape q) (after_entry q) start B o before es p
+  counting = record {
+    moved = moved q;
+    more_moved = moved-more q;
+    memory = λ done. memory_at q start before done p;
+    moves = moves;
+    count_is = λ done rest is. ((held-at done rest is).side p).count_is;
+    known_less = ((held-of B q start o before es f).side p).known_less;
+  }

@@ -1,5 +1,5 @@
 -- What holds of a party's tags in its buffer, and of the tags in memory.
-use Rattle.std.proofs.Common.{ℕ, ◌+◌, ◌%◌, ◌^◌, ◌<◌, ◌≤◌, ◌≡◌, ◌≢◌, ◌⊎◌, inl, inr, Bool, true, false, if◌then◌else◌, List, [], ◌∷◌, ◌++◌, refl, sym, ◌∙◌, ap}
+use Rattle.std.proofs.Common.{ℕ, ◌+◌, ◌%◌, ◌^◌, ◌<◌, ◌≤◌, ◌≡◌, ◌≢◌, ◌⊎◌, inl, inr, Bool, true, false, if◌then◌else◌, List, [], ◌∷◌, ◌++◌, sym, ◌∙◌, ap}
 use Rattle.std.proofs.Common.{subst, arith}
 use Rattle.std.specs.Prelude.{All}
 use Rattle.std.proofs.lemmas.Bool.{cases_lt}
@@ -11,6 +11,7 @@ use Rattle.step_machine.specs.Names.{OpeningValue, write_of, pending, memory_byt
 use Rattle.step_machine.proofs.Stays.{memory_byte-write, memory_byte-other}
 use Rattle.queue_parties.specs.Parties.{Party, the_sender, the_receiver, other, QueueCounts, count, known}
 use Rattle.queue_parties.proofs.Positions.{same_slot}
+use Rattle.queue_parties.proofs.Landed.{moved_through-more, moved_through-append}
 use Rattle.queue_parties.proofs.Parties.{two, twice}
 use Rattle.slots_that_tell.specs.Slots.{Slots, IsSlots, gap, tag_of, IsTagByte, memory_tag}
 use Rattle.slots_that_tell.specs.{teller_hart, owned_end, moved, IsTagStore, moved_on}
@@ -50,13 +51,10 @@ moved-more q n w = by (Rattle.slots_that_tell.specs.Slots.is_tag q w.addr w.widt
     by false = omega arith
 
 pub moved_on-more : (q : Slots) (n : ℕ) (ws : List Write) → n ≤ moved_on q n ws
-moved_on-more q n [] = omega arith
-moved_on-more q n (w ∷ ws) = let one : n ≤ moved q n w = moved-more q n w in
-    let more : moved q n w ≤ moved_on q (moved q n w) ws = moved_on-more q (moved q n w) ws in omega (arith, one, more)
+moved_on-more q n ws = moved_through-more (moved q) (moved-more q) n ws
 
 pub moved_on-append : (q : Slots) (n : ℕ) (ws vs : List Write) → moved_on q n (ws ++ vs) ≡ moved_on q (moved_on q n ws) vs
-moved_on-append q n [] vs = refl
-moved_on-append q n (w ∷ ws) vs = moved_on-append q (moved q n w) ws vs
+moved_on-append q n ws vs = moved_through-append (moved q) n ws vs
 
 pub tidy-append : (q : Slots) (p : Party) (n : ℕ) (ws : List Write) (w : Write) → Tidy q p n ws → (LeavesTags q w ⊎ IsTagStore q p (moved_on q n ws) w)
     → Tidy q p n (ws ++ w ∷ [])
@@ -89,8 +87,7 @@ module _ (q : Slots) (is : IsSlots q) (o : OpeningValue) (es : List Entry) (e : 
 
   module _ (w : Write) (writes : write_of es e ≡ w ∷ []) where
     tag-after : (k : ℕ) → memory_tag q o after k ≡ joined (λ i. byte_after w (tag_of q k + i) (memory_byte o es (tag_of q k + i))) q.tag_width
-    tag-after k = joined-same (λ i. memory_byte o after (tag_of q k + i)) (λ i. byte_after w (tag_of q k + i) (memory_byte o es (tag_of q k + i))) q.tag_width
-        (λ i lt. memory_byte-write o es e w (tag_of q k + i) writes)
+    tag-after k = grind (arith, joined-same, memory_byte-write)
 
     kept-tag : (k : ℕ) → ((x : ℕ) → IsTagByte q k x → covers w x ≡ false) → memory_tag q o after k ≡ memory_tag q o es k
     kept-tag k leaves = tag-after k ∙ tag-left q is w (memory_byte o es) k leaves

@@ -10,7 +10,7 @@ use Rattle.step_machine.specs.declared.events.Entry.{Entry}
 use Rattle.step_machine.specs.Names.{OpeningValue, Access, nothing, load, store, exchange, fence, land, access_of, hart_of, stored_by, landed_by, written_by}
 use Rattle.step_machine.specs.Names.{own_store, land_of, write_of, pending, own_stores, lands, read, AllowedBy, Allowed}
 use Rattle.step_machine.proofs.Changed.{some_first}
-use Rattle.store_buffers.proofs.Effects.{stored_none, pending-quiet, pending-more, pending-first}
+use Rattle.store_buffers.proofs.Effects.{stored_none, landed_none, pending-quiet, pending-more, pending-first}
 use Rattle.queue_parties.specs.Parties.{Party, other, QueueCounts, count, known, with_known}
 use Rattle.queue_parties.proofs.Parties.{two, twice, count-set, count-set-other, known-set-count, count-set-known, known-set, known-set-other, Whose, mine}
 use Rattle.queue_parties.proofs.Parties.{theirs, whose, harts-apart}
@@ -29,15 +29,10 @@ module _ (q : Slots) (is : IsSlots q) (p : Party) (c : QueueCounts) (w : Write) 
   stores-clean (inr fills) = inl (fills-leaves q is p c w fills)
 
   pub stores-room : MayStore q p c w → count p c ≤ owned_end q p c → moved q (count p c) w ≤ owned_end q p c
-  stores-room (inl moves) le =
-      let more : moved q (count p c) w ≡ count p c + 1 = moved-tag q is p (count p c) (count p c) w moves.tag in omega (arith, more, moves.owned)
+  stores-room (inl moves) le = grind (arith, moved-tag)
   stores-room (inr fills) le =
       let same : moved q (count p c) w ≡ count p c = moved-leaves q is (count p c) w (fills-leaves q is p c w fills) in
       omega (arith, same, le)
-
-landed_none : (x : Access) → landed_by false x ≡ 0
-landed_none land = refl
-landed_none x = refl
 
 -- ---- a look
 
@@ -60,17 +55,12 @@ held-looked q is o es c m held r a width v is_read = elim (looked q is o es c m 
 ]
   where
     less : (k : ℕ) → k ≤ m (other r) → (p : Party) → (p ≡ r) ⊎ (p ≡ other r) → known (other p) (with_known r k c) ≤ m p
-    less k upto p (inl same) = subst (λ t. known (other t) (with_known r k c) ≤ m t) (sym same)
-        (let at : known (other r) (with_known r k c) ≡ known (other r) c = known-set-other r k c in omega (arith, at, (held.side r).known_less))
-    less k upto p (inr same) = subst (λ t. known (other t) (with_known r k c) ≤ m t) (sym same)
-        (subst (λ t. known t (with_known r k c) ≤ m (other r)) (sym (twice r))
-        (let at : known r (with_known r k c) ≡ k = known-set r k c in omega (arith, at, upto)))
+    less k upto p (inl same) = grind (arith, known-set-other)
+    less k upto p (inr same) = grind (arith, twice, known-set)
 
     grows : (k : ℕ) → known r c ≤ k → (p : Party) → (p ≡ r) ⊎ (p ≡ other r) → known p c ≤ known p (with_known r k c)
-    grows k from p (inl same) = subst (λ t. known t c ≤ known t (with_known r k c)) (sym same)
-        (let at : known r (with_known r k c) ≡ k = known-set r k c in omega (arith, at, from))
-    grows k from p (inr same) = subst (λ t. known t c ≤ known t (with_known r k c)) (sym same)
-        (let at : known (other r) (with_known r k c) ≡ known (other r) c = known-set-other r k c in omega (arith, at))
+    grows k from p (inl same) = grind (arith, known-set)
+    grows k from p (inr same) = grind (arith, known-set-other)
 
 -- ---- one entry
 
@@ -90,8 +80,7 @@ module _ (B : ℕ) (q : Slots) (is : IsSlots q) (o : OpeningValue) (es : List En
   next-other p apart = ap (λ b. moved_on q (m p) (if b then write_of es e else [])) (ne_eqb (hart_of e) (teller_hart q p) apart)
 
   pub next-mine : (p : Party) → hart_of e ≡ teller_hart q p → (ws : List Write) → write_of es e ≡ ws → next q es e m p ≡ moved_on q (m p) ws
-  next-mine p at ws writes = ap (λ b. moved_on q (m p) (if b then write_of es e else []))
-      (eq-eqb (hart_of e) (teller_hart q p) at) ∙ ap (moved_on q (m p)) writes
+  next-mine p at ws writes = grind (arith, eq-eqb)
 
   next-none : write_of es e ≡ [] → (p : Party) → next q es e m p ≡ m p
   next-none none p = ap (λ ws. moved_on q (m p) (if hart_of e == teller_hart q p then ws else [])) none ∙ by (hart_of e == teller_hart q p)
@@ -101,9 +90,7 @@ module _ (B : ℕ) (q : Slots) (is : IsSlots q) (o : OpeningValue) (es : List En
       by false = refl
 
   kept : (g : ℕ) → hart_of e ≢ g → pending g after ≡ pending g es
-  kept g apart = pending-quiet es e g (even g)
-      (ap (λ b. stored_by b (access_of e)) (ne_eqb (hart_of e) g apart) ∙ stored_none (access_of e))
-      (ap (λ b. landed_by b (access_of e)) (ne_eqb (hart_of e) g apart) ∙ landed_none (access_of e))
+  kept g apart = grind (arith, pending-quiet, ne_eqb, stored_none, landed_none)
 
   module _ (x : Access) (does : access_of e ≡ x) where
     stores-by : (g : ℕ) → own_store g e ≡ stored_by (hart_of e == g) x
@@ -118,16 +105,13 @@ module _ (B : ℕ) (q : Slots) (is : IsSlots q) (o : OpeningValue) (es : List En
   -- the pending stores of the entry's hart
   own-quiet : (x : Access) → access_of e ≡ x → ((b : Bool) → stored_by b x ≡ []) → ((b : Bool) → landed_by b x ≡ 0)
       → pending (hart_of e) after ≡ pending (hart_of e) es
-  own-quiet x does unstored unlanded = pending-quiet es e (hart_of e) (even (hart_of e)) (stores-by x does (hart_of e) ∙ unstored (hart_of e == hart_of e))
-      (lands-by x does (hart_of e) ∙ unlanded (hart_of e == hart_of e))
+  own-quiet x does unstored unlanded = grind (arith, pending-quiet, stores-by, lands-by)
 
   own-stored : (w : Write) → access_of e ≡ store w → pending (hart_of e) after ≡ pending (hart_of e) es ++ w ∷ []
-  own-stored w does = pending-more es e (hart_of e) (even (hart_of e)) w
-      (stores-by (store w) does (hart_of e) ∙ ap (λ b. if b then w ∷ [] else []) (eq-eqb (hart_of e) (hart_of e) refl)) (lands-by (store w) does (hart_of e))
+  own-stored w does = grind (arith, pending-more, stores-by, eq-eqb, lands-by)
 
   own-landed : access_of e ≡ land → (w : Write) (rest : List Write) → pending (hart_of e) es ≡ w ∷ rest → pending (hart_of e) after ≡ rest
-  own-landed does w rest first = pending-first es e (hart_of e) (even (hart_of e)) w rest first (stores-by land does (hart_of e))
-      (lands-by land does (hart_of e) ∙ ap (λ b. if b then 1 else 0) (eq-eqb (hart_of e) (hart_of e) refl))
+  own-landed does w rest first = grind (arith, pending-first, stores-by, lands-by, eq-eqb)
 
   module _ (c : QueueCounts) (held : Held q o es c m) where
     abbrev pub Holds : QueueCounts → Type 0

@@ -7,7 +7,7 @@ use Rattle.step_machine.specs.Legal.{Legal}
 use Rattle.step_machine.specs.Access.{exchange, access_of}
 use Rattle.step_machine.specs.Entries.{hart_of, read}
 use Rattle.store_buffers.specs.StoreBuffers.{LeavesByteAt}
-use Rattle.queue_parties.specs.Parties.{Party, the_sender, the_receiver, QueueCounts, count, known}
+use Rattle.queue_parties.specs.Parties.{Party, the_sender, the_receiver, QueueCounts, count, known, moved_through}
 use Rattle.queue_parties.specs.Positions.{numbers_from, records_passed}
 use Rattle.slots_that_tell.specs.Slots.{Slots, IsSlots, RestsAt, tagged_slot, IsSlotByte, IsTagByte}
 use Rattle.slots_that_tell.specs.Telling.{teller_hart, after_entry, moved, KeepsTelling}
@@ -21,8 +21,7 @@ pub record FollowsTelling (B : ℕ) (q : Slots) (start : QueueCounts) (o : Openi
 
 -- a count after these writes of the party's
 abbrev pub moved_on : Slots → (n : ℕ) → List Write → ℕ
-moved_on q n [] = n
-moved_on q n (w ∷ ws) = moved_on q (moved q n w) ws
+moved_on q n ws = moved_through (moved q) n ws
 
 -- this hart writes nothing to the slots but tags, and makes no AMO, to whatever address: so the receiver leaves what it is to take
 pub record StoresTagsAlone (q : Slots) (h : ℕ) (es : List Entry) : Type 0 where

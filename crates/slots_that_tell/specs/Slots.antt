@@ -6,7 +6,7 @@ use Rattle.store_buffers.specs.StoreBuffers.{memory_number}
 use Rattle.step_machine.specs.declared.events.Entry.{Entry}
 use Rattle.step_machine.specs.History.{OpeningValue}
 use Rattle.step_machine.specs.Entries.{pending}
-use Rattle.queue_parties.specs.Parties.{Party, the_sender, the_receiver, other, QueueCounts, IsWindow}
+use Rattle.queue_parties.specs.Parties.{Party, the_sender, the_receiver, other, QueueCounts, IsWindow, handed_on}
 use Rattle.queue_parties.specs.Positions.{IsInBytes, slot_from}
 
 -- The harts that send and receive; where the slots begin, how many they are, and how many bytes one has; where the elements begin that
@@ -25,11 +25,9 @@ pub record Slots : Type 0 where
   pub tag_width : ℕ
   pub tells : Party → (k v : ℕ) → Bool
 
--- how far on the position is that a party's tag hands to the other: the sender hands over position k itself, and the receiver the
--- slot's next one
+-- how far on the position is that a party's tag hands to the other
 abbrev pub gap : Slots → Party → ℕ
-gap q the_sender = 0
-gap q the_receiver = q.size
+gap q p = handed_on q.size p
 
 -- the elements with the tags are the slots, or none of their bytes is a slot's
 abbrev pub AreSlots : Slots → Type 0

@@ -36,12 +36,7 @@ copy-quiet : (k : Kind) (r : RingBuffer) (is : IsRingBuffer r) (o : OpeningValue
     → writes_to r (pending r.sender es) ≡ [] → Copied k (Some a) r o es n m
     → (j : ℕ) × (n < j) × (j ≤ m + r.size) × (memory_word o es a ≡ slot_offset r j)
 copy-quiet fastforward r is o es n m a some none copy = absurd (cc)
-copy-quiet lamport r is o es n m a some none copy = (
-  copy.place,
-  omega (arith, copy.low),
-  copy.high,
-  sym (quiet_read r o es r.sender a (is.copy a some).above (is.copy a some).below none) ∙ copy.own.reads,
-)
+copy-quiet lamport r is o es n m a some none copy = grind (arith, copy, quiet_read)
 
 quiet : (B : ℕ) (k : Kind) (r : RingBuffer) (is : IsRingBuffer r) (L : ℕ → ℕ) (o : OpeningValue) (b d : ℕ) (es : List Entry) (s : ProtocolState)
     (at : At k r o es s) → Content k r L o b d es s → Legal B (history_of o es) → s.stored ≡ s.published → IsWhole s.receiving

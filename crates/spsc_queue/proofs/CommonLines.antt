@@ -13,7 +13,7 @@ use Rattle.spsc_queue.specs.Calls.{Party, the_sender, the_receiver}
 use Rattle.step_machine.proofs.Lines.{store_line}
 use Rattle.spsc_queue.proofs.Courses.{At, at_00, at_04, at_24, at_28, at_2C, at_30, number, went, bytes_of}
 use Rattle.spsc_queue.proofs.Numbers.{word_overlaps}
-use Rattle.spsc_queue.proofs.Outline.{part, role, IsOffset, Near, index_at, ready, put, all_accesses, Ready, Half, Row, IsStore, Moves, Part, Stored, more}
+use Rattle.spsc_queue.proofs.Outline.{part, role, IsOffset, Near, index_at, ready, put, all_accesses, Ready, Half, Row, IsStore, Moves, Stored, more}
 use Rattle.spsc_queue.proofs.Parts.{copied, ready-offset, stored-offset, slot-sent}
 use Rattle.spsc_queue.proofs.AllLines.{Spot, to_line, loads_to, stores_to, line_at, on, over, wraps_not, wraps, to_indexed, ready_5, ready_on, to_half}
 use Rattle.spsc_queue.proofs.AllLines.{to_finished, if_false, short, Answered, none, returns_1, returns_0, answers_1, answers_0}
@@ -195,17 +195,7 @@ module _ (K : Kind) (r : RingBuffer) (t : ProtocolState) (u : ℕ) where
   pub sender_puts : (w : ℕ) → t.sending ≡ roomy u → w < 2 ^ 32 → IsSendable K w → (made : Write) → overlaps r made ≡ true → made ≡ write (r.slots + u) 4 w
       → IsStore the_sender K r t made × Stored the_sender u (part the_sender (next_by K r sends t (store made)))
       × ((part the_sender (next_by K r sends t (store made))).words ≡ t.sent ++ w ∷ [])
-  sender_puts w knows small some made hits is_made =
-      let becomes = slot-sent K r made hits t u knows in
-      let value : made.value ≡ w = ap (λ (y : Write). y.value) is_made in (
-        subst (λ q. IsSenderStore K r q made) (sym knows) (
-          record { place = ap (λ (y : Write). y.addr) is_made; width = ap (λ (y : Write). y.width) is_made },
-          subst (λ y. y < 2 ^ 32) (sym value) small,
-          subst (IsSendable K) (sym value) some,
-        ),
-        ap (λ (y : Part). y.sending) becomes,
-        ap (λ (y : Part). y.words) becomes ∙ ap (λ y. t.sent ++ y ∷ []) value,
-      )
+  sender_puts w knows small some made hits is_made = grind (arith, slot-sent)
 
   pub sender_publishes : t.sending ≡ filled u → (made : Write) → IsWordAt made r.head → made.value ≡ next r u → IsStore the_sender K r t made
   sender_publishes knows made word value = subst (λ q. IsSenderStore K r q made) (sym knows) (word, value)

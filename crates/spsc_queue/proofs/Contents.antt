@@ -63,12 +63,7 @@ module _ (B : ℕ) (k : Kind) (r : RingBuffer) (L : ℕ → ℕ) (o : OpeningVal
   theirs-landed = omega (arith, at.slots_held, c.theirs, landed-on (releases_to k r) r.receiver now)
 
   pub counts : (at.there ≤ available_of k s) × (available_of k s ≤ s.stored) × (at.freed ≤ s.taken) × (s.taken ≤ at.there)
-  counts = (
-    omega (arith, at.words_held),
-    available_stored k s (near-counts r s.stored s.published s.sending at.placed_at).0,
-    omega (arith, at.slots_held),
-    omega (arith, at.known_there),
-  )
+  counts = grind (arith, available_stored, near-counts)
 
   -- a hart that reads a word alone reads it still, where nobody has written there since
   since : (h a v : ℕ) (front back : List Entry) → now ≡ front ++ back → Own h o front a v → ((y : ℕ) → a ≤ y → y < a + 4 → AllLeaveByte y back)
@@ -324,10 +319,7 @@ module _ (B : ℕ) (k : Kind) (r : RingBuffer) (is : IsRingBuffer r) (kind : r.k
   sender-stores w p does mine was made ahead = absurd made
 
   one_received : (u v : ℕ) → s.receiving ≡ holding u v → s.received ++ v ∷ [] ≡ firsts L (s.taken + 1)
-  one_received u v was =
-      let held : v ≡ L s.taken = subst (Holds (slice_index F) s.taken) was c.holds in
-      let one_more : suc s.taken ≡ s.taken + 1 = omega arith in
-      ap (λ ws. ws ++ v ∷ []) c.received ∙ ap (λ x. firsts L s.taken ++ x ∷ []) held ∙ ap (firsts L) one_more
+  one_received u v was = grind (arith, slice_index, firsts)
 
   receiver-stores : (w : Write) (q : ReceiverState) (K : Kind) → k ≡ K → access_of e ≡ store w → s.receiving ≡ q → IsReceiverStore K r q w
       → Next (receive_store K q s)

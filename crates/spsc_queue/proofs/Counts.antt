@@ -147,10 +147,7 @@ module _ (r : RingBuffer) (is : IsRingBuffer r) where
   in-slots w j at = let low = offset_low r is j in grind (arith, nat_tests)
 
   off-slots : (w : Write) (a : ℕ) → w.addr ≡ a → (a + 4 ≤ r.slots) ⊎ (r.slots + 4 * r.size ≤ a) → is_in_slots r w ≡ false
-  off-slots w a at apart = elim apart [
-    | inl below ↦ grind (arith, nat_tests)
-    | inr above ↦ grind (arith, nat_tests)
-  ]
+  off-slots w a at apart = grind (arith, nat_tests)
 
   not-slot : (w : Write) (a j : ℕ) → w.addr ≡ slot_address r j → (a + 4 ≤ r.slots) ⊎ (r.slots + 4 * r.size ≤ a) → (w.addr == a) ≡ false
   not-slot w a j at apart = ne_eqb w.addr a (λ same. elim apart [
@@ -254,14 +251,7 @@ module _ (k : Kind) (r : RingBuffer) (is : IsRingBuffer r) (kind : r.kind ≡ k)
   pub counted-taken : (P : Write → Bool) → ((w : Write) → overlaps r w ≡ false → P w ≡ false)
       → ((w : Write) → overlaps r w ≡ true → IsReceiverStore k r s.receiving w → (receive_store k s.receiving s).taken ≡ s.taken + number_of P (w ∷ []))
       → z.taken ≡ s.taken + number_of P (own_store r.receiver e)
-  counted-taken P none some = by-access k r s (hart_of e) (λ t x y. y.taken ≡ s.taken + number_of P (stored_by (hart_of e == r.receiver) x))
-      (λ t x off. quiet P none s.taken (hart_of e == r.receiver) x off)
-      (λ mine a v. omega arith)
-      (λ mine a v. omega arith)
-      (λ mine w on made. sent-same w s.sending s ∙ (let z : s.taken ≡ s.taken + 0 = omega arith in z)
-      ∙ ap (λ b. s.taken + number_of P (stored_by b (store w))) (sym (ne_eqb (hart_of e) r.receiver (λ e. is.parties (sym mine ∙ e)))))
-      (λ mine w on made. some w on made ∙ ap (λ b. s.taken + number_of P (stored_by b (store w))) (sym (eq-eqb (hart_of e) r.receiver mine)))
-      (access_of e) keeps
+  counted-taken P none some = grind (arith, by-access, hart_of, stored_by, quiet, mine, sent-same, store, ne_eqb, eq-eqb, access_of)
 
   pub counted-released : IsAsked r s.consumed s.receiving → Taking k s.taken s.consumed s.receiving
       → z.taken ≡ s.taken + number_of (releases_to k r) (own_store r.receiver e)
@@ -304,14 +294,7 @@ module _ (P : Write → Bool) (h : ℕ) where
 
   -- what has landed stays so
   pub landed-grows : (es fs : List Entry) → lands h es ≤ length (own_stores h es) → landed_number es ≤ landed_number (es ++ fs)
-  landed-grows es fs even =
-      let xs : List Write = own_stores h es ++ own_stores h fs in
-      let all : take (lands h (es ++ fs)) (own_stores h (es ++ fs)) ≡ take (lands h es) (own_stores h es) ++ take (lands h fs) (drop (lands h es) xs) =
-      ap (λ zs. take (lands h (es ++ fs)) zs) (stores-append h es fs)
-      ∙ ap (λ n. take n xs) (lands-append h es fs) ∙ take-add (lands h es) (lands h fs) xs
-      ∙ ap (λ zs. zs ++ take (lands h fs) (drop (lands h es) xs)) (take-append-le (lands h es) (own_stores h es) (own_stores h fs) even) in
-      let more = ap (number_of P) all ∙ number-append P (take (lands h es) (own_stores h es)) (take (lands h fs) (drop (lands h es) xs)) in
-      omega (arith, more)
+  landed-grows es fs even = grind (arith, own_stores, lands, stores-append, lands-append, take-add, take-append-le, number-append)
 
   -- once more have landed than a front of its stores holds, more have landed than that front is long
   pub landed-past : (es : List Entry) (front back : List Write) → own_stores h es ≡ front ++ back → number_of P front < landed_number es

@@ -168,8 +168,4 @@ module _ (n : ℕ) (k : Block) (s z : HartState) where
       (is_at 10 10 place (omega arith)) ∙ ap (λ b. if b then slice_index s.registers 11 ∷ [] else []) (eq-eqb (slice_index s.registers 10) 1 one)
 
   pub completes_no_word : s.pc ≡ 4 * (n + 12) → slice_index s.registers 10 ≡ 0 → completed_at n true s ≡ []
-  completes_no_word place zero =
-      ap (λ b. if (b || (s.pc == 4 * (n + 12))) && (slice_index s.registers 10 == 1) then slice_index s.registers 11 ∷ [] else [])
-      (not_at 12 10 place (λ e. omega arith))
-      ∙ ap (λ b. if b && (slice_index s.registers 10 == 1) then slice_index s.registers 11 ∷ [] else []) (is_at 12 12 place (omega arith))
-      ∙ ap (λ b. if b then slice_index s.registers 11 ∷ [] else []) (ne_eqb (slice_index s.registers 10) 1 (λ e. omega (arith, zero, e)))
+  completes_no_word place zero = grind (arith, slice_index, not_at, is_at, ne_eqb)

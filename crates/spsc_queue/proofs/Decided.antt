@@ -1,7 +1,7 @@
 -- The computation of what callers owe is complete: of a run that keeps all it says so.
 use Rattle.std.proofs.Common.{not, nat_lt}
 use Rattle.std.proofs.lemmas.Bool.{eqb-false}
-use Rattle.spsc_queue.proofs.Common.{ℕ, ◌*◌, ◌/◌, ◌%◌, ◌^◌, ◌<◌, ◌≡◌, ◌≢◌, ◌==◌, ◌&&◌, ◌||◌, Bool, true, false, if◌then◌else◌, List, [], ◌∷◌, ◌++◌, Some, refl}
+use Rattle.spsc_queue.proofs.Common.{ℕ, ◌<◌, ◌≡◌, ◌≢◌, ◌==◌, ◌&&◌, ◌||◌, Bool, true, false, if◌then◌else◌, List, [], ◌∷◌, ◌++◌, Some, refl}
 use Rattle.spsc_queue.proofs.Common.{sym, ◌∙◌, ap, subst, arith, append-nil, append_assoc, slice_index, eq-eqb, ne_eqb, nat_tests, HartState, Entry, Access}
 use Rattle.spsc_queue.proofs.Common.{store, exchange, access_of, OpeningValue, history_of, hart_of, is_own, number_read, state_of, Kind, lamport, fastforward}
 use Rattle.spsc_queue.proofs.Common.{RingBuffer, WritesNothingTo, Block, SpscQueue, party_hart, party_line, buffer, enters, is_in_call_with, is_in_call_from}
@@ -31,12 +31,7 @@ less_said : (a b : ℕ) → a < b → nat_lt a b ≡ true
 less_said a b less = grind (arith, nat_tests)
 
 pub arguments_said : (p : Party) (n : ℕ) (k : Block) (s : HartState) → HasArguments p n k s → has_arguments p n k s ≡ true
-arguments_said p n k s is =
-    let x : ℕ → ℕ = slice_index s.registers in
-    let back : ℕ = x 1 / 2 * 2 in
-    both_hold _ _ (eq-eqb (x 12) (4 * k.size) is.bytes)
-    (both_hold _ _ (less_said (x 11) (2 ^ 32) is.word) (both_hold _ _ (passes_said p k.kind (x 11) is.sendable)
-    (both_hold _ _ (ap not (ne_eqb back (4 * n) is.back)) (both_hold _ _ (eq-eqb (back % 4) 0 is.back_aligned) (less_said (x 1) (2 ^ 32) is.back_small)))))
+arguments_said p n k s is = grind (arith, slice_index, both_hold, eq-eqb, less_said, passes_said, not, ne_eqb)
 
 party_said : (M : ℕ) (o : OpeningValue) (q : SpscQueue) (p : Party) (before done : List Entry) (e : Entry) (s : HartState)
     → state_of M (history_of o (before ++ done)) (party_hart q p) ≡ Some s → PartyObligation M o q p before done e
@@ -58,11 +53,7 @@ party_said M o q p before done e s there owes = at (is_own h e) refl (is_busy M 
         → (if b then party_keeps_in q p c (state_of M (history_of o (before ++ done)) (party_hart q p)) e else true) ≡ true
     at false off c is = refl
     at true on true busy = refl
-    at true on false idle =
-        let own = own_parts (party_hart q p) e on in
-        let w = owes own.0 own.1 s there idle in
-        ap (λ so. party_keeps_in q p false so e) there
-        ∙ both_hold _ _ (nothing_said (buffer q) (access_of e) w.0) (enters_so (enters (party_line q p) q.block z) refl w.1)
+    at true on false idle = grind (arith, own_parts, party_hart, both_hold, nothing_said, buffer, access_of, enters_so, enters, party_line)
 
 others_said : (q : SpscQueue) (e : Entry) → (hart_of e ≢ q.sender → hart_of e ≢ q.receiver → WritesNothingTo (buffer q) (access_of e)) → others_keep q e ≡ true
 others_said q e off = at (hart_of e == q.sender) refl (hart_of e == q.receiver) refl

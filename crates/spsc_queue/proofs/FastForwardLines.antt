@@ -12,7 +12,7 @@ use Rattle.spsc_queue.specs.Calls.{Party, the_sender, the_receiver}
 use Rattle.step_machine.proofs.Lines.{sum_line, same_jumps, other_goes_on}
 use Rattle.spsc_queue.proofs.Registers.{set-same, set-other}
 use Rattle.spsc_queue.proofs.Courses.{At, at_04, at_08, at_0C, at_10, at_14, at_18, at_1C, at_20, at_2C, number, Equipped, Course, free_6, free_11}
-use Rattle.spsc_queue.proofs.Outline.{Part, part, IsOffset, Near, first_look, Stored, IsStore, OwnRow, Row, Moves}
+use Rattle.spsc_queue.proofs.Outline.{part, IsOffset, Near, first_look, Stored, IsStore, OwnRow, Row, Moves}
 use Rattle.spsc_queue.proofs.Parts.{slot-taken, knows-offset, looked-offset}
 use Rattle.spsc_queue.proofs.AllLines.{Spot, spot, to_line, to_ready, loads_to, line_at, on, over, indexed_7, to_seen, to_no, word_set, if_false, found_room}
 use Rattle.spsc_queue.proofs.AllLines.{looked_once}
@@ -151,15 +151,7 @@ module _ (M n a b : ℕ) (k : Block) (is : IsBlock M k) (h : ℕ) (s : HartState
     receiver_puts : (u w : ℕ) → t.receiving ≡ holding u w → (made : Write) → overlaps r made ≡ true → made ≡ write (r.slots + u) 4 0
         → IsStore the_receiver fastforward r t made × Stored the_receiver u (part the_receiver (next_by fastforward r receives t (store made)))
         × ((part the_receiver (next_by fastforward r receives t (store made))).words ≡ t.received ++ w ∷ [])
-    receiver_puts u w knows made hits is_made =
-        let becomes = slot-taken fastforward r made hits t u w knows in (
-          subst (λ q. IsReceiverStore fastforward r q made) (sym knows) (
-            record { place = ap (λ (y : Write). y.addr) is_made; width = ap (λ (y : Write). y.width) is_made },
-            ap (λ (y : Write). y.value) is_made,
-          ),
-          ap (λ (y : Part). y.receiving) becomes,
-          ap (λ (y : Part). y.words) becomes,
-        )
+    receiver_puts u w knows made hits is_made = grind (arith, slot-taken, fastforward)
 
     receive_whole : (u v w : ℕ) → (v == 0) ≡ false
         → load r.tail 4 u ∷ load (r.slots + u) 4 v ∷ take_accesses fastforward r w u ≡ receive_accesses fastforward r w u v

@@ -45,10 +45,7 @@ off-keeps r is w off x on inside = let part = covers-from w x on in let within =
 -- the tag of position k, whose slot is the one at k - r.start from the first on
 pub tag_word : (r : RingBuffer) (o : OpeningValue) (before : List Entry) (k : ℕ) → r.start ≤ k
     → memory_word o before (slot_address r (k - r.start)) ≡ memory_tag (ring_slots_of r) o before k
-tag_word r o before k from =
-    let place : r.start + (k - r.start) ≡ k = omega (arith, from) in
-    let at : r.slots + 4 * (k % r.size) ≡ r.slots + 4 * (k % r.size) + 0 = omega arith in
-    ap (λ i. memory_word o before (r.slots + 4 * (i % r.size))) place ∙ ap (memory_word o before) at
+tag_word r o before k from = grind (arith, memory_word)
 
 pub rests : (r : RingBuffer) (is : IsRingBuffer r) (o : OpeningValue) (before : List Entry) → r.kind ≡ fastforward → IsQuiescent r o before
     → RestsAt (ring_slots_of r) o before (counts_at_start r)
@@ -94,9 +91,7 @@ placed-of r n m c p h = h
 pub asked-of : (r : RingBuffer) (n m : ℕ) (c : QueueCounts) (p : ReceiverState) → Receiving r n m c p → IsAsked r m p × Taking fastforward n m p
 asked-of r n m c idle h = (tt, h)
 asked-of r n m c (waiting u) h = absurd h
-asked-of r n m c (asked u) h = (h.1, h.0)
-asked-of r n m c (holding u w) h = (h.1, h.0)
-asked-of r n m c (cleared u) h = (h.1, h.0)
+asked-of r n m c other h = (h.1, h.0)
 
 -- as many are published and taken as the state says, and each party reads its place in its index
 pub record Agrees (r : RingBuffer) (o : OpeningValue) (es : List Entry) (s : ProtocolState) (c : QueueCounts) : Type 0 where
@@ -206,9 +201,7 @@ module _ (r : RingBuffer) (is : IsRingBuffer r) (kind : r.kind ≡ fastforward) 
       (λ on. by-test (λ b. Sending r s.stored s.published d (if not b then placed u else roomy u)) v 0
       (λ free. (h.0, h.1, told-there the_sender a v (on ∙ sent_place u (h.1 ∙ ap (slot_offset r) (sym h.0))) (eq-eqb v 0 free))) (λ full. h)) (λ off. h))
   sends-look a v (renewing u w) h = absurd h
-  sends-look a v resting h = h
-  sends-look a v (roomy u) h = h
-  sends-look a v (filled u) h = h
+  sends-look a v other h = h
 
   takes-look : (a v : ℕ) (p : ReceiverState) → Receiving r s.taken s.consumed (after_load q the_receiver a 4 v c) p
       → Receiving r s.taken s.consumed (after_load q the_receiver a 4 v c) (receive_look fastforward r a v p)
@@ -220,9 +213,7 @@ module _ (r : RingBuffer) (is : IsRingBuffer r) (kind : r.kind ≡ fastforward) 
       told-there the_receiver a v (on ∙ taken_place u (h.1 ∙ ap (slot_offset r) (sym h.0))) (ap not (ne_eqb v 0 full)) in (h.0, h.1, omega (arith, owns)))))
       (λ off. h)
   takes-look a v (waiting u) h = absurd h
-  takes-look a v idle h = h
-  takes-look a v (holding u w) h = h
-  takes-look a v (cleared u) h = h
+  takes-look a v other h = h
 
   sender-load : (a v : ℕ) → v ≡ read o es r.sender a 4
       → Agrees r o es (record s { sending = send_load fastforward r a v s.sending }) (after_load q the_sender a 4 v c)
@@ -302,10 +293,7 @@ module _ (r : RingBuffer) (is : IsRingBuffer r) (kind : r.kind ≡ fastforward) 
         ])
 
     apart-indices : (r.head + 4 ≤ r.tail) ⊎ (r.tail + 4 ≤ r.head)
-    apart-indices = elim (cases_lt r.head r.tail) [
-      | inl lt ↦ inl (omega (arith, lt, is.head.aligned, is.tail.aligned))
-      | inr le ↦ inr (omega (arith, le, is.apart, is.head.aligned, is.tail.aligned))
-    ]
+    apart-indices = grind (arith, cases_lt)
 
     sender-made : (w : Write) (p : SenderState) → access_of e ≡ store w → hart_of e ≡ r.sender → Sending r s.stored s.published c p
         → IsSenderStore fastforward r p w

@@ -18,7 +18,7 @@ use Rattle.slot_queue.specs.Ownership.{party_of, hart, index, end, moved, after_
 use Rattle.slot_queue.specs.Laws.{moved_on}
 use Rattle.slot_queue.proofs.Codes.{least-near}
 use Rattle.slot_queue.proofs.Sides.{Side, moved-leaves, moved-index, fills-leaves}
-use Rattle.slot_queue.proofs.Publication.{others-unmoved}
+use Rattle.slot_queue.proofs.Runs.{others-unmoved}
 use Rattle.slot_queue.proofs.Looks.{bounds, Bounds, found, reads-other}
 use Rattle.slot_queue.proofs.Owned.{grows-access, loaded-count, grows-load}
 use Rattle.slot_queue.proofs.OwnIndex.{reads-through}
@@ -45,10 +45,7 @@ is_queue r is = record {
 }
   where
     words_apart : (r.head + 4 ≤ r.tail) ⊎ (r.tail + 4 ≤ r.head)
-    words_apart = elim (cases_lt r.head r.tail) [
-      | inl lt ↦ inl (omega (arith, lt, is.head.aligned, is.tail.aligned))
-      | inr le ↦ inr (omega (arith, le, is.apart, is.head.aligned, is.tail.aligned))
-    ]
+    words_apart = grind (arith, cases_lt)
 
 -- an index's word is the offset of a slot
 pub offset-word : (r : RingBuffer) (n j : ℕ) → n ≡ r.start + j → slot_offset r j ≡ index_word (queue_of r) n

@@ -7,10 +7,7 @@ use Rattle.spsc_queue.proofs.States.{firsts}
 
 numbers-last : (R : ℕ → ℕ) (n : ℕ) → numbers_from R 0 (suc n) ≡ numbers_from R 0 n ++ R n ∷ []
 unfolding numbers_from
-numbers-last R n =
-    let more : suc n ≡ n + 1 = omega arith in
-    let at : 0 + n ≡ n = omega arith in
-    ap (numbers_from R 0) more ∙ numbers-split R 0 n 1 ∙ ap (λ k. numbers_from R 0 n ++ R k ∷ []) at
+numbers-last R n = grind (arith, numbers-split)
 
 pub firsts-numbers : (L : ℕ → ℕ) (n : ℕ) → firsts L n ≡ numbers_from L 0 n
 unfolding numbers_from

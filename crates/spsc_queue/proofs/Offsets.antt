@@ -16,17 +16,11 @@ module _ (r : RingBuffer) (is : IsRingBuffer r) where
       (omega (arith, same))
 
   pub slots_apart : (j k : ℕ) → j < k → k < j + r.size → (slot_address r j + 4 ≤ slot_address r k) ⊎ (slot_address r k + 4 ≤ slot_address r j)
-  slots_apart j k less near = elim (cases_lt (slot_offset r j) (slot_offset r k)) [
-    | inl low ↦ inl (omega (arith, low))
-    | inr high ↦ let other : slot_offset r j ≢ slot_offset r k = offset_apart j k less near in inr (omega (arith, high, other))
-  ]
+  slots_apart j k less near = grind (arith, cases_lt, slot_offset, offset_apart)
 
   -- what lies off the slots lies off each
   pub slot_off : (a j : ℕ) → (a + 4 ≤ r.slots) ⊎ (r.slots + 4 * r.size ≤ a) → (a + 4 ≤ slot_address r j) ⊎ (slot_address r j + 4 ≤ a)
-  slot_off a j apart = elim apart [
-    | inl low ↦ inl (omega (arith, low))
-    | inr high ↦ inr (omega (arith, high, offset_low j))
-  ]
+  slot_off a j apart = grind (arith, offset_low)
 
   -- the offset after that of word j
   pub next_offset : (u j : ℕ) → u ≡ slot_offset r j → next r u ≡ slot_offset r (j + 1)

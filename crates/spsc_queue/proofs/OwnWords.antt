@@ -3,14 +3,14 @@ use Rattle.std.specs.Prelude.{unwrap_or}
 use Rattle.std.specs.Int.{byte_at}
 use Rattle.spsc_queue.proofs.Common.{ℕ, ◌+◌, ◌-◌, ◌^◌, ◌<◌, ◌≤◌, ◌≡◌, ◌≢◌, ◌==◌, ◌⊎◌, inl, inr, Bool, false, true, if◌then◌else◌, List, [], ◌∷◌, ◌++◌, length}
 use Rattle.spsc_queue.proofs.Common.{Some, None, refl, sym, ◌∙◌, ap, subst, arith, All, eq-eqb, ne_eqb, nat_tests, All-nil, All-cons, Write, write, covers-from}
-use Rattle.spsc_queue.proofs.Common.{Entry, OpeningValue, Access, store, exchange, land, access_of, hart_of, stored_by, pending, memory_byte, memory_word}
+use Rattle.spsc_queue.proofs.Common.{Entry, OpeningValue, Access, store, exchange, access_of, hart_of, stored_by, pending, memory_byte, memory_word}
 use Rattle.spsc_queue.proofs.Common.{read_byte, read, own_stores, lands, Allowed, IsOnlyWriter, RingBuffer, overlaps, writes_to, WritesNothingTo, IsWordAt}
 use Rattle.memory.specs.Writes.{covers, newest_of}
 use Rattle.memory.proofs.Bytes.{joined-same, word_of_bytes, covers-yes}
 use Rattle.memory.proofs.WholeWords.{newest_of-append}
 use Rattle.step_machine.specs.Entries.{landed_by}
 use Rattle.store_buffers.specs.StoreBuffers.{LeavesByte, LeavesByteBy}
-use Rattle.store_buffers.proofs.Effects.{stored_none, pending-quiet, pending-more}
+use Rattle.store_buffers.proofs.Effects.{stored_none, landed_none, pending-quiet, pending-more}
 use Rattle.store_buffers.proofs.Reading.{passed_over}
 use Rattle.store_buffers.proofs.MessagePassing.{kept}
 use Rattle.spsc_queue.proofs.Cases.{never}
@@ -50,10 +50,6 @@ past w p a at apart y from below = past-byte w p y at (elim apart [
   | inl l ↦ inl (omega (arith, l, from))
   | inr l ↦ inr (omega (arith, l, below))
 ])
-
-landed_none : (x : Access) → landed_by false x ≡ 0
-landed_none land = refl
-landed_none x = refl
 
 module _ (es : List Entry) (e : Entry) (even : (h : ℕ) → lands h es ≤ length (own_stores h es)) where
   abbrev after : List Entry

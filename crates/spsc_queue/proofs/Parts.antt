@@ -187,10 +187,7 @@ module _ (K : Kind) (r : RingBuffer) where
   pub past-load : (t : ProtocolState) (a v u c : ℕ) → t.sending ≡ placed u → r.copy ≡ Some c → a ≢ r.head → a ≢ c → a ≡ room_at K r u
       → (next_by K r sends t (load a 4 v)).sending ≡ looks_past_copy K r u v
   past-load t a v u c knows copy other apart here =
-      ap (send_load K r a v) knows ∙ ap (λ b. if b then placed v else send_look K r a v (placed u)) (ne_eqb a r.head other)
-      ∙ ap (λ q. looks_at q K r a u v) copy
-      ∙ ap (λ b. if b then looks_for_room K r u v else (if a == room_at K r u then looks_past_copy K r u v else placed u)) (ne_eqb a c apart)
-      ∙ ap (λ b. if b then looks_past_copy K r u v else placed u) (eq-eqb a (room_at K r u) here)
+      grind (arith, send_load, placed, send_look, ne_eqb, looks_at, looks_for_room, room_at, looks_past_copy, eq-eqb)
 
   -- and of the slot where a word waits
   pub word-load : (t : ProtocolState) (a v u : ℕ) → t.receiving ≡ waiting u → a ≢ r.tail → a ≡ r.slots + u

@@ -2,7 +2,7 @@
 use Rattle.std.proofs.Common.{negsuc, ◌+ℤ◌, add-zero}
 use Rattle.std.proofs.lemmas.Int.{ints}
 use Rattle.std.proofs.lemmas.List.{get_or-set_same, get_or-set_other}
-use Rattle.spsc_queue.proofs.Common.{ℕ, pos, suc, ◌+◌, ◌-◌, ◌*◌, ◌^◌, ◌<◌, ◌≤◌, ◌≡◌, ◌≢◌, Bool, true, false, List, [], ◌∷◌, ◌++◌, length, Some, refl, sym, ◌∙◌}
+use Rattle.spsc_queue.proofs.Common.{ℕ, pos, suc, ◌+◌, ◌-◌, ◌*◌, ◌^◌, ◌<◌, ◌≤◌, ◌≡◌, ◌≢◌, Bool, true, false, List, [], ◌∷◌, ◌++◌, length, Some, refl, ◌∙◌}
 use Rattle.spsc_queue.proofs.Common.{ap, arith, length-append, slice_index, slice_set, map, slice_get, next_pc, address, Kind, lamport, fastforward, Listed}
 use Rattle.spsc_queue.proofs.Common.{words_of, lines_of, listing_of, StandsIn, word-plus}
 use Rattle.rv_decode.specs.Meaning.{meaning}
@@ -46,16 +46,10 @@ past f (x ∷ front) rest j =
 pub code_line : (code : List ℕ) (n : ℕ) (listing : List Listed) (st : StandsIn code n listing)
     → map meaning (words_of listing) ≡ map Some (lines_of listing) → (j : ℕ)
     → slice_get (map meaning code) (n + j) ≡ slice_get (map Some (lines_of listing) ++ map meaning st.back) j
-code_line code n listing st decoded j =
-    ap (λ ws. slice_get (map meaning ws) (n + j)) st.is ∙ ap (λ m. slice_get (map meaning (st.front ++ (words_of listing ++ st.back))) (m + j)) (sym st.place)
-    ∙ past meaning st.front (words_of listing ++ st.back) j ∙ ap (λ xs. slice_get xs j) (map-joined meaning (words_of listing) st.back)
-    ∙ ap (λ xs. slice_get (xs ++ map meaning st.back) j) decoded
+code_line code n listing st decoded j = grind (arith, slice_get, words_of, past, map-joined, decoded)
 
 pub code_room : (code : List ℕ) (n : ℕ) (listing : List Listed) → StandsIn code n listing → n + length (words_of listing) ≤ length code
-code_room code n listing st =
-    let whole : length code ≡ length st.front + (length (words_of listing) + length st.back) =
-    ap length st.is ∙ length-append st.front (words_of listing ++ st.back) ∙ ap (λ m. length st.front + m) (length-append (words_of listing) st.back) in
-    omega (arith, whole, st.place)
+code_room code n listing st = grind (arith, words_of, length-append)
 
 -- the pc of the next line, and of a line further on
 pub next_line : (pc j : ℕ) → pc ≡ 4 * j → 4 * j + 4 < 2 ^ 32 → next_pc pc ≡ 4 * (j + 1)

@@ -7,7 +7,8 @@ use Rattle.memory.specs.declared.writes.Write.{Write}
 use Rattle.memory.specs.Writes.{write, covers, byte_after, newest_of, joined}
 use Rattle.memory.proofs.Bytes.{joined-same, byte_below, byte_of_joined, covers-from}
 use Rattle.step_machine.specs.declared.events.Entry.{Entry}
-use Rattle.step_machine.specs.Names.{OpeningValue, Access, store, exchange, access_of, hart_of, stored_by, written_by, own_store, land_of, write_of, pending}
+use Rattle.step_machine.specs.Names.{OpeningValue, Access, store, exchange, land, access_of, hart_of, stored_by}
+use Rattle.step_machine.specs.Names.{landed_by, written_by, own_store, land_of, write_of, pending}
 use Rattle.step_machine.specs.Names.{landed, opening_byte, memory_byte, read_byte, own_stores, lands, read, AllowedBy, Allowed}
 use Rattle.step_machine.proofs.{pending-last, memory_byte-other, memory_byte-write}
 use Rattle.store_buffers.specs.StoreBuffers.{memory_number}
@@ -15,6 +16,10 @@ use Rattle.store_buffers.specs.StoreBuffers.{memory_number}
 pub stored_none : (x : Access) → stored_by false x ≡ []
 stored_none (store w) = refl
 stored_none x = refl
+
+pub landed_none : (x : Access) → landed_by false x ≡ 0
+landed_none land = refl
+landed_none x = refl
 
 -- the number of a few bytes of memory, where nothing is written, and after a write
 module _ (o : OpeningValue) (es : List Entry) (e : Entry) (a width : ℕ) where

@@ -11,7 +11,7 @@ use Rattle.step_machine.specs.Names.{Access, nothing, load, store, exchange, fen
 use Rattle.step_machine.proofs.Appended.{stores-append}
 use Rattle.store_buffers.specs.StoreBuffers.{LeavesByteBy, LeavesByteAt, AllLeaveByte}
 
-stores-cases : (g : ℕ) (e : Entry) → (own_store g e ≡ []) ⊎ ((w : Write) × (own_store g e ≡ w ∷ []) × (hart_of e ≡ g) × (access_of e ≡ store w))
+pub stores-cases : (g : ℕ) (e : Entry) → (own_store g e ≡ []) ⊎ ((w : Write) × (own_store g e ≡ w ∷ []) × (hart_of e ≡ g) × (access_of e ≡ store w))
 stores-cases g e = by (access_of e) refl
   where
     Cases : Access → Type 0
@@ -22,11 +22,7 @@ stores-cases g e = by (access_of e) refl
       | inl same ↦ inr (w, ap (stored_by (hart_of e == g)) does ∙ ap (λ b. if b then w ∷ [] else []) (eq-eqb (hart_of e) g same), same, does)
       | inr apart ↦ inl (ap (stored_by (hart_of e == g)) does ∙ ap (λ b. if b then w ∷ [] else []) (ne_eqb (hart_of e) g apart))
     ]
-    by nothing does = inl (ap (stored_by (hart_of e == g)) does)
-    by (load a width v) does = inl (ap (stored_by (hart_of e == g)) does)
-    by (exchange a old new) does = inl (ap (stored_by (hart_of e == g)) does)
-    by (fence full) does = inl (ap (stored_by (hart_of e == g)) does)
-    by land does = inl (ap (stored_by (hart_of e == g)) does)
+    by other does = inl (ap (stored_by (hart_of e == g)) does)
 
 module _ (P : Write → Type 0) (g l : ℕ) where
   -- each that isn't among the first l of the hart's stores

@@ -1,5 +1,5 @@
 -- What is noted of what a run loses, as its entries come.
-use Rattle.std.specs.Prelude.{ℕ, ◌≡◌, ◌+◌, ◌-◌, ◌*◌, ◌^◌, ◌<◌, ◌≤◌, List, [], length, None}
+use Rattle.std.specs.Prelude.{ℕ, ◌≡◌, ◌+◌, ◌-◌, ◌*◌, ◌^◌, ◌<◌, ◌≤◌, Option, None, List, [], length}
 use Rattle.step_machine.specs.declared.events.Entry.{Entry}
 use Rattle.step_machine.specs.declared.events.Event.{Event}
 use Rattle.step_machine.specs.declared.events.Outcome.{Outcome}
@@ -20,9 +20,10 @@ IsLogOf M q o start es log = (k x : ℕ) → IsRecordByte q k x → x < 4 * M �
     → logged log k x ≡ sent_from q o [] start nothing_sent es k x
 
 -- these are the notes after these entries, and this the log
-pub record AreLossNotes (M : ℕ) (q : AnyQueue) (o : OpeningValue) (start : QueueCounts) (es : List Entry) (log : List SentByte) (notes : LossNotes)
+pub record AreLossNotes (since : Option ℕ) (M : ℕ) (q : AnyQueue) (o : OpeningValue) (start : QueueCounts)
+    (es : List Entry) (log : List SentByte) (notes : LossNotes)
     : Type 0 where
-  pub found : notes.found ≡ first_loss q o start es
+  pub found : notes.found ≡ first_loss since q o start es
   pub counts : notes.found ≡ None → notes.counts ≡ run_counts q start es
   pub place : notes.found ≡ None → notes.place ≡ length es
   pub sent : notes.found ≡ None → IsLogOf M q o start es log

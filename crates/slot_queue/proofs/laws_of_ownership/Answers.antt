@@ -2,8 +2,7 @@ use Rattle.std.proofs.Common.{arith}
 use Rattle.queue_parties.specs.Parties.{the_sender, the_receiver}
 use Rattle.slot_queue.proofs.Codes.{least-near}
 use Rattle.slot_queue.proofs.Runs.{window}
-use Rattle.slot_queue.proofs.Publication.{published, published_with}
-use Rattle.slot_queue.proofs.HandingOver.{handed, waited, passed_on}
+use Rattle.slot_queue.proofs.HandingOver.{published, published_with, handed, waited, passed_on}
 use Rattle.slot_queue.proofs.OwnIndex.{own_index, look}
 use Rattle.slot_queue.proofs.Records.{in_order, in_order_as_learned}
 use Rattle.slot_queue.proofs.laws_of_ownership.Goals as goal
@@ -16,7 +15,7 @@ returns-clause-publication c = λ B q start o before es fs follows p more. publi
 
 pub returns-clause-publication_of_store : goal.returns-clause-publication_of_store
 returns-clause-publication_of_store c = λ B q start o before es e fs follows p w of_p does more.
-    published_with B q start o before es e fs follows p w of_p does more
+    published_with B q start o before es e fs follows p more
 
 pub returns-clause-other_memory : goal.returns-clause-other_memory
 returns-clause-other_memory c = λ B q start o before es fs follows p more h x alone leave. passed_on B q start o before es fs follows p more h x alone leave

@@ -1,6 +1,5 @@
 use Rattle.slots_that_tell.proofs.Runs.{window, look}
-use Rattle.slots_that_tell.proofs.Publication.{published}
-use Rattle.slots_that_tell.proofs.HandingOver.{published_by, handed, waited}
+use Rattle.slots_that_tell.proofs.HandingOver.{published, published_by, handed, waited}
 use Rattle.slots_that_tell.proofs.Records.{in_order, in_order_as_learned}
 use Rattle.slots_that_tell.proofs.Codecs.{zero_differs, numbered_differs, bits_differ, phases_differ}
 use Rattle.queue_parties.specs.Parties.{the_sender, the_receiver}

@@ -13,5 +13,6 @@ returns g c =
     let start = c.args.start in
     let d = runs_of g.row.B g.row.M g.G.Rng.stream c.args.sample.now in
     let schedule = λ (s : Stream). schedule_in (record d { stream = s }) (length o.harts) in
-    subst (λ (s : Stream). IfOk c.told_of_runs.result (λ told. IsTold (LosesNothing g.row.B g.row.M o q start) (HasLoss g.row.B g.row.M o q start)
+    subst (λ (s : Stream). IfOk c.told_of_runs.result (λ told. IsTold (LosesNothing g.row.B g.row.M o q start c.args.broken)
+    (HasLoss g.row.B g.row.M o q start c.args.broken)
     IsLossOfOneKind (λ all nothing. CountsNothing) (schedule s) d.number told)) {y = d.stream} c.in_ok-after.ensures c.told_of_runs.ensures

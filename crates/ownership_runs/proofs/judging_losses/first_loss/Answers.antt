@@ -14,9 +14,9 @@ loop-event-preserved g c =
     record {
       run = run_more g.row.B M (at_opening c.args.machine.now.history.opening) c.args.events.now c.loop-event.event-index _ t
           c.in_ok-notes.ensures.happened.0 u c.loop-event-test.true c.loop-event.invariant.run c.in_ok-notes.ensures.happened.1;
-      noted = subst (λ (o : OpeningValue). AreLossNotes M q o c.args.start u.entries c.note_event.new.log.items c.in_ok-notes.notes) same
+      noted = subst (λ (o : OpeningValue). AreLossNotes c.args.since M q o c.args.start u.entries c.note_event.new.log.items c.in_ok-notes.notes) same
           (c.in_ok-notes.ensures.noted c.args.start
-          (subst (λ (o : OpeningValue). AreLossNotes M q o c.args.start t.entries c.loop-event.log.items c.loop-event.notes) (sym same)
+          (subst (λ (o : OpeningValue). AreLossNotes c.args.since M q o c.args.start t.entries c.loop-event.log.items c.loop-event.notes) (sym same)
           c.loop-event.invariant.noted));
       opening = c.note_event.ensures.opening ∙ same;
       within = c.in_ok-notes.ensures.within c.loop-event.event-index c.loop-event.invariant.within;

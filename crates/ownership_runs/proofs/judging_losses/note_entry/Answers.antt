@@ -6,6 +6,8 @@ use Rattle.ownership_runs.proofs.judging_losses.note_entry.Goals as goal
 
 pub returns-in-Some-clause-noted : goal.returns-in-Some-clause-noted
 returns-in-Some-clause-noted g c start es is are =
-    subst (λ (fs : List Entry). AreLossNotes g.row.M c.args.queue.now c.args.machine.now.history.opening start fs c.args.log.now.items c.args.notes) (sym is)
-    (still-lost g.row.M c.args.queue.now c.requires.some_slot c.args.machine.now.history.opening start es c.args.entry c.in-Some.field-0
+    subst
+    (λ (fs : List Entry). AreLossNotes c.args.since g.row.M c.args.queue.now c.args.machine.now.history.opening
+    start fs c.args.log.now.items c.args.notes) (sym is)
+    (still-lost c.args.since g.row.M c.args.queue.now c.requires.some_slot c.args.machine.now.history.opening start es c.args.entry c.in-Some.field-0
     c.args.log.now.items c.args.log.now.items c.args.notes c.in-Some.is are)

@@ -1,7 +1,7 @@
 use Rattle.std.proofs.Common.{ℕ, ◌≡◌, ◌+◌, ◌-◌, ◌*◌, ◌^◌, List, refl, sym, ap, ◌∙◌, subst, arith}
 use Rattle.step_machine.specs.declared.events.Entry.{Entry}
 use Rattle.step_machine.specs.Names.{access_of, hart_of, read_byte}
-use Rattle.ownership_runs.specs.{party_for, loss_at}
+use Rattle.ownership_runs.specs.{party_for, loss_since}
 use Rattle.ownership_runs.specs.declared.judging_losses.LossNotes.{LossNotes}
 use Rattle.ownership_runs.specs.inner.Bounds.{STEP, AreCountsWithin}
 use Rattle.ownership_runs.specs.inner.Logging.{logged, answered, logged_by}
@@ -16,10 +16,11 @@ returns-clause-noted g c start es is are =
     let o = c.args.machine.now.history.opening in
     let e = c.args.entry in
     let notes = c.args.notes in
-    let new : LossNotes = record { found = c.loss_at-found.result; counts = c.after_entry-counts.result; place = notes.place + 1 } in
-    subst (λ (fs : List Entry). AreLossNotes M q o start fs c.log_entry.new.log.items new) (sym is)
-    (next-notes M q c.requires.some_slot o start es e c.args.log.now.items c.log_entry.new.log.items notes new c.requires.none are c.requires.within
-    (c.loss_at-found.ensures ∙ ap (λ ss. loss_at q notes.place notes.counts (answered notes.counts ss) e) c.deref.ensures.value)
+    let new : LossNotes = record { found = c.loss_since-found.result; counts = c.after_entry-counts.result; place = notes.place + 1 } in
+    subst (λ (fs : List Entry). AreLossNotes c.args.since M q o start fs c.log_entry.new.log.items new) (sym is)
+    (next-notes c.args.since M q c.requires.some_slot o start es e c.args.log.now.items c.log_entry.new.log.items notes new c.requires.none are
+    c.requires.within
+    (c.loss_since-found.ensures ∙ ap (λ ss. loss_since c.args.since q notes.place notes.counts (answered notes.counts ss) e) c.deref.ensures.value)
     c.after_entry-counts.ensures.value refl
     (λ k x. c.in_ok-log_entry.ensures k x
     ∙ ap (λ (fs : List Entry). logged_by M q (party_for q (hart_of e)) notes.counts.published c.after_entry-counts.result.published
