@@ -1,6 +1,7 @@
 -- What is left where the second of two lists has ended.
 use Rattle.std.proofs.Common.{ℕ, ◌≡◌, ◌-◌, ◌<◌, ◌≤◌, get_or, take, drop, List, [], ◌∷◌, Option, Some, zero, suc, true, false, length, refl, arith}
 use Rattle.std.proofs.lemmas.Grind.{common_steps}
+use Rattle.queue_certificates.specs.Facts.{Fact, weighed}
 use Rattle.queue_certificates.specs.Forms.{Form, dot, combined, number, differences, factor_at, agree, vanishes, most_of_sum, kept, are_in}
 
 pub dot_ended : (ms xs : List ℕ) → length xs < 1 → dot ms xs ≡ 0
@@ -41,6 +42,11 @@ pub are_in_ended : (rs : List (Option ℕ)) (gs : List Form) (ts : List (Option 
 are_in_ended rs [] ts g h = absurd (omega arith)
 are_in_ended rs (g ∷ gs) [] p h = refl
 are_in_ended rs (g ∷ gs) (t ∷ ts) p h = absurd (omega arith)
+
+pub weighed_ended : (ms : List ℕ) (hs : List Fact) → length hs < 1 → weighed ms hs ≡ record { below = number 0; above = number 0 }
+weighed_ended [] hs h = refl
+weighed_ended (m ∷ ms) [] h = refl
+weighed_ended (m ∷ ms) (g ∷ hs) h = absurd (omega arith)
 
 -- a factor that isn't listed is 0
 pub factor_listed : (ms : List ℕ) (j : ℕ) → factor_at ms j ≡ get_or ms j 0

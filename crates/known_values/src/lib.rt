@@ -11,6 +11,7 @@
 pub mod bits;
 pub mod bounds;
 pub mod comparisons;
+pub mod facts;
 pub mod fields;
 pub mod forms;
 pub mod lack;
@@ -24,6 +25,7 @@ mod words;
 
 pub use bits::Bits;
 pub use bounds::Bounds;
+pub use facts::Fact;
 pub use fields::Field;
 pub use forms::Form;
 pub use lack::Lack;

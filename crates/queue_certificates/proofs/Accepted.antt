@@ -1,5 +1,5 @@
 -- What an accepted certificate was accepted for: each of its queues is one, and opens rightly, and so does each of its harts.
-use Rattle.std.proofs.Common.{arith, ℕ, ◌-◌, ◌+◌, ◌*◌, ◌%◌, ◌^◌, ◌<◌, ◌≤◌, ◌≡◌, ◌==◌, ◌&&◌, ◌||◌, ◌⊎◌, inl, inr, not, Bool, true, false, Option, Some, None}
+use Rattle.std.proofs.Common.{arith, ℕ, ◌+◌, ◌%◌, ◌^◌, ◌<◌, ◌≤◌, ◌≡◌, ◌==◌, ◌&&◌, ◌||◌, ◌⊎◌, inl, inr, not, Bool, true, false, Option, Some, None}
 use Rattle.std.proofs.Common.{List, [], ◌∷◌, length, get_or, refl, sym, ◌∙◌, ap, subst}
 use Rattle.std.specs.Prelude.{nat_lt, nat_le, slice_index, slice_set, All}
 use Rattle.std.specs.List.{slice_get, list_all}
@@ -25,50 +25,10 @@ use Rattle.queue_certificates.proofs.TagShares.{tagged-fine, opens-free}
 -- ---- queues
 
 apart-as : (a m b n : ℕ) → are_apart a m b n ≡ true → (a + m ≤ b) ⊎ (b + n ≤ a)
-apart-as a m b n ok = elim (or_cases (nat_le (a + m) b) (nat_le (b + n) a) ok) [
-  | inl below ↦ inl (leb-true (a + m) b below)
-  | inr above ↦ inr (leb-true (b + n) a above)
-]
+apart-as a m b n ok = grind (arith, or_cases, leb-true)
 
 fine-queue : (q : Queue) → is_queue q ≡ true → IsQueue q × TellsFull q × (q.index_width ≤ 4)
-fine-queue q ok =
-    let c1 = not (q.sender == q.receiver) in
-    let c2 = are_apart q.head q.index_width q.tail q.index_width in
-    let c3 = are_apart q.head q.index_width q.slots (q.size * q.width) in
-    let c4 = are_apart q.tail q.index_width q.slots (q.size * q.width) in
-    let p12 = and_parts (c1 && c2 && c3 && c4 && nat_le 1 q.size && nat_le q.capacity q.size && nat_le 1 q.modulus && nat_le 1 q.scale && nat_le 1 q.index_width
-    && nat_lt (q.base + q.scale * (q.modulus - 1)) (256 ^ q.index_width) && nat_le q.index_width 4) (nat_lt q.capacity q.modulus) ok in
-    let p11 = and_parts (c1 && c2 && c3 && c4 && nat_le 1 q.size && nat_le q.capacity q.size && nat_le 1 q.modulus && nat_le 1 q.scale && nat_le 1 q.index_width
-    && nat_lt (q.base + q.scale * (q.modulus - 1)) (256 ^ q.index_width)) (nat_le q.index_width 4) p12.0 in
-    let p10 = and_parts
-    (c1 && c2 && c3 && c4 && nat_le 1 q.size && nat_le q.capacity q.size && nat_le 1 q.modulus && nat_le 1 q.scale
-    && nat_le 1 q.index_width)
-    (nat_lt (q.base + q.scale * (q.modulus - 1)) (256 ^ q.index_width)) p11.0 in
-    let p9 = and_parts
-    (c1 && c2 && c3 && c4 && nat_le 1 q.size && nat_le q.capacity q.size && nat_le 1 q.modulus && nat_le 1 q.scale)
-    (nat_le 1 q.index_width) p10.0 in
-    let p8 = and_parts (c1 && c2 && c3 && c4 && nat_le 1 q.size && nat_le q.capacity q.size && nat_le 1 q.modulus) (nat_le 1 q.scale) p9.0 in
-    let p7 = and_parts (c1 && c2 && c3 && c4 && nat_le 1 q.size && nat_le q.capacity q.size) (nat_le 1 q.modulus) p8.0 in
-    let p6 = and_parts (c1 && c2 && c3 && c4 && nat_le 1 q.size) (nat_le q.capacity q.size) p7.0 in
-    let p5 = and_parts (c1 && c2 && c3 && c4) (nat_le 1 q.size) p6.0 in
-    let p4 = and_parts (c1 && c2 && c3) c4 p5.0 in
-    let p3 = and_parts (c1 && c2) c3 p4.0 in
-    let p2 = and_parts c1 c2 p3.0 in (
-      record {
-        parties = eqb-false q.sender q.receiver (not-true (q.sender == q.receiver) p2.0);
-        apart = apart-as q.head q.index_width q.tail q.index_width p2.1;
-        head_apart = apart-as q.head q.index_width q.slots (q.size * q.width) p3.1;
-        tail_apart = apart-as q.tail q.index_width q.slots (q.size * q.width) p4.1;
-        some = leb-true 1 q.size p5.1;
-        fits = leb-true q.capacity q.size p6.1;
-        words = leb-true 1 q.modulus p7.1;
-        scale = leb-true 1 q.scale p8.1;
-        some_bytes = leb-true 1 q.index_width p9.1;
-        small = ltb-true (q.base + q.scale * (q.modulus - 1)) (256 ^ q.index_width) p10.1;
-      },
-      ltb-true q.capacity q.modulus p12.1,
-      leb-true q.index_width 4 p11.1,
-    )
+fine-queue q ok = grind (arith, not, and_parts, eqb-false, not-true, apart-as, leb-true, ltb-true)
 
 -- ---- the opening
 
@@ -121,10 +81,7 @@ module _ (M : ℕ) (o : OpeningValue) (c : QueueCertificate) (ok : accepts o c �
 
   checks : (all_below (length c.queues) queue_holds ≡ true) × (all_below (length c.tagged) tagged_holds ≡ true)
       × (all_below (length o.harts) (λ h. accepts_hart o c h (get_or o.harts h no_hart) (part_of c h)) ≡ true)
-  checks = let outer = and_parts (all_below (length c.queues) queue_holds && all_below (length c.tagged) tagged_holds)
-      (all_below (length o.harts) (λ h. accepts_hart o c h (get_or o.harts h no_hart) (part_of c h))) ok in
-      let inner = and_parts (all_below (length c.queues) queue_holds) (all_below (length c.tagged) tagged_holds) outer.0 in
-      (inner.0, inner.1, outer.1)
+  checks = grind (arith, and_parts, get_or)
 
   whole-queue : (i : ℕ) → i < length c.queues
       → ((is_queue (queue_at c i) && opens_empty o (queue_at c i) (start_at c i)) ≡ true) × (list_all (is_field (queue_at c i)) (fields_at c i) ≡ true)

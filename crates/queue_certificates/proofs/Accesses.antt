@@ -28,10 +28,7 @@ just-is (Some j) i is = ap (λ n. Some n) (eqb-true j i is)
 
 -- a hart is one party at most
 pub same-party : (q : Queue) → IsQueue q → (h : ℕ) (p r : Party) → h ≡ hart q p → h ≡ hart q r → p ≡ r
-same-party q is h p r one two-is = elim (two r p) [
-  | inl same ↦ same
-  | inr turned ↦ absurd (harts-apart q.sender q.receiver is.parties r (sym two-is ∙ one ∙ ap (hart q) turned))
-]
+same-party q is h p r one two-is = grind (arith, two, harts-apart)
 
 pub party-hart : (q : Queue) → IsQueue q → (h : ℕ) (p : Party) → party_of q h ≡ Some p → h ≡ hart q p
 party-hart q is h p party = by (whose q.sender q.receiver h)
@@ -71,14 +68,7 @@ missed q (Some p) b a width v c ok low high =
     x = index q (other p)
 
     off : (a == index q (other p) && width == q.index_width) ≡ false
-    off = elim (or_cases (nat_lt b.high (index q (other p)) || nat_lt (index q (other p)) b.low) (not (width == q.index_width)) ok) [
-      | inr part ↦ and_right (a == index q (other p)) (width == q.index_width) (not-true (width == q.index_width) part)
-      | inl side ↦ and_left (a == index q (other p)) (width == q.index_width) (ne_eqb a (index q (other p)) (λ same.
-          elim (or_cases (nat_lt b.high (index q (other p))) (nat_lt (index q (other p)) b.low) side) [
-            | inl above ↦ (let u : b.high < index q (other p) = ltb-true b.high (index q (other p)) above in omega (arith, u, high, same))
-            | inr below ↦ (let u : index q (other p) < b.low = ltb-true (index q (other p)) b.low below in omega (arith, u, low, same))
-          ]))
-    ]
+    off = grind (arith, or_cases, not, and_right, not-true, and_left, ne_eqb, ltb-true)
 
 -- ---- a look
 

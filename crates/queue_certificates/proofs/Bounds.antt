@@ -17,7 +17,7 @@ pub record IsSum (a b : Option ℕ) (n : ℕ) : Type 0 where
   pub right_is : b ≡ Some right
   pub sum : left + right ≡ n
 
-added-parts : (a b : Option ℕ) (n : ℕ) → added a b ≡ Some n → IsSum a b n
+pub added-parts : (a b : Option ℕ) (n : ℕ) → added a b ≡ Some n → IsSum a b n
 added-parts None b n is = absurd (cc)
 added-parts (Some x) None n is = absurd (cc)
 added-parts (Some x) (Some y) n is = record { left = x; right = y; left_is = refl; right_is = refl; sum = (let e : x + y ≡ n = cc in e) }
@@ -40,10 +40,7 @@ dot-below (r ∷ rs) (m ∷ ms) (x ∷ xs) b ranges is =
     let more : dot ms xs ≤ s.right = dot-below rs ms xs s.right ranges.1 s.right_is in omega (arith, one, more, s.sum)
 
 pub value-below : (rs : List (Option ℕ)) (f : Form) (xs : List ℕ) (b : ℕ) → InRanges rs xs → most rs f ≡ Some b → form_value f xs ≤ b
-value-below rs f xs b ranges is =
-    let s = added-parts (Some f.constant) (most_of_sum rs f.factors) b is in
-    let one : f.constant ≡ s.left = (let e : Some f.constant ≡ Some s.left = s.left_is in cc) in
-    let more : dot f.factors xs ≤ s.right = dot-below rs f.factors xs s.right ranges s.right_is in omega (arith, one, more, s.sum)
+value-below rs f xs b ranges is = grind (arith, added-parts, dot-below)
 
 pub fits-below : (b r : Option ℕ) (x : ℕ) → fits_in b r ≡ true → ((n : ℕ) → b ≡ Some n → x ≤ n) → IsAtMost r x
 fits-below b None x ok below = tt
@@ -215,8 +212,4 @@ value-word rs f n g xs ranges small is = by (remainder rs f n) refl is
         → first_form o (where_bounded (bounds_of n rs f) (record { constant = f.constant % n; factors = balanced n f.factors })) ≡ Some g
         → form_value f xs % n ≡ form_value g xs % 2 ^ 32
     by None none is = at (bounds_of n rs f) refl is
-    by (Some k) some is =
-        let r = value-remainder rs f n k xs ranges some in
-        let under : form_value f xs % n < n = mod-lt (form_value f xs) r.1 in
-        let e : form_value k xs ≡ form_value f xs % n = r.0 in
-        sym (sym (ap (λ j. form_value j xs % 2 ^ 32) (let same : k ≡ g = cc in same)) ∙ ap (λ y. y % 2 ^ 32) e ∙ mod-eq_of_lt (omega (arith, under, small)))
+    by (Some k) some is = grind (arith, value-remainder, mod-lt, mod-eq_of_lt)

@@ -193,10 +193,7 @@ module _ (M : ℕ) (o : OpeningValue) (c : QueueCertificate) (ok : accepts o c �
 
   -- what is asked where a queue has fields
   asked : (i : ℕ) (b : Bool) → HasFields c i → ((length (fields_at c i) == 0) || b) ≡ true → b ≡ true
-  asked i b told ok = elim (or_cases (length (fields_at c i) == 0) b ok) [
-    | inl none ↦ absurd (let zero-long : length (fields_at c i) ≡ 0 = eqb-true (length (fields_at c i)) 0 none in omega (arith, told, zero-long))
-    | inr holds ↦ holds
-  ]
+  asked i b told ok = grind (arith, or_cases, eqb-true)
 
   -- of a hart that acts
   abbrev Knows : (h : ℕ) → (us : AllCounts) → View → Type 0

@@ -2,7 +2,7 @@
 use Rattle.std.proofs.Common.{ℕ, ◌≤◌, ◌≡◌, ◌==◌, ◌&&◌, Bool, true, false, if◌then◌else◌, List, [], Option, Some, None, refl, sym, ◌∙◌, subst, arith}
 use Rattle.memory.specs.Writes.{write}
 use Rattle.step_machine.specs.declared.events.Entry.{Entry}
-use Rattle.step_machine.specs.Names.{OpeningValue, Access, nothing, load, store, exchange, fence, land, read_byte}
+use Rattle.step_machine.specs.Names.{OpeningValue, Access, load, store, exchange, land, read_byte}
 use Rattle.slot_queue.specs.{Queue, IsQueue, least_count, hart, index, moved, after_load, after_access, counts_after, KeepsAccess, FollowsOwnership}
 use Rattle.queue_parties.specs.Parties.{Party, the_sender, the_receiver, other, QueueCounts, count, known, with_known, all_at}
 use Rattle.slot_queue.proofs.{Side, Bounds, bounds, known-low, reads-other, sides-of, memory_at, own_index}
@@ -27,30 +27,21 @@ module _ (q : Queue) (r : Party) (c : QueueCounts) where
       by false = refl
 
   others-count : (y : Access) → count (other r) (after_access q (Some r) y c) ≡ count (other r) c
-  others-count nothing = refl
   others-count (load a width v) = loaded-count a width v
   others-count (store w) = count-set-other r (moved q r (count r c) w) c
   others-count (exchange a old new) = count-set-other r (moved q r (count r (after_load q r a 4 old c)) (write a 4 new)) (after_load q r a 4 old c)
       ∙ loaded-count a 4 old
-  others-count (fence full) = refl
-  others-count land = refl
+  others-count other = refl
 
   others-known : (y : Access) → known (other r) (after_access q (Some r) y c) ≡ known (other r) c
-  others-known nothing = refl
   others-known (load a width v) = loaded-known a width v
   others-known (store w) = known-set-count r (other r) (moved q r (count r c) w) c
   others-known (exchange a old new) = known-set-count r (other r) (moved q r (count r (after_load q r a 4 old c)) (write a 4 new)) (after_load q r a 4 old c)
       ∙ loaded-known a 4 old
-  others-known (fence full) = refl
-  others-known land = refl
+  others-known other = refl
 
 nobodys : (q : Queue) (y : Access) (c : QueueCounts) → after_access q None y c ≡ c
-nobodys q nothing c = refl
-nobodys q (load a width v) c = refl
-nobodys q (store w) c = refl
-nobodys q (exchange a old new) c = refl
-nobodys q (fence full) c = refl
-nobodys q land c = refl
+nobodys q other c = refl
 
 landed-counts : (q : Queue) (t : Option Party) (c : QueueCounts) → after_access q t land c ≡ c
 landed-counts q (Some p) c = refl

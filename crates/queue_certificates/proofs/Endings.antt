@@ -1,5 +1,5 @@
 -- Numbers that end in as many zeros as others do, in their lowest bits.
-use Rattle.std.proofs.Common.{ℕ, ◌+◌, ◌-◌, ◌*◌, ◌%◌, ◌^◌, ◌<◌, ◌≤◌, ◌≡◌, ◌==◌, Bool, inl, inr, sym, ◌∙◌, ap, arith}
+use Rattle.std.proofs.Common.{ℕ, ◌+◌, ◌-◌, ◌*◌, ◌%◌, ◌^◌, ◌<◌, ◌≤◌, ◌≡◌, ◌==◌, Bool, sym, ◌∙◌, ap, arith}
 use Rattle.std.specs.Prelude.{bit_and, bit_xor}
 use Rattle.std.specs.Int.Bits.{xor_add_and, xor_self}
 use Rattle.std.proofs.lemmas.Bool.{cases_eq, eq-eqb, ne_eqb}
@@ -24,10 +24,7 @@ alike-zero n x y t low alike is = ap (λ r. r == 0) (sym (mod-eq_of_lt low)) ∙
 
 -- what is 0 where two numbers are the same, and only there
 pub tells-same : (n a b : ℕ) → (n ≡ 0 → a ≡ b) → (a ≡ b → n ≡ 0) → (n == 0) ≡ (a == b)
-tells-same n a b to from = elim (cases_eq a b) [
-  | inl same ↦ eq-eqb n 0 (from same) ∙ sym (eq-eqb a b same)
-  | inr other ↦ ne_eqb n 0 (λ none. other (to none)) ∙ sym (ne_eqb a b other)
-]
+tells-same n a b to from = grind (arith, cases_eq, eq-eqb, ne_eqb)
 
 xor-same : (a b : ℕ) → bit_xor a b ≡ 0 → a ≡ b
 xor-same a b none =

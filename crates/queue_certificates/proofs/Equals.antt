@@ -1,12 +1,12 @@
 -- When two values are equal: by bounds of the difference of their forms, or of what they count as words of one index.
-use Rattle.std.proofs.Common.{ℕ, ◌+◌, ◌-◌, ◌*◌, ◌/◌, ◌%◌, ◌^◌, ◌<◌, ◌≤◌, ◌≡◌, ◌==◌, ◌&&◌, if◌then◌else◌, Bool, true, false, Option, Some, None, List, inl, inr}
+use Rattle.std.proofs.Common.{ℕ, ◌+◌, ◌-◌, ◌*◌, ◌/◌, ◌%◌, ◌^◌, ◌<◌, ◌≤◌, ◌≡◌, ◌==◌, ◌&&◌, if◌then◌else◌, Bool, true, false, Option, Some, None, List}
 use Rattle.std.proofs.Common.{refl, sym, ◌∙◌, ap, subst, arith}
 use Rattle.std.specs.Prelude.{nat_lt, nat_le}
 use Rattle.std.proofs.lemmas.Bool.{and_parts, eqb-true, ltb-true, leb-true, lt-ltb, eq-eqb, ne_eqb, cases_lt}
 use Rattle.std.proofs.Math.Nat.{mod-eq_of_lt, mul-div_cancel_left}
 use Rattle.slot_queue.specs.Queues.{Queue, index_word}
 use Rattle.queue_certificates.specs.Forms.{Form, form_value, number, plus, times, is_same, most, fits_in, InRanges, Bounds}
-use Rattle.queue_certificates.specs.States.{KnownValue, any, linear, index_for, signed_for, ends_as, has_bits, Has, signed_word, scaled}
+use Rattle.queue_certificates.specs.States.{KnownValue, linear, index_for, signed_for, ends_as, Has, signed_word, scaled}
 use Rattle.queue_certificates.specs.Results.{as_number, bounds, is_nothing, is_zero, agrees, unscaled, is_scaled, standing, both_agree, is_equal_word, is_equal}
 use Rattle.queue_certificates.proofs.Forms.{value-plus, value-times, same-value, taken-away}
 use Rattle.queue_certificates.proofs.Bounds.{value-below, fits-below}
@@ -37,19 +37,10 @@ module _ (queues : ℕ → Queue) (xs : List ℕ) (rs : List (Option ℕ)) (rang
       by true true low high = less
       by true false low high = omega (arith, less)
       by false false low high = omega (arith, less)
-      by false true low high = absurd (
-          let u : y + y < 256 ^ w = ltb-true (y + y) (256 ^ w) high in
-          let t : nat_lt (x + x) (256 ^ w) ≡ true = lt-ltb (x + x) (256 ^ w) (omega (arith, u, less)) in
-          let no : true ≡ false = sym t ∙ low in cc)
+      by false true low high = grind (arith, ltb-true, lt-ltb)
 
   signed-apart : (w x y : ℕ) → signed_word w x ≡ signed_word w y → x ≡ y
-  signed-apart w x y same = elim (cases_lt x y) [
-    | inl less ↦ absurd (let u : signed_word w x < signed_word w y = signed-below w x y less in omega (arith, u, same))
-    | inr other ↦ elim (cases_lt y x) [
-      | inl more ↦ absurd (let u : signed_word w y < signed_word w x = signed-below w y x more in omega (arith, u, same))
-      | inr more ↦ omega (arith, other, more)
-    ]
-  ]
+  signed-apart w x y same = grind (arith, cases_lt, signed-below)
 
   signed-equal : (w x y : ℕ) (t : Bool) → (x == y) ≡ t → (signed_word w x == signed_word w y) ≡ t
   signed-equal w x y true is = eq-eqb (signed_word w x) (signed_word w y) (ap (signed_word w) (eqb-true x y is))
@@ -59,10 +50,6 @@ module _ (queues : ℕ → Queue) (xs : List ℕ) (rs : List (Option ℕ)) (rang
   -- what a value stands for as a word of queue i's index
   standing-is : (i : ℕ) (v : KnownValue) (x : ℕ) (k : Form) → 1 ≤ (queues i).modulus → standing queues rs i v ≡ Some k → Has queues xs v x
       → x ≡ (queues i).base + (queues i).scale * (form_value k xs % (queues i).modulus)
-  standing-is i any x k some is has = absurd (cc)
-  standing-is i (signed_for j f) x k some is has = absurd (cc)
-  standing-is i (ends_as n f) x k some is has = absurd (cc)
-  standing-is i (has_bits m b) x k some is has = absurd (cc)
   standing-is i (index_for j f) x k some is has = by (i == j) refl is
     where
       by : (t : Bool) → (i == j) ≡ t → (if t then Some (plus f (number (queues i).offset)) else None) ≡ Some k
@@ -100,6 +87,7 @@ module _ (queues : ℕ → Queue) (xs : List ℕ) (rs : List (Option ℕ)) (rang
       by false other is = absurd (cc)
       by true ok is = subst (λ g. x ≡ (queues i).base + (queues i).scale * (form_value g xs % (queues i).modulus))
           (let e : unscaled queues rs (queues i) f ≡ k = cc in e) (at (unscaled queues rs (queues i) f) ok)
+  standing-is i other x k some is has = absurd (cc)
 
   equal-words : (base scale a b : ℕ) (t : Bool) → 1 ≤ scale → (a == b) ≡ t → (base + scale * a == base + scale * b) ≡ t
   equal-words base scale a b true some is = eq-eqb (base + scale * a) (base + scale * b) (ap (λ n. base + scale * n) (eqb-true a b is))
@@ -148,11 +136,7 @@ module _ (queues : ℕ → Queue) (xs : List ℕ) (rs : List (Option ℕ)) (rang
   turned x y false is = ne_eqb x y (λ same. (let no : true ≡ false = sym (eq-eqb y x (sym same)) ∙ is in cc))
 
   pub equal-is : (v w : KnownValue) (x y : ℕ) → Has queues xs v x → Has queues xs w y → (t : Bool) → is_equal queues rs v w ≡ Some t → (x == y) ≡ t
-  equal-is any w x y one two t is = absurd (cc)
   equal-is (index_for i f) w x y one two t is = equal-word i (index_for i f) w x y one two t is
-  equal-is (signed_for i f) any x y one two t is = absurd (cc)
-  equal-is (signed_for i f) (linear g) x y one two t is = absurd (cc)
-  equal-is (signed_for i f) (index_for j g) x y one two t is = absurd (cc)
   equal-is (signed_for i f) (signed_for j g) x y one two t is = by ((queues i).index_width == (queues j).index_width) refl is
     where
       a : ℕ
@@ -169,13 +153,8 @@ module _ (queues : ℕ → Queue) (xs : List ℕ) (rs : List (Option ℕ)) (rang
           (two ∙ ap (λ w. signed_word w b) (sym (eqb-true (queues i).index_width (queues j).index_width same)))
           ∙ signed-equal (queues i).index_width a b t (equal-word i (index_for i f) (index_for j g) a b refl refl t is)
   equal-is (ends_as n f) w x y one two t is = zero-is (ends_as n f) x y one (as_number w) (λ a of. known-is queues xs w y a of two) t is
-  equal-is (signed_for i f) (ends_as n g) x y one two t is = absurd (cc)
   equal-is (linear f) (ends_as n g) x y one two t is = turned x y t
       (zero-is (ends_as n g) y x two (as_number (linear f)) (λ a of. known-is queues xs (linear f) x a of one) t is)
-  equal-is (linear f) any x y one two t is = absurd (cc)
-  equal-is (has_bits m b) w x y one two t is = absurd (cc)
-  equal-is (linear f) (has_bits m b) x y one two t is = absurd (cc)
-  equal-is (signed_for i f) (has_bits m b) x y one two t is = absurd (cc)
-  equal-is (linear f) (signed_for i g) x y one two t is = absurd (cc)
   equal-is (linear f) (index_for i g) x y one two t is = equal-word i (linear f) (index_for i g) x y one two t is
   equal-is (linear f) (linear g) x y one two t is = ap (λ n. n == y) one ∙ ap (λ n. form_value f xs % 2 ^ 32 == n) two ∙ (agrees-is (2 ^ 32) f g t is).1
+  equal-is other beside x y one two t is = absurd (cc)

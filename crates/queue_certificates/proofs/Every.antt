@@ -5,7 +5,7 @@ use Rattle.std.proofs.Common.{append_assoc}
 use Rattle.std.proofs.lemmas.Bool.{cases_lt}
 use Rattle.hart.specs.State.{HartState}
 use Rattle.step_machine.specs.declared.events.Entry.{Entry}
-use Rattle.step_machine.specs.Names.{OpeningValue, history_of, Access, nothing, load, store, exchange, fence, land, access_of, hart_of, is_land, is_own}
+use Rattle.step_machine.specs.Names.{OpeningValue, history_of, Access, load, exchange, land, access_of, hart_of, is_land, is_own}
 use Rattle.step_machine.specs.Names.{state_of, Legal, WellFormed}
 use Rattle.step_machine.proofs.OwnRuns.{kept-front}
 use Rattle.store_buffers.specs.StoreBuffers.{LeavesByteBy, LeavesByteAt}
@@ -352,10 +352,7 @@ module _ {B M : ℕ} {o : OpeningValue} (sets : CertifiedSets B M o) where
           → OwnsByte (queues i) the_receiver (counts_after (queues i) (all_at (starts i)) es) x
       by (load a width v) owned within = owned x within slots
       by (exchange a old new) owned within = owned x within slots
-      by nothing owned within = elim within [ ]
-      by (store w) owned within = elim within [ ]
-      by (fence full) owned within = elim within [ ]
-      by land owned within = elim within [ ]
+      by other owned within = elim within [ ]
 
   -- and in every run each hart is in its set
   pub every_state : (es : List Entry) → WellFormed B M (history_of o es) → (h : ℕ) (s : HartState) → state_of M (history_of o es) h ≡ Some s

@@ -4,7 +4,7 @@ use Rattle.std.proofs.lemmas.Bool.{cases_lt}
 use Rattle.std.proofs.lemmas.List.Elements.{All-from_get_or}
 use Rattle.hart.specs.State.{HartState}
 use Rattle.step_machine.specs.declared.events.Entry.{Entry}
-use Rattle.step_machine.specs.Names.{OpeningValue, history_of, Access, nothing, load, store, exchange, fence, land, access_of, hart_of, read_byte, read}
+use Rattle.step_machine.specs.Names.{OpeningValue, history_of, Access, load, exchange, land, access_of, hart_of, read_byte, read}
 use Rattle.step_machine.specs.Names.{state_of, Legal, WellFormed}
 use Rattle.step_machine.proofs.OwnRuns.{kept-front}
 use Rattle.queue_parties.specs.{IsInBytes, Party, the_receiver, QueueCounts, all_at}
@@ -34,10 +34,7 @@ module _ (B : ℕ) (q : Slots) (start : QueueCounts) (o : OpeningValue) (es : Li
       → IsOfTag q x ⊎ HasArrived q start o es x
   load-arrives (load a width v) owned within slots = owned-arrives (owned x within slots)
   load-arrives (exchange a old new) owned within slots = owned-arrives (owned x within slots)
-  load-arrives nothing owned within slots = absurd within
-  load-arrives (store w) owned within slots = absurd within
-  load-arrives (fence full) owned within slots = absurd within
-  load-arrives land owned within slots = absurd within
+  load-arrives other owned within slots = absurd within
 
 module _ (B M : ℕ) (o : OpeningValue) (c : QueueCertificate) (ok : accepts o c ≡ true) where
   abbrev slots : ℕ → Slots

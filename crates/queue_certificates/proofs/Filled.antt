@@ -16,7 +16,7 @@ use Rattle.slot_queue.specs.Queues.{Queue, IsQueue, slot_of}
 use Rattle.queue_parties.proofs.Positions.{ahead, ahead-is, one-slot, slot-within}
 use Rattle.queue_parties.specs.Positions.{IsInBytes}
 use Rattle.queue_certificates.specs.{View, number_seen, Field, MeetsField, dot, form_value, InRanges, vanishes, Bounds, risings, fallings, bounds_of}
-use Rattle.queue_certificates.specs.{KnownValue, any, linear, index_for, signed_for, ends_as, has_bits, Has, all_below, last_number, is_field, is_filled}
+use Rattle.queue_certificates.specs.{KnownValue, linear, Has, all_below, last_number, is_field, is_filled}
 use Rattle.queue_certificates.specs.{no_field, lies_in, is_number_of, is_beside, is_right_after, is_filled_after, are_so, most_published, may_send, Effect}
 use Rattle.queue_certificates.specs.{Fills}
 use Rattle.queue_certificates.specs.Filled.{Filled}
@@ -58,11 +58,6 @@ counted f x low high same = by (cases_eq f.step 0)
 -- a number that is known so is one
 pub known-number : (queues : ℕ → Queue) (rs : List (Option ℕ)) (xs : List ℕ) → InRanges rs xs → (v : KnownValue) (f : Field) (x : ℕ) → Has queues xs v x
     → is_number_of rs v f ≡ true → IsNumberOf f x
-known-number queues rs xs ranges any f x has ok = absurd (cc)
-known-number queues rs xs ranges (index_for i g) f x has ok = absurd (cc)
-known-number queues rs xs ranges (signed_for i g) f x has ok = absurd (cc)
-known-number queues rs xs ranges (ends_as n g) f x has ok = absurd (cc)
-known-number queues rs xs ranges (has_bits m b) f x has ok = absurd (cc)
 known-number queues rs xs ranges (linear g) f x has ok = by (bounds_of (2 ^ 32) rs g) refl ok
   where
     by : (o : Option Bounds) → bounds_of (2 ^ 32) rs g ≡ o → lies_in o g f ≡ true → IsNumberOf f x
@@ -89,6 +84,7 @@ known-number queues rs xs ranges (linear g) f x has ok = by (bounds_of (2 ^ 32) 
         let same : (x + 0) % f.step ≡ (f.low + 0) % f.step = sym more ∙ ap (λ n. n % f.step) level ∙ less in
         counted f x (omega (arith, has, low, from)) (omega (arith, has, high, upto))
         (ap (λ n. n % f.step) (let e : x ≡ x + 0 = omega arith in e) ∙ same ∙ ap (λ n. n % f.step) (let e : f.low + 0 ≡ f.low = omega arith in e))
+known-number queues rs xs ranges other f x has ok = absurd (cc)
 
 -- ---- the fields of a list
 
@@ -203,11 +199,7 @@ module _ (q : Queue) (is : IsQueue q) (fs : List Field) (ok : list_all (is_field
   )
     where
       small : w.value < 256 ^ (get_or fs j no_field).width
-      small =
-          let f = field-fits q fs ok j in
-          let upto : (get_or fs j no_field).step * number.0 ≤ (get_or fs j no_field).step * (get_or fs j no_field).count =
-          mul-le (get_or fs j no_field).step number.0 (get_or fs j no_field).step (get_or fs j no_field).count (omega arith) number.1 in
-          omega (arith, number.2, upto, f.1)
+      small = grind (arith, field-fits, get_or, mul-le)
 
   -- after the store
   pub right-after-store : (queues : ℕ → Queue) (rs : List (Option ℕ)) (v : KnownValue) (ms : Filled)

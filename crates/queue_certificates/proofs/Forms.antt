@@ -1,5 +1,5 @@
 -- What sums, multiples and substituted forms come to.
-use Rattle.std.proofs.Common.{ℕ, zero, suc, ◌+◌, ◌-◌, ◌*◌, ◌/◌, ◌%◌, ◌<◌, ◌≤◌, ◌≡◌, ◌==◌, true, List, [], ◌∷◌, get_or, inl, inr, refl, sym, ◌∙◌, ap, arith}
+use Rattle.std.proofs.Common.{ℕ, zero, suc, ◌+◌, ◌-◌, ◌*◌, ◌/◌, ◌%◌, ◌<◌, ◌≤◌, ◌≡◌, ◌==◌, true, List, [], ◌∷◌, get_or, refl, sym, ◌∙◌, ap, arith}
 use Rattle.std.specs.Prelude.{map}
 use Rattle.std.proofs.lemmas.Bool.{and_parts, eqb-true, cases_lt}
 use Rattle.std.proofs.lemmas.Nat.{mul-mod_first}
@@ -66,10 +66,7 @@ dot-raised (m ∷ ms) (suc j) by (x ∷ xs) le some =
     omega (arith, rest)
 
 pub value-raised : (f : Form) (j by : ℕ) (xs : List ℕ) → by ≤ get_or xs j 0 → 0 < by → form_value (raised j by f) (less_at j by xs) ≡ form_value f xs
-value-raised f j by xs le some =
-    let d : factor_at f.factors j * by + dot f.factors (less_at j by xs) ≡ dot f.factors xs =
-    dot-raised f.factors j by xs le some in
-    omega (arith, d)
+value-raised f j by xs le some = grind (arith, dot-raised)
 
 -- ---- remainders
 
@@ -98,12 +95,7 @@ taken-away n a b some = (
 )
   where
     whole : b + (n - 1) * b ≡ b * n
-    whole =
-        let e : (1 + (n - 1)) * b ≡ 1 * b + (n - 1) * b = add-mul 1 (n - 1) b in
-        let one : 1 + (n - 1) ≡ n = omega (arith, some) in
-        let all : n * b ≡ (1 + (n - 1)) * b = ap (λ y. y * b) (sym one) in
-        let turned : n * b ≡ b * n = mul_comm n b in
-        omega (arith, e, all, turned)
+    whole = grind (arith, add-mul, mul_comm)
 
     once : a + (n - 1) * b + b ≡ a + n * b
     once = let turned : n * b ≡ b * n = mul_comm n b in omega (arith, whole, turned)
@@ -117,17 +109,10 @@ away-by n w a b some more none = mod-sum a ((w - 1) * b) a ((n - 1) * b) n refl 
     whole = mod-add-div w n
 
     rounds : 1 ≤ w / n
-    rounds = elim (cases_lt 0 (w / n)) [
-      | inl some ↦ omega (arith, some)
-      | inr few ↦ absurd (let e : n * (w / n) ≡ n * 0 = ap (λ q. n * q) (let z : w / n ≡ 0 = omega (arith, few) in z) in
-          let z : n * 0 ≡ 0 = mul-zero n in omega (arith, e, z, whole, none, more))
-    ]
+    rounds = grind (arith, cases_lt, mul-zero)
 
     parts : w - 1 ≡ n - 1 + n * (w / n - 1)
-    parts =
-        let e : n * (w / n) ≡ n * (w / n - 1 + 1) = ap (λ q. n * q) (let z : w / n ≡ w / n - 1 + 1 = omega (arith, rounds) in z) in
-        let d : n * (w / n - 1 + 1) ≡ n * (w / n - 1) + n * 1 = mul-add n (w / n - 1) 1 in
-        omega (arith, e, d, whole, none, some)
+    parts = grind (arith, mul-add)
 
 pub dot-vanishes : (n : ℕ) (ms xs : List ℕ) → vanishes n ms ≡ true → dot ms xs % n ≡ 0 % n
 dot-vanishes n [] xs ok = refl

@@ -21,18 +21,7 @@ or-bits x y m n b c one two = same_from_bits (bit_and (bit_or x y) (bit_or (bit_
     by x y m n lx ly lm ln = omega (arith, lx, ly, lm, ln)
 
     at : (i : ℕ) → bit_at (bit_and (bit_or x y) (bit_or (bit_and m n) (bit_or b c))) i ≡ bit_at (bit_or b c) i
-    at i =
-        let of-b : bit_at b i ≡ min (bit_at x i) (bit_at m i) = ap (λ z. bit_at z i) (sym one) ∙ bit_at_and x m i in
-        let of-c : bit_at c i ≡ min (bit_at y i) (bit_at n i) = ap (λ z. bit_at z i) (sym two) ∙ bit_at_and y n i in
-        let right : bit_at (bit_or b c) i ≡ max (min (bit_at x i) (bit_at m i)) (min (bit_at y i) (bit_at n i)) =
-        bit_at_or b c i ∙ ap (λ z. max z (bit_at c i)) of-b ∙ ap (max (min (bit_at x i) (bit_at m i))) of-c in
-        bit_at_and (bit_or x y) (bit_or (bit_and m n) (bit_or b c)) i
-        ∙ ap (λ z. min z (bit_at (bit_or (bit_and m n) (bit_or b c)) i)) (bit_at_or x y i)
-        ∙ ap (min (max (bit_at x i) (bit_at y i))) (bit_at_or (bit_and m n) (bit_or b c) i
-        ∙ ap (λ z. max z (bit_at (bit_or b c) i)) (bit_at_and m n i)
-        ∙ ap (max (min (bit_at m i) (bit_at n i))) right)
-        ∙ by (bit_at x i) (bit_at y i) (bit_at m i) (bit_at n i) (bit_at-lt x i) (bit_at-lt y i) (bit_at-lt m i) (bit_at-lt n i)
-        ∙ sym right
+    at i = grind (arith, bit_at_and, bit_at_or, by, bit_at-lt)
 
 -- a mask keeps known bits, and leaves 0 beside it
 pub kept-bits : (x m mask : ℕ) → x < 2 ^ 32 → bit_and (bit_and x mask) (bit_or m (bit_xor mask (2 ^ 32 - 1))) ≡ bit_and (bit_and x m) mask
@@ -53,12 +42,7 @@ kept-bits x m mask small = same_from_bits (bit_and (bit_and x mask) (bit_or m (b
     ]
 
     at : (i : ℕ) → bit_at (bit_and (bit_and x mask) (bit_or m (bit_xor mask (2 ^ 32 - 1)))) i ≡ bit_at (bit_and (bit_and x m) mask) i
-    at i = bit_at_and (bit_and x mask) (bit_or m (bit_xor mask (2 ^ 32 - 1))) i
-        ∙ ap (λ z. min z (bit_at (bit_or m (bit_xor mask (2 ^ 32 - 1))) i)) (bit_at_and x mask i)
-        ∙ ap (min (min (bit_at x i) (bit_at mask i))) (bit_at_or m (bit_xor mask (2 ^ 32 - 1)) i
-        ∙ ap (max (bit_at m i)) (bit_at_xor mask (2 ^ 32 - 1) i))
-        ∙ bits i
-        ∙ sym (bit_at_and (bit_and x m) mask i ∙ ap (λ z. min z (bit_at mask i)) (bit_at_and x m i))
+    at i = grind (arith, bit_at_and, bit_at_or, bit_at_xor, bits)
 
 -- shifted left
 and-shl : (x m a : ℕ) → bit_and (x * 2 ^ a) (m * 2 ^ a) ≡ bit_and x m * 2 ^ a

@@ -10,6 +10,7 @@ pub mod Arrived
 pub mod KnownBits
 pub mod Forms
 pub mod Bounds
+pub mod Facts
 pub mod Values
 mod Endings
 mod Equals
@@ -47,6 +48,7 @@ pub use Rattle.queue_certificates.proofs.Every.{every_state, holds, next_is}
 pub use Rattle.queue_certificates.proofs.ToldAccesses.{knows_of, tag_loaded, told_owns}
 pub use Rattle.queue_certificates.proofs.Forms.{less_at, same-exactly, same-value, value-lifted, value-number, value-plus}
 pub use Rattle.queue_certificates.proofs.Bounds.{fits-below, value-below}
+pub use Rattle.queue_certificates.proofs.Facts.{derived-holds, facts-by, high-splits, low-splits, shown-below}
 pub use Rattle.queue_certificates.proofs.Values.{has-bounds, has-plain, known-is}
 pub use Rattle.queue_certificates.proofs.Results.{branch-is}
 pub use Rattle.queue_certificates.proofs.States.{at-below, exceeds, means-frame, means-high, means-low}

@@ -39,6 +39,7 @@ listed pc ranges x1 x2 x3 owned filled cases = record {
     words = [];
     shares = record { own = form 0 (1 ∷ []); owned = owned } ∷ [];
   };
+  ranks = [];
   filled = filled;
   cases = cases;
 }
@@ -78,6 +79,8 @@ part_0 = record {
   own = [];
   first = 0;
   numbers = 0 ∷ 1 ∷ [];
+  goals = [];
+  lacking = [];
   states = listed 0 (None ∷ Some 1 ∷ []) any any any (form 0 (0 ∷ 1 ∷ [])) [] (on 1)
       ∷ listed 4 (None ∷ Some 1 ∷ []) its_count any any (form 0 (0 ∷ 1 ∷ [])) [] (looked 2)
       ∷ listed 8 (None ∷ Some 1 ∷ []) its_count (linear (form 4294967295 (1 ∷ 1 ∷ []))) any (form 0 (0 ∷ 1 ∷ [])) [] (branched 0 3)
@@ -93,6 +96,8 @@ part_1 = record {
   own = [];
   first = 0;
   numbers = 0 ∷ 0 ∷ [];
+  goals = [];
+  lacking = [];
   states = listed 0 (None ∷ Some 1 ∷ []) any any any (form 0 (0 ∷ 1 ∷ [])) [] (on 1)
       ∷ listed 4 (None ∷ Some 1 ∷ []) its_count any any (form 0 (0 ∷ 1 ∷ [])) [] (looked 2)
       ∷ listed 8 (None ∷ Some 1 ∷ []) its_count (linear (form 0 (1 ∷ 1 ∷ []))) any (form 0 (0 ∷ 1 ∷ [])) [] (branched 0 3)

@@ -55,6 +55,7 @@ form c ms = record { constant = c; factors = ms }
 abbrev pub listed : ℕ → List (Option ℕ) → List KnownValue → Form → Form → Cases → ListedState
 listed pc ranges registers own owned cases = record {
   known = record { pc = pc; ranges = ranges; registers = registers; words = []; shares = (record { own = own; owned = owned }) ∷ [] };
+  ranks = [];
   filled = [];
   cases = cases;
 }
@@ -67,6 +68,8 @@ part_0 = record {
   own = [];
   first = 0;
   numbers = 0 ∷ 1 ∷ [];
+  goals = [];
+  lacking = [];
   states =
       listed 0 (None ∷ Some 1 ∷ [])
       ((linear (form 0 ([]))) ∷ any ∷ any ∷ (linear (form 7 ([]))) ∷ any ∷ any ∷ any ∷ any ∷ any ∷ any ∷ any ∷ any
@@ -112,6 +115,8 @@ part_1 = record {
   own = [];
   first = 0;
   numbers = 0 ∷ 0 ∷ [];
+  goals = [];
+  lacking = [];
   states =
       listed 0 (None ∷ Some 1 ∷ [])
       ((linear (form 0 ([]))) ∷ any ∷ any ∷ any ∷ any ∷ any ∷ any ∷ any ∷ any ∷ any ∷ any ∷ any ∷ any ∷ any ∷ any

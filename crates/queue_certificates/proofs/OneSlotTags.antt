@@ -48,6 +48,7 @@ listed pc ranges x1 x3 owned cases = record {
     words = [];
     shares = record { own = form 0 (1 ∷ []); owned = number owned } ∷ [];
   };
+  ranks = [];
   filled = [];
   cases = cases;
 }
@@ -79,6 +80,8 @@ part_0 sent = record {
   own = [];
   first = 0;
   numbers = 0 ∷ [];
+  goals = [];
+  lacking = [];
   states = listed 0 [] any sent 0 sender_looks
       ∷ listed 4 [] nothing sent 1 (on 3)
       ∷ listed 4 (Some 4294967294 ∷ []) some sent 0 (on 0)
@@ -91,6 +94,8 @@ part_1 = record {
   own = [];
   first = 0;
   numbers = 0 ∷ [];
+  goals = [];
+  lacking = [];
   states = listed 0 [] any any 0 receiver_looks
       ∷ listed 4 (Some 4294967294 ∷ []) some any 1 (on 3)
       ∷ listed 4 [] nothing any 0 (on 0)

@@ -1,6 +1,6 @@
 -- What single accesses of a party come to: one lemma for each kind that a program of a queue makes. This is the queue's side of a
 -- checker's transfer; the hart's side is what its instruction wants and leaves.
-use Rattle.std.proofs.Common.{ℕ, ◌+◌, ◌<◌, ◌≤◌, ◌≡◌, ◌≢◌, ◌==◌, ◌&&◌, inl, inr, if◌then◌else◌, refl, sym, ◌∙◌, ap, arith}
+use Rattle.std.proofs.Common.{ℕ, ◌+◌, ◌<◌, ◌≤◌, ◌≡◌, ◌≢◌, ◌==◌, ◌&&◌, inl, inr, if◌then◌else◌, ◌∙◌, ap, arith}
 use Rattle.std.proofs.lemmas.Bool.{eq-eqb, ne_eqb}
 use Rattle.memory.specs.declared.writes.Write.{Write}
 use Rattle.memory.proofs.Bytes.{covers-from}
@@ -33,28 +33,12 @@ module _ (q : Queue) (is : IsQueue q) (p : Party) (c : QueueCounts) where
   -- a look: a load of the other's index, which tells what is known from then on
   pub looked : (m : View) → TellsFull q → SeesIndices q p c m → (v : ℕ) → ReadsFrom m (load (index q (other p)) q.index_width v)
       → (k : ℕ) × (v ≡ index_word q k) × (known p c ≤ k) × (k ≤ limit q p c) × (after_load q p (index q (other p)) q.index_width v c ≡ with_known p k c)
-  looked m tells sees v reads =
-      let word : v ≡ index_word q sees.there = reads ∙ sees.theirs in (
-        sees.there,
-        word,
-        sees.from,
-        sees.upto,
-        ap (λ b. if b && (q.index_width == q.index_width) then with_known p (least_count q (known p c) v) c else c)
-            (eq-eqb (index q (other p)) (index q (other p)) refl)
-            ∙ ap (λ b. if b then with_known p (least_count q (known p c) v) c else c) (eq-eqb q.index_width q.index_width refl)
-            ∙ ap (λ x. with_known p (least_count q (known p c) x) c) word
-            ∙ ap (λ k. with_known p k c) (least-near q is (known p c) sees.there sees.from (near sees.there tells sees.room sees.upto)),
-      )
+  looked m tells sees v reads = grind (arith, eq-eqb, least-near, near)
 
   -- a store to the own index of the word of the own count and d more, where d are owned
   pub moves : (w : Write) (d : ℕ) → w.addr ≡ index q p → w.width ≡ q.index_width → w.value ≡ index_word q (count p c + d) → d < q.modulus
       → count p c + d ≤ end q p c → MovesOn q p c w × (moved q p (count p c) w ≡ count p c + d)
-  moves w d place width word near_by owned =
-      let at : least_count q (count p c) w.value ≡ count p c + d =
-      ap (least_count q (count p c)) word ∙ least-near q is (count p c) (count p c + d) (omega arith) (omega (arith, near_by)) in (
-        record { place = place; width = width; word = word ∙ ap (index_word q) (sym at); owned = omega (arith, at, owned) },
-        moved-index q p (count p c) w (record { place = place; width = width; of = count p c + d; word = word }) ∙ at,
-      )
+  moves w d place width word near_by owned = grind (arith, least-near, moved-index)
 
   -- a store, or a load, of bytes of the slot of an owned position
   pub fills : (w : Write) (k : ℕ) → count p c ≤ k → k < end q p c → slot_of q k ≤ w.addr → w.addr + w.width ≤ slot_of q k + q.width

@@ -17,8 +17,8 @@ use Rattle.step_machine.specs.declared.events.Entry.{Entry}
 use Rattle.step_machine.specs.Names.{OpeningValue, access_of, number_read}
 use Rattle.slot_queue.specs.Queues.{Queue, IsQueue, TellsFull, slot_of}
 use Rattle.queue_parties.specs.Parties.{the_receiver}
-use Rattle.queue_certificates.specs.{OwnWord, View, AllCounts, number_seen, ActsByCounts, Field, MeetsField, Form, KnownValue, any, linear, index_for}
-use Rattle.queue_certificates.specs.{signed_for, ends_as, has_bits, no_share, KnownState, Has, MeansAt, last_below, position_at, offset_at, is_owned}
+use Rattle.queue_certificates.specs.{OwnWord, View, AllCounts, number_seen, ActsByCounts, Field, MeetsField, Form, KnownValue, linear}
+use Rattle.queue_certificates.specs.{no_share, KnownState, Has, MeansAt, last_below, position_at, offset_at, is_owned}
 use Rattle.queue_certificates.specs.{with_result, address_value, addresses, is_look, may_load, after_load, follow, instruction_at, last_number, field_number}
 use Rattle.queue_certificates.specs.{keeps_numbers, field_there, field_or, field_in, field_below, after_field, next_received}
 use Rattle.queue_certificates.proofs.Results.{Gives}
@@ -51,9 +51,7 @@ kept-number load_op.Byte f v ok low = let small : last_number f < 2 ^ 7 = ltb-tr
     sign-low 8 v (omega (arith, small, low))
 kept-number load_op.Half f v ok low = let small : last_number f < 2 ^ 15 = ltb-true (last_number f) (2 ^ 15) ok in
     sign-low 16 v (omega (arith, small, low))
-kept-number load_op.Word f v ok low = refl
-kept-number load_op.ByteUnsigned f v ok low = refl
-kept-number load_op.HalfUnsigned f v ok low = refl
+kept-number other f v ok low = refl
 
 load-small : (op : LoadOp) (v : ℕ) → v < 256 ^ load_width op → v < 2 ^ 32
 load-small load_op.Byte v small = omega (arith, small)
@@ -80,11 +78,6 @@ module _ (M : ℕ) (o : OpeningValue) (queues : ℕ → Queue) (N : ℕ) (own_of
 
   reads-in : (place : KnownValue) (a width i : ℕ) → i < N → Has queues xs place a → (f : Field)
       → field_in queues fields h k place width i ≡ Some f → ReadsField m f a width
-  reads-in any a width i less at f is = absurd (cc)
-  reads-in (index_for j g) a width i less at f is = absurd (cc)
-  reads-in (signed_for j g) a width i less at f is = absurd (cc)
-  reads-in (ends_as n g) a width i less at f is = absurd (cc)
-  reads-in (has_bits n b) a width i less at f is = absurd (cc)
   reads-in (linear g) a width i less at f is =
       by (((queues i).receiver == h) && is_owned k.ranges (queues i) (get_or k.shares i no_share) (linear g) width) refl is
     where
@@ -108,6 +101,7 @@ module _ (M : ℕ) (o : OpeningValue) (queues : ℕ → Queue) (N : ℕ) (own_of
                 ∙ ap (λ n. number_seen m (slot_of (queues i) ((cs i).taken + position_at (queues i)
                 (get_or k.shares i no_share).own.constant g.constant) + f.at) n) (sym found.2) ∙ found.0.2,
           )
+  reads-in other a width i less at f is = absurd (cc)
 
   reads-below : (place : KnownValue) (a width n : ℕ) → n ≤ N → Has queues xs place a → (f : Field)
       → field_below queues fields h k place width n ≡ Some f → ReadsField m f a width

@@ -40,14 +40,7 @@ use Rattle.queue_certificates.proofs.Equals.{equal-is}
 
 pub word-of-sum : (x : ℕ) (n : ℤ) → word (pos x +ℤ n) ≡ (x + word n) % 2 ^ 32
 word-of-sum x (pos k) = omega arith
-word-of-sum x (negsuc k) = elim (cases_lt k x) [
-  | inl more ↦ (let left : word (pos x +ℤ negsuc k) ≡ (x - (k + 1)) % 2 ^ 32 =
-      ap word (let e : pos x +ℤ negsuc k ≡ pos (x - (k + 1)) = omega (arith, ints, more) in e) in
-      omega (arith, left, more))
-  | inr few ↦ (let left : word (pos x +ℤ negsuc k) ≡ 2 ^ 32 - 1 - (k - x) % 2 ^ 32 =
-      ap word (let e : pos x +ℤ negsuc k ≡ negsuc (k - x) = omega (arith, ints, few) in e) in
-      omega (arith, left, few))
-]
+word-of-sum x (negsuc k) = grind (arith, cases_lt, negsuc, ints)
 
 pub word-small : (n : ℤ) → word n < 2 ^ 32
 word-small (pos k) = omega arith
@@ -131,13 +124,7 @@ shifted-signed x a small low = elim (cases_lt x (2 ^ 31)) [
 -- a signed load of `bits` bits, of a number that has no more
 pub signed-of-bits : (bits width x : ℕ) → 2 ^ (bits - 1) + 2 ^ (bits - 1) ≡ 256 ^ width → 2 ^ bits ≡ 256 ^ width → 256 ^ width ≤ 2 ^ 32
     → x < 256 ^ width → sign_extended bits x ≡ signed_word width x
-signed-of-bits bits width x half all small low = elim (cases_lt x (2 ^ (bits - 1))) [
-  | inl less ↦ ap (λ t. if t then x else word (pos x -ℤ pos (2 ^ bits))) (lt-ltb x (2 ^ (bits - 1)) less)
-      ∙ sym (ap (λ t. if t then x else x + (2 ^ 32 - 256 ^ width)) (lt-ltb (x + x) (256 ^ width) (omega (arith, less, half))))
-  | inr more ↦ ap (λ t. if t then x else word (pos x -ℤ pos (2 ^ bits))) (le-ltb x (2 ^ (bits - 1)) more)
-      ∙ word-of-difference x (2 ^ bits) ∙ (let e : (x + 2 ^ bits * (2 ^ 32 - 1)) % 2 ^ 32 ≡ x + (2 ^ 32 - 256 ^ width) = omega (arith, all, small, low) in e)
-      ∙ sym (ap (λ t. if t then x else x + (2 ^ 32 - 256 ^ width)) (le-ltb (x + x) (256 ^ width) (omega (arith, more, half))))
-]
+signed-of-bits bits width x half all small low = grind (arith, cases_lt, lt-ltb, le-ltb, word-of-difference, low)
 
 pub signed-fits : (width x : ℕ) → x < 256 ^ width → 256 ^ width ≤ 2 ^ 32 → signed_word width x < 2 ^ 32
 signed-fits width x low small = by (nat_lt (x + x) (256 ^ width))
@@ -237,11 +224,8 @@ module _ (queues : ℕ → Queue) (xs : List ℕ) where
           subst (λ s. IsRest s x) (let e : record { by = n; form = g } ≡ r = cc in e) (divides, at divides)
 
   rest-has : (v : KnownValue) (x : ℕ) → Has queues xs v x → HasRest (rest_of queues v) x
-  rest-has any x has r is = absurd (cc)
   rest-has (linear f) x has r is = whole-rest f x has r is
   rest-has (index_for i f) x has r is = index-rest i f x has r is
-  rest-has (ends_as n f) x has r is = absurd (cc)
-  rest-has (has_bits m b) x has r is = absurd (cc)
   rest-has (signed_for i f) x has r is = by (256 ^ (queues i).index_width % ((queues i).scale * (queues i).modulus) == 0) refl is
     where
       w : ℕ
@@ -259,6 +243,7 @@ module _ (queues : ℕ → Queue) (xs : List ℕ) where
                 ∙ eqb-true (256 ^ (queues i).index_width % ((queues i).scale * (queues i).modulus)) 0 ok)
                 ∙ rest.1,
           )
+  rest-has other x has r is = absurd (cc)
 
   negative-has : (o : Option Rest) (x : ℕ) → HasRest o x → HasRest (negative o) (x * (2 ^ 32 - 1))
   negative-has None x has r is = absurd (cc)
@@ -338,16 +323,7 @@ module _ (queues : ℕ → Queue) (xs : List ℕ) where
 
   pub sum-has : (v w : KnownValue) (x y : ℕ) → Has queues xs v x → Has queues xs w y → Has queues xs (sum_of v w) ((x + y) % 2 ^ 32)
   sum-has (linear f) (linear g) x y one two = plus-value f g xs x y (2 ^ 32) one two
-  sum-has (linear f) any x y one two = tt
-  sum-has (linear f) (index_for i g) x y one two = tt
-  sum-has (linear f) (signed_for i g) x y one two = tt
-  sum-has (linear f) (ends_as n g) x y one two = tt
-  sum-has (linear f) (has_bits m b) x y one two = tt
-  sum-has any w x y one two = tt
-  sum-has (index_for i f) w x y one two = tt
-  sum-has (signed_for i f) w x y one two = tt
-  sum-has (ends_as n f) w x y one two = tt
-  sum-has (has_bits m b) w x y one two = tt
+  sum-has other beside x y one two = tt
 
   xor-has : (v w : KnownValue) (x y : ℕ) → Has queues xs v x → Has queues xs w y → Has queues xs (xor_of v w) (bit_xor x y)
   xor-has (linear f) (linear g) x y one two = (
@@ -358,16 +334,7 @@ module _ (queues : ℕ → Queue) (xs : List ℕ) where
         (ap (λ n. n % 2 ^ 32) (mul_comm (2 ^ 32 - 1) y) ∙ times-value (2 ^ 32 - 1) g xs y (2 ^ 32) two)
         ∙ ap (λ n. n % 2 ^ 32) (sym (value-plus f (times (2 ^ 32 - 1) g) xs))) (xor-alike x y),
   )
-  xor-has (linear f) any x y one two = tt
-  xor-has (linear f) (index_for i g) x y one two = tt
-  xor-has (linear f) (signed_for i g) x y one two = tt
-  xor-has (linear f) (ends_as n g) x y one two = tt
-  xor-has (linear f) (has_bits m b) x y one two = tt
-  xor-has any w x y one two = tt
-  xor-has (index_for i f) w x y one two = tt
-  xor-has (signed_for i f) w x y one two = tt
-  xor-has (ends_as n f) w x y one two = tt
-  xor-has (has_bits m b) w x y one two = tt
+  xor-has other beside x y one two = tt
 
   or-has : (v w : KnownValue) (x y : ℕ) → Has queues xs v x → Has queues xs w y → Has queues xs (or_of v w) (bit_or x y)
   or-has v w x y one two = by (bits_of v) (bits_of w) (λ k is. bits-have queues xs v x k is one) (λ k is. bits-have queues xs w y k is two)
@@ -475,11 +442,6 @@ module _ (queues : ℕ → Queue) (xs : List ℕ) where
   sum-gives o p x y one two = rest-gives (rests_added o p) ((x + y) % 2 ^ 32) (omega arith) (added-has o p x y one two)
 
   turned-gives : (v : KnownValue) (x mask : ℕ) → Has queues xs v x → Gives (turned v mask) (bit_xor x mask)
-  turned-gives any x mask has = just-gives any (bit_xor x mask) tt
-  turned-gives (index_for i f) x mask has = just-gives any (bit_xor x mask) tt
-  turned-gives (signed_for i f) x mask has = just-gives any (bit_xor x mask) tt
-  turned-gives (ends_as n f) x mask has = just-gives any (bit_xor x mask) tt
-  turned-gives (has_bits m b) x mask has = just-gives any (bit_xor x mask) tt
   turned-gives (linear f) x mask has = by (mask == 2 ^ 32 - 1) refl
     where
       g : Form
@@ -494,6 +456,7 @@ module _ (queues : ℕ → Queue) (xs : List ℕ) where
           ∙ ap (λ y. 2 ^ 32 - 1 + y) (value-times (2 ^ 32 - 1) f xs) in
           let bits : bit_xor x mask ≡ 2 ^ 32 - 1 - x = ap (bit_xor x) (eqb-true mask (2 ^ 32 - 1) is) ∙ turned-bits x small in
           omega (arith, bits, has, value))
+  turned-gives other x mask has = just-gives any (bit_xor x mask) tt
 
   times-gives : (k : ℕ) (o : Option Rest) (x : ℕ) → HasRest o x → Gives (result_by (times k) (of_rest o)) ((x * k) % 2 ^ 32)
   times-gives k None x has = (0, omega arith, tt)
@@ -738,10 +701,6 @@ module _ (queues : ℕ → Queue) (xs : List ℕ) where
     masked-by N o x (Some m) y r has is gives = subst (λ z. Gives (masked queues N rs o m) (bit_and x z)) (sym (is m refl)) (masked-gives N o x m has)
 
     shifted-back : (N : ℕ) (v : KnownValue) (x amount : ℕ) → Has queues xs v x → Gives (shifted_back queues N rs v amount) (x / 2 ^ amount)
-    shifted-back N any x amount has = just-gives any (x / 2 ^ amount) tt
-    shifted-back N (index_for i f) x amount has = just-gives any (x / 2 ^ amount) tt
-    shifted-back N (signed_for i f) x amount has = just-gives any (x / 2 ^ amount) tt
-    shifted-back N (ends_as n f) x amount has = just-gives any (x / 2 ^ amount) tt
     shifted-back N (has_bits m b) x amount has = just-gives (of_bits (bit_or (m / 2 ^ amount) (2 ^ 32 - 2 ^ (32 - amount))) (b / 2 ^ amount))
         (x / 2 ^ amount) (of-bits-has queues xs (bit_or (m / 2 ^ amount) (2 ^ 32 - 2 ^ (32 - amount))) (b / 2 ^ amount) (x / 2 ^ amount)
         (let less : x / 2 ^ amount ≤ x = shr_le x amount in omega (arith, less, has.0)) (shr-bits x m b amount has.0 has.1))
@@ -772,13 +731,9 @@ module _ (queues : ℕ → Queue) (xs : List ℕ) where
             let p = and_parts (nat_le amount 32) (is_same 0 f (times (2 ^ amount) (without rs (2 ^ amount) f))) ok in
             at (without rs (2 ^ amount) f) (leb-true amount 32 p.0)
             (same-exactly f (times (2 ^ amount) (without rs (2 ^ amount) f)) xs p.1 ∙ value-times (2 ^ amount) (without rs (2 ^ amount) f) xs)
+    shifted-back N other x amount has = just-gives any (x / 2 ^ amount) tt
 
     shifted-with-sign : (v : KnownValue) (x amount : ℕ) → Has queues xs v x → Gives (shifted_with_sign v amount) (shifted shift.RightArithmetic x amount)
-    shifted-with-sign any x amount has = just-gives any (shifted shift.RightArithmetic x amount) tt
-    shifted-with-sign (linear f) x amount has = just-gives any (shifted shift.RightArithmetic x amount) tt
-    shifted-with-sign (index_for i f) x amount has = just-gives any (shifted shift.RightArithmetic x amount) tt
-    shifted-with-sign (signed_for i f) x amount has = just-gives any (shifted shift.RightArithmetic x amount) tt
-    shifted-with-sign (ends_as n f) x amount has = just-gives any (shifted shift.RightArithmetic x amount) tt
     shifted-with-sign (has_bits m b) x amount has = by (nat_lt m (2 ^ 32) && nat_lt amount 32) refl
       where
         s : ℕ → ℕ
@@ -797,6 +752,7 @@ module _ (queues : ℕ → Queue) (xs : List ℕ) where
         by true ok = let parts = and_parts (nat_lt m (2 ^ 32)) (nat_lt amount 32) ok in
             just-gives (of_bits (s m) (s b)) (s x) (of-bits-has queues xs (s m) (s b) (s x) (word-small (shifted_down (signed x) amount))
             (at (ltb-true m (2 ^ 32) parts.0) (ltb-true amount 32 parts.1)))
+    shifted-with-sign other x amount has = just-gives any (shifted shift.RightArithmetic x amount) tt
 
     immediate-part : (N : ℕ) (op : ImmediateOp) (v : KnownValue) (x : ℕ) (n : ℤ) → Has queues xs v x
         → Gives (immediate_part queues N rs op v n) (with_immediate op x n)
@@ -905,12 +861,8 @@ module _ (queues : ℕ → Queue) (xs : List ℕ) where
 
         by : (u : KnownValue) → Has queues xs u x → (t : Bool) → sign_or u (as_number w) (is_below_signed (bounds rs v) (bounds rs w)) ≡ Some t
             → int_lt (signed x) (signed y) ≡ t
-        by any has t is = below t is
-        by (linear f) has t is = below t is
-        by (index_for i f) has t is = below t is
-        by (signed_for i f) has t is = below t is
-        by (ends_as n f) has t is = below t is
         by (has_bits m b) has t is = at m b has (as_number w) refl t is
+        by other has t is = below t is
 
     branch-part : (op : BranchOp) (v w : KnownValue) (x y : ℕ) → Has queues xs v x → Has queues xs w y → (t : Bool)
         → branch_part queues rs op v w ≡ Some t → is_taken op x y ≡ t

@@ -195,17 +195,13 @@ module _ (M : ℕ) (o : OpeningValue) (queues : ℕ → Queue) (N : ℕ) (own_of
                 → (is_off (queues i) b (store_width op) ≡ true) ⊎ (is_owned k.ranges (queues i) (get_or k.shares i no_share) pl (store_width op) ≡ true)
                 → Does (queues i) (cs i) k.ranges u m (filled_by k.ranges (queues i) (get_or k.shares i no_share) pl (store_width op))
                 (store (write a (store_width op) (stored op x))) z
-            by-place any at-pl (inl off) = beside off
             by-place any at-pl (inr owned) = absurd (cc)
-            by-place (index_for j g) at-pl (inl off) = beside off
             by-place (index_for j g) at-pl (inr owned) = absurd (cc)
-            by-place (signed_for j g) at-pl (inl off) = beside off
             by-place (signed_for j g) at-pl (inr owned) = absurd (cc)
-            by-place (ends_as n g) at-pl (inl off) = beside off
             by-place (ends_as n g) at-pl (inr owned) = absurd (cc)
-            by-place (has_bits n c) at-pl (inl off) = beside off
             by-place (has_bits n c) at-pl (inr owned) = absurd (cc)
             by-place (linear g) at-pl or = owned-or g at-pl (is_owned k.ranges (queues i) (get_or k.shares i no_share) (linear g) (store_width op)) refl or
+            by-place other at-pl (inl off) = beside off
 
         by : (t : Bool) → moves_head queues N i b (store_width op) ≡ t
             → (if t then may_move queues k d vx i (get_or k.shares i no_share)
@@ -264,11 +260,7 @@ module _ (M : ℕ) (o : OpeningValue) (queues : ℕ → Queue) (N : ℕ) (own_of
       → (all_below N (may_store queues h k d vx place b 4 move) ≡ true)
       × (all_below H (leaves_words own_of h b 4) ≡ true)
       × (all_below N (λ j. misses (queues j) (party_of (queues j) h) b 4) ≡ true)
-  exchange-checks d rd vx place b move ks found = (
-    (and_parts _ _ (and_parts _ _ (chosen _ _ ks found)).0).0,
-    (and_parts _ _ (and_parts _ _ (chosen _ _ ks found)).0).1,
-    (and_parts _ _ (chosen _ _ ks found)).1,
-  )
+  exchange-checks d rd vx place b move ks found = grind (arith, and_parts, chosen)
 
   amo-does : (d : Form) (f : Effect) (op : AmoOp) (rd rs1 rs2 : Reg) (ks : List KnownState)
       → access_of e ≡ exchange (register_value s.registers rs1) (number_read e) (updated op (number_read e) (register_value s.registers rs2))

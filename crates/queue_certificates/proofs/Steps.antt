@@ -1,5 +1,5 @@
 -- What an instruction comes to: one of the states that may follow, and allowed accesses. Here of all that load and store nothing.
-use Rattle.std.proofs.Common.{ℕ, ℤ, pos, negsuc, ◌+ℤ◌, zero, suc, ◌+◌, ◌-◌, ◌*◌, ◌/◌, ◌%◌, ◌^◌, ◌<◌, ◌≤◌, ◌≡◌, ◌≢◌, ◌==◌, ◌&&◌, ◌||◌, ◌⊎◌, inl, inr}
+use Rattle.std.proofs.Common.{ℕ, ℤ, pos, ◌+ℤ◌, zero, suc, ◌+◌, ◌-◌, ◌*◌, ◌/◌, ◌%◌, ◌^◌, ◌<◌, ◌≤◌, ◌≡◌, ◌≢◌, ◌==◌, ◌&&◌, ◌||◌, ◌⊎◌, inl, inr}
 use Rattle.std.proofs.Common.{if◌then◌else◌, Bool, true, false, Option, Some, None, List, [], ◌∷◌, length, get_or, refl, sym, ◌∙◌, ap, subst, arith}
 use Rattle.std.specs.Prelude.{nat_lt, nat_le, ◌-ℤ◌, not, map, slice_index, slice_set, set, bit_and}
 use Rattle.std.specs.List.{slice_get}
@@ -45,7 +45,7 @@ use Rattle.queue_certificates.specs.{of_shift, of_registers, is_branch_taken, co
 use Rattle.queue_certificates.specs.{low_form, low_bytes, stored_value, keeps_value, without_sign, follow, register_at, instruction_at, loads_owned}
 use Rattle.queue_certificates.specs.{reads_owned, updated_value, after_exchange, exchanging, addresses, address_value, anywhere, is_one, is_whole, misses}
 use Rattle.queue_certificates.specs.{is_look, is_own_index, is_own_word, word_loaded, index_loaded, value_loaded, extended_value, is_index_below, signed_value}
-use Rattle.queue_certificates.specs.{most_loaded, loaded, shared, with_equal, when_taken, when_passed, last_below, is_just, may_load, after_load, looked_word}
+use Rattle.queue_certificates.specs.{most_loaded, loaded, is_any, with_equal, when_taken, when_passed, last_below, is_just, may_load, after_load, looked_word}
 use Rattle.queue_certificates.specs.{owned_then, looked_share, back_of, loading, all_below, shares_moved, moved_share, is_copy, immediate_result, is_cut}
 use Rattle.queue_certificates.specs.{may_move, may_fill, may_store, leaves_words, is_off, is_owned, is_apart, storable, word_then, words_then, after_store}
 use Rattle.queue_certificates.specs.{storing}
@@ -131,35 +131,21 @@ quiet-keeps q t c land quiet = absurd quiet
 pub quiet-leaves : (x : ℕ) (y : Access) → IsQuiet y → LeavesByteBy x y
 quiet-leaves x nothing quiet = tt
 quiet-leaves x (fence full) quiet = tt
-quiet-leaves x (load a width v) quiet = absurd quiet
-quiet-leaves x (store w) quiet = absurd quiet
-quiet-leaves x (exchange a old new) quiet = absurd quiet
-quiet-leaves x land quiet = absurd quiet
+quiet-leaves x other quiet = absurd quiet
 
 pub quiet-view : (m : View) (y : Access) (x : ℕ) → IsQuiet y → view_then y m x ≡ m x
 quiet-view m nothing x quiet = refl
 quiet-view m (fence full) x quiet = refl
-quiet-view m (load a width v) x quiet = absurd quiet
-quiet-view m (store w) x quiet = absurd quiet
-quiet-view m (exchange a old new) x quiet = absurd quiet
-quiet-view m land x quiet = absurd quiet
+quiet-view m other x quiet = absurd quiet
 
 quiet-owns : (q : Queue) (p : Party) (c : QueueCounts) (y : Access) → IsQuiet y → LoadsOwned q p c y
 quiet-owns q p c nothing quiet = tt
 quiet-owns q p c (fence full) quiet = tt
-quiet-owns q p c (load a width v) quiet = absurd quiet
-quiet-owns q p c (store w) quiet = absurd quiet
-quiet-owns q p c (exchange a old new) quiet = absurd quiet
-quiet-owns q p c land quiet = absurd quiet
+quiet-owns q p c other quiet = absurd quiet
 
 copied : (op : ImmediateOp) (n : ℤ) → is_copy op n ≡ true → (x : ℕ) → x < 2 ^ 32 → with_immediate op x n ≡ x
 copied immediate.Add (pos n) is x small = word-of-sum x (pos n) ∙ (let none : n ≡ 0 = eqb-true n 0 is in omega (arith, none, small))
-copied immediate.Add (negsuc n) is x small = absurd (cc)
-copied immediate.SetLess n is x small = absurd (cc)
-copied immediate.SetLessUnsigned n is x small = absurd (cc)
-copied immediate.Xor n is x small = absurd (cc)
-copied immediate.Or n is x small = absurd (cc)
-copied immediate.And n is x small = absurd (cc)
+copied other beside is x small = absurd (cc)
 
 -- a signed load leaves a number as it is if its highest bit is 0
 pub sign-low : (bits x : ℕ) → x < 2 ^ (bits - 1) → sign_extended bits x ≡ x
@@ -171,9 +157,7 @@ extended-most load_op.Byte x low = subst (λ y. y ≤ 2 ^ 32 - 1) (sym (signed-o
     (let small : signed_word 1 x < 2 ^ 32 = signed-fits 1 x low (omega arith) in omega (arith, small))
 extended-most load_op.Half x low = subst (λ y. y ≤ 2 ^ 32 - 1) (sym (signed-of-bits 16 2 x refl refl (omega arith) low))
     (let small : signed_word 2 x < 2 ^ 32 = signed-fits 2 x low (omega arith) in omega (arith, small))
-extended-most load_op.Word x low = omega (arith, low)
-extended-most load_op.ByteUnsigned x low = omega (arith, low)
-extended-most load_op.HalfUnsigned x low = omega (arith, low)
+extended-most other x low = omega (arith, low)
 
 module _ (queues : ℕ → Queue) (N : ℕ) (own_of : ℕ → List OwnWord) (h : ℕ) where
   -- a state that may follow says what is so, over one variable more, which comes first
@@ -319,54 +303,21 @@ module _ (M : ℕ) (o : OpeningValue) (queues : ℕ → Queue) (N : ℕ) (own_of
 
   equal-means : (rs1 rs2 : Reg) → register_value s.registers rs1 ≡ register_value s.registers rs2
       → MeansAt queues N (own_of h) h xs (with_equal k rs1 rs2) s m cs
-  equal-means rs1 rs2 same = by (register_at k rs1) (register_at k rs2) (register-has rs1) (register-has rs2)
+  equal-means rs1 rs2 same = by (is_any (register_at k rs1)) (is_any (register_at k rs2))
     where
-      by : (v w : KnownValue) → Has queues xs v (register_value s.registers rs1) → Has queues xs w (register_value s.registers rs2)
-          → MeansAt queues N (own_of h) h xs (shared k rs1 rs2 v w) s m cs
-      by any w one two = learns rs1 w (subst (Has queues xs w) (sym same) two)
-      by (linear f) any one two = learns rs2 (linear f) (subst (Has queues xs (linear f)) same one)
-      by (index_for i f) any one two = learns rs2 (index_for i f) (subst (Has queues xs (index_for i f)) same one)
-      by (signed_for i f) any one two = learns rs2 (signed_for i f) (subst (Has queues xs (signed_for i f)) same one)
-      by (linear f) (linear g) one two = means
-      by (linear f) (index_for i g) one two = means
-      by (linear f) (signed_for i g) one two = means
-      by (index_for i f) (linear g) one two = means
-      by (index_for i f) (index_for j g) one two = means
-      by (index_for i f) (signed_for j g) one two = means
-      by (signed_for i f) (linear g) one two = means
-      by (signed_for i f) (index_for j g) one two = means
-      by (signed_for i f) (signed_for j g) one two = means
-      by (linear f) (ends_as n g) one two = means
-      by (index_for i f) (ends_as n g) one two = means
-      by (signed_for i f) (ends_as n g) one two = means
-      by (ends_as n f) any one two = learns rs2 (ends_as n f) (subst (Has queues xs (ends_as n f)) same one)
-      by (ends_as n f) (linear g) one two = means
-      by (ends_as n f) (index_for j g) one two = means
-      by (ends_as n f) (signed_for j g) one two = means
-      by (ends_as n f) (ends_as m g) one two = means
-      by (has_bits n b) any one two = learns rs2 (has_bits n b) (subst (Has queues xs (has_bits n b)) same one)
-      by (has_bits n b) (linear g) one two = means
-      by (has_bits n b) (index_for j g) one two = means
-      by (has_bits n b) (signed_for j g) one two = means
-      by (has_bits n b) (ends_as i g) one two = means
-      by (has_bits n b) (has_bits i c) one two = means
-      by (linear f) (has_bits n b) one two = means
-      by (index_for i f) (has_bits n b) one two = means
-      by (signed_for i f) (has_bits n b) one two = means
-      by (ends_as i f) (has_bits n b) one two = means
+      by : (a b : Bool) → MeansAt queues N (own_of h) h xs (if a then record k { registers = with_register k.registers rs1.number (register_at k rs2) }
+          else (if b then record k { registers = with_register k.registers rs2.number (register_at k rs1) } else k)) s m cs
+      by true b = learns rs1 (register_at k rs2) (subst (Has queues xs (register_at k rs2)) (sym same) (register-has rs2))
+      by false true = learns rs2 (register_at k rs1) (subst (Has queues xs (register_at k rs1)) same (register-has rs1))
+      by false false = means
 
   taken-means : (op : BranchOp) (rs1 rs2 : Reg) → is_taken op (register_value s.registers rs1) (register_value s.registers rs2) ≡ true
       → MeansAt queues N (own_of h) h xs (when_taken k op rs1 rs2) s m cs
   taken-means branch.Equal rs1 rs2 is = equal-means rs1 rs2 (eqb-true (register_value s.registers rs1) (register_value s.registers rs2) is)
-  taken-means branch.NotEqual rs1 rs2 is = means
-  taken-means branch.Less rs1 rs2 is = means
-  taken-means branch.GreaterEqual rs1 rs2 is = means
-  taken-means branch.LessUnsigned rs1 rs2 is = means
-  taken-means branch.GreaterEqualUnsigned rs1 rs2 is = means
+  taken-means other rs1 rs2 is = means
 
   passed-means : (op : BranchOp) (rs1 rs2 : Reg) → is_taken op (register_value s.registers rs1) (register_value s.registers rs2) ≡ false
       → MeansAt queues N (own_of h) h xs (when_passed k op rs1 rs2) s m cs
-  passed-means branch.Equal rs1 rs2 is = means
   passed-means branch.NotEqual rs1 rs2 none = equal-means rs1 rs2
       (by (register_value s.registers rs1 == register_value s.registers rs2) refl none)
     where
@@ -374,10 +325,7 @@ module _ (M : ℕ) (o : OpeningValue) (queues : ℕ → Queue) (N : ℕ) (own_of
           → register_value s.registers rs1 ≡ register_value s.registers rs2
       by true is none = eqb-true (register_value s.registers rs1) (register_value s.registers rs2) is
       by false is none = absurd (cc)
-  passed-means branch.Less rs1 rs2 is = means
-  passed-means branch.GreaterEqual rs1 rs2 is = means
-  passed-means branch.LessUnsigned rs1 rs2 is = means
-  passed-means branch.GreaterEqualUnsigned rs1 rs2 is = means
+  passed-means other rs1 rs2 is = means
 
   branch-goes : (op : BranchOp) (rs1 rs2 : Reg) (offset : ℤ) → IsAt s (Branch op rs1 rs2 offset)
       → Goes queues N own_of h owns xs (goes_by (when_taken k op rs1 rs2) (when_passed k op rs1 rs2) (address k.pc offset) (next_pc k.pc)
@@ -500,18 +448,11 @@ module _ (M : ℕ) (o : OpeningValue) (queues : ℕ → Queue) (N : ℕ) (own_of
 
   -- what a signed load leaves of an index's word is a word, and has its low bytes
   signed-small : (i : ℕ) (f : Form) (x : ℕ) → i < N → Has queues xs (signed_for i f) x → x < 2 ^ 32
-  signed-small i f x less has =
-      let small : index_word (queues i) (form_value f xs) < 256 ^ (queues i).index_width = word-fits (queues i) (fine i less).0 (form_value f xs) in
-      let four : 256 ^ (queues i).index_width ≤ 2 ^ 32 = pow-le-pow_right {n = 256} (omega arith) {i = (queues i).index_width} {j = 4} (fine i less).2 in
-      subst (λ y. y < 2 ^ 32) (sym has) (signed-fits (queues i).index_width (index_word (queues i) (form_value f xs)) small four)
+  signed-small i f x less has = grind (arith, word-fits, pow-le-pow_right, signed-fits)
 
   signed-low : (i : ℕ) (f : Form) (x : ℕ) → i < N → 2 ^ 32 % 256 ^ (queues i).index_width ≡ 0 → Has queues xs (signed_for i f) x
       → x % 256 ^ (queues i).index_width ≡ index_word (queues i) (form_value f xs)
-  signed-low i f x less divides has =
-      ap (λ y. y % 256 ^ (queues i).index_width) has
-      ∙ signed-rest (queues i).index_width (256 ^ (queues i).index_width) (index_word (queues i) (form_value f xs)) divides
-      (mod_self (256 ^ (queues i).index_width))
-      ∙ mod-eq_of_lt (word-fits (queues i) (fine i less).0 (form_value f xs))
+  signed-low i f x less divides has = grind (arith, signed-rest, mod_self, mod-eq_of_lt, word-fits)
 
   storable-has : (n x : ℕ) (u : KnownValue) → Has queues xs u x → (Has queues xs u x → x < 2 ^ 32 → n ≡ x) → Has queues xs (storable N u) n
   storable-has n x any has is = tt
@@ -633,35 +574,18 @@ module _ (M : ℕ) (o : OpeningValue) (queues : ℕ → Queue) (N : ℕ) (own_of
   -- ---- loads
 
   index-below : (ys : List ℕ) (limit : ℕ) (w : KnownValue) (x : ℕ) → is_index_below queues limit w ≡ true → Has queues ys w x → x < limit
-  index-below ys limit any x ok has = absurd (cc)
-  index-below ys limit (linear f) x ok has = absurd (cc)
-  index-below ys limit (signed_for i f) x ok has = absurd (cc)
-  index-below ys limit (ends_as n f) x ok has = absurd (cc)
-  index-below ys limit (has_bits n b) x ok has = absurd (cc)
-  index-below ys limit (index_for i f) x ok has =
-      let p = and_parts (nat_le 1 (queues i).modulus) (nat_lt ((queues i).base + (queues i).scale * ((queues i).modulus - 1)) limit) ok in
-      let some : 1 ≤ (queues i).modulus = leb-true 1 (queues i).modulus p.0 in
-      let under : (form_value f ys + (queues i).offset) % (queues i).modulus < (queues i).modulus = mod-lt (form_value f ys + (queues i).offset) some in
-      let most : (queues i).scale * ((form_value f ys + (queues i).offset) % (queues i).modulus) ≤ (queues i).scale * ((queues i).modulus - 1) =
-      mul-le (queues i).scale ((form_value f ys + (queues i).offset) % (queues i).modulus) (queues i).scale ((queues i).modulus - 1)
-      (omega arith) (omega (arith, under)) in
-      let low : (queues i).base + (queues i).scale * ((queues i).modulus - 1) < limit =
-      ltb-true ((queues i).base + (queues i).scale * ((queues i).modulus - 1)) limit p.1 in
-      omega (arith, has, most, low)
+  index-below ys limit (index_for i f) x ok has = grind (arith, and_parts, leb-true, mod-lt, mul-le, ltb-true)
+  index-below ys limit other x ok has = absurd (cc)
 
   signed-has : (ys : List ℕ) (width : ℕ) (w : KnownValue) (x : ℕ) → Has queues ys w x
       → Has queues ys (signed_value queues width w) (signed_word width x)
-  signed-has ys width any x has = tt
-  signed-has ys width (linear f) x has = tt
-  signed-has ys width (signed_for i f) x has = tt
-  signed-has ys width (ends_as n f) x has = tt
-  signed-has ys width (has_bits n b) x has = tt
   signed-has ys width (index_for i f) x has = by ((queues i).index_width == width) refl
     where
       by : (t : Bool) → ((queues i).index_width == width) ≡ t → Has queues ys (if t then signed_for i f else any) (signed_word width x)
       by false other = tt
       by true same = ap (signed_word width) has
           ∙ ap (λ n. signed_word n (index_word (queues i) (form_value f ys))) (sym (eqb-true (queues i).index_width width same))
+  signed-has ys width other x has = tt
 
   sign-kept : (ys : List ℕ) (bits width : ℕ) (w : KnownValue) (x : ℕ) → 2 ^ (bits - 1) + 2 ^ (bits - 1) ≡ 256 ^ width → 2 ^ bits ≡ 256 ^ width
       → 256 ^ width ≤ 2 ^ 32 → x < 256 ^ width → Has queues ys w x
@@ -678,9 +602,7 @@ module _ (M : ℕ) (o : OpeningValue) (queues : ℕ → Queue) (N : ℕ) (own_of
       → Has queues ys (extended_value queues op w) (extended op x)
   extended-has ys load_op.Byte w x low has = sign-kept ys 8 1 w x refl refl (omega arith) low has
   extended-has ys load_op.Half w x low has = sign-kept ys 16 2 w x refl refl (omega arith) low has
-  extended-has ys load_op.Word w x low has = has
-  extended-has ys load_op.ByteUnsigned w x low has = has
-  extended-has ys load_op.HalfUnsigned w x low has = has
+  extended-has ys other w x low has = has
 
   form-low : (f : Form) (x n : ℕ) → fits_in (most k.ranges f) (Some n) ≡ true → Has queues xs (linear f) x → x < n + 1
   form-low f x n ok has =
@@ -865,11 +787,7 @@ module _ (M : ℕ) (o : OpeningValue) (queues : ℕ → Queue) (N : ℕ) (own_of
           (sym (missed (queues n) (party_of (queues n) h) b a (load_width op) v (cs n) (elsewhere n less far) low high)) (lifted-means.shares n less p at))
         where
           elsewhere : (n : ℕ) → n < N → n ≢ i → misses (queues n) (party_of (queues n) h) b (load_width op) ≡ true
-          elsewhere n less far = elim (or_cases (is_just (Some i) n && nat_lt n (length k.shares))
-              (misses (queues n) (party_of (queues n) h) b (load_width op)) (may n less)) [
-                | inr off ↦ off
-                | inl both ↦ absurd (far (sym (eqb-true i n (and_parts (i == n) (nat_lt n (length k.shares)) both).0)))
-              ]
+          elsewhere n less far = grind (arith, or_cases, may, eqb-true, and_parts)
 
   said-at : (i : Instr) → IsAt s i → instruction_at s.code s.pc ≡ Some i
   said-at i here = ap (λ t. if t then meaning (slice_index s.code (s.pc / 4)) else None) (lt-ltb s.pc (4 * length s.code) here.inside) ∙ here.says
@@ -997,11 +915,6 @@ module _ (M : ℕ) (o : OpeningValue) (queues : ℕ → Queue) (N : ℕ) (own_of
         unsigned u has ok = whole u has ok
 
         cut : (u : KnownValue) → Has queues xs u x → is_cut (queues i) u f ≡ true → stored op x ≡ index_word (queues i) (form_value f xs)
-        cut any has low = absurd (cc)
-        cut (index_for j g) has low = absurd (cc)
-        cut (signed_for j g) has low = absurd (cc)
-        cut (ends_as n g) has low = absurd (cc)
-        cut (has_bits n b) has low = absurd (cc)
         cut (linear g) has low =
             let p2 = and_parts (((queues i).scale * (queues i).modulus == 256 ^ (queues i).index_width) && nat_lt (queues i).base (queues i).scale)
             (is_same (256 ^ (queues i).index_width) g (scaled (queues i) (plus f (number (queues i).offset)))) low in
@@ -1011,6 +924,7 @@ module _ (M : ℕ) (o : OpeningValue) (queues : ℕ → Queue) (N : ℕ) (own_of
             ∙ sym (word-linear (256 ^ (queues i).index_width) (queues i) f xs
             (pow-le-pow_right {n = 256} (omega arith) {i = 0} {j = (queues i).index_width} (omega arith))
             (eqb-true ((queues i).scale * (queues i).modulus) (256 ^ (queues i).index_width) p1.0) (ltb-true (queues i).base (queues i).scale p1.1))
+        cut other has low = absurd (cc)
 
     pub party-store : (i : ℕ) (less : i < N) (p : Party) (mine : h ≡ hart (queues i) p)
         → Stored (queues i) (fine i less).0 p (cs i) xs (get_or k.shares i no_share) (means.shares i less p mine) w
@@ -1235,13 +1149,7 @@ module _ (M : ℕ) (o : OpeningValue) (queues : ℕ → Queue) (N : ℕ) (own_of
   updated-has amo.Swap u w old x one two = two
   updated-has amo.Add u w old x one two = sum-has queues xs (plain queues k.ranges u) (plain queues k.ranges w) old
       x (has-plain queues k.ranges xs means.ranges u old one) (has-plain queues k.ranges xs means.ranges w x two)
-  updated-has amo.Xor u w old x one two = tt
-  updated-has amo.Or u w old x one two = tt
-  updated-has amo.And u w old x one two = tt
-  updated-has amo.Min u w old x one two = tt
-  updated-has amo.Max u w old x one two = tt
-  updated-has amo.MinUnsigned u w old x one two = tt
-  updated-has amo.MaxUnsigned u w old x one two = tt
+  updated-has other u w old x one two = tt
 
   amo-goes : (past : (g : ℕ) → H ≤ g → length (own_of g) ≡ 0) (d : Form) (op : AmoOp) (rd rs1 rs2 : Reg)
       (aq rl : Bool) (ks : List KnownState) → IsAt s (Amo op rd rs1 rs2 aq rl)

@@ -16,9 +16,9 @@ use Rattle.step_machine.specs.Access.{store}
 use Rattle.slot_queue.specs.{Queue, IsQueue, KeepsOff, index_word, slot_of, index, end, moved, FillsOwned, KeepsAccess, after_access}
 use Rattle.queue_parties.specs.{IsInBytes, Party, the_sender, the_receiver, QueueCounts, count, with_count}
 use Rattle.queue_parties.proofs.Parties.{count-set}
-use Rattle.slot_queue.proofs.Looks.{end-set-count}
+use Rattle.queue_parties.proofs.Positions.{end-set-count}
 use Rattle.queue_certificates.specs.{View, number_seen, view_then, OwnsSlotsOf, Form, form_value, number, plus, times, minus, is_same, most, fits_in, remainder}
-use Rattle.queue_certificates.specs.{InRanges, Bounds, KnownValue, any, linear, index_for, signed_for, ends_as, has_bits, Share, Has, HasShare, is_apart}
+use Rattle.queue_certificates.specs.{InRanges, Bounds, KnownValue, linear, Share, Has, HasShare, is_apart}
 use Rattle.queue_certificates.specs.{is_off, position_at, offset_at, is_slot, is_owned, moved_share}
 use Rattle.queue_certificates.proofs.OwnedAccesses.{moves, fills, off, loads_owned}
 use Rattle.queue_certificates.proofs.Bounds.{value-below, fits-below, value-remainder}
@@ -167,11 +167,6 @@ module _ (q : Queue) (is : IsQueue q) (p : Party) (c : QueueCounts) (xs : List �
         }
 
     pub owned-at : (place : KnownValue) (a width : ℕ) → Has queues xs place a → is_owned rs q s place width ≡ true → Owned a width
-    owned-at any a width at ok = absurd (cc)
-    owned-at (index_for i f) a width at ok = absurd (cc)
-    owned-at (signed_for i f) a width at ok = absurd (cc)
-    owned-at (ends_as n f) a width at ok = absurd (cc)
-    owned-at (has_bits m b) a width at ok = absurd (cc)
     owned-at (linear f) a width at ok = (let there = placed-at f a width at ok in record {
       position = count p c + position_at q s.own.constant f.constant;
       from = omega arith;
@@ -179,6 +174,7 @@ module _ (q : Queue) (is : IsQueue q) (p : Party) (c : QueueCounts) (xs : List �
       low = omega (arith, there.place);
       high = omega (arith, there.place, there.fits);
     })
+    owned-at other a width at ok = absurd (cc)
 
     pub owned-slots : (place : KnownValue) (a width : ℕ) → Has queues xs place a → is_owned rs q s place width ≡ true → OwnsSlotsOf q p c a width
     owned-slots place a width at ok = let o = owned-at place a width at ok in loads_owned q is p c a width o.position o.from o.before o.low o.high
@@ -212,6 +208,6 @@ module _ (q : Queue) (is : IsQueue q) (p : Party) (c : QueueCounts) (xs : List �
         may = inl m.0;
         share = record {
           own = count-set p (moved q p (count p c) w) c ∙ m.1 ∙ sym at;
-          upto = end-set-count q p p (moved q p (count p c) w) c ∙ (omega (arith, has.upto, has.own, sum, at));
+          upto = end-set-count q.capacity p p (moved q p (count p c) w) c ∙ (omega (arith, has.upto, has.own, sum, at));
         };
       }

@@ -13,8 +13,9 @@ use Rattle.rv_decode.specs.declared.instruction.Instr.TheVariants.{Lui, Auipc, J
 use Rattle.rv_decode.specs.declared.instruction.Instr.TheVariants.{Ecall, Ebreak, Amo}
 use Rattle.hart.specs.Effects.{next_pc, load_width}
 use Rattle.slot_queue.specs.Queues.{Queue}
-use Rattle.queue_certificates.specs.{OwnWord, Field, Form, lifted, Bounds, KnownValue, any, linear, index_for, signed_for, ends_as, has_bits, Share, no_share}
-use Rattle.queue_certificates.specs.{share_by, KnownState, Result, last_below, with_result, going_to, goes_by, jumping, called, shared, when_taken, when_passed}
+use Rattle.queue_certificates.specs.{OwnWord, Field, Form, lifted, Bounds, KnownValue, Share, no_share}
+use Rattle.queue_certificates.specs.{is_any, with_register, share_by, KnownState, Result, last_below, with_result}
+use Rattle.queue_certificates.specs.{going_to, goes_by, jumping, called, shared, when_taken, when_passed}
 use Rattle.queue_certificates.specs.{after_load, load_by, loading, shares_moved, after_store, storing, after_exchange, exchanging, follow, moved_share}
 use Rattle.queue_certificates.specs.{looked_share, is_look, is_own_index, field_number, keeps_numbers, after_field, next_received}
 use Rattle.queue_certificates.proofs.Forms.{value-lifted}
@@ -58,13 +59,13 @@ keeps-result N k rd pc r ks is = keeps-is N k (with_result k rd pc r ∷ []) ks 
 -- ---- branches
 
 shared-shares : (k : KnownState) (rs1 rs2 : Reg) (v w : KnownValue) → (shared k rs1 rs2 v w).shares ≡ k.shares
-shared-shares k rs1 rs2 any w = refl
-shared-shares k rs1 rs2 (linear f) any = refl
-shared-shares k rs1 rs2 (index_for i f) any = refl
-shared-shares k rs1 rs2 (signed_for i f) any = refl
-shared-shares k rs1 rs2 (ends_as n f) any = refl
-shared-shares k rs1 rs2 (has_bits m b) any = refl
-shared-shares k rs1 rs2 v w = refl
+shared-shares k rs1 rs2 v w = by (is_any v) (is_any w)
+  where
+    by : (a b : Bool) → (if a then record k { registers = with_register k.registers rs1.number w }
+        else (if b then record k { registers = with_register k.registers rs2.number v } else k)).shares ≡ k.shares
+    by true b = refl
+    by false true = refl
+    by false false = refl
 
 taken-shares : (k : KnownState) (op : BranchOp) (rs1 rs2 : Reg) → (when_taken k op rs1 rs2).shares ≡ k.shares
 taken-shares k branch.Equal rs1 rs2 = shared-shares k rs1 rs2 _ _

@@ -7,8 +7,8 @@ use Rattle.queue_parties.specs.{Party, other, QueueCounts, count, IsInBytes}
 use Rattle.slot_queue.specs.Queues.{Queue, slot_of}
 use Rattle.queue_parties.proofs.Positions.{slot-within}
 use Rattle.slots_that_tell.specs.{IsSlots, AreSlots, AreApart, tag_of, IsSlotByte, IsTagByte, IsOutside, owned_end, OwnsRest}
-use Rattle.queue_certificates.specs.{IsOfTag, OwnsAllButTags, Form, form_value, number, plus, remainder, InRanges, Bounds, KnownValue, any, linear, index_for}
-use Rattle.queue_certificates.specs.{signed_for, ends_as, has_bits, Share, Has, position_at, offset_at, is_apart, is_slot, is_owned, bare, elements, are_slots}
+use Rattle.queue_certificates.specs.{IsOfTag, OwnsAllButTags, Form, form_value, number, plus, remainder, InRanges, Bounds, KnownValue, linear}
+use Rattle.queue_certificates.specs.{Share, Has, position_at, offset_at, is_apart, is_slot, is_owned, bare, elements, are_slots}
 use Rattle.queue_certificates.specs.{HasAtLeast, is_in_element, tag_position, is_of_rest, is_of_tag, is_beside_slots}
 use Rattle.queue_layouts.specs.Tagged.{slots_of}
 use Rattle.queue_layouts.specs.declared.tagged.TaggedQueue.{TaggedQueue}
@@ -55,11 +55,6 @@ module _ (q : TaggedQueue) (is : IsSlots (slots_of q)) where
       pub whole : width ≡ q.tag_width
 
     pub tag-place : (place : KnownValue) (a width j : ℕ) → Has queues xs place a → tag_position rs q s place width ≡ Some j → IsTagAt a width j
-    tag-place any a width j at is-j = absurd (cc)
-    tag-place (index_for i f) a width j at is-j = absurd (cc)
-    tag-place (signed_for i f) a width j at is-j = absurd (cc)
-    tag-place (ends_as n f) a width j at is-j = absurd (cc)
-    tag-place (has_bits m b) a width j at is-j = absurd (cc)
     tag-place (linear f) a width j at is-j =
         by ((width == q.tag_width) && (offset_at (elements q) f.constant == q.tag_offset) && is_in_element rs q s f) refl is-j
       where
@@ -76,14 +71,10 @@ module _ (q : TaggedQueue) (is : IsSlots (slots_of q)) where
               near = position-near (elements q) is.some s.own.constant f.constant;
               whole = eqb-true width q.tag_width p1.0;
             })
+    tag-place other a width j at is-j = absurd (cc)
 
     pub of-tag : (place : KnownValue) (a width x : ℕ) → Has queues xs place a → is_of_tag rs q s place width ≡ true → IsInBytes a width x
         → IsOfTag (slots_of q) x
-    of-tag any a width x at ok within = absurd (cc)
-    of-tag (index_for i f) a width x at ok within = absurd (cc)
-    of-tag (signed_for i f) a width x at ok within = absurd (cc)
-    of-tag (ends_as n f) a width x at ok within = absurd (cc)
-    of-tag (has_bits m b) a width x at ok within = absurd (cc)
     of-tag (linear f) a width x at ok within =
         let p2 = and_parts (nat_le q.tag_offset (offset_at (elements q) f.constant)
         && nat_le (offset_at (elements q) f.constant + width) (q.tag_offset + q.tag_width)) (is_in_element rs q s f) ok in
@@ -96,6 +87,7 @@ module _ (q : TaggedQueue) (is : IsSlots (slots_of q)) where
           n + position_at (elements q) s.own.constant f.constant,
           (omega (arith, there, from, within.0), omega (arith, there, upto, within.1)),
         )
+    of-tag other a width x at ok within = absurd (cc)
 
   module _ (queues : ℕ → Queue) (rs : List (Option ℕ)) (xs : List ℕ) (ranges : InRanges rs xs) (s : Share) (p : Party) (c : QueueCounts)
       (has : HasAtLeast q p c xs s) where
@@ -127,11 +119,6 @@ module _ (q : TaggedQueue) (is : IsSlots (slots_of q)) where
 
     pub of-rest : (place : KnownValue) (a width x : ℕ) → Has queues xs place a → is_of_rest rs q s place width ≡ true → IsInBytes a width x
         → OwnsRest (slots_of q) p c x
-    of-rest any a width x at ok within = absurd (cc)
-    of-rest (index_for i f) a width x at ok within = absurd (cc)
-    of-rest (signed_for i f) a width x at ok within = absurd (cc)
-    of-rest (ends_as n f) a width x at ok within = absurd (cc)
-    of-rest (has_bits m b) a width x at ok within = absurd (cc)
     of-rest (linear f) a width x at ok within =
         let p1 = and_parts (not (are_slots q) || nat_le (offset_at (bare q) f.constant + width) q.tag_offset
         || nat_le (q.tag_offset + q.tag_width) (offset_at (bare q) f.constant)) (is_owned rs (bare q) s (linear f) width) ok in
@@ -156,14 +143,10 @@ module _ (q : TaggedQueue) (is : IsSlots (slots_of q)) where
                 ])
           ];
         }
+    of-rest other a width x at ok within = absurd (cc)
 
     pub of-owned : (place : KnownValue) (a width x : ℕ) → Has queues xs place a → is_owned rs (bare q) s place width ≡ true → IsInBytes a width x
         → IsOfTag (slots_of q) x ⊎ OwnsRest (slots_of q) p c x
-    of-owned any a width x at ok within = absurd (cc)
-    of-owned (index_for i f) a width x at ok within = absurd (cc)
-    of-owned (signed_for i f) a width x at ok within = absurd (cc)
-    of-owned (ends_as n f) a width x at ok within = absurd (cc)
-    of-owned (has_bits m b) a width x at ok within = absurd (cc)
     of-owned (linear f) a width x at ok within = by (cases_lt x (tag_of (slots_of q) w.position)) (cases_lt x (tag_of (slots_of q) w.position + q.tag_width))
       where
         w : Within f a width
@@ -185,6 +168,7 @@ module _ (q : TaggedQueue) (is : IsSlots (slots_of q)) where
         by (inr from) (inl upto) = inl (w.position, (from, upto))
         by (inl under) past = rest (λ tag. omega (arith, under, tag.0))
         by (inr from) (inr past) = rest (λ tag. omega (arith, past, tag.1))
+    of-owned other a width x at ok within = absurd (cc)
 
     pub reads-rest : (place : KnownValue) (b : Bounds) (a width : ℕ) → Has queues xs place a → b.low ≤ a → a ≤ b.high
         → (is_beside_slots q b width || is_of_tag rs q s place width || is_owned rs (bare q) s place width) ≡ true

@@ -16,7 +16,7 @@ use Rattle.slots_that_tell.proofs.Codecs.{zero_differs, numbered_differs, bits_d
 use Rattle.queue_certificates.specs.{OwnWord, telling, Form, form_value, substituted, raised, settled, is_same, InRanges, most, fits_in, Share, no_share}
 use Rattle.queue_certificates.specs.{KnownState, share_by, state_by, QueueCertificate, tagged_at, tagged_start, SharesTold, opens_all_told, leads_to}
 use Rattle.queue_certificates.specs.{arrow_leads, opens_told, opens_free, at_most, beyond, range_changed, with_low, with_high, party_in, are_slots}
-use Rattle.queue_certificates.specs.{are_apart_from_slots, is_codec, is_tagged, HasAtLeast, AreTold, covers_share, tags_lead}
+use Rattle.queue_certificates.specs.{are_apart_from_slots, is_codec, tells_both, is_tagged, HasAtLeast, AreTold, covers_share, tags_lead}
 use Rattle.queue_layouts.specs.Tagged.{slots_of, tells_by}
 use Rattle.queue_layouts.specs.declared.tagged.Codec.{Codec}
 use Rattle.queue_layouts.specs.declared.tagged.Codec.TheVariants as codec
@@ -38,8 +38,10 @@ pub record IsFine (q : TaggedQueue) : Type 0 where
 
 pub tagged-is : (q : TaggedQueue) → is_tagged q ≡ true → IsFine q
 tagged-is q ok =
+    let p7 = and_parts (not (q.sender == q.receiver) && nat_le 1 q.size && nat_le 1 q.tag_width && nat_le q.tag_width 4
+    && nat_le (q.tag_offset + q.tag_width) q.tag_stride && (are_slots q || are_apart_from_slots q) && is_codec q q.codec) (tells_both q.codec) ok in
     let p6 = and_parts (not (q.sender == q.receiver) && nat_le 1 q.size && nat_le 1 q.tag_width && nat_le q.tag_width 4
-    && nat_le (q.tag_offset + q.tag_width) q.tag_stride && (are_slots q || are_apart_from_slots q)) (is_codec q q.codec) ok in
+    && nat_le (q.tag_offset + q.tag_width) q.tag_stride && (are_slots q || are_apart_from_slots q)) (is_codec q q.codec) p7.0 in
     let p5 = and_parts (not (q.sender == q.receiver) && nat_le 1 q.size && nat_le 1 q.tag_width && nat_le q.tag_width 4
     && nat_le (q.tag_offset + q.tag_width) q.tag_stride) (are_slots q || are_apart_from_slots q) p6.0 in
     let p4 = and_parts (not (q.sender == q.receiver) && nat_le 1 q.size && nat_le 1 q.tag_width && nat_le q.tag_width 4)

@@ -15,7 +15,7 @@ use Rattle.slots_that_tell.specs.{IsSlots, tag_of, tagged_slot, MovesOn, MayStor
 use Rattle.slots_that_tell.proofs.Owned.{mine-of}
 use Rattle.slots_that_tell.proofs.Places.{moved-leaves, fills-leaves}
 use Rattle.queue_certificates.proofs.ToldAccesses.{moves}
-use Rattle.queue_certificates.specs.{OwnWord, View, AllCounts, InRanges, Bounds, KnownValue, any, linear, index_for, signed_for, ends_as, has_bits, Share}
+use Rattle.queue_certificates.specs.{OwnWord, View, AllCounts, InRanges, Bounds, KnownValue, linear, Share}
 use Rattle.queue_certificates.specs.{no_share, KnownState, Has, is_just, is_owned, position_at, offset_at, bare, party_in, is_tagged, HasAtLeast, with_share}
 use Rattle.queue_certificates.specs.{AreTold, is_beside_slots, is_of_rest, tag_at, tag_by, moved_tag, may_tell, may_store_all, hands_over, handed, all_handed}
 use Rattle.queue_certificates.specs.{filled_by, tag_effect_at, Effect, Leaves, Fills, Publishes}
@@ -214,11 +214,6 @@ module _ (tagged : ℕ → TaggedQueue) (T : ℕ) (queues : ℕ → Queue) (N : 
     has-its = told t less the_sender at
 
     fills : (pl : KnownValue) → Has queues xs pl a → (m : ℕ) → m ≡ (us t).published → Sent m (filled_by k.ranges (bare (tagged t)) its pl width)
-    fills any at-pl m same = same
-    fills (index_for i f) at-pl m same = same
-    fills (signed_for i f) at-pl m same = same
-    fills (ends_as n f) at-pl m same = same
-    fills (has_bits n b) at-pl m same = same
     fills (linear f) at-pl m same = by (is_owned k.ranges (bare (tagged t)) its (linear f) width) refl
       where
         by : (c : Bool) → is_owned k.ranges (bare (tagged t)) its (linear f) width ≡ c
@@ -234,6 +229,7 @@ module _ (tagged : ℕ → TaggedQueue) (T : ℕ) (queues : ℕ → Queue) (N : 
                   (tagged_slot (slots_of (tagged t)) ((us t).published + position_at (bare (tagged t)) its.own.constant f.constant) + n)
                   (omega (arith, there, from)) (omega (arith, there, below)),
             )
+    fills other at-pl m same = same
 
     by-move : (c : Bool) → is_just move t ≡ c → (m : ℕ) → m ≡ moved (slots_of (tagged t)) (us t).published w
         → Sent m (if c then Publishes 1 else filled_by k.ranges (bare (tagged t)) its place width)

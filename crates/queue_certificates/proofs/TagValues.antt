@@ -2,7 +2,7 @@
 -- and of that what a load leaves and what a store makes.
 use Rattle.std.proofs.Common.{ℕ, zero, suc, ◌+◌, ◌-◌, ◌^◌, ◌%◌, ◌<◌, ◌≤◌, ◌≡◌, ◌==◌, Bool, true, false, if◌then◌else◌, Option, Some, None, List, ◌∷◌}
 use Rattle.std.proofs.Common.{◌*◌, ◌/◌, ◌&&◌, inl, inr, refl, sym, ◌∙◌, ap, subst, arith}
-use Rattle.std.specs.Prelude.{not, nat_le, nat_lt, bit_and, bit_or}
+use Rattle.std.specs.Prelude.{not, nat_lt, bit_and, bit_or}
 use Rattle.std.specs.Int.{trailing_zeros, w32}
 use Rattle.std.specs.Int.Bits.{and_shifted, or_zero_r}
 use Rattle.std.proofs.lemmas.Nat.{shr_split, trailing_le, and_comm, and_or_apart, and_le_l}
@@ -17,8 +17,8 @@ use Rattle.queue_parties.specs.Parties.{Party, the_sender, the_receiver, other}
 use Rattle.slot_queue.specs.Queues.{Queue}
 use Rattle.slots_that_tell.specs.Slots.{gap}
 use Rattle.slots_that_tell.specs.Codecs.{bits_under, phase_bits}
-use Rattle.queue_certificates.specs.{Form, form_value, number, plus, first_variable, InRanges, Bounds, KnownValue, any, linear, index_for, signed_for, ends_as}
-use Rattle.queue_certificates.specs.{has_bits, signed_word, Has, bounds, Bits, of_bits, bits_of, most_loaded, is_codec, Told, nothing, something, number_of}
+use Rattle.queue_certificates.specs.{Form, form_value, number, plus, first_variable, InRanges, Bounds, KnownValue, any, linear}
+use Rattle.queue_certificates.specs.{signed_word, Has, bounds, Bits, of_bits, bits_of, most_loaded, is_codec, Told, nothing, something, number_of}
 use Rattle.queue_certificates.specs.{unknown, bits_are, bits_for, in_round, is_of_even_round, told_by, back_to, bits_above, value_told, told_value, other_value}
 use Rattle.queue_certificates.specs.{is_positive, is_number, are_these, are_above, makes, hands_over}
 use Rattle.queue_layouts.specs.Tagged.{slots_of, tells_by}
@@ -51,25 +51,16 @@ signed-some width x some = by (nat_lt (x + x) (256 ^ width))
 
 sign-some : (bits width x : ℕ) → 2 ^ (bits - 1) + 2 ^ (bits - 1) ≡ 256 ^ width → 2 ^ bits ≡ 256 ^ width → 256 ^ width ≤ 2 ^ 32
     → x < 256 ^ width → 1 ≤ x → (1 ≤ sign_extended bits x) × (sign_extended bits x ≤ 2 ^ 32 - 1)
-sign-some bits width x half all small low some =
-    let e : sign_extended bits x ≡ signed_word width x = signed-of-bits bits width x half all small low in
-    let one : 1 ≤ signed_word width x = signed-some width x some in
-    let most : signed_word width x < 2 ^ 32 = signed-fits width x low small in
-    (omega (arith, e, one), omega (arith, e, most))
+sign-some bits width x half all small low some = grind (arith, signed-of-bits, signed-some, signed-fits)
 
 some-extended : (op : LoadOp) (v : ℕ) → v < 256 ^ load_width op → 1 ≤ v → (1 ≤ extended op v) × (extended op v ≤ most_loaded op)
 some-extended load_op.Byte v low some = sign-some 8 1 v refl refl (omega arith) low some
 some-extended load_op.Half v low some = sign-some 16 2 v refl refl (omega arith) low some
-some-extended load_op.Word v low some = (some, omega (arith, low))
-some-extended load_op.ByteUnsigned v low some = (some, omega (arith, low))
-some-extended load_op.HalfUnsigned v low some = (some, omega (arith, low))
+some-extended other v low some = (some, omega (arith, low))
 
 word-extended : (op : LoadOp) (v : ℕ) → load_width op ≡ 4 → extended op v ≡ v
-word-extended load_op.Byte v wide = absurd (omega (arith, wide))
-word-extended load_op.Half v wide = absurd (omega (arith, wide))
 word-extended load_op.Word v wide = refl
-word-extended load_op.ByteUnsigned v wide = absurd (omega (arith, wide))
-word-extended load_op.HalfUnsigned v wide = absurd (omega (arith, wide))
+word-extended other v wide = absurd (omega (arith, wide))
 
 some-number : (v : ℕ) → not (v == 0) ≡ true → 1 ≤ v
 some-number v ok = by v (eqb-false v 0 (not-true (v == 0) ok))
@@ -258,20 +249,13 @@ module _ (queues : ℕ → Queue) (xs : List ℕ) where
   -- the number is the same as a form's
   known-number : (m : ℕ) (w : KnownValue) (g : Form) (x : ℕ) → is_number m w g ≡ true → Has queues xs w x
       → (f : Form) × (x ≡ form_value f xs % 2 ^ 32) × (form_value f xs % m ≡ form_value g xs % m)
-  known-number m any g x ok has = absurd (cc)
-  known-number m (index_for i f) g x ok has = absurd (cc)
-  known-number m (signed_for i f) g x ok has = absurd (cc)
-  known-number m (ends_as n f) g x ok has = absurd (cc)
-  known-number m (has_bits n b) g x ok has = absurd (cc)
   known-number m (linear f) g x ok has = (f, has, same-value m f g xs ok)
+  known-number m other g x ok has = absurd (cc)
 
   module _ (width : ℕ) (rs : List (Option ℕ)) (ranges : InRanges rs xs) (op : StoreOp) (x : ℕ) (w : KnownValue)
       (whole : store_width op ≡ width) (has : Has queues xs w x) where
     stored-as : (g : Form) → is_number (256 ^ width) w g ≡ true → stored op x % 256 ^ width ≡ form_value g xs % 256 ^ width
-    stored-as g ok =
-        let k = known-number (256 ^ width) w g x ok has in
-        ap (λ m. m % 256 ^ width) (stored-low op x (form_value k.0 xs) k.1 ∙ ap (λ m. form_value k.0 xs % 256 ^ m) whole ∙ k.2)
-        ∙ mod-mod (form_value g xs) (256 ^ width)
+    stored-as g ok = grind (arith, known-number, stored-low, mod-mod)
 
     made : (t : Told) → Fits width t → makes rs width t w ≡ true → IsMade t (stored op x % 256 ^ width)
     made unknown fits ok = absurd (cc)
@@ -280,15 +264,7 @@ module _ (queues : ℕ → Queue) (xs : List ℕ) where
       where
         positive : (b : Option Bounds) → bounds rs w ≡ b → is_positive width b ≡ true → 1 ≤ stored op x % 256 ^ width
         positive None is ok = absurd (cc)
-        positive (Some b) is ok =
-            let parts = and_parts (nat_le 1 b.low) (nat_lt b.high (256 ^ width)) ok in
-            let between = has-bounds queues rs xs w x b ranges is has in
-            let low : 1 ≤ b.low = leb-true 1 b.low parts.0 in
-            let high : b.high < 256 ^ width = ltb-true b.high (256 ^ width) parts.1 in
-            let small : x < 256 ^ width = omega (arith, between.1, high) in
-            let same : stored op x % 256 ^ width ≡ x =
-            ap (λ m. m % 256 ^ width) (stored-whole op x (subst (λ m. x < 256 ^ m) (sym whole) small)) ∙ mod-eq_of_lt small in
-            omega (arith, same, between.0, low)
+        positive (Some b) is ok = grind (arith, and_parts, has-bounds, leb-true, ltb-true, stored-whole, mod-eq_of_lt)
     made (number_of f) four ok =
         let all : 256 ^ width ≡ 2 ^ 32 = ap (λ m. 256 ^ m) four in
         stored-as f (subst (λ m. is_number m w f ≡ true) (sym all) ok) ∙ ap (λ m. form_value f xs % m) all

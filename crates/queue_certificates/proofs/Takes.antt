@@ -7,7 +7,7 @@ use Rattle.rv_decode.specs.declared.instruction.Instr.{Instr}
 use Rattle.rv_decode.specs.declared.instruction.Instr.TheVariants.{Load, Store, Amo}
 use Rattle.hart.specs.{HartState, register_value, address, stored, store_width, advanced}
 use Rattle.step_machine.specs.declared.events.Entry.{Entry}
-use Rattle.step_machine.specs.Names.{OpeningValue, Access, nothing, load, store, exchange, fence, land, access_of, number_read}
+use Rattle.step_machine.specs.Names.{OpeningValue, Access, store, exchange, access_of, number_read}
 use Rattle.store_buffers.specs.StoreBuffers.{LeavesByteBy}
 use Rattle.memory.specs.Writes.{write, covers}
 use Rattle.slot_queue.specs.{Queue, IsQueue, TellsFull, KeepsAccess}
@@ -33,10 +33,7 @@ third-leaves q c (exchange a old new) x (inr keeps) at = inr (by (covers (write 
     by : (t : Bool) → covers (write a 4 new) x ≡ t → t ≡ false
     by false is = refl
     by true on = absurd ((keeps x on).slots at)
-third-leaves q c (load a width v) x keeps at = tt
-third-leaves q c nothing x keeps at = tt
-third-leaves q c (fence full) x keeps at = tt
-third-leaves q c land x keeps at = tt
+third-leaves q c other x keeps at = tt
 
 module _ (M : ℕ) (o : OpeningValue) (c : QueueCertificate) (h i : ℕ) (xs : List ℕ)
     (k : KnownState) (s : HartState) (m : View) (cs : AllCounts) (e : Entry)

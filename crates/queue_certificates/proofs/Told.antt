@@ -79,18 +79,12 @@ quiet-tells q t c land quiet = absurd quiet
 quiet-rest : (q : Slots) (p : Party) (c : QueueCounts) (y : Access) → IsQuiet y → LoadsRestOwned q p c y
 quiet-rest q p c nothing quiet = tt
 quiet-rest q p c (fence full) quiet = tt
-quiet-rest q p c (load a width v) quiet = absurd quiet
-quiet-rest q p c (store w) quiet = absurd quiet
-quiet-rest q p c (exchange a old new) quiet = absurd quiet
-quiet-rest q p c land quiet = absurd quiet
+quiet-rest q p c other quiet = absurd quiet
 
 quiet-same : (q : Slots) (p : Party) (c : QueueCounts) (y : Access) → IsQuiet y → told_access q (Some p) y c ≡ c
 quiet-same q p c nothing quiet = refl
 quiet-same q p c (fence full) quiet = refl
-quiet-same q p c (load a width v) quiet = absurd quiet
-quiet-same q p c (store w) quiet = absurd quiet
-quiet-same q p c (exchange a old new) quiet = absurd quiet
-quiet-same q p c land quiet = absurd quiet
+quiet-same q p c other quiet = absurd quiet
 
 -- ---- an instruction
 

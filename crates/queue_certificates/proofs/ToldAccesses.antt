@@ -41,10 +41,7 @@ module _ (q : Slots) (is : IsSlots q) (p : Party) (c : QueueCounts) where
   pub moves : (w : Write) → w.addr ≡ tag_of q (count p c) → w.width ≡ q.tag_width
       → q.tells (other p) (count p c + gap q p) (w.value % 256 ^ q.tag_width) ≡ true → count p c < owned_end q p c
       → MovesOn q p c w × (moved q (count p c) w ≡ count p c + 1)
-  moves w place width word owned = (
-    record { tag = record { place = place; width = width; word = word }; owned = owned },
-    moved-tag q is p (count p c) (count p c) w (record { place = place; width = width; word = word }),
-  )
+  moves w place width word owned = grind (arith, moved-tag)
 
   -- a store, or a load, of bytes of the slot of an owned position, beside its tag
   abbrev pub IsBeside : (k a width : ℕ) → Type 0

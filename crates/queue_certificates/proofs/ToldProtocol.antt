@@ -1,9 +1,9 @@
 -- The protocol of slots that tell as one of two parties: whose counts an access leaves, and what a party reads in its tags.
-use Rattle.std.proofs.Common.{ℕ, ◌+◌, ◌<◌, ◌≤◌, ◌≡◌, inl, inr, Bool, true, false, List, [], Option, Some, None, refl, ◌∙◌, ap, subst, arith}
+use Rattle.std.proofs.Common.{ℕ, ◌+◌, ◌<◌, ◌≤◌, ◌≡◌, inl, inr, Bool, true, false, List, [], Option, Some, None, refl, ◌∙◌, subst, arith}
 use Rattle.std.proofs.lemmas.Bool.{cases_lt}
 use Rattle.memory.specs.Writes.{write}
 use Rattle.step_machine.specs.declared.events.Entry.{Entry}
-use Rattle.step_machine.specs.Names.{OpeningValue, Access, nothing, load, store, exchange, fence, land, read}
+use Rattle.step_machine.specs.Names.{OpeningValue, Access, load, store, exchange, land, read}
 use Rattle.queue_parties.specs.Parties.{Party, the_sender, the_receiver, other, QueueCounts, count, known, IsWindow}
 use Rattle.queue_parties.proofs.Parties.{twice, count-set-other, known-set-count, known-set-other}
 use Rattle.certified_runs.specs.Views.{view_of}
@@ -20,36 +20,24 @@ use Rattle.queue_certificates.proofs.ToldTags.{other_tag}
 -- an access of the one party leaves what the other knows
 module _ (q : Slots) (r : Party) where
   loaded-known : (a width v : ℕ) (c : QueueCounts) → known (other r) (after_load q r a width v c) ≡ known (other r) c
-  loaded-known a width v c = elim (loaded q r a width v c) [
-    | inl same ↦ ap (known (other r)) same
-    | inr more ↦ ap (known (other r)) more.1 ∙ known-set-other r more.0 c
-  ]
+  loaded-known a width v c = grind (arith, loaded, known-set-other)
 
   others-count : (y : Access) (c : QueueCounts) → count (other r) (told_access q (Some r) y c) ≡ count (other r) c
   others-count (load a width v) c = loaded-count q r (other r) a width v c
   others-count (store w) c = count-set-other r (moved q (count r c) w) c
   others-count (exchange a old new) c =
       count-set-other r (moved q (count r (after_load q r a 4 old c)) (write a 4 new)) (after_load q r a 4 old c) ∙ loaded-count q r (other r) a 4 old c
-  others-count nothing c = refl
-  others-count (fence full) c = refl
-  others-count land c = refl
+  others-count other c = refl
 
   others-known : (y : Access) (c : QueueCounts) → known (other r) (told_access q (Some r) y c) ≡ known (other r) c
   others-known (load a width v) c = loaded-known a width v c
   others-known (store w) c = known-set-count r (other r) (moved q (count r c) w) c
   others-known (exchange a old new) c =
       known-set-count r (other r) (moved q (count r (after_load q r a 4 old c)) (write a 4 new)) (after_load q r a 4 old c) ∙ loaded-known a 4 old c
-  others-known nothing c = refl
-  others-known (fence full) c = refl
-  others-known land c = refl
+  others-known other c = refl
 
 nobodys : (q : Slots) (y : Access) (c : QueueCounts) → told_access q None y c ≡ c
-nobodys q nothing c = refl
-nobodys q (load a width v) c = refl
-nobodys q (store w) c = refl
-nobodys q (exchange a old new) c = refl
-nobodys q (fence full) c = refl
-nobodys q land c = refl
+nobodys q other c = refl
 
 landed : (q : Slots) (t : Option Party) (c : QueueCounts) → told_access q t land c ≡ c
 landed q (Some p) c = refl

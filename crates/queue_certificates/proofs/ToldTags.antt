@@ -1,5 +1,5 @@
 -- What a party reads in a tag of its round that isn't its own: what tells the other.
-use Rattle.std.proofs.Common.{ℕ, ◌+◌, ◌-◌, ◌%◌, ◌<◌, ◌≤◌, ◌≡◌, inl, inr, true, List, None, sym, ◌∙◌, ap, subst, arith}
+use Rattle.std.proofs.Common.{ℕ, ◌+◌, ◌-◌, ◌%◌, ◌<◌, ◌≤◌, ◌≡◌, true, List, None, sym, ◌∙◌, ap, subst, arith}
 use Rattle.std.proofs.lemmas.Bool.{cases_lt}
 use Rattle.memory.specs.Writes.{joined}
 use Rattle.memory.proofs.Bytes.{joined-same}
@@ -70,11 +70,4 @@ module _ (q : Slots) (is : IsSlots q) (o : OpeningValue) (es : List Entry) (c : 
       ap (q.tells (other r) k) tag_read ∙ subst (λ s. q.tells (other r) s after ≡ true) place has
 
   pub other_tag : (i : ℕ) × (i + gap q (other r) ≡ j) × (q.tells (other r) i (read o es (teller_hart q r) (tag_of q j) q.tag_width) ≡ true)
-  other_tag = (
-    k,
-    turned,
-    elim (cases_lt k (m r + gap q r)) [
-      | inl less ↦ in_memory less
-      | inr more ↦ is_pending more
-    ],
-  )
+  other_tag = grind (arith, cases_lt, in_memory, is_pending)

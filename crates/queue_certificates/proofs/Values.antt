@@ -1,5 +1,5 @@
 -- What has a value, and what follows from that.
-use Rattle.std.proofs.Common.{ℕ, ◌-◌, ◌+◌, ◌*◌, ◌/◌, ◌%◌, ◌^◌, ◌<◌, ◌≤◌, ◌≡◌, ◌==◌, ◌&&◌, inl, inr, if◌then◌else◌, Bool, true, false, Option, Some, None, List}
+use Rattle.std.proofs.Common.{ℕ, ◌-◌, ◌+◌, ◌*◌, ◌/◌, ◌%◌, ◌^◌, ◌<◌, ◌≤◌, ◌≡◌, ◌==◌, ◌&&◌, if◌then◌else◌, Bool, true, false, Option, Some, None, List}
 use Rattle.std.proofs.Common.{◌∷◌, refl, sym, ◌∙◌, ap, subst, arith}
 use Rattle.std.specs.Prelude.{nat_lt, nat_le, bit_and}
 use Rattle.std.specs.Int.Bits.{and_zero_r}
@@ -31,16 +31,7 @@ pub scaled-mod : (w s m n : ℕ) → 1 ≤ w → s * m ≡ w → s * (n % m) ≡
 scaled-mod w s m n positive whole = sym (ap (λ y. y % w) parts ∙ add-mul-mod_self_left (s * (n % m)) w (n / m) ∙ mod-eq_of_lt small)
   where
     some : (1 ≤ s) × (0 < m)
-    some = (
-      elim (cases_eq s 0) [
-        | inl none ↦ absurd (let e : s * m ≡ 0 = ap (λ y. y * m) none ∙ zero-mul m in omega (arith, e, whole, positive))
-        | inr more ↦ omega (arith, more)
-      ],
-      elim (cases_eq m 0) [
-        | inl none ↦ absurd (let e : s * m ≡ 0 = ap (λ y. s * y) none ∙ mul-zero s in omega (arith, e, whole, positive))
-        | inr more ↦ omega (arith, more)
-      ],
-    )
+    some = grind (arith, cases_eq, zero-mul, mul-zero)
 
     parts : s * n ≡ s * (n % m) + w * (n / m)
     parts = sym (ap (λ y. s * y) (mod-add-div n m)) ∙ mul-add s (n % m) (m * (n / m))
@@ -58,10 +49,7 @@ whole-word w b s m n positive whole low = sym (mod-sum b (s * n) b (s * (n % m))
     (sym (scaled-mod w s m n positive whole) ∙ sym (mod-eq_of_lt (omega (arith, below)))) ∙ mod-eq_of_lt below)
   where
     some : 0 < m
-    some = elim (cases_eq m 0) [
-      | inl none ↦ absurd (let e : s * m ≡ 0 = ap (λ y. s * y) none ∙ mul-zero s in omega (arith, e, whole, positive))
-      | inr more ↦ omega (arith, more)
-    ]
+    some = grind (arith, cases_eq, mul-zero)
 
     below : b + s * (n % m) < w
     below =
@@ -106,10 +94,7 @@ number-bounds n x (Some false) b low is of = subst (λ z. (z.low ≤ x) × (x �
     (eqb-false x (is false refl), omega (arith, low))
   where
     eqb-false : (x : ℕ) → (x == 0) ≡ false → 1 ≤ x
-    eqb-false x other = elim (cases_eq x 0) [
-      | inl none ↦ absurd (let e : true ≡ false = sym (eq-eqb x 0 none) ∙ other in cc)
-      | inr some ↦ omega (arith, some)
-    ]
+    eqb-false x other = grind (arith, cases_eq, eq-eqb)
 
 module _ (queues : ℕ → Queue) where
   pub has-by : (t : Form → Form) (xs ys : List ℕ) → ((f : Form) → form_value (t f) ys ≡ form_value f xs)
@@ -174,48 +159,17 @@ module _ (queues : ℕ → Queue) where
 
     pub has-plain : (v : KnownValue) (x : ℕ) → Has queues xs v x → Has queues xs (plain queues rs v) x
     has-plain any x has = tt
-    has-plain (linear f) x has = has
     has-plain (index_for i f) x has = (same-word i f x).0 has
-    has-plain (signed_for i f) x has = has
-    has-plain (ends_as n f) x has = has
-    has-plain (has_bits m b) x has = has
+    has-plain other x has = has
 
     pub plain-has : (v : KnownValue) (x : ℕ) → Has queues xs (plain queues rs v) x → Has queues xs v x
     plain-has any x has = tt
-    plain-has (linear f) x has = has
     plain-has (index_for i f) x has = (same-word i f x).1 has
-    plain-has (signed_for i f) x has = has
-    plain-has (ends_as n f) x has = has
-    plain-has (has_bits m b) x has = has
+    plain-has other x has = has
 
     within-plain : (v w : KnownValue) (x : ℕ) → is_within_plain queues rs v w ≡ true → Has queues xs v x → Has queues xs w x
     within-plain v any x ok has = tt
-    within-plain any (linear g) x ok has = absurd (cc)
-    within-plain any (index_for j g) x ok has = absurd (cc)
-    within-plain any (signed_for j g) x ok has = absurd (cc)
     within-plain (linear f) (linear g) x ok has = has ∙ same-value (2 ^ 32) f g xs ok
-    within-plain (linear f) (index_for j g) x ok has = absurd (cc)
-    within-plain (linear f) (signed_for j g) x ok has = absurd (cc)
-    within-plain (index_for i f) (linear g) x ok has = absurd (cc)
-    within-plain (index_for i f) (signed_for j g) x ok has = absurd (cc)
-    within-plain (signed_for i f) (linear g) x ok has = absurd (cc)
-    within-plain (signed_for i f) (index_for j g) x ok has = absurd (cc)
-    within-plain any (ends_as m g) x ok has = absurd (cc)
-    within-plain (linear f) (ends_as m g) x ok has = absurd (cc)
-    within-plain (index_for i f) (ends_as m g) x ok has = absurd (cc)
-    within-plain (signed_for i f) (ends_as m g) x ok has = absurd (cc)
-    within-plain (ends_as n f) (linear g) x ok has = absurd (cc)
-    within-plain (ends_as n f) (index_for j g) x ok has = absurd (cc)
-    within-plain (ends_as n f) (signed_for j g) x ok has = absurd (cc)
-    within-plain any (has_bits n c) x ok has = absurd (cc)
-    within-plain (linear f) (has_bits n c) x ok has = absurd (cc)
-    within-plain (index_for i f) (has_bits n c) x ok has = absurd (cc)
-    within-plain (signed_for i f) (has_bits n c) x ok has = absurd (cc)
-    within-plain (ends_as b f) (has_bits n c) x ok has = absurd (cc)
-    within-plain (has_bits m b) (linear g) x ok has = absurd (cc)
-    within-plain (has_bits m b) (index_for j g) x ok has = absurd (cc)
-    within-plain (has_bits m b) (signed_for j g) x ok has = absurd (cc)
-    within-plain (has_bits m b) (ends_as n g) x ok has = absurd (cc)
     within-plain (has_bits m b) (has_bits n c) x ok has =
         let parts = and_parts (bit_and m n == n) (bit_and b n == c) ok in (
           has.0,
@@ -235,28 +189,21 @@ module _ (queues : ℕ → Queue) where
         let parts = and_parts (i == j) (is_same ((queues i).modulus) f g) ok in
         subst (λ k. x ≡ index_word (queues k) (form_value g xs)) (eqb-true i j parts.0)
         (has ∙ word-of-remainder (queues i) (form_value f xs) (form_value g xs) (same-value ((queues i).modulus) f g xs parts.1))
+    within-plain other beside x ok has = absurd (cc)
 
     pub within : (v w : KnownValue) (x : ℕ) → is_within queues rs v w ≡ true → Has queues xs v x → Has queues xs w x
     within v w x ok has = plain-has w x (within-plain (plain queues rs v) (plain queues rs w) x ok (has-plain v x has))
 
   pub known-is : (xs : List ℕ) (v : KnownValue) (x a : ℕ) → as_number v ≡ Some a → Has queues xs v x → x ≡ a
-  known-is xs any x a is has = absurd (cc)
-  known-is xs (index_for i f) x a is has = absurd (cc)
-  known-is xs (signed_for i f) x a is has = absurd (cc)
-  known-is xs (ends_as n f) x a is has = absurd (cc)
-  known-is xs (has_bits m b) x a is has = absurd (cc)
   known-is xs (linear f) x a is has = by (vanishes (2 ^ 32) f.factors) refl is
     where
       by : (t : Bool) → vanishes (2 ^ 32) f.factors ≡ t → (if t then Some (f.constant % 2 ^ 32) else None) ≡ Some a → x ≡ a
       by false some is = absurd (cc)
       by true none is = has ∙ constant-value (2 ^ 32) f xs none ∙ (let e : f.constant % 2 ^ 32 ≡ a = cc in e)
+  known-is xs other x a is has = absurd (cc)
 
   pub has-bounds : (rs : List (Option ℕ)) (xs : List ℕ) (v : KnownValue) (x : ℕ) (b : Bounds) → InRanges rs xs → bounds rs v ≡ Some b → Has queues xs v x
       → (b.low ≤ x) × (x ≤ b.high)
-  has-bounds rs xs any x b ranges is has = absurd (cc)
-  has-bounds rs xs (index_for i f) x b ranges is has = absurd (cc)
-  has-bounds rs xs (signed_for i f) x b ranges is has = absurd (cc)
-  has-bounds rs xs (has_bits m c) x b ranges is has = absurd (cc)
   has-bounds rs xs (ends_as n f) x b ranges is has = by (nat_le 1 n && nat_le n 32) is
     where
       by : (s : Bool) → (if s then bounds_by n (is_nothing (bounds_of (2 ^ n) rs f)) else None) ≡ Some b → (b.low ≤ x) × (x ≤ b.high)
@@ -265,6 +212,7 @@ module _ (queues : ℕ → Queue) where
           (λ t of. alike-zero n x (form_value f xs) t has.0 has.1 (nothing-is (2 ^ n) rs f xs t ranges of).1) is
   has-bounds rs xs (linear f) x b ranges is has = let e = value-between (2 ^ 32) rs f xs b ranges is in
       subst (λ z. (b.low ≤ z) × (z ≤ b.high)) (sym has) (e.low, e.high)
+  has-bounds rs xs other x b ranges is has = absurd (cc)
 
   -- ---- bits
 
@@ -281,10 +229,6 @@ module _ (queues : ℕ → Queue) where
           sym (mod-eq_of_lt small) ∙ ap (λ z. z % 2 ^ 32) (same ∙ sym (value-number b xs))
 
   pub bits-have : (xs : List ℕ) (v : KnownValue) (x : ℕ) (k : Bits) → bits_of v ≡ Some k → Has queues xs v x → (x < 2 ^ 32) × (bit_and x k.mask ≡ k.bits)
-  bits-have xs any x k is has = absurd (cc)
-  bits-have xs (index_for i f) x k is has = absurd (cc)
-  bits-have xs (signed_for i f) x k is has = absurd (cc)
-  bits-have xs (ends_as n f) x k is has = absurd (cc)
   bits-have xs (has_bits m b) x k is has = subst (λ (k : Bits). (x < 2 ^ 32) × (bit_and x k.mask ≡ k.bits))
       (let e : record { mask = m; bits = b } ≡ k = cc in e) has
   bits-have xs (linear f) x k is has = (
@@ -299,3 +243,4 @@ module _ (queues : ℕ → Queue) where
       by : (o : Option ℕ) → as_number (linear f) ≡ o → bit_and x (number_bits o).mask ≡ (number_bits o).bits
       by None is = and_zero_r x
       by (Some n) is = whole-bits x small ∙ known-is xs (linear f) x n is has
+  bits-have xs other x k is has = absurd (cc)

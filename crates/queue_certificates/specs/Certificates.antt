@@ -30,25 +30,29 @@ use Rattle.queue_certificates.specs.Tags.{party_in, is_tagged, AreTold, tags_lea
 use Rattle.queue_certificates.specs.Effects.{effect_of, value_stored}
 use Rattle.queue_certificates.specs.Filled.{Filled, is_filled, no_field, is_filled_after, are_so, may_send}
 use Rattle.queue_certificates.specs.declared.effect.Effect.{Effect}
+use Rattle.queue_certificates.specs.declared.goal.Goal.{Goal}
 use Rattle.queue_certificates.specs.declared.own.OwnWord.{OwnWord}
 use Rattle.queue_layouts.specs.declared.tagged.Codec.TheVariants as codec
 use Rattle.queue_layouts.specs.declared.tagged.TaggedQueue.{TaggedQueue}
 use Rattle.queue_layouts.specs.declared.tagged.OpenedTagged.{OpenedTagged}
 use Rattle.queue_layouts.specs.Tagged.{tells_by, slots_of}
 
--- what is known of a hart at a pc; of each queue to which it sends records with fields, which of them are right ahead of its count; and
--- where it goes on
+-- what is known of a hart at a pc; its ranks; of each queue to which it sends records with fields, which of them are right ahead of its
+-- count; and where it goes on
 pub record ListedState : Type 0 where
   pub known : KnownState
+  pub ranks : List Form
   pub filled : List Filled
   pub cases : Cases
 
--- a hart's part: the words, halves and bytes that no other hart writes, the state in which it opens with the numbers of its variables, and all
--- its states
+-- a hart's part: the words, halves and bytes that no other hart writes, the state in which it opens with the numbers of its variables, what
+-- its states have ranks for, then sets of queues that it may lack, for each of which they have one rank more, and all its states
 pub record HartPart : Type 0 where
   pub own : List OwnWord
   pub first : ℕ
   pub numbers : List ℕ
+  pub goals : List Goal
+  pub lacking : List (List ℕ)
   pub states : List ListedState
 
 -- a queue, the count with which it opens, and the fields of its records. Where it has some its receiver stores nothing to its slots
@@ -91,11 +95,12 @@ no_tagged = record {
 }
 
 abbrev pub no_part : HartPart
-no_part = record { own = []; first = 0; numbers = []; states = [] }
+no_part = record { own = []; first = 0; numbers = []; goals = []; lacking = []; states = [] }
 
 abbrev pub nowhere : ListedState
 nowhere = record {
   known = record { pc = 0; ranges = []; registers = []; words = []; shares = [] };
+  ranks = [];
   filled = [];
   cases = leaf (number 0) [];
 }

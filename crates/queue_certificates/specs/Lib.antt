@@ -4,6 +4,7 @@ pub mod Delivered
 pub mod ToldRuns
 pub mod Arrived
 pub mod Forms
+pub mod Facts
 pub mod States
 pub mod Cases
 pub mod Results
@@ -23,8 +24,9 @@ pub use Rattle.queue_certificates.specs.Arrived.{HasArrived}
 pub use Rattle.queue_certificates.specs.Forms.{Bounds, Form, InRanges, IsAtMost, are_in, bounds_between, bounds_of, dot, fallings, first_variable, fits_in}
 pub use Rattle.queue_certificates.specs.Forms.{form_value, is_same, lifted, minus, most, most_of_sum, number, plus, raised, remainder, remainder_word, risings}
 pub use Rattle.queue_certificates.specs.Forms.{settled, substituted, times, vanishes}
+pub use Rattle.queue_certificates.specs.Facts.{AllHold, Fact, Holds, differing, fact_by, high_facts, is_by, is_derived, is_shown, is_under, low_facts, weighed}
 pub use Rattle.queue_certificates.specs.States.{EndAlike, Has, HasShare, KnownState, KnownValue, Means, MeansAt, Share, any, ends_as, has_bits, index_for}
-pub use Rattle.queue_certificates.specs.States.{is_within, is_within_plain, linear, no_share, of_remainder, own_at, own_number, plain, scaled, share_by}
+pub use Rattle.queue_certificates.specs.States.{is_any, is_within, is_within_plain, linear, no_share, of_remainder, own_at, own_number, plain, scaled, share_by}
 pub use Rattle.queue_certificates.specs.States.{signed_for, signed_word, state_by, value_by}
 pub use Rattle.queue_certificates.specs.Cases.{Arrow, at_most, beyond, each_leaf, leaf, may_exceed, range_changed, with_high, with_low}
 pub use Rattle.queue_certificates.specs.Results.{Bits, Rest, Result, any_up_to, as_number, bits_of, both, bounds, bounds_by, branch_part, counting, either_bits}
@@ -51,7 +53,7 @@ pub use Rattle.queue_certificates.specs.Tags.{back_to, bare, bits_above, bits_ar
 pub use Rattle.queue_certificates.specs.Tags.{is_beside_slots, is_codec, is_even_between, is_in_element, is_number, is_of_even_round, is_of_rest, is_of_tag}
 pub use Rattle.queue_certificates.specs.Tags.{is_tagged, load_tells, loads_rest, looked_tag, makes, may_store_all, may_tell, moved_tag, next_told, nothing}
 pub use Rattle.queue_certificates.specs.Tags.{number_of, other_value, party_in, reads_rest, something, store_tells, tag_at, tag_by, tag_position, tags_lead}
-pub use Rattle.queue_certificates.specs.Tags.{is_positive, told_by, told_value, unknown, value_told, when_told, with_share}
+pub use Rattle.queue_certificates.specs.Tags.{are_bits_of, is_positive, told_by, told_value, tells_both, unknown, value_told, when_told, with_share}
 unfoldable pub use Rattle.queue_certificates.specs.Tags.{told_by_store}
 pub use Rattle.queue_certificates.specs.Effects.{WritesByte, effect_at, effect_of, filled_by, moves_head, published_by, value_stored}
 pub use Rattle.queue_certificates.specs.TagEffects.{tag_effect_at, tag_effect_of}

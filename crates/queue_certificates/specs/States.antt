@@ -21,6 +21,15 @@ pub data KnownValue : Type 0 where
   ends_as : (bits : ℕ) (f : Form) → KnownValue
   has_bits : (mask bits : ℕ) → KnownValue
 
+-- nothing is known of it
+abbrev pub is_any : KnownValue → Bool
+is_any any = true
+is_any (linear f) = false
+is_any (index_for i f) = false
+is_any (signed_for i f) = false
+is_any (ends_as n f) = false
+is_any (has_bits m b) = false
+
 -- of a queue of which the hart is a party: its own count, and the exact number of positions that it owns
 pub record Share : Type 0 where
   pub own : Form

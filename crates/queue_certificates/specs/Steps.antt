@@ -23,7 +23,7 @@ use Rattle.slot_queue.specs.Ownership.{party_of, index}
 use Rattle.queue_certificates.specs.declared.own.OwnWord.{OwnWord}
 use Rattle.queue_certificates.specs.Forms.{Form, number, first_variable, plus, times, remainder, remainder_word, lifted, is_same, most, fits_in, Bounds, minus}
 use Rattle.queue_certificates.specs.States.{KnownValue, any, linear, index_for, signed_for, ends_as, has_bits, Share, no_share, KnownState, value_by}
-use Rattle.queue_certificates.specs.States.{share_by, state_by, scaled, plain, is_within, own_at}
+use Rattle.queue_certificates.specs.States.{is_any, share_by, state_by, scaled, plain, is_within, own_at}
 use Rattle.queue_certificates.specs.Results.{Result, just, exactly, or_up_to, as_number, bounds, sum_of, counting}
 use Rattle.queue_certificates.specs.Results.{of_immediate, of_shift, of_registers, is_branch_taken}
 
@@ -151,13 +151,8 @@ register_at k r = if r.number == 0 then linear (number 0) else get_or k.register
 
 -- two registers hold the same number: where nothing is known of one, what is known of the other
 abbrev pub shared : KnownState → (rs1 rs2 : Reg) → (v w : KnownValue) → KnownState
-shared k rs1 rs2 any w = record k { registers = with_register k.registers rs1.number w }
-shared k rs1 rs2 (linear f) any = record k { registers = with_register k.registers rs2.number (linear f) }
-shared k rs1 rs2 (index_for i f) any = record k { registers = with_register k.registers rs2.number (index_for i f) }
-shared k rs1 rs2 (signed_for i f) any = record k { registers = with_register k.registers rs2.number (signed_for i f) }
-shared k rs1 rs2 (ends_as n f) any = record k { registers = with_register k.registers rs2.number (ends_as n f) }
-shared k rs1 rs2 (has_bits m b) any = record k { registers = with_register k.registers rs2.number (has_bits m b) }
-shared k rs1 rs2 v w = k
+shared k rs1 rs2 v w = if is_any v then record k { registers = with_register k.registers rs1.number w }
+    else (if is_any w then record k { registers = with_register k.registers rs2.number v } else k)
 
 abbrev pub with_equal : KnownState → (rs1 rs2 : Reg) → KnownState
 with_equal k rs1 rs2 = shared k rs1 rs2 (register_at k rs1) (register_at k rs2)

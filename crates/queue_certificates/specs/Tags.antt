@@ -69,9 +69,20 @@ is_codec q (codec.Bit mask free full) = nat_lt mask (256 ^ q.tag_width) && not (
 is_codec q (codec.Phases mask free full odd_free odd_full) = nat_lt mask (256 ^ q.tag_width) && not (free == full) && not (full == odd_free)
     && not (odd_free == odd_full) && not (odd_full == free)
 
+-- a slot may be free, and full: the mask has each bit of those that tell it
+abbrev pub are_bits_of : (mask bits : ℕ) → Bool
+are_bits_of mask bits = bit_and bits mask == bits
+
+abbrev pub tells_both : Codec → Bool
+tells_both codec.Zero = true
+tells_both codec.Number = true
+tells_both (codec.Bit mask free full) = are_bits_of mask free && are_bits_of mask full
+tells_both (codec.Phases mask free full odd_free odd_full) = are_bits_of mask free && are_bits_of mask full && are_bits_of mask odd_free
+    && are_bits_of mask odd_full
+
 abbrev pub is_tagged : TaggedQueue → Bool
 is_tagged q = not (q.sender == q.receiver) && nat_le 1 q.size && nat_le 1 q.tag_width && nat_le q.tag_width 4
-    && nat_le (q.tag_offset + q.tag_width) q.tag_stride && (are_slots q || are_apart_from_slots q) && is_codec q q.codec
+    && nat_le (q.tag_offset + q.tag_width) q.tag_stride && (are_slots q || are_apart_from_slots q) && is_codec q q.codec && tells_both q.codec
 
 -- ---- shares: a party's own count, and of how many positions from there on it knows at least that it owns them
 

@@ -12,14 +12,15 @@
 //! (`slots_that_tell`). Where a party loads a tag the certificate goes on from two states: in one the tag tells the party that it has the
 //! slot, and in the other it doesn't.
 //!
-//! Called by `queue_checker`, `certificate_reader`, `records_written` and `certifying`.
+//! Called by `queue_checker`, `queue_progress`, `certificate_reader`, `records_written` and `certifying`.
 
 #![tactic(auto)]
 
 mod effect;
+mod goal;
 mod own;
 
-ghost use Rattle.std.specs.Prelude.{ℕ, ◌≡◌, ◌⊎◌, ◌+◌, ◌*◌, ◌<◌, ◌≤◌, List, [], ◌∷◌, ◌++◌, length, Some, true};
+ghost use Rattle.std.specs.Prelude.{ℕ, ◌≡◌, ◌⊎◌, ◌+◌, ◌*◌, ◌<◌, ◌≤◌, List, [], ◌∷◌, ◌++◌, length, Option, Some, true};
 ghost use Rattle.step_machine.specs.declared.events.Entry.{Entry};
 ghost use Rattle.step_machine.specs.History.{OpeningValue, history_of};
 ghost use Rattle.step_machine.specs.Access.{load, access_of};
@@ -36,6 +37,8 @@ ghost use Rattle.certified_runs.specs.TwoParties.{EachIs};
 ghost use Rattle.slots_that_tell.specs.Slots.{tag_of, IsSlotByte};
 ghost use Rattle.slots_that_tell.specs.Telling.{teller_hart, told_counts};
 ghost use Rattle.slots_that_tell.specs.Laws.{FollowsTelling};
+ghost use Rattle.queue_certificates.specs.Forms.{Form, form_value, InRanges};
+ghost use Rattle.queue_certificates.specs.Facts.{Fact, Holds, AllHold, is_shown, is_derived, low_facts, high_facts};
 ghost use Rattle.queue_certificates.specs.ToldRuns.{telling, IsOfTag, LoadsRestOwned};
 ghost use Rattle.queue_certificates.specs.Arrived.{HasArrived};
 ghost use Rattle.queue_certificates.specs.OwnedRuns.{LoadsByte, ReadsOwned};
@@ -45,11 +48,14 @@ ghost use Rattle.queue_certificates.specs.Certificates.{QueueCertificate, queue_
 ghost use Rattle.queue_certificates.specs.Certificates.{accepts, accepts_loads, accepts_rest};
 
 pub use effect::Effect;
+pub use goal::Goal;
 pub use own::OwnWord;
 
 /// Where a certificate is accepted for an opening, in every legal run from it, of any length and with store buffers of any size. It
 /// does nothing.
 ///
+/// - `shown`, `derived`: what facts and ranges of numbers show is so of these, and what follows from facts by multipliers.
+/// - `at_most`, `above`: where a form is at most another, or more, facts say by how much, and what older facts did.
 /// - `every_run`: the run keeps the protocol of ownership of each queue, so that all that `slot_queue::laws_of_ownership` promises
 ///   holds of it.
 /// - `reads_owned`: where a party's loads are accepted too, it loads no byte of a slot that it doesn't own.
@@ -66,6 +72,16 @@ pub use own::OwnWord;
 /// - `told`: after a load of a whole tag that tells the receiver of position k, each byte of k's slot is so, those of a tag in it too;
 ///   and the receiver still reads in the tag what it loaded.
 pub fn laws_of_queue_certificates()
+    ensures shown { (rs : List (Option ℕ)) (xs : List ℕ) → InRanges rs xs → (hs : List Fact) → AllHold xs hs → (f g : Form)
+        → is_shown rs hs f g ≡ true → form_value f xs ≤ form_value g xs }
+    ensures derived { (rs : List (Option ℕ)) (xs : List ℕ) → InRanges rs xs → (hs : List Fact) → AllHold xs hs → (h : Fact) (ms : List ℕ)
+        → is_derived rs hs h ms ≡ true → Holds xs h }
+    ensures at_most { (hs : List Fact) (f g : Form) (d : ℕ) (xs : List ℕ)
+        → (AllHold (d ∷ xs) (low_facts hs f g) → (form_value f xs + d ≡ form_value g xs) × AllHold xs hs)
+        × (AllHold xs hs → form_value f xs + d ≡ form_value g xs → AllHold (d ∷ xs) (low_facts hs f g)) }
+    ensures above { (hs : List Fact) (f g : Form) (d : ℕ) (xs : List ℕ)
+        → (AllHold (d ∷ xs) (high_facts hs f g) → (form_value g xs + 1 + d ≡ form_value f xs) × AllHold xs hs)
+        × (AllHold xs hs → form_value g xs + 1 + d ≡ form_value f xs → AllHold (d ∷ xs) (high_facts hs f g)) }
     ensures every_run { (B M : ℕ) (o : OpeningValue) (c : QueueCertificate) → accepts o c ≡ true → (es : List Entry)
         → WellFormed B M (history_of o es) → (i : ℕ) → i < length c.queues → FollowsOwnership B (queue_at c i) (all_at (start_at c i)) o [] es }
     ensures reads_owned { (B M : ℕ) (o : OpeningValue) (c : QueueCertificate) → accepts o c ≡ true → (i : ℕ) (p : Party) → i < length c.queues

@@ -10,7 +10,7 @@ use Rattle.store_buffers.specs.StoreBuffers.{memory_number}
 use Rattle.step_machine.specs.History.{OpeningValue}
 use Rattle.queue_certificates.specs.{all_below, QueueCertificate, queue_at, start_at, fields_at, part_of, accepts, accepts_loads, accepts_hart, no_hart}
 use Rattle.queue_certificates.specs.{tagged_at, tagged_start, opens_free, accepts_rest, are_apart, is_queue, opens_empty, are_slots, are_apart_from_slots}
-use Rattle.queue_certificates.specs.{is_tagged, is_codec, is_field}
+use Rattle.queue_certificates.specs.{is_tagged, is_codec, tells_both, is_field}
 use Rattle.queue_layouts.specs.declared.tagged.Codec.{Codec}
 use Rattle.queue_layouts.specs.declared.tagged.Codec.TheVariants as codec
 use Rattle.queue_layouts.specs.declared.tagged.TaggedQueue.{TaggedQueue}
@@ -137,10 +137,12 @@ same-tag q =
     let a_word = nat_le q.tag_width 4 in
     let within = nat_le (q.tag_offset + q.tag_width) q.tag_stride in
     let lie = are_slots q || are_apart_from_slots q in
-    same-first_of (harts && some && a_byte && a_word && within && lie) (is_codec q q.codec) _ _
+    let tells = is_codec q q.codec in
+    same-first_of (harts && some && a_byte && a_word && within && lie && tells) (tells_both q.codec) _ _
+    (same-first_of (harts && some && a_byte && a_word && within && lie) tells _ _
     (same-first_of (harts && some && a_byte && a_word && within) lie _ _ (same-first_of (harts && some && a_byte && a_word) within _ _
     (four harts some a_byte a_word tag.OneHart tag.NoSlot tag.NoTag tag.WideTag) (same-unless within tag.PastSlot)) (same-unless lie tag.Overlapping))
-    (same-codec q q.codec)
+    (same-codec q q.codec)) (same-unless (tells_both q.codec) tag.OutsideMask)
 
 same-tagged : (o : OpeningValue) (c : QueueCertificate) (t : ℕ)
     → IsSame (is_tagged (tagged_at c t) && opens_free o (tagged_at c t) (tagged_start c t)) (flaw_of_tagged o c t)

@@ -12,7 +12,7 @@ use Rattle.queue_certificates.specs.Fields.{is_field}
 use Rattle.queue_layouts.specs.declared.tagged.Codec.{Codec}
 use Rattle.queue_layouts.specs.declared.tagged.Codec.TheVariants as codec
 use Rattle.queue_layouts.specs.declared.tagged.TaggedQueue.{TaggedQueue}
-use Rattle.queue_certificates.specs.Tags.{are_slots, are_apart_from_slots}
+use Rattle.queue_certificates.specs.Tags.{are_slots, are_apart_from_slots, tells_both}
 use Rattle.queue_certificates.specs.RecordFields.{Field}
 use Rattle.slot_queue.specs.Queues.{Queue as SlotQueue, index_word}
 use Rattle.store_buffers.specs.StoreBuffers.{memory_number}
@@ -119,6 +119,7 @@ tag_flaw q = unless (not (q.sender == q.receiver)) tag.OneHart
     <|> unless (nat_le (q.tag_offset + q.tag_width) q.tag_stride) tag.PastSlot
     <|> unless (are_slots q || are_apart_from_slots q) tag.Overlapping
     <|> codec_flaw q q.codec
+    <|> unless (tells_both q.codec) tag.OutsideMask
 
 abbrev pub tagged_flaw : OpeningValue → QueueCertificate → (t : ℕ) → Option TaggedFlaw
 tagged_flaw o c t = tag_flaw (tagged_at c t) <|> unless (opens_free o (tagged_at c t) (tagged_start c t)) tag.NotFree

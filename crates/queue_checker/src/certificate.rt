@@ -1,7 +1,7 @@
 //! Certificates of queues, as `queue_certificates` defines them.
 
 use known_values::{Form, KnownValue, OpenedQueue};
-use queue_certificates::OwnWord;
+use queue_certificates::{Goal, OwnWord};
 use queue_layouts::OpenedTagged;
 use std::marker::Model;
 
@@ -123,10 +123,25 @@ impl Model for Filled {
     ghost view = { λ f. f.slots.items };
 }
 
-/// One state of a hart, and of each queue to which it sends records with fields, which of them are right ahead of its count.
+/// Queues with indices that a hart may lack.
+#[derive(Drop)]
+pub struct Lacked {
+    pub queues: Vec<u32>,
+}
+
+impl Model for Lacked {
+    ghost use Rattle.std.specs.Prelude.{ℕ, List};
+
+    ghost Value = { List ℕ };
+
+    ghost view = { λ l. l.queues.items };
+}
+
+/// One state of a hart, its ranks, and of each queue to which it sends records with fields, which of them are right ahead of its count.
 #[derive(Drop)]
 pub struct ListedState {
     pub known: KnownState,
+    pub ranks: Vec<Form>,
     pub filled: Vec<Filled>,
     pub cases: Cases,
 }
@@ -140,16 +155,18 @@ impl Model for ListedState {
 
     ghost coded = { Prim.hlevel (codes, cases_code) };
 
-    ghost view = { λ s. record { known = s.known; filled = s.filled.items; cases = s.cases } };
+    ghost view = { λ s. record { known = s.known; ranks = s.ranks.items; filled = s.filled.items; cases = s.cases } };
 }
 
-/// A hart's part: the words, halves and bytes that it alone writes, the state in which it opens with the numbers of its variables,
-/// and all its states.
+/// A hart's part: the words, halves and bytes that it alone writes, the state in which it opens with the numbers of its variables, what
+/// its states have ranks for, then sets of queues that it may lack, for each of which they have one rank more, and all its states.
 #[derive(Drop)]
 pub struct HartPart {
     pub own: Vec<OwnWord>,
     pub first: u32,
     pub numbers: Vec<u64>,
+    pub goals: Vec<Goal>,
+    pub lacking: Vec<Lacked>,
     pub states: Vec<ListedState>,
 }
 
@@ -162,7 +179,14 @@ impl Model for HartPart {
 
     ghost coded = { Prim.hlevel (codes, cases_code) };
 
-    ghost view = { λ p. record { own = p.own.items; first = p.first; numbers = p.numbers.items; states = p.states.items } };
+    ghost view = { λ p. record {
+      own = p.own.items;
+      first = p.first;
+      numbers = p.numbers.items;
+      goals = p.goals.items;
+      lacking = p.lacking.items;
+      states = p.states.items;
+    } };
 }
 
 /// Of each queue of a text how it opens, of those with indices and of those with tags, and of each hart its part. The shares of a

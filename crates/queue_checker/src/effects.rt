@@ -21,7 +21,8 @@ use queue_certificates::Effect;
 use rv_decode::Instr;
 use std::alloc::Global;
 
-fn published_by(handed: &Form, bound: Option<u64>) -> Option<Effect>
+/// Positions are published, or handed back, as many as a form is; nothing, where no bound is known of their number.
+pub fn published_by(handed: &Form, bound: Option<u64>) -> Option<Effect>
     ensures { result ≡ published_by handed.now bound }
 {
     match bound {
@@ -36,8 +37,8 @@ fn published_by(handed: &Form, bound: Option<u64>) -> Option<Effect>
     }
 }
 
-/// The effect of a store to a slot.
-pub(crate) fn filled_by(
+/// The bytes at a value, where they are shown to be of the slot of an owned position.
+pub fn filled_by(
     alloc: Global,
     ranges: &[Option<u64>],
     queue: Queue,

@@ -57,6 +57,8 @@ pub enum TaggedFlaw {
     WideMask,
     /// The bits of a free slot are those of a full one; with phase bits, of those that come before or after.
     SameBits,
+    /// The bits of a free slot, or of a full one, aren't all of the mask, so that no slot is ever so.
+    OutsideMask,
     /// Memory opens with a slot that isn't free for its position.
     NotFree,
 }

@@ -44,7 +44,7 @@ mod words;
 
 pub use accesses::{SlotAccess, slot_accesses, tagged_accesses};
 pub use certificate::{
-    Arrow, CaseNode, Cases, Filled, FilledSlot, HartPart, KnownState, ListedState,
+    Arrow, CaseNode, Cases, Filled, FilledSlot, HartPart, KnownState, Lacked, ListedState,
     QueueCertificate, Share,
 };
 pub use checking::first_flaw;

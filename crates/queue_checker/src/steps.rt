@@ -4,6 +4,7 @@ ghost use Rattle.std.specs.Prelude.{◌≡◌, ◌+◌, ◌/◌, ◌*◌, ◌%�
 ghost use Rattle.hart.specs.Effects.{address, next_pc, store_width};
 ghost use Rattle.queue_certificates.specs.Results.{just, as_number, bounds, exactly, is_branch_taken, of_immediate, of_registers, of_shift};
 ghost use Rattle.queue_certificates.specs.Certificates.{queue_at, own_of};
+ghost use Rattle.queue_certificates.specs.States.{is_any};
 ghost use Rattle.queue_certificates.specs.Steps.{is_copy, immediate_result, with_result, shared, with_equal, when_taken, when_passed};
 ghost use Rattle.queue_certificates.specs.Steps.{goes_by, jumping, register_at, instruction_at, loading, storing, exchanging, follow};
 ghost use Rattle.queue_certificates.specs.Steps.{address_value, addresses, operand};
@@ -98,49 +99,20 @@ fn shared(
 ) -> Result<KnownState, Lack>
     ensures { IfOk result (λ s. s ≡ shared state.now rs1 rs2 left.now right.now) }
 {
-    match (&left.known, &right.known) {
-        (Known::Any, _) => with_value(alloc, state, rs1.number, right.copy(alloc)?),
-        (Known::Linear(_), Known::Any) => {
-            with_value(alloc, state, rs2.number, left.copy(alloc)?)
-        }
-        (Known::IndexFor(_, _), Known::Any) => {
-            with_value(alloc, state, rs2.number, left.copy(alloc)?)
-        }
-        (Known::SignedFor(_, _), Known::Any) => {
-            with_value(alloc, state, rs2.number, left.copy(alloc)?)
-        }
-        (Known::Linear(_), Known::Linear(_)) => copied_state(alloc, state),
-        (Known::Linear(_), Known::IndexFor(_, _)) => copied_state(alloc, state),
-        (Known::Linear(_), Known::SignedFor(_, _)) => copied_state(alloc, state),
-        (Known::IndexFor(_, _), Known::Linear(_)) => copied_state(alloc, state),
-        (Known::IndexFor(_, _), Known::IndexFor(_, _)) => copied_state(alloc, state),
-        (Known::IndexFor(_, _), Known::SignedFor(_, _)) => copied_state(alloc, state),
-        (Known::SignedFor(_, _), Known::Linear(_)) => copied_state(alloc, state),
-        (Known::SignedFor(_, _), Known::IndexFor(_, _)) => copied_state(alloc, state),
-        (Known::SignedFor(_, _), Known::SignedFor(_, _)) => copied_state(alloc, state),
-        (Known::Linear(_), Known::EndsAs(_, _)) => copied_state(alloc, state),
-        (Known::IndexFor(_, _), Known::EndsAs(_, _)) => copied_state(alloc, state),
-        (Known::SignedFor(_, _), Known::EndsAs(_, _)) => copied_state(alloc, state),
-        (Known::EndsAs(_, _), Known::Any) => {
-            with_value(alloc, state, rs2.number, left.copy(alloc)?)
-        }
-        (Known::EndsAs(_, _), Known::Linear(_)) => copied_state(alloc, state),
-        (Known::EndsAs(_, _), Known::IndexFor(_, _)) => copied_state(alloc, state),
-        (Known::EndsAs(_, _), Known::SignedFor(_, _)) => copied_state(alloc, state),
-        (Known::EndsAs(_, _), Known::EndsAs(_, _)) => copied_state(alloc, state),
-        (Known::HasBits(_, _), Known::Any) => {
-            with_value(alloc, state, rs2.number, left.copy(alloc)?)
-        }
-        (Known::HasBits(_, _), Known::Linear(_)) => copied_state(alloc, state),
-        (Known::HasBits(_, _), Known::IndexFor(_, _)) => copied_state(alloc, state),
-        (Known::HasBits(_, _), Known::SignedFor(_, _)) => copied_state(alloc, state),
-        (Known::HasBits(_, _), Known::EndsAs(_, _)) => copied_state(alloc, state),
-        (Known::HasBits(_, _), Known::HasBits(_, _)) => copied_state(alloc, state),
-        (Known::Linear(_), Known::HasBits(_, _)) => copied_state(alloc, state),
-        (Known::IndexFor(_, _), Known::HasBits(_, _)) => copied_state(alloc, state),
-        (Known::SignedFor(_, _), Known::HasBits(_, _)) => copied_state(alloc, state),
-        (Known::EndsAs(_, _), Known::HasBits(_, _)) => copied_state(alloc, state),
+    if is_any(left) {
+        with_value(alloc, state, rs1.number, right.copy(alloc)?)
+    } else if is_any(right) {
+        with_value(alloc, state, rs2.number, left.copy(alloc)?)
+    } else {
+        copied_state(alloc, state)
     }
+}
+
+/// Whether nothing is known of a value.
+fn is_any(value: &KnownValue) -> bool
+    ensures { result ≡ is_any value.now }
+{
+    matches!(value.known, Known::Any)
 }
 
 fn with_equal(alloc: Global, state: &KnownState, rs1: Reg, rs2: Reg) -> Result<KnownState, Lack>

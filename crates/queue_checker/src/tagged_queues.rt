@@ -6,7 +6,7 @@ ghost use Rattle.queue_parties.specs.Parties.{the_sender};
 ghost use Rattle.slots_that_tell.specs.Slots.{tag_of};
 ghost use Rattle.queue_layouts.specs.Sides.{the_party};
 ghost use Rattle.queue_layouts.specs.Tagged.{slots_of, tells_by};
-ghost use Rattle.queue_certificates.specs.Tags.{bare, elements, party_in, are_slots, are_apart_from_slots};
+ghost use Rattle.queue_certificates.specs.Tags.{bare, elements, party_in, are_slots, are_apart_from_slots, are_bits_of, tells_both};
 ghost use Rattle.queue_certificates.specs.Certificates.{no_tagged, opens_free};
 ghost use Rattle.queue_checker.specs.Flaws.{codec_flaw, tag_flaw, tagged_flaw};
 
@@ -159,6 +159,35 @@ fn codec_flaw(queue: TaggedQueue) -> Result<Option<TaggedFlaw>, Lack>
     }
 }
 
+/// Whether the mask has each of these bits.
+fn are_bits_of(mask: u32, bits: u32) -> bool
+    ensures { result ≡ are_bits_of mask bits }
+{
+    bits & mask == bits
+}
+
+/// Whether a slot may be free, and full.
+fn tells_both(codec: Codec) -> bool
+    ensures { result ≡ tells_both codec }
+{
+    match codec {
+        Codec::Zero | Codec::Number => true,
+        Codec::Bit { mask, free, full } => are_bits_of(mask, free) && are_bits_of(mask, full),
+        Codec::Phases {
+            mask,
+            free,
+            full,
+            odd_free,
+            odd_full,
+        } => {
+            are_bits_of(mask, free)
+                && are_bits_of(mask, full)
+                && are_bits_of(mask, odd_free)
+                && are_bits_of(mask, odd_full)
+        }
+    }
+}
+
 /// What is wrong with a queue with tags by itself.
 fn tag_flaw(queue: TaggedQueue) -> Result<Option<TaggedFlaw>, Lack>
     ensures { IfOk result (λ flaw. flaw ≡ tag_flaw queue) }
@@ -181,7 +210,13 @@ fn tag_flaw(queue: TaggedQueue) -> Result<Option<TaggedFlaw>, Lack>
     if !are_slots(queue) && !are_apart_from_slots(queue)? {
         return Ok(Some(TaggedFlaw::Overlapping));
     }
-    codec_flaw(queue)
+    if let Some(flaw) = codec_flaw(queue)? {
+        return Ok(Some(flaw));
+    }
+    if !tells_both(queue.codec) {
+        return Ok(Some(TaggedFlaw::OutsideMask));
+    }
+    Ok(None)
 }
 
 /// Whether a position is of an even round; without slots each is.
