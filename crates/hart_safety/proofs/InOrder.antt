@@ -5,8 +5,7 @@ use Rattle.std.specs.Prelude.{nat_le}
 use Rattle.std.proofs.lemmas.Bool.{and_parts, leb-true, leb-false, ltb-true}
 use Rattle.std.proofs.Math.Nat.{pow-le-pow_right}
 use Rattle.rv_decode.specs.declared.instruction.Instr.{Instr}
-use Rattle.rv_decode.specs.declared.instruction.Instr.TheVariants.{Lui, Auipc, Jal, Jalr, Branch, Load, Store, Immediate, Shift, Register, Fence, FenceTso}
-use Rattle.rv_decode.specs.declared.instruction.Instr.TheVariants.{Ecall, Ebreak, Amo}
+use Rattle.rv_decode.specs.declared.instruction.Instr.TheVariants.{Load, Store, Amo}
 use Rattle.step_machine.specs.History.{OpeningValue}
 use Rattle.queue_certificates.specs.{Bounds, bounds_of, most_of_sum, risings, fallings, bounds_between, KnownValue, any, linear, index_for, signed_for, ends_as}
 use Rattle.queue_certificates.specs.{has_bits, KnownState, bounds, bounds_by, is_nothing, anywhere, instruction_at, address_value, operand, QueueCertificate}
@@ -15,8 +14,7 @@ use Rattle.queue_checker.specs.declared.targets.Target.{Target}
 use Rattle.queue_checker.specs.Flaws.{hart_at, first_of}
 use Rattle.hart_safety.specs.declared.regions.Region.{Region}
 use Rattle.hart_safety.specs.Regions.{region_of, ends_before, joined_region, with_region, AreInOrderFrom}
-use Rattle.queue_checker.specs.Operands.{store_target}
-use Rattle.hart_safety.specs.Writes.{is_bounded, Writes, with_target, writes_at, regions_written}
+use Rattle.hart_safety.specs.Touched.{is_bounded, nothing_touched, target_of, Touched, touched_at, touched_of, with_target}
 use Rattle.hart_safety.proofs.AtLeaves.{keeps-over}
 
 -- ---- a region has a byte
@@ -59,23 +57,13 @@ abbrev HasByte : Option Target → Type 0
 HasByte None = Unit {0}
 HasByte (Some t) = t.bounds.low ≤ t.bounds.high
 
-stored-has : (c : QueueCertificate) (k : KnownState) (i : Option Instr) → HasByte (store_target c k i)
-stored-has c k (Some (Store op rs1 rs2 offset)) = anywhere-order k.ranges (address_value (queue_at c) k rs1 offset)
-stored-has c k (Some (Amo op rd rs1 rs2 aq rl)) = anywhere-order k.ranges (operand (queue_at c) k rs1)
-stored-has c k None = tt
-stored-has c k (Some (Lui rd upper)) = tt
-stored-has c k (Some (Auipc rd upper)) = tt
-stored-has c k (Some (Jal rd offset)) = tt
-stored-has c k (Some (Jalr rd rs1 offset)) = tt
-stored-has c k (Some (Branch op rs1 rs2 offset)) = tt
-stored-has c k (Some (Load op rd rs1 offset)) = tt
-stored-has c k (Some (Immediate op rd rs1 n)) = tt
-stored-has c k (Some (Shift op rd rs1 amount)) = tt
-stored-has c k (Some (Register op rd rs1 rs2)) = tt
-stored-has c k (Some (Fence pred succ)) = tt
-stored-has c k (Some FenceTso) = tt
-stored-has c k (Some Ecall) = tt
-stored-has c k (Some Ebreak) = tt
+touched-has : (stores : Bool) (c : QueueCertificate) (k : KnownState) (i : Option Instr) → HasByte (target_of stores c k i)
+touched-has true c k (Some (Store op rs1 rs2 offset)) = anywhere-order k.ranges (address_value (queue_at c) k rs1 offset)
+touched-has false c k (Some (Load op rd rs1 offset)) = anywhere-order k.ranges (address_value (queue_at c) k rs1 offset)
+touched-has true c k (Some (Amo op rd rs1 rs2 aq rl)) = anywhere-order k.ranges (operand (queue_at c) k rs1)
+touched-has false c k (Some (Amo op rd rs1 rs2 aq rl)) = anywhere-order k.ranges (operand (queue_at c) k rs1)
+touched-has true c k other = tt
+touched-has false c k other = tt
 
 -- ---- one more
 
@@ -111,10 +99,10 @@ with-order n r (s ∷ ss) low has order = by (ends_before r s) (ends_before s r)
         let far : s.to + 1 < r.from = ltb-true (s.to + 1) r.from second in (order.0, order.1, apart (omega (arith, far)))
     by false false first second apart together = together
 
-abbrev IsInOrder : Writes → Type 0
+abbrev IsInOrder : Touched → Type 0
 IsInOrder w = AreInOrderFrom 0 w.regions
 
-target-order : (n : ℕ) (t : Option Target) (w : Writes) → HasByte t → IsInOrder w → IsInOrder (with_target n t w)
+target-order : (n : ℕ) (t : Option Target) (w : Touched) → HasByte t → IsInOrder w → IsInOrder (with_target n t w)
 target-order n None w has order = order
 target-order n (Some t) w has order = by (is_bounded t.bounds)
   where
@@ -123,8 +111,8 @@ target-order n (Some t) w has order = by (is_bounded t.bounds)
     by true = with-order 0 (region_of t) w.regions (omega arith) (omega (arith, has)) order
     by false = order
 
-pub regions_in_order : (o : OpeningValue) (c : QueueCertificate) (h : ℕ) → AreInOrderFrom 0 (regions_written o c h)
-regions_in_order o c h = keeps-over (writes_at c (hart_at o h).code) IsInOrder
-    (λ n k w order. target-order n (store_target c k (instruction_at (hart_at o h).code k.pc)) w
-    (stored-has c k (instruction_at (hart_at o h).code k.pc)) order)
-    c h (record { regions = []; unbounded = None }) tt
+pub regions_in_order : (stores : Bool) (o : OpeningValue) (c : QueueCertificate) (h : ℕ) → AreInOrderFrom 0 (touched_of stores o c h).regions
+regions_in_order stores o c h = keeps-over (touched_at stores c (hart_at o h).code) IsInOrder
+    (λ n k w order. target-order n (target_of stores c k (instruction_at (hart_at o h).code k.pc)) w
+    (touched-has stores c k (instruction_at (hart_at o h).code k.pc)) order)
+    c h nothing_touched tt

@@ -3,7 +3,7 @@ mod Going
 mod Stopping
 mod Following
 mod Outside
-mod Writing
+mod Touching
 mod InOrder
 mod Safety
 mod LittleTexts

@@ -1,11 +1,11 @@
 -- The text of one slot, for ever: its words are the head, the tail and the slot.
-use Rattle.std.proofs.Common.{ℕ, ◌≡◌, [], ◌∷◌, Some, None, refl}
+use Rattle.std.proofs.Common.{ℕ, ◌≡◌, [], ◌∷◌, Some, None, refl, true, false}
 use Rattle.rv_decode.specs.Meaning.{meaning}
 use Rattle.queue_certificates.proofs.OneSlotQueue.{text, certificate}
 use Rattle.hart_safety.specs.declared.regions.Region.{Region}
 use Rattle.hart_safety.specs.Stops.{first_stop}
 use Rattle.hart_safety.specs.Ends.{first_end}
-use Rattle.hart_safety.specs.Writes.{regions_written, first_unbounded}
+use Rattle.hart_safety.specs.Touched.{touched_of}
 use Rattle.queue_certificates.specs.Tags.{told_by_store}
 
 abbrev bytes : (from to : ℕ) → Region
@@ -38,19 +38,19 @@ receiver_runs_on : first_end text certificate 1 ≡ None
 unfolding meaning told_by_store
 receiver_runs_on = refl
 
--- the sender writes its head and the slot, and the receiver its tail
-sender_writes : regions_written text certificate 0 ≡ bytes 0 3 ∷ bytes 8 11 ∷ []
+-- the sender stores to its head and the slot, and the receiver to its tail; each loads both, and the receiver the slot too
+sender_stores : touched_of true text certificate 0 ≡ record { regions = bytes 0 3 ∷ bytes 8 11 ∷ []; unbounded = None }
 unfolding meaning told_by_store
-sender_writes = refl
+sender_stores = refl
 
-receiver_writes : regions_written text certificate 1 ≡ bytes 4 7 ∷ []
+sender_loads : touched_of false text certificate 0 ≡ record { regions = bytes 0 7 ∷ []; unbounded = None }
 unfolding meaning told_by_store
-receiver_writes = refl
+sender_loads = refl
 
-sender_is_bounded : first_unbounded text certificate 0 ≡ None
+receiver_stores : touched_of true text certificate 1 ≡ record { regions = bytes 4 7 ∷ []; unbounded = None }
 unfolding meaning told_by_store
-sender_is_bounded = refl
+receiver_stores = refl
 
-receiver_is_bounded : first_unbounded text certificate 1 ≡ None
+receiver_loads : touched_of false text certificate 1 ≡ record { regions = bytes 0 11 ∷ []; unbounded = None }
 unfolding meaning told_by_store
-receiver_is_bounded = refl
+receiver_loads = refl

@@ -7,8 +7,7 @@ use Rattle.queue_checker.specs.declared.targets.Target.{Target}
 use Rattle.queue_checker.specs.Flaws.{first_of}
 use Rattle.hart_safety.specs.declared.regions.Region.{Region}
 use Rattle.hart_safety.specs.Regions.{region_of, ends_before, joined_region, with_region, IsInNone}
-use Rattle.queue_checker.specs.Operands.{store_target}
-use Rattle.hart_safety.specs.Writes.{is_bounded, Writes, with_target, writes_at}
+use Rattle.hart_safety.specs.Touched.{is_bounded, target_of, Touched, touched_at, with_target}
 
 abbrev pub IsOutside : (x : ℕ) → Region → Type 0
 IsOutside x r = (x < r.from) ⊎ (r.to < x)
@@ -36,16 +35,16 @@ outside-with x r (s ∷ ss) out = by (ends_before r s) (ends_before s r) out (ou
     by false true out apart together = let rest = apart out.1 in (rest.0, (out.0, rest.1))
     by false false out apart together = let rest = together out in let parts = outside-parts x r s rest.0 in (parts.0, (parts.1, rest.1))
 
--- an instruction that stores to these bytes writes another one
+-- an instruction that touches these bytes touches another one
 abbrev pub IsSpared : (x : ℕ) → Option Target → Type 0
 IsSpared x None = Unit {0}
 IsSpared x (Some t) = (is_bounded t.bounds ≡ true) × IsOutside x (region_of t)
 
--- all stores are bounded, and the byte at x is of no region
-abbrev pub Spares : (x : ℕ) → Writes → Type 0
+-- all accesses are bounded, and the byte at x is of no region
+abbrev pub Spares : (x : ℕ) → Touched → Type 0
 Spares x w = (w.unbounded ≡ None) × IsInNone x w.regions
 
-outside-target : (x n : ℕ) (t : Option Target) (w : Writes) → Spares x (with_target n t w) → IsSpared x t × Spares x w
+outside-target : (x n : ℕ) (t : Option Target) (w : Touched) → Spares x (with_target n t w) → IsSpared x t × Spares x w
 outside-target x n None w out = (tt, out)
 outside-target x n (Some t) w out = by (is_bounded t.bounds) refl out
   where
@@ -59,6 +58,6 @@ outside-target x n (Some t) w out = by (is_bounded t.bounds) refl out
     by true is out = let rest = outside-with x (region_of t) w.regions out.1 in ((is, rest.0), (out.0, rest.1))
     by false is out = absurd (none w.unbounded out.0)
 
-pub spared : (c : QueueCertificate) (code : List ℕ) (x n : ℕ) (k : KnownState) (w : Writes) → Spares x (writes_at c code n k w)
-    → IsSpared x (store_target c k (instruction_at code k.pc)) × Spares x w
-spared c code x n k w out = outside-target x n (store_target c k (instruction_at code k.pc)) w out
+pub spared : (stores : Bool) (c : QueueCertificate) (code : List ℕ) (x n : ℕ) (k : KnownState) (w : Touched) → Spares x (touched_at stores c code n k w)
+    → IsSpared x (target_of stores c k (instruction_at code k.pc)) × Spares x w
+spared stores c code x n k w out = outside-target x n (target_of stores c k (instruction_at code k.pc)) w out

@@ -1,4 +1,4 @@
--- In every run a hart that goes on from each of its leaves isn't stopped, runs if it runs on from each, and writes within its regions.
+-- In every run a hart that goes on from each of its leaves isn't stopped, runs if it runs on from each, and touches its regions alone.
 use Rattle.std.proofs.Common.{ℕ, ◌<◌, ◌≤◌, ◌≡◌, ◌⊎◌, inl, inr, Bool, true, false, None, Some, List, [], ◌∷◌, ◌++◌, length, refl, sym, ◌∙◌, subst}
 use Rattle.std.specs.Prelude.{slice_set}
 use Rattle.std.specs.List.{slice_get}
@@ -11,7 +11,6 @@ use Rattle.hart.specs.declared.status.Status.TheVariants as status
 use Rattle.step_machine.specs.declared.events.Entry.{Entry}
 use Rattle.step_machine.specs.Names.{HartOpeningValue, OpeningValue, history_of, access_of, hart_of, is_land, WellFormed, number_read, opens_as, state_of}
 use Rattle.step_machine.proofs.OwnRuns.{kept-front, state_there}
-use Rattle.store_buffers.specs.StoreBuffers.{LeavesByteBy}
 use Rattle.queue_certificates.specs.{View, AllCounts, ActsByCounts, IsCertifiedOfQueues, Form, KnownState, instruction_at, Arrow, each_leaf, QueueCertificate}
 use Rattle.queue_certificates.specs.{queue_at, start_at, no_hart, HasFields, MeetsFields, IsOwnByte, IsAtState, IsInState, told_beside, accepts, part_of}
 use Rattle.queue_certificates.specs.{state_at, next_states, all_lead, is_closed}
@@ -24,14 +23,13 @@ use Rattle.hart_safety.specs.Leaves.{first_failing}
 use Rattle.hart_safety.specs.Stops.{goes_on_at, first_stop}
 use Rattle.hart_safety.specs.Ends.{runs_on_at, first_end}
 use Rattle.hart_safety.specs.Regions.{IsInNone}
-use Rattle.queue_checker.specs.Operands.{store_target}
-use Rattle.hart_safety.specs.Writes.{writes_at, first_unbounded, regions_written}
+use Rattle.hart_safety.specs.Touched.{SparesByte, nothing_touched, target_of, touched_at, touched_of}
 use Rattle.hart_safety.proofs.AtLeaves.{reaches-leaf}
 use Rattle.hart_safety.proofs.Going.{KeepsGoing, IsGoing, settled-going, next-going, runs-inside}
 use Rattle.hart_safety.proofs.Stopping.{leaf-goes}
 use Rattle.hart_safety.proofs.Following.{never-past, leaf-runs}
 use Rattle.hart_safety.proofs.Outside.{IsSpared, Spares, spared}
-use Rattle.hart_safety.proofs.Writing.{leaf-spares}
+use Rattle.hart_safety.proofs.Touching.{landing, leaf-spares}
 
 -- where no state fails, each of its leaves passes
 each-passes : (f : KnownState → Form → List Arrow → Bool) (c : QueueCertificate) (h : ℕ) → first_failing f c h ≡ None → (n : ℕ)
@@ -170,20 +168,23 @@ module _ (B M : ℕ) (o : OpeningValue) (c : QueueCertificate) (ok : accepts o c
               es run there.0 there.1).1,
         )
 
-  -- ---- what a hart writes
+  -- ---- what a hart touches
 
-  leaves-outside : (h x : ℕ) → first_unbounded o c h ≡ None → IsInNone x (regions_written o c h) → (s : HartState) (m : View) (cs : AllCounts)
-      (d : Entry) → IsInState c h s m cs → ActsByCounts M o (length c.queues) (queue_at c) nobody_told nothing_sent h s m cs d → LeavesByteBy x (access_of d)
-  leaves-outside h x none out s m cs d in' acts =
+  leaves-outside : (stores : Bool) (h x : ℕ) → (touched_of stores o c h).unbounded ≡ None → IsInNone x (touched_of stores o c h).regions
+      → (s : HartState) (m : View) (cs : AllCounts) (d : Entry) → IsInState c h s m cs
+      → ActsByCounts M o (length c.queues) (queue_at c) nobody_told nothing_sent h s m cs d → SparesByte stores x (access_of d)
+  leaves-outside stores h x none out s m cs d in' acts =
       let w = in' acts.can.running in
-      let at = reaches-leaf (writes_at c (hart_at o h).code) (Spares x) (λ n k before spares. (spared c (hart_at o h).code x n k before spares).1)
-      c h s m cs w.0 w.2 w.1 (record { regions = []; unbounded = None }) (none, out) in
-      leaf-spares M o c h at.numbers at.known s m cs d acts (acts-wide h s m cs d acts) (fine M o c ok) at.means x
-      (subst (λ ws. IsSpared x (store_target c at.known (instruction_at ws at.known.pc))) (acts-code h s m cs d acts)
-      (spared c (hart_at o h).code x at.state at.known at.before at.so).0)
+      let at = reaches-leaf (touched_at stores c (hart_at o h).code) (Spares x)
+      (λ n k before spares. (spared stores c (hart_at o h).code x n k before spares).1)
+      c h s m cs w.0 w.2 w.1 nothing_touched (none, out) in
+      leaf-spares M o c h at.numbers at.known s m cs d acts (acts-wide h s m cs d acts) (fine M o c ok) at.means x stores
+      (subst (λ ws. IsSpared x (target_of stores c at.known (instruction_at ws at.known.pc))) (acts-code h s m cs d acts)
+      (spared stores c (hart_at o h).code x at.state at.known at.before at.so).0)
 
-  pub spares_outside : (es : List Entry) (e : Entry) → WellFormed B M (history_of o (es ++ e ∷ [])) → is_land e ≡ false
-      → first_unbounded o c (hart_of e) ≡ None → (x : ℕ) → IsInNone x (regions_written o c (hart_of e)) → LeavesByteBy x (access_of e)
-  spares_outside es e run act none x out = next_is (sets B M o c ok) (hart_of e) (λ cs us. LeavesByteBy x) (λ cs us. tt)
-      (λ s m cs us d in' acts knows. leaves-outside (hart_of e) x none out s m cs d (in-state (hart_of e) s m cs us in') (plain (hart_of e) s m cs d acts))
-      es e run (holds (sets B M o c ok) es (kept-front B M o es (e ∷ []) run)) refl
+  pub spares_outside : (stores : Bool) (es : List Entry) (e : Entry) → WellFormed B M (history_of o (es ++ e ∷ [])) → is_land e ≡ false
+      → (touched_of stores o c (hart_of e)).unbounded ≡ None → (x : ℕ) → IsInNone x (touched_of stores o c (hart_of e)).regions
+      → SparesByte stores x (access_of e)
+  spares_outside stores es e run act none x out = next_is (sets B M o c ok) (hart_of e) (λ cs us. SparesByte stores x) (λ cs us. landing x stores)
+      (λ s m cs us d in' acts knows. leaves-outside stores (hart_of e) x none out s m cs d (in-state (hart_of e) s m cs us in')
+      (plain (hart_of e) s m cs d acts)) es e run (holds (sets B M o c ok) es (kept-front B M o es (e ∷ []) run)) refl

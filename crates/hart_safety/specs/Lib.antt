@@ -2,4 +2,4 @@ pub mod Leaves
 pub mod Stops
 pub mod Ends
 pub mod Regions
-pub mod Writes
+pub mod Touched

@@ -1,10 +1,10 @@
-//! What else an accepted certificate of queues shows of a hart: that nothing stops it, that it doesn't end, and which bytes it writes.
+//! What else an accepted certificate of queues shows of a hart: that nothing stops it, that it doesn't end, and which bytes it stores to and loads.
 //!
 //! The contract: [`first_stop`] returns a hart's first state whose instruction isn't shown to go on, and where there is none, nothing
 //! stops the hart in any run ([`laws_of_hart_safety`]). [`first_end`] returns its first state where it may end; where there is neither,
-//! the hart runs in every run. [`writes_of`] returns the regions that it may write, and its first state with a store that may go
-//! anywhere; where there is none, the hart writes no byte outside of the regions. This crate checks no certificate, reads no text and
-//! runs no machine.
+//! the hart runs in every run. [`touched_of`] returns the regions to which it may store, or which it may load, and its first state with
+//! such an access that may go anywhere; where there is none, the hart touches no byte outside of the regions. This crate checks no
+//! certificate, reads no text and runs no machine.
 //!
 //! Called by `certifying`.
 
@@ -12,9 +12,9 @@
 
 mod regions;
 mod stops;
-mod writes;
+mod touched;
 
-ghost use Rattle.std.specs.Prelude.{ℕ, ◌≡◌, ◌<◌, ◌⊎◌, List, [], ◌∷◌, ◌++◌, length, None, Some, true, false};
+ghost use Rattle.std.specs.Prelude.{ℕ, ◌≡◌, ◌<◌, ◌⊎◌, Bool, List, [], ◌∷◌, ◌++◌, length, None, Some, true, false};
 ghost use Rattle.hart.specs.State.{HartState};
 ghost use Rattle.hart.specs.declared.status.Stop.{Stop};
 ghost use Rattle.hart.specs.declared.status.Status.TheVariants.{Running, Ended, Stopped};
@@ -24,16 +24,15 @@ ghost use Rattle.step_machine.specs.Entries.{hart_of, is_land};
 ghost use Rattle.step_machine.specs.History.{OpeningValue, history_of};
 ghost use Rattle.step_machine.specs.Legal.{WellFormed};
 ghost use Rattle.step_machine.specs.Paths.{state_of};
-ghost use Rattle.store_buffers.specs.StoreBuffers.{LeavesByteBy};
 ghost use Rattle.queue_certificates.specs.Certificates.{QueueCertificate, accepts};
 ghost use Rattle.hart_safety.specs.Stops.{first_stop};
 ghost use Rattle.hart_safety.specs.Ends.{first_end};
 ghost use Rattle.hart_safety.specs.Regions.{IsInNone, AreInOrderFrom};
-ghost use Rattle.hart_safety.specs.Writes.{regions_written, first_unbounded};
+ghost use Rattle.hart_safety.specs.Touched.{SparesByte, touched_of};
 
 pub use regions::Region;
 pub use stops::{first_end, first_stop};
-pub use writes::{Writes, writes_of};
+pub use touched::{Touched, touched_of};
 
 /// Where a certificate is accepted for an opening, in every legal run from it, of any length and with store buffers of any size. It
 /// does nothing.
@@ -41,7 +40,8 @@ pub use writes::{Writes, writes_of};
 /// - `never_stopped`: a hart whose states all go on is never stopped: by no fault, no `ebreak` and no environment call that isn't one.
 /// - `runs_or_ended`: so one of the opening's harts is there in every run, and runs or has ended.
 /// - `runs`: and if it ends at none of its states, it runs in every run.
-/// - `written_within`: a hart without a store that may go anywhere writes no byte outside of its regions.
+/// - `touched_within`: a hart without a store that may go anywhere writes no byte outside of its regions, and one without such a load
+///   loads none outside of those of its loads.
 /// - `in_order`: of any certificate, regions are in their order, with a byte between each and the next.
 pub fn laws_of_hart_safety()
     ensures never_stopped { (B M : ℕ) (o : OpeningValue) (c : QueueCertificate) → accepts o c ≡ true → (h : ℕ) → first_stop M o c h ≡ None
@@ -53,8 +53,8 @@ pub fn laws_of_hart_safety()
     ensures runs { (B M : ℕ) (o : OpeningValue) (c : QueueCertificate) → accepts o c ≡ true → (h : ℕ) → h < length o.harts
         → first_stop M o c h ≡ None → first_end o c h ≡ None → (es : List Entry) → WellFormed B M (history_of o es)
         → (s : HartState) × (state_of M (history_of o es) h ≡ Some s) × (s.status ≡ Running) }
-    ensures written_within { (B M : ℕ) (o : OpeningValue) (c : QueueCertificate) → accepts o c ≡ true → (es : List Entry) (e : Entry)
-        → WellFormed B M (history_of o (es ++ e ∷ [])) → is_land e ≡ false → first_unbounded o c (hart_of e) ≡ None
-        → (x : ℕ) → IsInNone x (regions_written o c (hart_of e)) → LeavesByteBy x (access_of e) }
-    ensures in_order { (o : OpeningValue) (c : QueueCertificate) (h : ℕ) → AreInOrderFrom 0 (regions_written o c h) }
+    ensures touched_within { (stores : Bool) (B M : ℕ) (o : OpeningValue) (c : QueueCertificate) → accepts o c ≡ true → (es : List Entry) (e : Entry)
+        → WellFormed B M (history_of o (es ++ e ∷ [])) → is_land e ≡ false → (touched_of stores o c (hart_of e)).unbounded ≡ None
+        → (x : ℕ) → IsInNone x (touched_of stores o c (hart_of e)).regions → SparesByte stores x (access_of e) }
+    ensures in_order { (stores : Bool) (o : OpeningValue) (c : QueueCertificate) (h : ℕ) → AreInOrderFrom 0 (touched_of stores o c h).regions }
 {}

@@ -11,8 +11,8 @@ returns-clause-runs_or_ended c B M o certificate ok h known none = runs_or_ended
 pub returns-clause-runs : goal.returns-clause-runs
 returns-clause-runs c B M o certificate ok h known none never = runs B M o certificate ok h none never known
 
-pub returns-clause-written_within : goal.returns-clause-written_within
-returns-clause-written_within c = spares_outside
+pub returns-clause-touched_within : goal.returns-clause-touched_within
+returns-clause-touched_within c stores B M o certificate ok = spares_outside B M o certificate ok stores
 
 pub returns-clause-in_order : goal.returns-clause-in_order
 returns-clause-in_order c = regions_in_order
