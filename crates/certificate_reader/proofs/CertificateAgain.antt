@@ -8,7 +8,8 @@ use Rattle.std.proofs.lemmas.Bool.{le-ltb, lt-leb}
 use Rattle.std.proofs.lemmas.List.{append-nil, reverse-reverse}
 use Rattle.std.proofs.Math.Bool.{or-true}
 use Rattle.std.proofs.lemmas.List.Sums.{sum_by-cons, sum_by-append, sum_by_push}
-use Rattle.queue_certificates.specs.{KnownValue, KnownState, OpenedQueue, ListedState, HartPart, QueueCertificate}
+use Rattle.queue_certificates.specs.{Form, KnownValue, KnownState, OpenedQueue, ListedState, HartPart, QueueCertificate}
+use Rattle.queue_certificates.specs.declared.goal.Goal.{Goal}
 use Rattle.queue_certificates.specs.declared.own.OwnWord.{OwnWord}
 use Rattle.queue_layouts.specs.declared.tagged.OpenedTagged.{OpenedTagged}
 use Rattle.queue_checker.specs.Trees.{height}
@@ -22,16 +23,17 @@ use Rattle.certificate_reader.specs.Drafts.{hart_closed_at, hart_listed, with_ha
 use Rattle.certificate_reader.specs.Reading.{certificate_from, certificate_at}
 use Rattle.certificate_reader.specs.Writing.{LineOfWords, line_if, range_text, value_lines, share_lines, known_lines, filled_lines, described_lines}
 use Rattle.certificate_reader.specs.Writing.{own_word_text, tree_lines, state_lines, part_lines, numbers_of, queue_line, field_line, queue_lines, tagged_line}
-use Rattle.certificate_reader.specs.Writing.{certificate_lines, certificate_text}
-use Rattle.certificate_reader.specs.Written.{FitsOwn, FitsCount, FitsState, FitsPart, FitsQueue, CanBeWritten}
+use Rattle.certificate_reader.specs.Writing.{certificate_lines, certificate_text, form_text, goal_line, lacks_line, rank_lines}
+use Rattle.certificate_reader.specs.Written.{FitsForm, FitsOwn, FitsCount, FitsState, FitsPart, FitsQueue, CanBeWritten}
 use Rattle.certificate_reader.proofs.Growing.{reverse_pushed, cases_again}
 use Rattle.certificate_reader.proofs.NumbersAgain.{only_word_again, first_word_again, queue_again, counts_again}
-use Rattle.certificate_reader.proofs.FormsAgain.{own_words_again}
+use Rattle.certificate_reader.proofs.FormsAgain.{forms_again, own_words_again}
 use Rattle.certificate_reader.proofs.LinesAgain.{told_lines, lines_again, by_name, LeadsTo, line_then, line_told, leads_on, then_told, IsHeld, at_stage}
 use Rattle.certificate_reader.proofs.LinesAgain.{then_held}
 use Rattle.certificate_reader.proofs.Turns.{each_told, each_added, if_told}
 use Rattle.certificate_reader.proofs.FieldsAgain.{IsQueues, with_queues, fields_told, AreFew, are_few, IsDescribed, filled_told}
 use Rattle.certificate_reader.proofs.TagsAgain.{ListsQueues, with_all_tagged, tagged_told}
+use Rattle.certificate_reader.proofs.GoalsAgain.{IsOpened, with_goals, goals_told, with_sets, sets_told}
 use Rattle.certificate_reader.proofs.StatesAgain.{with_ranges, ranges_told, values_told, shares_told, cases_told}
 use Rattle.certificate_reader.proofs.SolidLines.{certificate_solid}
 
@@ -44,6 +46,8 @@ pub record Core : Type 0 where
   pub own : List OwnWord
   pub first : ℕ
   pub numbers : List ℕ
+  pub goals : List Goal
+  pub lacking : List (List ℕ)
   pub states : List ListedState
   pub listed : ℕ
 
@@ -55,6 +59,8 @@ core_of d = record {
   own = d.own;
   first = d.first;
   numbers = d.numbers;
+  goals = d.goals;
+  lacking = d.lacking;
   states = d.states;
   listed = d.listed;
 }
@@ -138,6 +144,27 @@ described_told d s few few_tagged few_own fits = then_held IsDescribed (known_dr
     (begun_state d s.known.pc) (known_lines s.known) (filled_lines 0 s.filled) (known_told d s few.queues few_tagged few_own fits)
     (λ t is. filled_told (known_draft d s.known t) s.filled t few (omega (arith, fits.few_filled, few.queues)) fits.full_filled fits.filled is)
 
+abbrev with_state_ranks : DraftValue → List Form → Stage → DraftValue
+with_state_ranks d ranks s = record d { ranks = ranks; stage = s }
+
+ranks_told : (d : DraftValue) (ranks : List Form) (s : Stage) → length d.ranges ≤ 2 ^ 32 → AllByRecursion (FitsForm (length d.ranges)) ranks → IsDescribed s
+    → LeadsTo (IsHeld IsDescribed (with_state_ranks d ranks)) (with_state_ranks d [] s) (rank_lines ranks)
+unfolding keyword_named stage_after
+ranks_told d ranks s small all is = if_told IsDescribed (with_state_ranks d) (codes "rank") form_text s is ranks
+    (line_told (IsHeld IsDescribed (with_state_ranks d ranks)) (with_state_ranks d [] s) (with_state_ranks d ranks s) (codes "rank")
+    (map form_text ranks) keyword.Rank stage.Known refl (rw is refl) (rw (forms_again (length d.ranges) ranks small all) refl)
+    (at_stage IsDescribed (with_state_ranks d ranks) stage.Known refl))
+
+abbrev ranked_draft : DraftValue → ListedState → Stage → DraftValue
+ranked_draft d s t = record (described_draft d s t) { ranks = s.ranks }
+
+ranked_told : (d : DraftValue) (s : ListedState) → AreFew d.queues → length d.tagged ≤ 16 → length d.own ≤ 64
+    → FitsState d.queues (length d.tagged) (length d.own) s
+    → LeadsTo (IsHeld IsDescribed (ranked_draft d s)) (begun_state d s.known.pc) (described_lines s ++ rank_lines s.ranks)
+ranked_told d s few few_tagged few_own fits = then_held IsDescribed (described_draft d s) (IsHeld IsDescribed (ranked_draft d s))
+    (begun_state d s.known.pc) (described_lines s) (rank_lines s.ranks) (described_told d s few few_tagged few_own fits)
+    (λ t is. ranks_told (described_draft d s t) s.ranks t (omega (arith, fits.variables)) fits.ranks is)
+
 -- ---- a state
 
 -- the states so far are those of c, and the last one may end here
@@ -164,10 +191,13 @@ state_told : (d : DraftValue) (c : Core) (s : ListedState) → IsListed c d → 
     → LeadsTo (IsListed (record c { states = s ∷ c.states; listed = c.listed + 1 })) d (state_lines s)
 unfolding state_closed
 state_told d c s at few_queues few_tagged few_own few fits =
-    line_then (IsListed new) d (begun_state x s.known.pc) (codes "state", decimal s.known.pc ∷ []) (described_lines s ++ tree_lines (case_lines s.cases))
+    line_then (IsListed new) d (begun_state x s.known.pc) (codes "state", decimal s.known.pc ∷ [])
+    (described_lines s ++ rank_lines s.ranks ++ tree_lines (case_lines s.cases))
     (state_begun d c s.known.pc at few fits.pc)
-    (then_held IsDescribed (described_draft x s) (IsListed new) (begun_state x s.known.pc) (described_lines s) (tree_lines (case_lines s.cases))
-    (described_told x s (subst (λ (y : Core). AreFew y.queues) (sym at.core) few_queues) (subst (λ (y : Core). length y.tagged ≤ 16) (sym at.core) few_tagged)
+    (then_held IsDescribed (ranked_draft x s) (IsListed new) (begun_state x s.known.pc) (described_lines s ++ rank_lines s.ranks)
+    (tree_lines (case_lines s.cases))
+    (ranked_told x s (subst (λ (y : Core). AreFew y.queues) (sym at.core) few_queues)
+    (subst (λ (y : Core). length y.tagged ≤ 16) (sym at.core) few_tagged)
     (subst (λ (y : Core). length y.own ≤ 64) (sym at.core) few_own) fits_x) cases_read)
   where
     x : DraftValue
@@ -179,10 +209,10 @@ state_told d c s at few_queues few_tagged few_own few fits =
     fits_x : FitsState x.queues (length x.tagged) (length x.own) s
     fits_x = subst (λ (y : Core). FitsState y.queues (length y.tagged) (length y.own) s) (sym at.core) fits
 
-    cases_read : (t : Stage) → IsDescribed t → LeadsTo (IsListed new) (described_draft x s t) (tree_lines (case_lines s.cases))
+    cases_read : (t : Stage) → IsDescribed t → LeadsTo (IsListed new) (ranked_draft x s t) (tree_lines (case_lines s.cases))
     cases_read t is = record {
-      end = record (described_draft x s t) { nodes = reverse (case_lines s.cases) ++ []; splits = 0 + height s.cases; stage = stage.Leaf 0 };
-      read = cases_told (described_draft x s t) s.cases t 0 (described_wants t is) (omega arith) (omega (arith, fits.splits))
+      end = record (ranked_draft x s t) { nodes = reverse (case_lines s.cases) ++ []; splits = 0 + height s.cases; stage = stage.Leaf 0 };
+      read = cases_told (ranked_draft x s t) s.cases t 0 (described_wants t is) (omega arith) (omega (arith, fits.splits))
           (omega (arith, fits.variables)) fits.cases;
       holds = record {
         core =
@@ -220,6 +250,8 @@ pub record IsAt (qs : List OpenedQueue) (ts : List OpenedTagged) (hs : List Hart
   pub tagged : (hart_closed (state_closed d)).tagged ≡ ts
   pub harts : (hart_closed (state_closed d)).harts ≡ hs
   pub own : (hart_closed (state_closed d)).own ≡ []
+  pub goals : (hart_closed (state_closed d)).goals ≡ []
+  pub lacking : (hart_closed (state_closed d)).lacking ≡ []
   pub states : (hart_closed (state_closed d)).states ≡ []
   pub listed : (hart_closed (state_closed d)).listed ≡ n
   pub begins : (lists_queues d.stage || may_end d.stage) ≡ true
@@ -260,15 +292,24 @@ unfolding hart_closed
 closed_listed d opened = ap (λ (s : Stage). hart_closed_at s d) opened
 
 is_at_end : (c : Core) (p : HartPart) (d : DraftValue)
-    → IsListed (with_states (record c { own = p.own; first = p.first; numbers = p.numbers }) p.states) d
+    → IsListed (with_states (record c { own = p.own; first = p.first; numbers = p.numbers; goals = p.goals; lacking = p.lacking }) p.states) d
     → IsAt c.queues c.tagged (c.harts ++ p ∷ []) (c.listed + length p.states) d
 is_at_end c p d at = record {
   queues = ap (λ (e : DraftValue). e.queues) closed ∙ ap (λ (x : Core). x.queues) at.core;
   tagged = ap (λ (e : DraftValue). e.tagged) closed ∙ ap (λ (x : Core). x.tagged) at.core;
   harts = ap (λ (e : DraftValue). e.harts) closed
-      ∙ ap (λ (x : Core). x.harts ++ record { own = x.own; first = x.first; numbers = x.numbers; states = reverse x.states } ∷ []) at.core
+      ∙ ap (λ (x : Core). x.harts ++ record {
+        own = x.own;
+        first = x.first;
+        numbers = x.numbers;
+        goals = x.goals;
+        lacking = x.lacking;
+        states = reverse x.states;
+      } ∷ []) at.core
       ∙ ap (λ (states : List ListedState). c.harts ++ record p { states = states } ∷ []) (reverse-reverse p.states);
   own = ap (λ (e : DraftValue). e.own) closed;
+  goals = ap (λ (e : DraftValue). e.goals) closed;
+  lacking = ap (λ (e : DraftValue). e.lacking) closed;
   states = ap (λ (e : DraftValue). e.states) closed;
   listed = ap (λ (e : DraftValue). e.listed) closed ∙ ap (λ (x : Core). x.listed) at.core;
   begins = rw at.ends (or-true (lists_queues d.stage));
@@ -283,12 +324,18 @@ part_told : (d : DraftValue) (qs : List OpenedQueue) (ts : List OpenedTagged) (h
     → LeadsTo (IsAt qs ts (hs ++ p ∷ []) (n + length p.states)) d (part_lines p)
 unfolding keyword_named stage_after with_hart state_closed
 part_told d qs ts hs n p at few_harts few_queues few_tagged few fits =
-    line_then over d (record x { stage = stage.Hart }) (codes "hart", []) (own_lines ++ opening ∷ [] ++ flat_map state_lines p.states)
+    line_then over d (record x { stage = stage.Hart }) (codes "hart", [])
+    (own_lines ++ opening ∷ [] ++ map goal_line p.goals ++ map lacks_line p.lacking ++ flat_map state_lines p.states)
     (by_name d x (codes "hart") [] keyword.Hart stage.Hart refl (rw at.begins refl) (rw (at.harts, lt-leb 64 (length hs) few_harts) refl))
-    (then_told (IsListed (with_states core [])) over (record x { stage = stage.Hart }) (own_lines ++ opening ∷ []) (flat_map state_lines p.states)
-    (then_held MayOpen (with_own x p.own) (IsListed (with_states core [])) (record x { stage = stage.Hart }) own_lines (opening ∷ []) own_read open_read)
-    (λ e at_e. leads_on (IsListed (with_states core p.states)) over e (flat_map state_lines p.states) (is_at_end core p)
-    (states_told e core p.states at_e few_queues few_tagged fits.few_words few fits.states)))
+    (then_held IsOpened aimed over (record x { stage = stage.Hart }) (own_lines ++ opening ∷ [] ++ map goal_line p.goals ++ map lacks_line p.lacking)
+    (flat_map state_lines p.states)
+    (then_held IsOpened going (IsHeld IsOpened aimed) (record x { stage = stage.Hart }) (own_lines ++ opening ∷ [] ++ map goal_line p.goals)
+    (map lacks_line p.lacking)
+    (then_held IsOpened opened (IsHeld IsOpened going) (record x { stage = stage.Hart }) (own_lines ++ opening ∷ []) (map goal_line p.goals)
+    (then_held MayOpen (with_own x p.own) (IsHeld IsOpened opened) (record x { stage = stage.Hart }) own_lines (opening ∷ []) own_read open_read) goals_read)
+    sets_read)
+    (λ t is. leads_on (IsListed (with_states core p.states)) over (aimed t) (flat_map state_lines p.states) (is_at_end core p)
+    (states_told (aimed t) core p.states (listed t is) few_queues few_tagged fits.few_words few fits.states)))
   where
     over : DraftValue → Type 0
     over = IsAt qs ts (hs ++ p ∷ []) (n + length p.states)
@@ -297,7 +344,27 @@ part_told d qs ts hs n p at few_harts few_queues few_tagged few fits =
     x = hart_closed (state_closed d)
 
     core : Core
-    core = record { queues = qs; tagged = ts; harts = hs; own = p.own; first = p.first; numbers = p.numbers; states = []; listed = n }
+    core = record {
+      queues = qs;
+      tagged = ts;
+      harts = hs;
+      own = p.own;
+      first = p.first;
+      numbers = p.numbers;
+      goals = p.goals;
+      lacking = p.lacking;
+      states = [];
+      listed = n;
+    }
+
+    opened : Stage → DraftValue
+    opened t = record (with_own x p.own t) { first = p.first; numbers = p.numbers }
+
+    going : Stage → DraftValue
+    going t = record (opened t) { goals = p.goals }
+
+    aimed : Stage → DraftValue
+    aimed t = record (going t) { lacking = p.lacking }
 
     own_lines : List LineOfWords
     own_lines = line_if (codes "own") (map own_word_text p.own)
@@ -309,11 +376,23 @@ part_told d qs ts hs n p at few_harts few_queues few_tagged few fits =
     own_read = subst (λ (own : List OwnWord). LeadsTo (IsHeld MayOpen (with_own x p.own)) (with_own x own stage.Hart) own_lines) (sym at.own)
         (own_told x p.own fits.few_words fits.own)
 
-    open_read : (t : Stage) → MayOpen t → LeadsTo (IsListed (with_states core [])) (with_own x p.own t) (opening ∷ [])
-    open_read t may = line_told (IsListed (with_states core [])) (with_own x p.own t) (record (with_own x p.own t) { first = p.first; numbers = p.numbers })
-        (codes "open") (map decimal (p.first ∷ p.numbers)) keyword.Open stage.Opened refl may
-        (rw (opening_again p.first p.numbers fits.first fits.few_numbers fits.numbers) refl)
-        (let none : n ≡ n + 0 = omega arith in record { core = rw (at.queues, at.tagged, at.harts, at.states, at.listed, ← none) refl; ends = refl })
+    open_read : (t : Stage) → MayOpen t → LeadsTo (IsHeld IsOpened opened) (with_own x p.own t) (opening ∷ [])
+    open_read t may = line_told (IsHeld IsOpened opened) (with_own x p.own t) (opened t) (codes "open") (map decimal (p.first ∷ p.numbers)) keyword.Open
+        stage.Opened refl may (rw (opening_again p.first p.numbers fits.first fits.few_numbers fits.numbers) refl)
+        (at_stage IsOpened opened stage.Opened refl)
+
+    goals_read : (t : Stage) → IsOpened t → LeadsTo (IsHeld IsOpened going) (opened t) (map goal_line p.goals)
+    goals_read t is = subst (λ (goals : List Goal). LeadsTo (IsHeld IsOpened going) (with_goals (opened t) goals t) (map goal_line p.goals)) (sym at.goals)
+        (goals_told (opened t) p.goals t fits.few_goals fits.goals is)
+
+    sets_read : (t : Stage) → IsOpened t → LeadsTo (IsHeld IsOpened aimed) (going t) (map lacks_line p.lacking)
+    sets_read t is = subst (λ (sets : List (List ℕ)). LeadsTo (IsHeld IsOpened aimed) (with_sets (going t) sets t) (map lacks_line p.lacking)) (sym at.lacking)
+        (sets_told (going t) p.lacking t fits.few_lacking fits.lacking is)
+
+    listed : (t : Stage) → IsOpened t → IsListed (with_states core []) (aimed t)
+    listed stage.Opened is =
+        let none : n ≡ n + 0 = omega arith in record { core = rw (at.queues, at.tagged, at.harts, at.states, at.listed, ← none) refl; ends = refl }
+    listed other is = absurd cc
 
 abbrev listed_states : HartPart → ℕ
 listed_states part = length part.states
@@ -373,9 +452,31 @@ begins_at : (qs : List OpenedQueue) (ts : List OpenedTagged) (s : Stage) → Lis
     → IsAt qs ts [] 0 (record no_draft { queues = qs; tagged = ts; stage = s })
 unfolding state_closed hart_closed
 begins_at qs ts stage.Queues lists =
-    record { queues = refl; tagged = refl; harts = refl; own = refl; states = refl; listed = refl; begins = refl; ends = λ some. absurd (omega arith) }
+    record {
+      queues = refl;
+      tagged = refl;
+      harts = refl;
+      own = refl;
+      goals = refl;
+      lacking = refl;
+      states = refl;
+      listed = refl;
+      begins = refl;
+      ends = λ some. absurd (omega arith);
+    }
 begins_at qs ts stage.Tagged lists =
-    record { queues = refl; tagged = refl; harts = refl; own = refl; states = refl; listed = refl; begins = refl; ends = λ some. absurd (omega arith) }
+    record {
+      queues = refl;
+      tagged = refl;
+      harts = refl;
+      own = refl;
+      goals = refl;
+      lacking = refl;
+      states = refl;
+      listed = refl;
+      begins = refl;
+      ends = λ some. absurd (omega arith);
+    }
 begins_at qs ts other lists = absurd cc
 
 lines_told : (c : QueueCertificate) → CanBeWritten c

@@ -7,6 +7,7 @@ pub mod LinesAgain
 pub mod Turns
 pub mod FieldsAgain
 pub mod TagsAgain
+pub mod GoalsAgain
 pub mod SolidLines
 pub mod StatesAgain
 pub mod CertificateAgain

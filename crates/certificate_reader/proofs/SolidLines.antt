@@ -7,6 +7,8 @@ use Rattle.std.proofs.lemmas.List.{map-append}
 use Rattle.texts.proofs.{none-append, is_low, Solid, solid_by_test, decimal_solid}
 use Rattle.queue_certificates.specs.{KnownValue, any, linear, index_for, signed_for, ends_as, has_bits, Share, Field, OpenedQueue, no_queue, ListedState}
 use Rattle.queue_certificates.specs.{HartPart, QueueCertificate}
+use Rattle.queue_certificates.specs.declared.goal.Goal.{Goal}
+use Rattle.queue_certificates.specs.declared.goal.Goal.TheVariants as goal
 use Rattle.queue_certificates.specs.Cases.{Arrow, Cases, leaf, split}
 use Rattle.queue_certificates.specs.Filled.{Filled}
 use Rattle.queue_layouts.specs.declared.tagged.Codec.{Codec}
@@ -16,9 +18,9 @@ use Rattle.certificate_reader.specs.CaseTexts.{arrow_lines, case_lines}
 use Rattle.certificate_reader.specs.Writing.{LineOfWords, lines_at, form_text, value_line, value_lines, share_line, share_lines, range_text, line_if, slot_line}
 use Rattle.certificate_reader.specs.Writing.{slot_lines, filled_lines, known_lines, described_lines, node_line, tree_lines, state_lines, part_lines, numbers_of}
 use Rattle.certificate_reader.specs.Writing.{field_numbers, field_line, queue_line, queue_lines, certificate_lines, value_text, codec_words, element_numbers}
-use Rattle.certificate_reader.specs.Writing.{own_word_text, tagged_line}
+use Rattle.certificate_reader.specs.Writing.{own_word_text, tagged_line, goal_line, lacks_line, rank_lines}
 use Rattle.certificate_reader.specs.Written.{FitsWord, FitsCount, FitsForm, FitsValue, FitsShare, FitsRange, FitsArrow, FitsCases, FitsFilled, FitsState}
-use Rattle.certificate_reader.specs.Written.{FitsPart, FitsField, FitsQueue, FitsCodec, FitsTagged, FitsOwn, CanBeWritten}
+use Rattle.certificate_reader.specs.Written.{FitsGoal, FitsPart, FitsField, FitsQueue, FitsCodec, FitsTagged, FitsOwn, CanBeWritten}
 use Rattle.certificate_reader.proofs.FormsAgain.{form_solid, own_word_solid}
 use Rattle.certificate_reader.proofs.FieldsAgain.{AreFew, are_few}
 use Rattle.certificate_reader.proofs.LinesAgain.{IsSolidLine}
@@ -164,17 +166,32 @@ state_solid queues T words s few few_tagged few_words fits =
     (solid_by_test (codes "word") refl) fits.words in
     let shares = at_solid (FitsShare n) (λ j share. share_line j share ∷ []) (λ j share below fits_share. share_solid n j share (omega arith) below fits_share)
     0 s.known.shares (omega (arith, fits.all_shares, few.queues)) fits.shares in
-    let filled = filled_solid queues 0 s.filled few (omega (arith, fits.few_filled, few.queues)) fits.filled in (
+    let filled = filled_solid queues 0 s.filled few (omega (arith, fits.few_filled, few.queues)) fits.filled in
+    let ranks = if_solid (codes "rank") (map form_text s.ranks) (solid_by_test (codes "rank") refl)
+    (all_map (FitsForm n) Solid form_text (λ f fits_f. form_solid n f (omega (arith, fits.variables)) fits_f) s.ranks fits.ranks) in (
       line_solid (codes "state") (decimal s.known.pc ∷ []) (solid_by_test (codes "state") refl) (word_solid s.known.pc fits.pc, tt),
-      all_append IsSolidLine (described_lines s) (tree_lines (case_lines s.cases))
+      all_append IsSolidLine (described_lines s ++ rank_lines s.ranks) (tree_lines (case_lines s.cases))
+          (all_append IsSolidLine (described_lines s) (rank_lines s.ranks)
           (all_append IsSolidLine (known_lines s.known) (filled_lines 0 s.filled)
           (all_append IsSolidLine _ (share_lines 0 s.known.shares)
           (all_append IsSolidLine _ (value_lines (codes "word") 0 s.known.words)
           (all_append IsSolidLine (line_if (codes "most") (map range_text s.known.ranges)) (value_lines (codes "reg") 0 s.known.registers) most registers) own)
           shares)
           filled)
+          ranks)
           (cases_solid n s.cases small fits.cases),
     )
+
+goal_solid : (g : Goal) → FitsGoal g → IsSolidLine (goal_line g)
+goal_solid (goal.Queue i K) fits =
+    line_solid (codes "goes") (decimal i ∷ decimal K ∷ []) (solid_by_test (codes "goes") refl) (word_solid i fits.0, (count_solid K fits.1, tt))
+goal_solid (goal.Tags i) fits = line_solid (codes "goes") (decimal i ∷ []) (solid_by_test (codes "goes") refl) (word_solid i fits, tt)
+goal_solid (goal.Together K) fits =
+    line_solid (codes "goes") (codes "-" ∷ decimal K ∷ []) (solid_by_test (codes "goes") refl) (solid_by_test (codes "-") refl, (count_solid K fits, tt))
+
+lacks_solid : (queues : List ℕ) → AllByRecursion FitsWord queues → IsSolidLine (lacks_line queues)
+lacks_solid queues fits =
+    line_solid (codes "lacks") (map decimal queues) (solid_by_test (codes "lacks") refl) (all_map FitsWord Solid decimal word_solid queues fits)
 
 part_solid : (queues : List OpenedQueue) (T : ℕ) (p : HartPart) → AreFew queues → T ≤ 16 → FitsPart queues T p → AreSolid (part_lines p)
 part_solid queues T p few few_tagged fits =
@@ -183,10 +200,14 @@ part_solid queues T p few few_tagged fits =
     let numbers : AllByRecursion Solid (map decimal (p.first ∷ p.numbers)) =
     (word_solid p.first fits.first, all_map FitsCount Solid decimal count_solid p.numbers fits.numbers) in
     let opening = line_solid (codes "open") (map decimal (p.first ∷ p.numbers)) (solid_by_test (codes "open") refl) numbers in
-    all_append IsSolidLine ((codes "hart", []) ∷ line_if (codes "own") (map own_word_text p.own) ++ (codes "open", map decimal (p.first ∷ p.numbers)) ∷ [])
-    (flat_map state_lines p.states)
+    let front = (codes "hart", []) ∷ line_if (codes "own") (map own_word_text p.own) ++ (codes "open", map decimal (p.first ∷ p.numbers)) ∷ [] in
+    all_append IsSolidLine (front ++ map goal_line p.goals ++ map lacks_line p.lacking) (flat_map state_lines p.states)
+    (all_append IsSolidLine (front ++ map goal_line p.goals) (map lacks_line p.lacking)
+    (all_append IsSolidLine front (map goal_line p.goals)
     (all_append IsSolidLine ((codes "hart", []) ∷ line_if (codes "own") (map own_word_text p.own)) ((codes "open", map decimal (p.first ∷ p.numbers)) ∷ [])
     (line_solid (codes "hart") [] (solid_by_test (codes "hart") refl) tt, own) (opening, tt))
+    (all_map FitsGoal IsSolidLine goal_line goal_solid p.goals fits.goals))
+    (all_map (AllByRecursion FitsWord) IsSolidLine lacks_line lacks_solid p.lacking fits.lacking))
     (all_flat (FitsState queues T (length p.own)) IsSolidLine state_lines
     (λ s fits_s. state_solid queues T (length p.own) s few few_tagged fits.few_words fits_s) p.states fits.states)
 

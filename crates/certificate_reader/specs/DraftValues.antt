@@ -12,6 +12,8 @@ draft_value d = record {
   own = d.own.items;
   first = d.first;
   numbers = d.numbers.items;
+  goals = d.goals.items;
+  lacking = d.lacking.items;
   states = reverse d.states.items;
   listed = d.listed;
   pc = d.pc;
@@ -20,6 +22,7 @@ draft_value d = record {
   words = d.words.items;
   shares = d.shares.items;
   filled = d.filled.items;
+  ranks = d.ranks.items;
   nodes = reverse d.nodes.items;
   splits = d.splits;
 }

@@ -9,6 +9,7 @@ use Rattle.queue_certificates.specs.Forms.{Form}
 use Rattle.queue_certificates.specs.States.{KnownValue, any, Share, no_share, KnownState}
 use Rattle.queue_certificates.specs.Certificates.{OpenedQueue, HartPart, ListedState, QueueCertificate}
 use Rattle.queue_certificates.specs.Filled.{Filled}
+use Rattle.queue_certificates.specs.declared.goal.Goal.{Goal}
 use Rattle.queue_certificates.specs.declared.own.OwnWord.{OwnWord}
 use Rattle.queue_layouts.specs.declared.tagged.OpenedTagged.{OpenedTagged}
 use Rattle.certificate_reader.specs.declared.faults.CertificateFault.{CertificateFault}
@@ -27,12 +28,14 @@ use Rattle.certificate_reader.specs.FormTexts.{form_of, known_value_in}
 use Rattle.certificate_reader.specs.Lists.{few, one_more, own_words_in, counts_in, ranges_in, forms_in}
 use Rattle.certificate_reader.specs.Fields.{with_field, with_filled}
 use Rattle.certificate_reader.specs.Tags.{with_tagged}
+use Rattle.certificate_reader.specs.Goals.{with_goal, with_lacking}
 use Rattle.certificate_reader.specs.CaseTexts.{cases_of}
 use Rattle.certificate_reader.specs.Stages.{keyword_named, may_end, stage_after}
 
 -- What the lines so far say: the queues, those with indices and those with tags, and the harts whose parts are over; then of the hart at
--- hand its own words, how it opens and its states that are over; then what is known in the state at hand, which fields are right, and its
--- lines of cases. All states are counted, and the splits of the one at hand. The newest of the states and of the lines of cases stands first.
+-- hand its own words, how it opens, what its ranks are for and its states that are over; then what is known in the state at hand, which
+-- fields are right, its ranks, and its lines of cases. All states are counted, and the splits of the one at hand. The newest of the states and
+-- of the lines of cases stands first.
 pub record DraftValue : Type 0 where
   pub stage : Stage
   pub queues : List OpenedQueue
@@ -41,6 +44,8 @@ pub record DraftValue : Type 0 where
   pub own : List OwnWord
   pub first : ℕ
   pub numbers : List ℕ
+  pub goals : List Goal
+  pub lacking : List (List ℕ)
   pub states : List ListedState
   pub listed : ℕ
   pub pc : ℕ
@@ -49,6 +54,7 @@ pub record DraftValue : Type 0 where
   pub words : List KnownValue
   pub shares : List Share
   pub filled : List Filled
+  pub ranks : List Form
   pub nodes : List Node
   pub splits : ℕ
 
@@ -61,6 +67,8 @@ no_draft = record {
   own = [];
   first = 0;
   numbers = [];
+  goals = [];
+  lacking = [];
   states = [];
   listed = 0;
   pc = 0;
@@ -69,6 +77,7 @@ no_draft = record {
   words = [];
   shares = [];
   filled = [];
+  ranks = [];
   nodes = [];
   splits = 0;
 }
@@ -119,8 +128,9 @@ known_taken d = record d { ranges = []; registers = []; words = []; shares = [] 
 abbrev pub state_listed : DraftValue → DraftValue
 state_listed d = record (known_taken d) {
   stage = stage.Opened;
-  states = record { known = known_of d; filled = d.filled; cases = cases_of d.nodes } ∷ d.states;
+  states = record { known = known_of d; ranks = d.ranks; filled = d.filled; cases = cases_of d.nodes } ∷ d.states;
   filled = [];
+  ranks = [];
   nodes = [];
 }
 
@@ -135,9 +145,18 @@ state_closed d = state_closed_at d.stage d
 abbrev pub hart_listed : DraftValue → DraftValue
 hart_listed d = record d {
   stage = stage.Queues;
-  harts = d.harts ++ record { own = d.own; first = d.first; numbers = d.numbers; states = reverse d.states } ∷ [];
+  harts = d.harts ++ record {
+    own = d.own;
+    first = d.first;
+    numbers = d.numbers;
+    goals = d.goals;
+    lacking = d.lacking;
+    states = reverse d.states;
+  } ∷ [];
   own = [];
   numbers = [];
+  goals = [];
+  lacking = [];
   states = [];
 }
 
@@ -168,6 +187,7 @@ with_pc d pc = record d {
   words = replicate (length d.own) any;
   shares = replicate (length d.queues + length d.tagged) no_share;
   filled = [];
+  ranks = [];
   nodes = [];
   splits = 0;
 }
@@ -277,6 +297,12 @@ by_keyword d keyword.Own words = do
 by_keyword d keyword.Open words = do
   opening ← hart_opening words
   Ok (record d { first = opening.0; numbers = opening.1 })
+by_keyword d keyword.Goes words = do
+  goals ← with_goal d.goals words
+  Ok (record d { goals = goals })
+by_keyword d keyword.Lacks words = do
+  lacking ← with_lacking d.lacking words
+  Ok (record d { lacking = lacking })
 by_keyword d keyword.State words = with_state d words
 by_keyword d keyword.Most words = do
   ranges ← ranges_of words
@@ -293,6 +319,9 @@ by_keyword d keyword.Share words = do
 by_keyword d keyword.Filled words = do
   filled ← with_filled d.queues d.filled words
   Ok (record d { filled = filled })
+by_keyword d keyword.Rank words = do
+  ranks ← forms_in (length d.ranges) words
+  Ok (record d { ranks = ranks })
 by_keyword d keyword.Split words = with_split d words
 by_keyword d keyword.Leaf words = do
   leaf ← leaf_of (length d.ranges) words

@@ -4,6 +4,7 @@ pub mod FormTexts
 pub mod Lists
 pub mod Fields
 pub mod Tags
+pub mod Goals
 pub mod CaseTexts
 pub mod Growths
 pub mod Stages

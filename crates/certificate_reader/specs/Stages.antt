@@ -16,6 +16,12 @@ part_keyword name =
     (if bytes_eq name (codes "own") then Some keyword.Own else
     (if bytes_eq name (codes "open") then Some keyword.Open else None))
 
+abbrev pub rank_keyword : List ℕ → Option Keyword
+rank_keyword name =
+    if bytes_eq name (codes "goes") then Some keyword.Goes else
+    (if bytes_eq name (codes "lacks") then Some keyword.Lacks else
+    (if bytes_eq name (codes "rank") then Some keyword.Rank else None))
+
 abbrev pub state_keyword : List ℕ → Option Keyword
 state_keyword name =
     if bytes_eq name (codes "state") then Some keyword.State else
@@ -38,7 +44,8 @@ queue_keyword name =
     (if bytes_eq name (codes "filled") then Some keyword.Filled else None)))
 
 unfoldable pub keyword_named : List ℕ → Option Keyword
-keyword_named name = option_or (option_or (option_or (part_keyword name) (state_keyword name)) (case_keyword name)) (queue_keyword name)
+keyword_named name =
+    option_or (option_or (option_or (option_or (part_keyword name) (state_keyword name)) (case_keyword name)) (queue_keyword name)) (rank_keyword name)
 
 -- ---- how far a text has come
 
@@ -59,6 +66,11 @@ is_hart other = false
 abbrev pub is_owned : Stage → Bool
 is_owned stage.Owned = true
 is_owned other = false
+
+-- how a hart opens has come, and what its ranks are for, and no state of it
+abbrev pub is_opened : Stage → Bool
+is_opened stage.Opened = true
+is_opened other = false
 
 -- a hart's part may end here, and a state begin
 abbrev pub may_end : Stage → Bool
@@ -105,12 +117,15 @@ stage_after s keyword.Tagged = where_it (lists_queues s) stage.Tagged
 stage_after s keyword.Hart = where_it (lists_queues s || may_end s) stage.Hart
 stage_after s keyword.Own = where_it (is_hart s) stage.Owned
 stage_after s keyword.Open = where_it (is_hart s || is_owned s) stage.Opened
+stage_after s keyword.Goes = where_it (is_opened s) stage.Opened
+stage_after s keyword.Lacks = where_it (is_opened s) stage.Opened
 stage_after s keyword.State = where_it (may_end s) stage.State
 stage_after s keyword.Most = where_it (is_state s) stage.Known
 stage_after s keyword.Register = where_it (is_described s) stage.Known
 stage_after s keyword.Word = where_it (is_described s) stage.Known
 stage_after s keyword.Share = where_it (is_described s) stage.Known
 stage_after s keyword.Filled = where_it (is_described s) stage.Known
+stage_after s keyword.Rank = where_it (is_described s) stage.Known
 stage_after s keyword.Split = after_split s
 stage_after s keyword.Leaf = after_leaf s
 stage_after s keyword.To = after_arrow s

@@ -8,6 +8,8 @@ use Rattle.queue_certificates.specs.Forms.{Form}
 use Rattle.queue_certificates.specs.States.{KnownValue, any, linear, index_for, signed_for, ends_as, has_bits, Share, KnownState}
 use Rattle.queue_certificates.specs.Certificates.{OpenedQueue, ListedState, HartPart, QueueCertificate}
 use Rattle.queue_certificates.specs.Filled.{Filled}
+use Rattle.queue_certificates.specs.declared.goal.Goal.{Goal}
+use Rattle.queue_certificates.specs.declared.goal.Goal.TheVariants as goal
 use Rattle.queue_certificates.specs.declared.own.OwnWord.{OwnWord}
 use Rattle.queue_layouts.specs.declared.tagged.Codec.{Codec}
 use Rattle.queue_layouts.specs.declared.tagged.Codec.TheVariants as codec
@@ -144,12 +146,32 @@ node_line (node.To arrow) = (codes "to", decimal arrow.to ∷ map form_text arro
 abbrev pub tree_lines : List Node → List LineOfWords
 tree_lines nodes = map node_line nodes
 
+abbrev pub rank_lines : List Form → List LineOfWords
+rank_lines ranks = line_if (codes "rank") (map form_text ranks)
+
 abbrev pub state_lines : ListedState → List LineOfWords
-state_lines s = (codes "state", decimal s.known.pc ∷ []) ∷ described_lines s ++ tree_lines (case_lines s.cases)
+state_lines s = (codes "state", decimal s.known.pc ∷ []) ∷ described_lines s ++ rank_lines s.ranks ++ tree_lines (case_lines s.cases)
+
+-- what ranks are for: of a queue with indices with how many positions the hart may own while it waits, of one with tags, or of all queues together
+abbrev pub goal_words : Goal → List (List ℕ)
+goal_words (goal.Queue i K) = decimal i ∷ decimal K ∷ []
+goal_words (goal.Tags i) = decimal i ∷ []
+goal_words (goal.Together K) = codes "-" ∷ decimal K ∷ []
+
+abbrev pub goal_line : Goal → LineOfWords
+goal_line g = (codes "goes", goal_words g)
+
+abbrev pub lacks_line : List ℕ → LineOfWords
+lacks_line queues = (codes "lacks", map decimal queues)
+
+abbrev pub front_lines : HartPart → List LineOfWords
+front_lines p = (codes "hart", []) ∷ line_if (codes "own") (map own_word_text p.own) ++ (codes "open", map decimal (p.first ∷ p.numbers)) ∷ []
+
+abbrev pub aim_lines : HartPart → List LineOfWords
+aim_lines p = front_lines p ++ map goal_line p.goals ++ map lacks_line p.lacking
 
 abbrev pub part_lines : HartPart → List LineOfWords
-part_lines p = (codes "hart", []) ∷ line_if (codes "own") (map own_word_text p.own) ++ (codes "open", map decimal (p.first ∷ p.numbers)) ∷ []
-    ++ flat_map state_lines p.states
+part_lines p = aim_lines p ++ flat_map state_lines p.states
 
 -- the numbers of a queue's line
 abbrev pub numbers_of : OpenedQueue → List ℕ

@@ -7,6 +7,8 @@ use Rattle.queue_certificates.specs.States.{KnownValue, any, linear, index_for, 
 use Rattle.queue_certificates.specs.Cases.{Arrow, Cases, leaf, split}
 use Rattle.queue_certificates.specs.Certificates.{OpenedQueue, no_queue, ListedState, HartPart, QueueCertificate}
 use Rattle.queue_certificates.specs.Filled.{Filled}
+use Rattle.queue_certificates.specs.declared.goal.Goal.{Goal}
+use Rattle.queue_certificates.specs.declared.goal.Goal.TheVariants as goal
 use Rattle.queue_certificates.specs.declared.own.OwnWord.{OwnWord}
 use Rattle.queue_layouts.specs.declared.tagged.Codec.{Codec}
 use Rattle.queue_layouts.specs.declared.tagged.Codec.TheVariants as codec
@@ -15,7 +17,7 @@ use Rattle.queue_checker.specs.Trees.{height}
 use Rattle.certificate_reader.specs.Lists.{is_own_width}
 use Rattle.certificate_reader.specs.declared.stages.TheConstants.{MAX_SPLITS}
 use Rattle.certificate_reader.specs.declared.limits.TheConstants.{MAX_QUEUES, MAX_TAGGED, MAX_SLOTS, MAX_FIELDS, MAX_POSITIONS}
-use Rattle.certificate_reader.specs.declared.limits.TheConstants.{MAX_HARTS, MAX_WORDS, MAX_VARIABLES, MAX_STATES}
+use Rattle.certificate_reader.specs.declared.limits.TheConstants.{MAX_GOALS, MAX_HARTS, MAX_WORDS, MAX_VARIABLES, MAX_STATES}
 
 abbrev pub FitsWord : ℕ → Type 0
 FitsWord n = n < 2 ^ 32
@@ -93,6 +95,7 @@ pub record FitsState (queues : List OpenedQueue) (T own : ℕ) (s : ListedState)
   pub filled : FitsFilled queues 0 s.filled
   pub few_filled : length s.filled ≤ length queues
   pub full_filled : EndsFull s.filled
+  pub ranks : AllByRecursion (FitsForm (length s.known.ranges)) s.ranks
   pub cases : FitsCases (length s.known.ranges) s.cases
   pub splits : height s.cases ≤ MAX_SPLITS
 
@@ -101,12 +104,21 @@ pub record FitsOwn (o : OwnWord) : Type 0 where
   pub at : FitsWord o.at
   pub width : is_own_width o.width ≡ true
 
+abbrev pub FitsGoal : Goal → Type 0
+FitsGoal (goal.Queue i K) = FitsWord i × FitsCount K
+FitsGoal (goal.Tags i) = FitsWord i
+FitsGoal (goal.Together K) = FitsCount K
+
 pub record FitsPart (queues : List OpenedQueue) (T : ℕ) (p : HartPart) : Type 0 where
   pub own : AllByRecursion FitsOwn p.own
   pub few_words : length p.own ≤ MAX_WORDS
   pub first : FitsWord p.first
   pub numbers : AllByRecursion FitsCount p.numbers
   pub few_numbers : length p.numbers ≤ MAX_VARIABLES
+  pub goals : AllByRecursion FitsGoal p.goals
+  pub few_goals : length p.goals ≤ MAX_GOALS
+  pub lacking : AllByRecursion (AllByRecursion FitsWord) p.lacking
+  pub few_lacking : length p.lacking ≤ MAX_GOALS
   pub states : AllByRecursion (FitsState queues T (length p.own)) p.states
 
 pub record FitsField (f : Field) : Type 0 where

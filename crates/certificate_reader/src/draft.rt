@@ -13,15 +13,18 @@ ghost use Rattle.certificate_reader.specs.Drafts.{certificate_of, finished};
 use crate::cases::{Node, tree};
 use crate::faults::{BAD, CertificateFault, LineError, MISPLACED, TOO_MANY};
 use crate::fields::{add_field, set_filled};
+use crate::goals::{add_goal, add_lacking};
 use crate::limits::{MAX_HARTS, MAX_STATES, MAX_VARIABLES, MAX_WORDS};
 use crate::lists::{counts, forms, own_words, ranges};
 use crate::numbers::{end, first_count, first_word, only_word};
 use crate::parts::{add_queue, first_form, no_shares, set_share, set_value, unknown};
 use crate::stages::{Keyword, MAX_SPLITS, Stage, keyword_of};
 use crate::tagged::add_tagged;
-use known_values::{KnownValue, OpenedQueue};
-use queue_certificates::OwnWord;
-use queue_checker::{Arrow, Filled, HartPart, KnownState, ListedState, QueueCertificate, Share};
+use known_values::{Form, KnownValue, OpenedQueue};
+use queue_certificates::{Goal, OwnWord};
+use queue_checker::{
+    Arrow, Filled, HartPart, KnownState, Lacked, ListedState, QueueCertificate, Share,
+};
 use queue_layouts::OpenedTagged;
 use std::alloc::{AllocError, Global};
 use std::mem;
@@ -35,20 +38,23 @@ pub struct Draft {
     pub tagged: Vec<OpenedTagged>,
     /// Those whose parts are over.
     pub harts: Vec<HartPart>,
-    /// Of the hart at hand: its own words, how it opens, and its states that are over.
+    /// Of the hart at hand: its own words, how it opens, what its ranks are for, and its states that are over.
     pub own: Vec<OwnWord>,
     pub first: u32,
     pub numbers: Vec<u64>,
+    pub goals: Vec<Goal>,
+    pub lacking: Vec<Lacked>,
     pub states: Vec<ListedState>,
     /// All states.
     pub listed: usize,
-    /// What is known in the state at hand, which fields are right, its lines of cases, and how many of these are splits.
+    /// What is known in the state at hand, which fields are right, its ranks, its lines of cases, and how many of these are splits.
     pub pc: u32,
     pub ranges: Vec<Option<u64>>,
     pub registers: Vec<KnownValue>,
     pub words: Vec<KnownValue>,
     pub shares: Vec<Share>,
     pub filled: Vec<Filled>,
+    pub ranks: Vec<Form>,
     pub nodes: Vec<Node>,
     pub splits: usize,
 }
@@ -81,6 +87,8 @@ impl Draft {
             own: Vec::new(alloc),
             first: 0,
             numbers: Vec::new(alloc),
+            goals: Vec::new(alloc),
+            lacking: Vec::new(alloc),
             states: Vec::new(alloc),
             listed: 0,
             pc: 0,
@@ -89,6 +97,7 @@ impl Draft {
             words: Vec::new(alloc),
             shares: Vec::new(alloc),
             filled: Vec::new(alloc),
+            ranks: Vec::new(alloc),
             nodes: Vec::new(alloc),
             splits: 0,
         }
@@ -116,8 +125,10 @@ impl Draft {
         let cases = tree(alloc, nodes)?;
         let known = self.take_known(alloc);
         let filled = mem::replace(&mut self.filled, Vec::new(alloc));
+        let ranks = mem::replace(&mut self.ranks, Vec::new(alloc));
         self.states.push(ListedState {
             known,
+            ranks,
             filled,
             cases,
         })?;
@@ -144,6 +155,8 @@ impl Draft {
             own: mem::replace(&mut self.own, Vec::new(alloc)),
             first: self.first,
             numbers: mem::replace(&mut self.numbers, Vec::new(alloc)),
+            goals: mem::replace(&mut self.goals, Vec::new(alloc)),
+            lacking: mem::replace(&mut self.lacking, Vec::new(alloc)),
             states: mem::replace(&mut self.states, Vec::new(alloc)),
         };
         self.harts.push(part)?;
@@ -185,6 +198,7 @@ impl Draft {
         self.shares = no_shares(alloc, self.queues.len() + self.tagged.len())?;
         self.ranges = Vec::new(alloc);
         self.filled = Vec::new(alloc);
+        self.ranks = Vec::new(alloc);
         self.nodes = Vec::new(alloc);
         self.splits = 0;
         self.listed += 1;
@@ -301,6 +315,13 @@ impl Draft {
         Ok(())
     }
 
+    fn set_ranks(&mut self, alloc: Global, rest: &[u8]) -> Result<(), LineError>
+        ensures { GivesUpToMemory refusal_of (λ x. draft_value self.new) result (by_keyword (draft_value self.old) keyword.Rank (tokens rest.now)) }
+    {
+        self.ranks = forms(alloc, self.ranges.len(), rest)?;
+        Ok(())
+    }
+
     /// Takes what follows the first word of a line.
     fn follow(&mut self, alloc: Global, keyword: Keyword, rest: &[u8]) -> Result<(), LineError>
         ensures { GivesUpToMemory refusal_of (λ x. draft_value self.new) result (by_keyword (draft_value self.old) keyword (tokens rest.now)) }
@@ -312,12 +333,15 @@ impl Draft {
             Keyword::Hart => self.begin_hart(alloc, rest),
             Keyword::Own => self.set_own(alloc, rest),
             Keyword::Open => self.set_opening(alloc, rest),
+            Keyword::Goes => add_goal(&mut self.goals, rest),
+            Keyword::Lacks => add_lacking(alloc, &mut self.lacking, rest),
             Keyword::State => self.begin_state(alloc, rest),
             Keyword::Most => self.set_ranges(alloc, rest),
             Keyword::Register => self.set_register(alloc, rest),
             Keyword::Word => self.set_word(alloc, rest),
             Keyword::Share => set_share(alloc, self.ranges.len(), &mut self.shares, rest),
             Keyword::Filled => set_filled(alloc, &self.queues, &mut self.filled, rest),
+            Keyword::Rank => self.set_ranks(alloc, rest),
             Keyword::Split => self.add_split(rest),
             Keyword::Leaf => self.add_leaf(alloc, rest),
             Keyword::To => self.add_arrow(alloc, rest),

@@ -20,6 +20,7 @@ pub mod faults;
 mod fields;
 mod form_texts;
 mod forms;
+mod goals;
 mod known;
 mod known_texts;
 pub mod laws;

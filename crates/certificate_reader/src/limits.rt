@@ -24,5 +24,8 @@ pub const MAX_WORDS: usize = 64;
 /// The most variables of a state.
 pub const MAX_VARIABLES: usize = 64;
 
+/// The most goals of a hart, and the most sets of queues that it may lack.
+pub const MAX_GOALS: usize = 64;
+
 /// The most states of all harts.
 pub const MAX_STATES: usize = 16_384;

@@ -1,8 +1,8 @@
 //! What a line begins with, and which lines may come.
 
 ghost use Rattle.std.specs.Prelude.{◌≡◌};
-ghost use Rattle.certificate_reader.specs.Stages.{part_keyword, state_keyword, case_keyword, queue_keyword, keyword_named};
-ghost use Rattle.certificate_reader.specs.Stages.{is_queues, lists_queues, is_hart, is_owned, may_end};
+ghost use Rattle.certificate_reader.specs.Stages.{part_keyword, rank_keyword, state_keyword, case_keyword, queue_keyword, keyword_named};
+ghost use Rattle.certificate_reader.specs.Stages.{is_queues, lists_queues, is_hart, is_owned, is_opened, may_end};
 ghost use Rattle.certificate_reader.specs.Stages.{is_state, is_described, wanted, after_split, after_leaf, after_arrow, stage_after};
 ghost use Rattle.certificate_reader.specs.Drafts.{unfinished};
 
@@ -20,12 +20,15 @@ pub enum Keyword {
     Hart,
     Own,
     Open,
+    Goes,
+    Lacks,
     State,
     Most,
     Register,
     Word,
     Share,
     Filled,
+    Rank,
     Split,
     Leaf,
     To,
@@ -44,7 +47,7 @@ pub enum Stage {
     Hart,
     /// The hart's own words.
     Owned,
-    /// How the hart opens, and no state of it.
+    /// How the hart opens and what its ranks are for, and no state of it.
     Opened,
     /// `state`.
     State,
@@ -63,6 +66,17 @@ fn part_keyword(word: &[u8]) -> Option<Keyword>
         b"hart" => Some(Keyword::Hart),
         b"own" => Some(Keyword::Own),
         b"open" => Some(Keyword::Open),
+        _ => None,
+    }
+}
+
+fn rank_keyword(word: &[u8]) -> Option<Keyword>
+    ensures { result ≡ rank_keyword word.now }
+{
+    match word {
+        b"goes" => Some(Keyword::Goes),
+        b"lacks" => Some(Keyword::Lacks),
+        b"rank" => Some(Keyword::Rank),
         _ => None,
     }
 }
@@ -115,6 +129,7 @@ pub fn keyword_of(word: &[u8]) -> Option<Keyword>
         .or_else(|| state_keyword(word))
         .or_else(|| case_keyword(word))
         .or_else(|| queue_keyword(word))
+        .or_else(|| rank_keyword(word))
 }
 
 impl Stage {
@@ -141,6 +156,12 @@ impl Stage {
         ensures { result ≡ is_owned self }
     {
         matches!(self, Stage::Owned)
+    }
+
+    fn is_opened(self) -> bool
+        ensures { result ≡ is_opened self }
+    {
+        matches!(self, Stage::Opened)
     }
 
     /// Whether a hart's part may end here, and a state begin.
@@ -228,11 +249,11 @@ impl Stage {
             Keyword::Hart => (self.lists_queues() || self.may_end()).then_some(Stage::Hart),
             Keyword::Own => self.is_hart().then_some(Stage::Owned),
             Keyword::Open => (self.is_hart() || self.is_owned()).then_some(Stage::Opened),
+            Keyword::Goes | Keyword::Lacks => self.is_opened().then_some(Stage::Opened),
             Keyword::State => self.may_end().then_some(Stage::State),
             Keyword::Most => self.is_state().then_some(Stage::Known),
-            Keyword::Register | Keyword::Word | Keyword::Share | Keyword::Filled => {
-                self.is_described().then_some(Stage::Known)
-            }
+            Keyword::Register | Keyword::Word | Keyword::Share | Keyword::Filled | Keyword::Rank =>
+                { self.is_described().then_some(Stage::Known) }
             Keyword::Split => self.after_split(),
             Keyword::Leaf => self.after_leaf(),
             Keyword::To => self.after_arrow(),

@@ -9,13 +9,14 @@ ghost use Rattle.certificate_reader.specs.declared.cases.Node.TheVariants as nod
 ghost use Rattle.certificate_reader.specs.Reading.{certificate_at};
 ghost use Rattle.certificate_reader.specs.Written.{CanBeWritten};
 ghost use Rattle.certificate_reader.specs.Writing.{lines_text, line_if, form_text, own_word_text, node_line, tree_lines, state_lines, part_lines};
-ghost use Rattle.certificate_reader.specs.Writing.{queue_line, field_line, queue_lines, spaced, codec_words, telling_line, tagged_line, certificate_text};
+ghost use Rattle.certificate_reader.specs.Writing.{aim_lines, described_lines, front_lines, goal_line, goal_words, lacks_line, rank_lines, queue_line};
+ghost use Rattle.certificate_reader.specs.Writing.{field_line, queue_lines, spaced, codec_words, telling_line, tagged_line, certificate_text};
 
 use crate::form_texts::{push_form, push_forms, push_numbers, push_own_words};
 use crate::known_texts::push_described;
 use known_values::{Field, Form, OpenedQueue};
-use queue_certificates::OwnWord;
-use queue_checker::{Arrow, CaseNode, Cases, HartPart, ListedState, QueueCertificate};
+use queue_certificates::{Goal, OwnWord};
+use queue_checker::{Arrow, CaseNode, Cases, HartPart, Lacked, ListedState, QueueCertificate};
 use queue_layouts::{Codec, OpenedTagged};
 use std::alloc::{AllocError, Global};
 use texts::push_decimal;
@@ -72,12 +73,34 @@ fn push_cases(out: &mut String, cases: &Cases) -> Result<(), AllocError>
     }
 }
 
-/// Appends the lines of a state: its pc, what is known and which fields are right, and its cases.
+/// Appends the line of a state's ranks, if it has any.
+fn push_ranks(out: &mut String, ranks: &[Form]) -> Result<(), AllocError>
+    ensures { OnOk result (string_bytes out.new ≡ string_bytes out.old ++ lines_text [] (rank_lines ranks.now)) }
+{
+    match ranks {
+        [] => Ok(()),
+        [_, ..] => {
+            out.push_str("rank")?;
+            push_forms(out, ranks)?;
+            out.push_str("\n")
+        }
+    }
+}
+
+/// Appends what is known in a state and which fields are right, and its ranks.
+fn push_said(out: &mut String, state: &ListedState) -> Result<(), AllocError>
+    ensures { OnOk result (string_bytes out.new ≡ string_bytes out.old ++ lines_text [] (described_lines state.now ++ rank_lines state.now.ranks)) }
+{
+    push_described(out, "", state)?;
+    push_ranks(out, &state.ranks)
+}
+
+/// Appends the lines of a state: its pc, what is known and which fields are right, its ranks, and its cases.
 pub fn push_state(out: &mut String, state: &ListedState) -> Result<(), AllocError>
     ensures { OnOk result (string_bytes out.new ≡ string_bytes out.old ++ lines_text [] (state_lines state.now)) }
 {
     push_line(out, "state", &[u64::from(state.known.pc)])?;
-    push_described(out, "", state)?;
+    push_said(out, state)?;
     push_cases(out, &state.cases)
 }
 
@@ -105,13 +128,88 @@ fn push_opening(out: &mut String, first: u32, numbers: &[u64]) -> Result<(), All
     out.push_str("\n")
 }
 
+/// Appends what ranks are for, each word after a space.
+fn push_goal_words(out: &mut String, goal: Goal) -> Result<(), AllocError>
+    ensures { OnOk result (string_bytes out.new ≡ string_bytes out.old ++ spaced (goal_words goal)) }
+{
+    match goal {
+        Goal::Queue(queue, owned) => push_numbers(out, &[u64::from(queue), owned]),
+        Goal::Tags(queue) => push_numbers(out, &[u64::from(queue)]),
+        Goal::Together(owned) => {
+            out.push_str(" -")?;
+            push_numbers(out, &[owned])
+        }
+    }
+}
+
+fn push_goal(out: &mut String, goal: Goal) -> Result<(), AllocError>
+    ensures { OnOk result (string_bytes out.new ≡ string_bytes out.old ++ lines_text [] (goal_line goal ∷ [])) }
+{
+    out.push_str("goes")?;
+    push_goal_words(out, goal)?;
+    out.push_str("\n")
+}
+
+fn push_goals(out: &mut String, goals: &[Goal]) -> Result<(), AllocError>
+    ensures { OnOk result (string_bytes out.new ≡ string_bytes out.old ++ lines_text [] (map goal_line goals.now)) }
+{
+    for goal in goals {
+        push_goal(out, *goal)?;
+    }
+    Ok(())
+}
+
+/// Appends numbers, each after a space.
+fn push_words(out: &mut String, numbers: &[u32]) -> Result<(), AllocError>
+    ensures { OnOk result (string_bytes out.new ≡ string_bytes out.old ++ spaced (map decimal numbers.now)) }
+{
+    for number in numbers {
+        out.push_str(" ")?;
+        push_decimal(out, u64::from(*number))?;
+    }
+    Ok(())
+}
+
+fn push_lacks(out: &mut String, queues: &[u32]) -> Result<(), AllocError>
+    ensures { OnOk result (string_bytes out.new ≡ string_bytes out.old ++ lines_text [] (lacks_line queues.now ∷ [])) }
+{
+    out.push_str("lacks")?;
+    push_words(out, queues)?;
+    out.push_str("\n")
+}
+
+fn push_lacking(out: &mut String, lacking: &[Lacked]) -> Result<(), AllocError>
+    ensures { OnOk result (string_bytes out.new ≡ string_bytes out.old ++ lines_text [] (map lacks_line lacking.now)) }
+{
+    for lacks in lacking {
+        push_lacks(out, &lacks.queues)?;
+    }
+    Ok(())
+}
+
+/// Appends the hart's own words and how it opens.
+fn push_front(out: &mut String, part: &HartPart) -> Result<(), AllocError>
+    ensures { OnOk result (string_bytes out.new ≡ string_bytes out.old ++ lines_text [] (front_lines part.now)) }
+{
+    out.push_str("hart\n")?;
+    push_own(out, &part.own)?;
+    push_opening(out, part.first, &part.numbers)
+}
+
+/// Appends these, and what its ranks are for.
+fn push_aims(out: &mut String, part: &HartPart) -> Result<(), AllocError>
+    ensures { OnOk result (string_bytes out.new ≡ string_bytes out.old ++ lines_text [] (aim_lines part.now)) }
+{
+    push_front(out, part)?;
+    push_goals(out, &part.goals)?;
+    push_lacking(out, &part.lacking)
+}
+
 /// Appends a hart's part.
 fn push_part(out: &mut String, part: &HartPart) -> Result<(), AllocError>
     ensures { OnOk result (string_bytes out.new ≡ string_bytes out.old ++ lines_text [] (part_lines part.now)) }
 {
-    out.push_str("hart\n")?;
-    push_own(out, &part.own)?;
-    push_opening(out, part.first, &part.numbers)?;
+    push_aims(out, part)?;
     for state in &part.states {
         push_state(out, state)?;
     }

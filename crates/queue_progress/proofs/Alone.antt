@@ -13,12 +13,12 @@ use Rattle.step_machine.specs.declared.events.Event.TheVariants as event
 use Rattle.step_machine.specs.declared.events.Outcome.TheVariants as outcome
 use Rattle.step_machine.specs.declared.events.Entry.{Entry}
 use Rattle.step_machine.specs.declared.events.Entry.TheVariants as entry
-use Rattle.step_machine.specs.Names.{OpeningValue, history_of, with_entry, Access, land, access_of, hart_of, is_land, is_own, stored_by, landed_by, pending}
+use Rattle.step_machine.specs.Names.{OpeningValue, history_of, with_entry, access_of, hart_of, is_land, is_own, stored_by, landed_by, pending}
 use Rattle.step_machine.specs.Names.{WellFormed, Allowed}
 use Rattle.step_machine.specs.Paths.{entry_of}
 use Rattle.step_machine.proofs.Acts.{HasToWait, decide, does, land_happens}
 use Rattle.step_machine.proofs.{kept-happens, kept-front, pending-other, pending-land}
-use Rattle.store_buffers.proofs.Effects.{stored_none}
+use Rattle.store_buffers.proofs.Effects.{stored_none, landed_none}
 use Rattle.store_buffers.proofs.OwnEntries.{own_is}
 use Rattle.queue_progress.specs.Rows.{executed, RunsOrEnds, HasEnded, Comes}
 
@@ -39,15 +39,11 @@ pub record Alone (B M : ℕ) (o : OpeningValue) (h n : ℕ) (es : List Entry) : 
   pub many : executed h entries ≡ n
 
 -- what is pending of another hart stays so
-unlanded : (y : Access) → landed_by false y ≡ 0
-unlanded land = refl
-unlanded y = refl
-
 still-empty-one : (B M : ℕ) (o : OpeningValue) (g : ℕ) (es : List Entry) (e : Entry) → WellFormed B M (history_of o es) → hart_of e ≢ g → pending g es ≡ []
     → pending g (es ++ e ∷ []) ≡ []
 still-empty-one B M o g es e run apart none = pending-other B (history_of o es) g e run.legal
     (ap (λ t. stored_by t (access_of e)) (ne_eqb (hart_of e) g apart) ∙ stored_none (access_of e))
-    (ap (λ t. landed_by t (access_of e)) (ne_eqb (hart_of e) g apart) ∙ unlanded (access_of e)) ∙ none
+    (ap (λ t. landed_by t (access_of e)) (ne_eqb (hart_of e) g apart) ∙ landed_none (access_of e)) ∙ none
 
 pub still-empty : (B M : ℕ) (o : OpeningValue) (h g : ℕ) (es fs : List Entry) → WellFormed B M (history_of o (es ++ fs)) → All (λ e. hart_of e ≡ h) fs
     → h ≢ g → pending g es ≡ [] → pending g (es ++ fs) ≡ []

@@ -1,7 +1,7 @@
 -- From every run on something more is published or taken, or a hart has ended: all lands, and then the one party and the other execute enough
 -- instructions alone.
 use Rattle.std.proofs.Common.{ℕ, suc, ◌+◌, ◌<◌, ◌≤◌, ◌≡◌, ◌≢◌, inl, inr, List, [], ◌++◌, length, true, sym, ◌∙◌, ap, subst, arith, append_assoc}
-use Rattle.std.specs.Prelude.{All, option_map, Some, false}
+use Rattle.std.specs.Prelude.{All, Bool, option_map, Some, false}
 use Rattle.std.proofs.lemmas.List.Elements.{All-nil}
 use Rattle.memory.specs.declared.writes.Write.{Write}
 use Rattle.hart.specs.State.{HartState}
@@ -15,8 +15,8 @@ use Rattle.slot_queue.proofs.{Side, sides-of, memory_at}
 use Rattle.slots_that_tell.specs.{is_tag, teller_hart}
 use Rattle.queue_certificates.specs.Certificates.{QueueCertificate, queue_at, tagged_at, start_at, accepts}
 use Rattle.queue_certificates.proofs.{tagged-fine, fine, fine-tagged, accepted_runs}
-use Rattle.queue_progress.specs.{Pace, executed, counts_at, HaveLanded, Lasts, RunsOrEnds, HasEnded, Comes, MovesOn, MovesOnOrEnds, moved_at, Arrives}
-use Rattle.queue_progress.specs.{ArrivesOrEnds, keeps_going, slots_at, teller_at, told_counts_at, told_within, told_moved_at, ToldArrives, ToldArrivesOrEnds}
+use Rattle.queue_progress.specs.{Pace, executed, counts_at, HaveLanded, Lasts, KeepsRunning, RunsOrEnds, HasEnded, Comes, MovesOn, MovesOnOrEnds, moved_at}
+use Rattle.queue_progress.specs.{Arrives, keeps_going, slots_at, teller_at, told_counts_at, told_within, told_moved_at}
 use Rattle.queue_progress.proofs.Moved.{all-grow}
 use Rattle.queue_progress.proofs.Alone.{executed-append, before, still-empty, landing, acting-on}
 use Rattle.queue_progress.proofs.Standing.{grown, stands}
@@ -83,6 +83,11 @@ module _ (B M : ℕ) (o : OpeningValue) (g h : ℕ) (apart : g ≢ h) (moved : L
         by later on (inr (inl ended)) = absurd (not-ended g one_lasts (es ++ later) on ended)
         by later on (inr (inr ended)) = absurd (not-ended h other_lasts (es ++ later) on ended)
 
+  pub on-from : (always : Bool) → KeepsRunning always B M o g → KeepsRunning always B M o h → (es : List Entry) → WellFormed B M (history_of o es)
+      → Arrives always B M o g h moved es
+  on-from true one other = moving one other
+  on-from false one other = moving-on one other
+
 module _ (B M : ℕ) (o : OpeningValue) (c : QueueCertificate) (ok : accepts o c ≡ true) where
   -- ---- a queue with indices
 
@@ -116,14 +121,10 @@ module _ (B M : ℕ) (o : OpeningValue) (c : QueueCertificate) (ok : accepts o c
           by the_sender = empty
           by the_receiver = also
 
-      pub arrives : 1 ≤ B → Lasts B M o (queue_at c i).sender → Lasts B M o (queue_at c i).receiver → (es : List Entry) → WellFormed B M (history_of o es)
-          → Arrives B M o c i es
-      arrives = moving B M o (queue_at c i).sender (queue_at c i).receiver parties-apart (moved_at c i) moves-grow
-          (its.pace + its.sight + 2) (theirs.pace + theirs.sight + 2) stood
-
-      pub arrives_or_ends : 1 ≤ B → RunsOrEnds B M o (queue_at c i).sender → RunsOrEnds B M o (queue_at c i).receiver → (es : List Entry)
-          → WellFormed B M (history_of o es) → ArrivesOrEnds B M o c i es
-      arrives_or_ends = moving-on B M o (queue_at c i).sender (queue_at c i).receiver parties-apart (moved_at c i) moves-grow
+      pub arrives : 1 ≤ B → (always : Bool) → KeepsRunning always B M o (queue_at c i).sender
+          → KeepsRunning always B M o (queue_at c i).receiver → (es : List Entry)
+          → WellFormed B M (history_of o es) → Arrives always B M o (queue_at c i).sender (queue_at c i).receiver (moved_at c i) es
+      arrives = on-from B M o (queue_at c i).sender (queue_at c i).receiver parties-apart (moved_at c i) moves-grow
           (its.pace + its.sight + 2) (theirs.pace + theirs.sight + 2) stood
 
   -- ---- a queue with tags
@@ -151,12 +152,8 @@ module _ (B M : ℕ) (o : OpeningValue) (c : QueueCertificate) (ok : accepts o c
           by the_sender = off (pending (teller_at c t the_sender) es) empty
           by the_receiver = off (pending (teller_at c t the_receiver) es) also
 
-      pub told_arrives : 1 ≤ B → Lasts B M o (teller_at c t the_sender) → Lasts B M o (teller_at c t the_receiver) → (es : List Entry)
-          → WellFormed B M (history_of o es) → ToldArrives B M o c t es
-      told_arrives = moving B M o (teller_at c t the_sender) (teller_at c t the_receiver) tellers-apart (told_moved_at c t) told-grow
-          (suc S) (suc R) told-stood
-
-      pub told_arrives_or_ends : 1 ≤ B → RunsOrEnds B M o (teller_at c t the_sender) → RunsOrEnds B M o (teller_at c t the_receiver) → (es : List Entry)
-          → WellFormed B M (history_of o es) → ToldArrivesOrEnds B M o c t es
-      told_arrives_or_ends = moving-on B M o (teller_at c t the_sender) (teller_at c t the_receiver) tellers-apart (told_moved_at c t) told-grow
+      pub told_arrives : 1 ≤ B → (always : Bool) → KeepsRunning always B M o (teller_at c t the_sender) → KeepsRunning always B M o (teller_at c t the_receiver)
+          → (es : List Entry) → WellFormed B M (history_of o es)
+          → Arrives always B M o (teller_at c t the_sender) (teller_at c t the_receiver) (told_moved_at c t) es
+      told_arrives = on-from B M o (teller_at c t the_sender) (teller_at c t the_receiver) tellers-apart (told_moved_at c t) told-grow
           (suc S) (suc R) told-stood

@@ -1,7 +1,7 @@
 -- A row of instructions that are stuck is short: until the first look they are blind, and after it they are idle.
 use Rattle.std.proofs.Common.{ℕ, ◌+◌, ◌<◌, ◌≤◌, ◌≡◌, ◌≢◌, ◌==◌, ◌&&◌, ◌⊎◌, inl, inr, if◌then◌else◌, Bool, true, false, Some, List, [], ◌∷◌, ◌++◌, length, refl}
 use Rattle.std.proofs.Common.{sym, ◌∙◌, ap, subst, arith, append_assoc}
-use Rattle.std.proofs.lemmas.Bool.{and_parts, eqb-true, cases_eq, not-false}
+use Rattle.std.proofs.lemmas.Bool.{and_parts, eqb-true, cases_eq, or_cases}
 use Rattle.step_machine.specs.declared.events.Entry.{Entry}
 use Rattle.step_machine.specs.Names.{OpeningValue, history_of, Access, nothing, load, store, exchange, fence, land, access_of, hart_of, is_own, WellFormed}
 use Rattle.step_machine.proofs.OwnRuns.{kept-front}
@@ -11,14 +11,15 @@ use Rattle.queue_parties.proofs.Parties.{counts-append}
 use Rattle.certified_runs.specs.TwoParties.{IsSameFor}
 use Rattle.certified_runs.proofs.TwoParties.{left-same}
 use Rattle.slot_queue.specs.{Queue, IsQueue, least_count, hart, party_of, index, end, after_load, after_access, counts_next, moved}
-use Rattle.queue_certificates.specs.{owning, QueueCertificate, queue_at, start_at, accepts, fits_in, instruction_at}
+use Rattle.queue_certificates.specs.{owning, Form, QueueCertificate, queue_at, start_at, accepts, fits_in, instruction_at}
 use Rattle.queue_certificates.proofs.Counted.{is_of_parties}
 use Rattle.queue_certificates.proofs.{hart-party, fine}
-use Rattle.queue_progress.specs.{Pace, executed, counts_at, IsIdleStep, LooksBy, IsBlindStep, IsStuckStep, EachOwn, EachAfter, keeps_pace, keeps_looking}
-use Rattle.queue_progress.specs.{keeps_going, may_own_more, looks_away, code_of, moves, most_owned, looks}
+use Rattle.queue_progress.specs.{Pace, executed, counts_at, IsIdleStep, LooksBy, IsBlindStep, IsStuckAt, IsStuckStep, EachOwn, EachAfter, keeps_pace}
+use Rattle.queue_progress.specs.{keeps_looking}
+use Rattle.queue_progress.specs.{idle_ranks, blind_ranks, keeps_going, code_of, moves, most_owned, looks, not_idle, not_blind, never_cut}
 use Rattle.queue_progress.proofs.Alone.{executed-append}
 use Rattle.queue_progress.proofs.Leaves.{moves-on, owns-few, looks-so}
-use Rattle.queue_progress.proofs.Bounded.{uncut, bounded}
+use Rattle.queue_progress.proofs.Falling.{bounded}
 
 module _ (q : Queue) (is : IsQueue q) (p : Party) where
   abbrev h : ℕ
@@ -163,7 +164,7 @@ module _ (B M : ℕ) (o : OpeningValue) (c : QueueCertificate) (ok : accepts o c
 
   -- ---- idle instructions, and blind ones: no more in a row than the party's graph has
 
-  each-after : (Is : QueueCounts → Entry → Type 0) (row done : List Entry) → EachOwn (queue_at c i) p Is (counts_at c i done) row
+  pub each-after : (Is : QueueCounts → Entry → Type 0) (row done : List Entry) → EachOwn (queue_at c i) p Is (counts_at c i done) row
       → EachAfter g (λ es e. Is (counts_at c i es) e) done row
   each-after Is [] done each = tt
   each-after Is (e ∷ row) done each = (
@@ -172,42 +173,51 @@ module _ (B M : ℕ) (o : OpeningValue) (c : QueueCertificate) (ok : accepts o c
         (subst (λ d. EachOwn (queue_at c i) p Is d row) (sym (counts-append (counts_next (queue_at c i)) (all_at (start_at c i)) done (e ∷ []))) each.1),
   )
 
-  pub pace : (K N : ℕ) → keeps_pace o c g i K N ≡ true → (es row : List Entry) → WellFormed B M (history_of o (es ++ row))
+  own-each : (Is : QueueCounts → Entry → Type 0) (row done : List Entry) → EachAfter g (λ es e. Is (counts_at c i es) e) done row
+      → EachOwn (queue_at c i) p Is (counts_at c i done) row
+  own-each Is [] done each = tt
+  own-each Is (e ∷ row) done each = (
+    each.0,
+    subst (λ d. EachOwn (queue_at c i) p Is d row) (counts-append (counts_next (queue_at c i)) (all_at (start_at c i)) done (e ∷ []))
+        (own-each Is row (done ++ e ∷ []) each.1),
+  )
+
+  pub pace : (K : ℕ) (ranks : List Form) (N : ℕ) → keeps_pace o c g i K ranks N ≡ true → (es row : List Entry) → WellFormed B M (history_of o (es ++ row))
       → EachOwn (queue_at c i) p (IsIdleStep (queue_at c i) p K) (counts_at c i es) row → executed g row ≤ N
-  pace K N shown es row run each = bounded B M o c ok g (moves c g (code_of o g) i) (most_owned i)
-      (λ k. looks c g i k (instruction_at (code_of o g) k.pc)) uncut (may_own_more K) (λ done e. IsIdleStep (queue_at c i) p K (counts_at c i done) e)
-      (λ xs k d s done e at other idle. elim other [
+  pace K ranks N shown es row run each = bounded B M o c ok g (not_idle o c g i K) never_cut (λ done e. IsIdleStep (queue_at c i) p K (counts_at c i done) e)
+      (λ xs k d s done e at other idle. elim (or_cases (moves c g (code_of o g) i k d) (fits_in (most_owned i k) (Some K)) other) [
         | inl goes ↦ moves-on B M o c ok g i less p refl xs k d s done e at goes idle.stays
         | inr few ↦ (let no : end (queue_at c i) p (counts_at c i done) ≤ count p (counts_at c i done) + K =
-            owns-few B M o c ok g i less p refl xs k d s done e at K (not-false (fits_in (most_owned i k) (Some K)) few.1) in
+            owns-few B M o c ok g i less p refl xs k d s done e at K few in
             let owns : count p (counts_at c i done) + K < end (queue_at c i) p (counts_at c i done) = idle.owns in omega (arith, no, owns))
       ])
-      (λ xs k d s done e at none idle. absurd (cc)) N shown es row run (each-after (IsIdleStep (queue_at c i) p K) row es each)
+      (λ xs k d s done e at none idle. absurd (cc)) ranks N shown es row run (each-after (IsIdleStep (queue_at c i) p K) row es each)
 
-  pub looking : (L : ℕ) → keeps_looking o c g i L ≡ true → (es row : List Entry) → WellFormed B M (history_of o (es ++ row))
+  pub looking : (ranks : List Form) (L : ℕ) → keeps_looking o c g i ranks L ≡ true → (es row : List Entry) → WellFormed B M (history_of o (es ++ row))
       → EachOwn (queue_at c i) p (IsBlindStep (queue_at c i) p) (counts_at c i es) row → executed g row ≤ L
-  looking L shown es row run each = bounded B M o c ok g (moves c g (code_of o g) i) (most_owned i)
-      (λ k. looks c g i k (instruction_at (code_of o g) k.pc)) uncut looks_away (λ done e. IsBlindStep (queue_at c i) p (counts_at c i done) e)
-      (λ xs k d s done e at other blind. elim other [
+  looking ranks L shown es row run each = bounded B M o c ok g (not_blind o c g i) never_cut (λ done e. IsBlindStep (queue_at c i) p (counts_at c i done) e)
+      (λ xs k d s done e at other blind. elim (or_cases (moves c g (code_of o g) i k d) (looks c g i k (instruction_at (code_of o g) k.pc)) other) [
         | inl goes ↦ moves-on B M o c ok g i less p refl xs k d s done e at goes blind.stays
-        | inr sees ↦ blind.unseen (looks-so B M o c ok g i less p refl xs k d s done e at
-            (not-false (looks c g i k (instruction_at (code_of o g) k.pc)) sees.1))
+        | inr sees ↦ blind.unseen (looks-so B M o c ok g i less p refl xs k d s done e at sees)
       ])
-      (λ xs k d s done e at none blind. absurd (cc)) L shown es row run (each-after (IsBlindStep (queue_at c i) p) row es each)
+      (λ xs k d s done e at none blind. absurd (cc)) ranks L shown es row run (each-after (IsBlindStep (queue_at c i) p) row es each)
 
   -- ---- stuck ones
 
-  pub going : (b : Pace) → keeps_going o c g i b ≡ true → (es row : List Entry) → WellFormed B M (history_of o (es ++ row))
-      → EachOwn (queue_at c i) p (IsStuckStep (queue_at c i) p b.owned) (counts_at c i es) row → executed g row ≤ b.pace + b.sight + 1
-  going b shown es row run each = by (split (queue_at c i) (fine M o c ok i less).0 p b.owned row (counts_at c i es) each)
+  -- where idle ones and blind ones have a bound
+  pub going_of : (K N L : ℕ)
+      → ((es row : List Entry) → WellFormed B M (history_of o (es ++ row))
+      → EachOwn (queue_at c i) p (IsIdleStep (queue_at c i) p K) (counts_at c i es) row → executed g row ≤ N)
+      → ((es row : List Entry) → WellFormed B M (history_of o (es ++ row))
+      → EachOwn (queue_at c i) p (IsBlindStep (queue_at c i) p) (counts_at c i es) row → executed g row ≤ L)
+      → (es row : List Entry) → WellFormed B M (history_of o (es ++ row))
+      → EachOwn (queue_at c i) p (IsStuckStep (queue_at c i) p K) (counts_at c i es) row → executed g row ≤ N + L + 1
+  going_of K N L idle unseen es row run each = by (split (queue_at c i) (fine M o c ok i less).0 p K row (counts_at c i es) each)
     where
-      both : (keeps_pace o c g i b.owned b.pace ≡ true) × (keeps_looking o c g i b.sight ≡ true)
-      both = and_parts (keeps_pace o c g i b.owned b.pace) (keeps_looking o c g i b.sight) shown
-
       by : EachOwn (queue_at c i) p (IsBlindStep (queue_at c i) p) (counts_at c i es) row
-          ⊎ Split (queue_at c i) (fine M o c ok i less).0 p b.owned (counts_at c i es) row
-          → executed g row ≤ b.pace + b.sight + 1
-      by (inl blind) = let few : executed g row ≤ b.sight = looking b.sight both.1 es row run blind in omega (arith, few)
+          ⊎ Split (queue_at c i) (fine M o c ok i less).0 p K (counts_at c i es) row
+          → executed g row ≤ N + L + 1
+      by (inl blind) = let few : executed g row ≤ L = unseen es row run blind in omega (arith, few)
       by (inr s) =
           let begun : List Entry = es ++ (s.front ++ s.look ∷ []) in
           let all : (es ++ (s.front ++ s.look ∷ [])) ++ s.back ≡ es ++ row =
@@ -220,13 +230,20 @@ module _ (B M : ℕ) (o : OpeningValue) (c : QueueCertificate) (ok : accepts o c
           (ap (λ fs. es ++ fs) s.all ∙ sym (append_assoc es s.front (s.look ∷ s.back))) run) in
           let same : counts_from (counts_next (queue_at c i)) (counts_at c i es) (s.front ++ s.look ∷ []) ≡ counts_at c i (es ++ (s.front ++ s.look ∷ [])) =
           sym (counts-append (counts_next (queue_at c i)) (all_at (start_at c i)) es (s.front ++ s.look ∷ [])) in
-          let before : executed g s.front ≤ b.sight = looking b.sight both.1 es s.front front_run s.blind in
-          let after : executed g s.back ≤ b.pace = pace b.owned b.pace both.0 (es ++ (s.front ++ s.look ∷ [])) s.back whole
-          (subst (λ d. EachOwn (queue_at c i) p (IsIdleStep (queue_at c i) p b.owned) d s.back) same
-          (idle-row (queue_at c i) (fine M o c ok i less).0 p b.owned s.back
+          let before : executed g s.front ≤ L = unseen es s.front front_run s.blind in
+          let after : executed g s.back ≤ N = idle (es ++ (s.front ++ s.look ∷ [])) s.back whole
+          (subst (λ d. EachOwn (queue_at c i) p (IsIdleStep (queue_at c i) p K) d s.back) same
+          (idle-row (queue_at c i) (fine M o c ok i less).0 p K s.back
           (counts_from (counts_next (queue_at c i)) (counts_at c i es) (s.front ++ s.look ∷ [])) s.more s.stuck)) in
           let one : executed g (s.look ∷ s.back) ≡ 1 + executed g s.back =
           ap (λ t. (if t then 1 else 0) + executed g s.back) s.mine in
           let sum : executed g row ≡ executed g s.front + executed g (s.look ∷ s.back) =
           ap (executed g) s.all ∙ executed-append g s.front (s.look ∷ s.back) in
           omega (arith, before, after, one, sum)
+
+  pub going : (b : Pace) → keeps_going o c g i b ≡ true → (es row : List Entry) → WellFormed B M (history_of o (es ++ row))
+      → EachAfter g (IsStuckAt c i p b.owned) es row → executed g row ≤ b.pace + b.sight + 1
+  going b shown es row run each = let both = and_parts (keeps_pace o c g i b.owned (idle_ranks c g i) b.pace)
+      (keeps_looking o c g i (blind_ranks c g i) b.sight) shown in
+      going_of b.owned b.pace b.sight (pace b.owned (idle_ranks c g i) b.pace both.0) (looking (blind_ranks c g i) b.sight both.1) es row run
+      (own-each (IsStuckStep (queue_at c i) p b.owned) row es each)

@@ -1,15 +1,14 @@
 mod Lacked
 mod Leaves
 mod Rows
-mod Bounded
+mod Falling
+mod HigherLeaves
+mod Shown
+mod LittleTexts
 mod Alone
 mod Going
 mod Standing
 mod Arriving
-mod Halving
-mod Found
-mod Outside
-mod LittleTexts
 mod Numbers
 mod HartLeaves
 mod Together
@@ -18,5 +17,3 @@ mod ToldLoads
 mod ToldLooks
 mod ToldGoing
 mod ToldStanding
-mod Ranked
-mod Greatest

@@ -16,7 +16,7 @@ use Rattle.slot_queue.proofs.{least-near, Side, moved_on-more, allowance, allowa
 use Rattle.slot_queue.proofs.{memory-last, grows-after}
 use Rattle.queue_certificates.specs.Certificates.{QueueCertificate, queue_at, start_at, accepts}
 use Rattle.queue_certificates.proofs.{hart-party, fine, accepted_runs}
-use Rattle.queue_progress.specs.{Pace, executed, counts_at, LooksBy, IsStuckStep, EachOwn, EachAfter, all_moved, HaveLanded, keeps_going}
+use Rattle.queue_progress.specs.{Pace, executed, counts_at, LooksBy, IsStuckStep, all_moved, HaveLanded, keeps_going}
 use Rattle.queue_progress.proofs.Moved.{same-part, turn}
 use Rattle.queue_progress.proofs.Going.{looks?, counted-known, going}
 
@@ -143,19 +143,11 @@ module _ (B M : ℕ) (o : OpeningValue) (c : QueueCertificate) (ok : accepts o c
         subst (λ n. n + allowance q p ≤ count p (cnt (es ++ front)) + K) (fresh (es ++ front) e run (omega (arith, low, high, stays, there)) on few.0)
         (subst (λ n. n ≤ count p (cnt (es ++ front)) + K) (end-is q p (counts_next q (cnt (es ++ front)) e)) few.1)
 
-    own-each : (row es : List Entry) → EachAfter h IsStuck es row → EachOwn q p (IsStuckStep q p K) (cnt es) row
-    own-each [] es each = tt
-    own-each (e ∷ row) es each = (
-      each.0,
-      subst (λ d. EachOwn q p (IsStuckStep q p K) d row) (onward es (e ∷ [])) (own-each row (es ++ e ∷ []) each.1),
-    )
-
     goes-or-waits : keeps_going o c (hart (queue_at c i) p) i b ≡ true → (es row : List Entry) → WellFormed B M (history_of o (es ++ row))
         → in-memory es (other p) ≡ count (other p) (counts_at c i es) → b.pace + b.sight + 1 < executed (hart (queue_at c i) p) row
         → (all_moved (cnt es) < all_moved (cnt (es ++ row))) ⊎ (count (other p) (cnt es) + allowance q p ≤ count p (cnt es) + K)
     goes-or-waits goes = turn B M o h p (counts_at c i) grown IsStuck FindsFew stuck? (λ es. in-memory es (other p) ≡ count (other p) (cnt es))
-        (λ mine theirs. theirs + allowance q p ≤ mine + K) why (b.pace + b.sight + 1)
-        (λ es row run each. going B M o c ok i p less b goes es row run (own-each row es each))
+        (λ mine theirs. theirs + allowance q p ≤ mine + K) why (b.pace + b.sight + 1) (going B M o c ok i p less b goes)
 
   -- ---- both parties
 

@@ -1,11 +1,11 @@
 -- A hart of several queues: a row of its instructions that are stuck is short. It is idle where the hart owns more of each queue; else blind up to
 -- a load of the index of one of which it owns no more, and after that it owns more of one queue more.
-use Rattle.std.proofs.Common.{ℕ, zero, suc, ◌+◌, ◌*◌, ◌<◌, ◌≤◌, ◌≡◌, ◌⊎◌, inl, inr, if◌then◌else◌, Bool, true, false, Option, None, Some, not, List, [], ◌∷◌}
+use Rattle.std.proofs.Common.{ℕ, zero, suc, ◌+◌, ◌*◌, ◌<◌, ◌≤◌, ◌≡◌, ◌⊎◌, inl, inr, if◌then◌else◌, Bool, true, false, Some, not, List, [], ◌∷◌}
 use Rattle.std.proofs.Common.{◌++◌, length, refl, sym, ◌∙◌, ap, subst, arith, append_assoc, append-nil}
 use Rattle.std.specs.Prelude.{nat_lt}
 use Rattle.std.specs.Option.{is_some}
 use Rattle.std.proofs.Math.Nat.{suc-mul}
-use Rattle.std.proofs.lemmas.Bool.{and_parts, not-false, cases_eq, leb-true}
+use Rattle.std.proofs.lemmas.Bool.{and_parts, or_cases, cases_eq}
 use Rattle.step_machine.specs.declared.events.Entry.{Entry}
 use Rattle.step_machine.specs.Names.{OpeningValue, history_of, access_of, hart_of, is_own, WellFormed}
 use Rattle.step_machine.proofs.OwnRuns.{kept-front}
@@ -18,13 +18,13 @@ use Rattle.slot_queue.specs.Ownership.{hart, party_of, after_access, counts_next
 use Rattle.queue_certificates.specs.{owning, fits_in, instruction_at, QueueCertificate, queue_at, start_at, accepts}
 use Rattle.queue_certificates.proofs.Counted.{is_of_parties}
 use Rattle.queue_certificates.proofs.{at-below, hart-party, same-party, fine}
-use Rattle.queue_progress.specs.{Pace, may_own_more, looks_away, are_within, longest, code_of, executed, counts_at, LooksBy, EachAfter, is_side, sides}
-use Rattle.queue_progress.specs.{moves_some, fewest_owned, is_among, differs, hart_graph, each_lacking, hart_keeps_going, owns_more, has_more, has_more_of_all}
+use Rattle.queue_progress.specs.{Pace, are_ranks, not_hart_idle, not_hart_blind, never_cut, code_of, executed, counts_at, LooksBy, EachAfter, is_side, sides}
+use Rattle.queue_progress.specs.{moves_some, fewest_owned, is_among, differs, each_lacking, hart_keeps_going}
+use Rattle.queue_progress.specs.{together_ranks, lacking_ranks, owns_more, has_more, has_more_of_all}
 use Rattle.queue_progress.specs.{LeavesCounts, HasMoreWhereItLooks, IsHartIdle, IsHartBlind, IsHartStuck}
 use Rattle.queue_progress.proofs.Alone.{executed-append}
-use Rattle.queue_progress.proofs.Bounded.{uncut, bounded}
+use Rattle.queue_progress.proofs.Falling.{bounded}
 use Rattle.queue_progress.proofs.Going.{looks?, end-of, known-kept}
-use Rattle.queue_progress.proofs.Found.{bounds-all}
 use Rattle.queue_progress.proofs.Lacked.{lacking-list, among-list, some-lacking, each-at, turned}
 use Rattle.queue_progress.proofs.Numbers.{all-from, lacking, none-lacking, fewer-lacking, less-lacking}
 use Rattle.queue_progress.proofs.HartLeaves as leaves
@@ -233,45 +233,31 @@ module _ (B M : ℕ) (o : OpeningValue) (c : QueueCertificate) (ok : accepts o c
 
   module _ (g : Pace) (shown : hart_keeps_going o c h g ≡ true) where
     abbrev sees : (lacks : List ℕ) → Bool
-    sees lacks = fits_in (longest looks_away (hart_graph o c h g.owned lacks)) (Some g.sight)
+    sees lacks = are_ranks o c h (not_hart_blind o c h g.owned lacks) never_cut (lacking_ranks c h lacks) g.sight
 
-    both : (are_within (may_own_more g.owned) (hart_graph o c h g.owned []) g.pace ≡ true) × (each_lacking c h (length c.queues) [] sees ≡ true)
-    both = and_parts (are_within (may_own_more g.owned) (hart_graph o c h g.owned []) g.pace) (each_lacking c h (length c.queues) [] sees) shown
+    both : (are_ranks o c h (not_hart_idle o c h g.owned) never_cut (together_ranks c h) g.pace ≡ true) × (each_lacking c h (length c.queues) [] sees ≡ true)
+    both = and_parts (are_ranks o c h (not_hart_idle o c h g.owned) never_cut (together_ranks c h) g.pace) (each_lacking c h (length c.queues) [] sees) shown
 
     hart-pace : (es row : List Entry) → WellFormed B M (history_of o (es ++ row)) → EachAfter h (IsHartIdle c h g.owned) es row
         → executed h row ≤ g.pace
-    hart-pace = bounded B M o c ok h (moves_some c h (code_of o h)) (fewest_owned c h (length c.queues))
-        (λ k. differs c h g.owned [] k (instruction_at (code_of o h) k.pc)) uncut (may_own_more g.owned) (IsHartIdle c h g.owned)
-        (λ xs k d s done e at other idle. elim other [
+    hart-pace = bounded B M o c ok h (not_hart_idle o c h g.owned) never_cut (IsHartIdle c h g.owned)
+        (λ xs k d s done e at other idle. elim
+        (or_cases (moves_some c h (code_of o h) k d) (fits_in (fewest_owned c h (length c.queues) k) (Some g.owned)) other) [
           | inl goes ↦ leaves.moves-none B M o c ok h g.owned xs k d s done e at goes idle.stays
-          | inr few ↦ leaves.fewest-more B M o c ok h g.owned xs k d s done e at (length c.queues) (omega arith)
-              (not-false (fits_in (fewest_owned c h (length c.queues) k) (Some g.owned)) few.1)
+          | inr few ↦ leaves.fewest-more B M o c ok h g.owned xs k d s done e at (length c.queues) (omega arith) few
               (λ i less. at-below (length c.queues) (has_more c h g.owned done) idle.owns i less)
         ])
-        (λ xs k d s done e at none idle. absurd (cc)) g.pace both.0
+        (λ xs k d s done e at none idle. absurd (cc)) (together_ranks c h) g.pace both.0
 
-    module _ (lacks : List ℕ) where
-      looking-within : (N : ℕ) → are_within looks_away (hart_graph o c h g.owned lacks) N ≡ true → (es row : List Entry)
-          → WellFormed B M (history_of o (es ++ row)) → EachAfter h (IsHartBlind c h g.owned lacks) es row → executed h row ≤ N
-      looking-within = bounded B M o c ok h (moves_some c h (code_of o h)) (fewest_owned c h (length c.queues))
-          (λ k. differs c h g.owned lacks k (instruction_at (code_of o h) k.pc)) uncut looks_away (IsHartBlind c h g.owned lacks)
-          (λ xs k d s done e at other blind. elim other [
-            | inl goes ↦ leaves.moves-none B M o c ok h g.owned xs k d s done e at goes blind.stays
-            | inr sees ↦ leaves.not-blind B M o c ok h g.owned xs k d s done e at lacks
-                (not-false (differs c h g.owned lacks k (instruction_at (code_of o h) k.pc)) sees.1) blind
-          ])
-          (λ xs k d s done e at none blind. absurd (cc))
-
-      hart-looking : sees lacks ≡ true → (es row : List Entry) → WellFormed B M (history_of o (es ++ row))
-          → EachAfter h (IsHartBlind c h g.owned lacks) es row → executed h row ≤ g.sight
-      hart-looking so es row run each = by (longest looks_away (hart_graph o c h g.owned lacks)) refl so
-        where
-          by : (most : Option ℕ) → longest looks_away (hart_graph o c h g.owned lacks) ≡ most → fits_in most (Some g.sight) ≡ true → executed h row ≤ g.sight
-          by None is so = absurd (cc)
-          by (Some N) is so =
-              let low : N ≤ g.sight = leb-true N g.sight so in
-              let few : executed h row ≤ N = looking-within N (bounds-all looks_away (hart_graph o c h g.owned lacks) N is) es row run each in
-              omega (arith, low, few)
+    hart-looking : (lacks : List ℕ) → sees lacks ≡ true → (es row : List Entry) → WellFormed B M (history_of o (es ++ row))
+        → EachAfter h (IsHartBlind c h g.owned lacks) es row → executed h row ≤ g.sight
+    hart-looking lacks = bounded B M o c ok h (not_hart_blind o c h g.owned lacks) never_cut (IsHartBlind c h g.owned lacks)
+        (λ xs k d s done e at other blind. elim (or_cases (moves_some c h (code_of o h) k d)
+        (differs c h g.owned lacks k (instruction_at (code_of o h) k.pc)) other) [
+          | inl goes ↦ leaves.moves-none B M o c ok h g.owned xs k d s done e at goes blind.stays
+          | inr sees ↦ leaves.not-blind B M o c ok h g.owned xs k d s done e at lacks sees blind
+        ])
+        (λ xs k d s done e at none blind. absurd (cc)) (lacking_ranks c h lacks) g.sight
 
     -- the queues that it lacks after these entries
     abbrev lacked : List Entry → List ℕ

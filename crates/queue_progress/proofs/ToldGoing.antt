@@ -1,6 +1,6 @@
 -- A row of instructions that are stuck at a queue with tags is no longer than the party's graph has: where it may learn that the slot is its own
 -- it does.
-use Rattle.std.proofs.Common.{ℕ, ◌+◌, ◌<◌, ◌≤◌, ◌≡◌, ◌==◌, inl, inr, Bool, true, false, Option, None, Some, List, [], ◌∷◌, ◌++◌, length, refl, sym, ◌∙◌, ap}
+use Rattle.std.proofs.Common.{ℕ, ◌+◌, ◌<◌, ◌≤◌, ◌≡◌, ◌==◌, Bool, true, false, Option, None, Some, List, [], ◌∷◌, ◌++◌, length, refl, sym, ◌∙◌, ap}
 use Rattle.std.proofs.Common.{subst, arith}
 use Rattle.std.proofs.lemmas.Bool.{and_parts, eqb-true}
 use Rattle.rv_decode.specs.declared.instruction.Instr.{Instr}
@@ -15,11 +15,11 @@ use Rattle.slots_that_tell.specs.Telling.{teller_of, told_access, after_entry}
 use Rattle.queue_certificates.specs.{view_then, Form, form_value, KnownState, instruction_at, share_at, QueueCertificate, tagged_at, tagged_start, accepts}
 use Rattle.queue_certificates.specs.{next_states}
 use Rattle.queue_certificates.proofs.{tagged-fine, teller-is, OfHart, of-hart, fine-tagged}
-use Rattle.queue_progress.specs.{looks_away, code_of, moves, follow_further, executed, counts_at, EachAfter, slots_at, teller_at, told_counts_at, HasToWait}
-use Rattle.queue_progress.specs.{IsToldStuck, is_load, learns, may_learn, told_within}
+use Rattle.queue_progress.specs.{code_of, moves, follow_further, executed, counts_at, EachAfter, slots_at, teller_at, told_counts_at, HasToWait}
+use Rattle.queue_progress.specs.{IsToldStuck, is_load, learns, may_learn, told_ranks, told_within}
 use Rattle.queue_progress.proofs.Leaves.{moved}
 use Rattle.queue_progress.proofs.Rows.{Executes, GoesFirst, Sees, Told, Then, ThenTold}
-use Rattle.queue_progress.proofs.Bounded.{bounded}
+use Rattle.queue_progress.proofs.Falling.{bounded}
 use Rattle.queue_progress.proofs.ToldLoads.{IsTagLoad, tag-load}
 use Rattle.queue_progress.proofs.ToldLooks.{at-own-tag, told-first}
 
@@ -59,7 +59,7 @@ module _ (B M : ℕ) (o : OpeningValue) (c : QueueCertificate) (ok : accepts o c
 
   module _ (xs : List ℕ) (k : KnownState) (d : Form) (s : HartState) (done : List Entry) (e : Entry) (at : Executes B M o c ok h xs k d s done e)
       (stuck : IsToldStuck c t p done e) where
-    moves-none : moves c h (code_of o h) i k d ≡ true → ⊥
+    pub moves-none : moves c h (code_of o h) i k d ≡ true → ⊥
     moves-none goes =
         let on : form_value (share_at k i).own xs < count p (ThenTold B M o c ok h done e t) =
         moved c h i (count p (ThenTold B M o c ok h done e t)) (share_at k i) xs at.following (advanced s (number_read e))
@@ -113,7 +113,7 @@ module _ (B M : ℕ) (o : OpeningValue) (c : QueueCertificate) (ok : accepts o c
           by false others = absurd (stuck.goes (subst (λ r. HasToWait (slots_at c t) r (told_counts_at c t done) (access_of e)) party
               (subst (HasToWait (slots_at c t) loads.party (told_counts_at c t done)) (sym look) (refl, refl, others))))
 
-      goes-first : GoesFirst B M o c ok h xs at.following s done e
+      pub goes-first : GoesFirst B M o c ok h xs at.following s done e
       goes-first = record {
         first = two-follow.first;
         others = two-follow.other ∷ [];
@@ -122,12 +122,8 @@ module _ (B M : ℕ) (o : OpeningValue) (c : QueueCertificate) (ok : accepts o c
             (Told B M o c ok h done) e at.acts at.knows at.acts.code at.acts.size t less k two-follow.first loads xs at.means at.told at.runs tells d;
       }
 
-  pub told_going : (N : ℕ) → told_within o c (teller_at c t p) t N ≡ true → (es row : List Entry) → WellFormed B M (history_of o (es ++ row))
-      → EachAfter (teller_at c t p) (IsToldStuck c t p) es row → executed (teller_at c t p) row ≤ N
-  told_going N shown = bounded B M o c ok h (moves c h (code_of o h) i) (λ k. None) (λ k. false) (may_learn c h (code_of o h) i) looks_away
-      (IsToldStuck c t p)
-      (λ xs k d s done e at other stuck. elim other [
-        | inl goes ↦ moves-none xs k d s done e at stuck goes
-        | inr none ↦ absurd (let no : true ≡ false = none.1 in cc)
-      ])
-      (λ xs k d s done e at learns-it stuck. goes-first xs k d s done e at stuck learns-it) N shown
+  pub told_going : (N : ℕ) → told_within o c (teller_at c t p) t N ≡ true → (es row : List Entry)
+      → WellFormed B M (history_of o (es ++ row)) → EachAfter (teller_at c t p) (IsToldStuck c t p) es row → executed (teller_at c t p) row ≤ N
+  told_going = bounded B M o c ok h (moves c h (code_of o h) i) (may_learn c h (code_of o h) i) (IsToldStuck c t p)
+      (λ xs k d s done e at goes stuck. moves-none xs k d s done e at stuck goes)
+      (λ xs k d s done e at learns-it stuck. goes-first xs k d s done e at stuck learns-it) (told_ranks c (teller_at c t p) t)

@@ -14,7 +14,7 @@ use Rattle.step_machine.specs.Names.{HartOpeningValue, OpeningValue, load, acces
 use Rattle.slot_queue.specs.{party_of, after_access}
 use Rattle.queue_parties.specs.{Party, QueueCounts, count, known}
 use Rattle.queue_parties.proofs.Parties.{count-set-known, known-set}
-use Rattle.slots_that_tell.specs.{IsSlots, tag_of, teller_hart, owned_end, told, after_load, told_access}
+use Rattle.slots_that_tell.specs.{IsSlots, tag_of, teller_hart, owned_end, told, told_access}
 use Rattle.slots_that_tell.specs.Slots.{Slots}
 use Rattle.slots_that_tell.specs.Telling as telling
 use Rattle.slots_that_tell.proofs.Owned.{mine-of}

@@ -1,26 +1,20 @@
 -- A hart that is a party of several queues with indices: what its instructions do for all of them together.
 use Rattle.std.specs.Prelude.{ℕ, zero, suc, ◌≡◌, ◌==◌, ◌+◌, ◌<◌, ◌++◌, ◌&&◌, ◌||◌, not, nat_le, nat_lt, if◌then◌else◌, Bool, true, false}
-use Rattle.std.specs.Prelude.{Option, None, Some, List, [], ◌∷◌, map, length}
+use Rattle.std.specs.Prelude.{Option, None, Some, List, [], ◌∷◌, length}
 use Rattle.std.specs.List.{list_any}
 use Rattle.std.specs.Option.{is_some}
 use Rattle.rv_decode.specs.declared.instruction.Instr.{Instr}
 use Rattle.step_machine.specs.declared.events.Entry.{Entry}
 use Rattle.step_machine.specs.Access.{access_of}
-use Rattle.step_machine.specs.History.{OpeningValue}
 use Rattle.queue_parties.specs.Parties.{Party, QueueCounts, count}
 use Rattle.slot_queue.specs.Queues.{Queue}
 use Rattle.slot_queue.specs.Ownership.{hart, party_of, counts_next, end}
 use Rattle.queue_certificates.specs.Forms.{Form, fits_in}
 use Rattle.queue_certificates.specs.States.{KnownState}
-use Rattle.queue_certificates.specs.Steps.{all_below, share_at, instruction_at}
-use Rattle.queue_certificates.specs.Cases.{Arrow}
-use Rattle.queue_certificates.specs.Certificates.{QueueCertificate, queue_at, part_of}
+use Rattle.queue_certificates.specs.Steps.{all_below, share_at}
+use Rattle.queue_certificates.specs.Certificates.{QueueCertificate, queue_at}
 use Rattle.queue_checker.specs.Accesses.{any_below}
-use Rattle.queue_progress.specs.declared.pace.Pace.{Pace}
-use Rattle.queue_progress.specs.Graphs.{Stay, may_own_more, looks_away, are_within}
-use Rattle.queue_progress.specs.Longest.{longest}
-use Rattle.queue_progress.specs.Stays.{code_of, moves, most_owned, looks, targets}
-use Rattle.queue_progress.specs.Shown.{at_leaves}
+use Rattle.queue_progress.specs.Stays.{moves, most_owned, looks}
 use Rattle.queue_progress.specs.Rows.{counts_at, LooksBy}
 
 -- ---- a leaf
@@ -47,11 +41,6 @@ abbrev pub fewest_owned : QueueCertificate → (h n : ℕ) → KnownState → Op
 fewest_owned c h zero k = None
 fewest_owned c h (suc n) k = lesser (if is_side c h n then most_owned n k else None) (fewest_owned c h n k)
 
--- the least capacity of those of its first n queues
-abbrev pub least_capacity : QueueCertificate → (h n : ℕ) → Option ℕ
-least_capacity c h zero = None
-least_capacity c h (suc n) = lesser (if is_side c h n then Some (queue_at c n).capacity else None) (least_capacity c h n)
-
 -- ---- where it lacks some of its queues: it owns at most K positions of just these
 
 abbrev pub is_among : List ℕ → (i : ℕ) → Bool
@@ -67,28 +56,12 @@ abbrev pub differs : QueueCertificate → (h K : ℕ) → (lacks : List ℕ) →
 differs c h K lacks k instruction =
     any_below (length c.queues) (λ i. is_side c h i && differs_at c h K i (is_among lacks i) k instruction)
 
-abbrev pub hart_stays_at : QueueCertificate → (h K : ℕ) → (lacks : List ℕ) → (code : List ℕ) → KnownState → Form → List Arrow → List Stay
-hart_stays_at c h K lacks code k d arrows = if moves_some c h code k d then [] else record {
-  owned = fewest_owned c h (length c.queues) k;
-  looks = differs c h K lacks k (instruction_at code k.pc);
-  to = targets arrows;
-} ∷ []
-
-abbrev pub hart_graph : OpeningValue → QueueCertificate → (h K : ℕ) → (lacks : List ℕ) → List (List Stay)
-hart_graph o c h K lacks = map (λ t. at_leaves (hart_stays_at c h K lacks (code_of o h)) t.known t.cases) (part_of c h).states
-
 -- where it lacks these, and some of the first n of its queues; it is never asked about none
 abbrev pub each_lacking : QueueCertificate → (h n : ℕ) → (lacks : List ℕ) → (Is : List ℕ → Bool) → Bool
 each_lacking c h zero [] Is = true
 each_lacking c h zero (i ∷ lacks) Is = Is (i ∷ lacks)
 each_lacking c h (suc n) lacks Is =
     each_lacking c h n lacks Is && (if is_side c h n then each_lacking c h n (n ∷ lacks) Is else true)
-
--- At most `pace` of its instructions in a row move none of its counts while it owns more than K positions of each of its queues. And whichever
--- of its queues it lacks, at most `sight` do so and look at none of those
-abbrev pub hart_keeps_going : OpeningValue → QueueCertificate → (h : ℕ) → Pace → Bool
-hart_keeps_going o c h g = are_within (may_own_more g.owned) (hart_graph o c h g.owned []) g.pace
-    && each_lacking c h (length c.queues) [] (λ lacks. fits_in (longest looks_away (hart_graph o c h g.owned lacks)) (Some g.sight))
 
 -- ---- an entry of the hart's, by those before it
 

@@ -1,80 +1,159 @@
--- What is found of a party of a queue: how soon it goes on, or a state on a cycle on which it doesn't.
-use Rattle.std.specs.Prelude.{ℕ, zero, suc, ◌+◌, ◌-◌, nat_le, if◌then◌else◌, not, Bool, Option, None, Some, List, [], ◌∷◌, length}
-use Rattle.std.specs.Option.{is_some}
+-- What the ranks of a certificate show of a party of a queue, or of a hart.
+use Rattle.std.specs.Prelude.{ℕ, ◌+◌, ◌==◌, ◌&&◌, ◌||◌, not, nat_lt, if◌then◌else◌, Bool, Option, None, Some, List, [], ◌∷◌, map, length, get_or}
+use Rattle.std.specs.Str.{bytes_eq}
 use Rattle.step_machine.specs.History.{OpeningValue}
-use Rattle.queue_certificates.specs.Certificates.{QueueCertificate, queue_at}
-use Rattle.queue_checker.specs.Flaws.{first_below, unless}
+use Rattle.queue_certificates.specs.Forms.{Form, number}
+use Rattle.queue_certificates.specs.States.{KnownState}
+use Rattle.queue_certificates.specs.Steps.{all_below}
+use Rattle.queue_certificates.specs.Certificates.{QueueCertificate, queue_at, part_of}
+use Rattle.queue_certificates.specs.declared.goal.Goal.{Goal}
+use Rattle.queue_certificates.specs.declared.goal.Goal.TheVariants as goal
+use Rattle.queue_progress.specs.Stays.{code_of, moves}
+use Rattle.queue_progress.specs.Told.{may_learn}
+use Rattle.queue_progress.specs.Harts.{is_side, each_lacking}
+use Rattle.queue_progress.specs.Falling.{are_ranks, bound_of, first_level, greatest_below, keeps_looking, keeps_pace, never_cut, not_blind, not_hart_blind}
+use Rattle.queue_progress.specs.Falling.{not_hart_idle, not_idle, option_or_zero}
+use Rattle.queue_progress.specs.declared.pace.Pace.{Pace}
+use Rattle.queue_progress.specs.declared.pace.Placed.{Placed}
 use Rattle.queue_progress.specs.declared.pace.Progress.{Progress}
-use Rattle.queue_progress.specs.declared.pace.Progress.TheVariants.{GoesOn, NoPace, NoLook}
-use Rattle.queue_progress.specs.Graphs.{Stay, may_own_more, looks_away}
-use Rattle.queue_progress.specs.Longest.{longest, state_or, on_cycle}
-use Rattle.queue_progress.specs.Shown.{graph_of}
+use Rattle.queue_progress.specs.declared.pace.Progress.TheVariants as found
 use Rattle.queue_progress.specs.declared.pace.ToldProgress.{ToldProgress}
-use Rattle.queue_progress.specs.declared.pace.ToldProgress.TheVariants.{Within, Endless}
-use Rattle.queue_progress.specs.Told.{told_progress_in}
-use Rattle.queue_progress.specs.Harts.{is_side, least_capacity, hart_graph}
+use Rattle.queue_progress.specs.declared.pace.ToldProgress.TheVariants.{Within, Endless, Unranked}
 
--- rows in which the party owns more than K positions have a bound
-abbrev pub is_bounded : List (List Stay) → (K : ℕ) → Bool
-is_bounded graph K = is_some (longest (may_own_more K) graph)
+-- ---- what the ranks of a hart's states are for, in the order of its goals
 
--- the least K below the capacity of which that is so
-abbrev pub least_owned : List (List Stay) → (capacity : ℕ) → Option ℕ
-least_owned graph capacity = first_below (capacity - 1 + 1) (λ K. unless (not (is_bounded graph K)) K)
+-- how many ranks a goal has
+abbrev pub width_of : Goal → ℕ
+width_of (goal.Queue i K) = 2
+width_of other = 1
 
-abbrev pub progress_with : List (List Stay) → (K : ℕ) → (pace sight : Option ℕ) → Progress
-progress_with graph K None sight = NoPace (on_cycle (may_own_more K) graph)
-progress_with graph K (Some N) None = NoLook (on_cycle looks_away graph)
-progress_with graph K (Some N) (Some L) = GoesOn (record { owned = K; pace = N; sight = L })
+-- how many positions the hart may own while it waits, by a goal of this queue, or of all its queues together
+abbrev pub owned_by : (wanted : Option ℕ) → Goal → Option ℕ
+owned_by (Some n) (goal.Queue i K) = if i == n then Some K else None
+owned_by (Some n) (goal.Tags i) = if i == n then Some 0 else None
+owned_by (Some n) (goal.Together K) = None
+owned_by None (goal.Together K) = Some K
+owned_by None other = None
 
-abbrev pub progress_owning : List (List Stay) → (K : ℕ) → Progress
-progress_owning graph K = progress_with graph K (longest (may_own_more K) graph) (longest looks_away graph)
+abbrev pub placed_by : (place : ℕ) → (owned : Option ℕ) → (later : Option Placed) → Option Placed
+placed_by place (Some K) later = Some (record { place = place; owned = K })
+placed_by place None later = later
 
-abbrev pub progress_by : List (List Stay) → (capacity : ℕ) → (owned : Option ℕ) → Progress
-progress_by graph capacity None = NoPace (on_cycle (may_own_more (capacity - 1)) graph)
-progress_by graph capacity (Some K) = progress_owning graph K
+-- the first such goal, of those whose ranks begin at this place
+abbrev pub placed_from : (wanted : Option ℕ) → (place : ℕ) → List Goal → Option Placed
+placed_from wanted place [] = None
+placed_from wanted place (g ∷ gs) = placed_by place (owned_by wanted g) (placed_from wanted (place + width_of g) gs)
 
-abbrev pub progress_in : List (List Stay) → (capacity : ℕ) → Progress
-progress_in graph capacity = progress_by graph capacity (least_owned graph capacity)
+abbrev pub goal_of : QueueCertificate → (h : ℕ) → (wanted : Option ℕ) → Option Placed
+goal_of c h wanted = placed_from wanted 0 (part_of c h).goals
 
--- of hart h, a party of queue i
+-- after the ranks of all goals comes one for each set of queues that the hart may lack
+abbrev pub lacking_from : (place : ℕ) → List (List ℕ) → (lacks : List ℕ) → ℕ
+lacking_from place [] lacks = place
+lacking_from place (first ∷ others) lacks = if bytes_eq first lacks then place else lacking_from (place + 1) others lacks
+
+abbrev pub width_from : (width : ℕ) → List Goal → ℕ
+width_from width [] = width
+width_from width (g ∷ gs) = width_from (width + width_of g) gs
+
+abbrev pub goals_width : QueueCertificate → (h : ℕ) → ℕ
+goals_width c h = width_from 0 (part_of c h).goals
+
+-- ---- ranks, of each state the one at a place; where a state has fewer it is 0
+
+abbrev pub ranks_at : QueueCertificate → (h place : ℕ) → List Form
+ranks_at c h place = map (λ s. get_or s.ranks place (number 0)) (part_of c h).states
+
+abbrev pub place_in : Option Placed → ℕ
+place_in None = 0
+place_in (Some p) = p.place
+
+-- of a hart's goal for queue i its first ranks, and its second ones
+abbrev pub idle_ranks : QueueCertificate → (h i : ℕ) → List Form
+idle_ranks c h i = ranks_at c h (place_in (goal_of c h (Some i)))
+
+abbrev pub blind_ranks : QueueCertificate → (h i : ℕ) → List Form
+blind_ranks c h i = ranks_at c h (place_in (goal_of c h (Some i)) + 1)
+
+-- for queue t of those with tags, which are numbered on
+abbrev pub told_ranks : QueueCertificate → (h t : ℕ) → List Form
+told_ranks c h t = idle_ranks c h (length c.queues + t)
+
+-- for all its queues together
+abbrev pub together_ranks : QueueCertificate → (h : ℕ) → List Form
+together_ranks c h = ranks_at c h (place_in (goal_of c h None))
+
+abbrev pub lacking_ranks : QueueCertificate → (h : ℕ) → (lacks : List ℕ) → List Form
+lacking_ranks c h lacks = ranks_at c h (lacking_from (goals_width c h) (part_of c h).lacking lacks)
+
+-- ---- of a party of a queue
+
+-- At most `pace` instructions in a row are idle, and at most `sight` blind: it goes on
+abbrev pub keeps_going : OpeningValue → QueueCertificate → (h i : ℕ) → Pace → Bool
+keeps_going o c h i g = keeps_pace o c h i g.owned (idle_ranks c h i) g.pace && keeps_looking o c h i (blind_ranks c h i) g.sight
+
+abbrev pub row_by : (shown : Bool) → (N : ℕ) → (level : Option ℕ) → ToldProgress
+row_by shown N level = if shown then Within N else Endless (option_or_zero level)
+
+-- what ranks show of instructions of a kind
+abbrev pub row_bound : OpeningValue → QueueCertificate → (h : ℕ) → (other cut : KnownState → Form → Bool) → List Form → ToldProgress
+row_bound o c h other cut ranks = row_by (are_ranks o c h other cut ranks (bound_of c h ranks)) (bound_of c h ranks) (first_level o c h other cut ranks)
+
+abbrev pub progress_with : (K : ℕ) → (pace sight : ToldProgress) → Progress
+progress_with K (Within N) (Within L) = found.GoesOn (record { owned = K; pace = N; sight = L })
+progress_with K (Within N) (Endless n) = found.NoLook n
+progress_with K (Within N) Unranked = found.Unranked
+progress_with K (Endless n) sight = found.NoPace n
+progress_with K Unranked sight = found.Unranked
+
+-- where a party owns at most K positions while it waits, fewer than the queue has
+abbrev pub progress_owning : OpeningValue → QueueCertificate → (h i : ℕ) → (owned : Option Placed) → Progress
+progress_owning o c h i None = found.Unranked
+progress_owning o c h i (Some p) = if nat_lt p.owned (queue_at c i).capacity
+    then progress_with p.owned (row_bound o c h (not_idle o c h i p.owned) never_cut (idle_ranks c h i))
+    (row_bound o c h (not_blind o c h i) never_cut (blind_ranks c h i))
+    else found.Unranked
+
+-- of hart h, a party of queue i with indices
 abbrev pub progress_of : OpeningValue → QueueCertificate → (h i : ℕ) → Progress
-progress_of o c h i = progress_in (graph_of o c h i) (queue_at c i).capacity
+progress_of o c h i = progress_owning o c h i (goal_of c h (Some i))
 
--- ---- of a hart, for all its queues together. What it may own depends neither on K nor on what it lacks
+-- ---- of a party of queue t with tags: it goes on along the first arrow where it may learn that the slot is its own
 
--- the greater number of two, or the first state
-abbrev pub worse : ToldProgress → ToldProgress → ToldProgress
-worse (Within a) (Within b) = Within (if nat_le a b then b else a)
-worse (Within a) (Endless n) = Endless n
-worse (Endless n) other = Endless n
+abbrev pub told_within : OpeningValue → QueueCertificate → (h t N : ℕ) → Bool
+told_within o c h t N = are_ranks o c h (moves c h (code_of o h) (length c.queues + t)) (may_learn c h (code_of o h) (length c.queues + t)) (told_ranks c h t) N
 
--- where it lacks these
-abbrev pub sight_lacking : OpeningValue → QueueCertificate → (h K : ℕ) → (lacks : List ℕ) → ToldProgress
-sight_lacking o c h K [] = Within 0
-sight_lacking o c h K (i ∷ lacks) = told_progress_in (hart_graph o c h K (i ∷ lacks))
+abbrev pub told_by : OpeningValue → QueueCertificate → (h t : ℕ) → Option Placed → ToldProgress
+told_by o c h t None = Unranked
+told_by o c h t (Some p) =
+    row_bound o c h (moves c h (code_of o h) (length c.queues + t)) (may_learn c h (code_of o h) (length c.queues + t)) (told_ranks c h t)
 
--- the same with some of the first n of its queues
-abbrev pub hart_sight : OpeningValue → QueueCertificate → (h K n : ℕ) → (lacks : List ℕ) → ToldProgress
-hart_sight o c h K zero lacks = sight_lacking o c h K lacks
-hart_sight o c h K (suc n) lacks =
-    if is_side c h n then worse (hart_sight o c h K n lacks) (hart_sight o c h K n (n ∷ lacks)) else hart_sight o c h K n lacks
+abbrev pub told_progress_of : OpeningValue → QueueCertificate → (h t : ℕ) → ToldProgress
+told_progress_of o c h t = told_by o c h t (goal_of c h (Some (length c.queues + t)))
 
-abbrev pub hart_progress_with : List (List Stay) → (K : ℕ) → (pace : Option ℕ) → (sight : ToldProgress) → Progress
-hart_progress_with graph K None sight = NoPace (on_cycle (may_own_more K) graph)
-hart_progress_with graph K (Some N) (Endless n) = NoLook n
-hart_progress_with graph K (Some N) (Within L) = GoesOn (record { owned = K; pace = N; sight = L })
+-- ---- of a hart, for all its queues together
 
-abbrev pub hart_progress_owning : OpeningValue → QueueCertificate → (h K : ℕ) → Progress
-hart_progress_owning o c h K = hart_progress_with (hart_graph o c h K []) K (longest (may_own_more K) (hart_graph o c h K []))
-    (hart_sight o c h K (length c.queues) [])
+-- At most `pace` of its instructions in a row move none of its counts while it owns more than K positions of each of its queues. And whichever
+-- of its queues it lacks, at most `sight` do so and look at none of those
+abbrev pub hart_keeps_going : OpeningValue → QueueCertificate → (h : ℕ) → Pace → Bool
+hart_keeps_going o c h g = are_ranks o c h (not_hart_idle o c h g.owned) never_cut (together_ranks c h) g.pace
+    && each_lacking c h (length c.queues) [] (λ lacks. are_ranks o c h (not_hart_blind o c h g.owned lacks) never_cut (lacking_ranks c h lacks) g.sight)
 
-abbrev pub hart_progress_by : OpeningValue → QueueCertificate → (h capacity : ℕ) → (owned : Option ℕ) → Progress
-hart_progress_by o c h capacity None = NoPace (on_cycle (may_own_more (capacity - 1)) (hart_graph o c h 0 []))
-hart_progress_by o c h capacity (Some K) = hart_progress_owning o c h K
+-- K is less than the capacity of each of its queues
+abbrev pub is_few : QueueCertificate → (h K : ℕ) → Bool
+is_few c h K = all_below (length c.queues) (λ i. not (is_side c h i) || nat_lt K (queue_at c i).capacity)
 
-abbrev pub hart_progress_below : OpeningValue → QueueCertificate → (h capacity : ℕ) → Progress
-hart_progress_below o c h capacity = hart_progress_by o c h capacity (least_owned (hart_graph o c h 0 []) capacity)
+-- the greatest of the bounds by what it may lack
+abbrev pub sight_of : QueueCertificate → (h : ℕ) → ℕ
+sight_of c h = greatest_below (length (part_of c h).lacking) (λ j. bound_of c h (ranks_at c h (goals_width c h + j)))
 
-abbrev pub hart_progress_of : OpeningValue → QueueCertificate → (h : ℕ) → Progress
-hart_progress_of o c h = hart_progress_below o c h (state_or (least_capacity c h (length c.queues)) 0)
+abbrev pub pace_owning : QueueCertificate → (h K : ℕ) → Pace
+pace_owning c h K = record { owned = K; pace = bound_of c h (together_ranks c h); sight = sight_of c h }
+
+abbrev pub hart_pace_by : OpeningValue → QueueCertificate → (h : ℕ) → Option Placed → Option Pace
+hart_pace_by o c h None = None
+hart_pace_by o c h (Some p) =
+    if is_few c h p.owned && hart_keeps_going o c h (pace_owning c h p.owned) then Some (pace_owning c h p.owned) else None
+
+abbrev pub hart_pace_of : OpeningValue → QueueCertificate → (h : ℕ) → Option Pace
+hart_pace_of o c h = hart_pace_by o c h (goal_of c h None)

@@ -1,5 +1,5 @@
 -- What a run shows of a party of a queue with indices: instructions in a row that don't get it further.
-use Rattle.std.specs.Prelude.{ℕ, ◌≡◌, ◌+◌, ◌<◌, ◌++◌, if◌then◌else◌, true, List, [], ◌∷◌, ◌⊎◌, Some}
+use Rattle.std.specs.Prelude.{ℕ, ◌≡◌, ◌+◌, ◌<◌, ◌≤◌, ◌++◌, if◌then◌else◌, Bool, true, false, List, [], ◌∷◌, ◌⊎◌, Some}
 use Rattle.step_machine.specs.declared.events.Entry.{Entry}
 use Rattle.step_machine.specs.Access.{Access, load, exchange, access_of}
 use Rattle.step_machine.specs.Entries.{is_own}
@@ -65,6 +65,22 @@ all_moved c = c.published + c.taken
 abbrev pub HaveLanded : Queue → OpeningValue → List Entry → QueueCounts → Type 0
 HaveLanded q o es c = (p : Party) → memory_number o es (index q p) q.index_width ≡ index_word q (count p c)
 
+-- ---- of instructions in a row
+
+-- it leaves the count of party p of queue i, and where it loads the other's index, the party finds that it owns more than K positions
+abbrev pub IsStuckAt : QueueCertificate → (i : ℕ) → Party → (K : ℕ) → List Entry → Entry → Type 0
+IsStuckAt c i p K es e = IsStuckStep (queue_at c i) p K (counts_at c i es) e
+
+-- in each run, of `within` instructions in a row of hart h one isn't stuck, by the entries before it
+abbrev pub GoesWithin : OpeningValue → (h : ℕ) → (IsStuck : List Entry → Entry → Type 0) → (within : ℕ) → Type 0
+GoesWithin o h IsStuck within = (B M : ℕ) (es row : List Entry) → WellFormed B M (history_of o (es ++ row)) → EachAfter h IsStuck es row
+    → executed h row < within
+
+-- in each run that has landed, and in which then hart g executes n instructions, and hart h m of them, in any order and beside others, more moves
+abbrev pub MovesAfter : OpeningValue → (HasLanded : List Entry → Type 0) → (moved : List Entry → ℕ) → (g h n m : ℕ) → Type 0
+MovesAfter o HasLanded moved g h n m = (B M : ℕ) (es row : List Entry) → WellFormed B M (history_of o (es ++ row)) → HasLanded es
+    → n ≤ executed g row → m ≤ executed h row → moved es < moved (es ++ row)
+
 -- ---- from a run on
 
 -- the hart is there and runs, in every run
@@ -76,6 +92,11 @@ Lasts B M o h = (es : List Entry) → WellFormed B M (history_of o es) → (s : 
 abbrev pub RunsOrEnds : (B M : ℕ) → OpeningValue → (h : ℕ) → Type 0
 RunsOrEnds B M o h = (es : List Entry) → WellFormed B M (history_of o es) → (s : HartState) × (state_of M (history_of o es) h ≡ Some s)
     × ((s.status ≡ status.Running) ⊎ (s.status ≡ status.Ended))
+
+-- the one or the other
+abbrev pub KeepsRunning : (always : Bool) → (B M : ℕ) → OpeningValue → (h : ℕ) → Type 0
+KeepsRunning true B M o h = Lasts B M o h
+KeepsRunning false B M o h = RunsOrEnds B M o h
 
 abbrev pub HasEnded : (M : ℕ) → OpeningValue → (h : ℕ) → List Entry → Type 0
 HasEnded M o h es = IsStatus M (history_of o es) h status.Ended
@@ -94,13 +115,11 @@ MovesOn moved es fs = moved es < moved fs
 abbrev pub MovesOnOrEnds : (M : ℕ) → OpeningValue → (g h : ℕ) → (moved : List Entry → ℕ) → (es : List Entry) → List Entry → Type 0
 MovesOnOrEnds M o g h moved es fs = MovesOn moved es fs ⊎ (HasEnded M o g fs ⊎ HasEnded M o h fs)
 
--- of queue i
+-- after these entries of a run others may follow, and in the end more has moved, or, unless harts g and h always run, one of them has ended
+abbrev pub Arrives : (always : Bool) → (B M : ℕ) → OpeningValue → (g h : ℕ) → (moved : List Entry → ℕ) → List Entry → Type 0
+Arrives true B M o g h moved es = Comes B M o (MovesOn moved es) es
+Arrives false B M o g h moved es = Comes B M o (MovesOnOrEnds M o g h moved es) es
+
+-- how many positions of queue i have moved
 abbrev pub moved_at : QueueCertificate → (i : ℕ) → List Entry → ℕ
 moved_at c i es = all_moved (counts_at c i es)
-
--- after these entries of a run others may follow, and in the end one position more was published or taken
-abbrev pub Arrives : (B M : ℕ) → OpeningValue → QueueCertificate → (i : ℕ) → List Entry → Type 0
-Arrives B M o c i es = Comes B M o (MovesOn (moved_at c i) es) es
-
-abbrev pub ArrivesOrEnds : (B M : ℕ) → OpeningValue → QueueCertificate → (i : ℕ) → List Entry → Type 0
-ArrivesOrEnds B M o c i es = Comes B M o (MovesOnOrEnds M o (queue_at c i).sender (queue_at c i).receiver (moved_at c i) es) es

@@ -1,16 +1,14 @@
 -- What an instruction of a party does for a queue with indices, as its leaf says: whether it moves the party's own index, whether it loads
 -- the other's, and how many positions the party owns there.
-use Rattle.std.specs.Prelude.{ℕ, ◌&&◌, nat_lt, if◌then◌else◌, Bool, true, false, Option, None, Some, List, [], ◌∷◌, map, get_or}
+use Rattle.std.specs.Prelude.{ℕ, ◌&&◌, nat_lt, Bool, true, false, Option, None, Some, List, [], ◌∷◌, get_or}
 use Rattle.rv_decode.specs.declared.instruction.Instr.{Instr}
 use Rattle.rv_decode.specs.declared.instruction.Instr.TheVariants.{Load}
 use Rattle.hart.specs.Effects.{load_width}
 use Rattle.step_machine.specs.History.{OpeningValue}
 use Rattle.queue_certificates.specs.Forms.{Form, plus, minus, lifted, is_same, most}
 use Rattle.queue_certificates.specs.States.{Share, KnownState}
-use Rattle.queue_certificates.specs.Steps.{share_at, instruction_at, addresses, is_look}
-use Rattle.queue_certificates.specs.Cases.{Arrow}
+use Rattle.queue_certificates.specs.Steps.{share_at, addresses, is_look}
 use Rattle.queue_certificates.specs.Certificates.{QueueCertificate, queue_at, no_hart, next_states}
-use Rattle.queue_progress.specs.Graphs.{Stay}
 
 -- the own count of the second is surely further than that of the first; the second has one variable more, which comes first
 abbrev pub is_further : Share → Share → Bool
@@ -39,13 +37,3 @@ looks c h i k other = false
 
 abbrev pub code_of : OpeningValue → (h : ℕ) → List ℕ
 code_of o h = (get_or o.harts h no_hart).code
-
-abbrev pub targets : List Arrow → List ℕ
-targets arrows = map (λ a. a.to) arrows
-
--- what a leaf does if it doesn't move the count
-abbrev pub stay_at : QueueCertificate → (h : ℕ) → (code : List ℕ) → (i : ℕ) → KnownState → List Arrow → Stay
-stay_at c h code i k arrows = record { owned = most_owned i k; looks = looks c h i k (instruction_at code k.pc); to = targets arrows }
-
-abbrev pub stays_at : QueueCertificate → (h : ℕ) → (code : List ℕ) → (i : ℕ) → KnownState → Form → List Arrow → List Stay
-stays_at c h code i k d arrows = if moves c h code i k d then [] else stay_at c h code i k arrows ∷ []

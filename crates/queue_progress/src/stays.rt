@@ -1,35 +1,30 @@
-//! What an instruction of a party does for its queue, as its leaf says.
+//! What an instruction of a party does for its queue, as its leaf says: whether it is idle, or blind.
 
-ghost use Rattle.std.specs.Prelude.{◌≡◌, IfOk, map};
+ghost use Rattle.std.specs.Prelude.{◌≡◌, IfOk};
 ghost use Rattle.queue_certificates.specs.Steps.{share_at};
-ghost use Rattle.queue_progress.specs.Stays.{is_further, all_further, follow_further, moves, most_owned, looks, stay_at};
-ghost use Rattle.queue_progress.specs.Shown.{graph_of};
+ghost use Rattle.queue_progress.specs.Stays.{is_further, all_further, follow_further, moves, most_owned, looks};
 
-use crate::graphing::{LeafStays, graph_by};
-use crate::graphs::{Node, Stay};
+use crate::rank_checks::Kind;
 use known_values::forms::{is_same, lifted, minus, plus};
-use known_values::ranges::most;
+use known_values::ranges::{fits_in, most};
 use known_values::{Form, Lack};
 use queue_checker::closing::next_states;
 use queue_checker::loads::{is_look, load_width};
-use queue_checker::owning::code_of;
-use queue_checker::sites::listed_states;
 use queue_checker::states::share_in;
 use queue_checker::steps::instruction_at;
 use queue_checker::successors::Successors;
 use queue_checker::targets::accessed;
-use queue_checker::{Arrow, KnownState, QueueCertificate, Share};
+use queue_checker::{KnownState, QueueCertificate, Share};
 use rv_decode::Instr;
 use std::alloc::Global;
-use step_machine::Opening;
 
 /// A party of a queue, by its hart and the queue's number, with the hart's code.
 #[derive(Clone, Copy)]
-struct Side<'a> {
-    certificate: &'a QueueCertificate,
-    code: &'a [u32],
-    hart: u32,
-    queue: u32,
+pub(crate) struct Side<'a> {
+    pub(crate) certificate: &'a QueueCertificate,
+    pub(crate) code: &'a [u32],
+    pub(crate) hart: u32,
+    pub(crate) queue: u32,
 }
 
 /// Whether the own count of the second share is surely further than that of the first.
@@ -127,70 +122,67 @@ pub(crate) fn looks(
     }
 }
 
-pub(crate) fn targets(alloc: Global, arrows: &[Arrow]) -> Result<Vec<u32>, Lack>
-    ensures { IfOk result (λ to. to.items ≡ map (λ a. a.to) arrows.now) }
-{
-    let to = arrows.iter().map(|arrow| arrow.to).collect(alloc)?;
-    Ok(to)
+/// The idle instructions of a party that owns more than `owned` positions.
+#[derive(Clone, Copy)]
+pub(crate) struct Idle<'a> {
+    pub(crate) side: Side<'a>,
+    pub(crate) owned: u64,
 }
 
-fn stay_at(
-    alloc: Global,
-    side: &Side<'_>,
-    state: &KnownState,
-    arrows: &[Arrow],
-) -> Result<Stay, Lack>
-    ensures { IfOk result (λ stay. stay ≡ stay_at side.now.certificate.now side.now.hart side.now.code.now side.now.queue state.now arrows.now) }
-{
-    Ok(Stay {
-        owned: most_owned(alloc, side.queue, state)?,
-        looks: looks(
+impl Kind for Idle<'_> {
+    ghost use Rattle.std.specs.Prelude.{◌||◌, Some};
+    ghost use Rattle.queue_certificates.specs.Forms.{fits_in};
+    ghost use Rattle.queue_progress.specs.Stays.{moves as moves_by, most_owned as owned_by};
+    ghost use Rattle.queue_progress.specs.Falling.{never_cut};
+
+    ghost other = { λ s k d. moves_by s.side.certificate.now s.side.hart s.side.code.now s.side.queue k d || fits_in (owned_by s.side.queue k) (Some s.owned) };
+
+    ghost cut = { λ s. never_cut };
+
+    fn is_other(&self, alloc: Global, state: &KnownState, handed: &Form) -> Result<bool, Lack> {
+        let goes = moves(alloc, &self.side, state, handed)?;
+        let most = most_owned(alloc, self.side.queue, state)?;
+        Ok(goes || fits_in(most, Some(self.owned)))
+    }
+
+    fn is_cut(&self, _: Global, _: &KnownState, _: &Form) -> Result<bool, Lack> {
+        Ok(false)
+    }
+}
+
+/// The blind instructions of a party.
+#[derive(Clone, Copy)]
+pub(crate) struct Blind<'a> {
+    pub(crate) side: Side<'a>,
+}
+
+impl Kind for Blind<'_> {
+    ghost use Rattle.std.specs.Prelude.{◌||◌};
+    ghost use Rattle.queue_certificates.specs.Steps.{instruction_at as made_at};
+    ghost use Rattle.queue_progress.specs.Stays.{moves as moves_by, looks as looks_by};
+    ghost use Rattle.queue_progress.specs.Falling.{never_cut};
+
+    ghost other = { λ s k d. moves_by s.side.certificate.now s.side.hart s.side.code.now s.side.queue k d
+        || looks_by s.side.certificate.now s.side.hart s.side.queue k (made_at s.side.code.now k.pc) };
+
+    ghost cut = { λ s. never_cut };
+
+    fn is_other(&self, alloc: Global, state: &KnownState, handed: &Form) -> Result<bool, Lack> {
+        let side = &self.side;
+        let goes = moves(alloc, side, state, handed)?;
+        let instruction = instruction_at(side.code, state.pc);
+        let sees = looks(
             alloc,
             side.certificate,
             side.hart,
             side.queue,
             state,
-            instruction_at(side.code, state.pc),
-        )?,
-        to: targets(alloc, arrows)?,
-    })
-}
-
-impl LeafStays for Side<'_> {
-    ghost use Rattle.queue_progress.specs.Stays.{stays_at as stays_of};
-
-    ghost stays = { λ s. stays_of s.certificate.now s.hart s.code.now s.queue };
-
-    fn push(
-        &self,
-        alloc: Global,
-        state: &KnownState,
-        handed: &Form,
-        arrows: &[Arrow],
-        stays: &mut Vec<Stay>,
-    ) -> Result<(), Lack> {
-        if !moves(alloc, self, state, handed)? {
-            stays.push(stay_at(alloc, self, state, arrows)?)?;
-        }
-        Ok(())
+            instruction,
+        )?;
+        Ok(goes || sees)
     }
-}
 
-/// The graph of a hart for a queue, by the numbers of its states.
-pub(crate) fn graph_of(
-    alloc: Global,
-    opening: &Opening,
-    certificate: &QueueCertificate,
-    hart: u32,
-    queue: u32,
-) -> Result<Vec<Node>, Lack>
-    ensures { IfOk result (λ graph. graph.items ≡ graph_of opening.now certificate.now hart queue) }
-{
-    let side = Side {
-        certificate,
-        code: code_of(opening, hart),
-        hart,
-        queue,
-    };
-    graph_by(alloc, &side, listed_states(certificate, hart))
+    fn is_cut(&self, _: Global, _: &KnownState, _: &Form) -> Result<bool, Lack> {
+        Ok(false)
+    }
 }

@@ -1,23 +1,24 @@
-//! How soon a party of a queue with tags goes on.
+//! How soon a party of a queue with tags goes on, as its ranks show it.
 
-ghost use Rattle.std.specs.Prelude.{◌≡◌, ◌+◌, ◌&&◌, if◌then◌else◌, false, None, Some, IfOk, take, length};
+ghost use Rattle.std.specs.Prelude.{◌≡◌, ◌+◌, ◌&&◌, Some, IfOk, length};
 ghost use Rattle.queue_certificates.specs.Steps.{share_at, instruction_at};
-ghost use Rattle.queue_progress.specs.Told.{is_load, learns, told_targets, told_graph, told_progress_in, told_progress_of};
+ghost use Rattle.queue_progress.specs.Told.{is_load, learns, may_learn};
+ghost use Rattle.queue_progress.specs.Stays.{code_of, moves};
+ghost use Rattle.queue_progress.specs.Progress.{ranks_at, row_bound, told_progress_of};
 
-use crate::graphing::{LeafStays, graph_by};
-use crate::graphs::{Kind, Node, Stay};
-use crate::judging::on_cycle;
+use crate::goals::{goal_of, ranks_at};
 use crate::pace::ToldProgress;
-use crate::rounds::rounds_of;
-use crate::stays::{follow_further, targets};
+use crate::rank_checks::Kind;
+use crate::row_bounds::row_bound;
+use crate::stays::follow_further;
 use known_values::{Form, Lack};
 use queue_checker::closing::next_states;
 use queue_checker::owning::code_of;
-use queue_checker::sites::{listed_states, small};
+use queue_checker::sites::small;
 use queue_checker::states::share_in;
 use queue_checker::steps::instruction_at;
 use queue_checker::successors::Successors;
-use queue_checker::{Arrow, KnownState, QueueCertificate, Share};
+use queue_checker::{KnownState, QueueCertificate, Share};
 use rv_decode::Instr;
 use std::alloc::Global;
 use step_machine::Opening;
@@ -81,27 +82,6 @@ fn learns(alloc: Global, place: u32, state: &KnownState, next: &Successors) -> R
     }
 }
 
-/// The arrows along which the instruction goes on unless the party has to wait.
-fn told_arrows(learning: bool, arrows: &[Arrow]) -> &[Arrow]
-    ensures { result.now ≡ (if learning then take 1 arrows.now else arrows.now) }
-{
-    if learning && !arrows.is_empty() {
-        &arrows[..1]
-    } else {
-        arrows
-    }
-}
-
-fn stay_of(alloc: Global, learning: bool, arrows: &[Arrow]) -> Result<Stay, Lack>
-    ensures { IfOk result (λ stay. stay ≡ record { owned = None; looks = false; to = told_targets learning arrows.now }) }
-{
-    Ok(Stay {
-        owned: None,
-        looks: false,
-        to: targets(alloc, told_arrows(learning, arrows))?,
-    })
-}
-
 /// Whether the instruction loads the own position's tag, by which the party may be told that the slot is its own.
 fn may_learn(
     alloc: Global,
@@ -116,67 +96,59 @@ fn may_learn(
     Ok(loads && learns(alloc, teller.place, state, next)?)
 }
 
-impl LeafStays for Teller<'_> {
-    ghost use Rattle.queue_progress.specs.Told.{told_stays_at as stays_of};
+impl Kind for Teller<'_> {
+    ghost use Rattle.queue_progress.specs.Stays.{moves as moves_by};
+    ghost use Rattle.queue_progress.specs.Told.{may_learn as learns_by};
 
-    ghost stays = { λ s. stays_of s.certificate.now s.hart s.code.now s.place };
+    ghost other = { λ s. moves_by s.certificate.now s.hart s.code.now s.place };
 
-    fn push(
-        &self,
-        alloc: Global,
-        state: &KnownState,
-        handed: &Form,
-        arrows: &[Arrow],
-        out: &mut Vec<Stay>,
-    ) -> Result<(), Lack> {
+    ghost cut = { λ s. learns_by s.certificate.now s.hart s.code.now s.place };
+
+    fn is_other(&self, alloc: Global, state: &KnownState, handed: &Form) -> Result<bool, Lack> {
         let (certificate, code) = (self.certificate, self.code);
         let next = next_states(alloc, certificate, self.hart, code, state, handed)?;
-        if !follow_further(alloc, self.place, state, &next)? {
-            let learning = may_learn(alloc, self, state, &next)?;
-            out.push(stay_of(alloc, learning, arrows)?)?;
-        }
-        Ok(())
+        follow_further(alloc, self.place, state, &next)
+    }
+
+    fn is_cut(&self, alloc: Global, state: &KnownState, handed: &Form) -> Result<bool, Lack> {
+        let (certificate, code) = (self.certificate, self.code);
+        let next = next_states(alloc, certificate, self.hart, code, state, handed)?;
+        may_learn(alloc, self, state, &next)
     }
 }
 
 /// The number of queue `t` with tags among all queues.
-fn place_of(certificate: &QueueCertificate, t: u32) -> Result<u32, Lack>
+fn number_of(certificate: &QueueCertificate, t: u32) -> Result<u32, Lack>
     ensures { IfOk result (λ n. n ≡ length certificate.now.queues + t) }
 {
     let count = small(certificate.queues.len())?;
     count.checked_add(t).ok_or(Lack::TooLarge)
 }
 
-/// The graph of a hart for a queue with tags, by the numbers of its states.
-fn told_graph(
+/// What is found of its ranks at a place.
+fn told_at(
     alloc: Global,
     opening: &Opening,
     certificate: &QueueCertificate,
     hart: u32,
-    t: u32,
-) -> Result<Vec<Node>, Lack>
-    ensures { IfOk result (λ graph. graph.items ≡ told_graph opening.now certificate.now hart t) }
+    place: u32,
+    rank: usize,
+) -> Result<ToldProgress, Lack>
+    ensures { IfOk result (λ told. told ≡ row_bound opening.now certificate.now hart (moves certificate.now hart (code_of opening.now hart) place)
+        (may_learn certificate.now hart (code_of opening.now hart) place) (ranks_at certificate.now hart rank)) }
 {
+    let ranks = ranks_at(alloc, certificate, hart, rank)?;
+    let code = code_of(opening, hart);
     let teller = Teller {
         certificate,
-        code: code_of(opening, hart),
+        code,
         hart,
-        place: place_of(certificate, t)?,
+        place,
     };
-    graph_by(alloc, &teller, listed_states(certificate, hart))
+    row_bound(alloc, &teller, opening, certificate, hart, &ranks)
 }
 
-pub(crate) fn told_progress_in(alloc: Global, graph: &[Node]) -> Result<ToldProgress, Lack>
-    ensures { IfOk result (λ progress. progress ≡ told_progress_in graph.now) }
-{
-    match rounds_of(alloc, Kind::Blind, graph)?.longest {
-        None => Ok(ToldProgress::Endless(on_cycle(alloc, Kind::Blind, graph)?)),
-        Some(bound) => Ok(ToldProgress::Within(bound)),
-    }
-}
-
-/// How soon a hart, a party of queue `queue` of those with tags, goes on, as a certificate shows it; or a state on a cycle on which it
-/// doesn't.
+/// How soon a hart, a party of queue `queue` of those with tags, goes on, as its ranks show it, or the first state of which the rank doesn't fall.
 pub fn told_progress_of(
     alloc: Global,
     opening: &Opening,
@@ -184,8 +156,11 @@ pub fn told_progress_of(
     hart: u32,
     queue: u32,
 ) -> Result<ToldProgress, Lack>
-    ensures { IfOk result (λ progress. progress ≡ told_progress_of opening.now certificate.now hart queue) }
+    ensures { IfOk result (λ told. told ≡ told_progress_of opening.now certificate.now hart queue) }
 {
-    let graph = told_graph(alloc, opening, certificate, hart, queue)?;
-    told_progress_in(alloc, &graph)
+    let place = number_of(certificate, queue)?;
+    match goal_of(certificate, hart, Some(place))? {
+        None => Ok(ToldProgress::Unranked),
+        Some(goal) => told_at(alloc, opening, certificate, hart, place, goal.place),
+    }
 }
