@@ -1,10 +1,11 @@
 mod MarkLaws
-mod Most
+pub mod Again
 mod Acted
-mod OwnedBytes
+mod Exact
 mod ReceivedIndices
 mod ReceivedTags
 mod Leading
 mod Runs
 pub mod Answers
+mod OnceRuns
 mod LittleTexts

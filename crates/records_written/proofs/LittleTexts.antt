@@ -1,21 +1,19 @@
 -- Texts held against the definitions by hand: of three slots that are published by one store; the same with one slot left as it was, which
--- keeps the protocol of ownership, and of which that slot's first byte is the first that isn't shown to be written; and one whose receiver
--- reads each record. And when an entry wrote a byte, or read it.
+-- keeps the protocol of ownership, and of which that slot's first byte is the first that isn't shown to be written. And when an entry wrote a
+-- byte, or read it.
 use Rattle.std.proofs.Common.{ℕ, zero, suc, ◌≡◌, ◌<◌, ◌+◌, ◌*◌, ◌^◌, ◌&&◌, ◌||◌, not, Bool, true, false, Some, List, [], ◌∷◌, ◌++◌, length, get_or, refl, sym}
 use Rattle.std.proofs.Common.{ap, subst, arith, lit<, length-append, ◌≤◌}
 use Rattle.std.specs.Prelude.{nat_lt, min}
 use Rattle.std.specs.List.{list_all}
 use Rattle.std.proofs.lemmas.Bool.Decides.{nat_tests}
 use Rattle.rv_decode.specs.Meaning.{meaning}
-use Rattle.step_machine.specs.Names.{OpeningValue, history_of, WellFormed, access_of}
-use Rattle.queue_parties.specs.Parties.{the_sender, the_receiver}
+use Rattle.step_machine.specs.Names.{OpeningValue, access_of}
+use Rattle.queue_parties.specs.Parties.{the_sender}
 use Rattle.slot_queue.specs.Queues.{Queue}
 use Rattle.queue_certificates.specs.{number, KnownValue, any, linear, leaf, ListedState, QueueCertificate, accepts, told_by_store}
-use Rattle.queue_certificates.proofs.OneSlotQueue.{text, certificate}
-use Rattle.queue_layouts.specs.declared.tagged.Codec.TheVariants as codec
-use Rattle.records_written.specs.{Indexed, Tagged, PartyLeaf, graph_of, published_after, taken_after, owned_end_after, slot_in, IsRead, IsWritten}
-use Rattle.records_written.specs.Sure.{Marks, keeps, AreKept, IsSurelyDone, IsSureAt, IsSure, IsFirstUnsure}
-use Rattle.records_written.proofs.Runs.{each_read}
+use Rattle.queue_certificates.proofs.OneSlotQueue.{certificate}
+use Rattle.records_written.specs.{Indexed, PartyLeaf, graph_of, published_after, owned_end_after, IsRead, IsWritten}
+use Rattle.records_written.specs.PartyLeaves.{Marks, keeps, AreKept, IsSurelyDone, IsSureAt, IsSure, IsFirstUnsure}
 use Rattle.certified_runs.specs.Views.{LoadsByte}
 use Rattle.step_machine.specs.declared.events.Entry.{Entry}
 use Rattle.step_machine.specs.declared.events.Entry.TheVariants as entry
@@ -59,6 +57,7 @@ running code = record {
 abbrev listed : (n own owned : ℕ) → (x1 : KnownValue) → (handed : ℕ) → ListedState
 listed n own owned x1 handed = record {
   known = record { pc = 4 * n; ranges = []; registers = any ∷ x1 ∷ []; words = []; shares = (record { own = number own; owned = number owned }) ∷ [] };
+  ranks = [];
   filled = [];
   cases = leaf (number handed) ((record { to = n + 1; forms = [] }) ∷ []);
 }
@@ -68,7 +67,7 @@ abbrev certified : List ListedState → QueueCertificate
 certified states = record {
   queues = (record { queue = three_slots; start = 0; fields = [] }) ∷ [];
   tagged = [];
-  harts = (record { own = []; first = 0; numbers = []; states = states }) ∷ [];
+  harts = (record { own = []; first = 0; numbers = []; goals = []; lacking = []; states = states }) ∷ [];
 }
 
 -- sw x3,8(x0); sw x3,12(x0); sw x3,16(x0); addi x1,x0,3; sw x1,0(x0)
@@ -84,16 +83,16 @@ unfolding meaning told_by_store
 all_filled_accepted = refl
 
 abbrev fills : (position to : ℕ) → List PartyLeaf
-fills position to = record { effect = Some (Fills position 0 4); targets = to ∷ [] } ∷ []
+fills position to = record { effect = Some (Fills position 0 4); all = false; targets = to ∷ [] } ∷ []
 
-abbrev leaves : (to : ℕ) → List PartyLeaf
-leaves to = record { effect = Some Leaves; targets = to ∷ [] } ∷ []
+abbrev leaves : (all : Bool) (to : ℕ) → List PartyLeaf
+leaves all to = record { effect = Some Leaves; all = all; targets = to ∷ [] } ∷ []
 
 abbrev publishes : (n to : ℕ) → List PartyLeaf
-publishes n to = record { effect = Some (Publishes n); targets = to ∷ [] } ∷ []
+publishes n to = record { effect = Some (Publishes n); all = true; targets = to ∷ [] } ∷ []
 
 abbrev all_graph : List (List PartyLeaf)
-all_graph = fills 0 1 ∷ fills 1 2 ∷ fills 2 3 ∷ leaves 4 ∷ publishes 3 5 ∷ leaves 6 ∷ []
+all_graph = fills 0 1 ∷ fills 1 2 ∷ fills 2 3 ∷ leaves false 4 ∷ publishes 3 5 ∷ leaves true 6 ∷ []
 
 all_filled_sends : graph_of all_filled five (Indexed 0) the_sender ≡ all_graph
 unfolding meaning told_by_store
@@ -142,7 +141,7 @@ unfolding meaning told_by_store
 two_filled_accepted = refl
 
 abbrev two_graph : List (List PartyLeaf)
-two_graph = fills 0 1 ∷ fills 2 2 ∷ leaves 3 ∷ publishes 3 4 ∷ leaves 5 ∷ []
+two_graph = fills 0 1 ∷ fills 2 2 ∷ leaves false 3 ∷ publishes 3 4 ∷ leaves true 5 ∷ []
 
 two_filled_sends : graph_of two_filled four (Indexed 0) the_sender ≡ two_graph
 unfolding meaning told_by_store
@@ -198,15 +197,18 @@ fill = entry.Store 0 8 4 7
 abbrev publish : (n : ℕ) → Entry
 publish n = entry.Store 0 0 4 n
 
--- of one slot: before position 0 is published, and between positions 0 and 1
-written_first : IsWritten certificate (Indexed 0) (fill ∷ []) 0 8
-written_first = record { before = []; writes = fill; since = []; is = refl; sender = refl; byte = refl; after = lit< tt }
+abbrev nobody : OpeningValue
+nobody = record { harts = []; words = [] }
 
-written_again : IsWritten certificate (Indexed 0) (fill ∷ publish 1 ∷ fill ∷ []) 1 8
-written_again = record { before = fill ∷ publish 1 ∷ []; writes = fill; since = []; is = refl; sender = refl; byte = refl; after = lit< tt }
+-- of one slot: before position 0 is published, and between positions 0 and 1
+written_first : IsWritten 0 nobody certificate (Indexed 0) (fill ∷ []) 0 8
+written_first = record { before = []; writes = fill; since = []; is = refl; sender = refl; byte = refl; counts = refl; after = lit< tt }
+
+written_again : IsWritten 0 nobody certificate (Indexed 0) (fill ∷ publish 1 ∷ fill ∷ []) 1 8
+written_again = record { before = fill ∷ publish 1 ∷ []; writes = fill; since = []; is = refl; sender = refl; byte = refl; counts = refl; after = lit< tt }
 
 -- one entry wrote it, which came before position 0 was published
-written_before : IsWritten certificate (Indexed 0) (fill ∷ []) 1 8 → ⊥
+written_before : IsWritten 0 nobody certificate (Indexed 0) (fill ∷ []) 1 8 → ⊥
 written_before is = by is.before is.is is.after
   where
     by : (before : List Entry) → fill ∷ [] ≡ before ++ is.writes ∷ is.since → 1 < published_after certificate (Indexed 0) before + 1 → ⊥
@@ -214,54 +216,6 @@ written_before is = by is.before is.is is.after
     by (e ∷ es) same after =
         absurd (let long : 1 ≡ length ((e ∷ es) ++ is.writes ∷ is.since) = ap (λ (fs : List Entry). length fs) same in
         omega (arith, long, length-append (e ∷ es) (is.writes ∷ is.since)))
-
--- ---- a receiver that reads each record, of one slot: it looks until it owns the slot, loads it, and stores its index
-
-one_slot_accepted : accepts text certificate ≡ true
-unfolding meaning told_by_store
-one_slot_accepted = refl
-
-abbrev reading_graph : List (List PartyLeaf)
-reading_graph = leaves 1 ∷ leaves 2 ∷ (leaves 0 ++ leaves 3) ∷ fills 0 4 ∷ leaves 5 ∷ publishes 1 6 ∷ leaves 0 ∷ []
-
-one_slot_receives : graph_of text certificate (Indexed 0) the_receiver ≡ reading_graph
-unfolding meaning told_by_store
-one_slot_receives = refl
-
--- between the load and the store of the index
-abbrev read_in : Marks
-read_in n d b = nat_lt 3 n && nat_lt n 6 && nat_lt d 1 && nat_lt b 4
-
-reading_kept : AreKept reading_graph 0 read_in
-reading_kept = record { opens = λ d b. grind (arith, nat_tests); leads = leads }
-  where
-    leads : (n d b : ℕ) → list_all (keeps read_in n d b) (get_or reading_graph n []) ≡ true
-    leads zero d b = grind (arith, nat_tests)
-    leads (suc zero) d b = grind (arith, nat_tests)
-    leads (suc (suc zero)) d b = grind (arith, nat_tests)
-    leads (suc (suc (suc zero))) d b = grind (arith, nat_tests)
-    leads (suc (suc (suc (suc zero)))) d b = grind (arith, nat_tests)
-    leads (suc (suc (suc (suc (suc zero))))) d b = grind (arith, nat_tests)
-    leads (suc (suc (suc (suc (suc (suc zero)))))) d b = grind (arith, nat_tests)
-    leads (suc (suc (suc (suc (suc (suc (suc n))))))) d b = refl
-
-one_slot_read : IsSure reading_graph 0 word
-one_slot_read zero d handed b asked = absurd (no-position d handed)
-one_slot_read (suc zero) d handed b asked = absurd (no-position d handed)
-one_slot_read (suc (suc zero)) d handed b asked = absurd (let less : d < 0 = grind (arith, nat_tests, handed) in omega (arith, less))
-one_slot_read (suc (suc (suc zero))) d handed b asked = absurd (no-position d handed)
-one_slot_read (suc (suc (suc (suc zero)))) d handed b asked = absurd (no-position d handed)
-one_slot_read (suc (suc (suc (suc (suc zero))))) d handed b asked =
-    record { marks = read_in; kept = reading_kept; marked = grind (arith, nat_tests, handed, asked) }
-one_slot_read (suc (suc (suc (suc (suc (suc zero)))))) d handed b asked = absurd (no-position d handed)
-one_slot_read (suc (suc (suc (suc (suc (suc (suc n))))))) d handed b asked = absurd (cc)
-
--- so in every run each of the word's bytes is read before its slot is handed back
-every_record_read : (B M : ℕ) (es : List Entry) (e : Entry) → WellFormed B M (history_of text (es ++ e ∷ [])) → (k : ℕ)
-    → taken_after certificate (Indexed 0) es ≤ k → k < taken_after certificate (Indexed 0) (es ++ e ∷ []) → (b : ℕ) → word b ≡ true
-    → IsRead certificate (Indexed 0) es k (slot_in certificate (Indexed 0) k + b)
-every_record_read B M = each_read B M text certificate one_slot_accepted (Indexed 0) (lit< tt) word
-    (subst (λ (graph : List (List PartyLeaf)). IsSure graph 0 word) (sym one_slot_receives) one_slot_read)
 
 -- ---- when a byte was read: once the receiver has learned that it owns the position
 
@@ -272,87 +226,25 @@ abbrev load_slot : Entry
 load_slot = entry.Load 1 8 4 7
 
 -- the look tells of position 0
-read_owned : IsRead certificate (Indexed 0) (look 1 ∷ load_slot ∷ []) 0 8
+read_owned : IsRead 0 nobody certificate (Indexed 0) (look 1 ∷ load_slot ∷ []) 0 8
 read_owned = record {
   before = look 1 ∷ [];
   reads = load_slot;
   since = [];
   is = refl;
-  receiver = refl;
-  byte = (omega arith, omega arith);
-  from = omega arith;
-  owned = lit< tt;
+  by = record { receiver = refl; byte = (omega arith, omega arith); counts = refl; from = omega arith; owned = lit< tt };
 }
 
 -- a load that comes before it doesn't count
-read_early : IsRead certificate (Indexed 0) (load_slot ∷ look 1 ∷ []) 0 8 → ⊥
-read_early is = by is.before is.is is.owned
+read_early : IsRead 0 nobody certificate (Indexed 0) (load_slot ∷ look 1 ∷ []) 0 8 → ⊥
+read_early is = by is.before is.is is.by.owned
   where
     by : (before : List Entry) → load_slot ∷ look 1 ∷ [] ≡ before ++ is.reads ∷ is.since → 0 < owned_end_after certificate (Indexed 0) before → ⊥
     by [] same owned = let none : 0 < 0 = owned in omega (arith, none)
     by (e ∷ []) same owned =
         let there : look 1 ≡ is.reads = cc in
-        let byte : (0 ≤ 8) × (8 < 0 + 4) = subst (λ (e : Entry). LoadsByte (access_of e) 8) (sym there) is.byte in
+        let byte : (0 ≤ 8) × (8 < 0 + 4) = subst (λ (e : Entry). LoadsByte (access_of e) 8) (sym there) is.by.byte in
         omega (arith, byte.1)
     by (e ∷ f ∷ es) same owned =
         let long : 2 ≡ length ((e ∷ f ∷ es) ++ is.reads ∷ is.since) = ap (λ (fs : List Entry). length fs) same in
         omega (arith, long, length-append (e ∷ f ∷ es) (is.reads ∷ is.since))
-
--- ---- of a queue with tags, in its slots or beside them: by a load of the tag the receiver learns that it owns the position, and reads only
--- later
-
-abbrev one_tag : (tags stride : ℕ) → QueueCertificate
-one_tag tags stride = record {
-  queues = [];
-  tagged = (record {
-    queue = record {
-      sender = 0;
-      receiver = 1;
-      slots = 0;
-      size = 1;
-      width = 8;
-      tags = tags;
-      tag_stride = stride;
-      tag_offset = 0;
-      tag_width = 4;
-      codec = codec.Zero;
-    };
-    start = 0;
-  }) ∷ [];
-  harts = [];
-}
-
-abbrev load_tag : (tags : ℕ) → Entry
-load_tag tags = entry.Load 1 tags 4 5
-
-abbrev load_rest : Entry
-load_rest = entry.Load 1 4 4 7
-
-rest_read : (tags stride : ℕ) → taken_after (one_tag tags stride) (Tagged 0) (load_tag tags ∷ []) ≤ 0
-    → 0 < owned_end_after (one_tag tags stride) (Tagged 0) (load_tag tags ∷ [])
-    → IsRead (one_tag tags stride) (Tagged 0) (load_tag tags ∷ load_rest ∷ []) 0 4
-rest_read tags stride from owned = record {
-  before = load_tag tags ∷ [];
-  reads = load_rest;
-  since = [];
-  is = refl;
-  receiver = refl;
-  byte = (omega arith, omega arith);
-  from = from;
-  owned = owned;
-}
-
-read_in_slots : IsRead (one_tag 0 8) (Tagged 0) (load_tag 0 ∷ load_rest ∷ []) 0 4
-read_in_slots = rest_read 0 8 (omega arith) (lit< tt)
-
-read_beside : IsRead (one_tag 8 4) (Tagged 0) (load_tag 8 ∷ load_rest ∷ []) 0 4
-read_beside = rest_read 8 4 (omega arith) (lit< tt)
-
-tag_not_read : IsRead (one_tag 0 8) (Tagged 0) (load_tag 0 ∷ []) 0 0 → ⊥
-tag_not_read is = by is.before is.is is.owned
-  where
-    by : (before : List Entry) → load_tag 0 ∷ [] ≡ before ++ is.reads ∷ is.since → 0 < owned_end_after (one_tag 0 8) (Tagged 0) before → ⊥
-    by [] same owned = let none : 0 < 0 = owned in omega (arith, none)
-    by (e ∷ es) same owned =
-        let long : 1 ≡ length ((e ∷ es) ++ is.reads ∷ is.since) = ap (λ (fs : List Entry). length fs) same in
-        omega (arith, long, length-append (e ∷ es) (is.reads ∷ is.since))

@@ -9,12 +9,28 @@ use Rattle.std.proofs.lemmas.List.Folds.{list_any_at, list_any_more}
 use Rattle.std.proofs.Math.Seq.{get_or-append_seam}
 use Rattle.std.proofs.Math.ListN.{get_or-append}
 use Rattle.record_bytes.specs.declared.ranges.ByteRange.{ByteRange}
-use Rattle.record_bytes.specs.Ranges.{has_byte}
+use Rattle.record_bytes.specs.Ranges.{has_byte, range_has}
 use Rattle.records_written.specs.{Mark, Open, PartyLeaf, may_hand_on, is_mark, has_mark, marks_byte, marks_of, is_left, lower_of, lower, IsLowest, is_open}
 use Rattle.records_written.specs.{IsLowestOpen, IsEnd, IsFirstOpen}
 
 abbrev pub no_mark : Mark
 no_mark = record { position = 0; bytes = record { first = 0; last = 0 } }
+
+-- ---- what is left of a mark without another
+
+outside : (cut : ByteRange) (b : ℕ) → not (range_has cut b) ≡ (nat_lt b cut.first || nat_lt cut.last b)
+outside cut b = grind (arith, nat_tests)
+
+by-parts : (old there has low high inside : Bool) → not inside ≡ (low || high)
+    → ((old || (there && (has && low))) || (there && (has && high))) ≡ (old || ((there && has) && not (there && inside)))
+by-parts true there has low high inside is = refl
+by-parts false false has low high inside is = refl
+by-parts false true false low high inside is = refl
+by-parts false true true low high inside is = sym is
+
+pub rest-parts : (old there : Bool) (range cut : ByteRange) (b : ℕ) → ((old || (there && (range_has range b && nat_lt b cut.first)))
+    || (there && (range_has range b && nat_lt cut.last b))) ≡ (old || ((there && range_has range b) && not (there && range_has cut b)))
+rest-parts old there range cut b = by-parts old there (range_has range b) (nat_lt b cut.first) (nat_lt cut.last b) (range_has cut b) (outside cut b)
 
 -- ---- the lowest byte
 
@@ -163,7 +179,7 @@ lowest-open mask own asked lacking position of asks found is = by found is
             let yes : has_mark lacking is.0.0 x ≡ true = is.0.1 in cc)
 
 abbrev pub no_sent : PartyLeaf
-no_sent = record { effect = None; targets = [] }
+no_sent = record { effect = None; all = false; targets = [] }
 
 -- of the positions before an end, the first that lacks a byte is the first of those that these leaves may publish
 pub open-within : (mask : List ByteRange) (own : ℕ → ℕ → Bool) (leaves : List PartyLeaf) (end : ℕ) (found : Option Open) → IsEnd leaves own end

@@ -28,7 +28,7 @@ use Rattle.queue_certificates.proofs.{Makes, next-access}
 use Rattle.queue_certificates.proofs.Steps as steps
 use Rattle.records_written.specs.{receipt_of, Indexed}
 use Rattle.records_written.proofs.Acted.{Acted, DoesByte, acted, stopped, left, moved-by}
-use Rattle.records_written.proofs.OwnedBytes.{bytes-act}
+use Rattle.records_written.proofs.Acted.{bytes-act}
 
 loaded-taken : (q : Queue) (c : QueueCounts) (a width v : ℕ) → (after_access q (Some the_receiver) (load a width v) c).taken ≡ c.taken
 loaded-taken q c a width v = by (a == index q the_sender && width == q.index_width)

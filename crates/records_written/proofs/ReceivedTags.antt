@@ -31,7 +31,7 @@ use Rattle.queue_certificates.proofs.TagStores.{store-counts}
 use Rattle.queue_certificates.proofs.Steps as steps
 use Rattle.records_written.specs.{tag_receipt_of, Tagged}
 use Rattle.records_written.proofs.Acted.{Acted, DoesByte, acted, stopped}
-use Rattle.records_written.proofs.OwnedBytes.{bytes-act}
+use Rattle.records_written.proofs.Acted.{bytes-act}
 use Rattle.records_written.proofs.ReceivedIndices.{when-some}
 
 -- ---- accesses that are none of memory

@@ -1,8 +1,8 @@
 -- In every run all is done that surely is in the state in which a party is: by induction over the run's entries. The sender writes, and the
 -- receiver reads.
 use Rattle.std.proofs.Common.{ℕ, ◌+◌, ◌-◌, ◌<◌, ◌≤◌, ◌≡◌, ◌==◌, ◌&&◌, inl, inr, Bool, true, false, Option, Some, None, List, [], ◌∷◌, ◌++◌, length, refl, sym}
-use Rattle.std.proofs.Common.{◌∙◌, ap, subst, arith, append-nil, append_assoc}
-use Rattle.std.specs.Prelude.{nat_lt, nat_le, option_map}
+use Rattle.std.proofs.Common.{◌∙◌, ap, subst, arith, append-nil, append_assoc, not, ◌||◌}
+use Rattle.std.specs.Prelude.{nat_lt, nat_le, option_map, option_and_then}
 use Rattle.std.specs.List.{slice_get}
 use Rattle.std.proofs.lemmas.Bool.{and_parts, or_cases, eqb-true, ltb-true, leb-true, lt-ltb}
 use Rattle.hart.specs.{HartState, advanced}
@@ -18,76 +18,82 @@ use Rattle.slots_that_tell.specs.Telling.{told_counts}
 use Rattle.queue_layouts.specs.Tagged.{slots_of}
 use Rattle.queue_certificates.specs.{View, AllCounts, view_then, IsSameFor, kept_beside, KnownState, QueueCertificate, queue_at, start_at, part_of, own_of}
 use Rattle.queue_certificates.specs.{state_at, tagged_at, tagged_start, told_beside, IsKeptByte, MeansAll, next_states, all_lead, accepts, most_published}
+use Rattle.queue_certificates.specs.Steps.{instruction_at}
 use Rattle.queue_certificates.proofs.Every as every
 use Rattle.queue_certificates.specs.declared.effect.Effect.{Effect}
 use Rattle.queue_certificates.specs.declared.effect.Effect.TheVariants.{Leaves, Fills, Publishes, PublishesSome}
 use Rattle.queue_certificates.proofs.{means-frame, told-frame, told-opens, fine-tagged, of-hart, opens-means, at-leaf, sets}
-use Rattle.records_written.specs.{QueueNumber, Indexed, Tagged, IsListed, hart_in, slot_in, count_of, count_after, published_after, taken_after, IsWritten}
+use Rattle.records_written.specs.{QueueNumber, Indexed, Tagged, IsListed, hart_by, slot_in, count_of, count_after, published_after, taken_after, IsWritten}
+use Rattle.records_written.specs.Parties.{counts_for, next_instruction}
 use Rattle.records_written.specs.{IsRead, is_filled, marked_after, may_hand, IsSurelyDone, leaf_by, graph_of, first_of, IsShownDone, IsShownWritten}
-use Rattle.records_written.specs.{IsShownRead}
+use Rattle.records_written.specs.{IsShownRead, OwnsReads}
 use Rattle.records_written.proofs.Acted.{DoesByte, IsActed, Acted, indexed_then, tagged_then}
-use Rattle.records_written.proofs.Leading.{leaves-pass, hands, Leads, leads}
+use Rattle.records_written.proofs.Leading.{leaves-pass, hands, Leads, leads, owned-at, owns_load}
 
 -- ---- a byte that is done stays so
 
 -- the sender wrote the byte at x of the slot of position k, or the receiver read it
-abbrev WasDone : QueueCertificate → QueueNumber → Party → List Entry → (k x : ℕ) → Type 0
-WasDone c w the_sender es k x = IsWritten c w es k x
-WasDone c w the_receiver es k x = IsRead c w es k x
+abbrev WasDone : (M : ℕ) → OpeningValue → QueueCertificate → QueueNumber → Party → List Entry → (k x : ℕ) → Type 0
+WasDone M o c w the_sender es k x = IsWritten M o c w es k x
+WasDone M o c w the_receiver es k x = IsRead M o c w es k x
 
-later : (c : QueueCertificate) (w : QueueNumber) (p : Party) (es : List Entry) (e : Entry) (k x : ℕ) → WasDone c w p es k x
-    → WasDone c w p (es ++ e ∷ []) k x
-later c w the_sender es e k x is = record {
+later : (M : ℕ) (o : OpeningValue) (c : QueueCertificate) (w : QueueNumber) (p : Party) (es : List Entry) (e : Entry) (k x : ℕ) → WasDone M o c w p es k x
+    → WasDone M o c w p (es ++ e ∷ []) k x
+later M o c w the_sender es e k x is = record {
   before = is.before;
   writes = is.writes;
   since = is.since ++ e ∷ [];
   is = ap (λ fs. fs ++ e ∷ []) is.is ∙ append_assoc is.before (is.writes ∷ is.since) (e ∷ []);
   sender = is.sender;
   byte = is.byte;
+  counts = is.counts;
   after = is.after;
 }
-later c w the_receiver es e k x is = record {
+later M o c w the_receiver es e k x is = record {
   before = is.before;
   reads = is.reads;
   since = is.since ++ e ∷ [];
   is = ap (λ fs. fs ++ e ∷ []) is.is ∙ append_assoc is.before (is.reads ∷ is.since) (e ∷ []);
-  receiver = is.receiver;
-  byte = is.byte;
-  from = is.from;
-  owned = is.owned;
+  by = is.by;
 }
 
--- what an access of the party's does after these entries
-abbrev DoesNow : QueueCertificate → QueueNumber → Party → List Entry → Access → (j b : ℕ) → Type 0
-DoesNow c w p es y j b = DoesByte c w p (λ i. counts_after (queue_at c i) (all_at (start_at c i)) es)
+-- what an access of the party's does after these entries, where its bytes count
+abbrev pub DoesNow : (M : ℕ) → OpeningValue → QueueCertificate → QueueNumber → Party → List Entry → Access → (j b : ℕ) → Type 0
+DoesNow M o c w p es y j b = (counts_for p (next_instruction M o es (hart_by c w p)) ≡ true)
+    × DoesByte c w p (λ i. counts_after (queue_at c i) (all_at (start_at c i)) es)
     (λ t. told_counts (slots_of (tagged_at c t)) (all_at (tagged_start c t)) es) y j b
 
-done-now : (c : QueueCertificate) (w : QueueNumber) (p : Party) (es : List Entry) (e : Entry) → hart_of e ≡ hart_in c w p → (j b : ℕ)
-    → DoesNow c w p es (access_of e) j b → WasDone c w p (es ++ e ∷ []) (count_after c w p es + j) (slot_in c w (count_after c w p es + j) + b)
-done-now c w the_sender es e mine j b does = record {
+done-now : (M : ℕ) (o : OpeningValue) (c : QueueCertificate) (w : QueueNumber) (p : Party) (es : List Entry) (e : Entry) → hart_of e ≡ hart_by c w p
+    → (j b : ℕ) → DoesNow M o c w p es (access_of e) j b
+    → WasDone M o c w p (es ++ e ∷ []) (count_after c w p es + j) (slot_in c w (count_after c w p es + j) + b)
+done-now M o c w the_sender es e mine j b does = record {
   before = es;
   writes = e;
   since = [];
   is = refl;
   sender = mine;
-  byte = does.1;
-  after = omega (arith, does.0);
+  byte = does.1.1;
+  counts = ap (λ h. counts_for the_sender (next_instruction M o es h)) mine ∙ does.0;
+  after = omega (arith, does.1.0);
 }
-done-now c w the_receiver es e mine j b does = record {
+done-now M o c w the_receiver es e mine j b does = record {
   before = es;
   reads = e;
   since = [];
   is = refl;
-  receiver = mine;
-  byte = does.1;
-  from = omega arith;
-  owned = does.0;
+  by = record {
+    receiver = mine;
+    byte = does.1.1;
+    counts = ap (λ h. counts_for the_receiver (next_instruction M o es h)) mine ∙ does.0;
+    from = omega arith;
+    owned = does.1.0;
+  };
 }
 
-module _ (c : QueueCertificate) (w : QueueNumber) (p : Party) where
+module _ (M : ℕ) (o : OpeningValue) (c : QueueCertificate) (w : QueueNumber) (p : Party) where
   -- the byte of position k's slot at an offset is
   abbrev IsDoneAt : List Entry → (k b : ℕ) → Type 0
-  IsDoneAt es k b = WasDone c w p es k (slot_in c w k + b)
+  IsDoneAt es k b = WasDone M o c w p es k (slot_in c w k + b)
 
   -- what f marks is so after these entries
   abbrev AreDone : (f : ℕ → ℕ → Bool) → List Entry → Type 0
@@ -96,11 +102,11 @@ module _ (c : QueueCertificate) (w : QueueNumber) (p : Party) where
   -- the same position is d further than the count, after an entry that hands on
   done-on : (es : List Entry) (e : Entry) (k d b : ℕ) → count_after c w p (es ++ e ∷ []) + d ≡ k → IsDoneAt es k b
       → IsDoneAt (es ++ e ∷ []) (count_after c w p (es ++ e ∷ []) + d) b
-  done-on es e k d b same is = subst (λ k. IsDoneAt (es ++ e ∷ []) k b) (sym same) (later c w p es e k (slot_in c w k + b) is)
+  done-on es e k d b same is = subst (λ k. IsDoneAt (es ++ e ∷ []) k b) (sym same) (later M o c w p es e k (slot_in c w k + b) is)
 
   -- after an entry of the party's whose effect is done, its marks are so
-  marks-after : (es : List Entry) (e : Entry) (was : ℕ → ℕ → Bool) (f : Effect) → hart_of e ≡ hart_in c w p → AreDone was es
-      → IsActed (DoesNow c w p es (access_of e)) (count_after c w p es) (count_after c w p (es ++ e ∷ [])) f → (d b : ℕ)
+  marks-after : (es : List Entry) (e : Entry) (was : ℕ → ℕ → Bool) (f : Effect) → hart_of e ≡ hart_by c w p → AreDone was es
+      → IsActed (DoesNow M o c w p es (access_of e)) (count_after c w p es) (count_after c w p (es ++ e ∷ [])) f → (d b : ℕ)
       → marked_after (Some f) was d b ≡ true → IsDoneAt (es ++ e ∷ []) (count_after c w p (es ++ e ∷ []) + d) b
   marks-after es e was Leaves mine so to d b marked = done-on es e (count_after c w p es + d) d b (omega (arith, to)) (so d b marked)
   marks-after es e was (Publishes m) mine so to d b marked =
@@ -116,27 +122,27 @@ module _ (c : QueueCertificate) (w : QueueNumber) (p : Party) where
             let high : b < offset + width = ltb-true b (offset + width) (and_parts ((j == d) && nat_le offset b) (nat_lt b (offset + width)) new).1 in
             subst (λ k. IsDoneAt (es ++ e ∷ []) k b)
             (let same : count_after c w p es + j ≡ count_after c w p (es ++ e ∷ []) + d = omega (arith, acted.0, at) in same)
-            (done-now c w p es e mine j b (acted.1 b low high)))
+            (done-now M o c w p es e mine j b (acted.1 b low high)))
       ]
 
   -- the same, where the effect may not be known
-  marks-then : (es : List Entry) (e : Entry) (was : ℕ → ℕ → Bool) (f : Option Effect) → hart_of e ≡ hart_in c w p → AreDone was es
-      → ((g : Effect) → f ≡ Some g → IsActed (DoesNow c w p es (access_of e)) (count_after c w p es) (count_after c w p (es ++ e ∷ [])) g)
+  marks-then : (es : List Entry) (e : Entry) (was : ℕ → ℕ → Bool) (f : Option Effect) → hart_of e ≡ hart_by c w p → AreDone was es
+      → ((g : Effect) → f ≡ Some g → IsActed (DoesNow M o c w p es (access_of e)) (count_after c w p es) (count_after c w p (es ++ e ∷ [])) g)
       → (d b : ℕ) → marked_after f was d b ≡ true → IsDoneAt (es ++ e ∷ []) (count_after c w p (es ++ e ∷ []) + d) b
   marks-then es e was None mine so acted d b marked = absurd (cc)
   marks-then es e was (Some f) mine so acted d b marked = marks-after es e was f mine so (acted f refl) d b marked
 
 module _ (B M : ℕ) (o : OpeningValue) (c : QueueCertificate) (ok : accepts o c ≡ true) where
   -- what hart h reads at each byte
-  abbrev Sees : ℕ → List Entry → View
+  abbrev pub Sees : ℕ → List Entry → View
   Sees h done = λ x. read_byte o done h x
 
   -- the counts of each queue
-  abbrev Counted : List Entry → AllCounts
+  abbrev pub Counted : List Entry → AllCounts
   Counted done = λ j. counts_after (queue_at c j) (all_at (start_at c j)) done
 
   -- and of each queue with tags
-  abbrev Told : List Entry → AllCounts
+  abbrev pub Told : List Entry → AllCounts
   Told done = every.CountedBeside (sets B M o c ok) done
 
   -- what a state means stays so, where its hart sees the same
@@ -151,51 +157,52 @@ module _ (B M : ℕ) (o : OpeningValue) (c : QueueCertificate) (ok : accepts o c
 
   module _ (done : List Entry) (e : Entry) (run : WellFormed B M (history_of o (done ++ e ∷ []))) (holds : every.Holds (sets B M o c ok) done) where
     -- another hart's entry, and a landing, hand nothing on
-    count-left : (w : QueueNumber) (p : Party) → IsListed c w → is_own (hart_in c w p) e ≡ false → count_after c w p (done ++ e ∷ []) ≡ count_after c w p done
-    count-left (Indexed i) p less off = (every.counts_left (sets B M o c ok) done e run holds (hart_in c (Indexed i) p) off i less).count p refl
-    count-left (Tagged t) p less off = (every.beside_left (sets B M o c ok) done e run holds (hart_in c (Tagged t) p) off t less).count p refl
+    pub count-left : (w : QueueNumber) (p : Party) → IsListed c w → is_own (hart_by c w p) e ≡ false
+        → count_after c w p (done ++ e ∷ []) ≡ count_after c w p done
+    count-left (Indexed i) p less off = (every.counts_left (sets B M o c ok) done e run holds (hart_by c (Indexed i) p) off i less).count p refl
+    count-left (Tagged t) p less off = (every.beside_left (sets B M o c ok) done e run holds (hart_by c (Tagged t) p) off t less).count p refl
 
     -- and the party's own what its access does
-    count-acted : (w : QueueNumber) (p : Party) → IsListed c w → hart_of e ≡ hart_in c w p
-        → count_of w p (indexed_then c (hart_in c w p) (access_of e) (Counted done)) (tagged_then c (hart_in c w p) (access_of e) (Told done))
+    pub count-acted : (w : QueueNumber) (p : Party) → IsListed c w → hart_of e ≡ hart_by c w p
+        → count_of w p (indexed_then c (hart_by c w p) (access_of e) (Counted done)) (tagged_then c (hart_by c w p) (access_of e) (Told done))
         ≡ count_after c w p (done ++ e ∷ [])
     count-acted (Indexed i) p less mine =
-        sym ((every.counts_acted (sets B M o c ok) done e run holds (hart_in c (Indexed i) p) mine i).count p refl)
+        sym ((every.counts_acted (sets B M o c ok) done e run holds (hart_by c (Indexed i) p) mine i).count p refl)
     count-acted (Tagged t) p less mine =
-        sym ((every.beside_acted (sets B M o c ok) done e run holds (hart_in c (Tagged t) p) mine t less).count p refl)
+        sym ((every.beside_acted (sets B M o c ok) done e run holds (hart_by c (Tagged t) p) mine t less).count p refl)
 
-  module _ (w : QueueNumber) (p : Party) (less : IsListed c w) (mask : ℕ → Bool) (shown : IsShownDone o c w p mask) where
-    abbrev h : ℕ
-    h = hart_in c w p
+  -- what surely is so in state n, of byte b of the position d further than the count, and what this means of position k after these entries
+  module _ (w : QueueNumber) (p : Party) (less : IsListed c w) (Surely : (n d b : ℕ) → Type 0) (Is : List Entry → (k b : ℕ) → Type 0) where
+    abbrev pub h : ℕ
+    h = hart_by c w p
 
-    -- a byte is surely done, in state n
-    abbrev IsSurely : (n d b : ℕ) → Type 0
-    IsSurely n d b = IsSurelyDone (graph_of o c w p) (first_of c w p) n d b
-
-    -- a listed state of the party's, where all is done that surely is
-    record IsMarked (done : List Entry) (s : HartState) : Type 0 where
-      state : ℕ
-      listed : state < length (part_of c h).states
-      means : MeansAll c h (state_at c h state).known s (Sees h done) (Counted done) (Told done)
-      all_done : (d b : ℕ) → IsSurely state d b → IsDoneAt c w p done (count_after c w p done + d) b
+    -- a listed state of the party's, where all is so that surely is
+    pub record IsMarked (done : List Entry) (s : HartState) : Type 0 where
+      pub state : ℕ
+      pub listed : state < length (part_of c h).states
+      pub means : MeansAll c h (state_at c h state).known s (Sees h done) (Counted done) (Told done)
+      pub all_done : (d b : ℕ) → Surely state d b → Is done (count_after c w p done + d) b
 
     -- a party that runs is in such a state
-    abbrev StaysMarked : List Entry → Type 0
+    abbrev pub StaysMarked : List Entry → Type 0
     StaysMarked done = (s : HartState) → state_of M (history_of o done) h ≡ Some s → s.status ≡ status.Running → IsMarked done s
 
     module _ (done : List Entry) (e : Entry) (run : WellFormed B M (history_of o (done ++ e ∷ []))) (marked : StaysMarked done) where
-      holds : every.Holds (sets B M o c ok) done
+      pub holds : every.Holds (sets B M o c ok) done
       holds = every.holds (sets B M o c ok) done (kept-front B M o done (e ∷ []) run)
 
       -- an entry of the party's, from its state and the marks of it
-      record Stepped : Type 0 where
-        state : HartState
-        at : state_of M (history_of o done) h ≡ Some state
-        from : ℕ
-        all_done : (d b : ℕ) → IsSurely from d b → IsDoneAt c w p done (count_after c w p done + d) b
-        leading : Leads M o c ok w p less from (Sees h done) (Counted done) (Told done) (access_of e) (advanced state (number_read e))
+      pub record Stepped : Type 0 where
+        pub state : HartState
+        pub at : state_of M (history_of o done) h ≡ Some state
+        pub from : ℕ
+        pub listed : from < length (part_of c h).states
+        pub all_done : (d b : ℕ) → Surely from d b → Is done (count_after c w p done + d) b
+        pub leading : Leads M o c ok w p less ((p ≡ the_receiver) × OwnsReads o c w) from (Sees h done)
+            (Counted done) (Told done) (instruction_at state.code state.pc) (access_of e)
+            (advanced state (number_read e))
 
-      stepped : hart_of e ≡ h → is_land e ≡ false → Stepped
+      pub stepped : hart_of e ≡ h → is_land e ≡ false → Stepped
       stepped mine act =
           let k = every.state_known (sets B M o c ok) done e run holds h mine in
           let a = every.acts (sets B M o c ok) done e run holds h k.0 mine act k.1 in
@@ -206,24 +213,42 @@ module _ (B M : ℕ) (o : OpeningValue) (c : QueueCertificate) (ok : accepts o c
             state = k.0;
             at = k.1;
             from = m.state;
+            listed = m.listed;
             all_done = m.all_done;
             leading = leads M o c ok w p less a.opens of k.0 (Sees h done) (Counted done) (Told done) e a
                 (every.knows_beside (sets B M o c ok) done holds h) a.code a.size m.state leaf.known leaf.handed leaf.arrows leaf.numbers
                 (leaf.passes (λ k d arrows. all_lead c h (next_states c h a.opens.code k d) arrows) (of.closed m.state m.listed))
                 (λ P all. leaf.passes (λ k d arrows. P (leaf_by c w p a.opens.code k d arrows))
                 (leaves-pass M o c ok w p less a.opens a.is m.state m.listed P all))
-                leaf.means (leaf.told (Told done) m.means.2);
+                leaf.means (leaf.told (Told done) m.means.2) ((p ≡ the_receiver) × OwnsReads o c w)
+                (λ own. (
+                  own.0,
+                  leaf.passes (λ k d arrows. owns_load M o c ok w k (instruction_at a.opens.code k.pc))
+                      (owned-at M o c ok w p own.0 own.1 a.opens a.is m.state m.listed),
+                ));
           }
 
       -- what it does, by the counts of the run
-      acts : (mine : hart_of e ≡ h) (act : is_land e ≡ false) (f : Effect) → (stepped mine act).leading.does.effect ≡ Some f
-          → Acted (DoesNow c w p done (access_of e)) (count_after c w p done) (count_after c w p (done ++ e ∷ [])) f
+      pub acts : (mine : hart_of e ≡ h) (act : is_land e ≡ false) (f : Effect) → (stepped mine act).leading.does.effect ≡ Some f
+          → Acted (DoesNow M o c w p done (access_of e)) (count_after c w p done) (count_after c w p (done ++ e ∷ [])) f
           (advanced (stepped mine act).state (number_read e))
-      acts mine act f is = subst (λ n. Acted (DoesNow c w p done (access_of e)) (count_after c w p done) n f
-          (advanced (stepped mine act).state (number_read e))) (count-acted done e run holds w p less mine) ((stepped mine act).leading.acts f is)
+      acts mine act f is = subst (λ t. Acted (λ j b. (t ≡ true) × DoesByte c w p (Counted done) (Told done) (access_of e) j b) (count_after c w p done)
+          (count_after c w p (done ++ e ∷ [])) f (advanced (stepped mine act).state (number_read e)))
+          (ap (λ s. counts_for p (option_and_then (λ z. instruction_at z.code z.pc) s)) (sym (stepped mine act).at))
+          (subst (λ n. Acted (λ j b. (counts_for p (instruction_at (stepped mine act).state.code (stepped mine act).state.pc) ≡ true)
+          × DoesByte c w p (Counted done) (Told done) (access_of e) j b) (count_after c w p done) n f
+          (advanced (stepped mine act).state (number_read e))) (count-acted done e run holds w p less mine) ((stepped mine act).leading.acts f is))
 
-      marked-next : StaysMarked (done ++ e ∷ [])
-      marked-next z at runs = by (is_own h e) refl
+      -- what another's entry leaves, and what the party's own makes so
+      abbrev pub Leaves-so : Type 0
+      Leaves-so = is_own h e ≡ false → (k b : ℕ) → Is done k b → Is (done ++ e ∷ []) k b
+
+      abbrev pub Makes-so : Type 0
+      Makes-so = (mine : hart_of e ≡ h) (act : is_land e ≡ false) (runs : (advanced (stepped mine act).state (number_read e)).status ≡ status.Running)
+          → (d b : ℕ) → Surely ((stepped mine act).leading.next runs).state d b → Is (done ++ e ∷ []) (count_after c w p (done ++ e ∷ []) + d) b
+
+      marked-next : Leaves-so → Makes-so → StaysMarked (done ++ e ∷ [])
+      marked-next leaves makes z at runs = by (is_own h e) refl
         where
           by : (b : Bool) → is_own h e ≡ b → IsMarked (done ++ e ∷ []) z
           by false off =
@@ -236,7 +261,10 @@ module _ (B M : ℕ) (o : OpeningValue) (c : QueueCertificate) (ok : accepts o c
                     (Told done) (Told (done ++ e ∷ [])) m.means
                     (λ x kept. every.view_other (sets B M o c ok) done e run holds h x (inl kept) off)
                     (every.counts_left (sets B M o c ok) done e run holds h off) (every.beside_left (sets B M o c ok) done e run holds h off);
-                all_done = λ d b is. done-on c w p done e (count_after c w p done + d) d b (omega (arith, kept)) (m.all_done d b is);
+                all_done = λ d b is. subst (λ n. Is (done ++ e ∷ []) n b)
+                    (let same : count_after c w p done + d ≡ count_after c w p (done ++ e ∷ []) + d =
+                    omega (arith, kept) in
+                    same) (leaves off (count_after c w p done + d) b (m.all_done d b is));
               }
           by true on =
               let parts = own_parts h e on in
@@ -255,35 +283,11 @@ module _ (B M : ℕ) (o : OpeningValue) (c : QueueCertificate) (ok : accepts o c
                     (λ x kept. every.view_acted (sets B M o c ok) done e run holds h x parts.0 parts.1)
                     (λ j short. every.counts_acted (sets B M o c ok) done e run holds h parts.0 j)
                     (every.beside_acted (sets B M o c ok) done e run holds h parts.0));
-                all_done = λ d b is. marks-then c w p done e (is.marks st.from) st.leading.does.effect parts.0
-                    (λ j a marked. st.all_done j a (record { marks = is.marks; kept = is.kept; marked = marked }))
-                    (λ f does. (acts parts.0 parts.1 f does).done running) d b (found.keeps is.marks d b (is.kept.leads st.from d b) is.marked);
+                all_done = makes parts.0 parts.1 running;
               }
 
-      -- what it hands on was done
-      done-there : (k : ℕ) → count_after c w p done ≤ k → k < count_after c w p (done ++ e ∷ []) → (b : ℕ) → mask b ≡ true → IsDoneAt c w p done k b
-      done-there k from past b asked = by (is_own h e) refl
-        where
-          handed : (f : Option Effect)
-              → ((g : Effect) → f ≡ Some g → count_after c w p (done ++ e ∷ []) ≤ count_after c w p done + most_published g)
-              → may_hand (k - count_after c w p done) f ≡ true
-          handed None upto = refl
-          handed (Some f) upto = lt-ltb _ _ (omega (arith, upto f refl, from, past))
-
-          by : (t : Bool) → is_own h e ≡ t → IsDoneAt c w p done k b
-          by false off = absurd (let same : count_after c w p (done ++ e ∷ []) ≡ count_after c w p done = count-left done e run holds w p less off in
-              omega (arith, same, from, past))
-          by true on =
-              let parts = own_parts h e on in
-              let st = stepped parts.0 parts.1 in
-              subst (λ n. IsDoneAt c w p done n b)
-              (let at : count_after c w p done + (k - count_after c w p done) ≡ k = omega (arith, from) in at)
-              (st.all_done (k - count_after c w p done) b (shown st.from (k - count_after c w p done)
-              (hands M o c ok w p less st.from st.leading.does st.leading.leaf (k - count_after c w p done)
-              (handed st.leading.does.effect (λ f is. (acts parts.0 parts.1 f is).upto))) b asked))
-
-    first : StaysMarked []
-    first s at runs = opened (slice_get o.harts h) refl at
+    pub first : ((d b : ℕ) → Surely (first_of c w p) d b → Is [] (count_after c w p [] + d) b) → StaysMarked []
+    first opens s at runs = opened (slice_get o.harts h) refl at
       where
         opened : (x : Option HartOpeningValue) → slice_get o.harts h ≡ x → option_map (state_after M []) x ≡ Some s → IsMarked [] s
         opened None is none = absurd (cc)
@@ -298,31 +302,88 @@ module _ (B M : ℕ) (o : OpeningValue) (c : QueueCertificate) (ok : accepts o c
                 opens-means M o c ok h x (state_at c h (part_of c h).first).known (part_of c h).numbers of.opens,
                 told-opens c h (state_at c h (part_of c h).first).known (part_of c h).numbers (fine-tagged M o c ok) of.told,
               );
-              all_done = λ d b is. absurd (let none : is.marks (first_of c w p) d b ≡ false = is.kept.opens d b in
-                  let some : is.marks (first_of c w p) d b ≡ true = is.marked in
-                  cc);
+              all_done = opens;
             })
 
-    from : (done rest : List Entry) → WellFormed B M (history_of o (done ++ rest)) → StaysMarked done → StaysMarked (done ++ rest)
-    from done [] run w = subst StaysMarked (sym (append-nil done)) w
-    from done (e ∷ rest) run w =
+    pub from : ((done : List Entry) (e : Entry) (run : WellFormed B M (history_of o (done ++ e ∷ []))) (marked : StaysMarked done)
+        → Leaves-so done e run marked × Makes-so done e run marked)
+        → (done rest : List Entry) → WellFormed B M (history_of o (done ++ rest)) → StaysMarked done → StaysMarked (done ++ rest)
+    from each done [] run w = subst StaysMarked (sym (append-nil done)) w
+    from each done (e ∷ rest) run w =
         let all : (done ++ e ∷ []) ++ rest ≡ done ++ e ∷ rest = append_assoc done (e ∷ []) rest in
         let whole_run : WellFormed B M (history_of o ((done ++ e ∷ []) ++ rest)) = subst (λ es. WellFormed B M (history_of o es)) (sym all) run in
-        subst StaysMarked all (from (done ++ e ∷ []) rest whole_run (marked-next done e (kept-front B M o (done ++ e ∷ []) rest whole_run) w))
+        let front : WellFormed B M (history_of o (done ++ e ∷ [])) = kept-front B M o (done ++ e ∷ []) rest whole_run in
+        let so = each done e front w in
+        subst StaysMarked all (from each (done ++ e ∷ []) rest whole_run (marked-next done e front w so.0 so.1))
+
+  -- ---- what is surely done
+
+  module _ (w : QueueNumber) (p : Party) (less : IsListed c w) (mask : ℕ → Bool) (shown : IsShownDone o c w p mask) where
+    abbrev its-hart : ℕ
+    its-hart = hart_by c w p
+
+    abbrev IsSurely : (n d b : ℕ) → Type 0
+    IsSurely n d b = IsSurelyDone (graph_of o c w p) (first_of c w p) n d b
+
+    abbrev AreSurelyDone : List Entry → Type 0
+    AreSurelyDone = StaysMarked w p less IsSurely (IsDoneAt M o c w p)
+
+    surely : (es : List Entry) → WellFormed B M (history_of o es) → AreSurelyDone es
+    surely es run = from w p less IsSurely (IsDoneAt M o c w p)
+        (λ done e front marked. (
+          λ off k b is. later M o c w p done e k (slot_in c w k + b) is,
+          λ mine act runs d b is.
+              (let st = stepped w p less IsSurely (IsDoneAt M o c w p) done e front marked mine act in
+              let found = st.leading.next runs in
+              let kept : (not (is.marks found.state d b) || marked_after st.leading.does.effect (is.marks st.from) d b) ≡ true =
+              found.passes (λ s to. not (is.marks to d b) || marked_after s.effect (is.marks st.from) d b) (is.kept.leads st.from d b) in
+              marks-then M o c w p done e (is.marks st.from) st.leading.does.effect mine
+              (λ j a marked. st.all_done j a (record { marks = is.marks; kept = is.kept; marked = marked }))
+              (λ f does. (acts w p less IsSurely (IsDoneAt M o c w p) done e front marked mine act f does).done runs) d b
+              (let marked : is.marks found.state d b ≡ true = is.marked in rw marked at kept)),
+        ))
+        [] es run (first w p less IsSurely (IsDoneAt M o c w p)
+        (λ d b is. absurd (let none : is.marks (first_of c w p) d b ≡ false = is.kept.opens d b in
+        let some : is.marks (first_of c w p) d b ≡ true = is.marked in
+        cc)))
+
+    module _ (done : List Entry) (e : Entry) (run : WellFormed B M (history_of o (done ++ e ∷ []))) (marked : AreSurelyDone done) where
+      -- what it hands on was done
+      done-there : (k : ℕ) → count_after c w p done ≤ k → k < count_after c w p (done ++ e ∷ []) → (b : ℕ) → mask b ≡ true → IsDoneAt M o c w p done k b
+      done-there k from past b asked = by (is_own its-hart e) refl
+        where
+          handed : (f : Option Effect)
+              → ((g : Effect) → f ≡ Some g → count_after c w p (done ++ e ∷ []) ≤ count_after c w p done + most_published g)
+              → may_hand (k - count_after c w p done) f ≡ true
+          handed None upto = refl
+          handed (Some f) upto = lt-ltb _ _ (omega (arith, upto f refl, from, past))
+
+          by : (t : Bool) → is_own its-hart e ≡ t → IsDoneAt M o c w p done k b
+          by false off = absurd (let same : count_after c w p (done ++ e ∷ []) ≡ count_after c w p done = count-left done e run
+              (holds w p less IsSurely (IsDoneAt M o c w p) done e run marked) w p less off in
+              omega (arith, same, from, past))
+          by true on =
+              let parts = own_parts its-hart e on in
+              let st = stepped w p less IsSurely (IsDoneAt M o c w p) done e run marked parts.0 parts.1 in
+              subst (λ n. IsDoneAt M o c w p done n b)
+              (let at : count_after c w p done + (k - count_after c w p done) ≡ k = omega (arith, from) in at)
+              (st.all_done (k - count_after c w p done) b (shown st.from (k - count_after c w p done)
+              (hands M o c ok w p less st.from st.leading.does st.leading.leaf (k - count_after c w p done)
+              (handed st.leading.does.effect (λ f is. (acts w p less IsSurely (IsDoneAt M o c w p) done e run marked parts.0 parts.1 f is).upto))) b asked))
 
     -- EVERY record, in every run, is done before it is handed on
     each-done : (es : List Entry) (e : Entry) → WellFormed B M (history_of o (es ++ e ∷ [])) → (k : ℕ)
-        → count_after c w p es ≤ k → k < count_after c w p (es ++ e ∷ []) → (b : ℕ) → mask b ≡ true → IsDoneAt c w p es k b
-    each-done es e run = done-there es e run (from [] es (kept-front B M o es (e ∷ []) run) first)
+        → count_after c w p es ≤ k → k < count_after c w p (es ++ e ∷ []) → (b : ℕ) → mask b ≡ true → IsDoneAt M o c w p es k b
+    each-done es e run = done-there es e run (surely es (kept-front B M o es (e ∷ []) run))
 
   -- ---- of each party
 
   pub each_written : (w : QueueNumber) → IsListed c w → (mask : ℕ → Bool) → IsShownWritten o c w mask → (es : List Entry) (e : Entry)
       → WellFormed B M (history_of o (es ++ e ∷ [])) → (k : ℕ) → published_after c w es ≤ k → k < published_after c w (es ++ e ∷ [])
-      → (b : ℕ) → mask b ≡ true → IsWritten c w es k (slot_in c w k + b)
+      → (b : ℕ) → mask b ≡ true → IsWritten M o c w es k (slot_in c w k + b)
   each_written w less mask shown = each-done w the_sender less mask shown
 
   pub each_read : (w : QueueNumber) → IsListed c w → (mask : ℕ → Bool) → IsShownRead o c w mask → (es : List Entry) (e : Entry)
       → WellFormed B M (history_of o (es ++ e ∷ [])) → (k : ℕ) → taken_after c w es ≤ k → k < taken_after c w (es ++ e ∷ [])
-      → (b : ℕ) → mask b ≡ true → IsRead c w es k (slot_in c w k + b)
+      → (b : ℕ) → mask b ≡ true → IsRead M o c w es k (slot_in c w k + b)
   each_read w less mask shown = each-done w the_receiver less mask shown

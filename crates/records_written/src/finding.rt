@@ -4,11 +4,11 @@ ghost use Rattle.std.specs.Prelude.{ℕ, ◌≡◌, ◌==◌, ◌&&◌, ◌<◌,
 ghost use Rattle.record_bytes.specs.Ranges.{has_byte};
 ghost use Rattle.queue_certificates.specs.Certificates.{part_of};
 ghost use Rattle.queue_layouts.specs.Sides.{the_party};
-ghost use Rattle.records_written.specs.Parties.{hart_in, sender_in, receiver_in};
+ghost use Rattle.records_written.specs.Parties.{hart_by, sender_in, receiver_in};
 ghost use Rattle.records_written.specs.Marks.{IsShownDone, IsFirstMissing, IsShownWritten, IsFirstUnwritten, IsShownRead, IsFirstUnread};
 ghost use Rattle.records_written.specs.PartyLeaves.{may_hand_on};
-ghost use Rattle.records_written.specs.Sure.{IsSure, IsFirstUnsure};
-ghost use Rattle.records_written.specs.MarkLists.{has_mark, marks_of, IsBound, IsEnd, IsFirstOf, IsFirstOpen, IsLowestOpen};
+ghost use Rattle.records_written.specs.PartyLeaves.{IsSure, IsFirstUnsure};
+ghost use Rattle.records_written.specs.PartyLeaves.{has_mark, marks_of, IsBound, IsEnd, IsFirstOf, IsFirstOpen, IsLowestOpen};
 
 use crate::keeping::are_kept;
 use crate::leaves::{StateLeaves, graph_of};
@@ -38,18 +38,6 @@ pub struct Missing {
 pub(crate) struct Open {
     position: u64,
     byte: u64,
-}
-
-/// Whether there is a byte in these ranges.
-fn has_bytes(mask: &[ByteRange]) -> bool
-    ensures { result ≡ false → (b : ℕ) → has_byte mask.now b ≡ false }
-{
-    for range in mask {
-        if range.first <= range.last {
-            return true;
-        }
-    }
-    false
 }
 
 /// The mask's bytes of a position.
@@ -185,9 +173,6 @@ pub(crate) fn first_unsure(
     ensures { IfOk result (λ r. MatchOption r (IsSure graph.now first (has_byte mask.now))
         (λ u. IsFirstUnsure graph.now first (has_byte mask.now) u.state u.byte)) }
 {
-    if !has_bytes(mask) {
-        return Ok(None);
-    }
     let all = most_marks(alloc, graph, states, first)?;
     if !are_kept(alloc, graph, states, first, &all)? {
         // the search ends only when they are
@@ -207,7 +192,7 @@ fn first_missing(
 ) -> Result<Option<Missing>, Lack>
     ensures exact { IfOk result (λ missing. MatchOption missing (IsShownDone opening.now certificate.now queue (the_party party) (has_byte mask.now))
         (IsFirstMissing opening.now certificate.now queue (the_party party) (has_byte mask.now))) }
-    ensures within { IfOk result (λ missing. IfSome missing (λ u. u.state < length (part_of certificate.now (hart_in certificate.now queue (the_party
+    ensures within { IfOk result (λ missing. IfSome missing (λ u. u.state < length (part_of certificate.now (hart_by certificate.now queue (the_party
         party))).states)) }
 {
     let graph = graph_of(alloc, opening, certificate, queue, party)?;

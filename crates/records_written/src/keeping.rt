@@ -3,8 +3,8 @@
 ghost use Rattle.std.specs.Prelude.{ℕ, ◌≡◌, ◌||◌, not, IfOk, true, false, length};
 ghost use Rattle.std.specs.List.{list_all};
 ghost use Rattle.records_written.specs.PartyLeaves.{marked_after};
-ghost use Rattle.records_written.specs.Sure.{keeps, AreKept};
-ghost use Rattle.records_written.specs.MarkLists.{marks_byte, marks_of};
+ghost use Rattle.records_written.specs.PartyLeaves.{keeps, AreKept};
+ghost use Rattle.records_written.specs.PartyLeaves.{marks_byte, marks_of};
 
 use crate::leaves::{Leaf, StateLeaves};
 use crate::marking::{StateMarks, left_after};

@@ -3,15 +3,17 @@
 ghost use Rattle.std.specs.Prelude.{◌≡◌, ◌++◌, IfOk, OnOk, map};
 ghost use Rattle.queue_checker.specs.Flaws.{hart_at};
 ghost use Rattle.queue_layouts.specs.Sides.{the_party};
-ghost use Rattle.records_written.specs.Parties.{hart_in};
-ghost use Rattle.records_written.specs.Marks.{leaf_by, leaves_in, graph_of};
+ghost use Rattle.records_written.specs.Parties.{hart_by};
+ghost use Rattle.records_written.specs.Marks.{is_all, leaf_by, leaves_in, graph_of};
 
-use crate::parties::{QueueNumber, effect_in, hart_in};
+use crate::parties::{QueueNumber, counts_for, effect_by, effect_counted, hart_by};
+use known_values::forms::is_same;
 use known_values::{Form, Lack};
 use queue_certificates::Effect;
 use queue_checker::leaves::{goes_beyond, with_high, with_low};
 use queue_checker::owning::code_of;
 use queue_checker::sites::listed_states;
+use queue_checker::states::share_in;
 use queue_checker::steps::instruction_at;
 use queue_checker::{Arrow, CaseNode, Cases, KnownState, ListedState, QueueCertificate};
 use queue_layouts::Party;
@@ -19,10 +21,12 @@ use std::alloc::Global;
 use std::marker::Model;
 use step_machine::Opening;
 
-/// A leaf: its effect, or none where it isn't known how many positions it hands on, and the states to which it leads.
+/// A leaf: its effect, or none where it isn't known how many positions it hands on; whether it would hand on all that the party owns; and
+/// the states to which it leads.
 #[derive(Drop)]
 pub(crate) struct Leaf {
     pub(crate) effect: Option<Effect>,
+    pub(crate) all: bool,
     pub(crate) targets: Vec<u32>,
 }
 
@@ -31,7 +35,7 @@ impl Model for Leaf {
 
     ghost Value = { PartyLeaf };
 
-    ghost view = { λ s. record { effect = s.effect; targets = s.targets.items } };
+    ghost view = { λ s. record { effect = s.effect; all = s.all; targets = s.targets.items } };
 }
 
 /// The leaves of one state.
@@ -56,6 +60,25 @@ fn targets_of(alloc: Global, arrows: &[Arrow]) -> Result<Vec<u32>, Lack>
     Ok(targets)
 }
 
+/// Whether a form is as many positions as a party owns.
+fn is_all(
+    alloc: Global,
+    certificate: &QueueCertificate,
+    queue: QueueNumber,
+    state: &KnownState,
+    handed: &Form,
+) -> Result<bool, Lack>
+    ensures { IfOk result (λ all. all ≡ is_all certificate.now queue state.now handed.now) }
+{
+    match queue {
+        QueueNumber::Tagged(_) => Ok(false),
+        QueueNumber::Indexed(i) => {
+            let share = share_in(alloc, &state.shares, i as usize)?;
+            Ok(is_same(0, handed, &share.owned))
+        }
+    }
+}
+
 fn leaf_of(
     alloc: Global,
     certificate: &QueueCertificate,
@@ -69,9 +92,15 @@ fn leaf_of(
     ensures { IfOk result (λ leaf. leaf ≡ leaf_by certificate.now queue (the_party party) code.now state.now handed.now arrows.now) }
 {
     let instruction = instruction_at(code, state.pc);
-    let effect = effect_in(alloc, certificate, queue, party, state, handed, instruction)?;
+    let by = effect_by(alloc, certificate, queue, party, state, handed, instruction)?;
+    let effect = effect_counted(counts_for(party, instruction), by);
+    let all = is_all(alloc, certificate, queue, state, handed)?;
     let targets = targets_of(alloc, arrows)?;
-    Ok(Leaf { effect, targets })
+    Ok(Leaf {
+        effect,
+        all,
+        targets,
+    })
 }
 
 /// Adds the leaves of these cases of a state.
@@ -167,7 +196,7 @@ pub(crate) fn graph_of(
 ) -> Result<Vec<StateLeaves>, Lack>
     ensures { IfOk result (λ graph. graph.items ≡ graph_of opening.now certificate.now queue (the_party party)) }
 {
-    let hart = hart_in(certificate, queue, party);
+    let hart = hart_by(certificate, queue, party);
     graph_by(
         alloc,
         certificate,

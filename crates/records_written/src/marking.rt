@@ -1,15 +1,15 @@
 //! Bytes of slots that are written, at a state of the sender, or read, at one of the receiver.
 
-ghost use Rattle.std.specs.Prelude.{ℕ, ◌≡◌, ◌+◌, ◌==◌, ◌&&◌, ◌||◌, not, IfOk, OnOk, MatchOption, true, false, Some, []};
+ghost use Rattle.std.specs.Prelude.{ℕ, ◌≡◌, ◌+◌, ◌==◌, ◌&&◌, ◌||◌, not, IfOk, IfSome, OnOk, MatchOption, is_some, true, false, Some, []};
 ghost use Rattle.record_bytes.specs.Naming.{part_has};
-ghost use Rattle.record_bytes.specs.Ranges.{has_byte};
+ghost use Rattle.record_bytes.specs.Ranges.{has_byte, touch};
 ghost use Rattle.records_written.specs.PartyLeaves.{is_filled, marked_after};
-ghost use Rattle.records_written.specs.MarkLists.{is_mark, has_mark, marks_byte, lower, IsLowest};
+ghost use Rattle.records_written.specs.PartyLeaves.{is_mark, has_mark, marks_byte, lower, IsLowest};
 
 use known_values::Lack;
 use known_values::lack::sum;
 use queue_certificates::Effect;
-use record_bytes::{ByteRange, part_after, part_before};
+use record_bytes::{ByteRange, joined, part_after, part_before};
 use std::alloc::{AllocError, Global};
 use std::marker::Model;
 
@@ -149,7 +149,22 @@ pub(crate) fn narrowed(
     Ok(Some(kept))
 }
 
-/// Marks after an access of `width` bytes of a position's slot.
+/// Two marks as one, if there is no byte between them.
+fn with_neighbour(mark: Mark, other: Mark) -> Option<Mark>
+    ensures one { IfSome result (λ both. (d b : ℕ) → is_mark both d b ≡ (is_mark mark d b || is_mark other d b)) }
+    ensures touch { is_some result ≡ ((mark.position == other.position) && touch mark.bytes other.bytes) }
+{
+    if mark.position != other.position {
+        return None;
+    }
+    let bytes = joined(mark.bytes, other.bytes)?;
+    Some(Mark {
+        position: mark.position,
+        bytes,
+    })
+}
+
+/// Marks after an access of `width` bytes of a position's slot. It joins those that it touches, so that what is accessed in a row is one mark.
 fn with_filled(
     alloc: Global,
     marks: &[Mark],
@@ -163,14 +178,20 @@ fn with_filled(
         let left = Vec::from_slice(alloc, marks)?;
         return Ok(left);
     }
-    let filled = Mark {
+    let mut filled = Mark {
         position,
         bytes: ByteRange {
             first: offset,
             last: sum(offset, width - 1)?,
         },
     };
-    let mut left = without(alloc, marks, filled)?;
+    let mut left = Vec::new(alloc);
+    for mark in marks {
+        match with_neighbour(filled, *mark) {
+            Some(both) => filled = both,
+            None => left.push(*mark)?,
+        }
+    }
     left.push(filled)?;
     Ok(left)
 }
@@ -196,10 +217,7 @@ fn after_effect(alloc: Global, marks: &[Mark], effect: Effect) -> Result<Vec<Mar
     ensures { IfOk result (λ left. (d b : ℕ) → has_mark left.items d b ≡ marked_after (Some effect) (has_mark marks.now) d b) }
 {
     match effect {
-        Effect::Leaves => {
-            let left = Vec::from_slice(alloc, marks)?;
-            Ok(left)
-        }
+        Effect::Leaves => Ok(Vec::from_slice(alloc, marks)?),
         Effect::Fills {
             position,
             offset,

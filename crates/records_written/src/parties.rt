@@ -3,7 +3,7 @@
 ghost use Rattle.std.specs.Prelude.{◌≡◌, IfOk};
 ghost use Rattle.queue_layouts.specs.Sides.{the_party};
 ghost use Rattle.queue_parties.specs.Parties.{hart_among};
-ghost use Rattle.records_written.specs.Parties.{hart_in, effect_in};
+ghost use Rattle.records_written.specs.Parties.{hart_by, effect_counted, counts_for, effect_by};
 ghost use Rattle.records_written.specs.Marks.{first_of};
 
 use crate::receipts::{receipt_of, tag_receipt_of};
@@ -15,7 +15,7 @@ use queue_checker::tag_effects::tag_effect_of;
 use queue_checker::tagged_queues::tagged_in;
 use queue_checker::{KnownState, QueueCertificate};
 use queue_layouts::Party;
-use rv_decode::Instr;
+use rv_decode::{AmoOp, Instr};
 use std::alloc::Global;
 
 /// A queue of a certificate: by its number among those with indices, or among those with tags.
@@ -35,8 +35,8 @@ fn hart_among(sender: u32, receiver: u32, party: Party) -> u32
 }
 
 /// The hart of a party.
-pub(crate) fn hart_in(certificate: &QueueCertificate, queue: QueueNumber, party: Party) -> u32
-    ensures { result ≡ hart_in certificate.now queue (the_party party) }
+pub(crate) fn hart_by(certificate: &QueueCertificate, queue: QueueNumber, party: Party) -> u32
+    ensures { result ≡ hart_by certificate.now queue (the_party party) }
 {
     match queue {
         QueueNumber::Indexed(i) => {
@@ -54,15 +54,37 @@ pub(crate) fn hart_in(certificate: &QueueCertificate, queue: QueueNumber, party:
 pub(crate) fn first_state(certificate: &QueueCertificate, queue: QueueNumber, party: Party) -> u32
     ensures { result ≡ first_of certificate.now queue (the_party party) }
 {
-    let hart = hart_in(certificate, queue, party);
+    let hart = hart_by(certificate, queue, party);
     match certificate.harts.get(hart as usize) {
         Some(part) => part.first,
         None => 0,
     }
 }
 
-/// The effect of an instruction of a party's; none where it isn't known how many positions it hands on.
-pub(crate) fn effect_in(
+/// Whether the bytes count that an instruction of a party's accesses.
+pub(crate) fn counts_for(party: Party, instruction: Option<Instr>) -> bool
+    ensures { result ≡ counts_for (the_party party) instruction }
+{
+    match (party, instruction) {
+        (Party::Sender, Some(Instr::Amo { op, .. })) => matches!(op, AmoOp::Swap),
+        (Party::Receiver, Some(Instr::Load { rd, .. })) => rd.number != 0,
+        (Party::Receiver, Some(Instr::Amo { rd, .. })) => rd.number != 0,
+        _ => true,
+    }
+}
+
+/// An effect without the bytes, if these don't count.
+pub(crate) fn effect_counted(counts: bool, effect: Option<Effect>) -> Option<Effect>
+    ensures { result ≡ effect_counted counts effect }
+{
+    match effect {
+        Some(Effect::Fills { .. }) if !counts => Some(Effect::Leaves),
+        _ => effect,
+    }
+}
+
+/// The effect of an instruction of a party's, whether its bytes count or not; none where it isn't known how many positions it hands on.
+pub(crate) fn effect_by(
     alloc: Global,
     certificate: &QueueCertificate,
     queue: QueueNumber,
@@ -71,7 +93,7 @@ pub(crate) fn effect_in(
     handed: &Form,
     instruction: Option<Instr>,
 ) -> Result<Option<Effect>, Lack>
-    ensures { IfOk result (λ effect. effect ≡ effect_in certificate.now queue (the_party party) state.now handed.now instruction) }
+    ensures { IfOk result (λ effect. effect ≡ effect_by certificate.now queue (the_party party) state.now handed.now instruction) }
 {
     match (queue, party) {
         (QueueNumber::Indexed(i), Party::Sender) => {

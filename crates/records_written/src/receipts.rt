@@ -1,17 +1,15 @@
 //! What an instruction of a queue's receiver does to its slots and its count.
 
 ghost use Rattle.std.specs.Prelude.{◌≡◌, IfOk};
-ghost use Rattle.queue_certificates.specs.Effects.{published_by, filled_by};
-ghost use Rattle.records_written.specs.Receipts.{owned_bytes, moves_tail, receipt_of, moves_tag, owned_of, tag_receipt_of};
+ghost use Rattle.records_written.specs.Parties.{owned_bytes, moves_tail, receipt_of, moves_tag, owned_of, tag_receipt_of};
 
 use known_values::queues::queue_in;
 use known_values::ranges::most;
-use known_values::{Form, Known, KnownValue, Lack, Queue};
+use known_values::{Form, Lack, Queue};
 use queue_certificates::Effect;
+use queue_checker::effects::{filled_by, published_by};
 use queue_checker::loads::last_own_index;
-use queue_checker::places::{offset_at, position_at};
 use queue_checker::sites::small;
-use queue_checker::slots::is_owned;
 use queue_checker::states::{share_after, share_in};
 use queue_checker::tag_stores::moved_tag;
 use queue_checker::tagged_queues::{bare, tagged_in};
@@ -19,38 +17,6 @@ use queue_checker::targets::{Target, load_target, store_target};
 use queue_checker::{KnownState, QueueCertificate, Share};
 use rv_decode::Instr;
 use std::alloc::Global;
-
-/// The bytes at a value, where they are shown to be of the slot of an owned position.
-fn owned_at(
-    alloc: Global,
-    ranges: &[Option<u64>],
-    queue: Queue,
-    share: &Share,
-    place: &KnownValue,
-    width: u64,
-) -> Result<Effect, Lack>
-    ensures { IfOk result (λ effect. effect ≡ filled_by ranges.now queue share.now place.now width) }
-{
-    let owned = is_owned(alloc, ranges, queue, share, place, width)?;
-    match &place.known {
-        Known::Linear(form) => {
-            if owned {
-                Ok(Effect::Fills {
-                    position: position_at(queue, share.own.constant, form.constant)?,
-                    offset: offset_at(queue, form.constant),
-                    width,
-                })
-            } else {
-                Ok(Effect::Leaves)
-            }
-        }
-        Known::Any => Ok(Effect::Leaves),
-        Known::IndexFor(_, _) => Ok(Effect::Leaves),
-        Known::SignedFor(_, _) => Ok(Effect::Leaves),
-        Known::EndsAs(_, _) => Ok(Effect::Leaves),
-        Known::HasBits(_, _) => Ok(Effect::Leaves),
-    }
-}
 
 /// The bytes that an instruction accesses, if it accesses any.
 fn owned_bytes(
@@ -64,7 +30,7 @@ fn owned_bytes(
 {
     match target {
         None => Ok(Effect::Leaves),
-        Some(target) => owned_at(alloc, ranges, queue, share, &target.place, target.width),
+        Some(target) => filled_by(alloc, ranges, queue, share, &target.place, target.width),
     }
 }
 
@@ -76,26 +42,7 @@ fn moves_tail(certificate: &QueueCertificate, i: u32, target: Option<Target>) ->
         None => Ok(false),
         Some(target) => {
             let hart = queue_in(&certificate.queues, i).receiver;
-            match last_own_index(certificate, hart, target.bounds, target.width)? {
-                None => Ok(false),
-                Some(n) => Ok(n == i),
-            }
-        }
-    }
-}
-
-/// Positions are handed back, as many as a form is; nothing, where no bound is known of their number.
-fn handed_back(handed: &Form, bound: Option<u64>) -> Option<Effect>
-    ensures { result ≡ published_by handed.now bound }
-{
-    match bound {
-        None => None,
-        Some(n) => {
-            if n == handed.constant {
-                Some(Effect::Publishes(n))
-            } else {
-                Some(Effect::PublishesSome(n))
-            }
+            Ok(last_own_index(certificate, hart, target.bounds, target.width)? == Some(i))
         }
     }
 }
@@ -113,7 +60,7 @@ pub(crate) fn receipt_of(
 {
     let stored = store_target(alloc, certificate, state, instruction)?;
     if moves_tail(certificate, i, stored)? {
-        Ok(handed_back(handed, most(&state.ranges, handed)?))
+        Ok(published_by(handed, most(&state.ranges, handed)?))
     } else {
         let queue = queue_in(&certificate.queues, i);
         let share = share_in(alloc, &state.shares, i as usize)?;

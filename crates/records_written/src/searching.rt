@@ -3,19 +3,59 @@
 
 ghost use Rattle.std.specs.Prelude.{ℕ, ◌≡◌, ◌==◌, ◌&&◌, ◌||◌, ◌<◌, not, IfOk, OnOk, MatchOption, length, get_or, set, Some, [], true};
 ghost use Rattle.records_written.specs.PartyLeaves.{marked_after};
-ghost use Rattle.records_written.specs.MarkLists.{has_mark, marks_byte, marks_of, is_left, are_left, AreMost};
+ghost use Rattle.records_written.specs.PartyLeaves.{has_mark, marks_byte, marks_of, is_left, are_left, AreMost};
 
 use crate::leaves::{Leaf, StateLeaves};
 use crate::marking::{Mark, StateMarks, left_after, narrowed, unmarked};
 use known_values::Lack;
 use std::alloc::{AllocError, Global};
 
-/// The marks of each state, and the states whose leaves aren't followed yet, or whose marks are fewer since.
+/// The states whose leaves aren't followed yet, or of which something changed since.
+#[derive(Drop)]
+pub(crate) struct Waiting {
+    list: Vec<u32>,
+    waits: Vec<bool>,
+}
+
+impl Waiting {
+    /// All states, the first of them first.
+    pub(crate) fn all(alloc: Global, states: u32) -> Result<Waiting, Lack> {
+        let mut list = Vec::new(alloc);
+        for n in (0..states).rev() {
+            list.push(n)?;
+        }
+        Ok(Waiting {
+            list,
+            waits: vec![in alloc; true; states as usize]?,
+        })
+    }
+
+    /// Puts a state on the list, if it isn't there.
+    pub(crate) fn add(&mut self, n: u32) -> Result<(), Lack> {
+        if let Some(waits) = self.waits.get_mut(n as usize) {
+            if !*waits {
+                *waits = true;
+                self.list.push(n)?;
+            }
+        }
+        Ok(())
+    }
+
+    /// The last state of the list, which leaves it.
+    pub(crate) fn next(&mut self) -> Option<u32> {
+        let n = self.list.pop()?;
+        if let Some(waits) = self.waits.get_mut(n as usize) {
+            *waits = false;
+        }
+        Some(n)
+    }
+}
+
+/// The marks of each state.
 #[derive(Drop)]
 struct Search {
     marks: Vec<Option<StateMarks>>,
-    waiting: Vec<u32>,
-    waits: Vec<bool>,
+    waiting: Waiting,
 }
 
 /// The marks of a state. A state that isn't there has none.
@@ -79,30 +119,6 @@ fn opened(alloc: Global, states: u32, first: u32) -> Result<Vec<Option<StateMark
 }
 
 impl Search {
-    /// Puts a state on the list, if it isn't there.
-    fn wait(&mut self, n: u32) -> Result<(), Lack>
-        ensures { OnOk result (self.new.marks.items ≡ self.old.marks.items) }
-    {
-        if let Some(waits) = self.waits.get_mut(n as usize) {
-            if !*waits {
-                *waits = true;
-                self.waiting.push(n)?;
-            }
-        }
-        Ok(())
-    }
-
-    /// The last state of the list, which leaves it.
-    fn next(&mut self) -> Option<u32>
-        ensures { self.new.marks.items ≡ self.old.marks.items }
-    {
-        let n = self.waiting.pop()?;
-        if let Some(waits) = self.waits.get_mut(n as usize) {
-            *waits = false;
-        }
-        Some(n)
-    }
-
     fn put(&mut self, n: u32, left: StateMarks)
         ensures { self.new.marks.items ≡ set self.old.marks.items n (Some left) }
     {
@@ -123,7 +139,7 @@ impl Search {
             None => Ok(()),
             Some(kept) => {
                 self.put(to, kept);
-                self.wait(to)
+                self.waiting.add(to)
             }
         }
     }
@@ -186,7 +202,7 @@ impl Search {
     {
         // a state comes back only after it has lost a mark
         for _ in 0..u64::MAX {
-            let Some(n) = self.next() else {
+            let Some(n) = self.waiting.next() else {
                 break;
             };
             self.follow(alloc, graph, n)?;
@@ -205,20 +221,14 @@ pub(crate) fn most_marks(
     requires { states ≡ length graph.now }
     ensures { IfOk result (λ all. AreMost graph.now first all.items) }
 {
-    let marks = opened(alloc, states, first)?;
     let mut search = Search {
-        marks,
-        waiting: Vec::new(alloc),
-        waits: vec![in alloc; false; graph.len()]?,
+        marks: opened(alloc, states, first)?,
+        waiting: Waiting::all(alloc, states)?,
     };
-    for n in (0..states).rev() {
-        search.wait(n)?;
-    }
     search.settle(alloc, graph)?;
     let Search {
         marks,
         waiting: _waiting,
-        waits: _waits,
     } = search;
     Ok(marks)
 }

@@ -1,6 +1,6 @@
 use Rattle.std.proofs.Common.{ℕ, ◌≡◌, ◌==◌, ◌&&◌, take}
 use Rattle.record_bytes.specs.Ranges.{has_byte}
-use Rattle.records_written.specs.MarkLists.{has_mark}
+use Rattle.records_written.specs.PartyLeaves.{has_mark}
 use Rattle.records_written.proofs.finding.asked_at.Given as goal
 
 abbrev pub invariant-loop-range : goal.invariant-loop-range

@@ -1,5 +1,5 @@
 use Rattle.std.proofs.Common.{ℕ, ◌≡◌, ◌<◌, false}
-use Rattle.records_written.specs.MarkLists.{has_mark, is_open}
+use Rattle.records_written.specs.PartyLeaves.{has_mark, is_open}
 use Rattle.records_written.proofs.finding.first_open.Given as goal
 
 abbrev pub invariant-loop-position : goal.invariant-loop-position

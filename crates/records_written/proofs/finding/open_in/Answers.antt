@@ -1,4 +1,4 @@
-use Rattle.records_written.specs.MarkLists.{has_mark}
+use Rattle.records_written.specs.PartyLeaves.{has_mark}
 use Rattle.records_written.proofs.MarkLaws.{open-within}
 use Rattle.records_written.proofs.finding.open_in.Goals as goal
 

@@ -3,7 +3,7 @@ use Rattle.std.specs.List.{list_all}
 use Rattle.std.proofs.lemmas.Bool.{and_from}
 use Rattle.std.proofs.lemmas.List.{take_all}
 use Rattle.std.proofs.lemmas.List.Folds.{list_all_more}
-use Rattle.records_written.specs.MarkLists.{marks_byte, marks_of}
+use Rattle.records_written.specs.PartyLeaves.{marks_byte, marks_of}
 use Rattle.records_written.proofs.keeping.targets_keep.Goals as goal
 use Rattle.records_written.proofs.keeping.targets_keep.Goals.{then-all_keep, else-all_keep}
 

@@ -1,6 +1,6 @@
 use Rattle.std.proofs.Common.{ℕ, ◌≡◌, ◌||◌, not, true, take}
 use Rattle.std.specs.List.{list_all}
-use Rattle.records_written.specs.MarkLists.{marks_byte, marks_of}
+use Rattle.records_written.specs.PartyLeaves.{marks_byte, marks_of}
 use Rattle.records_written.proofs.keeping.targets_keep.Given as goal
 
 abbrev pub invariant-loop-to : goal.invariant-loop-to

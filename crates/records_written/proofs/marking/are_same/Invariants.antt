@@ -1,5 +1,5 @@
 use Rattle.std.proofs.Common.{ℕ, ◌≡◌, true, take}
-use Rattle.records_written.specs.MarkLists.{has_mark}
+use Rattle.records_written.specs.PartyLeaves.{has_mark}
 use Rattle.records_written.proofs.marking.are_same.Given as goal
 
 abbrev pub invariant-loop-i : goal.invariant-loop-i

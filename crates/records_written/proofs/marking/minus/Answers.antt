@@ -1,6 +1,6 @@
 use Rattle.std.proofs.Common.{arith}
 use Rattle.std.proofs.lemmas.List.Folds.{list_any_more}
-use Rattle.records_written.specs.MarkLists.{is_mark}
+use Rattle.records_written.specs.PartyLeaves.{is_mark}
 use Rattle.records_written.proofs.MarkLaws.{no_mark}
 use Rattle.records_written.proofs.marking.minus.Goals as goal
 

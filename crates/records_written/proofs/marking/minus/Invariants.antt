@@ -1,5 +1,5 @@
 use Rattle.std.proofs.Common.{ℕ, ◌≡◌, ◌&&◌, not, take}
-use Rattle.records_written.specs.MarkLists.{has_mark}
+use Rattle.records_written.specs.PartyLeaves.{has_mark}
 use Rattle.records_written.proofs.marking.minus.Given as goal
 
 abbrev pub invariant-loop-cut : goal.invariant-loop-cut

@@ -1,5 +1,5 @@
 use Rattle.std.proofs.Common.{ℕ, ◌≡◌, ◌+◌, take}
-use Rattle.records_written.specs.MarkLists.{has_mark}
+use Rattle.records_written.specs.PartyLeaves.{has_mark}
 use Rattle.records_written.proofs.marking.moved_on.Given as goal
 
 abbrev pub invariant-loop-mark : goal.invariant-loop-mark

@@ -1,5 +1,5 @@
 use Rattle.std.proofs.Common.{ℕ, ◌≡◌, ◌&&◌, not, take}
-use Rattle.records_written.specs.MarkLists.{is_mark, has_mark}
+use Rattle.records_written.specs.PartyLeaves.{is_mark, has_mark}
 use Rattle.records_written.proofs.marking.without.Given as goal
 
 abbrev pub invariant-loop-mark : goal.invariant-loop-mark

@@ -1,5 +1,5 @@
 use Rattle.std.proofs.Common.{ℕ, ◌≡◌, ◌<◌, ◌==◌, not, length}
-use Rattle.records_written.specs.MarkLists.{marks_of}
+use Rattle.records_written.specs.PartyLeaves.{marks_of}
 use Rattle.records_written.proofs.searching.opened.Given as goal
 
 abbrev pub invariant-loop-n : goal.invariant-loop-n

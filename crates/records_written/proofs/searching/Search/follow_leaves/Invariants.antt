@@ -1,5 +1,5 @@
 use Rattle.std.proofs.Common.{ℕ, ◌≡◌, ◌&&◌, take}
-use Rattle.records_written.specs.MarkLists.{marks_byte, marks_of, are_left}
+use Rattle.records_written.specs.PartyLeaves.{marks_byte, marks_of, are_left}
 use Rattle.records_written.proofs.searching.Search.follow_leaves.Given as goal
 
 abbrev pub invariant-loop-leaf : goal.invariant-loop-leaf

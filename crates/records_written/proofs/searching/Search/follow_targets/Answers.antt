@@ -1,6 +1,6 @@
 use Rattle.std.proofs.Common.{◌==◌, ◌||◌, not, arith}
 use Rattle.std.proofs.lemmas.List.Folds.{list_all_more}
-use Rattle.records_written.specs.MarkLists.{has_mark}
+use Rattle.records_written.specs.PartyLeaves.{has_mark}
 use Rattle.records_written.proofs.searching.Search.follow_targets.Goals as goal
 
 pub loop-to-preserved : goal.loop-to-preserved

@@ -1,5 +1,5 @@
 use Rattle.std.proofs.Common.{ℕ, ◌≡◌, ◌&&◌, take}
-use Rattle.records_written.specs.MarkLists.{has_mark, marks_of, is_left}
+use Rattle.records_written.specs.PartyLeaves.{has_mark, marks_of, is_left}
 use Rattle.records_written.proofs.searching.Search.follow_targets.Given as goal
 
 abbrev pub invariant-loop-to : goal.invariant-loop-to

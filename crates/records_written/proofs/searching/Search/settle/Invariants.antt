@@ -1,5 +1,5 @@
 use Rattle.std.proofs.Common.{ℕ}
-use Rattle.records_written.specs.MarkLists.{AreMost}
+use Rattle.records_written.specs.PartyLeaves.{AreMost}
 use Rattle.records_written.proofs.searching.Search.settle.Given as goal
 
 abbrev pub invariant-loop : goal.invariant-loop
