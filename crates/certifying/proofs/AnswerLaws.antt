@@ -1,8 +1,10 @@
 -- What answers a litmus text and a certificate is one answer, and what it promises holds.
-use Rattle.std.proofs.Common.{arith, ◌≡◌, ◌&&◌, ℕ, ◌+◌, ◌<◌, ◌↔◌, ◌++◌, Bool, true, false, List, [], length, Result, Ok, Err, refl, sym, ap, ap₂, ◌∙◌, subst}
+use Rattle.std.proofs.Common.{arith, ◌≡◌, ◌&&◌, ℕ, ◌+◌, ◌<◌, ◌↔◌, ◌++◌, Bool, true, false, List, [], ◌∷◌, length}
+use Rattle.std.proofs.Common.{Result, Ok, Err, refl, sym, ap, ap₂, ◌∙◌, subst}
 use Rattle.std.proofs.Common.{append-nil, append_assoc, inr, zero, suc}
-use Rattle.std.specs.Prelude.{Option, Some, None, option_map}
+use Rattle.std.specs.Prelude.{All, Option, Some, None, is_some, not, option_map}
 use Rattle.std.proofs.lemmas.Bool.{and_parts}
+use Rattle.std.proofs.lemmas.List.Elements.{All-append, All-cons, All-from_recursion}
 use Rattle.texts.specs.Results.{map_err}
 use Rattle.litmus.specs.LitmusTests.{LitmusTest}
 use Rattle.step_machine.specs.Names.{OpeningValue, history_of, WellFormed}
@@ -22,14 +24,13 @@ use Rattle.engine_support.specs.declared.fault.Refusal.{Refusal}
 use Rattle.engine_support.specs.{read, tests}
 use Rattle.engine_support.proofs.InputLaws.{IsOne, alike_after, is_one, one_litmus_text}
 use Rattle.certifying.specs.Answers.{AreLinesAfter, IsAcceptedAnswer, IsAnswerTo, IsCertificateAnswer, IsFlawAnswer, IsQueueAnswer, IsTrialAnswer}
-use Rattle.certifying.specs.Answers.{IsUseAnswer, is_of_queue, all_shown, asks_endings, judged_reads, kept_answer, kept_judgement}
+use Rattle.certifying.specs.Answers.{IsUseAnswer, is_of_queue, kept_answer, texts}
 use Rattle.certifying.specs.Questions.{Questions}
-use Rattle.certifying.specs.Endings.{all_endings}
-use Rattle.certifying.specs.Going.{all_going, all_going_lines}
-use Rattle.certifying.specs.Harts.{harts_lines, harts_safe}
 use Rattle.certifying.specs.Inputs.{SaysCertificate, certificate_of, certificates}
-use Rattle.certifying.specs.Kept.{AreSameAnswers, AreJudged, AreQueueAnswers, IsPromised, KeepsProtocol, KeepsTags, LoadsOwnedSlots, LinesHold}
-use Rattle.certifying.specs.Kept.{LoadsTagsOrOwned, MayHaveSchedule, ReceivesFields}
+use Rattle.certifying.specs.Kept.{AreSameAnswers, AreJudged, AreQueueAnswers, IsMeant, IsPromised, KeepsIndexed, KeepsTags, LoadsOwnedSlots}
+use Rattle.certifying.specs.Kept.{LoadsTagsOrOwned, MayHaveSchedule, LineMeans, OwnedLoads, Protocols, ReceivesFields}
+use Rattle.certifying.specs.Lines.{AnswerLine, all_going, all_going_lines, all_shown, ends_asked, first_line, first_line_of, harts_lines, harts_safe}
+use Rattle.certifying.specs.Lines.{judgement_of, limits, answer_lines, records_from, the_protocol, the_queues}
 use Rattle.certifying.specs.Queues.{queue_count, slots_at, slots_by, tagged_number}
 use Rattle.certifying.specs.Records.{AreFound, are_read, are_written}
 use Rattle.certifying.specs.declared.records.QueueRecords.{QueueRecords}
@@ -41,10 +42,11 @@ use Rattle.certifying.specs.declared.judgement.Judgement.TheVariants as judgemen
 use Rattle.certifying.specs.declared.unread.Unread.{Unread}
 use Rattle.certifying.specs.declared.unused.Unused.{Unused}
 use Rattle.certifying.proofs.DrawnLaws.{DrawnLaws, SomeSlots, breaks-and-loses, breaks-otherwise, no_first, none-below, one-trial, sized}
-use Rattle.certifying.proofs.GoingLaws.{GoingLaws, keeps-going, progress-holds}
-use Rattle.certifying.proofs.HartLaws.{HartLaws, harts-hold, keeps-harts}
+use Rattle.certifying.proofs.GoingLaws.{GoingLaws, going-means, keeps-going}
+use Rattle.certifying.proofs.HartLaws.{HartLaws, harts-mean, keeps-harts}
+use Rattle.certifying.proofs.LineLaws.{whole}
 use Rattle.certifying.proofs.Numbers.{is_indexed, is_tagged}
-use Rattle.certifying.proofs.RecordLaws.{FirstLaws, RecordLaws, keeps-records, one-in, records-hold}
+use Rattle.certifying.proofs.RecordLaws.{FirstLaws, RecordLaws, keeps-records, one-in, records-mean}
 
 -- ---- one answer
 
@@ -154,7 +156,7 @@ pub record Laws : Type 0 where
   pub no_flaw : (o : OpeningValue) (c : QueueCertificate) → (first_flaw o c ≡ None) ↔ (accepts o c ≡ true)
   pub all_owned : (o : OpeningValue) (c : QueueCertificate) (i h : ℕ) → (first_unowned o c i h ≡ None) ↔ (accepts_loads o c i h ≡ true)
   pub all_rest : (o : OpeningValue) (c : QueueCertificate) (t h : ℕ) → (first_unowned_rest o c t h ≡ None) ↔ (accepts_rest o c t h ≡ true)
-  pub every_run : (o : OpeningValue) (c : QueueCertificate) → accepts o c ≡ true → KeepsProtocol o c
+  pub every_run : (o : OpeningValue) (c : QueueCertificate) → accepts o c ≡ true → KeepsIndexed o c
   pub tells : (o : OpeningValue) (c : QueueCertificate) → accepts o c ≡ true → KeepsTags o c
   pub sent : (o : OpeningValue) (c : QueueCertificate) → accepts o c ≡ true → ReceivesFields o c
   pub reads_owned : (B M : ℕ) (o : OpeningValue) (c : QueueCertificate) → accepts o c ≡ true → (i : ℕ) (p : Party) → i < length c.queues
@@ -205,80 +207,87 @@ module _ (laws : Laws) (o : OpeningValue) (c : QueueCertificate) where
   loads_tags : first_flaw o c ≡ None → first_unread o c ≡ None → LoadsTagsOrOwned o c
   loads_tags none owned B M es legal t less p = laws.rest_owned B M o c ((laws.no_flaw o c).0 none) t p less (all_rest_read owned t less p) es legal
 
-  keeps : first_flaw o c ≡ None → KeepsProtocol o c
-  keeps none = laws.every_run o c ((laws.no_flaw o c).0 none)
+  keeps : first_flaw o c ≡ None → Protocols o c
+  keeps none = let accepted = (laws.no_flaw o c).0 none in (laws.every_run o c accepted, laws.tells o c accepted, laws.sent o c accepted)
 
-  keeps_tags : first_flaw o c ≡ None → KeepsTags o c
-  keeps_tags none = laws.tells o c ((laws.no_flaw o c).0 none)
-
-  receives : first_flaw o c ≡ None → ReceivesFields o c
-  receives none = laws.sent o c ((laws.no_flaw o c).0 none)
+  owned : first_flaw o c ≡ None → first_unread o c ≡ None → OwnedLoads o c
+  owned none own = (loads none own, loads_tags none own)
 
   module _ (M : ℕ) (asked : Questions) where
     abbrev ends : List Endings
-    ends = all_endings M o c (asks_endings asked)
+    ends = ends_asked M asked o c
 
-    lines_hold : first_flaw o c ≡ None → (found : List QueueRecords) → AreFound o c asked found → (answer : List ℕ × Judgement)
-        → answer ≡ kept_answer M asked o c found → LinesHold M asked o c answer
-    lines_hold none found are answer is =
-        let accepted = (laws.no_flaw o c).0 none in record {
-          found = found;
-          answer_is = is;
-          progress = progress-holds o c laws.going laws.harts accepted M asked.progress;
-          records = records-hold o c laws.records accepted asked found are;
-          harts = harts-hold o c laws.harts accepted M asked.harts;
-        }
+    abbrev Mean : AnswerLine → Type 0
+    Mean = LineMeans M asked o c
 
-    promised_all : first_flaw o c ≡ None → first_unread o c ≡ None → (found : List QueueRecords) → AreFound o c asked found → (text : List ℕ)
-        → (goes : Bool) → all_going o c asked.progress ≡ goes
-        → (all : Bool) → all_shown found (harts_safe o c ends asked.harts) ≡ all → LinesHold M asked o c (text, kept_judgement goes all)
-        → IsPromised M asked (text, kept_judgement goes all) o c
-    promised_all none owned found are text true goes true shown hold =
+    first-means : first_flaw o c ≡ None → (found : List QueueRecords) → AreFound o c asked found → (unread : Option Unread) → first_unread o c ≡ unread
+        → (progress goes : Bool) → asked.progress ≡ progress → all_going o c progress ≡ goes
+        → (all : Bool) → all_shown found (harts_safe o c ends asked.harts) ≡ all → Mean (first_line progress goes all unread)
+    first-means none found are (Some unread) own progress goes is going all shown = keeps none
+    first-means none found are None own progress false is going all shown = (keeps none, owned none own)
+    first-means none found are None own progress true is going false shown =
+        (keeps none, owned none own, rw is (keeps-going o c laws.going laws.harts ((laws.no_flaw o c).0 none) progress going))
+    first-means none found are None own progress true is going true shown =
         let accepted = (laws.no_flaw o c).0 none in
         let both = and_parts (are_written found && are_read found) (harts_safe o c ends asked.harts) shown in
         let records = and_parts (are_written found) (are_read found) both.0 in (
           keeps none,
-          keeps_tags none,
-          receives none,
-          loads none owned,
-          loads_tags none owned,
-          keeps-going o c laws.going laws.harts accepted M asked.progress goes,
-          keeps-records o c laws.records accepted asked found are records.0 records.1,
-          keeps-harts o c laws.harts accepted M asked.progress asked.harts both.1,
+          owned none own,
+          keeps-going o c laws.going laws.harts accepted progress going,
+          (
+            keeps-records o c laws.records accepted asked found are records.0 records.1,
+            keeps-harts o c laws.harts accepted M asked.progress asked.harts both.1,
+          ),
         )
-    promised_all none owned found are text true goes false shown hold = (
-      keeps none,
-      keeps_tags none,
-      receives none,
-      loads none owned,
-      loads_tags none owned,
-      keeps-going o c laws.going laws.harts ((laws.no_flaw o c).0 none) M asked.progress goes,
-      hold,
-    )
-    promised_all none owned found are text false goes all shown hold =
-        (keeps none, keeps_tags none, receives none, loads none owned, loads_tags none owned, hold)
 
-    -- what is answered, where the first load that isn't shown is this
-    abbrev answered : List QueueRecords → Option Unread → List ℕ × Judgement
-    answered found u = judged_reads o c asked (all_going_lines o c ends asked.progress) found (harts_lines o c ends asked.harts)
-        (all_going o c asked.progress) (harts_safe o c ends asked.harts) u
+    protocol-means : first_flaw o c ≡ None → (unread : Option Unread) → first_unread o c ≡ unread → Mean (the_protocol (not (is_some unread)))
+    protocol-means none None own = (keeps none, owned none own)
+    protocol-means none (Some unread) own = keeps none
 
-    promised_reads : first_flaw o c ≡ None → (found : List QueueRecords) → AreFound o c asked found → (u : Option Unread) → first_unread o c ≡ u
-        → LinesHold M asked o c (answered found u) → IsPromised M asked (answered found u) o c
-    promised_reads none found are None e hold = promised_all none e found are _ (all_going o c asked.progress) refl
-        (all_shown found (harts_safe o c ends asked.harts)) refl hold
-    promised_reads none found are (Some unread) e hold = (
-      keeps none,
-      keeps_tags none,
-      receives none,
-      record { front = (answered found (Some unread)).0; more = []; text_is = sym (append-nil (answered found (Some unread)).0); hold = hold },
-    )
+    lines-mean : first_flaw o c ≡ None → (found : List QueueRecords) → AreFound o c asked found → All Mean (answer_lines M asked o c found)
+    lines-mean none found are =
+        let accepted = (laws.no_flaw o c).0 none in
+        let going : List AnswerLine = all_going_lines o c ends asked.progress in
+        let records : List AnswerLine = records_from asked 0 found in
+        let harts : List AnswerLine = harts_lines o c ends asked.harts in
+        let kept : AnswerLine = the_protocol (not (is_some (first_unread o c))) in
+        let rest : AnswerLine = limits asked found (not (is_some (first_unread o c))) (all_going o c asked.progress) in
+        All-cons Mean (first_line_of M asked o c found) (the_queues ∷ ((going ++ (records ++ harts)) ++ kept ∷ rest ∷ []))
+        (first-means none found are (first_unread o c) refl asked.progress (all_going o c asked.progress) refl refl
+        (all_shown found (harts_safe o c ends asked.harts)) refl)
+        (All-cons Mean the_queues ((going ++ (records ++ harts)) ++ kept ∷ rest ∷ []) tt
+        (All-append Mean (going ++ (records ++ harts)) (kept ∷ rest ∷ [])
+        (All-append Mean going (records ++ harts) (going-means o c laws.going laws.harts accepted M asked asked.progress asked.harts)
+        (All-append Mean records harts (records-mean o c laws.records accepted M asked found are)
+        (harts-mean o c laws.harts accepted M asked asked.progress asked.harts)))
+        (All-from_recursion Mean (kept ∷ rest ∷ []) (protocol-means none (first_unread o c) refl, (tt, tt)))))
+
+    -- whatever the judgement
+    kept-means : first_flaw o c ≡ None → (found : List QueueRecords) → AreFound o c asked found → (text : List ℕ) (judgement : Judgement)
+        → text ≡ texts o c (answer_lines M asked o c found) → judgement ≡ judgement_of (first_line_of M asked o c found)
+        → IsMeant M asked o c text judgement
+    kept-means none found are text judgement is judged = record {
+      found = found;
+      more = [];
+      text_is = is ∙ sym (append-nil (texts o c (answer_lines M asked o c found)));
+      judgement_is = judged;
+      means = lines-mean none found are;
+    }
+
+    -- which is that of a first line
+    by-first : (text : List ℕ) (progress goes all : Bool) (unread : Option Unread)
+        → IsMeant M asked o c text (judgement_of (first_line progress goes all unread))
+        → IsPromised M asked (text, judgement_of (first_line progress goes all unread)) o c
+    by-first text progress goes all (Some unread) meant = meant
+    by-first text progress false all None meant = meant
+    by-first text progress true false None meant = meant
+    by-first text progress true true None meant = meant
 
     promised_use : first_flaw o c ≡ None → (u : Option Unused) → (answer : List ℕ × Judgement) → IsUseAnswer M asked o c u answer
         → IsPromised M asked answer o c
-    promised_use none None answer is =
-        let hold = lines_hold none is.found is.are_found (kept_answer M asked o c is.found) refl in
-        rw is.answer_is (promised_reads none is.found is.are_found (first_unread o c) refl hold)
+    promised_use none None answer is = rw is.answer_is (by-first _ asked.progress (all_going o c asked.progress)
+        (all_shown is.found (harts_safe o c ends asked.harts)) (first_unread o c)
+        (kept-means none is.found is.are_found _ _ (whole o c M asked is.found) refl))
     promised_use none (Some unused) answer is = rw is tt
 
   module _ (d : DrawnRuns) (asked : Questions) where
@@ -303,20 +312,16 @@ module _ (laws : Laws) (o : OpeningValue) (c : QueueCertificate) where
     -- lines may follow where reads aren't shown
     promised_more : (text lines : List ℕ) (j : Judgement) → AreLinesAfter d o c j lines → IsPromised d.M asked (text, j) o c
         → IsPromised d.M asked (text ++ lines, j) o c
-    promised_more text lines judgement.ReadsNotShown are p = (
-      p.0,
-      p.1,
-      p.2,
-      record {
-        front = p.3.front;
-        more = p.3.more ++ lines;
-        text_is = ap (λ (xs : List ℕ). xs ++ lines) p.3.text_is ∙ append_assoc p.3.front p.3.more lines;
-        hold = p.3.hold;
-      },
-    )
+    promised_more text lines judgement.ReadsNotShown are p = record {
+      found = p.found;
+      more = p.more ++ lines;
+      text_is = ap (λ (xs : List ℕ). xs ++ lines) p.text_is ∙ append_assoc (texts o c (answer_lines d.M asked o c p.found)) p.more lines;
+      judgement_is = p.judgement_is;
+      means = p.means;
+    }
     promised_more text lines judgement.ProgressNotShown none p = nothing_more text lines judgement.ProgressNotShown none p
     promised_more text lines judgement.AskedNotShown none p = nothing_more text lines judgement.AskedNotShown none p
-    promised_more text lines judgement.Kept none p = p
+    promised_more text lines judgement.Kept none p = nothing_more text lines judgement.Kept none p
     promised_more text lines judgement.NotShown none p = p
     promised_more text lines judgement.Broken none p = p
     promised_more text lines judgement.OtherProtocol none p = p

@@ -1,12 +1,11 @@
 -- What is answered where drawn runs are judged: it is one answer, and a run that is shown to break the protocol does.
-use Rattle.std.proofs.Common.{arith, ◌≡◌, ℕ, zero, suc, ◌+◌, ◌&&◌, ◌<◌, ◌≤◌, Bool, true, false, List, [], ◌∷◌, ◌++◌, length, Some, None, refl, sym, ap, ap₂}
+use Rattle.std.proofs.Common.{arith, ◌≡◌, ℕ, zero, suc, ◌+◌, ◌&&◌, ◌<◌, Bool, true, false, List, [], ◌∷◌, ◌++◌, length, Some, None, refl, sym, ap, ap₂}
 use Rattle.std.proofs.Common.{◌∙◌, subst, ◌⊎◌, inl, inr}
-use Rattle.std.specs.Prelude.{Option}
+use Rattle.std.specs.Prelude.{Option, if◌then◌else◌}
 use Rattle.std.specs.Option.{option_map}
 use Rattle.std.proofs.lemmas.Bool.{and_parts, cases_lt, leb-true}
-use Rattle.std.proofs.lemmas.List.{length-append}
 use Rattle.step_machine.specs.declared.events.Event.{Event}
-use Rattle.step_machine.specs.Names.{OpeningValue, history_of, at_opening, WellFormed}
+use Rattle.step_machine.specs.Names.{OpeningValue, History, Run, history_of, at_opening, WellFormed}
 use Rattle.step_machine.proofs.Happening.{no_hart}
 use Rattle.step_machine.proofs.Running.{kept-at_opening, kept-run, opening_kept}
 use Rattle.queue_parties.specs.Parties.{QueueCounts, all_at}
@@ -22,6 +21,8 @@ use Rattle.drawn_runs.specs.Samples.{DrawnRuns}
 use Rattle.ownership_runs.specs.declared.violations.Violation.{Violation}
 use Rattle.ownership_runs.specs.declared.runs.Moved.{Moved}
 use Rattle.ownership_runs.specs.{HasSlot, Keeps, first_ownership_violation, HasKeptRun, HasBrokenRun, IsFirstLoss, first_loss, LosesNothing, HasLoss}
+use Rattle.ownership_runs.specs.declared.steps.Step.{Step}
+use Rattle.ownership_runs.specs.{loss_after}
 use Rattle.ownership_runs.specs.declared.losses.Loss.{Loss}
 use Rattle.judged_runs.specs.Finding.{IsFirstFlawed}
 use Rattle.ownership_runs.proofs.Judged.{moves-one, one-violation}
@@ -41,9 +42,10 @@ pub record DrawnLaws : Type 0 where
   pub none : (q : AnyQueue) (c : QueueCounts) (es : List _) → HasSlot q → Keeps q c es → first_ownership_violation q c es ≡ None
   pub apart : (B M : ℕ) (o : OpeningValue) (q : AnyQueue) (start : QueueCounts) (events : List Event) (b : Violation) → HasSlot q
       → HasKeptRun B M o q start events → HasBrokenRun B M o q start events b → ⊥
-  pub lost : (q : AnyQueue) (o : OpeningValue) (c : QueueCounts) (es : List _) (l : Loss) → HasSlot q → first_loss q o c es ≡ Some l → IsFirstLoss q o c es l
-  pub lost_or_not : (B M : ℕ) (o : OpeningValue) (q : AnyQueue) (start : QueueCounts) (events : List Event) (l : Loss)
-      → LosesNothing B M o q start events → HasLoss B M o q start events l → ⊥
+  pub lost : (since : Option ℕ) (q : AnyQueue) (o : OpeningValue) (c : QueueCounts) (es : List _) (l : Loss) → HasSlot q → first_loss since q o c es ≡ Some l
+      → IsFirstLoss since q o c es l
+  pub lost_or_not : (B M : ℕ) (o : OpeningValue) (q : AnyQueue) (start : QueueCounts) (broken : Bool) (events : List Event) (l : Loss)
+      → LosesNothing B M o q start broken events → HasLoss B M o q start broken events l → ⊥
 
 -- ---- queues that open at their counts have slots
 
@@ -106,7 +108,7 @@ module _ (o : OpeningValue) (c : QueueCertificate) where
   some-tagged-slot : (i t : ℕ) → flaw_of_tagged o c t ≡ None → HasSlot (queue_by c i (Some t))
   some-tagged-slot i t none =
       let tag = no_first _ _ (no_hart _ (tagged_flaw o c t) none) in
-      let harts_and_slots = no_first _ _ (no_first _ _ (no_first _ _ (no_first _ _ (no_first _ _ (no_first _ _ tag.0).0).0).0).0).0 in
+      let harts_and_slots = no_first _ _ (no_first _ _ (no_first _ _ (no_first _ _ (no_first _ _ (no_first _ _ (no_first _ _ tag.0).0).0).0).0).0).0 in
       leb-true 1 (tagged_at c t).size (holds-unless _ _ harts_and_slots.1)
 
   -- where the queues of both kinds have no flaw
@@ -142,13 +144,10 @@ module _ (d : DrawnRuns) (o : OpeningValue) (c : QueueCertificate) where
       let same : first + length (n ∷ moved) ≡ first + 1 + length moved = omega arith in
       (kept.0, keep-more (first + 1) moved m kept.1 (subst (λ (j : ℕ). AllKeep d o c j m) same next))
 
-  pub some-event : (i : ℕ) (part : List Event) (b : Violation) → EndsBroken d o c i part b → 1 ≤ length part
-  some-event i part b ends = omega (arith, length-append ends.front (ends.last ∷ []), ap (λ (xs : List Event). length xs) ends.events_are)
-
   pub is-broken : (i : ℕ) (part : List Event) (b : Violation) (moved : List Moved) (t : Trial) → IsTrialBroken d.B d.M o i part b t → i < queue_count c
       → length moved ≡ i → QueuesKeep d o c 0 moved → IsBrokenBy d o c i part b → EndsBroken d o c i part b → IsOfTrial d o c t
   is-broken i part b moved (trial.Kept kept) is inside earlier before told ends = absurd is
-  is-broken i part b moved (trial.Broken j given violation pc) is inside earlier before told ends =
+  is-broken i part b moved (trial.Broken j given violation steps) is inside earlier before told ends =
       rw (is.0, is.1, is.2) (record {
         inside = inside;
         moved = moved;
@@ -156,7 +155,7 @@ module _ (d : DrawnRuns) (o : OpeningValue) (c : QueueCertificate) where
         kept = before;
         told = told;
         ends = ends;
-        at_pc = is.3;
+        are_steps = is.3;
       })
 
 -- ---- one answer
@@ -191,9 +190,9 @@ module _ (d : DrawnRuns) (o : OpeningValue) (c : QueueCertificate) where
 
   module _ (laws : DrawnLaws) (some : SomeSlots o c) where
     -- no run breaks the protocol of a queue of which all keep it
-    not-kept : (i : ℕ) (part : List Event) (b : Violation) (pc : ℕ) → IsFirstBroken d o c i part b pc → (moved : List Moved) → i < length moved
+    not-kept : (i : ℕ) (part : List Event) (b : Violation) (steps : List Step) → IsFirstBroken d o c i part b steps → (moved : List Moved) → i < length moved
         → QueuesKeep d o c 0 moved → ⊥
-    not-kept i part b pc first moved less keep =
+    not-kept i part b steps first moved less keep =
         let flawed = first.told.is_first in
         let all = kept-at 0 moved i less keep in
         let at : 0 + i ≡ i = omega arith in
@@ -201,23 +200,23 @@ module _ (d : DrawnRuns) (o : OpeningValue) (c : QueueCertificate) where
         laws.apart d.B d.M o (any_queue c i) (all_at (any_start c i)) (trial_schedule d o first.told.number) first.told.flaw (some i first.inside)
         (kept.good first.told.number (omega arith) flawed.within) flawed.has
 
-    never-both : (f : Flaw) (text : List ℕ) → IsTriedText d o c f text → (i : ℕ) (part : List Event) (b : Violation) (pc : ℕ)
-        → IsFirstBroken d o c i part b pc → ⊥
-    never-both f text is i part b pc first =
-        not-kept i part b pc first is.moved (subst (λ (n : ℕ). i < n) (sym is.count) first.inside) is.kept
+    never-both : (f : Flaw) (text : List ℕ) → IsTriedText d o c f text → (i : ℕ) (part : List Event) (b : Violation) (steps : List Step)
+        → IsFirstBroken d o c i part b steps → ⊥
+    never-both f text is i part b steps first =
+        not-kept i part b steps first is.moved (subst (λ (n : ℕ). i < n) (sym is.count) first.inside) is.kept
 
     -- of two runs that are the first ones neither comes before the other, nor does one's queue
-    not-before : (i j : ℕ) (part rest : List Event) (a b : Violation) (pc at : ℕ) → IsFirstBroken d o c i part a pc → IsFirstBroken d o c j rest b at
+    not-before : (i j : ℕ) (part rest : List Event) (a b : Violation) (ss ts : List Step) → IsFirstBroken d o c i part a ss → IsFirstBroken d o c j rest b ts
         → i < j → ⊥
-    not-before i j part rest a b pc at is also less =
-        not-kept i part a pc is also.moved (subst (λ (n : ℕ). i < n) (sym also.earlier) less) also.kept
+    not-before i j part rest a b ss ts is also less =
+        not-kept i part a ss is also.moved (subst (λ (n : ℕ). i < n) (sym also.earlier) less) also.kept
 
-    one-queue : (i j : ℕ) (part rest : List Event) (a b : Violation) (pc at : ℕ) → IsFirstBroken d o c i part a pc → IsFirstBroken d o c j rest b at
+    one-queue : (i j : ℕ) (part rest : List Event) (a b : Violation) (ss ts : List Step) → IsFirstBroken d o c i part a ss → IsFirstBroken d o c j rest b ts
         → i ≡ j
-    one-queue i j part rest a b pc at is also = elim (cases_lt i j) [
-      | inl less ↦ absurd (not-before i j part rest a b pc at is also less)
+    one-queue i j part rest a b ss ts is also = elim (cases_lt i j) [
+      | inl less ↦ absurd (not-before i j part rest a b ss ts is also less)
       | inr most ↦ elim (cases_lt j i) [
-        | inl less ↦ absurd (not-before j i rest part b a at pc also is less)
+        | inl less ↦ absurd (not-before j i rest part b a ts ss also is less)
         | inr least ↦ omega (arith, most, least)
       ]
     ]
@@ -245,10 +244,10 @@ module _ (d : DrawnRuns) (o : OpeningValue) (c : QueueCertificate) where
           sym is.shown.alike.1 ∙ ap (λ (v : Violation). v.described) same ∙ also.shown.alike.1
 
     -- no run loses a record of a queue of which one does
-    not-lost : (i : ℕ) (part : List Event) (l : Loss) (pc : ℕ) → IsRecordLost d o c i part l pc → NoneLost d o c i → ⊥
-    not-lost i part l pc is none =
+    not-lost : (i : ℕ) (part : List Event) (l : Loss) (steps : List Step) → IsRecordLost d o c i true part l steps → NoneLost d o c i true → ⊥
+    not-lost i part l steps is none =
         let flawed = is.told.is_first in
-        laws.lost_or_not d.B d.M o (any_queue c i) (all_at (any_start c i)) (trial_schedule d o is.told.number) is.told.flaw
+        laws.lost_or_not d.B d.M o (any_queue c i) (all_at (any_start c i)) true (trial_schedule d o is.told.number) is.told.flaw
         (none is.told.number (omega arith) flawed.within) flawed.has
 
     -- a store that is described, and a record lost, or not both
@@ -256,7 +255,7 @@ module _ (d : DrawnRuns) (o : OpeningValue) (c : QueueCertificate) where
     not-other text other is also = by also.other
       where
         same : is.queue ≡ also.queue
-        same = one-queue is.queue also.queue is.part also.part is.violation also.violation is.pc also.pc is.is_first also.is_first
+        same = one-queue is.queue also.queue is.part also.part is.violation also.violation is.first_steps also.steps is.is_first also.is_first
 
         told : IsBrokenBy d o c is.queue also.part also.violation
         told = subst (λ (i : ℕ). IsBrokenBy d o c i also.part also.violation) (sym same) also.is_first.told
@@ -264,9 +263,9 @@ module _ (d : DrawnRuns) (o : OpeningValue) (c : QueueCertificate) where
         kind : is.violation.described ≡ also.violation.described
         kind = one-kind is.queue is.is_first.inside is.part also.part is.violation also.violation is.is_first.told told
 
-        by : (also.violation.described ≡ false) ⊎ NoneLost d o c also.queue → ⊥
+        by : (also.violation.described ≡ false) ⊎ NoneLost d o c also.queue true → ⊥
         by (inl off) = absurd (let no : true ≡ false = sym is.described ∙ kind ∙ off in cc)
-        by (inr none) = not-lost is.queue is.lost_part is.loss is.lost_at is.is_lost (subst (λ (i : ℕ). NoneLost d o c i) (sym same) none)
+        by (inr none) = not-lost is.queue is.lost_part is.loss is.steps is.is_lost (subst (λ (i : ℕ). NoneLost d o c i true) (sym same) none)
 
     -- ---- an answer after drawn runs
 
@@ -287,8 +286,8 @@ module _ (d : DrawnRuns) (o : OpeningValue) (c : QueueCertificate) where
     one-trial f a b is also = by (one-of f a is) (one-of f b also)
       where
         not-tried : (text : List ℕ) → IsTriedText d o c f text → (other : List ℕ) → IsBrokenText d o c other ⊎ IsOtherText d o c other → ⊥
-        not-tried text tried other (inl broken) = never-both f text tried broken.queue broken.part broken.violation broken.pc broken.is_first
-        not-tried text tried other (inr broken) = never-both f text tried broken.queue broken.part broken.violation broken.pc broken.is_first
+        not-tried text tried other (inl broken) = never-both f text tried broken.queue broken.part broken.violation broken.first_steps broken.is_first
+        not-tried text tried other (inr broken) = never-both f text tried broken.queue broken.part broken.violation broken.steps broken.is_first
 
         by : IsOneOf f a → IsOneOf f b → AreSameAnswers a b
         by (inl tried) (inl other) = (tried.1 ∙ sym other.1, λ shows. one-tried f a.0 b.0 tried.0 other.0)
@@ -303,55 +302,78 @@ module _ (d : DrawnRuns) (o : OpeningValue) (c : QueueCertificate) where
 
     -- ---- a run that breaks the protocol, and one that loses a record
 
-    breaks : (i : ℕ) (part : List Event) (b : Violation) (pc : ℕ) → IsFirstBroken d o c i part b pc → BreaksProtocol b.described o c
-    breaks i part b pc first =
-        let has = first.told.shown.has in
-        let q = any_queue c i in
-        let start = all_at (any_start c i) in
-        let formed : WellFormed d.B d.M has.history = kept-run d.B d.M (at_opening o) part has.history (kept-at_opening d.B d.M o) has.run in
+    formed : (part : List Event) (t : History) → Run d.B d.M o part t → WellFormed d.B d.M (history_of o t.entries)
+    formed part t run = subst (λ (x : OpeningValue). WellFormed d.B d.M (history_of x t.entries)) (opening_kept d.B d.M o part t run)
+        (kept-run d.B d.M (at_opening o) part t (kept-at_opening d.B d.M o) run)
+
+    -- the run of these events, of which this is the first violation
+    breaks : (i : ℕ) → i < queue_count c → (part : List Event) (t : History) (b : Violation) → Run d.B d.M o part t
+        → first_ownership_violation (any_queue c i) (all_at (any_start c i)) t.entries ≡ Some b → BreaksProtocol b.described o c
+    breaks i inside part t b run first = record {
+      B = d.B;
+      M = d.M;
+      entries = t.entries;
+      legal = formed part t run;
+      queue = i;
+      inside = inside;
+      breaks = λ keeps. (let none : first_ownership_violation (any_queue c i) (all_at (any_start c i)) t.entries ≡ None =
+          laws.none (any_queue c i) (all_at (any_start c i)) t.entries (some i inside) keeps in
+          absurd (cc));
+      violation = b;
+      first = first;
+      by = refl;
+    }
+
+    pub loses : (i : ℕ) → i < queue_count c → (part : List Event) (l : Loss) (steps : List Step) → IsRecordLost d o c i false part l steps → LosesRecord o c i
+    loses i inside part l steps is =
+        let has = is.told.shown.has in
         record {
           B = d.B;
           M = d.M;
           entries = has.history.entries;
-          legal = subst (λ (x : OpeningValue). WellFormed d.B d.M (history_of x has.history.entries))
-              (opening_kept d.B d.M o part has.history has.run) formed;
-          queue = i;
-          inside = first.inside;
-          breaks = λ keeps. (let none : first_ownership_violation q start has.history.entries ≡ None =
-              laws.none q start has.history.entries (some i first.inside) keeps in
-              let found = has.first in absurd (cc));
-          violation = b;
-          first = has.first;
-          by = refl;
+          legal = formed part has.history has.run;
+          loss = l;
+          first = laws.lost None (any_queue c i) o (all_at (any_start c i)) has.history.entries l (some i inside) has.first;
         }
 
-    pub loses : (i : ℕ) → i < queue_count c → (part : List Event) (l : Loss) (pc : ℕ) → IsRecordLost d o c i part l pc → LosesRecord o c i
-    loses i inside part l pc is =
-        let has = is.told.shown.has in
-        let formed : WellFormed d.B d.M has.history = kept-run d.B d.M (at_opening o) part has.history (kept-at_opening d.B d.M o) has.run in
-        record {
-          B = d.B;
-          M = d.M;
-          entries = has.history.entries;
-          legal = subst (λ (x : OpeningValue). WellFormed d.B d.M (history_of x has.history.entries))
-              (opening_kept d.B d.M o part has.history has.run) formed;
+    -- it breaks the protocol first by a store that is described, and then loses a record
+    both : (i : ℕ) → i < queue_count c → (part : List Event) (t : History) (l : Loss) → Run d.B d.M o part t → (x : Option Violation)
+        → first_ownership_violation (any_queue c i) (all_at (any_start c i)) t.entries ≡ x
+        → loss_after (any_queue c i) o (all_at (any_start c i)) t.entries x ≡ Some l → BreaksAndLoses o c
+    unfolding breaks
+    both i inside part t l run None none lost = cc
+    both i inside part t l run (Some b) first lost = at b.described refl lost
+      where
+        at : (described : Bool) → b.described ≡ described
+            → (if described then first_loss (Some b.place) (any_queue c i) o (all_at (any_start c i)) t.entries else None) ≡ Some l → BreaksAndLoses o c
+        at false off none = cc
+        at true on found = record {
+          breaks = record {
+            B = d.B;
+            M = d.M;
+            entries = t.entries;
+            legal = formed part t run;
+            queue = i;
+            inside = inside;
+            breaks = (breaks i inside part t b run first).breaks;
+            violation = b;
+            first = first;
+            by = on;
+          };
           loss = l;
-          first = laws.lost (any_queue c i) o (all_at (any_start c i)) has.history.entries l (some i inside) has.first;
+          loses = laws.lost (Some b.place) (any_queue c i) o (all_at (any_start c i)) t.entries l (some i inside) found;
         }
 
     pub breaks-and-loses : (text : List ℕ) → IsBrokenText d o c text → BreaksAndLoses o c
-    unfolding breaks
-    breaks-and-loses text is = at is.violation.described is.described (breaks is.queue is.part is.violation is.pc is.is_first) refl
-      where
-        at : (described : Bool) → described ≡ true → (b : BreaksProtocol described o c) → b.queue ≡ is.queue → BreaksAndLoses o c
-        at true on b same = record {
-          breaks = b;
-          loses = subst (LosesRecord o c) (sym same) (loses is.queue is.is_first.inside is.lost_part is.loss is.lost_at is.is_lost);
-        }
-        at false off b same = absurd (cc)
+    breaks-and-loses text is =
+        let has = is.is_lost.told.shown.has in
+        both is.queue is.is_first.inside is.lost_part has.history is.loss has.run
+        (first_ownership_violation (any_queue c is.queue) (all_at (any_start c is.queue)) has.history.entries) refl has.first
 
     pub breaks-otherwise : (text : List ℕ) → IsOtherText d o c text → BreaksProtocol false o c ⊎ BreaksProtocol true o c
-    breaks-otherwise text is = at is.violation.described (breaks is.queue is.part is.violation is.pc is.is_first)
+    breaks-otherwise text is =
+        let has = is.is_first.told.shown.has in
+        at is.violation.described (breaks is.queue is.is_first.inside is.part has.history is.violation has.run has.first)
       where
         at : (described : Bool) → BreaksProtocol described o c → BreaksProtocol false o c ⊎ BreaksProtocol true o c
         at false b = inl b

@@ -1,26 +1,28 @@
 -- What is shown of harts, where the certificate is accepted.
 use Rattle.std.proofs.Common.{arith, ◌≡◌, ◌==◌, ◌<◌, ◌≤◌, ◌+◌, ℕ, zero, suc, Bool, true, false, not, List, [], ◌∷◌, ◌++◌, length, Some, None, refl, sym, ap}
 use Rattle.std.proofs.Common.{subst, ◌∙◌, eqb-true}
-use Rattle.std.specs.Prelude.{Option, is_some, nat_lt, ◌||◌}
+use Rattle.std.specs.Prelude.{All, Option, is_some, nat_lt, ◌||◌}
 use Rattle.std.proofs.lemmas.Bool.{and_parts, eqb-false, ltb-true, ltb-false, false≢true}
+use Rattle.std.proofs.lemmas.List.Elements.{All-from_recursion, All-nil}
 use Rattle.std.proofs.lemmas.List.{get_or_append_left, get_or_push, length-append}
 use Rattle.hart.specs.State.{HartState}
 use Rattle.hart.specs.declared.status.Stop.{Stop}
 use Rattle.hart.specs.declared.status.Status.TheVariants.{Stopped}
 use Rattle.step_machine.specs.declared.events.Entry.{Entry}
 use Rattle.step_machine.specs.Names.{access_of, hart_of, is_land, OpeningValue, history_of, WellFormed, state_of}
-use Rattle.store_buffers.specs.StoreBuffers.{LeavesByteBy}
 use Rattle.queue_certificates.specs.Certificates.{QueueCertificate, accepts}
 use Rattle.queue_certificates.proofs.States.{at-below}
 use Rattle.hart_safety.specs.Ends.{first_end}
 use Rattle.hart_safety.specs.Regions.{IsInNone}
-use Rattle.hart_safety.specs.Writes.{first_unbounded, regions_written}
+use Rattle.hart_safety.specs.Touched.{SparesByte, touched_of}
 use Rattle.hart_safety.specs.Stops.{first_stop}
 use Rattle.queue_progress.specs.Rows.{Lasts, RunsOrEnds}
 use Rattle.certifying.specs.Endings.{all_endings, always_runs, endings_at, endings_below, endings_in, endings_of, never_stops, no_endings}
-use Rattle.certifying.specs.Harts.{harts_safe, is_safe}
-use Rattle.certifying.specs.Kept.{HartsHold, KeepsHarts, WritesWithinRegions}
+use Rattle.certifying.specs.Kept.{LineMeans, NeverStops, TouchesBy, TouchesOnly}
+use Rattle.certifying.specs.Lines.{AnswerLine, hart_lines, harts_lines, harts_safe, is_safe, it_touches, never_ends, stopped_at}
+use Rattle.certifying.specs.Questions.{Questions}
 use Rattle.certifying.specs.declared.endings.Endings.{Endings}
+use Rattle.certifying.proofs.LineLaws.{all-lines}
 
 -- what `hart_safety` promises where a certificate is accepted
 pub record HartLaws : Type 0 where
@@ -31,9 +33,9 @@ pub record HartLaws : Type 0 where
       → first_stop M o c h ≡ None → RunsOrEnds B M o h
   pub runs : (B M : ℕ) (o : OpeningValue) (c : QueueCertificate) → accepts o c ≡ true → (h : ℕ) → h < length o.harts
       → first_stop M o c h ≡ None → first_end o c h ≡ None → Lasts B M o h
-  pub written_within : (B M : ℕ) (o : OpeningValue) (c : QueueCertificate) → accepts o c ≡ true → (es : List Entry) (e : Entry)
-      → WellFormed B M (history_of o (es ++ e ∷ [])) → is_land e ≡ false → first_unbounded o c (hart_of e) ≡ None → (x : ℕ)
-      → IsInNone x (regions_written o c (hart_of e)) → LeavesByteBy x (access_of e)
+  pub touched_within : (stores : Bool) (B M : ℕ) (o : OpeningValue) (c : QueueCertificate) → accepts o c ≡ true → (es : List Entry) (e : Entry)
+      → WellFormed B M (history_of o (es ++ e ∷ [])) → is_land e ≡ false → (touched_of stores o c (hart_of e)).unbounded ≡ None → (x : ℕ)
+      → IsInNone x (touched_of stores o c (hart_of e)).regions → SparesByte stores x (access_of e)
 
 -- ---- where harts may be stopped, and where they may end
 
@@ -87,14 +89,15 @@ module _ (o : OpeningValue) (c : QueueCertificate) (laws : HartLaws) (accepted :
   nothing-there None is = refl
   nothing-there (Some a) is = absurd (cc)
 
-  no-other : (ends : List Endings) (h : ℕ) → is_safe o c ends h ≡ true → ((endings_at ends h).stop ≡ None) × (first_unbounded o c h ≡ None)
+  no-other : (ends : List Endings) (h : ℕ) → is_safe o c ends h ≡ true → ((endings_at ends h).stop ≡ None)
+      × ((touched_of true o c h).unbounded ≡ None)
   unfolding is_safe
   no-other ends h safe = let both = and_parts _ _ safe in (nothing-there _ both.0, nothing-there _ both.1)
 
-  written-in : (h : ℕ) → first_unbounded o c h ≡ None → WritesWithinRegions o c h
-  written-in h none B N es e formed unlanded of_hart =
-      subst (λ (g : ℕ). first_unbounded o c g ≡ None → (x : ℕ) → IsInNone x (regions_written o c g) → LeavesByteBy x (access_of e)) of_hart
-      (laws.written_within B N o c accepted es e formed unlanded) none
+  touched-in : (stores : Bool) (h : ℕ) → (touched_of stores o c h).unbounded ≡ None → TouchesOnly stores o h (touched_of stores o c h).regions
+  touched-in stores h none B N es e formed unlanded of_hart =
+      subst (λ (g : ℕ). (touched_of stores o c g).unbounded ≡ None → (x : ℕ) → IsInNone x (touched_of stores o c g).regions
+      → SparesByte stores x (access_of e)) of_hart (laws.touched_within stores B N o c accepted es e formed unlanded) none
 
   -- of one of the opening's harts
   pub runs-or-ends : (M h : ℕ) → never_stops (endings_in M o c h) ≡ true → (B : ℕ) → RunsOrEnds B M o h
@@ -111,24 +114,55 @@ module _ (o : OpeningValue) (c : QueueCertificate) (laws : HartLaws) (accepted :
       let is = listed M o c h (and_parts _ _ always).0 in
       runs-by M h is.0 (subst (λ (e : Endings). always_runs e ≡ true) is.1 always) B
 
-  pub harts-hold : (M : ℕ) (harts : Bool) → HartsHold M harts o c
-  harts-hold M false = tt
-  harts-hold M true = λ h less. (
-    λ none B es formed. laws.never_stopped B M o c accepted h none es formed,
-    λ always. runs-by M h less always,
-    written-in h,
-  )
+  -- ---- its lines
 
-  kept-by : (M : ℕ) → harts_safe o c (endings_below M o c (length o.harts)) true ≡ true → KeepsHarts M true o c
-  kept-by M safe = λ h less.
-      let none = no-other (endings_below M o c (length o.harts)) h
-      (at-below (length o.harts) (is_safe o c (endings_below M o c (length o.harts))) safe h less) in
-      let stops : first_stop M o c h ≡ None =
-      sym (ap (λ (e : Endings). e.stop) (found-at M o c (length o.harts) h less)) ∙ none.0 in
-      let hold = harts-hold M true h less in (hold.0 stops, hold.1, hold.2 none.1)
+  module _ (M : ℕ) (asked : Questions) where
+    abbrev Mean : AnswerLine → Type 0
+    Mean = LineMeans M asked o c
+
+    stop-means : (h : ℕ) (stop : Option ℕ) → first_stop M o c h ≡ stop → Mean (stopped_at h stop)
+    stop-means h None none = λ B es formed. laws.never_stopped B M o c accepted h none es formed
+    stop-means h (Some n) is = tt
+
+    end-means : (h : ℕ) → h < length o.harts → (never : Bool) → always_runs (endings_of M o c h) ≡ never → Mean (never_ends h never)
+    end-means h less true always = runs-by M h less always
+    end-means h less false not = tt
+
+    touches-mean : (stores : Bool) (h : ℕ) (anywhere : Option ℕ) → (touched_of stores o c h).unbounded ≡ anywhere
+        → TouchesBy anywhere stores o h (touched_of stores o c h).regions
+    touches-mean stores h None none = touched-in stores h none
+    touches-mean stores h (Some n) is = tt
+
+    hart-means : (h : ℕ) → h < length o.harts → All Mean (hart_lines o c (all_endings M o c true) h)
+    unfolding hart_lines
+    hart-means h less = subst (λ (e : Endings). All Mean (stopped_at h e.stop ∷ never_ends h (always_runs e)
+        ∷ it_touches true h (touched_of true o c h) ∷ it_touches false h (touched_of false o c h) ∷ []))
+        (sym (found-at M o c (length o.harts) h less))
+        (All-from_recursion Mean (stopped_at h (first_stop M o c h) ∷ never_ends h (always_runs (endings_of M o c h))
+        ∷ it_touches true h (touched_of true o c h) ∷ it_touches false h (touched_of false o c h) ∷ []) (
+          stop-means h (first_stop M o c h) refl,
+          (
+            end-means h less (always_runs (endings_of M o c h)) refl,
+            (touches-mean true h (touched_of true o c h).unbounded refl, (touches-mean false h (touched_of false o c h).unbounded refl, tt)),
+          ),
+        ))
 
   -- they are asked for where this is, and where progress is
-  pub keeps-harts : (M : ℕ) (progress harts : Bool) → harts_safe o c (all_endings M o c (progress || harts)) harts ≡ true → KeepsHarts M harts o c
-  keeps-harts M progress false safe = tt
-  keeps-harts M false true safe = kept-by M safe
-  keeps-harts M true true safe = kept-by M safe
+  pub harts-mean : (M : ℕ) (asked : Questions) (progress harts : Bool)
+      → All (LineMeans M asked o c) (harts_lines o c (all_endings M o c (progress || harts)) harts)
+  harts-mean M asked progress false = All-nil (LineMeans M asked o c)
+  harts-mean M asked true true = all-lines (LineMeans M asked o c) (hart_lines o c (all_endings M o c true)) (length o.harts) (hart-means M asked)
+  harts-mean M asked false true = all-lines (LineMeans M asked o c) (hart_lines o c (all_endings M o c true)) (length o.harts) (hart-means M asked)
+
+  kept-by : (M : ℕ) → harts_safe o c (all_endings M o c true) true ≡ true → (h : ℕ) → h < length o.harts
+      → NeverStops M o h × TouchesOnly true o h (touched_of true o c h).regions
+  kept-by M safe h less =
+      let none = no-other (all_endings M o c true) h (at-below (length o.harts) (is_safe o c (all_endings M o c true)) safe h less) in
+      let stops : first_stop M o c h ≡ None = sym (ap (λ (e : Endings). e.stop) (found-at M o c (length o.harts) h less)) ∙ none.0 in
+      ((λ B es formed. laws.never_stopped B M o c accepted h stops es formed), touched-in true h none.1)
+
+  pub keeps-harts : (M : ℕ) (progress harts : Bool) → harts_safe o c (all_endings M o c (progress || harts)) harts ≡ true → harts ≡ true
+      → (h : ℕ) → h < length o.harts → NeverStops M o h × TouchesOnly true o h (touched_of true o c h).regions
+  keeps-harts M progress false safe is = absurd (false≢true is)
+  keeps-harts M false true safe is = kept-by M safe
+  keeps-harts M true true safe is = kept-by M safe

@@ -1,9 +1,8 @@
 -- What is shown of the bytes of records, where the certificate is accepted, and that one thing is found of them.
-use Rattle.std.proofs.Common.{arith, ◌≡◌, ℕ, zero, suc, ◌+◌, ◌<◌, ◌≤◌, ◌&&◌, Bool, true, false, List, [], ◌∷◌, ◌++◌, length, map, Some, None, refl, sym, ap}
+use Rattle.std.proofs.Common.{arith, ◌≡◌, ℕ, zero, suc, ◌+◌, ◌<◌, ◌≤◌, Bool, true, false, List, [], ◌∷◌, ◌++◌, length, Some, None, refl, sym, ap}
 use Rattle.std.proofs.Common.{ap₂, ◌∙◌, subst}
-use Rattle.std.proofs.Math.ListN.{length-map}
-use Rattle.std.specs.Prelude.{Option, get_or, nat_lt}
-use Rattle.std.specs.List.{list_all}
+use Rattle.std.specs.Prelude.{All, Option, nat_lt}
+use Rattle.std.proofs.lemmas.List.Elements.{All-cons, All-nil}
 use Rattle.std.proofs.lemmas.Bool.{and_parts, lt-ltb}
 use Rattle.step_machine.specs.declared.events.Entry.{Entry}
 use Rattle.step_machine.specs.Names.{OpeningValue, history_of, WellFormed}
@@ -17,7 +16,8 @@ use Rattle.records_written.specs.{IsFirstMissing, IsFirstUnread, IsFirstUnwritte
 use Rattle.records_written.specs.{published_after, slot_in, taken_after, IsRead, IsWritten}
 use Rattle.records_written.specs.declared.finding.Missing.{Missing}
 use Rattle.records_written.specs.declared.parties.QueueNumber.{QueueNumber}
-use Rattle.certifying.specs.Kept.{DoesRecords, DoesRecordsOf, FoundHold, IsDone, KeepsRecords, RecordsHold}
+use Rattle.certifying.specs.Kept.{DoesRecords, DoesRecordsOf, IsDone, LineMeans, RecordsMean}
+use Rattle.certifying.specs.Lines.{records_from, the_records}
 use Rattle.certifying.specs.Questions.{Questions}
 use Rattle.certifying.specs.Queues.{is_tag_byte, number_by, number_in, queue_count, slots_at}
 use Rattle.certifying.specs.Records.{AreFound, AreFoundFrom, IsFound, IsFoundFor, are_read, are_written, asked_ranges, doer, is_rest, is_shown}
@@ -30,10 +30,10 @@ use Rattle.certifying.proofs.Numbers.{of_either}
 pub record RecordLaws : Type 0 where
   pub written : (B M : ℕ) (o : OpeningValue) (c : QueueCertificate) → accepts o c ≡ true → (w : QueueNumber) → IsListed c w → (mask : ℕ → Bool)
       → IsShownWritten o c w mask → (es : List Entry) (e : Entry) → WellFormed B M (history_of o (es ++ e ∷ [])) → (k : ℕ)
-      → published_after c w es ≤ k → k < published_after c w (es ++ e ∷ []) → (b : ℕ) → mask b ≡ true → IsWritten c w es k (slot_in c w k + b)
+      → published_after c w es ≤ k → k < published_after c w (es ++ e ∷ []) → (b : ℕ) → mask b ≡ true → IsWritten M o c w es k (slot_in c w k + b)
   pub read : (B M : ℕ) (o : OpeningValue) (c : QueueCertificate) → accepts o c ≡ true → (w : QueueNumber) → IsListed c w → (mask : ℕ → Bool)
       → IsShownRead o c w mask → (es : List Entry) (e : Entry) → WellFormed B M (history_of o (es ++ e ∷ [])) → (k : ℕ)
-      → taken_after c w es ≤ k → k < taken_after c w (es ++ e ∷ []) → (b : ℕ) → mask b ≡ true → IsRead c w es k (slot_in c w k + b)
+      → taken_after c w es ≤ k → k < taken_after c w (es ++ e ∷ []) → (b : ℕ) → mask b ≡ true → IsRead M o c w es k (slot_in c w k + b)
 
 -- and of the first byte that isn't shown to be written, or to be read
 pub record FirstLaws : Type 0 where
@@ -94,16 +94,7 @@ module _ (laws : FirstLaws) (o : OpeningValue) (c : QueueCertificate) where
   pub one-in : (asked : Questions) (found others : List QueueRecords) → AreFound o c asked found → AreFound o c asked others → found ≡ others
   one-in asked found others are also = one-from asked 0 found others are.1 also.1 (are.0 ∙ sym also.0)
 
--- ---- what is found of one party
-
-listed-below : (found : List Records) (i : ℕ) → get_or found i NoBytes ≡ Shown → i < length found
-listed-below [] i shown = absurd (cc)
-listed-below (r ∷ found) zero shown = omega arith
-listed-below (r ∷ found) (suc i) shown = let rest : i < length found = listed-below found i shown in omega (arith, rest)
-
-all-of : (f : QueueRecords → Records) (found : List QueueRecords) → list_all is_shown (map f found) ≡ list_all (λ both. is_shown (f both)) found
-all-of f [] = refl
-all-of f (both ∷ found) = ap (λ (b : Bool). is_shown (f both) && b) (all-of f found)
+-- ---- what is found of each queue
 
 module _ (o : OpeningValue) (c : QueueCertificate) where
   -- what is found, with one more
@@ -124,50 +115,6 @@ module _ (o : OpeningValue) (c : QueueCertificate) where
             (subst (λ (i : ℕ). IsFoundFor o c false asked.read i both.read) same read),
       )
 
-  module _ (writes : Bool) where
-    -- from queue i on, of the bytes of a text
-    abbrev AreHalf : (asked : Option (List ℕ)) → (i : ℕ) → List Records → Type 0
-    AreHalf asked i [] = Unit {0}
-    AreHalf asked i (r ∷ more) = IsFoundFor o c writes asked i r × AreHalf asked (i + 1) more
-
-    abbrev IsWhole : (bytes : List ℕ) → (i : ℕ) → Type 0
-    IsWhole bytes i = (asked_ranges c bytes i ≡ [] → ⊥) × IsShownDone o c (number_in c i) (doer writes) (is_rest c i (asked_ranges c bytes i))
-
-    one-shown : (bytes : List ℕ) (i : ℕ) (r : Records) → IsFound o c writes i (asked_ranges c bytes i) r → r ≡ Shown → IsWhole bytes i
-    one-shown bytes i r is shown = subst (IsFound o c writes i (asked_ranges c bytes i)) shown is
-
-    -- of a queue of which it is found
-    found-shown : (bytes : List ℕ) (first : ℕ) (found : List Records) → AreHalf (Some bytes) first found → (i : ℕ) → get_or found i NoBytes ≡ Shown
-        → IsWhole bytes (first + i)
-    found-shown bytes first [] are i shown = absurd (cc)
-    found-shown bytes first (r ∷ found) are zero shown =
-        let here : first ≡ first + 0 = omega arith in subst (IsWhole bytes) here (one-shown bytes first r are.0 shown)
-    found-shown bytes first (r ∷ found) are (suc i) shown =
-        let there : first + 1 + i ≡ first + suc i = omega arith in subst (IsWhole bytes) there (found-shown bytes (first + 1) found are.1 i shown)
-
-    is-shown : (i : ℕ) (ranges : List ByteRange) (r : Records) → IsFound o c writes i ranges r → is_shown r ≡ true → r ≡ Shown
-    is-shown i ranges Unasked is shown = absurd is
-    is-shown i ranges NoBytes is shown = absurd (cc)
-    is-shown i ranges Shown is shown = refl
-    is-shown i ranges (NotShown missing) is shown = absurd (cc)
-
-    shown-at : (bytes : List ℕ) (first : ℕ) (found : List Records) → AreHalf (Some bytes) first found → list_all is_shown found ≡ true → (i : ℕ)
-        → i < length found → get_or found i NoBytes ≡ Shown
-    shown-at bytes first [] are shown i less = absurd (omega (arith, less))
-    shown-at bytes first (r ∷ found) are shown zero less = is-shown first (asked_ranges c bytes first) r are.0 (and_parts _ _ shown).0
-    shown-at bytes first (r ∷ found) are shown (suc i) less =
-        shown-at bytes (first + 1) found are.1 (and_parts _ _ shown).1 i (omega (arith, less))
-
-  written-half : (asked : Questions) (i : ℕ) (found : List QueueRecords) → AreFoundFrom o c asked i found
-      → AreHalf true asked.written i (map (λ both. both.written) found)
-  written-half asked i [] are = tt
-  written-half asked i (both ∷ found) are = (are.0, written-half asked (i + 1) found are.2)
-
-  read-half : (asked : Questions) (i : ℕ) (found : List QueueRecords) → AreFoundFrom o c asked i found
-      → AreHalf false asked.read i (map (λ both. both.read) found)
-  read-half asked i [] are = tt
-  read-half asked i (both ∷ found) are = (are.1, read-half asked (i + 1) found are.2)
-
   -- ---- what that means in every run
 
   module _ (laws : RecordLaws) (accepted : accepts o c ≡ true) where
@@ -183,45 +130,67 @@ module _ (o : OpeningValue) (c : QueueCertificate) where
 
     done : (writes : Bool) (B M : ℕ) (w : QueueNumber) → IsListed c w → (mask : ℕ → Bool) → IsShownDone o c w (doer writes) mask → (es : List Entry)
         (e : Entry) → WellFormed B M (history_of o (es ++ e ∷ [])) → (k : ℕ) → count_after c w (doer writes) es ≤ k
-        → k < count_after c w (doer writes) (es ++ e ∷ []) → (b : ℕ) → mask b ≡ true → IsDone writes c w es k (slot_in c w k + b)
+        → k < count_after c w (doer writes) (es ++ e ∷ []) → (b : ℕ) → mask b ≡ true → IsDone writes M o c w es k (slot_in c w k + b)
     done true B M w less mask shown es e formed k low high b asks = laws.written B M o c accepted w less mask shown es e formed k low high b asks
     done false B M w less mask shown es e formed k low high b asks = laws.read B M o c accepted w less mask shown es e formed k low high b asks
 
-    module _ (writes : Bool) where
-      does-of : (bytes : List ℕ) (i : ℕ) → i < queue_count c → IsWhole writes bytes i → DoesRecordsOf writes bytes o c i
-      does-of bytes i less whole = (
-        some-offset (names_byte bytes) (slots_at c i).width (λ none. whole.0 (ap byte_ranges none)),
-        λ B M es e formed k low high b within named free. done writes B M (number_in c i) (listed i less) (is_rest c i (asked_ranges c bytes i)) whole.1
-            es e formed k low high b (asked-of bytes i b within named free),
-      )
+    does-of : (writes : Bool) (bytes : List ℕ) (i : ℕ) → i < queue_count c → IsFound o c writes i (asked_ranges c bytes i) Shown
+        → DoesRecordsOf writes bytes o c i
+    does-of writes bytes i less whole = (
+      some-offset (names_byte bytes) (slots_at c i).width (λ none. whole.0 (ap byte_ranges none)),
+      λ B M es e formed k low high b within named free. done writes B M (number_in c i) (listed i less) (is_rest c i (asked_ranges c bytes i)) whole.1
+          es e formed k low high b (asked-of bytes i b within named free),
+    )
 
-      half-holds : (asked : Option (List ℕ)) (found : List Records) → length found ≡ queue_count c → AreHalf writes asked 0 found
-          → FoundHold writes asked o c found
-      half-holds None found count are = tt
-      half-holds (Some bytes) found count are = λ i shown.
-          let within : i < length found = listed-below found i shown in
-          does-of bytes i (omega (arith, within, count)) (subst (IsWhole writes bytes) (omega arith) (found-shown writes bytes 0 found are i shown))
+    -- where it is shown of all that is asked
+    shown-does : (writes : Bool) (asked : Option (List ℕ)) (i : ℕ) → i < queue_count c → (r : Records) → IsFoundFor o c writes asked i r
+        → is_shown r ≡ true → DoesRecords writes asked o c i
+    shown-does writes None i less r is shown = tt
+    shown-does writes (Some bytes) i less Unasked is shown = absurd is
+    shown-does writes (Some bytes) i less NoBytes is shown = absurd (cc)
+    shown-does writes (Some bytes) i less Shown is shown = does-of writes bytes i less is
+    shown-does writes (Some bytes) i less (NotShown missing) is shown = absurd (cc)
 
-      half-does : (asked : Option (List ℕ)) (found : List Records) → length found ≡ queue_count c → AreHalf writes asked 0 found
-          → list_all is_shown found ≡ true → DoesRecords writes asked o c
-      half-does None found count are shown = tt
-      half-does (Some bytes) found count are shown = λ i less.
-          half-holds (Some bytes) found count are i (shown-at writes bytes 0 found are shown i (omega (arith, less, count)))
+    found-means : (writes : Bool) (asked : Option (List ℕ)) (i : ℕ) → i < queue_count c → (r : Records) → IsFoundFor o c writes asked i r
+        → RecordsMean writes asked o c i r
+    found-means writes asked i less Unasked is = tt
+    found-means writes asked i less NoBytes is = tt
+    found-means writes asked i less Shown is = shown-does writes asked i less Shown is refl
+    found-means writes asked i less (NotShown missing) is = tt
 
-    module _ (asked : Questions) (found : List QueueRecords) (are : AreFound o c asked found) where
-      counted : (f : QueueRecords → Records) → length (map f found) ≡ queue_count c
-      counted f = length-map found f ∙ are.0
+    module _ (M : ℕ) (asked : Questions) where
+      means-from : (i : ℕ) (found : List QueueRecords) → i + length found ≡ queue_count c → AreFoundFrom o c asked i found
+          → All (LineMeans M asked o c) (records_from asked i found)
+      means-from i [] all are = All-nil (LineMeans M asked o c)
+      means-from i (both ∷ found) all are =
+          let less : i < queue_count c = omega (arith, all) in
+          All-cons (LineMeans M asked o c) (the_records true i asked.written both.written)
+          (the_records false i asked.read both.read ∷ records_from asked (i + 1) found) (found-means true asked.written i less both.written are.0)
+          (All-cons (LineMeans M asked o c) (the_records false i asked.read both.read)
+          (records_from asked (i + 1) found) (found-means false asked.read i less both.read are.1)
+          (means-from (i + 1) found (omega (arith, all)) are.2))
 
-      pub records-hold : RecordsHold asked o c found
-      records-hold = (
-        half-holds true asked.written (map (λ both. both.written) found) (counted (λ both. both.written)) (written-half asked 0 found are.1),
-        half-holds false asked.read (map (λ both. both.read) found) (counted (λ both. both.read)) (read-half asked 0 found are.1),
-      )
+      pub records-mean : (found : List QueueRecords) → AreFound o c asked found → All (LineMeans M asked o c) (records_from asked 0 found)
+      records-mean found are = means-from 0 found (omega (arith, are.0)) are.1
 
-      pub keeps-records : are_written found ≡ true → are_read found ≡ true → KeepsRecords asked o c
-      keeps-records written read = (
-        half-does true asked.written (map (λ both. both.written) found) (counted (λ both. both.written)) (written-half asked 0 found are.1)
-            (all-of (λ both. both.written) found ∙ written),
-        half-does false asked.read (map (λ both. both.read) found) (counted (λ both. both.read)) (read-half asked 0 found are.1)
-            (all-of (λ both. both.read) found ∙ read),
-      )
+    module _ (asked : Questions) where
+      abbrev Does : (i : ℕ) → Type 0
+      Does i = DoesRecords true asked.written o c i × DoesRecords false asked.read o c i
+
+      does-from : (first : ℕ) (found : List QueueRecords) → first + length found ≡ queue_count c → AreFoundFrom o c asked first found
+          → are_written found ≡ true → are_read found ≡ true → (i : ℕ) → i < length found → Does (first + i)
+      does-from first [] all are written read i less = absurd (omega (arith, less))
+      does-from first (both ∷ found) all are written read zero less =
+          let within : first < queue_count c = omega (arith, all) in
+          let here : first ≡ first + 0 = omega arith in subst Does here (
+            shown-does true asked.written first within both.written are.0 (and_parts _ _ written).0,
+            shown-does false asked.read first within both.read are.1 (and_parts _ _ read).0,
+          )
+      does-from first (both ∷ found) all are written read (suc i) less =
+          let there : first + 1 + i ≡ first + suc i = omega arith in subst Does there
+          (does-from (first + 1) found (omega (arith, all)) are.2 (and_parts _ _ written).1 (and_parts _ _ read).1 i (omega (arith, less)))
+
+      pub keeps-records : (found : List QueueRecords) → AreFound o c asked found → are_written found ≡ true → are_read found ≡ true
+          → (i : ℕ) → i < queue_count c → Does i
+      keeps-records found are written read i less =
+          let none : 0 + i ≡ i = omega arith in subst Does none (does-from 0 found (omega (arith, are.0)) are.1 written read i (omega (arith, less, are.0)))

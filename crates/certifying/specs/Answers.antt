@@ -1,13 +1,16 @@
 -- The command `queue`: whether a certificate shows that every run of a litmus text keeps the protocol of its queues, and what is promised then.
-use Rattle.std.specs.Prelude.{ℕ, ◌≡◌, ◌⊎◌, ◌==◌, ◌&&◌, ◌||◌, Bool, true, false, List, [], ◌∷◌, ◌++◌, length, codes, Option, Some, None}
-use Rattle.std.specs.Prelude.{is_some, Result, Ok, Err}
+use Rattle.std.specs.Prelude.{ℕ, ◌≡◌, ◌⊎◌, ◌==◌, not, Bool, true, false, List, [], ◌∷◌, ◌++◌, length, map, codes, Option, Some, None, is_some}
+use Rattle.std.specs.Prelude.{Result, Ok, Err}
 use Rattle.step_machine.specs.History.{OpeningValue}
 use Rattle.step_machine.specs.declared.events.Event.{Event}
 use Rattle.queue_certificates.specs.Certificates.{QueueCertificate}
+use Rattle.queue_parties.specs.Parties.{all_at}
 use Rattle.drawn_runs.specs.Samples.{DrawnRuns}
 use Rattle.ownership_runs.specs.declared.losses.Loss.{Loss}
 use Rattle.ownership_runs.specs.declared.violations.Violation.{Violation}
 use Rattle.ownership_runs.specs.declared.runs.Moved.{Moved}
+use Rattle.ownership_runs.specs.declared.steps.Step.{Step}
+use Rattle.ownership_runs.specs.Violations.{first_ownership_violation}
 use Rattle.queue_checker.specs.Flaws.{first_flaw}
 use Rattle.queue_checker.specs.declared.flaws.Flaw.{Flaw}
 use Rattle.queue_checker.specs.declared.flaws.Flaw.TheVariants.{Queue, Tagged, Opening, State}
@@ -23,32 +26,38 @@ use Rattle.engine_support.specs.OpeningTexts.{numbered}
 use Rattle.certifying.specs.Questions.{Questions}
 use Rattle.certifying.specs.Broken.{broken_text, lost_text, other_text, runs_line, unlost_line}
 use Rattle.certifying.specs.Descriptions.{all_queue_lines}
-use Rattle.certifying.specs.Endings.{all_endings}
-use Rattle.certifying.specs.Going.{all_going, all_going_lines}
-use Rattle.certifying.specs.Harts.{harts_lines, harts_safe}
+use Rattle.certifying.specs.Going.{arriving_line, moving_lines, party_line, still_line}
+use Rattle.certifying.specs.Harts.{end_line, stop_line, touches_line}
 use Rattle.certifying.specs.Inputs.{certificates}
+use Rattle.certifying.specs.Lines.{AnswerLine, is_kept, not_all_shown, not_going, not_owned, the_queues, the_party, move_on, can_move, may_wait, the_records}
+use Rattle.certifying.specs.Lines.{stopped_at, never_ends, it_touches, the_protocol, the_limits, all_going, all_going_lines, all_shown, ends_asked, first_line}
+use Rattle.certifying.specs.Lines.{harts_lines, harts_safe, judgement_of, limits}
 use Rattle.certifying.specs.Lost.{IsRecordLost, NoneLost}
 use Rattle.certifying.specs.NotShown.{flaw_line, likely_line}
-use Rattle.certifying.specs.Queues.{queue_count}
-use Rattle.certifying.specs.Records.{AreFound, are_read, are_written, record_lines}
+use Rattle.certifying.specs.Queues.{any_queue, any_start, queue_count, slots_at, tagged_number}
+use Rattle.certifying.specs.Records.{AreFound, asked_line, doing_hart, record_lines}
 use Rattle.certifying.specs.Trials.{IsFirstBroken, QueuesKeep}
 use Rattle.certifying.specs.Unread.{first_unread, unread_line}
 use Rattle.certifying.specs.Unused.{first_unused, unused_line}
 use Rattle.certifying.specs.declared.endings.Endings.{Endings}
 use Rattle.certifying.specs.declared.judgement.Judgement.{Judgement}
-use Rattle.certifying.specs.declared.judgement.Judgement.TheVariants.{Kept, ReadsNotShown, ProgressNotShown, AskedNotShown, NotShown, Broken, OtherProtocol}
+use Rattle.certifying.specs.declared.judgement.Judgement.TheVariants.{ReadsNotShown, NotShown, Broken, OtherProtocol}
 use Rattle.certifying.specs.declared.records.QueueRecords.{QueueRecords}
 use Rattle.certifying.specs.declared.unread.Unread.{Unread}
 use Rattle.certifying.specs.declared.unused.Unused.{Unused}
 
 -- ---- what is promised and what isn't
 
--- where it is shown that the queues go on, if that is asked, and all else that is
-abbrev pub kept_line : (progress goes all : Bool) → List ℕ
-kept_line progress false all = codes "kept in every run, but not shown to go on" ++ 10 ∷ []
-kept_line progress true false = codes "kept, but not all that was asked is shown" ++ 10 ∷ []
-kept_line true true true = codes "kept in every run, and goes on while its harts run" ++ 10 ∷ []
-kept_line false true true = codes "kept in every run" ++ 10 ∷ []
+-- where all is shown, that queues go on too, if that is asked
+abbrev pub kept_line : (goes : Bool) → List ℕ
+kept_line true = codes "kept in every run, and goes on while its harts run" ++ 10 ∷ []
+kept_line false = codes "kept in every run" ++ 10 ∷ []
+
+abbrev pub not_all_line : List ℕ
+not_all_line = codes "kept, but not all that was asked is shown" ++ 10 ∷ []
+
+abbrev pub not_going_line : List ℕ
+not_going_line = codes "kept in every run, but not shown to go on" ++ 10 ∷ []
 
 unfoldable pub every_run_text : List ℕ
 every_run_text = codes "promised: in every legal run, of any length and schedule, with store buffers of any size, the protocol"
@@ -65,14 +74,17 @@ protocol_text c = every_run_text ++ kept_protocols (length c.queues == 0) (lengt
 unfoldable pub promise_end : List ℕ
 promise_end = codes ", so positions arrive in order, each once, with all that was written before" ++ 10 ∷ []
 
-abbrev pub promise_line : QueueCertificate → List ℕ
-promise_line c = protocol_text c ++ promise_end
-
-abbrev pub protocol_line : QueueCertificate → List ℕ
-protocol_line c = protocol_text c ++ 10 ∷ []
+-- where parties load only slots that they own, or not
+abbrev pub protocol_line : QueueCertificate → (owned : Bool) → List ℕ
+protocol_line c true = protocol_text c ++ promise_end
+protocol_line c false = protocol_text c ++ 10 ∷ []
 
 unfoldable pub reads_line : List ℕ
 reads_line = codes "not promised: that what is loaded from a slot is a record that the hart owns" ++ 10 ∷ []
+
+abbrev pub limit_of_owning : (owned : Bool) → List ℕ
+limit_of_owning true = []
+limit_of_owning false = reads_line
 
 unfoldable pub progress_line : List ℕ
 progress_line = codes "not promised: that anything is ever sent or received" ++ 10 ∷ []
@@ -104,27 +116,37 @@ limit_of_progress false = progress_line
 abbrev pub nothing_line : List ℕ
 nothing_line = codes "nothing is claimed" ++ 10 ∷ []
 
+-- ---- the table from lines to words
+
+abbrev pub words : OpeningValue → QueueCertificate → AnswerLine → List ℕ
+words o c (is_kept goes) = kept_line goes
+words o c not_all_shown = not_all_line
+words o c not_going = not_going_line
+words o c (not_owned unread) = unread_line o c unread
+words o c the_queues = all_queue_lines o c
+words o c (the_party i sends found) = party_line o c sends i (doing_hart c sends i) (doing_hart c (not sends) i) found
+words o c (move_on i both) = moving_lines (is_some (tagged_number c i)) i (slots_at c i) both
+words o c (can_move i unstopped run) = arriving_line i unstopped run
+words o c (may_wait i s r) = still_line i (slots_at c i) s r
+words o c (the_records writes i asked found) = asked_line o c writes asked i found
+words o c (stopped_at h stop) = stop_line o c h stop
+words o c (never_ends h never) = end_line h never
+words o c (it_touches stores h touched) = touches_line o c stores h touched
+words o c (the_protocol owned) = protocol_line c owned
+words o c (the_limits owned read written goes) = limit_of_owning owned ++ limit_of_records written read ++ limit_of_progress goes
+
+abbrev pub texts : OpeningValue → QueueCertificate → List AnswerLine → List ℕ
+texts o c [] = []
+texts o c (line ∷ lines) = words o c line ++ texts o c lines
+
 -- ---- all of it
 
--- the lines of the queues, and about what is asked: whether they go on, what is found of records, and the lines of the harts
-abbrev pub asked_lines : OpeningValue → QueueCertificate → Questions → (going : List ℕ) → List QueueRecords → (harts : List ℕ) → List ℕ
-asked_lines o c asked going found harts = all_queue_lines o c ++ going ++ record_lines o c asked found ++ harts
-
--- what isn't promised, where the queues are shown to go on, if that is asked, or not
-abbrev pub limits_of : Questions → List QueueRecords → (goes : Bool) → List ℕ
-limits_of asked found goes = limit_of_records (is_some asked.written && are_written found) (is_some asked.read && are_read found)
-    ++ limit_of_progress (asked.progress && goes)
-
--- where all else that is asked is shown, or not
-abbrev pub kept_text : OpeningValue → QueueCertificate → Questions → (going : List ℕ) → List QueueRecords → (harts : List ℕ) → (goes all : Bool)
-    → List ℕ
-kept_text o c asked going found harts goes all = kept_line asked.progress goes all ++ asked_lines o c asked going found harts
-    ++ promise_line c ++ limits_of asked found goes
-
-abbrev pub unread_text : OpeningValue → QueueCertificate → Questions → (going : List ℕ) → List QueueRecords → (harts : List ℕ) → (goes : Bool)
-    → Unread → List ℕ
-unread_text o c asked going found harts goes unread = unread_line o c unread ++ asked_lines o c asked going found harts
-    ++ protocol_line c ++ reads_line ++ limits_of asked found goes
+-- with the lines of whether queues go on and of the harts, what is found of records, whether queues go on, and whether harts are shown to be safe
+abbrev pub kept_text : OpeningValue → QueueCertificate → Questions → (going : List ℕ) → List QueueRecords → (harts : List ℕ) → (goes safe : Bool)
+    → Option Unread → List ℕ
+kept_text o c asked going found harts goes safe unread = words o c (first_line asked.progress goes (all_shown found safe) unread)
+    ++ all_queue_lines o c ++ going ++ record_lines o c asked found ++ harts ++ words o c (the_protocol (not (is_some unread)))
+    ++ words o c (limits asked found (not (is_some unread)) goes)
 
 abbrev pub unused_text : Unused → List ℕ
 unused_text unused = unused_line unused ++ nothing_line
@@ -132,35 +154,22 @@ unused_text unused = unused_line unused ++ nothing_line
 abbrev pub flaw_text : OpeningValue → QueueCertificate → Flaw → List ℕ
 flaw_text o c flaw = flaw_line o c flaw ++ likely_line o c flaw ++ nothing_line
 
--- all is shown that was asked besides whether the queues go on
-abbrev pub all_shown : List QueueRecords → (safe : Bool) → Bool
-all_shown found safe = (are_written found && are_read found) && safe
+abbrev pub judged_by : (first : AnswerLine) → (text : List ℕ) → List ℕ × Judgement
+judged_by first text = (text, judgement_of first)
 
-abbrev pub kept_judgement : (goes all : Bool) → Judgement
-kept_judgement false all = ProgressNotShown
-kept_judgement true false = AskedNotShown
-kept_judgement true true = Kept
-
--- where the protocol is shown of queues that are used, with the lines of whether they go on and of the harts, what is found of records, and
--- whether these are shown
 abbrev pub judged_reads : OpeningValue → QueueCertificate → Questions → (going : List ℕ) → List QueueRecords → (harts : List ℕ)
     → (goes safe : Bool) → Option Unread → List ℕ × Judgement
-judged_reads o c asked going found harts goes safe None =
-    (kept_text o c asked going found harts goes (all_shown found safe), kept_judgement goes (all_shown found safe))
-judged_reads o c asked going found harts goes safe (Some unread) = (unread_text o c asked going found harts goes unread, ReadsNotShown)
+judged_reads o c asked going found harts goes safe unread =
+    judged_by (first_line asked.progress goes (all_shown found safe) unread) (kept_text o c asked going found harts goes safe unread)
 
 -- the same by where harts may be stopped, and where they may end
 abbrev pub ending_answer : Questions → OpeningValue → QueueCertificate → List QueueRecords → List Endings → List ℕ × Judgement
-ending_answer asked o c found ends = judged_reads o c asked (all_going_lines o c ends asked.progress) found (harts_lines o c ends asked.harts)
-    (all_going o c asked.progress) (harts_safe o c ends asked.harts) (first_unread o c)
-
--- this is asked where one line or another says something of it
-abbrev pub asks_endings : Questions → Bool
-asks_endings asked = asked.progress || asked.harts
+ending_answer asked o c found ends = judged_reads o c asked (texts o c (all_going_lines o c ends asked.progress)) found
+    (texts o c (harts_lines o c ends asked.harts)) (all_going o c asked.progress) (harts_safe o c ends asked.harts) (first_unread o c)
 
 -- the same with M words of memory, by what is found of records
 abbrev pub kept_answer : (M : ℕ) → Questions → OpeningValue → QueueCertificate → List QueueRecords → List ℕ × Judgement
-kept_answer M asked o c found = ending_answer asked o c found (all_endings M o c (asks_endings asked))
+kept_answer M asked o c found = ending_answer asked o c found (ends_asked M asked o c)
 
 pub record IsKeptAnswer (M : ℕ) (asked : Questions) (o : OpeningValue) (c : QueueCertificate) (answer : List ℕ × Judgement) : Type 0 where
   pub found : List QueueRecords
@@ -176,12 +185,12 @@ IsUseAnswer M asked o c (Some unused) answer = answer ≡ (unused_text unused, N
 pub record IsLostText (d : DrawnRuns) (o : OpeningValue) (c : QueueCertificate) (i : ℕ) (lines : List ℕ) : Type 0 where
   pub part : List Event
   pub loss : Loss
-  pub pc : ℕ
-  pub is_lost : IsRecordLost d o c i part loss pc
-  pub lines_are : lines ≡ lost_text d.B o i part loss pc
+  pub steps : List Step
+  pub is_lost : IsRecordLost d o c i false part loss steps
+  pub lines_are : lines ≡ lost_text d.B o c i part loss steps
 
 abbrev pub IsUnlostText : DrawnRuns → OpeningValue → QueueCertificate → (i : ℕ) → (lines : List ℕ) → Type 0
-IsUnlostText d o c i lines = NoneLost d o c i × (lines ≡ unlost_line d.number d.size i)
+IsUnlostText d o c i lines = NoneLost d o c i false × (lines ≡ unlost_line d.number d.size i)
 
 abbrev pub AreLossLines : DrawnRuns → OpeningValue → QueueCertificate → Option Unread → (lines : List ℕ) → Type 0
 AreLossLines d o c None lines = lines ≡ []
@@ -213,29 +222,32 @@ pub record IsTriedText (d : DrawnRuns) (o : OpeningValue) (c : QueueCertificate)
   pub kept : QueuesKeep d o c 0 moved
   pub text_is : text ≡ tried_text d o c flaw moved
 
--- one breaks it by a store that the protocol described has, and one loses a record of that queue
+-- one breaks it by a store that the protocol described has, and one loses a record of that queue after such a store: the one that is shown, whose
+-- schedule this is
 pub record IsBrokenText (d : DrawnRuns) (o : OpeningValue) (c : QueueCertificate) (text : List ℕ) : Type 0 where
   pub queue : ℕ
   pub part : List Event
   pub violation : Violation
-  pub pc : ℕ
-  pub is_first : IsFirstBroken d o c queue part violation pc
+  pub first_steps : List Step
+  pub is_first : IsFirstBroken d o c queue part violation first_steps
   pub described : violation.described ≡ true
   pub lost_part : List Event
   pub loss : Loss
-  pub lost_at : ℕ
-  pub is_lost : IsRecordLost d o c queue lost_part loss lost_at
-  pub text_is : text ≡ broken_text d.B o c queue violation pc lost_part loss lost_at
+  pub steps : List Step
+  pub is_lost : IsRecordLost d o c queue true lost_part loss steps
+  pub shown : Violation
+  pub is_shown : first_ownership_violation (any_queue c queue) (all_at (any_start c queue)) (map (λ (s : Step). s.entry) steps) ≡ Some shown
+  pub text_is : text ≡ broken_text d.B o c queue shown lost_part loss steps
 
--- one breaks it, by a store that the protocol described doesn't have, or none loses a record of that queue
+-- one breaks it, by a store that the protocol described doesn't have, or none loses a record of that queue after such a store
 pub record IsOtherText (d : DrawnRuns) (o : OpeningValue) (c : QueueCertificate) (text : List ℕ) : Type 0 where
   pub queue : ℕ
   pub part : List Event
   pub violation : Violation
-  pub pc : ℕ
-  pub is_first : IsFirstBroken d o c queue part violation pc
-  pub other : (violation.described ≡ false) ⊎ NoneLost d o c queue
-  pub text_is : text ≡ other_text d.number d.size d.B o c queue part violation pc
+  pub steps : List Step
+  pub is_first : IsFirstBroken d o c queue part violation steps
+  pub other : (violation.described ≡ false) ⊎ NoneLost d o c queue true
+  pub text_is : text ≡ other_text d.number d.size d.B o c queue part violation steps
 
 abbrev pub IsTrialAnswer : DrawnRuns → OpeningValue → QueueCertificate → Flaw → List ℕ × Judgement → Type 0
 IsTrialAnswer d o c flaw (text, NotShown) = IsTriedText d o c flaw text

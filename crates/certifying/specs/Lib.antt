@@ -11,6 +11,7 @@ pub mod Questions
 pub mod ByteTexts
 pub mod Records
 pub mod Harts
+pub mod Lines
 pub mod Trials
 pub mod Lost
 pub mod Broken

@@ -49,6 +49,7 @@ tagged_fault why_tagged.NarrowNumber = codes " has numbers in a tag that isn't a
 tagged_fault why_tagged.SameNumbers = codes " has numbers that are the same for free and for full slots"
 tagged_fault why_tagged.WideMask = codes " has a mask with bits that its tag doesn't have"
 tagged_fault why_tagged.SameBits = codes " has bits that are the same for free and for full slots"
+tagged_fault why_tagged.OutsideMask = codes " has bits for free or full slots that its mask doesn't have"
 tagged_fault why_tagged.NotFree = codes " has a slot that isn't free where it opens"
 
 abbrev pub flaw_line : OpeningValue → QueueCertificate → Flaw → List ℕ

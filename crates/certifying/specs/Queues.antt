@@ -6,6 +6,7 @@ use Rattle.queue_layouts.specs.declared.AnyQueue.{AnyQueue}
 use Rattle.queue_layouts.specs.declared.AnyQueue.TheVariants.{Indexed, Tagged}
 use Rattle.queue_certificates.specs.Certificates.{QueueCertificate, queue_at, start_at, tagged_at, tagged_start}
 use Rattle.queue_certificates.specs.Tags.{bare, are_slots}
+use Rattle.record_bytes.specs.declared.ranges.ByteRange.{ByteRange}
 use Rattle.records_written.specs.declared.parties.QueueNumber.{QueueNumber}
 use Rattle.records_written.specs.declared.parties.QueueNumber.TheVariants as number
 use Rattle.queue_checker.specs.Accesses.{slot_accesses, tagged_accesses}
@@ -35,6 +36,16 @@ is_tag_byte_by c (Some t) b =
 
 abbrev pub is_tag_byte : QueueCertificate → (i b : ℕ) → Bool
 is_tag_byte c i b = is_tag_byte_by c (tagged_number c i) b
+
+-- these bytes as a range, without a byte where it has none
+abbrev pub tag_range_by : QueueCertificate → (t : Option ℕ) → ByteRange
+tag_range_by c None = record { first = 1; last = 0 }
+tag_range_by c (Some t) = if are_slots (tagged_at c t) && nat_lt 0 ((tagged_at c t).tag_offset + (tagged_at c t).tag_width)
+    then record { first = (tagged_at c t).tag_offset; last = (tagged_at c t).tag_offset + (tagged_at c t).tag_width - 1 }
+    else record { first = 1; last = 0 }
+
+abbrev pub tag_range : QueueCertificate → (i : ℕ) → ByteRange
+tag_range c i = tag_range_by c (tagged_number c i)
 
 -- the queue itself, and the count with which it opens
 abbrev pub queue_by : QueueCertificate → (i : ℕ) → (t : Option ℕ) → AnyQueue

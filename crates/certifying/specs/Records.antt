@@ -7,14 +7,14 @@ use Rattle.queue_parties.specs.Parties.{Party, the_sender, the_receiver}
 use Rattle.queue_certificates.specs.Certificates.{QueueCertificate}
 use Rattle.record_bytes.specs.declared.ranges.ByteRange.{ByteRange}
 use Rattle.record_bytes.specs.Naming.{names_byte, offsets_below}
-use Rattle.record_bytes.specs.Ranges.{byte_ranges, has_byte}
+use Rattle.record_bytes.specs.Ranges.{byte_ranges, has_byte, ranges_without}
 use Rattle.records_written.specs.declared.finding.Missing.{Missing}
 use Rattle.records_written.specs.Marks.{IsFirstMissing, IsShownDone}
 use Rattle.engine_support.specs.OpeningTexts.{numbered}
 use Rattle.certifying.specs.ByteTexts.{bytes_text, is_one_byte}
 use Rattle.certifying.specs.Descriptions.{queue_front}
 use Rattle.certifying.specs.Questions.{Questions}
-use Rattle.certifying.specs.Queues.{is_tag_byte, number_in, queue_count, slots_at}
+use Rattle.certifying.specs.Queues.{is_tag_byte, number_in, queue_count, slots_at, tag_range}
 use Rattle.certifying.specs.Unread.{pc_place}
 use Rattle.certifying.specs.declared.records.Records.{Records}
 use Rattle.certifying.specs.declared.records.Records.TheVariants.{Unasked, NoBytes, Shown, NotShown}
@@ -27,9 +27,12 @@ asked_bytes c bytes i = offsets_below (names_byte bytes) (slots_at c i).width
 abbrev pub asked_ranges : QueueCertificate → (bytes : List ℕ) → (i : ℕ) → List ByteRange
 asked_ranges c bytes i = byte_ranges (asked_bytes c bytes i)
 
--- of these ranges, those beside a tag: what publishes a record writes its tag, and by it the receiver learns of the record
+-- of these ranges, those beside a tag, as bytes and as ranges: what publishes a record writes its tag, and by it the receiver learns of the record
 abbrev pub is_rest : QueueCertificate → (i : ℕ) → List ByteRange → (b : ℕ) → Bool
 is_rest c i ranges b = has_byte ranges b && not (is_tag_byte c i b)
+
+abbrev pub rest_ranges : QueueCertificate → (i : ℕ) → List ByteRange → List ByteRange
+rest_ranges c i ranges = ranges_without ranges (tag_range c i)
 
 -- ---- what is found: whether a party writes them, as the sender, or reads them, as the receiver
 
@@ -88,6 +91,9 @@ done_text writes ranges = bytes_text ranges ++ of_each writes (is_one_byte range
 unfoldable pub none_line : (i : ℕ) → List ℕ
 none_line i = codes "queue " ++ (decimal i ++ (codes ": its records have none of these bytes" ++ 10 ∷ []))
 
+unfoldable pub tag_line : (i : ℕ) → List ℕ
+tag_line i = codes "queue " ++ (decimal i ++ (codes ": its records have these bytes in their tags alone" ++ 10 ∷ []))
+
 unfoldable pub shown_end : (writes : Bool) → List ℕ
 shown_end true = codes " after the record before in its slot was published" ++ 10 ∷ []
 shown_end false = codes " before its slot is handed back" ++ 10 ∷ []
@@ -103,18 +109,23 @@ abbrev pub missing_end : OpeningValue → QueueCertificate → (h : ℕ) → Mis
 missing_end o c h missing =
     codes ": byte " ++ decimal missing.byte ++ codes ", hart " ++ decimal h ++ codes ", " ++ pc_place o c h missing.state ++ 10 ∷ []
 
--- of queue i, and of the bytes of these ranges
+-- of the rest of these bytes, if there is any
+abbrev pub shown_line : (writes : Bool) → (i : ℕ) → List ByteRange → List ℕ
+shown_line writes i [] = tag_line i
+shown_line writes i (r ∷ rest) = queue_front i ++ done_text writes (r ∷ rest) ++ shown_end writes
+
+-- of queue i, and of the rest of the bytes that are asked
 abbrev pub record_line : OpeningValue → QueueCertificate → (writes : Bool) → (i : ℕ) → List ByteRange → Records → List ℕ
-record_line o c writes i ranges Unasked = []
-record_line o c writes i ranges NoBytes = none_line i
-record_line o c writes i ranges Shown = queue_front i ++ done_text writes ranges ++ shown_end writes
-record_line o c writes i ranges (NotShown missing) =
-    unshown_front i ++ done_text writes ranges ++ missing_end o c (doing_hart c writes i) missing
+record_line o c writes i rest Unasked = []
+record_line o c writes i rest NoBytes = none_line i
+record_line o c writes i rest Shown = shown_line writes i rest
+record_line o c writes i rest (NotShown missing) =
+    unshown_front i ++ done_text writes rest ++ missing_end o c (doing_hart c writes i) missing
 
 -- if that is asked
 abbrev pub asked_line : OpeningValue → QueueCertificate → (writes : Bool) → (asked : Option (List ℕ)) → (i : ℕ) → Records → List ℕ
 asked_line o c writes None i records = []
-asked_line o c writes (Some bytes) i records = record_line o c writes i (asked_ranges c bytes i) records
+asked_line o c writes (Some bytes) i records = record_line o c writes i (rest_ranges c i (asked_ranges c bytes i)) records
 
 abbrev pub both_lines : OpeningValue → QueueCertificate → Questions → (i : ℕ) → QueueRecords → List ℕ
 both_lines o c asked i both = asked_line o c true asked.written i both.written ++ asked_line o c false asked.read i both.read

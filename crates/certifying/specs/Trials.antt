@@ -1,9 +1,7 @@
 -- Drawn runs of a text whose certificate isn't accepted, judged by the protocol of each of its queues.
-use Rattle.std.specs.Prelude.{ℕ, ◌≡◌, ◌+◌, ◌-◌, ◌<◌, List, [], ◌∷◌, length, take}
+use Rattle.std.specs.Prelude.{ℕ, ◌≡◌, ◌+◌, ◌<◌, List, [], ◌∷◌, length}
 use Rattle.step_machine.specs.declared.events.Event.{Event}
-use Rattle.step_machine.specs.History.{OpeningValue, History}
-use Rattle.step_machine.specs.Paths.{IsPc}
-use Rattle.step_machine.specs.Runs.{Run}
+use Rattle.step_machine.specs.History.{OpeningValue}
 use Rattle.queue_parties.specs.Parties.{all_at}
 use Rattle.queue_certificates.specs.Certificates.{QueueCertificate}
 use Rattle.drawn_runs.specs.Samples.{DrawnRuns, schedule_in}
@@ -12,7 +10,9 @@ use Rattle.judged_runs.specs.Telling.{IsFlawTold, IsTold}
 use Rattle.judged_runs.specs.declared.telling.Told.{Told}
 use Rattle.ownership_runs.specs.declared.violations.Violation.{Violation}
 use Rattle.ownership_runs.specs.declared.runs.Moved.{Moved}
+use Rattle.ownership_runs.specs.declared.steps.Step.{Step}
 use Rattle.ownership_runs.specs.Ends.{EndsInViolation}
+use Rattle.ownership_runs.specs.Steps.{AreSteps}
 use Rattle.ownership_runs.specs.Runs.{HasKeptRun, HasBrokenRun, IsOfOneKind, AreMovesOf}
 use Rattle.certifying.specs.Queues.{any_queue, any_start, queue_count}
 use Rattle.certifying.specs.declared.trials.Trial.{Trial}
@@ -50,29 +50,23 @@ abbrev pub QueuesKeep : DrawnRuns → OpeningValue → QueueCertificate → (i :
 QueuesKeep d o c i [] = Unit {0}
 QueuesKeep d o c i (moved ∷ more) = AllKeep d o c i moved × QueuesKeep d o c (i + 1) more
 
--- the pc of a hart before the last of these events
-pub record IsPcBeforeLast (B M : ℕ) (o : OpeningValue) (events : List Event) (hart pc : ℕ) : Type 0 where
-  pub before : History
-  pub run : Run B M o (take (length events - 1) events) before
-  pub is_pc : IsPc M before hart pc
-
--- the first queue whose protocol a run breaks, as the last of these events shows, and the pc of that instruction
+-- the first queue whose protocol a run breaks, as the last of these events shows, and what these do
 pub record IsFirstBroken (d : DrawnRuns) (o : OpeningValue) (c : QueueCertificate) (queue : ℕ) (part : List Event)
-    (violation : Violation) (pc : ℕ) : Type 0 where
+    (violation : Violation) (steps : List Step) : Type 0 where
   pub inside : queue < queue_count c
   pub moved : List Moved
   pub earlier : length moved ≡ queue
   pub kept : QueuesKeep d o c 0 moved
   pub told : IsBrokenBy d o c queue part violation
   pub ends : EndsBroken d o c queue part violation
-  pub at_pc : IsPcBeforeLast d.B d.M o part violation.hart pc
+  pub are_steps : AreSteps d.B d.M o part steps
 
 abbrev pub IsOfTrial : DrawnRuns → OpeningValue → QueueCertificate → Trial → Type 0
 IsOfTrial d o c (Kept moved) = (length moved.items ≡ queue_count c) × QueuesKeep d o c 0 moved.items
-IsOfTrial d o c (Broken queue part violation pc) = IsFirstBroken d o c queue part.items violation pc
+IsOfTrial d o c (Broken queue part violation steps) = IsFirstBroken d o c queue part.items violation steps.items
 
--- it has this queue, part and violation, and the pc of the violation's hart
+-- it has this queue, part and violation, and what the part does
 abbrev pub IsTrialBroken : (B M : ℕ) → OpeningValue → (queue : ℕ) → (part : List Event) → Violation → Trial → Type 0
 IsTrialBroken B M o queue part violation (Kept moved) = ⊥
-IsTrialBroken B M o queue part violation (Broken of_queue of_part of_violation pc) =
-    (of_queue ≡ queue) × (of_part.items ≡ part) × (of_violation ≡ violation) × IsPcBeforeLast B M o part violation.hart pc
+IsTrialBroken B M o queue part violation (Broken of_queue of_part of_violation steps) =
+    (of_queue ≡ queue) × (of_part.items ≡ part) × (of_violation ≡ violation) × AreSteps B M o part steps.items

@@ -1,18 +1,20 @@
 //! The texts of answers, except those with a schedule.
 
-ghost use Rattle.std.specs.Prelude.{◌≡◌, ◌++◌, IfOk, OnOk, true};
+ghost use Rattle.std.specs.Prelude.{◌≡◌, ◌++◌, IfOk, OnOk};
 ghost use Rattle.std.specs.String.{string_bytes};
 ghost use Rattle.engine_support.specs.OpeningTexts.{numbered};
 ghost use Rattle.certificate_reader.specs.Known.{known_at};
-ghost use Rattle.certifying.specs.Answers.{asked_lines, every_run_text, flaw_text, kept_line, kept_protocols, kept_text, limit_of_progress};
-ghost use Rattle.certifying.specs.Answers.{limit_of_reading, limit_of_records, limit_of_writing, limits_of, nothing_line, progress_line, promise_end};
-ghost use Rattle.certifying.specs.Answers.{protocol_line, protocol_text, reads_line, rest_of_limits, running_line, unread_text, unused_text};
+ghost use Rattle.certifying.specs.Answers.{every_run_text, flaw_text, kept_protocols, kept_text, limit_of_owning, limit_of_progress, limit_of_reading};
+ghost use Rattle.certifying.specs.Answers.{limit_of_records, limit_of_writing, nothing_line, progress_line, promise_end, protocol_line, rest_of_limits};
+ghost use Rattle.certifying.specs.Answers.{running_line, unused_text, words};
+ghost use Rattle.certifying.specs.Lines.{all_shown, first_line, limits};
 ghost use Rattle.certifying.specs.Questions.{questions_by};
 ghost use Rattle.certifying.specs.Broken.{runs_line};
 ghost use Rattle.certifying.specs.NotShown.{flaw_line, likely_line};
 
 use crate::breaking::push_runs;
 use crate::descriptions::push_queues;
+use crate::harts::HartsTold;
 use crate::not_shown::{push_flaw, push_likely};
 use crate::questions::Questions;
 use crate::records::{QueueRecords, are_read, are_written, push_records};
@@ -94,61 +96,70 @@ fn push_limit_of_records(out: &mut String, written: bool, read: bool) -> Result<
     push_rest_of_limits(out)
 }
 
-/// What isn't promised, where the queues are shown to go on, if that is asked, or not.
-fn push_limits_of(
-    out: &mut String,
-    asked: Questions<'_>,
-    found: &[QueueRecords],
-    goes: bool,
-) -> Result<(), AllocError>
-    ensures { OnOk result (string_bytes out.new ≡ string_bytes out.old ++ limits_of (questions_by asked.entry) found.now goes) }
+#[tactic(auto, unfolding(crate::specs::Answers::reads_line))]
+fn push_limit_of_owning(out: &mut String, owned: bool) -> Result<(), AllocError>
+    ensures { OnOk result (string_bytes out.new ≡ string_bytes out.old ++ limit_of_owning owned) }
 {
-    let written = asked.written.is_some() && are_written(found);
-    let read = asked.read.is_some() && are_read(found);
-    push_limit_of_records(out, written, read)?;
-    push_limit_of_progress(out, asked.progress && goes)
+    if owned {
+        Ok(())
+    } else {
+        writeln!(
+            out,
+            "not promised: that what is loaded from a slot is a record that the hart owns"
+        )
+    }
 }
 
-/// The lines of the queues, and about what is asked.
-fn push_asked(
-    alloc: Global,
+/// What isn't promised, where parties load only slots that they own, or not, and queues are shown to go on, if that is asked, or not.
+fn push_limits(
     out: &mut String,
     opening: &Opening,
     certificate: &QueueCertificate,
     asked: Questions<'_>,
-    going: &str,
     found: &[QueueRecords],
-    harts: &str,
-) -> Result<(), Lack>
-    ensures { OnOk result (string_bytes out.new ≡ string_bytes out.old ++ asked_lines opening.now certificate.now (questions_by asked.entry) going.now
-        found.now harts.now) }
+    owned: bool,
+    goes: bool,
+) -> Result<(), AllocError>
+    ensures { OnOk result (string_bytes out.new ≡ string_bytes out.old
+        ++ words opening.now certificate.now (limits (questions_by asked.entry) found.now owned goes)) }
 {
-    push_queues(alloc, out, opening, certificate)?;
-    out.push_str(going)?;
-    push_records(alloc, out, opening, certificate, asked, found)?;
-    out.push_str(harts)?;
-    Ok(())
+    let written = asked.written.is_some() && are_written(found);
+    let read = asked.read.is_some() && are_read(found);
+    push_limit_of_owning(out, owned)?;
+    push_limit_of_records(out, written, read)?;
+    push_limit_of_progress(out, asked.progress && goes)
 }
 
-fn push_all_kept(out: &mut String, progress: bool) -> Result<(), AllocError>
-    ensures { OnOk result (string_bytes out.new ≡ string_bytes out.old ++ kept_line progress true true) }
+/// Whether all is shown that was asked besides whether the queues go on, where the harts are shown to be safe, or not.
+pub fn all_shown(found: &[QueueRecords], safe: bool) -> bool
+    ensures { result ≡ all_shown found.now safe }
 {
-    if progress {
-        writeln!(out, "kept in every run, and goes on while its harts run")
-    } else {
-        writeln!(out, "kept in every run")
-    }
+    are_written(found) && are_read(found) && safe
 }
 
-fn push_kept(out: &mut String, progress: bool, goes: bool, all: bool) -> Result<(), AllocError>
-    ensures { OnOk result (string_bytes out.new ≡ string_bytes out.old ++ kept_line progress goes all) }
+/// The first line, by whether all that was asked is shown, and the first load that isn't shown to be of an owned slot.
+fn push_first(
+    out: &mut String,
+    opening: &Opening,
+    certificate: &QueueCertificate,
+    progress: bool,
+    goes: bool,
+    all: bool,
+    unread: Option<Unread>,
+) -> Result<(), AllocError>
+    ensures { OnOk result (string_bytes out.new ≡ string_bytes out.old
+        ++ words opening.now certificate.now (first_line progress goes all unread)) }
 {
-    if !goes {
+    if let Some(unread) = unread {
+        push_unread(out, opening, certificate, unread)
+    } else if !goes {
         writeln!(out, "kept in every run, but not shown to go on")
     } else if !all {
         writeln!(out, "kept, but not all that was asked is shown")
+    } else if progress {
+        writeln!(out, "kept in every run, and goes on while its harts run")
     } else {
-        push_all_kept(out, progress)
+        writeln!(out, "kept in every run")
     }
 }
 
@@ -174,18 +185,6 @@ fn push_kept_protocols(out: &mut String, no_index: bool, no_tag: bool) -> Result
     }
 }
 
-/// What is kept in every run.
-fn push_protocol(out: &mut String, certificate: &QueueCertificate) -> Result<(), AllocError>
-    ensures { OnOk result (string_bytes out.new ≡ string_bytes out.old ++ protocol_text certificate.now) }
-{
-    push_every_run(out)?;
-    push_kept_protocols(
-        out,
-        certificate.queues.len() == 0,
-        certificate.tagged.len() == 0,
-    )
-}
-
 #[tactic(auto, unfolding(crate::specs::Answers::promise_end))]
 fn push_promise_end(out: &mut String) -> Result<(), AllocError>
     ensures { OnOk result (string_bytes out.new ≡ string_bytes out.old ++ promise_end) }
@@ -196,8 +195,29 @@ fn push_promise_end(out: &mut String) -> Result<(), AllocError>
     )
 }
 
-/// The text where the protocol is kept and the parties load only slots that they own, with the lines of whether the queues go on and of
-/// the harts, what is found of records, whether the queues are shown to go on, and whether all else is.
+/// What is kept in every run, where parties load only slots that they own, or not.
+fn push_protocol(
+    out: &mut String,
+    certificate: &QueueCertificate,
+    owned: bool,
+) -> Result<(), AllocError>
+    ensures { OnOk result (string_bytes out.new ≡ string_bytes out.old ++ protocol_line certificate.now owned) }
+{
+    push_every_run(out)?;
+    push_kept_protocols(
+        out,
+        certificate.queues.len() == 0,
+        certificate.tagged.len() == 0,
+    )?;
+    if owned {
+        push_promise_end(out)
+    } else {
+        writeln!(out, "")
+    }
+}
+
+/// The text where the protocol is kept, with the lines of whether the queues go on and of the harts, what is found of records, whether the
+/// queues are shown to go on, and whether all else is, and the first load that isn't shown to be of an owned slot.
 pub fn kept_text(
     alloc: Global,
     opening: &Opening,
@@ -205,78 +225,31 @@ pub fn kept_text(
     asked: Questions<'_>,
     going: &str,
     found: &[QueueRecords],
-    harts: &str,
+    told: &HartsTold,
     goes: bool,
-    all: bool,
+    unread: Option<Unread>,
 ) -> Result<String, Lack>
-    ensures { IfOk result (λ text. string_bytes text ≡ kept_text opening.now certificate.now (questions_by asked.entry) going.now found.now harts.now
-        goes all) }
+    ensures { IfOk result (λ text. string_bytes text ≡ kept_text opening.now certificate.now (questions_by asked.entry) going.now found.now
+        (string_bytes told.now.lines) goes told.now.safe unread) }
 {
+    let all = all_shown(found, told.safe);
+    let owned = unread.is_none();
     let mut out = String::new(alloc);
-    push_kept(&mut out, asked.progress, goes, all)?;
-    push_asked(
-        alloc,
+    push_first(
         &mut out,
         opening,
         certificate,
-        asked,
-        going,
-        found,
-        harts,
+        asked.progress,
+        goes,
+        all,
+        unread,
     )?;
-    push_protocol(&mut out, certificate)?;
-    push_promise_end(&mut out)?;
-    push_limits_of(&mut out, asked, found, goes)?;
-    Ok(out)
-}
-
-fn push_protocol_line(out: &mut String, certificate: &QueueCertificate) -> Result<(), AllocError>
-    ensures { OnOk result (string_bytes out.new ≡ string_bytes out.old ++ protocol_line certificate.now) }
-{
-    push_protocol(out, certificate)?;
-    writeln!(out, "")
-}
-
-#[tactic(auto, unfolding(crate::specs::Answers::reads_line))]
-fn push_reads(out: &mut String) -> Result<(), AllocError>
-    ensures { OnOk result (string_bytes out.new ≡ string_bytes out.old ++ reads_line) }
-{
-    writeln!(
-        out,
-        "not promised: that what is loaded from a slot is a record that the hart owns"
-    )
-}
-
-/// The text where the protocol is kept, and a load of slots isn't shown to be of owned ones.
-pub fn unread_text(
-    alloc: Global,
-    opening: &Opening,
-    certificate: &QueueCertificate,
-    asked: Questions<'_>,
-    going: &str,
-    found: &[QueueRecords],
-    harts: &str,
-    goes: bool,
-    unread: Unread,
-) -> Result<String, Lack>
-    ensures { IfOk result (λ text. string_bytes text ≡ unread_text opening.now certificate.now (questions_by asked.entry) going.now found.now harts.now
-        goes unread) }
-{
-    let mut out = String::new(alloc);
-    push_unread(&mut out, opening, certificate, unread)?;
-    push_asked(
-        alloc,
-        &mut out,
-        opening,
-        certificate,
-        asked,
-        going,
-        found,
-        harts,
-    )?;
-    push_protocol_line(&mut out, certificate)?;
-    push_reads(&mut out)?;
-    push_limits_of(&mut out, asked, found, goes)?;
+    push_queues(alloc, &mut out, opening, certificate)?;
+    out.push_str(going)?;
+    push_records(alloc, &mut out, opening, certificate, asked, found)?;
+    out.push_str(told.lines.as_str())?;
+    push_protocol(&mut out, certificate, owned)?;
+    push_limits(&mut out, opening, certificate, asked, found, owned, goes)?;
     Ok(out)
 }
 

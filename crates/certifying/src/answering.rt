@@ -1,6 +1,6 @@
 //! The command `queue`: a litmus text and a certificate in, what is promised of each run out.
 
-ghost use Rattle.std.specs.Prelude.{◌≡◌, ◌≤◌, ◌<◌, ◌++◌, ℕ, List, None, Some, IfOk, OnOk, length};
+ghost use Rattle.std.specs.Prelude.{◌≡◌, ◌≤◌, ◌<◌, ◌++◌, ℕ, Bool, List, None, Some, IfOk, OnOk, length};
 ghost use Rattle.std.specs.String.{string_bytes};
 ghost use Rattle.engine_support.specs.Engines.{Ends};
 ghost use Rattle.engine_support.specs.Faults.{AnswersAs};
@@ -14,28 +14,28 @@ ghost use Rattle.ownership_runs.specs.Protocols.{HasSlot};
 ghost use Rattle.certifying.specs.Queues.{any_queue, queue_count};
 ghost use Rattle.queue_checker.specs.Flaws.{first_flaw};
 ghost use Rattle.certifying.specs.Answers.{AreLinesAfter, AreLossLines, IsAcceptedAnswer, IsAnswerTo, IsCertificateAnswer, IsFlawAnswer, IsKeptAnswer};
-ghost use Rattle.certifying.specs.Answers.{IsQueueAnswer, IsTrialAnswer, IsUseAnswer, asks_endings, fault_of, is_of_queue, judged_reads, kept_judgement};
-ghost use Rattle.certifying.specs.Answers.{kept_text, nothing_line};
+ghost use Rattle.certifying.specs.Answers.{IsQueueAnswer, IsTrialAnswer, IsUseAnswer, fault_of, is_of_queue, judged_reads, kept_text, nothing_line};
 ghost use Rattle.certifying.specs.Questions.{questions_by};
 ghost use Rattle.certifying.specs.Broken.{runs_line};
 ghost use Rattle.certifying.specs.NotShown.{flaw_line, likely_line};
-ghost use Rattle.certifying.specs.Answers.{unread_text, unused_text};
+ghost use Rattle.certifying.specs.Answers.{unused_text};
+ghost use Rattle.certifying.specs.Lines.{asks_endings, first_line, judgement_of};
 ghost use Rattle.certifying.specs.Unread.{first_unread};
 ghost use Rattle.certifying.specs.Trials.{IsFirstBroken};
 ghost use Rattle.certifying.specs.Unused.{first_unused};
 
-use crate::answer_texts::{flaw_text, kept_text, tried_text, unread_text, unused_text};
+use crate::answer_texts::{all_shown, flaw_text, kept_text, tried_text, unused_text};
 use crate::breaking::{broken_text, other_text, push_lost_text, push_unlost};
 use crate::endings::all_endings;
 use crate::going::push_going;
 use crate::harts::{HartsTold, harts_told};
 use crate::input::read_certificate;
 use crate::judgement::Judgement;
-use crate::lost::lost_of;
+use crate::lost::{lost_of, violation_shown};
 use crate::questions::Questions;
-use crate::records::{QueueRecords, are_read, are_written, found_in};
+use crate::records::{QueueRecords, found_in};
 use crate::trials::{Trial, trial_of};
-use crate::unread::first_unread;
+use crate::unread::{Unread, first_unread};
 use crate::unused::first_unused;
 use drawn_runs::progress::Progress;
 use drawn_runs::{Jump, Sample};
@@ -44,7 +44,7 @@ use engine_support::litmus_text::read_test;
 use engine_support::output::end_with;
 use known_values::Lack;
 use litmus::Test;
-use ownership_runs::Violation;
+use ownership_runs::{Step, Violation};
 use queue_checker::{Flaw, QueueCertificate, first_flaw};
 use std::alloc::Global;
 use std::io::{Read, Write};
@@ -64,11 +64,14 @@ fn fault_of(lack: Lack) -> Fault
     }
 }
 
-/// What comes of an accepted certificate that owns its loads, where its queues are shown to go on, if that was asked, and all else that was.
-fn kept_judgement(goes: bool, all: bool) -> Judgement
-    ensures { result ≡ kept_judgement goes all }
+/// What comes of an accepted certificate, where its queues are shown to go on, if that was asked, and all else that was, by the first load that
+/// isn't shown to be of an owned slot.
+fn kept_judgement(goes: bool, all: bool, unread: Option<Unread>) -> Judgement
+    ensures { (progress : Bool) → result ≡ judgement_of (first_line progress goes all unread) }
 {
-    if !goes {
+    if unread.is_some() {
+        Judgement::ReadsNotShown
+    } else if !goes {
         Judgement::ProgressNotShown
     } else if !all {
         Judgement::AskedNotShown
@@ -92,38 +95,20 @@ fn judged_reads(
     ensures { IfOk result (λ answer. text_and_value answer ≡ judged_reads opening.now certificate.now (questions_by asked.entry) going.now found.now
         (string_bytes told.now.lines) goes told.now.safe (first_unread opening.now certificate.now)) }
 {
-    let harts = told.lines.as_str();
-    match first_unread(alloc, opening, certificate)? {
-        None => {
-            let all = are_written(found) && are_read(found) && told.safe;
-            let text = kept_text(
-                alloc,
-                opening,
-                certificate,
-                asked,
-                going,
-                found,
-                harts,
-                goes,
-                all,
-            )?;
-            Ok((text, kept_judgement(goes, all)))
-        }
-        Some(unread) => {
-            let text = unread_text(
-                alloc,
-                opening,
-                certificate,
-                asked,
-                going,
-                found,
-                harts,
-                goes,
-                unread,
-            )?;
-            Ok((text, Judgement::ReadsNotShown))
-        }
-    }
+    let unread = first_unread(alloc, opening, certificate)?;
+    let all = all_shown(found, told.safe);
+    let text = kept_text(
+        alloc,
+        opening,
+        certificate,
+        asked,
+        going,
+        found,
+        told,
+        goes,
+        unread,
+    )?;
+    Ok((text, kept_judgement(goes, all, unread)))
 }
 
 /// Whether it is asked where harts may be stopped, and where they may end: of each queue that goes on, or of each hart.
@@ -213,9 +198,19 @@ fn push_losses<
         return Ok(());
     };
     let queue = unread.queue;
-    match lost_of::<B, M, G, T, P>(rt, alloc, opening, certificate, queue, sample, progress)? {
+    let lost = lost_of::<B, M, G, T, P>(
+        rt,
+        alloc,
+        opening,
+        certificate,
+        queue,
+        false,
+        sample,
+        progress,
+    )?;
+    match lost {
         None => push_unlost(out, sample.runs, queue)?,
-        Some(lost) => push_lost_text(alloc, out, B, opening, queue, &lost)?,
+        Some(lost) => push_lost_text(alloc, out, B, opening, certificate, queue, &lost)?,
     }
     Ok(())
 }
@@ -304,7 +299,7 @@ fn judged_accepted<
     Ok((text, judgement))
 }
 
-/// What is answered where a run of these events breaks the protocol of this queue: whether a record of it is lost, too.
+/// What is answered where a run of these events breaks the protocol of this queue: whether a record of it is lost after such a store.
 fn judged_broken<
     const B: usize,
     const M: usize,
@@ -320,7 +315,7 @@ fn judged_broken<
     queue: u32,
     part: &[Event],
     violation: Violation,
-    pc: u32,
+    steps: &[Step],
     sample: &Sample<'_, G>,
     progress: &mut P,
 ) -> Result<(String, Judgement), Lack>
@@ -330,7 +325,7 @@ fn judged_broken<
     requires size { M ≤ 65536 }
     requires fits { FitsIn M opening.now }
     requires some_slot { HasSlot (any_queue certificate.now queue) }
-    requires first { IsFirstBroken (runs_of B M G.Rng.stream sample.now) opening.now certificate.now queue part.now violation pc }
+    requires first { IsFirstBroken (runs_of B M G.Rng.stream sample.now) opening.now certificate.now queue part.now violation steps.now }
     ensures { IfOk result (λ answer. IsTrialAnswer (runs_of B M G.Rng.stream sample.now) opening.now certificate.now flaw
         (text_and_value answer)) }
 {
@@ -341,11 +336,21 @@ fn judged_broken<
             opening,
             certificate,
             queue,
+            true,
             sample,
             progress,
         )?;
         if let Some(lost) = lost {
-            let text = broken_text(alloc, B, opening, certificate, queue, violation, pc, &lost)?;
+            let shown = violation_shown::<B, M, G>(
+                alloc,
+                opening,
+                certificate,
+                queue,
+                sample,
+                &lost,
+                violation,
+            )?;
+            let text = broken_text(alloc, B, opening, certificate, queue, shown, &lost)?;
             return Ok((text, Judgement::Broken));
         }
     }
@@ -357,7 +362,7 @@ fn judged_broken<
         queue,
         part,
         violation,
-        pc,
+        steps,
         sample.runs,
     )?;
     Ok((text, Judgement::OtherProtocol))
@@ -397,7 +402,7 @@ fn judged_by_runs<
             queue,
             part,
             violation,
-            pc,
+            steps,
         } => judged_broken::<B, M, G, T, P>(
             rt,
             alloc,
@@ -407,7 +412,7 @@ fn judged_by_runs<
             queue,
             &part,
             violation,
-            pc,
+            &steps,
             sample,
             progress,
         ),

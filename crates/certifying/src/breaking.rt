@@ -1,22 +1,32 @@
 //! The lines of what drawn runs show.
 
-ghost use Rattle.std.specs.Prelude.{◌≡◌, ◌<◌, ◌++◌, IfOk, OnOk};
+ghost use Rattle.std.specs.Prelude.{◌≡◌, ◌<◌, ◌++◌, ◌%◌, take, IfOk, OnOk};
 ghost use Rattle.std.specs.String.{string_bytes};
 ghost use Rattle.engine_support.specs.OpeningTexts.{numbered};
 ghost use Rattle.certifying.specs.Broken.{broken_front, broken_line, broken_text, broken_verdict, loaded_line, loaded_text, lost_front, lost_line};
 ghost use Rattle.certifying.specs.Broken.{lost_text, other_line, other_text, other_than_indices, other_than_tags, owned_text, positions_text, runs_end};
 ghost use Rattle.certifying.specs.Broken.{runs_front, runs_line, schedule_lines, sent_text, shown_line, stored_line, stored_text, unlost_if};
-ghost use Rattle.certifying.specs.Broken.{unlost_line};
-ghost use Rattle.certifying.specs.Queues.{queue_count, tagged_number};
+ghost use Rattle.certifying.specs.Broken.{unlost_after_line, unlost_line, before_line, before_lines, handed_line, index_name, look_name, looked_line};
+ghost use Rattle.certifying.specs.Broken.{next_line, own_name, recalled_lines, store_lines};
+ghost use Rattle.certifying.specs.Queues.{any_queue, any_start, queue_count, tagged_number};
+ghost use Rattle.ownership_runs.specs.Protocols.{party_for};
+ghost use Rattle.ownership_runs.specs.Steps.{handed_back};
+ghost use Rattle.queue_layouts.specs.Sides.{the_party};
+ghost use Rattle.queue_parties.specs.Parties.{all_at};
 
 use crate::descriptions::push_form;
 use crate::instructions::push_place;
 use crate::lost::Lost;
-use crate::queues::{number_of, tagged_number};
+use crate::queues::{any_queue, any_start, number_of, tagged_number};
+use crate::trials::counts_at;
 use drawn_runs::Runs;
 use known_values::Lack;
-use ownership_runs::{Loss, Moved, Owned, Violation};
+use ownership_runs::{
+    Done, Loss, Moved, Owned, Recalled, Step, Violation, handed_back, party_for, pc_at, recall,
+    slots_in, steps_before,
+};
 use queue_checker::QueueCertificate;
+use queue_layouts::{AnyQueue, Party, other};
 use recorder::schedule_text;
 use std::alloc::{AllocError, Global};
 use step_machine::{Event, Opening};
@@ -149,6 +159,148 @@ fn push_schedule(
     out.push_str(&schedule)
 }
 
+/// The name of the index that a party stores.
+fn index_name(party: Party) -> &'static str
+    ensures { result.now ≡ index_name (the_party party) }
+{
+    match party {
+        Party::Sender => "its head",
+        Party::Receiver => "its tail",
+    }
+}
+
+/// The name of what a party stores to hand a position on.
+fn own_name(queue: &AnyQueue, party: Party) -> &'static str
+    ensures { result.now ≡ own_name queue.now (the_party party) }
+{
+    match queue {
+        AnyQueue::Indexed(_) => index_name(party),
+        AnyQueue::Tagged(_) => "a tag",
+    }
+}
+
+/// The name of what it loads to own its next position.
+fn look_name(queue: &AnyQueue, party: Party) -> &'static str
+    ensures { result.now ≡ look_name queue.now (the_party party) }
+{
+    match queue {
+        AnyQueue::Indexed(_) => index_name(other(party)),
+        AnyQueue::Tagged(_) => "that slot's tag",
+    }
+}
+
+/// A position's slot, of `size`, and 0 % 0 is 0 where there is none.
+fn slot_of(size: u32, position: u128) -> u128
+    ensures { result ≡ position % size }
+{
+    if size == 0 {
+        position
+    } else {
+        position % u128::from(size)
+    }
+}
+
+#[tactic(auto, unfolding(crate::specs::Broken::next_line))]
+fn push_next(out: &mut String, index: u32, size: u32, next: u128) -> Result<(), AllocError>
+    ensures { OnOk result (string_bytes out.new ≡ string_bytes out.old ++ next_line index size next) }
+{
+    let slot = slot_of(size, next);
+    writeln!(
+        out,
+        "queue {index}: its next position is {next}, in slot {slot}"
+    )
+}
+
+#[tactic(auto, unfolding(crate::specs::Broken::before_line))]
+fn push_stored_before(
+    out: &mut String,
+    index: u32,
+    name: &str,
+    stored: Option<Done>,
+) -> Result<(), AllocError>
+    ensures { OnOk result (string_bytes out.new ≡ string_bytes out.old ++ before_line index name.now stored) }
+{
+    let Some(Done { value, pc }) = stored else {
+        return Ok(());
+    };
+    writeln!(
+        out,
+        "queue {index}: before, it stored {value} to {name}, at pc {pc}"
+    )
+}
+
+#[tactic(auto, unfolding(crate::specs::Broken::looked_line))]
+fn push_looked(
+    out: &mut String,
+    index: u32,
+    name: &str,
+    looked: Option<Done>,
+) -> Result<(), AllocError>
+    ensures { OnOk result (string_bytes out.new ≡ string_bytes out.old ++ looked_line index name.now looked) }
+{
+    match looked {
+        None => writeln!(out, "queue {index}: it never loaded {name}"),
+        Some(Done { value, pc }) => writeln!(
+            out,
+            "queue {index}: it last loaded {name} at pc {pc}, and got {value}"
+        ),
+    }
+}
+
+/// The lines of what a party did before, whose next position this is.
+fn push_recalled(
+    out: &mut String,
+    queue: &AnyQueue,
+    index: u32,
+    party: Party,
+    next: u128,
+    recalled: Recalled,
+) -> Result<(), AllocError>
+    ensures { OnOk result (string_bytes out.new ≡ string_bytes out.old ++ recalled_lines queue.now index (the_party party) next recalled) }
+{
+    push_next(out, index, slots_in(queue), next)?;
+    push_stored_before(out, index, own_name(queue, party), recalled.stored)?;
+    push_looked(out, index, look_name(queue, party), recalled.looked)
+}
+
+/// The lines of what the hart of a violation did before, if it is a party.
+fn push_before(
+    out: &mut String,
+    queue: &AnyQueue,
+    index: u32,
+    violation: Violation,
+    steps: &[Step],
+) -> Result<(), AllocError>
+    ensures { OnOk result (string_bytes out.new ≡ string_bytes out.old
+        ++ before_lines queue.now index violation.hart (party_for queue.now violation.hart) violation.owned steps.now) }
+{
+    let hart = violation.hart;
+    let (Some(party), Some(owned)) = (party_for(queue, hart), violation.owned) else {
+        return Ok(());
+    };
+    let recalled = recall(queue, hart, party, owned.from, steps);
+    push_recalled(out, queue, index, party, owned.from, recalled)
+}
+
+/// The lines of the store, which is one of these steps.
+fn push_store(
+    out: &mut String,
+    opening: &Opening,
+    queue: &AnyQueue,
+    index: u32,
+    lost: bool,
+    violation: Violation,
+    steps: &[Step],
+) -> Result<(), AllocError>
+    ensures { OnOk result (string_bytes out.new ≡ string_bytes out.old ++ store_lines lost opening.now queue.now index violation steps.now) }
+{
+    let pc = pc_at(steps, violation.place);
+    let before = steps_before(steps, violation.place);
+    push_broken(out, opening, lost, violation, pc)?;
+    push_stored(out, index, violation)?;
+    push_before(out, queue, index, violation, before)
+}
+
 /// The lines of the store, and those of the queue as it is described.
 fn push_broken_front(
     out: &mut String,
@@ -157,13 +309,13 @@ fn push_broken_front(
     index: u32,
     lost: bool,
     violation: Violation,
-    pc: u32,
+    steps: &[Step],
 ) -> Result<(), AllocError>
     requires inside { index < queue_count certificate.now }
-    ensures { OnOk result (string_bytes out.new ≡ string_bytes out.old ++ broken_front lost opening.now certificate.now index violation pc) }
+    ensures { OnOk result (string_bytes out.new ≡ string_bytes out.old ++ broken_front lost opening.now certificate.now index violation steps.now) }
 {
-    push_broken(out, opening, lost, violation, pc)?;
-    push_stored(out, index, violation)?;
+    let queue = any_queue(certificate, index);
+    push_store(out, opening, &queue, index, lost, violation, steps)?;
     push_form(out, certificate, index)?;
     push_other(out, tagged_number(certificate, index))
 }
@@ -222,20 +374,53 @@ fn push_loaded(out: &mut String, index: u32, loss: Loss) -> Result<(), AllocErro
     push_sent_text(out, loss)
 }
 
+#[tactic(auto, unfolding(crate::specs::Broken::handed_line))]
+fn push_handed(out: &mut String, index: u32, handed: Option<u32>) -> Result<(), AllocError>
+    ensures { OnOk result (string_bytes out.new ≡ string_bytes out.old ++ handed_line index handed) }
+{
+    let Some(pc) = handed else {
+        return Ok(());
+    };
+    writeln!(out, "queue {index}: handed back at pc {pc}")
+}
+
+/// The line of where the position of a loss was handed back before it, if it was.
+fn push_handed_back(
+    out: &mut String,
+    certificate: &QueueCertificate,
+    index: u32,
+    loss: Loss,
+    steps: &[Step],
+) -> Result<(), AllocError>
+    ensures { OnOk result (string_bytes out.new ≡ string_bytes out.old ++ handed_line index
+        (handed_back (any_queue certificate.now index) loss.position (all_at (any_start certificate.now index)) (take loss.place steps.now))) }
+{
+    let queue = any_queue(certificate, index);
+    let start = counts_at(any_start(certificate, index));
+    let before = steps_before(steps, loss.place);
+    push_handed(
+        out,
+        index,
+        handed_back(&queue, start, loss.position, before),
+    )
+}
+
 /// The lines of what a run of a part of some events loses of a queue.
 pub fn push_lost_text(
     alloc: Global,
     out: &mut String,
     stores: usize,
     opening: &Opening,
+    certificate: &QueueCertificate,
     index: u32,
     lost: &Lost,
 ) -> Result<(), AllocError>
     ensures { OnOk result (string_bytes out.new ≡ string_bytes out.old
-        ++ lost_text stores opening.now index lost.now.part.items lost.now.loss lost.now.pc) }
+        ++ lost_text stores opening.now certificate.now index lost.now.part.items lost.now.loss lost.now.steps.items) }
 {
-    push_lost(out, opening, lost.loss, lost.pc)?;
+    push_lost(out, opening, lost.loss, pc_at(&lost.steps, lost.loss.place))?;
     push_loaded(out, index, lost.loss)?;
+    push_handed_back(out, certificate, index, lost.loss, &lost.steps)?;
     push_schedule(alloc, out, stores, &lost.part)
 }
 
@@ -250,6 +435,17 @@ pub fn push_unlost(out: &mut String, runs: Runs, index: u32) -> Result<(), Alloc
     )
 }
 
+#[tactic(auto, unfolding(crate::specs::Broken::unlost_after_line))]
+fn push_unlost_after(out: &mut String, runs: Runs, index: u32) -> Result<(), AllocError>
+    ensures { OnOk result (string_bytes out.new ≡ string_bytes out.old ++ unlost_after_line runs.number runs.length index) }
+{
+    let Runs { number, length, .. } = runs;
+    writeln!(
+        out,
+        "queue {index}: no record is lost after such a store in {number} drawn runs of {length} events"
+    )
+}
+
 /// That no record is lost is asked where the protocol described has such a store of the hart then.
 fn push_unlost_if(
     out: &mut String,
@@ -260,12 +456,12 @@ fn push_unlost_if(
     ensures { OnOk result (string_bytes out.new ≡ string_bytes out.old ++ unlost_if described runs.number runs.length index) }
 {
     if described {
-        push_unlost(out, runs, index)?;
+        push_unlost_after(out, runs, index)?;
     }
     Ok(())
 }
 
-/// The text of a run that breaks the protocol of this queue, and of one that loses a record of it, over buffers of `stores` stores.
+/// The text of a run that breaks the protocol of this queue by this violation, and then loses a record of it, over buffers of `stores` stores.
 pub fn broken_text(
     alloc: Global,
     stores: usize,
@@ -273,16 +469,23 @@ pub fn broken_text(
     certificate: &QueueCertificate,
     index: u32,
     violation: Violation,
-    pc: u32,
     lost: &Lost,
 ) -> Result<String, AllocError>
     requires inside { index < queue_count certificate.now }
     ensures { IfOk result (λ text. string_bytes text
-        ≡ broken_text stores opening.now certificate.now index violation pc lost.now.part.items lost.now.loss lost.now.pc) }
+        ≡ broken_text stores opening.now certificate.now index violation lost.now.part.items lost.now.loss lost.now.steps.items) }
 {
     let mut out = String::new(alloc);
-    push_broken_front(&mut out, opening, certificate, index, true, violation, pc)?;
-    push_lost_text(alloc, &mut out, stores, opening, index, lost)?;
+    push_broken_front(
+        &mut out,
+        opening,
+        certificate,
+        index,
+        true,
+        violation,
+        &lost.steps,
+    )?;
+    push_lost_text(alloc, &mut out, stores, opening, certificate, index, lost)?;
     Ok(out)
 }
 
@@ -295,15 +498,23 @@ pub fn other_text(
     index: u32,
     part: &[Event],
     violation: Violation,
-    pc: u32,
+    steps: &[Step],
     runs: Runs,
 ) -> Result<String, AllocError>
     requires inside { index < queue_count certificate.now }
     ensures { IfOk result (λ text. string_bytes text
-        ≡ other_text runs.number runs.length stores opening.now certificate.now index part.now violation pc) }
+        ≡ other_text runs.number runs.length stores opening.now certificate.now index part.now violation steps.now) }
 {
     let mut out = String::new(alloc);
-    push_broken_front(&mut out, opening, certificate, index, false, violation, pc)?;
+    push_broken_front(
+        &mut out,
+        opening,
+        certificate,
+        index,
+        false,
+        violation,
+        steps,
+    )?;
     push_unlost_if(&mut out, violation.described, runs, index)?;
     push_schedule(alloc, &mut out, stores, part)?;
     Ok(out)

@@ -1,31 +1,22 @@
 //! Whether the parties of queues go on, in lines.
 
-ghost use Rattle.std.specs.Prelude.{◌≡◌, ◌++◌, IfOk, OnOk, length};
+ghost use Rattle.std.specs.Prelude.{◌≡◌, ◌++◌, IfOk, OnOk, true};
 ghost use Rattle.std.specs.String.{string_bytes};
-ghost use Rattle.queue_certificates.specs.Certificates.{queue_at, tagged_at};
-ghost use Rattle.queue_certificates.specs.Steps.{all_below};
-ghost use Rattle.engine_support.specs.OpeningTexts.{numbered};
-ghost use Rattle.queue_progress.specs.Told.{told_progress_of};
-ghost use Rattle.certifying.specs.Endings.{endings_at};
-ghost use Rattle.certifying.specs.Going.{all_going, all_going_lines, arrives_line, arrives_or_ends_line, arriving_line, blind_front, pair_lines};
-ghost use Rattle.certifying.specs.Going.{cycle_end, elsewhere_line, few_text, goes_on, going_lines, idle_front, is_going, is_moving, is_told_going};
-ghost use Rattle.certifying.specs.Going.{is_within, many_text, moves_front, moves_line, moving_line, none_text, one_text, party_lines, progress_lines};
-ghost use Rattle.certifying.specs.Going.{told_pair_lines, told_going_lines, told_moving_line, told_progress_lines, waiting_end, waiting_front};
-ghost use Rattle.certifying.specs.Going.{waiting_line, within_end};
-ghost use Rattle.certifying.specs.Together.{party_progress, party_told, together_line};
+ghost use Rattle.certifying.specs.Answers.{texts};
+ghost use Rattle.certifying.specs.Going.{arrives_line, arrives_or_ends_line, arriving_line, blind_front, elsewhere_line, few_text, goes_on, idle_front};
+ghost use Rattle.certifying.specs.Going.{level_end, many_text, moves_front, moves_line, moving_line, moving_lines, none_text, one_text, party_line};
+ghost use Rattle.certifying.specs.Going.{still_line, unranked_end, waiting_end, waiting_front, waiting_line, within_end};
+ghost use Rattle.certifying.specs.Lines.{all_going, all_going_lines, going_lines, is_going, party_at};
 
 use crate::endings::{Endings, both_run, endings_at, neither_stops};
-use crate::queues::{number_of, number_of_tagged};
-use crate::together::{Bound, PartyProgress, party_progress, party_told, push_together};
+use crate::queues::{number_in, queue_count, slots_at, tagged_number};
+use crate::records::doing_hart;
+use crate::together::{Both, Bound, PartyProgress, both_in, party_in, push_together};
 use crate::unread::push_pc_place;
 use certificate_reader::push_known_at;
 use known_values::lack::sum;
-use known_values::queues::queue_in;
 use known_values::{Lack, Queue};
-use queue_checker::tagged_queues::tagged_in;
 use queue_checker::{Flaw, QueueCertificate};
-use queue_layouts::TaggedQueue;
-use queue_progress::{ToldProgress, told_progress_of};
 use std::alloc::{AllocError, Global};
 use step_machine::Opening;
 
@@ -147,19 +138,25 @@ fn push_blind_front(out: &mut String, sends: bool, index: u32, hart: u32) -> Res
     }
 }
 
-/// A state of a cycle, with what is known there.
-fn push_cycle(
+/// A state of which the rank doesn't fall, with what is known there.
+fn push_level(
     out: &mut String,
     opening: &Opening,
     certificate: &QueueCertificate,
     hart: u32,
     state: u32,
 ) -> Result<(), AllocError>
-    ensures { OnOk result (string_bytes out.new ≡ string_bytes out.old ++ cycle_end opening.now certificate.now hart state) }
+    ensures { OnOk result (string_bytes out.new ≡ string_bytes out.old ++ level_end opening.now certificate.now hart state) }
 {
     push_pc_place(out, opening, certificate, hart, state)?;
     writeln!(out, "")?;
     push_known_at(out, certificate, Flaw::State { hart, state })
+}
+
+fn push_unranked(out: &mut String) -> Result<(), AllocError>
+    ensures { OnOk result (string_bytes out.new ≡ string_bytes out.old ++ unranked_end) }
+{
+    out.push_str("the certificate has no ranks for it (tools/certify --rank finds them)\n")
 }
 
 /// The lines of a party.
@@ -173,18 +170,22 @@ fn push_party(
     other: u32,
     progress: PartyProgress,
 ) -> Result<(), AllocError>
-    ensures { OnOk result (string_bytes out.new ≡ string_bytes out.old ++ party_lines opening.now certificate.now sends index hart other progress) }
+    ensures { OnOk result (string_bytes out.new ≡ string_bytes out.old ++ party_line opening.now certificate.now sends index hart other progress) }
 {
     match progress {
         PartyProgress::Alone(bound) => push_moves(out, sends, index, hart, other, bound),
         PartyProgress::Together(bound) => push_together(out, index, hart, bound),
         PartyProgress::NoPace(state) => {
             push_idle_front(out, sends, index, hart)?;
-            push_cycle(out, opening, certificate, hart, state)
+            push_level(out, opening, certificate, hart, state)
         }
         PartyProgress::NoLook(state) => {
             push_blind_front(out, sends, index, hart)?;
-            push_cycle(out, opening, certificate, hart, state)
+            push_level(out, opening, certificate, hart, state)
+        }
+        PartyProgress::Unranked => {
+            push_idle_front(out, sends, index, hart)?;
+            push_unranked(out)
         }
     }
 }
@@ -192,13 +193,40 @@ fn push_party(
 // ---- of both parties
 
 #[tactic(auto, unfolding(crate::specs::Going::moving_line))]
-fn push_moving(out: &mut String, index: u32) -> Result<(), AllocError>
-    ensures { OnOk result (string_bytes out.new ≡ string_bytes out.old ++ moving_line index) }
+fn push_moving(out: &mut String, tags: bool, index: u32) -> Result<(), AllocError>
+    ensures { OnOk result (string_bytes out.new ≡ string_bytes out.old ++ moving_line tags index) }
 {
-    writeln!(
-        out,
-        "queue {index}: whenever both indices have landed and both harts run on, more is published or taken"
-    )
+    if tags {
+        writeln!(
+            out,
+            "queue {index}: whenever no store to a tag is pending and both harts run on, more is published or taken"
+        )
+    } else {
+        writeln!(
+            out,
+            "queue {index}: whenever both indices have landed and both harts run on, more is published or taken"
+        )
+    }
+}
+
+/// The lines of both parties, and that they move on.
+fn push_moving_both(
+    out: &mut String,
+    tags: bool,
+    index: u32,
+    queue: Queue,
+    both: Both,
+) -> Result<(), AllocError>
+    ensures { OnOk result (string_bytes out.new ≡ string_bytes out.old ++ moving_lines tags index queue both) }
+{
+    let Queue {
+        sender,
+        receiver,
+        ..
+    } = queue;
+    push_moves(out, true, index, sender, receiver, both.sends)?;
+    push_moves(out, false, index, receiver, sender, both.receives)?;
+    push_moving(out, tags, index)
 }
 
 #[tactic(auto, unfolding(crate::specs::Going::waiting_front))]
@@ -212,7 +240,7 @@ fn push_waiting_front(
 {
     write!(
         out,
-        "queue {index}: hart {sender} may wait for {slots} free slots and hart "
+        "queue {index}: not shown that more is published or taken: hart {sender} may wait for {slots} free slots and hart "
     )
 }
 
@@ -251,18 +279,6 @@ fn push_elsewhere(out: &mut String, index: u32) -> Result<(), AllocError>
     )
 }
 
-/// Whether both go on in this queue, and while they wait own fewer positions together than it has.
-fn is_moving(queue: Queue, sender: PartyProgress, receiver: PartyProgress) -> Result<bool, Lack>
-    ensures { IfOk result (λ moving. moving ≡ is_moving queue sender receiver) }
-{
-    match (sender, receiver) {
-        (PartyProgress::Alone(sends), PartyProgress::Alone(receives)) => {
-            Ok(sum(sends.owned, receives.owned)? < u64::from(queue.capacity))
-        }
-        _ => Ok(false),
-    }
-}
-
 /// Whether it goes on, in this queue or in all its queues together.
 fn goes_on(progress: PartyProgress) -> bool
     ensures { result ≡ goes_on progress }
@@ -272,6 +288,7 @@ fn goes_on(progress: PartyProgress) -> bool
         PartyProgress::Together(_) => true,
         PartyProgress::NoPace(_) => false,
         PartyProgress::NoLook(_) => false,
+        PartyProgress::Unranked => false,
     }
 }
 
@@ -295,107 +312,64 @@ fn push_arrives_or_ends(out: &mut String, index: u32) -> Result<(), AllocError>
     )
 }
 
-/// The line of whether more arrives, of two parties that go on, if neither may be stopped.
-fn push_arriving(
-    out: &mut String,
-    index: u32,
-    sender: Endings,
-    receiver: Endings,
-) -> Result<(), AllocError>
-    ensures { OnOk result (string_bytes out.new ≡ string_bytes out.old ++ arriving_line index sender receiver) }
+/// The line of whether more arrives, of two parties that move on, if neither is ever stopped, and by whether both always run.
+fn push_arriving(out: &mut String, index: u32, unstopped: bool, run: bool) -> Result<(), AllocError>
+    ensures { OnOk result (string_bytes out.new ≡ string_bytes out.old ++ arriving_line index unstopped run) }
 {
-    if !neither_stops(sender, receiver) {
+    if !unstopped {
         Ok(())
-    } else if both_run(sender, receiver) {
+    } else if run {
         push_arrives(out, index)
     } else {
         push_arrives_or_ends(out, index)
     }
 }
 
-fn push_both(
+/// The line of parties that aren't shown to move on, where both go on.
+fn push_still(
     out: &mut String,
-    endings: &[Endings],
     index: u32,
     queue: Queue,
     sender: PartyProgress,
     receiver: PartyProgress,
 ) -> Result<(), Lack>
-    ensures { OnOk result (string_bytes out.new ≡ string_bytes out.old ++ pair_lines endings.now index queue sender receiver) }
+    ensures { OnOk result (string_bytes out.new ≡ string_bytes out.old ++ still_line index queue sender receiver) }
 {
     match (sender, receiver) {
         (PartyProgress::Alone(sends), PartyProgress::Alone(receives)) => {
-            if sum(sends.owned, receives.owned)? < u64::from(queue.capacity) {
-                push_moving(out, index)?;
-                push_arriving(
-                    out,
-                    index,
-                    endings_at(endings, queue.sender),
-                    endings_at(endings, queue.receiver),
-                )?;
-            } else {
-                push_waiting(
-                    out,
-                    index,
-                    queue,
-                    sum(sends.owned, 1)?,
-                    sum(receives.owned, 1)?,
-                )?;
-            }
-            Ok(())
+            let slots = sum(sends.owned, 1)?;
+            let records = sum(receives.owned, 1)?;
+            push_waiting(out, index, queue, slots, records)?;
         }
         _ => {
             if goes_on(sender) && goes_on(receiver) {
                 push_elsewhere(out, index)?;
             }
-            Ok(())
         }
     }
+    Ok(())
 }
 
-fn push_progress(
-    out: &mut String,
+// ---- of a queue
+
+/// What is found of a party.
+#[tactic(auto, unfolding(crate::specs::Lines::party_at))]
+fn party_at(
+    alloc: Global,
     opening: &Opening,
     certificate: &QueueCertificate,
-    endings: &[Endings],
     index: u32,
-    queue: Queue,
-    sends: PartyProgress,
-    receives: PartyProgress,
-) -> Result<(), Lack>
-    ensures { OnOk result (string_bytes out.new ≡ string_bytes out.old
-        ++ progress_lines opening.now certificate.now endings.now index queue sends receives) }
+    sends: bool,
+) -> Result<PartyProgress, Lack>
+    ensures { IfOk result (λ found. found ≡ party_at opening.now certificate.now index sends) }
 {
-    let Queue {
-        sender,
-        receiver,
-        ..
-    } = queue;
-    push_party(
-        out,
-        opening,
-        certificate,
-        true,
-        index,
-        sender,
-        receiver,
-        sends,
-    )?;
-    push_party(
-        out,
-        opening,
-        certificate,
-        false,
-        index,
-        receiver,
-        sender,
-        receives,
-    )?;
-    push_both(out, endings, index, queue, sends, receives)
+    let hart = doing_hart(certificate, sends, index);
+    let queue = number_in(certificate, index);
+    party_in(alloc, opening, certificate, queue, hart)
 }
 
-/// Appends the lines of a queue with indices, and returns whether it is shown to go on.
-#[tactic(auto, unfolding(crate::specs::Going::going_lines, crate::specs::Going::is_going))]
+/// Appends the lines of a queue, and returns whether it is shown to go on.
+#[tactic(auto, unfolding(crate::specs::Lines::going_lines, crate::specs::Lines::both_at))]
 fn push_queue(
     alloc: Global,
     out: &mut String,
@@ -404,27 +378,63 @@ fn push_queue(
     endings: &[Endings],
     index: u32,
 ) -> Result<bool, Lack>
-    ensures lines { OnOk result (string_bytes out.new ≡ string_bytes out.old ++ going_lines opening.now certificate.now endings.now index) }
+    ensures lines { OnOk result (string_bytes out.new ≡ string_bytes out.old
+        ++ texts opening.now certificate.now (going_lines opening.now certificate.now endings.now index)) }
     ensures going { IfOk result (λ going. going ≡ is_going opening.now certificate.now index) }
 {
-    let queue = queue_in(&certificate.queues, index);
-    let sends = party_progress(alloc, opening, certificate, queue.sender, index)?;
-    let receives = party_progress(alloc, opening, certificate, queue.receiver, index)?;
-    push_progress(
-        out,
-        opening,
-        certificate,
-        endings,
-        index,
-        queue,
-        sends,
-        receives,
-    )?;
-    is_moving(queue, sends, receives)
+    let queue = slots_at(certificate, index);
+    let sends = party_at(alloc, opening, certificate, index, true)?;
+    let receives = party_at(alloc, opening, certificate, index, false)?;
+    match both_in(queue.capacity, sends, receives)? {
+        Some(both) => {
+            let tags = tagged_number(certificate, index).is_some();
+            let sender = endings_at(endings, queue.sender);
+            let receiver = endings_at(endings, queue.receiver);
+            push_moving_both(out, tags, index, queue, both)?;
+            push_arriving(
+                out,
+                index,
+                neither_stops(sender, receiver),
+                both_run(sender, receiver),
+            )?;
+            Ok(true)
+        }
+        None => {
+            let Queue {
+                sender,
+                receiver,
+                ..
+            } = queue;
+            push_party(
+                out,
+                opening,
+                certificate,
+                true,
+                index,
+                sender,
+                receiver,
+                sends,
+            )?;
+            push_party(
+                out,
+                opening,
+                certificate,
+                false,
+                index,
+                receiver,
+                sender,
+                receives,
+            )?;
+            push_still(out, index, queue, sends, receives)?;
+            Ok(false)
+        }
+    }
 }
 
-/// Appends the lines of all queues with indices, and returns whether each is shown to go on.
-fn push_indexed(
+/// Appends the lines of whether each queue goes on, by where harts may be stopped, and where they may end. It returns whether each is shown
+/// to go on.
+#[tactic(auto, using(crate::proofs::LineLaws::texts_append))]
+fn push_all(
     alloc: Global,
     out: &mut String,
     opening: &Opening,
@@ -432,156 +442,18 @@ fn push_indexed(
     endings: &[Endings],
 ) -> Result<bool, Lack>
     ensures lines { OnOk result (string_bytes out.new ≡ string_bytes out.old
-        ++ numbered (λ i opened. going_lines opening.now certificate.now endings.now i) 0 certificate.now.queues) }
-    ensures going { IfOk result (λ going. going ≡ all_below (length certificate.now.queues) (is_going opening.now certificate.now)) }
+        ++ texts opening.now certificate.now (all_going_lines opening.now certificate.now endings.now true)) }
+    ensures going { IfOk result (λ going. going ≡ all_going opening.now certificate.now true) }
 {
     let mut all = true;
-    for (place, _opened) in certificate.queues.iter().enumerate() {
-        let index = number_of(place)?;
+    for index in 0..queue_count(certificate)? {
         let going = push_queue(alloc, out, opening, certificate, endings, index)?;
         all = going && all;
     }
     Ok(all)
 }
 
-// ---- of a queue with tags
-
-#[tactic(auto, unfolding(crate::specs::Going::told_moving_line))]
-fn push_told_moving(out: &mut String, index: u32) -> Result<(), AllocError>
-    ensures { OnOk result (string_bytes out.new ≡ string_bytes out.old ++ told_moving_line index) }
-{
-    writeln!(
-        out,
-        "queue {index}: whenever no store to a tag is pending and both harts run on, more is published or taken"
-    )
-}
-
-fn is_within(progress: ToldProgress) -> bool
-    ensures { result ≡ is_within progress }
-{
-    match progress {
-        ToldProgress::Within(_) => true,
-        ToldProgress::Endless(_) => false,
-    }
-}
-
-fn push_told_both(
-    out: &mut String,
-    index: u32,
-    sender: Endings,
-    receiver: Endings,
-    moving: bool,
-) -> Result<(), AllocError>
-    ensures { OnOk result (string_bytes out.new ≡ string_bytes out.old ++ told_pair_lines index sender receiver moving) }
-{
-    if moving {
-        push_told_moving(out, index)?;
-        push_arriving(out, index, sender, receiver)
-    } else {
-        Ok(())
-    }
-}
-
-fn push_told_progress(
-    out: &mut String,
-    opening: &Opening,
-    certificate: &QueueCertificate,
-    endings: &[Endings],
-    index: u32,
-    queue: TaggedQueue,
-    sends: ToldProgress,
-    receives: ToldProgress,
-) -> Result<(), Lack>
-    ensures { OnOk result (string_bytes out.new ≡ string_bytes out.old
-        ++ told_progress_lines opening.now certificate.now endings.now index queue.sender queue.receiver sends receives) }
-{
-    let TaggedQueue {
-        sender,
-        receiver,
-        ..
-    } = queue;
-    push_party(
-        out,
-        opening,
-        certificate,
-        true,
-        index,
-        sender,
-        receiver,
-        party_told(sends)?,
-    )?;
-    push_party(
-        out,
-        opening,
-        certificate,
-        false,
-        index,
-        receiver,
-        sender,
-        party_told(receives)?,
-    )?;
-    Ok(push_told_both(
-        out,
-        index,
-        endings_at(endings, sender),
-        endings_at(endings, receiver),
-        is_within(sends) && is_within(receives),
-    )?)
-}
-
-/// Appends the lines of queue `tagged` of those with tags, and returns whether it is shown to go on.
-#[tactic(auto, unfolding(crate::specs::Going::told_going_lines, crate::specs::Going::is_told_going))]
-fn push_tagged(
-    alloc: Global,
-    out: &mut String,
-    opening: &Opening,
-    certificate: &QueueCertificate,
-    endings: &[Endings],
-    tagged: u32,
-) -> Result<bool, Lack>
-    ensures lines { OnOk result (string_bytes out.new ≡ string_bytes out.old ++ told_going_lines opening.now certificate.now endings.now tagged) }
-    ensures going { IfOk result (λ going. going ≡ is_told_going opening.now certificate.now tagged) }
-{
-    let queue = tagged_in(&certificate.tagged, tagged);
-    let index = number_of_tagged(certificate, tagged as usize)?;
-    let sends = told_progress_of(alloc, opening, certificate, queue.sender, tagged)?;
-    let receives = told_progress_of(alloc, opening, certificate, queue.receiver, tagged)?;
-    push_told_progress(
-        out,
-        opening,
-        certificate,
-        endings,
-        index,
-        queue,
-        sends,
-        receives,
-    )?;
-    Ok(is_within(sends) && is_within(receives))
-}
-
-/// Appends the lines of all queues with tags, and returns whether each is shown to go on.
-fn push_all_tagged(
-    alloc: Global,
-    out: &mut String,
-    opening: &Opening,
-    certificate: &QueueCertificate,
-    endings: &[Endings],
-) -> Result<bool, Lack>
-    ensures lines { OnOk result (string_bytes out.new ≡ string_bytes out.old
-        ++ numbered (λ t opened. told_going_lines opening.now certificate.now endings.now t) 0 certificate.now.tagged) }
-    ensures going { IfOk result (λ going. going ≡ all_below (length certificate.now.tagged) (is_told_going opening.now certificate.now)) }
-{
-    let mut all = true;
-    for (place, _opened) in certificate.tagged.iter().enumerate() {
-        let number = number_of(place)?;
-        let going = push_tagged(alloc, out, opening, certificate, endings, number)?;
-        all = going && all;
-    }
-    Ok(all)
-}
-
-/// Appends the lines of whether each queue goes on, if that is asked, by where harts may be stopped, and where they may end. It returns
-/// whether each is shown to go on.
+/// The same, if it is asked.
 pub fn push_going(
     alloc: Global,
     out: &mut String,
@@ -590,13 +462,13 @@ pub fn push_going(
     endings: &[Endings],
     asked: bool,
 ) -> Result<bool, Lack>
-    ensures lines { OnOk result (string_bytes out.new ≡ string_bytes out.old ++ all_going_lines opening.now certificate.now endings.now asked) }
+    ensures lines { OnOk result (string_bytes out.new ≡ string_bytes out.old
+        ++ texts opening.now certificate.now (all_going_lines opening.now certificate.now endings.now asked)) }
     ensures going { IfOk result (λ going. going ≡ all_going opening.now certificate.now asked) }
 {
-    if !asked {
-        return Ok(true);
+    if asked {
+        push_all(alloc, out, opening, certificate, endings)
+    } else {
+        Ok(true)
     }
-    let indexed = push_indexed(alloc, out, opening, certificate, endings)?;
-    let tagged = push_all_tagged(alloc, out, opening, certificate, endings)?;
-    Ok(indexed && tagged)
 }

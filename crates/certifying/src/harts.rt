@@ -1,19 +1,19 @@
-//! Whether harts are never stopped and never end, and which bytes they write.
+//! Whether harts are never stopped and never end, and which bytes they write and load.
 
 ghost use Rattle.std.specs.Prelude.{◌≡◌, ◌++◌, IfOk, OnOk, map, true};
 ghost use Rattle.std.specs.String.{string_bytes};
 ghost use Rattle.record_bytes.specs.declared.ranges.ByteRange.{ByteRange};
 ghost use Rattle.hart_safety.specs.declared.regions.Region.{Region};
-ghost use Rattle.hart_safety.specs.Writes.{first_unbounded, writes_of};
-ghost use Rattle.certifying.specs.Harts.{anywhere_front, anywhere_line, end_line, endless_line, hart_lines, harts_lines, harts_safe, is_safe};
-ghost use Rattle.certifying.specs.Harts.{never_line, nothing_written, only_end, range_of_region, regions_line, stop_front, stop_line, writes_front};
-ghost use Rattle.certifying.specs.Harts.{writes_line};
+ghost use Rattle.certifying.specs.Answers.{texts};
+ghost use Rattle.certifying.specs.Harts.{anywhere_front, end_line, endless_line, never_line, nothing_line, only_end, range_of_region, regions_line};
+ghost use Rattle.certifying.specs.Harts.{stop_front, stop_line, touches_front, touches_line};
+ghost use Rattle.certifying.specs.Lines.{hart_lines, harts_lines, harts_safe, is_safe};
 
 use crate::byte_texts::push_bytes;
 use crate::endings::{Endings, always_runs, endings_at, never_stops};
 use crate::queues::number_of;
 use crate::unread::push_pc_place;
-use hart_safety::{Region, Writes, writes_of};
+use hart_safety::{Region, Touched, touched_of};
 use known_values::Lack;
 use queue_checker::QueueCertificate;
 use record_bytes::ByteRange;
@@ -68,11 +68,11 @@ fn push_endless(out: &mut String, hart: u32) -> Result<(), AllocError>
     writeln!(out, "hart {hart}: never ends")
 }
 
-/// The line of a hart that never ends, if nothing stops it either.
-fn push_end(out: &mut String, hart: u32, endings: Endings) -> Result<(), AllocError>
-    ensures { OnOk result (string_bytes out.new ≡ string_bytes out.old ++ end_line hart endings) }
+/// The line of a hart that never ends.
+fn push_end(out: &mut String, hart: u32, never: bool) -> Result<(), AllocError>
+    ensures { OnOk result (string_bytes out.new ≡ string_bytes out.old ++ end_line hart never) }
 {
-    if always_runs(endings) {
+    if never {
         push_endless(out, hart)
     } else {
         Ok(())
@@ -92,18 +92,26 @@ fn ranges_of_regions(alloc: Global, regions: &[Region]) -> Result<Vec<ByteRange>
     Ok(ranges)
 }
 
-#[tactic(auto, unfolding(crate::specs::Harts::nothing_written))]
-fn push_nothing(out: &mut String, hart: u32) -> Result<(), AllocError>
-    ensures { OnOk result (string_bytes out.new ≡ string_bytes out.old ++ nothing_written hart) }
+#[tactic(auto, unfolding(crate::specs::Harts::nothing_line))]
+fn push_nothing(out: &mut String, stores: bool, hart: u32) -> Result<(), AllocError>
+    ensures { OnOk result (string_bytes out.new ≡ string_bytes out.old ++ nothing_line stores hart) }
 {
-    writeln!(out, "hart {hart}: writes nothing")
+    if stores {
+        writeln!(out, "hart {hart}: writes nothing")
+    } else {
+        writeln!(out, "hart {hart}: loads nothing")
+    }
 }
 
-#[tactic(auto, unfolding(crate::specs::Harts::writes_front))]
-fn push_writes_front(out: &mut String, hart: u32) -> Result<(), AllocError>
-    ensures { OnOk result (string_bytes out.new ≡ string_bytes out.old ++ writes_front hart) }
+#[tactic(auto, unfolding(crate::specs::Harts::touches_front))]
+fn push_touches_front(out: &mut String, stores: bool, hart: u32) -> Result<(), AllocError>
+    ensures { OnOk result (string_bytes out.new ≡ string_bytes out.old ++ touches_front stores hart) }
 {
-    write!(out, "hart {hart}: writes ")
+    if stores {
+        write!(out, "hart {hart}: writes ")
+    } else {
+        write!(out, "hart {hart}: loads ")
+    }
 }
 
 #[tactic(auto, unfolding(crate::specs::Harts::only_end))]
@@ -113,63 +121,61 @@ fn push_only(out: &mut String) -> Result<(), AllocError>
     writeln!(out, " of memory only")
 }
 
-/// The line of the bytes that a hart writes.
-fn push_ranges(out: &mut String, hart: u32, ranges: &[ByteRange]) -> Result<(), AllocError>
-    ensures { OnOk result (string_bytes out.new ≡ string_bytes out.old ++ regions_line hart ranges.now) }
+/// The line of the bytes to which a hart stores, or which it loads.
+fn push_ranges(
+    out: &mut String,
+    stores: bool,
+    hart: u32,
+    ranges: &[ByteRange],
+) -> Result<(), AllocError>
+    ensures { OnOk result (string_bytes out.new ≡ string_bytes out.old ++ regions_line stores hart ranges.now) }
 {
     if ranges.is_empty() {
-        return push_nothing(out, hart);
+        return push_nothing(out, stores, hart);
     }
-    push_writes_front(out, hart)?;
+    push_touches_front(out, stores, hart)?;
     push_bytes(out, ranges)?;
     push_only(out)
 }
 
 #[tactic(auto, unfolding(crate::specs::Harts::anywhere_front))]
-fn push_anywhere_front(out: &mut String, hart: u32) -> Result<(), AllocError>
-    ensures { OnOk result (string_bytes out.new ≡ string_bytes out.old ++ anywhere_front hart) }
+fn push_anywhere(out: &mut String, stores: bool, hart: u32) -> Result<(), AllocError>
+    ensures { OnOk result (string_bytes out.new ≡ string_bytes out.old ++ anywhere_front stores hart) }
 {
-    write!(out, "hart {hart}: not shown which bytes it writes: ")
+    if stores {
+        write!(out, "hart {hart}: not shown which bytes it writes: ")
+    } else {
+        write!(out, "hart {hart}: not shown which bytes it loads: ")
+    }
 }
 
-fn push_anywhere(
-    out: &mut String,
-    opening: &Opening,
-    certificate: &QueueCertificate,
-    hart: u32,
-    state: u32,
-) -> Result<(), AllocError>
-    ensures { OnOk result (string_bytes out.new ≡ string_bytes out.old ++ anywhere_line opening.now certificate.now hart state) }
-{
-    push_anywhere_front(out, hart)?;
-    push_pc_place(out, opening, certificate, hart, state)?;
-    writeln!(out, "")
-}
-
-/// The line of where a hart writes.
-fn push_writes(
+/// The line of what a hart stores to, or loads.
+fn push_touches(
     alloc: Global,
     out: &mut String,
     opening: &Opening,
     certificate: &QueueCertificate,
+    stores: bool,
     hart: u32,
-    writes: &Writes,
+    touched: &Touched,
 ) -> Result<(), Lack>
-    requires its { writes.now ≡ writes_of opening.now certificate.now hart }
-    ensures { OnOk result (string_bytes out.new ≡ string_bytes out.old ++ writes_line opening.now certificate.now hart (first_unbounded opening.now
-        certificate.now hart)) }
+    ensures { OnOk result (string_bytes out.new ≡ string_bytes out.old ++ touches_line opening.now certificate.now stores hart touched.now) }
 {
-    match writes.unbounded {
+    match touched.unbounded {
         None => {
-            let ranges = ranges_of_regions(alloc, &writes.regions)?;
-            Ok(push_ranges(out, hart, &ranges)?)
+            let ranges = ranges_of_regions(alloc, &touched.regions)?;
+            Ok(push_ranges(out, stores, hart, &ranges)?)
         }
-        Some(state) => Ok(push_anywhere(out, opening, certificate, hart, state)?),
+        Some(state) => {
+            push_anywhere(out, stores, hart)?;
+            push_pc_place(out, opening, certificate, hart, state)?;
+            Ok(writeln!(out, "")?)
+        }
     }
 }
 
 /// Appends the lines of a hart, and returns whether it is shown never to be stopped, and which bytes it writes.
-#[tactic(auto, unfolding(crate::specs::Harts::hart_lines, crate::specs::Harts::is_safe))]
+#[tactic(auto, unfolding(crate::specs::Lines::hart_lines, crate::specs::Lines::is_safe))]
 fn push_hart(
     alloc: Global,
     out: &mut String,
@@ -178,24 +184,29 @@ fn push_hart(
     endings: &[Endings],
     hart: u32,
 ) -> Result<bool, Lack>
-    ensures lines { OnOk result (string_bytes out.new ≡ string_bytes out.old ++ hart_lines opening.now certificate.now endings.now hart) }
+    ensures lines { OnOk result (string_bytes out.new ≡ string_bytes out.old
+        ++ texts opening.now certificate.now (hart_lines opening.now certificate.now endings.now hart)) }
     ensures safe { IfOk result (λ safe. safe ≡ is_safe opening.now certificate.now endings.now hart) }
 {
     let its = endings_at(endings, hart);
-    let writes = writes_of(alloc, opening, certificate, hart)?;
+    let writes = touched_of(alloc, opening, certificate, true, hart)?;
+    let loads = touched_of(alloc, opening, certificate, false, hart)?;
     push_stop(out, opening, certificate, hart, its.stop)?;
-    push_end(out, hart, its)?;
-    push_writes(alloc, out, opening, certificate, hart, &writes)?;
+    push_end(out, hart, always_runs(its))?;
+    push_touches(alloc, out, opening, certificate, true, hart, &writes)?;
+    push_touches(alloc, out, opening, certificate, false, hart, &loads)?;
     Ok(never_stops(its) && writes.unbounded.is_none())
 }
 
+#[tactic(auto, using(crate::proofs::LineLaws::texts_append))]
 fn all_told(
     alloc: Global,
     opening: &Opening,
     certificate: &QueueCertificate,
     endings: &[Endings],
 ) -> Result<HartsTold, Lack>
-    ensures lines { IfOk result (λ told. string_bytes told.lines ≡ harts_lines opening.now certificate.now endings.now true) }
+    ensures lines { IfOk result (λ told. string_bytes told.lines ≡ texts opening.now certificate.now
+        (harts_lines opening.now certificate.now endings.now true)) }
     ensures safe { IfOk result (λ told. told.safe ≡ harts_safe opening.now certificate.now endings.now true) }
 {
     let mut lines = String::new(alloc);
@@ -216,7 +227,8 @@ pub fn harts_told(
     endings: &[Endings],
     asked: bool,
 ) -> Result<HartsTold, Lack>
-    ensures lines { IfOk result (λ told. string_bytes told.lines ≡ harts_lines opening.now certificate.now endings.now asked) }
+    ensures lines { IfOk result (λ told. string_bytes told.lines ≡ texts opening.now certificate.now
+        (harts_lines opening.now certificate.now endings.now asked)) }
     ensures safe { IfOk result (λ told. told.safe ≡ harts_safe opening.now certificate.now endings.now asked) }
 {
     if asked {

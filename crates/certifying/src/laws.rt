@@ -1,11 +1,12 @@
 //! Laws of what the command answers.
 
-ghost use Rattle.std.specs.Prelude.{ℕ, ◌≡◌, ◌<◌, List, Option, Result, Ok, None, Some};
+ghost use Rattle.std.specs.Prelude.{ℕ, ◌≡◌, ◌<◌, List, Option, Result, Ok, None, Some, false};
 ghost use Rattle.step_machine.specs.declared.events.Event.{Event};
 ghost use Rattle.step_machine.specs.History.{OpeningValue};
 ghost use Rattle.queue_certificates.specs.Certificates.{QueueCertificate};
 ghost use Rattle.queue_checker.specs.Flaws.{first_flaw};
 ghost use Rattle.ownership_runs.specs.declared.losses.Loss.{Loss};
+ghost use Rattle.ownership_runs.specs.declared.steps.Step.{Step};
 ghost use Rattle.engine_support.specs.declared.fault.Refusal.{Refusal};
 ghost use Rattle.certifying.specs.Answers.{IsQueueAnswer};
 ghost use Rattle.certifying.specs.Questions.{Questions};
@@ -39,9 +40,9 @@ use records_written::{laws_of_read_records, laws_of_written_records};
 ///   each queue and of each hart whose line says that it is shown; and where a line says that a hart moves on in one of several queues, or
 ///   has to wait for one, of as many of its instructions in a row one moves one of its indices, or is such a load of the other's index of
 ///   one of its queues. Where its answer is that the protocol is broken, some legal run of the text doesn't keep that of some queue, first
-///   by a store that is described, and some legal run loses a record of that queue (`ownership_runs::laws_of_losses`, clause `lost`); and
+///   by a store that is described, and then loses a record of that queue (`ownership_runs::laws_of_losses`, clause `lost`); and
 ///   where it is that the protocol described isn't kept, some legal run doesn't keep it, by a store that isn't described, which the protocol
-///   doesn't have then (`ownership_runs::laws_of_violations`, clause `foreign`), or by one that is where no drawn run loses a record.
+///   doesn't have then (`ownership_runs::laws_of_violations`, clause `foreign`), or by one that is where no drawn run loses a record after such a store.
 /// - `lost`: where drawn runs lose a record of a queue whose reads aren't shown, some legal run does.
 /// - `one`: two answers to one input by the same drawn runs have one judgement, and are one text unless it may have a schedule; or they are
 ///   refusals of one number, except that a check may be given up where a number in it passes 2^64 - 1. Of a refused litmus text it isn't said
@@ -49,8 +50,8 @@ use records_written::{laws_of_read_records, laws_of_written_records};
 pub fn laws_of_answers()
     ensures promised { (d : DrawnRuns) (asked : Questions) (file certificate : Option (List ℕ)) (text : List ℕ) (judgement : Judgement)
         → IsQueueAnswer d asked file certificate (Ok (text, judgement)) → AreJudged file certificate (IsPromised d.M asked (text, judgement)) }
-    ensures lost { (d : DrawnRuns) (o : OpeningValue) (c : QueueCertificate) (i : ℕ) (part : List Event) (l : Loss) (pc : ℕ) → first_flaw o c ≡ None
-        → i < queue_count c → IsRecordLost d o c i part l pc → LosesRecord o c i }
+    ensures lost { (d : DrawnRuns) (o : OpeningValue) (c : QueueCertificate) (i : ℕ) (part : List Event) (l : Loss) (steps : List Step)
+        → first_flaw o c ≡ None → i < queue_count c → IsRecordLost d o c i false part l steps → LosesRecord o c i }
     ensures one { (d : DrawnRuns) (asked : Questions) (file certificate : List ℕ) (a b : Result (List ℕ × Judgement) Refusal)
         → IsQueueAnswer d asked (Some file) (Some certificate) a → IsQueueAnswer d asked (Some file) (Some certificate) b
         → AreQueueAnswers a b }

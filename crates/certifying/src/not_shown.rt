@@ -103,6 +103,9 @@ fn push_tagged_fault(out: &mut String, why: TaggedFlaw) -> Result<(), AllocError
         TaggedFlaw::SameBits => {
             out.push_str(" has bits that are the same for free and for full slots")
         }
+        TaggedFlaw::OutsideMask => {
+            out.push_str(" has bits for free or full slots that its mask doesn't have")
+        }
         TaggedFlaw::NotFree => out.push_str(" has a slot that isn't free where it opens"),
     }
 }

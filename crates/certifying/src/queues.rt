@@ -3,7 +3,7 @@
 ghost use Rattle.std.specs.Prelude.{ℕ, ◌≡◌, ◌+◌, IfOk, length, get_or};
 ghost use Rattle.queue_certificates.specs.Certificates.{no_queue};
 ghost use Rattle.record_bytes.specs.Ranges.{range_has};
-ghost use Rattle.certifying.specs.Queues.{accesses_at, any_queue, any_start, is_tag_byte, number_in, queue_count, slots_at, tagged_number};
+ghost use Rattle.certifying.specs.Queues.{accesses_at, any_queue, any_start, is_tag_byte, number_in, queue_count, slots_at, tag_range, tagged_number};
 
 use known_values::queues::queue_in;
 use known_values::{Lack, OpenedQueue, Queue};
@@ -65,7 +65,8 @@ pub fn number_in(certificate: &QueueCertificate, index: u32) -> QueueNumber
 
 /// The bytes of a queue's slots that are tags; a range without a byte, if its slots have none.
 pub fn tag_range(certificate: &QueueCertificate, index: u32) -> ByteRange
-    ensures { (b : ℕ) → range_has result b ≡ is_tag_byte certificate.now index b }
+    ensures exact { result ≡ tag_range certificate.now index }
+    ensures has { (b : ℕ) → range_has result b ≡ is_tag_byte certificate.now index b }
 {
     match tagged_number(certificate, index) {
         None => ByteRange { first: 1, last: 0 },

@@ -12,7 +12,7 @@ ghost use Rattle.certifying.specs.Questions.{questions_by};
 ghost use Rattle.certifying.specs.Queues.{number_in, queue_count};
 ghost use Rattle.certifying.specs.Records.{AreFoundFrom, IsFound, IsFoundFor, are_read, are_written, asked_line, asked_ranges, both_lines, doer};
 ghost use Rattle.certifying.specs.Records.{doing_hart, done_text, is_rest, is_shown, missing_end, none_line, of_each, record_line, record_lines};
-ghost use Rattle.certifying.specs.Records.{shown_end, unshown_front};
+ghost use Rattle.certifying.specs.Records.{rest_ranges, shown_end, shown_line, tag_line, unshown_front};
 
 use crate::byte_texts::{is_one_byte, push_bytes};
 use crate::questions::Questions;
@@ -65,7 +65,8 @@ fn rest_of(
     index: u32,
     ranges: &[ByteRange],
 ) -> Result<Vec<ByteRange>, AllocError>
-    ensures { IfOk result (λ rest. (b : ℕ) → has_byte rest.items b ≡ is_rest certificate.now index ranges.now b) }
+    ensures exact { IfOk result (λ rest. rest.items ≡ rest_ranges certificate.now index ranges.now) }
+    ensures has { IfOk result (λ rest. (b : ℕ) → has_byte rest.items b ≡ is_rest certificate.now index ranges.now b) }
 {
     ranges_without(alloc, ranges, tag_range(certificate, index))
 }
@@ -231,6 +232,16 @@ fn push_none(out: &mut String, index: u32) -> Result<(), AllocError>
     writeln!(out, "queue {index}: its records have none of these bytes")
 }
 
+#[tactic(auto, unfolding(crate::specs::Records::tag_line))]
+fn push_tag(out: &mut String, index: u32) -> Result<(), AllocError>
+    ensures { OnOk result (string_bytes out.new ≡ string_bytes out.old ++ tag_line index) }
+{
+    writeln!(
+        out,
+        "queue {index}: its records have these bytes in their tags alone"
+    )
+}
+
 fn push_front(out: &mut String, index: u32) -> Result<(), AllocError>
     ensures { OnOk result (string_bytes out.new ≡ string_bytes out.old ++ queue_front index) }
 {
@@ -256,7 +267,7 @@ fn push_unshown_front(out: &mut String, index: u32) -> Result<(), AllocError>
 }
 
 /// The hart that is to write a queue's records, or to read them.
-fn doing_hart(certificate: &QueueCertificate, writes: bool, index: u32) -> u32
+pub fn doing_hart(certificate: &QueueCertificate, writes: bool, index: u32) -> u32
     ensures { result ≡ doing_hart certificate.now writes index }
 {
     let slots = slots_at(certificate, index);
@@ -278,30 +289,42 @@ fn push_missing(
     writeln!(out, "")
 }
 
-/// The line of what is found of a queue's records, of these bytes.
+fn push_shown(
+    out: &mut String,
+    writes: bool,
+    index: u32,
+    rest: &[ByteRange],
+) -> Result<(), AllocError>
+    ensures { OnOk result (string_bytes out.new ≡ string_bytes out.old ++ shown_line writes index rest.now) }
+{
+    if rest.is_empty() {
+        return push_tag(out, index);
+    }
+    push_front(out, index)?;
+    push_done(out, writes, rest)?;
+    push_shown_end(out, writes)
+}
+
+/// The line of what is found of a queue's records, of these bytes, of which none is a tag's.
 fn push_record(
     out: &mut String,
     opening: &Opening,
     certificate: &QueueCertificate,
     writes: bool,
     index: u32,
-    ranges: &[ByteRange],
+    rest: &[ByteRange],
     records: Records,
 ) -> Result<(), AllocError>
     ensures { OnOk result (string_bytes out.new ≡ string_bytes out.old
-        ++ record_line opening.now certificate.now writes index ranges.now records) }
+        ++ record_line opening.now certificate.now writes index rest.now records) }
 {
     match records {
         Records::Unasked => Ok(()),
         Records::NoBytes => push_none(out, index),
-        Records::Shown => {
-            push_front(out, index)?;
-            push_done(out, writes, ranges)?;
-            push_shown_end(out, writes)
-        }
+        Records::Shown => push_shown(out, writes, index, rest),
         Records::NotShown(missing) => {
             push_unshown_front(out, index)?;
-            push_done(out, writes, ranges)?;
+            push_done(out, writes, rest)?;
             let hart = doing_hart(certificate, writes, index);
             push_missing(out, opening, certificate, hart, missing)
         }
@@ -326,7 +349,8 @@ fn push_asked(
         None => Ok(()),
         Some(bytes) => {
             let ranges = asked_ranges(alloc, certificate, bytes, index)?;
-            push_record(out, opening, certificate, writes, index, &ranges, records)
+            let rest = rest_of(alloc, certificate, index, &ranges)?;
+            push_record(out, opening, certificate, writes, index, &rest, records)
         }
     }
 }

@@ -3,13 +3,16 @@
 ghost use Rattle.std.specs.Prelude.{◌≡◌, ◌++◌, IfOk, OnOk, length};
 ghost use Rattle.std.specs.String.{string_bytes};
 ghost use Rattle.queue_progress.specs.Harts.{sides};
-ghost use Rattle.certifying.specs.Together.{are_several, bound_of, bound_together, few_positions_text, or_together, pace_of, pace_together};
-ghost use Rattle.certifying.specs.Together.{party_progress, party_told, positions_text, together_front, together_line, whatever_end};
+ghost use Rattle.certifying.specs.Together.{are_several, both_in, bound_of, bound_together, few_positions_text, or_together};
+ghost use Rattle.certifying.specs.Together.{pace_together, party_in, party_progress, party_told, positions_text, together_front, together_line, whatever_end};
 
 use known_values::Lack;
 use known_values::lack::{product, sum};
 use queue_checker::QueueCertificate;
-use queue_progress::{Pace, Progress, ToldProgress, hart_progress_of, progress_of, sides};
+use queue_progress::{
+    Pace, Progress, ToldProgress, hart_pace_of, progress_of, sides, told_progress_of,
+};
+use records_written::QueueNumber;
 use std::alloc::{AllocError, Global};
 use step_machine::Opening;
 
@@ -21,6 +24,13 @@ pub struct Bound {
     pub within: u64,
 }
 
+/// The bounds of both parties of a queue.
+#[derive(Clone, Copy)]
+pub struct Both {
+    pub sends: Bound,
+    pub receives: Bound,
+}
+
 /// What is found of a party of a queue.
 #[derive(Clone, Copy)]
 pub enum PartyProgress {
@@ -28,11 +38,13 @@ pub enum PartyProgress {
     Alone(Bound),
     /// Not in this queue by itself, but in all its queues together: it moves on in one, or finds that it has to wait for one.
     Together(Bound),
-    /// A state on a cycle of instructions that don't move its index, or its position, at each of which it may own all positions that there
-    /// are.
+    /// The first state of which the rank doesn't fall along instructions that don't move its index, or its position, at each of which it may own
+    /// more positions than the certificate says.
     NoPace(u32),
-    /// A state on a cycle of instructions that neither move its index nor load the other's.
+    /// The first of which it doesn't along instructions that neither move its index nor load the other's.
     NoLook(u32),
+    /// The certificate has no ranks for it.
+    Unranked,
 }
 
 /// Of how many of a party's instructions in a row one moves its index, or finds few positions.
@@ -40,16 +52,6 @@ fn bound_of(pace: Pace) -> Result<u64, Lack>
     ensures { IfOk result (λ bound. bound ≡ bound_of pace) }
 {
     sum(sum(pace.pace, pace.sight)?, 2)
-}
-
-fn pace_of(progress: Progress) -> Option<Pace>
-    ensures { result ≡ pace_of progress }
-{
-    match progress {
-        Progress::GoesOn(pace) => Some(pace),
-        Progress::NoPace(_) => None,
-        Progress::NoLook(_) => None,
-    }
 }
 
 /// Of how many of a hart's instructions in a row one moves one of its indices, or finds few positions of a queue.
@@ -78,7 +80,7 @@ fn pace_together(
     ensures { IfOk result (λ pace. pace ≡ pace_together opening.now certificate.now hart) }
 {
     if are_several(sides(certificate, hart)?) {
-        Ok(pace_of(hart_progress_of(alloc, opening, certificate, hart)?))
+        hart_pace_of(alloc, opening, certificate, hart)
     } else {
         Ok(None)
     }
@@ -105,7 +107,7 @@ fn or_together(
 
 /// What is found of a hart, a party of queue `index` with indices.
 #[tactic(auto, unfolding(crate::specs::Together::party_progress))]
-pub fn party_progress(
+fn party_progress(
     alloc: Global,
     opening: &Opening,
     certificate: &QueueCertificate,
@@ -127,11 +129,14 @@ pub fn party_progress(
             let other = PartyProgress::NoLook(state);
             or_together(alloc, opening, certificate, hart, other)
         }
+        Progress::Unranked => {
+            or_together(alloc, opening, certificate, hart, PartyProgress::Unranked)
+        }
     }
 }
 
 /// The same of a party of a queue with tags.
-pub fn party_told(progress: ToldProgress) -> Result<PartyProgress, Lack>
+fn party_told(progress: ToldProgress) -> Result<PartyProgress, Lack>
     ensures { IfOk result (λ found. found ≡ party_told progress) }
 {
     match progress {
@@ -140,6 +145,46 @@ pub fn party_told(progress: ToldProgress) -> Result<PartyProgress, Lack>
             within: sum(most, 1)?,
         })),
         ToldProgress::Endless(state) => Ok(PartyProgress::NoPace(state)),
+        ToldProgress::Unranked => Ok(PartyProgress::Unranked),
+    }
+}
+
+/// What is found of a hart, a party of a queue of either kind.
+pub fn party_in(
+    alloc: Global,
+    opening: &Opening,
+    certificate: &QueueCertificate,
+    queue: QueueNumber,
+    hart: u32,
+) -> Result<PartyProgress, Lack>
+    ensures { IfOk result (λ found. found ≡ party_in opening.now certificate.now queue hart) }
+{
+    match queue {
+        QueueNumber::Indexed(index) => party_progress(alloc, opening, certificate, hart, index),
+        QueueNumber::Tagged(tagged) => {
+            let found = told_progress_of(alloc, opening, certificate, hart, tagged)?;
+            party_told(found)
+        }
+    }
+}
+
+/// The bounds of both parties, where both go on, and own fewer positions together than `capacity` while they wait.
+pub fn both_in(
+    capacity: u32,
+    sender: PartyProgress,
+    receiver: PartyProgress,
+) -> Result<Option<Both>, Lack>
+    ensures { IfOk result (λ both. both ≡ both_in capacity sender receiver) }
+{
+    match (sender, receiver) {
+        (PartyProgress::Alone(sends), PartyProgress::Alone(receives)) => {
+            if sum(sends.owned, receives.owned)? < u64::from(capacity) {
+                Ok(Some(Both { sends, receives }))
+            } else {
+                Ok(None)
+            }
+        }
+        _ => Ok(None),
     }
 }
 

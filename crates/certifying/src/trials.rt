@@ -1,12 +1,12 @@
 //! Drawn runs of a text, judged by the protocol of each queue of a certificate that isn't accepted.
 
-ghost use Rattle.std.specs.Prelude.{◌≡◌, ◌≤◌, ◌<◌, ◌-◌, ℕ, List, IfOk, length, take};
+ghost use Rattle.std.specs.Prelude.{◌≡◌, ◌≤◌, ◌<◌, ℕ, List, IfOk, length};
 ghost use Rattle.drawn_runs.specs.Samples.{runs_of};
 ghost use Rattle.step_machine.specs.History.{FitsIn};
 ghost use Rattle.queue_parties.specs.Parties.{all_at};
 ghost use Rattle.ownership_runs.specs.Protocols.{HasSlot};
 ghost use Rattle.certifying.specs.Queues.{any_queue, queue_count};
-ghost use Rattle.certifying.specs.Trials.{IsOfTrial, IsPcBeforeLast, IsToldOf, IsTrialBroken};
+ghost use Rattle.certifying.specs.Trials.{IsOfTrial, IsToldOf, IsTrialBroken};
 
 use crate::queues::{any_queue, any_start, queue_count};
 use drawn_runs::progress::Progress;
@@ -14,11 +14,11 @@ use drawn_runs::{Jump, Sample};
 use judged_runs::Told;
 use known_values::Lack;
 use ownership_runs::laws::laws_of_judged_runs;
-use ownership_runs::{Counts, Moved, Violation, check_runs};
+use ownership_runs::{Counts, Moved, Step, Violation, check_runs, steps_of};
 use queue_checker::QueueCertificate;
 use std::alloc::{AllocError, Global};
 use std::thread::Threads;
-use step_machine::{Event, Machine, Opening};
+use step_machine::{Event, Opening};
 
 /// What drawn runs show.
 #[derive(Drop)]
@@ -26,12 +26,12 @@ pub enum Trial {
     /// All keep the protocol of each queue, whose parties moved on by this much in them.
     Kept(Vec<Moved>),
     /// One breaks the protocol of this queue, which none does of an earlier one: a part of its events that ends with the violation, and
-    /// the pc at which the hart was then.
+    /// what these do.
     Broken {
         queue: u32,
         part: Vec<Event>,
         violation: Violation,
-        pc: u32,
+        steps: Vec<Step>,
     },
 }
 
@@ -47,30 +47,7 @@ pub(crate) fn counts_at(start: u64) -> Counts
     }
 }
 
-/// The pc of a hart before the last of these events.
-pub(crate) fn pc_before_last<const B: usize, const M: usize>(
-    alloc: Global,
-    opening: &Opening,
-    events: &[Event],
-    hart: u32,
-) -> Result<u32, AllocError>
-    requires some_capacity { 1 ≤ B }
-    requires capacity { B ≤ 64 }
-    requires some_word { 1 ≤ M }
-    requires size { M ≤ 65536 }
-    requires fits { FitsIn M opening.now }
-    requires some_event { 1 ≤ length events.now }
-    requires of_hart { hart < length opening.now.harts }
-    ensures { IfOk result (IsPcBeforeLast B M opening.now events.now hart) }
-{
-    let mut machine: Machine<B, M> = Machine::open(alloc, opening.copy(alloc)?)?;
-    match machine.run(&events[..events.len() - 1]) {
-        Ok(()) => Ok(machine.pc(hart)),
-        Err((_, error)) => Err(error),
-    }
-}
-
-/// The trial of a run that breaks the protocol of a queue, with the pc at which its hart was.
+/// The trial of a run that breaks the protocol of a queue, with what its events do.
 fn broken_by<const B: usize, const M: usize>(
     alloc: Global,
     opening: &Opening,
@@ -83,16 +60,14 @@ fn broken_by<const B: usize, const M: usize>(
     requires some_word { 1 ≤ M }
     requires size { M ≤ 65536 }
     requires fits { FitsIn M opening.now }
-    requires some_event { 1 ≤ length part.items }
-    requires of_hart { violation.hart < length opening.now.harts }
     ensures { IfOk result (IsTrialBroken B M opening.now queue part.items violation) }
 {
-    let pc = pc_before_last::<B, M>(alloc, opening, &part, violation.hart)?;
+    let steps = steps_of::<B, M>(alloc, opening, &part)?;
     Ok(Trial::Broken {
         queue,
         part,
         violation,
-        pc,
+        steps,
     })
 }
 

@@ -364,6 +364,7 @@ fn lost<T: Threads + Sync>(
         &opening,
         &AnyQueue::Indexed(WORDS),
         counts(0, 0),
+        false,
         &sample,
         &mut NoProgress,
     )

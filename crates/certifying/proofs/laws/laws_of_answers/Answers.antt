@@ -17,14 +17,12 @@ returns-clause-promised c = answers.promised (record {
     going = c.laws_of_queue_progress.ensures.going;
     stands = c.laws_of_queue_progress.ensures.stands;
     arrives = c.laws_of_queue_progress.ensures.arrives;
-    arrives_or_ends = c.laws_of_queue_progress.ensures.arrives_or_ends;
     hart_shown = c.laws_of_queue_progress.ensures.hart_shown;
     hart_going = c.laws_of_queue_progress.ensures.hart_going;
     told_shown = c.laws_of_queue_progress.ensures.told_shown;
     told_going = c.laws_of_queue_progress.ensures.told_going;
     told_stands = c.laws_of_queue_progress.ensures.told_stands;
     told_arrives = c.laws_of_queue_progress.ensures.told_arrives;
-    told_arrives_or_ends = c.laws_of_queue_progress.ensures.told_arrives_or_ends;
   };
   records = record {
     written = λ B M o listed accepted. c.laws_of_written_records.ensures.shown B M o listed accepted;
@@ -34,7 +32,7 @@ returns-clause-promised c = answers.promised (record {
     never_stopped = c.laws_of_hart_safety.ensures.never_stopped;
     runs_or_ended = c.laws_of_hart_safety.ensures.runs_or_ended;
     runs = c.laws_of_hart_safety.ensures.runs;
-    written_within = c.laws_of_hart_safety.ensures.written_within;
+    touched_within = c.laws_of_hart_safety.ensures.touched_within;
   };
   drawn = record {
     none = c.laws_of_violations.ensures.none;
@@ -59,9 +57,9 @@ returns-clause-one c = answers.one_queue_answer (record {
     })
 
 pub returns-clause-lost : goal.returns-clause-lost
-returns-clause-lost c = λ d o listed i part l pc none inside is. loses d o listed (record {
+returns-clause-lost c = λ d o listed i part l steps none inside is. loses d o listed (record {
   none = c.laws_of_violations.ensures.none;
   apart = c.laws_of_judged_runs.ensures.apart;
   lost = c.laws_of_losses.ensures.lost;
   lost_or_not = c.laws_of_judged_runs.ensures.lost_or_not;
-}) (all-sized o listed none) i inside part l pc is
+}) (all-sized o listed none) i inside part l steps is

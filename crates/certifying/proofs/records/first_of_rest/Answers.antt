@@ -27,7 +27,7 @@ returns c =
     let rest = is_rest c.args.certificate.now c.args.index c.args.ranges.now in
     let bytes = has_byte c.deref.result.now in
     let same : (b : ℕ) → has_byte c.deref.result.now b ≡ is_rest c.args.certificate.now c.args.index c.args.ranges.now b =
-    λ b. ap (λ (rs : List ByteRange). has_byte rs b) c.deref.ensures.value ∙ c.in_ok-rest.ensures b in
+    λ b. ap (λ (rs : List ByteRange). has_byte rs b) c.deref.ensures.value ∙ c.in_ok-rest.ensures.has b in
     IfOk-weaker c.first_missing.result
     (λ (r : Option Missing). MatchOption r (IsShownDone o listed c.number_in-queue.result p bytes)
     (IsFirstMissing o listed c.number_in-queue.result p bytes))
