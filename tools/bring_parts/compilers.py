@@ -5,6 +5,7 @@ import re
 import resource
 import shlex
 import shutil
+import signal
 import subprocess
 from pathlib import Path
 
@@ -30,6 +31,9 @@ PACKAGES = {"riscv64-unknown-elf-gcc": "gcc-riscv64-unknown-elf", "riscv64-unkno
             "riscv64-linux-gnu-gcc": "gcc-riscv64-linux-gnu", "clang": "clang", "clang++": "clang",
             BINUTIL: "binutils-riscv64-unknown-elf", "rustc": "rustc"}
 SECONDS, FILE_BYTES, LINES = 60, 16 << 20, 12
+# what binutils says of an object that is newer than it, and what helps
+UNKNOWN = re.compile(r"(?:unrecognized|unsupported|unknown) relocation|relocation count is negative")
+TOO_OLD = ": it may be older than the compiler: compile with -gdwarf-4, as by --flag=-gdwarf-4, or take newer binutils"
 # of a header that lies beside the one that includes it by <..> clang says that it isn't found so, which is no fatal error
 NO_HEADER = re.compile(r"error: '?([^':]+)'?(?:: No such file or directory| file not found)")
 # an instruction that GNU as knows, and not of this machine
@@ -191,13 +195,25 @@ def output(words, variables=(), seconds=SECONDS, file_bytes=FILE_BYTES):
     except OSError as error:
         if not isinstance(error, (FileNotFoundError, PermissionError)):
             raise Refused(f"{words[0]}: {error.strerror}") from None
-        package = PACKAGES.get(words[0], PACKAGES[BINUTIL] if words[0].startswith(PREFIXES) else None)
+        package = package_of(words[0])
         raise Refused(f"there is no command {words[0]}" + (f": apt-get install {package}" if package else "")) from None
     except subprocess.TimeoutExpired:
         raise Refused(f"{words[0]} takes more than {seconds} seconds") from None
     if done.returncode:
-        lines = done.stderr.strip().splitlines() or [f"it ended with {done.returncode}, and said nothing"]
+        lines = done.stderr.strip().splitlines() or [ended_with(done.returncode)]
         begin = next((at for at, line in enumerate(lines) if "error" in line.lower()), 0)
         lines = [each.replace("\t", " ") for each in lines[begin:]]
-        raise Refused(f"{Path(words[0]).name} fails", [*lines[:LINES], *["[..]"] * (len(lines) > LINES)], lines)
+        helps = TOO_OLD if words[0].startswith(PREFIXES) and (done.returncode < 0 or UNKNOWN.search("\n".join(lines))) else ""
+        raise Refused(f"{Path(words[0]).name} fails{helps}", [*lines[:LINES], *["[..]"] * (len(lines) > LINES)], lines)
     return done.stdout
+
+
+def package_of(command):
+    """Debian's package that has a command, or None."""
+    numbered = re.fullmatch(r"clang(?:\+\+)?(-[0-9]+)", command)
+    return f"clang{numbered[1]}" if numbered else PACKAGES.get(command, PACKAGES[BINUTIL] if command.startswith(PREFIXES) else None)
+
+
+def ended_with(status):
+    """How a command ended that said nothing."""
+    return f"it ended with {status}, and said nothing" if status > 0 else f"it was ended by {signal.Signals(-status).name}, and said nothing"

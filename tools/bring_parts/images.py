@@ -1,9 +1,10 @@
 """Objects linked to an image: its data from address 0 on, its code, and the relocations that are left in it."""
 
 import re
+from dataclasses import replace
 from pathlib import Path
 
-from bring_parts import Refused, instructions, line_tables, made_before, objects
+from bring_parts import Refused, instructions, line_tables, linkable, made_before, objects
 from bring_parts.instructions import TEXT
 from bring_parts.objects import tool
 
@@ -27,30 +28,21 @@ USUAL = re.compile(r"\.(text|s?data|s?bss|s?rodata|got|tdata|tbss|eh_frame|gcc_e
 MADE_BEFORE = re.compile(r"\.((init|fini|preinit)_array|[cd]tors)(\..*)?")
 RELOCATION = re.compile(r"([0-9a-f]+) +[0-9a-f]+ (R_RISCV_\w+)(?: +([0-9a-f]+) +(.*?)(?: \+ [0-9a-f]+)?)?$")
 WITHOUT_PLACE = ("R_RISCV_RELAX", "R_RISCV_ALIGN")
+# what Rust's library is called for where the code gives up: `core` isn't linked, and a call of these never returns
+PANICS = re.compile(r"(?:core|std|alloc)::.*(?:panic|unwrap_failed|expect_failed|_fail\b).*")
 # what is said of names that nothing defines
 REMEDIES = [(r"__atomic_\w*_[124]", "an atomic object of this size needs a library: exchange, or add to, a word"),
             (r"__atomic_.*", "the code is compiled for RV32: take at most 4 bytes, as uint32_t or size_t"),
             (r"__builtin_riscv_pause", 'this compiler lacks it: write `__asm__ volatile("pause")`'),
-            (r".*(panic|unwrap_failed|expect_failed|slice_\w*_fail).*", "this may panic: write it so that the compiler sees that it "
-             "doesn't, as by `&` of a power of two"),
             (r".*__throw_.*|__cxa_(throw|begin_catch|allocate_exception).*|_Unwind.*", "what throws isn't taken"),
             (r"__cxa_guard_.*", "a static object that is made when it is first met: give it a constant value, or make it global"),
             (r"__cxa_pure_virtual", "a virtual function"), (r"__riscv_(save|restore)_.*", "compile with -mno-save-restore"),
             (r"(core|alloc|std)::.*|<.* as (core|alloc|std)::.*", "code of the library that isn't made part of yours: leave it out"),
             (r"__assert\w*|abort", "no assertion is taken: compile with -DNDEBUG"),
             (r"operator (new|delete).*|malloc|free|calloc|realloc", "there is no heap: make the object global"),
-            (r"__(add|sub|mul|div|fix|float|lt|gt|eq|ne|le|ge|un|extend|trunc|neg)\w*[sdt]f\w*", "there is no floating point"),
+            (r"__(add|sub|mul|div|fix|float|lt|gt|eq|ne|le|ge|un|extend|trunc|neg)\w*[sdt]f\w*", "there is no floating point: to load, store and "
+             "copy such numbers is taken, to compute with them isn't"),
             (r"__(u?div|u?mod|mul|ashl|ashr|lshr)di3", "arithmetic of 64 bits that is no instruction: take 32 bits")]
-
-
-def by_words(module, made):
-    """The module with each section of data on a word's boundary at least, and otherwise aligned as it is."""
-    narrow = {name for name, _, flags, align in objects.sections_of(module) if is_data(flags) and align < 4}
-    if not narrow:
-        return module
-    words = [word for name in sorted(narrow) for word in ("--set-section-alignment", f"{name}=4")]
-    tool("objcopy", *words, module, made)
-    return made
 
 
 def is_data(flags):
@@ -64,8 +56,7 @@ def linked(modules, folder):
     script, image = Path(folder, "script"), Path(folder, "image")
     script.write_text(script_for(sections))
     tool("ld", "-m", "elf32lriscv", "--no-relax", "--emit-relocs", "--unresolved-symbols=ignore-all", "--no-warn-mismatch",
-         "-e", "0", "-T", script, "-o", image,
-         *(by_words(module, Path(folder, f"words{at}")) for at, module in enumerate(modules)))
+         "-e", "0", "-T", script, "-o", image, *(linkable.made_of(module, Path(folder, f"words{at}")) for at, module in enumerate(modules)))
     sections = objects.sections_of(image)
     data_fit(sum(size for name, size, _, _ in sections if name == ".data"))
     if made := [name for name, size, _, _ in sections if size and MADE_BEFORE.fullmatch(name)]:
@@ -104,8 +95,12 @@ class Image:
         self.relocations = relocations_of(path)
         listing = tool("objdump", "-d", "-z", "-l", "--inlines", "-M", "no-aliases,numeric", "--no-show-raw-insn", path)
         lines = line_tables.Lines(tool("objdump", "--dwarf=rawline", path))
-        self.code = instructions.absolute(instructions.listed(listing, sources, lines.at), self.relocations)
         self.undefined = objects.undefined_in(self.symbols)
+        code = instructions.absolute(instructions.listed(listing, sources, lines.at), self.relocations)
+        # where a call panics stands what stops a hart; what the compiler takes for unreachable after it is left out
+        self.panics = {each.at for each in code if each.name == "jal" and self.is_panic(self.relocations.get(each.at, ("", 0, ""))[2])}
+        self.code = [replace(each, name="ebreak", operands="") if each.at in self.panics else each for before, each in zip([None, *code], code)
+                     if not (before and before.at in self.panics and each.name in ("unimp", "c.unimp"))]
 
     def data(self):
         """The objects of the data: address, bytes and symbol. One without a size ends where the next begins."""
@@ -121,12 +116,20 @@ class Image:
         return next((each for each in self.symbols if each.is_defined() and each.at >= TEXT and each.kind != "TLS"
                      and name in (each.name, each.plain, each.plain.partition("(")[0])), None)
 
+    def plain(self, name):
+        """A symbol's name as its author has it."""
+        return next(symbol.plain for symbol in self.symbols if symbol.name == name)
+
+    def is_panic(self, name):
+        """Whether this is what Rust's library is called for where the code gives up, and isn't linked."""
+        return name in self.undefined and PANICS.fullmatch(self.plain(name)) is not None
+
     def check_defined(self, code):
         """Refuses code that uses what nothing defines."""
         for each in code:
             _, _, name = self.relocations.get(each.at, ("", 0, ""))
-            if name in self.undefined:
-                plain = next(symbol.plain for symbol in self.symbols if symbol.name == name)
+            if name in self.undefined and each.at not in self.panics:
+                plain = self.plain(name)
                 why = next((f": {remedy}" for form, remedy in REMEDIES if re.fullmatch(form, plain)), "")
                 raise Refused(f"{each.where()}: `{plain}` isn't defined{why}")
 

@@ -6,8 +6,8 @@ import textwrap
 from dataclasses import replace
 from pathlib import Path
 
-from bring_parts import (MOST, Refused, arguments, columns, compilers, dwarf, fields, functions, images, memory, objects, queues,
-                         texts)
+from bring_parts import (MOST, Refused, arguments, columns, compilers, dwarf, fields, functions, images, inits, inputs, memory, objects,
+                         queues, texts)
 from bring_parts.instructions import TEXT
 from bring_parts.memory import WIDTH, Memory
 
@@ -92,6 +92,8 @@ class Linked:
         yield from queues.lines(self.queues, self.calls)
         if not self.queues and any(call.name in queues.names() for each in self.calls for call in each):
             yield queues.NONE
+        if any(each.at in self.image.panics for code in self.functions for part in code.values() for each in part):
+            yield "ebreak, which stops the hart, stands for each call that panics"
         yield ", ".join(f"P{hart.number} is {hart.name}" for hart in self.harts if hart.symbol.name != f"P{hart.number}")
 
     def load(self, modules, named, sources, folder):
@@ -102,21 +104,30 @@ class Linked:
         self.functions = [functions.of_hart(self.image, symbol, symbols) for symbol in symbols]
 
 
-def litmus_text(modules, question, named, compiler, fences, note, told, sources=()):
-    """The litmus text of modules, and its words of memory. `named` are the harts' functions, or none for P0 and on; `compiler` makes what the modules lack.
-    `note()` gives what writes the comments beside a hart's instructions, if there are to be any; `told` are the lines that
-    say how the text was made, and `sources` the files whose lines the instructions have."""
+def litmus_text(modules, question, way, note, told, sources=()):
+    """The litmus text of modules, and its words of memory. Of `way`, the harts' functions are named, or none for P0 and on, the compiler makes what the
+    modules lack, and the init functions run. `note()` gives what writes the comments beside a hart's instructions, if there are to be any; `told` are the
+    lines that say how the text was made, and `sources` the files whose lines the instructions have."""
     with tempfile.TemporaryDirectory() as folder:
-        linked = Linked(complete(modules, compiler, folder), question, named, sources, folder)
+        linked = Linked(complete(modules, way.compiler, folder), question, way.harts, sources, folder)
     words = Memory(linked.image.values, linked.objects, linked.longer, bool(linked.information.variables))
     words.open(question.words)
+    devices = inputs.placed(way.inputs, words)
+    inits.run(linked, way.inits, words, devices)
     check_asked(question, linked)
     made, openings = [], []
     for hart, registers, code in zip(linked.harts, linked.registers, linked.functions):
+        code = devices.moved(code, linked.image.relocations, not hart.function or linked.information.returned(hart.function) is not None)
         arguments.check_set(hart, registers, [each for part in code.values() for each in part])
-        made.append(columns.column(code, fences, note and note(), 2 in registers))
+        made.append(columns.column(code, way.fences, note and note(), 2 in registers))
         openings.append(opening(hart, registers, made[-1], words))
-    words.check_size()
+    words.check_size(devices.room())
+    devices.check_used()
+    if devices.found:
+        column, opens = devices.column(len(made))
+        made.append(column)
+        openings.append(opens)
+        devices.name(words)
     kept = [f"{hart}:x{arguments.register_of(f'{hart}:{register}')} is {name}" for (hart, name), register in question.kept.items()]
     comment = comment_of([*told, *linked.told(), ", ".join(kept)])
     init = ["{", *words.items(), *filter(None, openings), "}"]

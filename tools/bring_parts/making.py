@@ -36,6 +36,9 @@ class Way:
     ask: str = None
     rustc: str = "rustc"
     rust_core: str = None
+    # functions that run before the harts, and places that any value may be loaded from
+    inits: tuple = ()
+    inputs: tuple = ()
     # whether a source may ask nothing
     unasked: bool = False
 
@@ -44,6 +47,7 @@ class Way:
         """By the words of a command line; from-c has some of them."""
         harts = tuple(filter(None, getattr(asked, "harts", "").split(",")))
         own = {name: getattr(asked, name) for name in ("ask", "rustc", "rust_core") if hasattr(asked, name)}
+        own |= {"inits": tuple(asked.init), "inputs": tuple(asked.input)}
         return Way(asked.compiler, asked.mapping, asked.fences, tuple(asked.flag), asked.lines, harts, **own)
 
     def words(self, with_folder=False, is_compiled=True):
@@ -57,14 +61,15 @@ class Way:
         words += ["--ask", file(self.ask)] if self.ask else []
         words += ["--harts", ",".join(self.harts)] if self.harts else []
         words += ["--fences", self.fences] if self.fences != "all" else []
+        words += [word for option, names in (("--init", self.inits), ("--input", self.inputs)) for name in names for word in (option, name)]
         words += [f"--flag={flag}" for flag in self.flags] + ["--lines"] * self.lines
         return shlex.join(words)
 
 
-def add_options(words):
-    """The options of a tool that writes a text."""
+def add_options(words, **compiler):
+    """The options of a tool that writes a text; `compiler` says how --compiler is taken, if it may stand more than once."""
     words.add_argument("-o", dest="output")
-    add_ways(words)
+    add_ways(words, **compiler)
 
 
 def add_ways_of_objects(words):
@@ -75,12 +80,14 @@ def add_ways_of_objects(words):
     words.add_argument("--rust-core")
 
 
-def add_ways(words):
+def add_ways(words, **compiler):
     """The options by which sources are compiled and brought."""
-    words.add_argument("--compiler", default="gcc")
+    words.add_argument("--compiler", **(compiler or {"default": "gcc"}))
     words.add_argument("--mapping")
     words.add_argument("--fences", choices=columns.FENCES, default="all")
     words.add_argument("--flag", action="append", default=[])
+    words.add_argument("--init", action="append", default=[])
+    words.add_argument("--input", action="append", default=[])
     words.add_argument("--lines", action="store_true")
 
 
@@ -134,8 +141,7 @@ def brought(files, way, tool="from-object", language=None):
         modules, question, (told, sources) = modules_of(files, way, folder, language)
         is_compiled = any((language or languages.known(file)) not in (OBJECT, RUST) for file in files)
         told = [f"tools/{tool} {names} {way.words(is_compiled=is_compiled)}".rstrip(), *told]
-        return litmus_texts.litmus_text(modules, question, way.harts, way.compiler, way.fences,
-                                        noted(sources) if way.lines else None, told, tuple(sources))
+        return litmus_texts.litmus_text(modules, question, way, noted(sources) if way.lines else None, told, tuple(sources))
 
 
 def modules_of(files, way, folder, language=None):

@@ -51,8 +51,8 @@ class Memory:
         self.volatile = {part.name for each in objects for part in each.parts if part.is_volatile}
         # all of these, and where objects inside begin that have parts
         self.starts = {name: each.at + at for each in objects for name, at in each.begins.items()} | self.begins
-        # the objects of which all that is in no part is padding, and the first byte of each hart's stack
-        self.whole, self.stacks = {each.name for each in objects if each.is_whole}, {}
+        # the objects of which all that is in no part is padding, the first byte of each hart's stack, and of inputs their bytes
+        self.whole, self.stacks, self.inputs = {each.name for each in objects if each.is_whole}, {}, []
         called = self.called_by_parts(objects)
         words = [(each.at // 4 + at, each.name, at) for each in objects for at in range((each.size + 3) // 4 or 1)]
         for place, name, at in sorted(words, key=lambda word: word[2]):
@@ -159,10 +159,10 @@ class Memory:
             self.values.append(0)
         return 4 * len(self.values)
 
-    def check_size(self):
-        """Refuses more words than the machine has, and one past those that have names that doesn't open as 0."""
-        if len(self.values) > WORDS:
-            raise Refused(f"{len(self.values)} words of data and stacks: the machine has {WORDS}")
+    def check_size(self, room=4 * WORDS):
+        """Refuses more words than fit into `room` bytes, and one past those that have names that doesn't open as 0."""
+        if 4 * len(self.values) > room:
+            raise Refused(f"{len(self.values)} words of data and stacks: the machine has {room // 4}" + " beside what --input names" * (room < 4 * WORDS))
         if wrong := next((at for at in range(LOCATIONS, len(self.values)) if self.values[at]), None):
             raise Refused(f"the word at {4 * wrong} opens as {self.values[wrong]}, and ztso names {LOCATIONS} words: what lies past them opens as 0")
 

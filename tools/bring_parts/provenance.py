@@ -1,5 +1,5 @@
-"""What built a program. Programs of a checkout are known by their bytes, and others by a mark beside them, which scripts/install and
-scripts/make-package write: a word, and the digest of the program that it is said of."""
+"""What built a program. Of one that rustc built its bytes say so, wherever it lies. Other programs of a checkout are known by their bytes, and others by a
+mark beside them, which scripts/install and scripts/make-package write: a word, and the digest of the program that it is said of."""
 
 import hashlib
 import subprocess
@@ -10,6 +10,8 @@ MARK = "built"
 PROVED, BY_RUSTC, UNKNOWN = "proved", "rustc", "unknown"
 # what is said of a program of which nothing is proved
 SAID = {BY_RUSTC: "built by rustc, and nothing is proved of it", UNKNOWN: "what built it isn't known, so nothing of it is taken as proved"}
+# what stands in each program that rustc built: stock/stand_ins/kit_std/src/start.rs
+OF_RUSTC = b"ztso: built by rustc, and nothing is proved of this program"
 # the programs of a checkout
 KEPT, STOCK = "crates/ztso/out/ztso", ("stock/out/ztso", "stock/out/ztso-unoptimized", "stock/out/ztso-checked")
 
@@ -24,8 +26,10 @@ def mark_of(path):
 
 
 def kind_of(path):
-    """What built a program, as far as that is known: in a checkout by its bytes, elsewhere by the mark beside it, if that is of these very
-    bytes."""
+    """What built a program, as far as that is known: by what its bytes say, in a checkout by the place of these bytes, elsewhere by the mark beside it, if
+    that is of these very bytes."""
+    if OF_RUSTC in Path(path).read_bytes():
+        return BY_RUSTC
     digest = digest_of(path)
     if is_file_of(digest, KEPT) and subprocess.run([ROOT / "scripts/build", "--is-current"], stdin=subprocess.DEVNULL, check=False).returncode == 0:
         return PROVED

@@ -23,8 +23,12 @@ SHORT = re.compile(r"^(?:\S*-)?(gcc|g\+\+) |(?<= )([0-9]+\.[0-9]+)\.[\w.]+")
 NOTED = re.compile(r"    P(?P<hart>\d+) (?:(?P<file>[\w.+-]+):)?(?P<line>\d+): (?P<text>.*)")
 # what a header's name ends in
 HEADERS = (".h", ".hh", ".hpp", ".hxx", ".inc", ".ipp")
+# a line of a source that tests how wide registers are, a header that one includes, and files that are no sources
+WIDTH = re.compile(r"^[ \t]*#[ \t]*(?:el)?if\w*\b.*\b(__riscv_xlen|__LP64__|__SIZEOF_POINTER__)\b|\b(target_pointer_width)\b")
+INCLUDED = re.compile(r'^[ \t]*#[ \t]*include[ \t]*["<](?:.*/)?([^/">]+)[">]', re.M)
+BINARY = (".o", ".litmus")
 # options by which a text has other code than the compiler makes by itself
-OPTION = re.compile(r" --(?:mapping (?P<mapping>\S+)|fences (?P<fences>none|full)(?!\S))")
+OPTION = re.compile(r" --(?:mapping (?P<mapping>\S+)|fences (?P<fences>none|full)(?!\S)|init (?P<init>\S+)|input (?P<input>\S+))")
 FENCES = {"none": "", "full": " that aren't full"}
 
 
@@ -50,11 +54,25 @@ def made_of(text):
     return sources, [*dict.fromkeys(compilers_in(" ".join(shape[1].split())))]
 
 
-def changes_of(text):
-    """What is said of options by which a text has other code than the compiler makes by itself."""
+def options_of(text, name):
+    """What stands after an option in the comment that says how a text was made."""
     shape = MADE.match(text)
-    for option in OPTION.finditer(" ".join(shape[1].split())) if shape else ():
-        yield f", by the mapping {option['mapping']}" if option["mapping"] else f", without its fences{FENCES[option['fences']]}"
+    return [option[name] for option in OPTION.finditer(" ".join(shape[1].split())) if option[name]] if shape else []
+
+
+def opened(text):
+    """What is said of init functions that ran before the harts, and of places from which any value may be loaded."""
+    if inits := options_of(text, "init"):
+        yield f"after {listed([f'{name}()' for name in inits])}"
+    if inputs := options_of(text, "input"):
+        yield f"with any value in {listed(inputs)}"
+
+
+def changes_of(text):
+    """What is said of options by which a text has other code than the compiler makes by itself, or opens otherwise."""
+    yield from (f", by the mapping {mapping}" for mapping in options_of(text, "mapping"))
+    yield from (f", without its fences{FENCES[fences]}" for fences in options_of(text, "fences"))
+    yield from (f", {each}" for each in opened(text))
 
 
 def sources_of(files, text, is_source):
@@ -68,6 +86,26 @@ def sources_of(files, text, is_source):
     titled = [name for name in names if Path(name).stem == text.partition("\n")[0].removeprefix("RISCV ")]
     first = names[0] if len(names) == 1 else titled[0] if len(titled) == 1 else None
     return {**found, None: found[first]} if first in found else found
+
+
+def headers_in(flags):
+    """The headers in the folders of -I, and in those that these have, by their names."""
+    folders = [Path(flag[2:]) for flag in flags if flag.startswith("-I")]
+    return {path.name: path for folder in folders for pattern in ("*/*", "*") for path in folder.glob(pattern) if path.suffix in HEADERS}
+
+
+def width_tests(files, sources):
+    """A line for the first one, of sources and of the headers that they include, that tests how wide registers are."""
+    todo = [Path(file) for file in files]
+    for path in todo:
+        if path.suffix in BINARY or not path.is_file():
+            continue
+        text = path.read_text(errors="replace")
+        todo += [found for name in INCLUDED.findall(text) if (found := sources.get(name)) and found not in todo]
+        for number, line in enumerate(text.split("\n"), 1):
+            if shape := WIDTH.search(line):
+                yield f"{path.name}:{number} tests {shape[1] or shape[2]}: only its code for RV32 was asked about"
+                return
 
 
 def to_source(sources, line):
@@ -119,19 +157,25 @@ def judge(program):
     return f"ztso{version}: {provenance.SAID.get(provenance.kind_of(program), PROVED)}"
 
 
+def command(words):
+    """The call, as it was typed."""
+    return shlex.join([typed("queue"), *words])
+
+
 @dataclass(frozen=True)
 class About:
-    """What an answer was asked of: the question, the compilers, what judged it, and the call."""
+    """What an answer was asked of: the question, the compilers, what judged it, the call, and how words open."""
     question: str
     where: str
     compilers: tuple
     judge: str
     command: str
+    opened: tuple
 
     @staticmethod
     def of(files, text, is_source, program, words):
-        return About(question(files, text, is_source), where(files, text, is_source), tuple(made_of(text)[1]), judge(program),
-                     shlex.join([typed("queue"), *words]))
+        return About(question(files, text, is_source), where(files, text, is_source), tuple(made_of(text)[1]), judge(program), command(words),
+                     tuple(opened(text)))
 
     def verdict(self, line):
         """A verdict as a line that stands alone."""

@@ -15,6 +15,8 @@ READ, WRITE = 2, 1
 RELEASE, ACQUIRE = 1, 2
 # of whom, what comes first and then, and what a fence must have before and after it
 ORDERS = (("sender", STORES, MOVES, WRITE, WRITE), ("receiver", LOOKS, LOADS, READ, READ), ("receiver", LOADS, MOVES, READ, WRITE))
+# and where a look at one tag tells of more positions: of whom it tells, who looks, that one's stores to tags, and this one's looks
+AHEAD = (("sender", "receiver"), ("receiver", "sender"))
 ALONE = "the order of the record and its index rests on Ztso alone"
 # the verdict where a fence is asked for and isn't there
 LACKING = "kept, but without the fences that are required"
@@ -39,7 +41,7 @@ class Party:
         self.judge, self.number, self.hart = judge, number, hart
         self.queue, self.states = judge.opened[number].queue, certificates.part_of(judge.listed, hart).states
         self.tags = tags.tags_of(judge.listed, hart)
-        self.steps, self.code = self.tags.steps, judge.opening.harts[hart][0]
+        self.steps, self.code, self.looks_ahead = self.tags.steps, judge.opening.harts[hart][0], False
         self.leaves = [[(self.does(known), [arrow.to for arrow in leaf.arrows if arrow.to < len(self.states)])
                         for known, leaf in certificates.leaves(listed.known, listed.cases)] for listed in self.states]
 
@@ -51,7 +53,9 @@ class Party:
         if self.judge.has_tags(self.number):
             tagged = self.number - self.judge.with_indices
             moves = stores and self.tags.moved_tag(known, place, width) == tagged
-            looks = loads and self.tags.tag_at(known, place, width, tagged) is not None
+            position = self.tags.tag_at(known, place, width, tagged)
+            looks = loads and position is not None
+            self.looks_ahead |= looks and position > self.tags.tag_share(known, tagged).owned.constant
         else:
             moves, looks = stores and self.steps.is_own_index(bounds, width, self.number), loads and self.steps.is_look(bounds, width, self.number)
         is_slot = not certificates.is_apart(bounds, width, self.queue.slots, self.queue.size * self.queue.width) and not (moves or looks)
@@ -121,34 +125,70 @@ def named(fences):
     return ", ".join(words[:SHOWN]) + ", .." * (len(words) > SHOWN)
 
 
-def line_of(party, first, then, found):
+@dataclass(frozen=True)
+class Order:
+    """Two accesses of a party of which the first is to come first, by what they do, and what stands between them."""
+    hart: int
+    first: str
+    then: str
+    between: Between
+
+    def does(self, index):
+        """What the hart does, in words."""
+        return f"{moved(self.first, index)} and then {moved(self.then, index)}"
+
+
+@dataclass(frozen=True)
+class Fences:
+    """What stands between the records of a queue and its indices, or tags: of each order that the states of its certificate have."""
+    number: int
+    index: str
+    orders: list
+
+    def lacking(self):
+        return [order for order in self.orders if not order.between.is_ordered()]
+
+    def are_all(self):
+        return not self.lacking()
+
+    def are_none(self):
+        return len(self.lacking()) == len(self.orders)
+
+    def by_hart(self):
+        harts = dict.fromkeys(order.hart for order in self.orders)
+        return {hart: {pc: fence for order in self.orders if order.hart == hart for pc, fence in order.between.fences.items()} for hart in harts}
+
+
+def of_queue(judge, number):
+    """What stands between the records of a queue and its indices."""
+    queue = judge.opened[number].queue
+    parties = {name: Party(judge, number, getattr(queue, name)) for name in ("sender", "receiver")}
+    ahead = [order for teller, looker in AHEAD if parties[looker].looks_ahead
+             for order in ((teller, MOVES, MOVES, WRITE, WRITE), (looker, LOOKS, LOOKS, READ, READ))]
+    found = [Order(parties[whose].hart, first, then, parties[whose].between(first, then, before, after)) for whose, first, then, before, after in (*ORDERS, *ahead)]
+    return Fences(number, "tag" if judge.has_tags(number) else "index", [each for each in found if each.between.fences or each.between.lack])
+
+
+def of_answer(judge):
+    """The same of each queue of a certificate."""
+    return [of_queue(judge, number) for number in range(len(judge.opened))]
+
+
+def line_of(judge, fences, order):
     """What is said of two accesses and what stands between."""
-    index = "tag" if party.judge.has_tags(party.number) else "index"
-    front = f"queue {party.number}: hart {party.hart} {moved(first, index)} and then {moved(then, index)}"
-    if found.is_ordered():
-        return f"{front}, on each way with {named(found.fences)} between"
-    before, after = (party.judge.place(party.hart, pc).removeprefix(f"hart {party.hart} at ") for pc in found.lack)
+    front = f"queue {fences.number}: hart {order.hart} {order.does(fences.index)}"
+    if order.between.is_ordered():
+        return f"{front}, on each way with {named(order.between.fences)} between"
+    before, after = (judge.place(order.hart, pc).removeprefix(f"hart {order.hart} at ") for pc in order.between.lack)
     return f"{front} with no fence, .aq or .rl between: {before}, and {after}"
 
 
-def of_queue(judge, number, is_required):
-    """The lines of a queue, and whether each order has a fence."""
-    queue, front = judge.opened[number].queue, f"queue {number}:"
-    parties = {name: Party(judge, number, getattr(queue, name)) for name in ("sender", "receiver")}
-    found = [(parties[whose], first, then, parties[whose].between(first, then, before, after)) for whose, first, then, before, after in ORDERS]
-    found = [each for each in found if each[-1].fences or each[-1].lack]
-    ordered, kind = [each[-1].is_ordered() for each in found], "tags" if judge.has_tags(number) else "indices"
-    if all(ordered):
-        of = [(party.hart, between.fences) for party, *_, between in found]
-        by_hart = {hart: {pc: fence for other, fences in of if other == hart for pc, fence in fences.items()} for hart, _ in of}
-        each = "; ".join(f"hart {hart} {named(fences)}" for hart, fences in by_hart.items())
-        return [f"{front} between records and {kind} stand fences on each way: {each}"] * bool(found), True
-    if not any(ordered) and not is_required:
-        return [f"{front} no fence, .aq or .rl stands between records and {kind}: {ALONE}"], False
-    return [*(line_of(*each) for each in found), f"{front} {ALONE}" + ", where nothing stands between" * any(ordered)], False
-
-
-def of_answer(judge, is_required):
-    """The lines of all queues of a certificate, and whether each order of each has a fence."""
-    found = [of_queue(judge, number, is_required) for number in range(len(judge.opened))]
-    return [line for lines, _ in found for line in lines], all(is_ordered for _, is_ordered in found)
+def lines(judge, fences, is_required):
+    """The lines of a queue."""
+    front, kind = f"queue {fences.number}:", {"tag": "tags", "index": "indices"}[fences.index]
+    if fences.are_all():
+        each = "; ".join(f"hart {hart} {named(found)}" for hart, found in fences.by_hart().items())
+        return [f"{front} between records and {kind} stand fences on each way: {each}"] * bool(fences.orders)
+    if fences.are_none() and not is_required:
+        return [f"{front} no fence, .aq or .rl stands between records and {kind}: {ALONE}"]
+    return [*(line_of(judge, fences, order) for order in fences.orders), f"{front} {ALONE}" + ", where nothing stands between" * (not fences.are_none())]

@@ -1,8 +1,10 @@
 """What helps after an answer of `ztso queue`."""
 
 import re
+from dataclasses import dataclass
 
 from bring_parts import listed
+from bring_parts.queue_said import Drawn, RecordsNotShown, Said, Stands, Together, Unused
 from bring_parts.queue_types import counted, ranges_in
 from bring_parts.queue_uncovered import of_uncovered
 from bring_parts.queue_words import word_of_count
@@ -18,11 +20,11 @@ import queue_questions
 from queues import Judge
 from words import text as text_of_instruction
 
-NO_USE = re.compile(r"no instruction of hart [0-9]+ (loads from|stores to) a slot of queue ([0-9]+)")
 # the instructions of each use, and the word for one
 USES = {"loads from": ("load", assembly.LOADS), "stores to": ("store", assembly.STORES)}
 REMEDIES = {"loads from": "the compiler leaves out a load whose value nobody uses: store what was received to a volatile object, or return it",
             "stores to": "the compiler leaves out a store that nobody can read: let both functions use one global object"}
+NEVER = "in any state: it waits there for ever, or the test always goes one way"
 # what `likely:` says of an index, and what that is of a queue with tags
 TAGS = {"another count to its index": "of a queue with tags: it may store a part of a tag, or a tag that doesn't hand its own position over",
         "the other party's index": "of a queue with tags: what a tag that it loads may tell leads to a state that isn't listed"}
@@ -31,14 +33,7 @@ FIT = "another protocol may fit: "
 OTHERS = ("of a triple buffer, a seqlock, a lock or several senders ask for outcomes, with from-object and find: "
           "docs/queues.md, \"If it isn't one of these\"")
 BROKEN = re.compile(r"queue ([0-9]+): it stored ")
-DRAWN = re.compile(r"queue ([0-9]+): kept in ([0-9]+) drawn runs of ([0-9]+) events, in which ([0-9]+) positions were published")
 QUEUE = re.compile(r"^(queue|tagged) (.*)$", re.MULTILINE)
-# bytes of records that aren't shown to be written, or read, with the option that asks for them
-UNSHOWN = re.compile(r"^queue [0-9]+: not shown that bytes? .* (written|read): ", re.MULTILINE)
-# a party that isn't shown to go on, the indices that each moves and looks at, and what keeps a compiler from dropping a look
-STUCK = re.compile(r"^queue ([0-9]+): not shown that hart ([0-9]+) (publishes|takes), or (finds|looks) ", re.MULTILINE)
-# one that goes on in all its queues together
-TOGETHER = re.compile(r"^queue [0-9]+: hart ([0-9]+) moves on in this or another of its queues, ", re.MULTILINE)
 INDICES = {"publishes": ("head", "tail"), "takes": ("tail", "head")}
 VOLATILE = "declare it volatile or atomic"
 # to which length longer runs are proposed, how many of them, and to how many counts an index is thought to turn in one
@@ -78,29 +73,48 @@ def reaches(code, at, names):
     return any(code[each][0] in names for each in seen)
 
 
-def of_use(number, use, certificate, test):
-    """What helps where no state of a queue's party uses its slots: a test that never lets the hart go on to where it may, or what the compiler left
-    out. Without the text only this."""
-    if not test:
-        yield REMEDIES[use]
-        return
+@dataclass(frozen=True)
+class Held:
+    """A branch of a party after which no state of its certificate uses its slots, and which use that is."""
+    hart: int
+    pc: int
+    what: str
+    instruction: str
+
+    def does(self):
+        return f"reaches no {self.what} after"
+
+    def line(self):
+        return f"hart {self.hart} {self.does()} pc {self.pc}, {self.instruction}, {NEVER}"
+
+
+def held(number, use, certificate, test):
+    """The branch that never lets a party go on to where it may use its slots, or None."""
     queue, (what, names) = queues_of(certificate)[number], USES[use]
     hart = queue.sender if what == "store" else queue.receiver
     code, names = test.codes[hart], {*names, *assembly.AMOS.values()}
-    places, moves = states_of(certificate, hart)
+    places, _ = states_of(certificate, hart)
     ways = [(at, to) for at in sorted(places) if at < len(code) and code[at][0] in assembly.BRANCHES for to in nexts(code, at) - places]
-    held = next((at for at, to in ways if reaches(code, to, names)), None)
-    if held is not None:
-        yield (f"hart {hart} reaches no {what} after pc {4 * held}, {text_of_instruction(code[held], None)}, in any state: it waits there for ever, or "
-               "the test always goes one way")
-    if held is None or moves:
-        yield "or " * (held is not None) + REMEDIES[use]
+    found = next((at for at, to in ways if reaches(code, to, names)), None)
+    return None if found is None else Held(hart, 4 * found, what, text_of_instruction(code[found], None))
+
+
+def of_use(number, use, certificate, test):
+    """What helps where no state of a queue's party uses its slots: a branch after which it might, and what the compiler left out. Without the text only
+    this."""
+    found = held(number, use, certificate, test) if test else None
+    if found:
+        yield found
+    queue = queues_of(certificate)[number]
+    party = queue.sender if USES[use][0] == "store" else queue.receiver
+    if not found or states_of(certificate, party)[1]:
+        yield "or " * bool(found) + REMEDIES[use]
 
 
 def of_unused(answer, certificate, test):
     """The same of an answer: that a queue's sender stores to no slot of it, or its receiver loads from none."""
-    if shape := NO_USE.search(answer):
-        yield from of_use(int(shape[2]), shape[1], certificate, test)
+    for unused in Said(answer).all(Unused):
+        yield from of_use(unused.queue, unused.use, certificate, test)
 
 
 def of_wraps(texts):
@@ -131,7 +145,7 @@ def is_met(place, width, stored):
 def loaded(judge, number):
     """The words of a hart's own, each its first byte and its bytes, that it loads for more than what it stores to others' words; and where it stores."""
     hart, own = queue_questions.Hart(judge.opening, judge.listed, number), {(each.at, each.width) for each in judge.listed.harts[number].own}
-    stores = [(judge.pc(number, state), where) for state, where in hart.stores()]
+    stores = [(judge.pc(number, state), where) for state, where in hart.touches(stores=True)]
     needed = needed_of(hart.code, {pc for pc, where in stores if any(is_met(*each, [where]) for each in own)}).registers
     found = set()
     for _, known in hart.leaves:
@@ -151,8 +165,8 @@ def of_constants(judge, types):
     names = list(dict.fromkeys(name for name in names if name and types.is_volatile(name)))
     if names:
         which, they, one = ("which are", "each", "one") if len(names) > 1 else ("which is", "it", "it")
-        yield (f"no hart stores to {listed(names)}, {which} volatile or atomic: in every run {they} is what it opens as. Where {one} is an input, let a "
-               "further hart store to it")
+        yield (f"no hart stores to {listed(names)}, {which} volatile or atomic: in every run {they} is what it opens as. Where {one} is an input: --input "
+               f"{names[0] if len(names) == 1 else 'NAME'}")
 
 
 def counting(queue):
@@ -171,6 +185,7 @@ def bits_told(tells):
 def or_described_wrong(number, queue):
     """What is to be looked at where a queue is broken."""
     slots = f"{counted(queue.size, 'slot')} of {counted(queue.width, 'byte')}"
+    has_more = queue.has_tags and queue.has_tags_apart() and queue.tag_stride > queue.tag_width
     if queue.has_tags:
         told = {"zero": "0 where it is free", "number": "the position's number where it is free"}.get(queue.tells) or bits_told(queue.tells)
         of_each = f"element of {counted(queue.tag_stride, 'byte')} from {queue.tags} on" if queue.has_tags_apart() else ""
@@ -180,7 +195,8 @@ def or_described_wrong(number, queue):
         form = f"{slots} with indices of {counted(queue.index_width, 'byte')} {counting(queue)}"
         keys = (f"size=, width=, bytes=, index={'counting' if queue.modulus == queue.size else 'wrapping'}, whether head= and tail= are exchanged, and "
                 f"sender={queue.receiver},receiver={queue.sender} if P{queue.receiver} sends")
-    return f"if queue {number} isn't {form}, the fault is in its description: see {keys}"
+    beside = "; no store to an element's other bytes is of this protocol: words beside a tag belong into its slot"
+    return f"if queue {number} isn't {form}, the fault is in its description: see {keys}{beside * has_more}"
 
 
 def of_tags(line, queues):
@@ -189,15 +205,37 @@ def of_tags(line, queues):
         yield from (meant for index, meant in TAGS.items() if index in line)
 
 
-def longer(number, queue, drawn):
+@dataclass(frozen=True)
+class Longer:
+    """Longer runs to draw of a queue: how many positions one published, how many one turn of its slots or its index has, and how many events and runs."""
+    number: int
+    published: float
+    turn: int
+    of: str
+    length: int
+    runs: int
+
+    def options(self):
+        return f"--length {self.length} --runs {self.runs}"
+
+    def line(self):
+        return (f"queue {self.number}: the runs published about {self.published:g} positions each, and one turn of its {self.of} is {self.turn}: try "
+                f"{self.options()}")
+
+
+def longer(queue, drawn):
     """What to try where drawn runs of a queue that isn't shown came only so far, or None."""
-    runs, length, published = map(int, drawn)
     turn = queue.size if queue.has_tags or queue.modulus > MOST_COUNTS else max(queue.size, queue.modulus)
-    proposed = min(LONGEST, 1000 * -(-2 * turn * length * runs // (max(published, 1) * 1000)))
-    if published >= 2 * turn * runs or proposed <= length:
+    proposed = min(LONGEST, 1000 * -(-2 * turn * drawn.length * drawn.runs // (max(drawn.published, 1) * 1000)))
+    if drawn.published >= 2 * turn * drawn.runs or proposed <= drawn.length:
         return None
-    return (f"queue {number}: the runs published about {round(published / runs, 1):g} positions each, and one turn of its "
-            f"{'slots' if turn == queue.size else 'index'} is {turn}: try --length {proposed} --runs {FEW_RUNS}")
+    return Longer(drawn.queue, round(drawn.published / drawn.runs, 1), turn, "slots" if turn == queue.size else "index", proposed, FEW_RUNS)
+
+
+def of_longer(answer, certificate):
+    """The longer runs that may decide of the queues of an answer."""
+    queues = queues_of(certificate)
+    return [*filter(None, (longer(queues[drawn.queue], drawn) for drawn in Said(answer).all(Drawn)))]
 
 
 def added(lines, certificate):
@@ -214,17 +252,17 @@ def added(lines, certificate):
 
 def at_end(answer, found, notes, certificate, test=None):
     """What helps at the end of an answer. `found` is what tools/certify says of the harts, and `test` the text's."""
-    queues, drawn = queues_of(certificate), [shape.groups() for shape in map(DRAWN.match, answer.splitlines()) if shape]
+    queues = queues_of(certificate)
     is_broken = answer.startswith(("broken", "does not keep"))
     if not is_broken:
-        yield from of_unused(answer, certificate, test)
+        yield from (each.line() if isinstance(each, Held) else each for each in of_unused(answer, certificate, test))
     yield from dict.fromkeys(of_uncovered(found, notes, queues, test, is_broken))
-    yield from filter(None, (longer(int(number), queues[int(number)], numbers) for number, *numbers in drawn))
+    yield from (each.line() for each in of_longer(answer, certificate))
 
 
 def of_asked(answer, by_types, unsaid):
     """What is said where bytes of records aren't shown to be written, or read, and nobody named these: by these options they weren't said."""
-    found = [option for option in dict.fromkeys(UNSHOWN.findall(answer)) if option in unsaid]
+    found = [option for option in dict.fromkeys(each.use for each in Said(answer).all(RecordsNotShown)) if option in unsaid]
     if by_types and found:
         asked = "all bytes of a record are asked for since by the types none is" if by_types == "all" else (
             f"bytes {by_types} of a record are asked for since by the types they aren't")
@@ -236,24 +274,42 @@ def of_asked(answer, by_types, unsaid):
 def looks_of(number, hart, text, certificate):
     """The pcs at which a hart loads the other party's index."""
     judge = Judge(litmus.read(text), certificate)
-    graph = progress.graph_of(judge.opening, judge.listed, hart, number)
-    return sorted({judge.pc(hart, state) for state, stays in enumerate(graph) if any(stay.looks for stay in stays)})
+    party = progress.Hart(judge.opening, judge.listed, hart)
+    return sorted({judge.pc(hart, state) for state, leaves in enumerate(party.leaves) if any(party.looks(number, leaf) for leaf in leaves)})
 
 
-def of_party(number, hart, moves, missed, text, certificate):
+class Indices:
+    """What indices are called without a source, and whether a compiler may drop accesses to one."""
+
+    @staticmethod
+    def called(number, index):
+        return f"{index} of queue {number}"
+
+    @staticmethod
+    def may_be_dropped(*_):
+        return True
+
+
+def of_party(stands, text, certificate, indices):
     """A line for a party that isn't shown to go on, by its code, or None."""
-    own, other = INDICES[moves]
+    number, hart = stands.queue, stands.hart
     of_hart = queues_with(hart, certificate)
     if len(of_hart) > 1:
         return f"hart {hart} is a party of queues {listed(of_hart)}: where it may wait for another, ask with --safety"
+    if queues_of(certificate)[number].has_tags:
+        return None  # its certificate doesn't say what moves
+    (own, own_may), (other, other_may) = ((indices.called(number, index), indices.may_be_dropped(number, index)) for index in INDICES[stands.moves])
     if not states_of(certificate, hart)[1]:
-        return f"no instruction of hart {hart} moves {own} of queue {number}: if the compiler dropped the store, {VOLATILE}"
-    if missed == "finds":
+        return f"no instruction of hart {hart} moves {own}" + f": if the compiler dropped the store, {VOLATILE}" * own_may
+    if stands.finds.startswith("finds "):
         return None
     pcs = looks_of(number, hart, text, certificate)
     if not pcs:
-        return f"hart {hart} never looks at {other} of queue {number}: if the compiler dropped the load, {VOLATILE}"
-    return f"hart {hart} looks at {other} of queue {number} only at pc {' and '.join(map(str, pcs))}, and waits without a look: {VOLATILE}"
+        return f"hart {hart} never looks at {other}" + f": if the compiler dropped the load, {VOLATILE}" * other_may
+    looks = f"looks at {other} only at pc {' and '.join(map(str, pcs))}"
+    if other_may:
+        return f"hart {hart} {looks}, and waits without a look: {VOLATILE}"
+    return f"if hart {hart} waits there for an input, ask with --safety: it {looks}"
 
 
 def of_several(hart, certificate):
@@ -262,8 +318,9 @@ def of_several(hart, certificate):
             "--safety asks for the protocol alone")
 
 
-def of_stuck(answer, text, certificate):
+def of_stuck(answer, text, certificate, indices=Indices):
     """Lines for the parties of an answer that aren't shown to go on, where their code says why. `text` is the litmus text."""
-    found = [of_party(int(number), int(hart), moves, missed, text, certificate) for number, hart, moves, missed in STUCK.findall(answer)]
-    found += [of_several(int(hart), certificate) for hart in TOGETHER.findall(answer)]
+    said = Said(answer)
+    found = [of_party(each, text, certificate, indices) for each in said.all(Stands)]
+    found += [of_several(each.hart, certificate) for each in said.all(Together)]
     yield from dict.fromkeys(line for line in found if line)

@@ -1,7 +1,6 @@
 """An answer about queues as a folder to keep: a page without scripts, the same for scripts as JSON, and the files that belong to it. The
 picture of its schedule's run is the program's, with the sources' lines; two of its rows are marked."""
 
-import json
 import os
 import re
 import shlex
@@ -11,14 +10,17 @@ from html import escape
 from pathlib import Path
 from urllib.parse import quote
 
-from bring_parts import Refused, c_lines, plain, put, text_of, texts, typed
+from bring_parts import Refused, c_lines, plain, put, queue_data, text_of, texts, typed
 from bring_parts.queue_asked import About
+from bring_parts.queue_short import Short
 from page_parts import links
 
 import schedules
 from machine import Machine
 
 PAGE, DATA = "index.html", "answer.json"
+# the files of the program's schedule, and of the run of which the answer tells
+SCHEDULE, SHOWN = ".schedule", ".shown.schedule"
 STEPPER = "page"
 NEWLINE, WRAPS = "\n", " class='wraps'"
 # the last event of a run that breaks the protocol, and of one that loses a record, and what is stored where it loads or stores
@@ -44,7 +46,7 @@ dt{font-weight:bold}dd{margin:0 0 .5rem;overflow-wrap:anywhere}
 @dataclass(frozen=True)
 class Report:
     """What a report has: the status, the verdict without of what it is, what was asked, the queues' descriptions, the files, the answer's
-    schedule, or None, and the stores that a buffer holds."""
+    schedule, or None, the stores that a buffer holds, and the answer for a person."""
     status: int
     verdict: str
     about: About
@@ -53,6 +55,11 @@ class Report:
     certificate: Path
     schedule: str
     buffer: int
+    short: Short
+
+    def drawn(self):
+        """The schedule of the run that is drawn: that of which the answer tells, or the program's."""
+        return self.short.shown.schedule if self.short.shown else self.schedule
 
 
 def check_folder(folder):
@@ -79,8 +86,10 @@ def accesses_in(test, buffer, steps):
 
 
 def marks_of(test, report):
-    """The rows that are marked: what breaks the protocol, or loses a record, which is the schedule's last event, and the last store before it to
-    any of its bytes."""
+    """The rows that are marked: what the answer tells of; else what breaks the protocol, or loses a record, which is the schedule's last event, and the last
+    store before it to any of its bytes."""
+    if report.short.shown:
+        return report.short.shown.rows()
     accesses = list(accesses_in(test, report.buffer, schedules.read_steps(report.schedule)))
     if not accesses:
         return {}
@@ -92,7 +101,7 @@ def marks_of(test, report):
 def picture_of(report, program):
     """The picture of the schedule's run, with the marks, and these."""
     test = texts.read(text_of(report.text), report.text).test
-    drawn = c_lines.picture(program, report.text, test, report.schedule, report.buffer, ["--memory", "--svg"])
+    drawn = c_lines.picture(program, report.text, test, report.drawn(), report.buffer, ["--memory", "--svg"])
     marks = marks_of(test, report)
     return c_lines.marked_svg(drawn, marks), marks
 
@@ -103,7 +112,7 @@ def pre(text, is_wide=True):
 
 def stepped(report):
     """The page's part with the command that opens the schedule's run in a browser, or nothing of one that is too long for a link."""
-    link = links.run_of(text_of(report.text), report.schedule, report.buffer)
+    link = links.run_of(text_of(report.text), report.drawn(), report.buffer)
     if len(link) > links.LONGEST:
         return ""
     return f"<p>This steps through it in your browser:</p>\n{pre(f'{typed(STEPPER)} --open {shlex.quote(link)}', is_wide=False)}\n"
@@ -111,9 +120,10 @@ def stepped(report):
 
 def run_of(report, drawn):
     """The page's part with the schedule's run, below its picture or what is said in its place."""
-    title = "breaks it" if report.status == OTHER_PROTOCOL else "loses a record"
-    call = escape(f"ztso chart {report.text.name} {report.text.stem}.schedule --buffer {report.buffer}")
-    return (f"<h2>A run that {title}</h2>\n{drawn}\n{pre(report.schedule, is_wide=False)}\n"
+    title = "takes a record too early" if report.short.shown else "breaks it" if report.status == OTHER_PROTOCOL else "loses a record"
+    suffix = SHOWN if report.short.shown else SCHEDULE
+    call = escape(f"ztso chart {report.text.name} {report.text.stem}{suffix} --buffer {report.buffer}")
+    return (f"<h2>A run that {title}</h2>\n{drawn}\n{pre(report.drawn(), is_wide=False)}\n"
             f"<p>In this folder <code>{call}</code> draws it.</p>\n{stepped(report)}")
 
 
@@ -147,7 +157,9 @@ def page_of(report, lines, run, files):
 <h1 class="{KINDS.get(report.status, 'unshown')}">{verdict}</h1>
 <dl>
 {shown}</dl>
-{run}<h2>The answer</h2>
+<h2>The answer</h2>
+{pre(NEWLINE.join(report.short.lines()), is_wide=False)}
+{run}<h2>All its lines</h2>
 {pre(NEWLINE.join(lines), is_wide=False)}
 <h2>What it was asked of</h2>
 {pre(text_of(report.text))}
@@ -159,24 +171,23 @@ def page_of(report, lines, run, files):
 """
 
 
-def data_of(report, lines):
-    """The answer for scripts."""
-    return json.dumps({"status": report.status, "verdict": report.verdict, "lines": lines, "queues": report.queues, "asked": report.about.asked(),
-                       "program": report.about.judge, "compiler": ", ".join(report.about.compilers) or None, "command": report.about.command,
-                       "schedule": report.schedule}, indent=1) + "\n"
-
-
-def write(folder, report, lines, program):
-    """Writes the report: each file is made beside the folder first, so that a fault leaves none of them there."""
-    folder = Path(folder).resolve()
+def write(folder, report, data, program):
+    """Writes the report, with these data for scripts."""
     texts_by_name = {report.text.name: text_of(report.text), report.certificate.name: text_of(report.certificate)}
     picture, run = drawn_in(report, program) if report.schedule else (None, "")
     if report.schedule:
-        texts_by_name |= {f"{report.text.stem}.schedule": report.schedule}
+        texts_by_name |= {f"{report.text.stem}{SCHEDULE}": report.schedule}
+    if report.short.shown:
+        texts_by_name |= {f"{report.text.stem}{SHOWN}": report.short.shown.schedule}
     if picture:
         texts_by_name |= {f"{report.text.stem}.svg": picture}
-    texts_by_name |= {DATA: data_of(report, lines)}
-    texts_by_name |= {PAGE: page_of(report, lines, run, texts_by_name)}
+    texts_by_name |= {DATA: queue_data.text(data)}
+    put_all(folder, texts_by_name | {PAGE: page_of(report, data["lines"], run, texts_by_name)})
+
+
+def put_all(folder, texts_by_name):
+    """Writes the files: each is made beside the folder first, so that a fault leaves none of them there."""
+    folder = Path(folder).resolve()
     made = folder.with_name(f".{folder.name}.{os.getpid()}")
     try:
         for name, text in texts_by_name.items():

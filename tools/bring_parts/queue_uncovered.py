@@ -1,28 +1,25 @@
 """Why a hart of which `tools/certify` found nothing isn't covered, as far as its code tells: what the tools' own code does, a tag that is tested by some
 of its bits, and a length that is read from a slot. What a hart loads from slots is taken from drawn runs; nothing is claimed of others."""
 
-import re
 from collections import defaultdict
 
+from bring_parts import queue_runs
+from bring_parts.queue_said import Uncovered, values_of
 from bring_parts.queue_words import support_function
 
 import assembly
-import draws
 import machine
 from words import text as text_of_instruction
 
-REFUSED = re.compile(r"hart ([0-9]+) is not covered: (?:at pc ([0-9]+))?")
 DIVIDES = ("`%` and `/` by what is no power of two are loops here if the quotient is above 1, and of the result nothing is known: count as in "
            "`i + 1 == N ? 0 : i + 1`, with index=wrapping, or take N slots that are a power of two")
 COPIES = "a copy by a loop, as memcpy's is here, and that of a large struct, isn't covered: assign the record's fields one by one"
-LENGTHS = ("hart {hart} takes a length from a slot, {place}: records of different lengths aren't covered, since of what a slot holds nothing is known: let all "
-           "have one length")
-BITS = ("hart {hart} decides by some bits of a tag, as `status & OWN` does, at {place}: with tells=zero and tells=number the whole tag tells; where some of its "
-        "bits do, say tells=bit:MASK")
+LENGTHS = ("hart {hart} takes a length from a slot, {place}: records of different lengths aren't covered, since of what a slot holds nothing is known: let "
+           "all have one length")
+BITS = ("hart {hart} decides by some bits of a tag, as `status & OWN` does, at {place}: with tells=zero and tells=number the whole tag tells; where some of "
+        "its bits do, say tells=bit:MASK")
 # the functions of the tools' own code that divide, and those that copy
 DIVISION, COPYING = {"divided", "size_of", "__udivsi3", "__umodsi3", "__divsi3", "__modsi3"}, {"memcpy", "memmove", "memset"}
-# how many runs are drawn, of how many events, with what buffers
-RUNS, LENGTH, SEED, BUFFER = 4, 2000, 1, 4
 # where a copy's count is
 COUNT = 12
 # instructions that take bits of a number, and branches by its sign
@@ -32,7 +29,7 @@ WHOLE = {-1, 0xFF, 0xFFFF}
 
 def of_uncovered(answer, notes, queues=(), test=None, is_broken=False):
     """What helps where the search found nothing of a hart, or, of a broken queue, says that it is another kind than the described one."""
-    refused = [(int(hart), int(pc) // 4 if pc else None) for hart, pc in REFUSED.findall(answer)]
+    refused = [(each.hart, None if each.pc is None else each.pc // 4) for each in values_of(answer.splitlines()) if isinstance(each, Uncovered)]
     seen = Accesses(test, queues) if test and refused else None
     for hart, at in refused:
         of_hart = [support_function(note) for note in notes[hart]] if hart < len(notes) else []
@@ -51,30 +48,21 @@ class Accesses:
 
     def __init__(self, test, queues):
         self.codes, self.queues, self.slots, self.tags, self.indices = test.codes, queues, defaultdict(set), defaultdict(set), defaultdict(set)
-        harts, engine = len(test.codes), machine.Machine(test, BUFFER)
-        events = [draws.event_of(k, harts) for k in range(2 * harts)]
-        for drawn in draws.runs_of(harts, RUNS, SEED, LENGTH, 0, "bursts"):
-            state = engine.opening
-            for k in drawn:
-                pc = state[0][k % harts][0]
-                outcome, is_entry, state = engine.step(state, events[k])
-                if is_entry:
-                    self.look(pc // 4, *outcome.split())
+        for _, entry, _ in queue_runs.drawn(test):
+            if entry.at is not None:
+                self.look(entry)
 
-    def look(self, at, kind, hart, *numbers):
-        """Takes notice of an entry."""
-        name, hart = kind.rstrip("12"), int(hart)
-        if name not in ("load", "store", "amo"):
-            return
-        place = int(numbers[0])
+    def look(self, entry):
+        """Takes notice of an access."""
+        at, place = entry.pc // 4, entry.at
         for queue in self.queues:
-            if name != "store" and queue.meets_slots(place, 1):
-                self.slots[hart].add(at)
-            if name != "store" and queue.has_tags and queue.meets_tags(place, 1):
+            if entry.is_load() and queue.meets_slots(place, 1):
+                self.slots[entry.hart].add(at)
+            if entry.is_load() and queue.has_tags and queue.meets_tags(place, 1):
                 if 0 <= (place - queue.tags) % queue.tag_stride - queue.tag_offset < queue.tag_width:
-                    self.tags[hart].add(at)
-            if name != "load" and not queue.has_tags and place in (queue.head, queue.tail):
-                self.indices[hart].add(at)
+                    self.tags[entry.hart].add(at)
+            if entry.is_store() and not queue.has_tags and place in (queue.head, queue.tail):
+                self.indices[entry.hart].add(at)
 
     def place(self, hart, at):
         return f"pc {4 * at}, {text_of_instruction(self.codes[hart][at], 0)}"

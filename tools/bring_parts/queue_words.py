@@ -2,9 +2,12 @@
 and the order of its parts."""
 
 import re
+from dataclasses import dataclass
 
 from bring_parts import compilers
 
+# an instruction that a line names, and what tools/certify says of a hart that is covered, which is how far the search came
+NAMED, COVERED = re.compile(r"hart (\d+)\b.*?\bpc (\d+),"), re.compile(r"hart [0-9]+: [0-9]+ states$")
 COUNT = re.compile(r"(queue [0-9]+: count n is the word )([0-9]+) \+ ([0-9]+) \* \(\(n \+ ([0-9]+)\) mod ([0-9]+)\)(.*)")
 ACCESS = re.compile(r"(queue [0-9]+: (?:stored to|loaded from) by hart ([0-9]+)) at pc ([0-9]+), (.*)")
 PLACED = re.compile(r"(queue [0-9]+: it (?:stored [0-9]+ to|loaded [0-9]+ from) )the ([0-9]+) bytes at ([0-9]+)(.*)")
@@ -18,6 +21,8 @@ PROMISED = re.compile(r"(?:not )?promised: |nothing is claimed$")
 SHOWN = "shown by this schedule"
 POWERS = {1 << 16: "2^16", 1 << 32: "2^32"}
 NOTE_OF_SUPPORT = re.compile(rf"{re.escape(compilers.SUPPORT.name)}:([0-9]+)")
+# a note of an instruction, which a text has in a comment
+NOTE = re.compile(r"(?:(?P<file>[\w.+-]+):)?(?P<line>\d+): (?P<text>.*)")
 # of this many calls of a function of the support code the lines are named
 CALLS = 3
 
@@ -117,15 +122,42 @@ def calls_of(code, notes, at):
     return goals.get(begin, [])
 
 
-def source_lines(hart, pc, notes, code):
-    """The lines for the source of an instruction: its own, or of the tools' own code where that is called from."""
+@dataclass(frozen=True)
+class Origin:
+    """The lines from which an instruction comes, as notes; of the tools' own code its function, and the lines that call that."""
+    function: str
+    lines: list
+
+
+def origin(hart, pc, notes, code):
+    """Where an instruction comes from."""
     note, at = note_at(notes, hart, pc), pc // 4
-    if not note:
-        return []
     function = support_function(note)
     if not function:
-        return [f"    P{hart} {note}"]
+        return Origin(None, [note] if note else [])
     places = calls_of(code, notes[hart], at) if code else []
-    called = [line for line in dict.fromkeys(notes[hart][place] for place in places) if line]
-    own = f"    in {function}, which is code of these tools and not of yours{': called by' if called else ''}"
-    return [own, *(f"    P{hart} {line}" for line in called[:CALLS]), *["    .."] * (len(called) > CALLS)]
+    return Origin(function, [line for line in dict.fromkeys(notes[hart][place] for place in places) if line])
+
+
+def source_lines(hart, pc, notes, code):
+    """The lines for the source of an instruction: its own, or of the tools' own code where that is called from."""
+    found = origin(hart, pc, notes, code)
+    named = [f"    P{hart} {line}" for line in found.lines]
+    if not found.function:
+        return named
+    own = f"    in {found.function}, which is code of these tools and not of yours{': called by' if named else ''}"
+    return [own, *named[:CALLS], *["    .."] * (len(named) > CALLS)]
+
+
+@dataclass(frozen=True)
+class Note:
+    """What a note says: a line's number and text, and the file's name, or None of the only one."""
+    file: str
+    line: int
+    text: str
+
+
+def note_of(note):
+    """The parts of a note, or None of one that names no line."""
+    shape = NOTE.fullmatch(note)
+    return Note(shape["file"], int(shape["line"]), shape["text"]) if shape else None

@@ -83,10 +83,20 @@ class Writer:
 
     def opening(self, variable, at):
         kind, which = variable
-        start = self.program.start.shares[which]
         if kind == "n":
-            return start.count // (self.program.queues[which].period() * self.program.queues[which].turns())
-        return {"p": start.first, "t": start.begin, "A": start.low}[kind] - self.layouts[at].begin(variable)
+            return self.at_start(kind, which) // (self.program.queues[which].period() * self.program.queues[which].turns())
+        first, multiples = self.put_for(variable, at, self.program.start)
+        return first + sum(m * self.at_start(*each) for each, m in multiples) - self.layouts[at].begin(variable)
+
+    def at_start(self, kind, which):
+        """The number of a variable of the search with which a hart opens."""
+        share = self.program.start.shares[which]
+        return {"n": share.count, "p": share.first, "t": share.begin, "A": share.low}[kind]
+
+    def put_for(self, variable, to, state):
+        """The number and the multiples of variables of a state that are put for a variable of the one that covers it."""
+        kind, which = variable
+        return handed.put_for(which, self.states[to], state, self.program) if kind == "w" else (0, [(variable, 1)])
 
     def tree(self, tree, layout):
         if tree[0] == "split":
@@ -107,7 +117,7 @@ class Writer:
         kind, which = variable
         if kind == "n":
             return reference.plus(reference.lifted(layout.of(variable)), reference.number(self.turned(which, following, layout)[1]))
-        first, multiples = handed.put_for(which, self.states[to], following.state, self.program) if kind == "w" else (0, [(variable, 1)])
+        first, multiples = self.put_for(variable, to, following.state)
         found = reference.Form(first - self.layouts[to].begin(variable), ())
         for each, m in multiples:
             found = reference.plus(found, reference.times(m, self.after(*each, following, layout)))

@@ -7,7 +7,8 @@ nothing.
 
 from operator import and_
 
-from queue_questions import bytes_named, without
+import certificates as reference
+from queue_questions import bytes_named, counts, without
 
 from . import tags
 from .steps import Refused, leaves
@@ -29,7 +30,7 @@ def done_at(program, leaf):
     """Of each queue what the instruction of a leaf does of what is wanted."""
     access, done = program.accessed(leaf), [0] * len(program.queues)
     for which, (queue, party, wanted) in enumerate(zip(program.queues, program.parties, program.wanted)):
-        if access and wanted and (access.loads if party else access.stores):
+        if access and wanted and (access.loads if party else access.stores) and counts(reference.meaning(program.code[leaf.pc // 4]), not party):
             at = tags.place_in(program, which, leaf, access.place, access.width)
             if at and at[0] < leaf.shares[which].low:
                 done[which] = ((1 << access.width) - 1 << at[1] & wanted) << queue.width * at[0]

@@ -220,6 +220,10 @@ class Harts:
             refused = refused._replace(refused=Refused(None, LATE))
         if self.by_constants[hart] and (not reads or reads.program.unowned):
             return self.hart_by_constants(hart, others, turn, reads or refused)
+        if not reads and not refused:
+            # what was found stands no longer beside the others' stores, and all ways came to an end before these were known
+            self.begins[hart], self.ended[hart] = (0, 0), set()
+            return self.hart(hart, others, turn, None)
         return (reads or refused)._replace(turn=last)
 
     def hart_by_constants(self, hart, others, turn, before):

@@ -6,14 +6,16 @@ from itertools import pairwise, permutations, product
 from math import gcd
 from typing import NamedTuple
 
-import draws
+from bring_parts import queue_runs
+
 import machine
 
 from . import queues, tags
 
 # the runs are drawn in bursts, so that a queue of some slots fills
-RUNS, LENGTH, SEED, BUFFER = 6, 4000, 1, 4
-ACCESSES = ("load", "store", "amo")
+RUNS, LENGTH = 6, 4000
+# how far from its flag a mailbox's record may lie
+NEAR = 64
 
 
 class Index(NamedTuple):
@@ -43,33 +45,21 @@ class Seen:
     def __init__(self, test, names):
         # the addresses at which each instruction stores, by its hart and pc
         self.places, self.stores, self.opening, self.names = defaultdict(Place), defaultdict(set), test.words, names
-        harts, engine = len(test.codes), machine.Machine(test, BUFFER)
-        events = [draws.event_of(k, harts) for k in range(2 * harts)]
-        for drawn in draws.runs_of(harts, RUNS, SEED, LENGTH, 0, "bursts"):
-            state = engine.opening
-            for place in self.places.values():
-                place.runs.append([])
-            for k in drawn:
-                pc = state[0][k % harts][0]
-                outcome, is_entry, state = engine.step(state, events[k])
-                if is_entry:
-                    self.look(pc, *outcome.split())
+        for run, entry, _ in queue_runs.drawn(test, RUNS, LENGTH):
+            if entry.at is not None:
+                self.look(run, entry)
 
-    def look(self, pc, kind, hart, *numbers):
-        """Takes notice of an entry."""
-        name, width = kind.rstrip("12"), int(kind[-1]) if kind[-1] in "12" else 4
-        if name not in ACCESSES:
-            return
-        hart, address, value = int(hart), int(numbers[0]), int(numbers[-1])
-        place = self.places[address]
-        place.runs = place.runs or [[]]
-        place.widths.add(width)
-        if name != "store":
-            place.loaders.add(hart)
-        if name != "load":
-            place.storers.add(hart)
-            place.runs[-1].append((hart, value))
-            self.stores[hart, pc].add(address)
+    def look(self, run, entry):
+        """Takes notice of an access."""
+        place = self.places[entry.at]
+        place.runs += [[] for _ in range(run + 1 - len(place.runs))]
+        place.widths.add(entry.width)
+        if entry.is_load():
+            place.loaders.add(entry.hart)
+        if entry.is_store():
+            place.storers.add(entry.hart)
+            place.runs[run].append((entry.hart, entry.value))
+            self.stores[entry.hart, entry.pc].add(entry.at)
 
     def arrays(self, hart, other):
         """The arrays that a hart stores to and another one loads: where each begins, its elements, and the bytes of one."""
@@ -156,8 +146,33 @@ def telling_beside(seen, sender, receiver, tags_at, arrays):
     return keys | ({"tells": f"bit:{256 ** count - 1}:{min(told[0])}:{min(told[1])}"} if list(map(len, told)) == [1, 1] and told[0] != told[1] else {})
 
 
+def mailbox(seen, sender, receiver, taken):
+    """The keys of a description of one slot beside a word to which its sender stores what isn't 0, and its receiver 0; or None."""
+    def is_turned(place):
+        of_each = [set(place.of_storer(hart)) for hart in (sender, receiver)]
+        return place.storers == {sender, receiver} and of_each[1] == {0} and of_each[0] and 0 not in of_each[0] and len(place.widths) == 1
+
+    flags = [at for at, place in sorted(seen.places.items()) if at not in taken and not seen.opened(at) and is_turned(place)]
+    for flag in flags:
+        record = [at for at, place in seen.places.items()
+                  if at not in taken and place.storers == {sender} and receiver in place.loaders and abs(at - flag) <= NEAR]
+        if record:
+            begin, end, width = min(record), max(at + max(seen.places[at].widths) for at in record), max(seen.places[flag].widths)
+            keys = {"slots": begin, "size": 1, "width": end - begin}
+            is_inside = begin <= flag < end
+            return keys | ({"tag": f"{flag - begin}+{width}"} if is_inside else {"tags": flag, "tag": f"0+{width}"})
+    return None
+
+
+def bytes_of(keys):
+    """The bytes that a description's queue has."""
+    tags_at, stride = keys.get("tags"), keys.get("tag_stride") or sum(map(int, str(keys.get("tag", "0+4")).partition("+")[::2]))
+    ranges = [(keys["slots"], keys["size"] * keys["width"]), *((keys[name], keys.get("bytes", 4)) for name in ("head", "tail") if name in keys)]
+    return {at for begin, number in [*ranges, *[(tags_at, keys["size"] * stride)] * (tags_at is not None)] for at in range(begin, begin + number)}
+
+
 def proposals(test, names):
-    """For each queue that may be there the option that describes it, and its keys, whose places are numbers. A place is one queue's. Of a word
+    """For each queue that may be there the option that describes it, and its keys, whose places are numbers. A byte is one queue's. Of a word
     that has a name in the text it is in `names`, by its address."""
     seen, found = Seen(test, names), []
     for sender, receiver in permutations(range(len(test.codes)), 2):
@@ -173,9 +188,15 @@ def proposals(test, names):
             for head, tail in product(heads, tails):
                 if keys := counting(head, tail, begin, size, width):
                     found.append((abs(head.place - begin) + abs(tail.place - begin), "--queue", keys | parties))
-    taken = set()
+    taken, apart = set(), []
     for _, kind, keys in sorted(found, key=lambda each: each[0]):
-        places = {keys[name] for name in ("head", "tail", "slots", "tags") if name in keys}
-        if not places & taken:
-            taken |= places
-            yield kind, {key: value for key, value in keys.items() if value != queues.NUMBERS.get(key)}
+        if not bytes_of(keys) & taken:
+            taken |= bytes_of(keys)
+            apart.append((kind, keys))
+    # a flag beside a queue may be anything
+    for sender, receiver in permutations(range(len(test.codes)), 2) if not apart else ():
+        if keys := mailbox(seen, sender, receiver, taken):
+            taken |= bytes_of(keys)
+            apart.append(("--tagged", keys | {"sender": sender, "receiver": receiver}))
+    for kind, keys in apart:
+        yield kind, {key: value for key, value in keys.items() if value != queues.NUMBERS.get(key)}

@@ -10,6 +10,7 @@ from . import faults, landings, log, record
 
 # a run begins at such a line
 BEGIN = re.compile(r"^[^\S\n]*run[^\S\n]", re.MULTILINE)
+DRAIN = re.compile(r"^[^\S\n]*drain[^\S\n]", re.MULTILINE)
 # from how many characters on a log is made by several processes, and how many parts each of them gets
 LONG, PARTS = 1 << 20, 4
 # where a step has its cycles
@@ -19,13 +20,14 @@ MOST = 10
 
 
 class Made(NamedTuple):
-    """The record of a run: its seed, its text, what is said of its faults, how many there are, and of each event the line of the log and the cycle,
-    if these are asked for."""
+    """The record of a run: its seed, its text, what is said of its faults, how many there are, and if these are asked for of each event the line of
+    the log and the cycle, and the last state that the log has."""
     seed: int
     text: str
     told: list
     faults: int
     places: list
+    state: dict
 
 
 def made_of(run, test, asked):
@@ -38,7 +40,7 @@ def made_of(run, test, asked):
     notes = list(faults.faults(run, test, events, asked.order))
     told = [note.text for note in notes[:MOST]] + [f"{len(notes) - MOST} faults more"] * (len(notes) > MOST)
     places = [(each.step.line, each.step.cycle) if each.step else None for each in events] if asked.check else []
-    return Made(run.seed, record.text(faults.ended(events, notes)), told, len(notes), places)
+    return Made(run.seed, record.text(faults.ended(events, notes)), told, len(notes), places, run.state if asked.check else {})
 
 
 def order_of(run):
@@ -49,12 +51,13 @@ def order_of(run):
                                                 (ranks[step[0]], ranks[step[11]], step[1:11]) for step in run.steps]
 
 
-def made_of_runs(runs, test, asked):
+def made_of_runs(runs, test, asked, others_land=False):
     """What those of the runs come to that are asked for. Those that are in order like one before have its record."""
     known = {}
     for run in runs:
         if asked.run not in (None, run.seed):
             continue
+        run.others_land = others_land
         order = order_of(run) if asked.log == "core" and not asked.check else None
         made = known.get(order) if order else None
         if made is None:
@@ -79,7 +82,7 @@ def parts_of(text, count):
 
 class Long:
     """A log's text, which processes that are made by a fork share."""
-    text, test, asked, ends = "", None, None, {}
+    text, test, asked, ends, lands = "", None, None, {}, False
 
 
 def made_of_part(part):
@@ -87,7 +90,8 @@ def made_of_part(part):
     begin, line = part
     skipped, made = {}, []
     try:
-        made.extend(made_of_runs(log.runs(Long.text[begin:Long.ends[begin]].split("\n"), skipped, line), Long.test, Long.asked))
+        found = log.runs(Long.text[begin:Long.ends[begin]].split("\n"), skipped, line)
+        made.extend(made_of_runs(found, Long.test, Long.asked, Long.lands))
     except (Refused, log.LogError) as error:
         return made, skipped, str(error)
     return made, skipped, None
@@ -96,12 +100,13 @@ def made_of_part(part):
 def made_of_log(text, test, asked, skipped):
     """The records of a core's log, in its order."""
     count = len(os.sched_getaffinity(0))
+    lands = bool(DRAIN.search(text))
     if len(text) < LONG or count == 1:
-        yield from made_of_runs(log.runs(text.split("\n"), skipped), test, asked)
+        yield from made_of_runs(log.runs(text.split("\n"), skipped), test, asked, lands)
         return
     parts = list(parts_of(text, count * PARTS))
     begins = [begin for begin, _ in parts]
-    Long.text, Long.test, Long.asked, Long.ends = text, test, asked, dict(zip(begins, [*begins[1:], len(text)]))
+    Long.text, Long.test, Long.asked, Long.ends, Long.lands = text, test, asked, dict(zip(begins, [*begins[1:], len(text)])), lands
     import multiprocessing  # a short log needs none of it
     with multiprocessing.get_context("fork").Pool(count) as pool:
         for made, other, refused in pool.imap(made_of_part, parts):

@@ -4,7 +4,7 @@ from typing import NamedTuple
 
 from .event import Event
 from .log import Drained, Retired, Trapped
-from .record import ECALL, FETCH_FAULT, has_landings
+from .record import ECALL, FETCH_FAULT, has_landings, stores
 
 # the opcodes of BRANCH, JALR and JAL
 JUMPS = (0x63, 0x67, 0x6F)
@@ -36,7 +36,10 @@ def ended(events, notes):
 def faults(run, opening, events, order):
     """The faults of a run with these events in this order."""
     if has_landings(run):
-        yield from drains(run, events)
+        if (lost := stores(run)) and not any(isinstance(step, Drained) for step in run.steps):
+            yield Note("drain", f"line {lost[0].line}: this run stores {times(len(lost))}, and nothing of it lands", lost[0])
+        else:
+            yield from drains(run, events)
     elif run.has_drains and order != "placed":
         yield Note("drain", "it has stores and no line `drain`: --order placed searches for the landings of such a log")
     yield from backward(run)
@@ -69,6 +72,10 @@ def drains(run, events):
         for store in (store for hart in sorted(pending) for store in pending[hart]):
             text = store_text(store.address, store.write_lanes, store.written)
             yield Note("drain", f"line {store.line}: hart {store.hart} stores {text}, and no line `drain` lets it out")
+
+
+def times(number):
+    return "once" if number == 1 else f"{number} times"
 
 
 def store_text(address, lanes, data):

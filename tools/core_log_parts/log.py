@@ -78,6 +78,8 @@ class Run:
     # whether the log has landings where there are any, and what its reader has to say of it
     has_drains: bool = True
     notes: list = field(default_factory=list)
+    # whether other runs of the log have landings, so that one with stores and none has lost them
+    others_land: bool = False
     # the lines of the last state: each word and its numbers
     last: list = field(default_factory=list)
 

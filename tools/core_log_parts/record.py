@@ -80,10 +80,13 @@ def times(events, order):
 
 
 def has_landings(run):
-    """Whether a log has landings. One with stores and without a drain has none."""
-    return run.has_drains and (any(isinstance(step, Drained) for step in run.steps)
-                               or not any(isinstance(step, Retired) and step.write_lanes and not step.read_lanes
-                                          for step in run.steps))
+    """Whether a log has landings. One of runs that have stores and no drain has none."""
+    return run.has_drains and (run.others_land or any(isinstance(step, Drained) for step in run.steps) or not stores(run))
+
+
+def stores(run):
+    """The stores of a run."""
+    return [step for step in run.steps if isinstance(step, Retired) and step.write_lanes and not step.read_lanes]
 
 
 def events(run, opening, order="performed", capacity=4):

@@ -9,9 +9,9 @@ from digits import of_digits
 from faults import at_line
 
 HEAD, LINE, PLACE, LIMIT, UNFINISHED = 45, 46, 47, 48, 49
-QUEUES, SLOTS, FIELDS, POSITIONS, HARTS, OWN, STATES, VARIABLES, SPLITS = 16, 65_536, 16, 64, 64, 64, 16_384, 64, 1024
-NAMES = ("queue", "field", "tagged", "hart", "own", "open", "state", "most", "reg", "word", "share", "filled", "split", "leaf", "to")
-KNOWN = ("reg", "word", "share", "filled")
+QUEUES, SLOTS, FIELDS, POSITIONS, HARTS, OWN, GOALS, STATES, VARIABLES, SPLITS = 16, 65_536, 16, 64, 64, 64, 64, 16_384, 64, 1024
+NAMES = ("queue", "field", "tagged", "hart", "own", "open", "goes", "lacks", "state", "most", "reg", "word", "share", "filled", "rank", "split", "leaf", "to")
+KNOWN = ("reg", "word", "share", "filled", "rank")
 # the bytes that an own word may have
 WIDTHS = (1, 2, 4)
 # how a tag tells, and how many numbers follow the word
@@ -144,23 +144,41 @@ class Reader:
         if self.name() == "own":
             self.own = self.take(("own",), lambda *given: [*map(place, given)], lambda found: len(found) <= OWN)
         opening = self.take(("open",), lambda first, *given: (number(first), [*map(count, given)]), lambda found: len(found[1]) <= VARIABLES)
+        for_ranks = {"goes": [], "lacks": []}
+        while self.name() in for_ranks:
+            name = self.name()
+            found = for_ranks[name]
+            found.append(self.take((name,), {"goes": self.goal, "lacks": self.lacks}[name], lambda _: len(found) < GOALS))  # pylint: disable=cell-var-from-loop
         while self.name() not in (None, "hart"):
             states.append(self.state())
-        return self.own, opening, states
+        return self.own, opening, states, for_ranks["goes"], for_ranks["lacks"]
+
+    @staticmethod
+    def goal(queue, *owned):
+        """The queue, or none, and how many positions the hart may own while it waits, or none."""
+        need(len(owned) == 1 or queue != "-" and not owned)
+        return None if queue == "-" else number(queue), count(owned[0]) if owned else None
+
+    @staticmethod
+    def lacks(*queues):
+        return [*map(number, queues)]
 
     def state(self):
         pc = self.take(("state",), number, lambda found: self.listed < STATES)
         self.listed += 1
-        self.most, known, filled, self.splits = [], {}, {}, 0
+        self.most, known, filled, ranks, self.splits = [], {}, {}, [], 0
         if self.name() == "most":
             self.most = self.take(("most",), lambda *given: [None if word == "-" else count(word) for word in given],
                                   lambda found: len(found) <= VARIABLES)
         while self.name() in KNOWN:
             name = self.name()
+            if name == "rank":
+                ranks = self.take(KNOWN, lambda *given: [form(word, len(self.most)) for word in given])
+                continue
             made = {"share": self.share, "filled": self.filled}.get(name) or self.value_of(name)
             place, what = self.take(KNOWN, made)
             (filled if name == "filled" else known)[(name, place) if name != "filled" else place] = what
-        return pc, self.most, known, filled, self.case((*KNOWN, "split", "leaf"))
+        return pc, self.most, known, filled, ranks, self.case((*KNOWN, "split", "leaf"))
 
     def value_of(self, name):
         def made(place, word):
@@ -202,5 +220,5 @@ class Reader:
 
 def read(text):
     """What a text says: the numbers of each queue with those of its fields, what each queue with tags has, and of each hart its own words, how it
-    opens, and its states."""
+    opens, its states, and what their ranks are for."""
     return Reader(text).certificate()

@@ -1187,13 +1187,26 @@ class ListedState(NamedTuple):
     known: KnownState
     cases: object
     filled: tuple = ()
+    ranks: tuple = ()
+
+
+class Goal(NamedTuple):
+    """What ranks of a hart's states are for: of a queue with indices how many positions the hart may own while it waits, of one with tags none, and of
+    all queues with indices together no queue."""
+
+    queue: int | None
+    owned: int | None
 
 
 class HartPart(NamedTuple):
+    """Its own words, how it opens, its states, what their ranks are for, and then sets of queues that it may lack, for each of which there is one more."""
+
     own: tuple
     first: int
     numbers: tuple
     states: tuple
+    goals: tuple = ()
+    lacking: tuple = ()
 
 
 class OpenedQueue(NamedTuple):
@@ -1420,7 +1433,7 @@ def accepts(opening, c):
 def first_unowned(opening, c, i, h):
     """The first state of the hart with a load of queue i's slots that isn't shown to be of owned ones."""
     code = opening.harts[h][0]
-    return next((n for n, (known, cases, _) in enumerate(part_of(c, h).states) if not owns_loads(c, h, code, i, known, cases)), None)
+    return next((n for n, (known, cases, *_) in enumerate(part_of(c, h).states) if not owns_loads(c, h, code, i, known, cases)), None)
 
 
 def accepts_loads(opening, c, i, h):
@@ -1437,7 +1450,7 @@ def accesses_of(opening, c, q):
     found = {}
     for h, (code, _) in enumerate(opening.harts):
         steps = steps_of(c, h)
-        for known, cases, _ in part_of(c, h).states:
+        for known, cases, *_ in part_of(c, h).states:
             for leaf, _ in leaves(known, cases):
                 access = steps.accessed(leaf, instruction_at(code, leaf.pc))
                 if access and not is_apart(access[1], access[2], q.slots, q.size * q.width):

@@ -11,10 +11,13 @@ from shrinking import part_of
 LOADS, STORES = {"load": 4, "load2": 2, "load1": 1}, {"store": 4, "store2": 2, "store1": 1}
 MOST = 2**64 - 1
 
-# `described` says if the hart might make the store, were every slot its own
-Breach = namedtuple("Breach", "hart pc address width value owned described")
+# `place` is how many accesses come before it, and `described` says if the hart might make the store, were every slot its own; of a party `before`
+# is what it stored last to its own index, or to a tag, and what it found at its last look at the other's, or at the tag of its next position:
+# each a value and a pc, or None
+Breach = namedtuple("Breach", "place hart pc address width value owned described before")
 # a load by which the receiver finds another byte than was sent of the position: `byte` is its address
-Loss = namedtuple("Loss", "hart pc address width value position byte sent")
+# and `handed_back` the pc at which its slot was handed back before, or None
+Loss = namedtuple("Loss", "hart pc address width value position byte sent handed_back")
 
 
 class Counts:
@@ -92,15 +95,18 @@ class IndexCounts(Counts):
         return known + (self.queue.capacity if hart == self.queue.sender else 0)
 
     def loaded(self, hart, address, width, value):
-        if hart in self.own and (address, width) == (self.other_index(hart), self.queue.index_width):
+        if hart in self.own and self.is_look(hart, address, width):
             self.known[hart] = self.least(self.known[hart], value)
 
-    def is_index(self, hart, address, width):
+    def is_own(self, hart, address, width):
         return hart in self.own and (address, width) == (self.index(hart), self.queue.index_width)
+
+    def is_look(self, hart, address, width):
+        return (address, width) == (self.other_index(hart), self.queue.index_width)
 
     def allows(self, owned, hart, address, width, value):
         """Whether a hart that owns these positions may store that."""
-        if self.is_index(hart, address, width):
+        if self.is_own(hart, address, width):
             count = self.least(owned[0], value)
             if self.word(count) == value and count <= owned[1]:
                 return True
@@ -112,7 +118,7 @@ class IndexCounts(Counts):
         return not any(place <= byte < place + self.queue.index_width for place in (self.queue.head, self.queue.tail))
 
     def stored(self, hart, address, width, value):
-        if self.is_index(hart, address, width):
+        if self.is_own(hart, address, width):
             self.own[hart] = self.least(self.own[hart], value)
 
 
@@ -149,19 +155,22 @@ class TagCounts(Counts):
         """The element in which a byte lies, and where in it."""
         return divmod(byte - self.queue.tags, self.queue.tag_stride)
 
-    def is_tag(self, hart, address, width):
+    def is_look(self, hart, address, width):
+        return (address, width) == (tags.tag_of(self.queue, self.own[hart]), self.queue.tag_width)
+
+    def is_own(self, hart, address, width):
         is_whole = width == self.queue.tag_width and self.element(address)[1] == self.queue.tag_offset
         return hart in self.own and is_whole and self.is_element_byte(address)
 
     def loaded(self, hart, address, width, value):
-        if self.is_tag(hart, address, width):
+        if self.is_own(hart, address, width):
             position = self.next_of(self.own[hart], self.element(address)[0])
             if tags.tells_by(self.queue.size, self.queue.codec, tags.party_in(self.queue, hart), position, value):
                 self.end[hart] = max(self.end[hart], position + 1)
 
     def allows(self, owned, hart, address, width, value):
         """Whether a hart that owns these positions may store that."""
-        if self.is_tag(hart, address, width) and self.next_of(owned[0], self.element(address)[0]) == owned[0] < owned[1]:
+        if self.is_own(hart, address, width) and self.next_of(owned[0], self.element(address)[0]) == owned[0] < owned[1]:
             party = tags.party_in(self.queue, hart)
             handed = owned[0] + (0 if party == certificates.SENDER else self.queue.size)
             if tags.tells_by(self.queue.size, self.queue.codec, certificates.other(party), handed, value):
@@ -174,8 +183,21 @@ class TagCounts(Counts):
         return owned is not None and self.position(owned[0], byte) < owned[1] and not self.is_tag_byte(byte)
 
     def stored(self, hart, address, width, value):
-        if self.is_tag(hart, address, width):
+        if self.is_own(hart, address, width):
             self.own[hart] += 1
+
+
+def before(counts, hart, done):
+    """What a party stored and found last, of these accesses with their pcs; of a third hart None."""
+    if hart not in counts.own:
+        return None
+    stored = looked = None
+    for (by, address, width, loaded, value), pc in done:
+        if by == hart and value is not None and counts.is_own(hart, address, width):
+            stored = value, pc
+        if by == hart and loaded is not None and counts.is_look(hart, address, width):
+            looked = loaded, pc
+    return stored, looked
 
 
 class Sent:
@@ -248,16 +270,16 @@ class Runs:
 
     def judged(self, events):
         """The first breach of a run, or None, and the counts."""
-        counts = self.counts()
+        counts, done = self.counts(), []
         for access, state, _ in self.entries(events):
-            breach = self.breach(access, state, counts)
+            breach = self.breach(access, state, counts, done)
             if breach:
                 return breach, counts
+            done.append((access, state[0][access[0]][0]))
         return None, counts
 
-    @staticmethod
-    def breach(access, state, counts):
-        """What an entry of a hart breaks, or None; the counts take it in."""
+    def breach(self, access, state, counts, done):
+        """What an entry of a hart breaks, or None; the counts take it in. `done` has the accesses before it."""
         hart, address, width, loaded, value = access
         if loaded is not None:
             counts.loaded(hart, address, width, loaded)
@@ -265,27 +287,37 @@ class Runs:
             return None
         is_free = counts.is_load_alone and value == loaded
         if not is_free and not counts.may_store(hart, address, width, value):
-            return Breach(hart, state[0][hart][0], address, width, value, counts.owned(hart), counts.is_described(hart, address, width, value))
+            return Breach(len(done), hart, state[0][hart][0], address, width, value, counts.owned(hart),
+                          counts.is_described(hart, address, width, value), before(counts, hart, done))
         counts.stored(hart, address, width, value)
         return None
 
-    def loss(self, events):
-        """The first load of a run by which the receiver finds another byte than was sent, or None."""
-        counts, sent, queue = self.counts(), Sent(), self.queue
-        for access, state, after in self.entries(events):
+    def loss_after(self, events):
+        """The first loss of a run after its breach, if that is described, or None."""
+        breach, _ = self.judged(events)
+        return self.loss(events, breach.place) if breach and breach.described else None
+
+    def loss(self, events, since=-1):
+        """The first load of a run, after the access of this number, by which the receiver finds another byte than was sent, or None."""
+        counts, sent, queue, handed = self.counts(), Sent(), self.queue, []
+        for place, (access, state, after) in enumerate(self.entries(events)):
             hart, address, width, loaded, value = access
-            if hart == queue.receiver and loaded is not None:
+            pc = state[0][hart][0]
+            if place > since and hart == queue.receiver and loaded is not None:
                 for byte in range(address, address + width):
                     position = counts.last_told(byte)
                     was = None if position is None else sent.at(position, byte)
                     if was is not None and was != loaded >> 8 * (byte - address) & 255:
-                        return Loss(hart, state[0][hart][0], address, width, loaded, position, byte, was)
+                        back = next((at for first, end, at in handed if first <= position < end), None)
+                        return Loss(hart, pc, address, width, loaded, position, byte, was, back)
             if loaded is not None:
                 counts.loaded(hart, address, width, loaded)
             if value is None:
                 continue
-            published = counts.own[queue.sender]
+            published, taken = counts.own[queue.sender], counts.own[queue.receiver]
             counts.stored(hart, address, width, value)
+            if taken < counts.own[queue.receiver]:
+                handed.append((taken, counts.own[queue.receiver], pc))
             if hart == queue.sender and published < counts.own[queue.sender]:
                 _, _, _, pending, _ = after[0][hart]
                 sent.publish(counts, published, counts.own[queue.sender], lambda byte: byte_read(pending, after[1], byte))  # pylint: disable=cell-var-from-loop
@@ -320,10 +352,10 @@ def trial(runs, number, drawing):
     return None, (min(published, MOST), min(taken, MOST))
 
 
-def lost(runs, number, drawing):
-    """The events of the first run that loses a record, made short, and what it loses; or None."""
+def lost(runs, loss_of, number, drawing):
+    """The events of the first run that loses a record, made short, and what it loses; or None. `loss_of` is which losses of a run count."""
     for events in drawn(runs, number, drawing):
-        if runs.loss(events):
-            events = part_of(events, lambda left: runs.loss(left) is not None)
-            return events, runs.loss(events)
+        if loss_of(events):
+            events = part_of(events, lambda left: loss_of(left) is not None)
+            return events, loss_of(events)
     return None

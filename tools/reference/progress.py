@@ -1,6 +1,5 @@
-"""How soon a party of a queue goes on, as an accepted certificate shows it, and where a hart may end. By the same names what
-crates/queue_progress/specs and crates/hart_safety/specs/Ends.antt define, computed in other ways: a state gets its bound when all to which it
-leads have theirs, and of the numbers of positions that a party may own while it waits only those are tried at which its graph changes.
+"""How soon a party of a queue goes on, as the ranks of a certificate show it, and where a hart may end. By the same names what
+crates/queue_progress/specs and crates/hart_safety/specs/Ends.antt define; what an instruction does is computed once for all kinds.
 """
 
 import itertools
@@ -9,15 +8,7 @@ from typing import NamedTuple
 import certificates
 
 EXIT_CALL = 93
-
-
-class Stay(NamedTuple):
-    """An instruction that leaves a party's index: the most positions that the party may own (None: any number), whether it loads the other's
-    index, and the states in which the hart may be after it."""
-
-    owned: int | None
-    looks: bool
-    to: tuple
+ZERO = certificates.number(0)
 
 
 class GoesOn(NamedTuple):
@@ -44,6 +35,21 @@ class NoLook(NamedTuple):
     state: int
 
 
+class Unranked(NamedTuple):
+    """The certificate has no ranks for it."""
+
+
+class Leaf(NamedTuple):
+    """An instruction of a state: by which numbers splits raise a rank there, what is known, the instruction, the states that may follow, and where it
+    leads."""
+
+    raises: tuple
+    known: object
+    instruction: object
+    following: list | None
+    arrows: tuple
+
+
 def is_further(s, t):
     own = certificates.lifted(s.own)
     return s.own.constant < t.own.constant and certificates.is_same(
@@ -52,11 +58,6 @@ def is_further(s, t):
 
 def share_at(k, i):
     return certificates.get_or(k.shares, i, certificates.NO_SHARE)
-
-
-def moves(c, h, code, i, k, handed):
-    states = certificates.next_states(c, h, code, k, handed)
-    return states is not None and all(is_further(share_at(k, i), share_at(after, i)) for after in states)
 
 
 def looks(steps, i, k, instruction):
@@ -71,152 +72,173 @@ def most_owned(i, k):
     return certificates.most(k.ranges, share_at(k, i).owned)
 
 
-def graph_by(c, h, leaf):
-    """Of each state of hart h its stays: what `leaf` tells of each leaf's state and of what it hands over, unless that is None."""
-    def stays(listed):
-        for k, (handed, arrows) in certificates.leaves(listed.known, listed.cases):
-            told = leaf(k, handed)
-            if told is not None:
-                yield Stay(*told, tuple(a.to for a in arrows))
-    return [tuple(stays(listed)) for listed in certificates.part_of(c, h).states]
-
-
-def graph_of(opening, c, h, i):
-    """For queue i."""
-    code, steps = opening.harts[h][0], certificates.steps_of(c, h)
-
-    def leaf(k, handed):
-        if moves(c, h, code, i, k, handed):
-            return None
-        return most_owned(i, k), looks(steps, i, k, certificates.instruction_at(code, k.pc))
-    return graph_by(c, h, leaf)
-
-
 def sides(c, h):
     """The queues with indices of which hart h is a party."""
     return [i for i, each in enumerate(c.queues) if h in (each.queue.sender, each.queue.receiver)]
 
 
-def hart_graph(opening, c, h, limit, lacks):
-    """For all queues of the hart together, where it owns at most `limit` positions of each of those that it lacks, and more of the others: a stay
-    looks if it can't be one where that is so, or looks at one that the hart lacks."""
-    code, steps, mine = opening.harts[h][0], certificates.steps_of(c, h), sides(c, h)
-
-    def leaf(k, handed):
-        if any(moves(c, h, code, i, k, handed) for i in mine):
-            return None
-        most = {i: most_owned(i, k) for i in mine}
-        sees = any(share_at(k, i).owned.constant > limit or looks(steps, i, k, certificates.instruction_at(code, k.pc)) for i in lacks)
-        return (min((each for each in most.values() if each is not None), default=None),
-                sees or any(most[i] is not None and most[i] <= limit for i in mine if i not in lacks))
-    return graph_by(c, h, leaf)
+def raised_leaves(raises, k, cases):
+    """Each leaf of the cases, with the numbers by which variables are raised there, and its state."""
+    if isinstance(cases, certificates.Leaf):
+        yield raises, k, cases
+        return
+    j, v, low, high = cases
+    yield from raised_leaves(raises, certificates.with_low(k, j, v), low)
+    if certificates.may_exceed(v, certificates.get_or(k.ranges, j, 0)):
+        yield from raised_leaves((*raises, (j, v + 1)), certificates.with_high(k, j, v), high)
 
 
-def may_own_more(limit):
-    return lambda stay: stay.owned is None or stay.owned > limit
+def raised_by(rank, raises):
+    for j, by in raises:
+        rank = certificates.raised(j, by, rank)
+    return rank
 
 
-def looks_away(stay):
-    return not stay.looks
+class Hart:
+    """A hart's states, by the leaves of each."""
+
+    def __init__(self, opening, c, h):
+        self.c, self.h, self.code, self.part, self.steps = c, h, opening.harts[h][0], certificates.part_of(c, h), certificates.steps_of(c, h)
+        self.leaves = [[self.leaf(*each) for each in raised_leaves((), listed.known, listed.cases)] for listed in self.part.states]
+
+    def leaf(self, raises, k, found):
+        following = certificates.next_states(self.c, self.h, self.code, k, found.handed)
+        return Leaf(raises, k, certificates.instruction_at(self.code, k.pc), following, found.arrows)
+
+    def moves(self, i, leaf):
+        """Whether the count of queue i is further in each of the states that may follow."""
+        share = share_at(leaf.known, i)
+        return leaf.following is not None and all(is_further(share, share_at(after, i)) for after in leaf.following)
+
+    def looks(self, i, leaf):
+        return looks(self.steps, i, leaf.known, leaf.instruction)
+
+    def learns(self, i, leaf):
+        """Whether it is a load by which the hart may learn that it owns a position of queue i: it goes on along the first arrow then."""
+        return (leaf.instruction is not None and leaf.instruction[0] in certificates.LOADS and leaf.following is not None and len(leaf.following) == 2
+                and share_at(leaf.known, i).owned.constant == 0 and share_at(leaf.following[0], i).owned.constant == 1)
 
 
-def bounds_of(kind, graph):
-    """Of each state how many stays in a row are of the kind from there on, at most; None where some rows never end."""
-    leads = [{to for stay in stays if kind(stay) for to in stay.to if to < len(graph)} for stays in graph]
-    waiting, before = [len(each) for each in leads], [[] for _ in graph]
-    for n, each in enumerate(leads):
-        for to in each:
-            before[to].append(n)
-    found, ready = [None] * len(graph), [n for n, count in enumerate(waiting) if not count]
-    while ready:
-        n = ready.pop()
-        found[n] = 1 + max((found[to] for to in leads[n]), default=0)
-        for earlier in before[n]:
-            waiting[earlier] -= 1
-            if not waiting[earlier]:
-                ready.append(earlier)
-    return found
+class Kind:
+    """A kind of a hart's instructions: which leaves are of another one, and which go on along their first arrow alone."""
+
+    def __init__(self, hart, is_other, is_cut=lambda leaf: False):
+        self.states = hart.part.states
+        self.ways = [[(leaf.raises, None if leaf.following is None else leaf.following[:1 if is_cut(leaf) else None], leaf.arrows)
+                      for leaf in leaves if not is_other(leaf)] for leaves in hart.leaves]
 
 
-def longest(kind, graph):
-    found = bounds_of(kind, graph)
-    return None if None in found else max(found, default=0)
+def is_lower(ranges, f, g):
+    """Whether f is surely less than g, where the variables lie in these ranges."""
+    return certificates.fits_in(
+        certificates.most(ranges, certificates.Form(f.constant + 1, certificates.differences(f.factors, g.factors))), g.constant)
 
 
-def on_cycle(kind, graph):
-    """Where a walk along first stays ends after as many steps as there are states, from the first state on of which rows never end."""
-    endless = {n for n, bound in enumerate(bounds_of(kind, graph)) if bound is None}
-    n = min(endless, default=0)
-    for _ in graph:
-        n = next((to for stay in graph[n] if kind(stay) for to in stay.to if to in endless), n)
-    return n
+def falls(kind, ranks, n):
+    """Whether the rank of state n is higher than that of each state that may follow."""
+    for raises, following, arrows in kind.ways[n]:
+        here = certificates.lifted(raised_by(ranks[n], raises))
+        if following is None or len(arrows) < len(following):
+            return False
+        if not all(is_lower(after.ranges, certificates.substituted(certificates.get_or(ranks, a.to, ZERO), a.forms), here)
+                   for after, a in zip(following, arrows)):
+            return False
+    return True
 
 
-def least_owned(graph, capacity):
-    last = max(capacity - 1, 0)
-    tried = sorted({0} | {stay.owned for stays in graph for stay in stays if stay.owned is not None and stay.owned <= last})
-    return next((limit for limit in tried if longest(may_own_more(limit), graph) is not None), None)
+def row_of(kind, ranks):
+    """What ranks show of instructions of a kind."""
+    most = [certificates.most(listed.known.ranges, rank) for listed, rank in zip(kind.states, ranks)]
+    level = next((n for n, each in enumerate(most) if each is None or not falls(kind, ranks, n)), None)
+    return Within(1 + max(most, default=0)) if level is None else NoPace(level)
 
 
-def progress_owning(graph, owned):
-    sight = longest(looks_away, graph)
-    return NoLook(on_cycle(looks_away, graph)) if sight is None else GoesOn(owned, longest(may_own_more(owned), graph), sight)
+# ---- ranks of a certificate
+
+def width_of(goal):
+    """How many ranks it has: one of a queue with indices has two."""
+    return 2 if None not in goal else 1
 
 
-def no_pace(graph, capacity):
-    return NoPace(on_cycle(may_own_more(max(capacity - 1, 0)), graph))
+def goal_of(part, wanted):
+    """The place of the ranks for a queue, or for all queues together, and how many positions the hart may own while it waits; or None."""
+    place = 0
+    for goal in part.goals:
+        if goal.queue == wanted:
+            return place, goal.owned or 0
+        place += width_of(goal)
+    return None
+
+
+def ranks_at(part, place):
+    return [certificates.get_or(listed.ranks, place, ZERO) for listed in part.states]
+
+
+def idle(hart, i, owned):
+    return Kind(hart, lambda leaf: hart.moves(i, leaf) or certificates.fits_in(most_owned(i, leaf.known), owned))
+
+
+def blind(hart, i):
+    return Kind(hart, lambda leaf: hart.moves(i, leaf) or hart.looks(i, leaf))
+
+
+def untold(hart, i):
+    return Kind(hart, lambda leaf: hart.moves(i, leaf), lambda leaf: hart.learns(i, leaf))
+
+
+def idle_of_all(hart, mine, owned):
+    return Kind(hart, lambda leaf: any(hart.moves(i, leaf) or certificates.fits_in(most_owned(i, leaf.known), owned) for i in mine))
+
+
+def blind_lacking(hart, mine, owned, lacks):
+    def differs(i, leaf):
+        if i in lacks:
+            return share_at(leaf.known, i).owned.constant > owned or hart.looks(i, leaf)
+        return certificates.fits_in(most_owned(i, leaf.known), owned)
+    return Kind(hart, lambda leaf: any(hart.moves(i, leaf) or differs(i, leaf) for i in mine))
 
 
 def progress_of(opening, c, h, i):
     """Of hart h, a party of queue i."""
-    graph, capacity = graph_of(opening, c, h, i), c.queues[i].queue.capacity
-    owned = least_owned(graph, capacity)
-    return no_pace(graph, capacity) if owned is None else progress_owning(graph, owned)
-
-
-def hart_progress_of(opening, c, h):
-    """Of hart h, for all queues of which it is a party together: its sight is that of the worst of the sets of queues that it may lack."""
-    graph, mine = hart_graph(opening, c, h, 0, ()), sides(c, h)
-    capacity = min((c.queues[i].queue.capacity for i in mine), default=0)
-    owned = least_owned(graph, capacity)
-    if owned is None:
-        return no_pace(graph, capacity)
-    sight = 0
-    # sets without a queue come before those with it, from the last queue on
-    for taken in itertools.product((False, True), repeat=len(mine)):
-        lacks = [i for i, is_in in zip(reversed(mine), taken) if is_in]
-        if lacks:
-            its = hart_graph(opening, c, h, owned, lacks)
-            most = longest(looks_away, its)
-            if most is None:
-                return NoLook(on_cycle(looks_away, its))
-            sight = max(sight, most)
-    return GoesOn(owned, longest(may_own_more(owned), graph), sight)
-
-
-def learns(c, h, code, i, k, handed):
-    """Whether the instruction is a load by which the hart may learn that it owns a position of queue i: it goes on along the first arrow then."""
-    states, instruction = certificates.next_states(c, h, code, k, handed), certificates.instruction_at(code, k.pc)
-    return (instruction is not None and instruction[0] in certificates.LOADS and states is not None and len(states) == 2
-            and share_at(k, i).owned.constant == 0 and share_at(states[0], i).owned.constant == 1)
-
-
-def told_graph(opening, c, h, t):
-    """For queue t with tags: a party goes on where it is told of a position, and otherwise has to wait."""
-    code, i = opening.harts[h][0], len(c.queues) + t
-
-    def stays(listed):
-        for k, (handed, arrows) in certificates.leaves(listed.known, listed.cases):
-            if not moves(c, h, code, i, k, handed):
-                yield Stay(None, False, tuple(a.to for a in (arrows[:1] if learns(c, h, code, i, k, handed) else arrows)))
-    return [tuple(stays(listed)) for listed in certificates.part_of(c, h).states]
+    part = certificates.part_of(c, h)
+    place, owned = goal_of(part, i) or (0, None)
+    if owned is None or owned >= c.queues[i].queue.capacity:
+        return Unranked()
+    hart = Hart(opening, c, h)
+    pace, sight = row_of(idle(hart, i, owned), ranks_at(part, place)), row_of(blind(hart, i), ranks_at(part, place + 1))
+    if isinstance(pace, NoPace):
+        return pace
+    return NoLook(sight.state) if isinstance(sight, NoPace) else GoesOn(owned, pace.most, sight.most)
 
 
 def told_progress_of(opening, c, h, t):
     """Of hart h, a party of queue t with tags."""
-    graph = told_graph(opening, c, h, t)
-    most = longest(looks_away, graph)
-    return NoPace(on_cycle(looks_away, graph)) if most is None else Within(most)
+    part, i = certificates.part_of(c, h), len(c.queues) + t
+    place, owned = goal_of(part, i) or (0, None)
+    return Unranked() if owned is None else row_of(untold(Hart(opening, c, h), i), ranks_at(part, place))
+
+
+def sets_of(queues):
+    """The sets of some of these, each in ascending order."""
+    return [lacks for number in range(1, len(queues) + 1) for lacks in itertools.combinations(queues, number)]
+
+
+def hart_progress_of(opening, c, h):
+    """Of hart h, for all queues of which it is a party together, or None: its sight is that of the worst of the sets of queues that it may lack."""
+    part, mine = certificates.part_of(c, h), sides(c, h)
+    place, owned = goal_of(part, None) or (0, None)
+    if owned is None or any(owned >= c.queues[i].queue.capacity for i in mine):
+        return None
+    hart, first = Hart(opening, c, h), sum(map(width_of, part.goals))
+    places = {tuple(lacks): first + at for at, lacks in reversed(list(enumerate(part.lacking)))}
+    pace, sight = row_of(idle_of_all(hart, mine, owned), ranks_at(part, place)), [0]
+    rows = [row_of(blind_lacking(hart, mine, owned, lacks), ranks_at(part, places.get(lacks, first + len(part.lacking)))) for lacks in sets_of(mine)]
+    if any(isinstance(row, NoPace) for row in (pace, *rows)):
+        return None
+    # all that are listed count, asked about or not
+    sight += [1 + max((certificates.most(listed.known.ranges, rank) or 0 for listed, rank in zip(part.states, ranks_at(part, first + at))), default=0)
+              for at, _ in enumerate(part.lacking)]
+    return GoesOn(owned, pace.most, max(sight))
 
 
 def first_end(opening, c, h):

@@ -60,6 +60,16 @@ def bytes_text(ranges):
 
 # ---- what a queue's party does to its queue
 
+def counts(instruction, sends):
+    """What it makes of a record's bytes counts: of a sender's AMOs only a swap's, since the word that another writes may be the one that it read;
+    and of a receiver's loads and AMOs only those whose result doesn't go to x0."""
+    op, *parts = instruction
+    if sends:
+        return op == "amoswap" or not op.startswith("amo")
+    return parts[0] != 0
+
+
+
 class Party:
     """A queue's sender, which writes the records that it publishes, or its receiver, which reads those that it takes: the leaves of its states, of
     each what it does, and the states to which it leads. Queues with tags are numbered on after those with indices."""
@@ -77,7 +87,8 @@ class Party:
     def does(self, known, handed):
         """("accesses", position, offset, width), of the positions from its count on: the sender stores, and the receiver loads; ("hands", n), it
         publishes or takes exactly n; ("some", n), at most, or nobody knows how many; or nothing."""
-        access = self.steps.accessed(known, certificates.instruction_at(self.code, known.pc))
+        instruction = certificates.instruction_at(self.code, known.pc)
+        access = self.steps.accessed(known, instruction)
         if not access:
             return None
         place, bounds, width, loads, stores = access
@@ -88,7 +99,7 @@ class Party:
             most = certificates.most(known.ranges, handed)
             return ("hands" if most == handed.constant else "some"), most
         share = self.steps.share_at(known, self.index)
-        if not (stores if self.sends else loads) or not certificates.is_owned(known.ranges, self.queue, share, place, width):
+        if not (stores if self.sends else loads) or not counts(instruction, self.sends) or not certificates.is_owned(known.ranges, self.queue, share, place, width):
             return None
         return ("accesses", certificates.position_at(self.queue, share.own.constant, place.form.constant),
                 certificates.offset_at(self.queue, place.form.constant), width)
@@ -183,17 +194,17 @@ class Hart:
     def stop(self):
         return next((n for n, known in self.leaves if not self.goes_on(known)), None)
 
-    def stores(self):
-        """Of each leaf that stores its state, and the first and the last byte where it may, or None."""
+    def touches(self, stores):
+        """Of each leaf that stores its state, or of each that loads, and the first and the last byte where it may, or None."""
         for n, known in self.leaves:
             access = self.steps.accessed(known, certificates.instruction_at(self.code, known.pc))
-            if access and access[4]:
+            if access and access[4 if stores else 3]:
                 bounds = certificates.bounds(known.ranges, access[0])
                 yield n, bounds and (bounds.low, bounds.high + access[2] - 1)
 
-    def anywhere(self):
-        """The first state with a store that may go anywhere."""
-        return next((n for n, where in self.stores() if where is None), None)
+    def anywhere(self, stores):
+        """The first state with a store, or a load, that may go anywhere."""
+        return next((n for n, where in self.touches(stores) if where is None), None)
 
-    def written(self):
-        return joined(where for _, where in self.stores() if where)
+    def touched(self, stores):
+        return joined(where for _, where in self.touches(stores) if where)

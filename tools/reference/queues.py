@@ -41,6 +41,7 @@ LIKELY = {0x23: STORES, 0x2F: STORES,
 FIT = "another protocol may fit: that of a queue that overwrites, that has several senders or receivers, or"
 # of a queue with tags, or with indices
 OF = {True: "of two indices and slots", False: "whose slots tell whose they are"}
+INDICES = {False: "its head", True: "its tail"}
 OTHER = "likely: it leads to a state that isn't listed, as where the certificate is of another text"
 
 
@@ -93,7 +94,7 @@ def read(text):
     """The certificate of a text, as certificates.py takes it."""
     queues, tagged, harts = certificate_lines.read(text)
 
-    def state(own, pc, most, known, filled, cases):
+    def state(own, pc, most, known, filled, ranks, cases):
         def listed(name, number, made, other):
             return tuple(made(known[name, at]) if (name, at) in known else other for at in range(number))
 
@@ -101,14 +102,15 @@ def read(text):
         registers = listed("reg", REGISTERS, value_of, certificates.ANY)
         return certificates.ListedState(
             certificates.KnownState(pc, tuple(most), registers, listed("word", len(own), value_of, certificates.ANY), shares), cases_of(cases),
-            filled_of(filled))
+            filled_of(filled), tuple(map(form_of, ranks)))
 
     return certificates.QueueCertificate(
         tuple(certificates.OpenedQueue(certificates.Queue(*numbers[:13]), numbers[13], tuple(sent.Field(*field) for field in fields))
               for numbers, fields in queues),
         tuple(tags.OpenedTagged(tags.TaggedQueue(*found[:9], codec_of(*found[9])), found[10]) for found in tagged),
-        tuple(certificates.HartPart(tuple(certificates.OwnWord(*place) for place in own), first, tuple(numbers), tuple(state(own, *each) for each in states))
-              for own, (first, numbers), states in harts))
+        tuple(certificates.HartPart(tuple(certificates.OwnWord(*place) for place in own), first, tuple(numbers), tuple(state(own, *each) for each in states),
+                                    tuple(certificates.Goal(*goal) for goal in goals), tuple(map(tuple, lacking)))
+              for own, (first, numbers), states, goals, lacking in harts))
 
 
 # ---- what isn't shown, in lines
@@ -309,11 +311,13 @@ class Judge:
         mask = queue_questions.bytes_named(text, queue.width)
         if not mask:
             return f"queue {index}: its records have none of these bytes", False
-        named, is_one = queue_questions.bytes_text(mask)
-        shown = f"{named} of each record {'is' if is_one else 'are'} {done}"
         # what publishes a record writes its tag, by which the receiver learns of it
         in_slots = self.has_tags(index) and tags.are_slots(queue)
         rest = queue_questions.without(mask, queue.tag_offset, queue.tag_offset + queue.tag_width - 1) if in_slots else mask
+        if not rest:
+            return f"queue {index}: its records have these bytes in their tags alone", True
+        named, is_one = queue_questions.bytes_text(rest)
+        shown = f"{named} of each record {'is' if is_one else 'are'} {done}"
         party = queue_questions.Party(self.opening, self.listed, index, sends)
         missing = party.missing(rest)
         if missing is None:
@@ -337,17 +341,17 @@ class Judge:
     def hart(self, number):
         """The lines about a hart."""
         hart = queue_questions.Hart(self.opening, self.listed, number)
-        stop, anywhere, written = hart.stop(), hart.anywhere(), hart.written()
+        stop = hart.stop()
         yield (f"hart {number}: never stopped", True) if stop is None else (
             f"hart {number}: not shown that it is never stopped: {self.pc_place(number, stop)}", False)
         if self.runs_on(number):
             yield f"hart {number}: never ends", True
-        if anywhere is not None:
-            yield f"hart {number}: not shown which bytes it writes: {self.pc_place(number, anywhere)}", False
-        elif written:
-            yield f"hart {number}: writes {queue_questions.bytes_text(written)[0]} of memory only", True
-        else:
-            yield f"hart {number}: writes nothing", True
+        for stores, does in ((True, "writes"), (False, "loads")):
+            anywhere, touched = hart.anywhere(stores), hart.touched(stores)
+            if anywhere is not None:
+                yield f"hart {number}: not shown which bytes it {does}: {self.pc_place(number, anywhere)}", not stores
+            else:
+                yield f"hart {number}: {does} " + (f"{queue_questions.bytes_text(touched)[0]} of memory only" if touched else "nothing"), True
 
     # ---- whether queues go on, in lines
 
@@ -359,7 +363,10 @@ class Judge:
             finds = f"at most {owned} {few[owned == 1]}" if owned else none
             yield f"{front} hart {hart} {moves}, or looks and finds {finds}, within {bound} of its instructions, whatever hart {other} does"
             return
-        missed = f"finds {none}" if isinstance(found, progress.NoPace) else looking
+        missed = looking if isinstance(found, progress.NoLook) else f"finds {none}"
+        if isinstance(found, progress.Unranked):
+            yield f"{front} not shown that hart {hart} {moves}, or {missed}: the certificate has no ranks for it (tools/certify --rank finds them)"
+            return
         yield f"{front} not shown that hart {hart} {moves}, or {missed}: {self.pc_place(hart, found.state)}"
         yield from (f"known: {line}" for line in known_lines(self.listed.harts[hart].states[found.state]))
 
@@ -400,8 +407,8 @@ class Judge:
         if slots + records < queue.capacity:
             stands = f"queue {index}: whenever both indices have landed and both harts run on, more is published or taken"
             return [*lines, stands, *self.arriving(index)], True
-        return [*lines, f"queue {index}: hart {queue.sender} may wait for {slots + 1} free slots and hart {queue.receiver} for {records + 1} records, "
-                        f"of {queue.capacity}"], False
+        stands = f"hart {queue.sender} may wait for {slots + 1} free slots and hart {queue.receiver} for {records + 1} records, of {queue.capacity}"
+        return [*lines, f"queue {index}: not shown that more is published or taken: {stands}"], False
 
     # ---- drawn runs
 
@@ -410,29 +417,54 @@ class Judge:
         return [f"shown by this schedule, whose last event it is, with --buffer {capacity}:", *schedules.written(events).splitlines()]
 
     def losing(self, index, capacity, number, drawing):
-        """The lines of what drawn runs lose of a queue, and whether they lose a record."""
+        """The lines of what drawn runs lose of a queue."""
         queue, start, *_ = self.opened[index]
-        lost = ownership.lost(ownership.Runs(self.test, capacity, queue, start), number, drawing)
+        runs = ownership.Runs(self.test, capacity, queue, start)
+        lost = ownership.lost(runs, runs.loss, number, drawing)
         if not lost:
-            return [f"queue {index}: no record is lost in {number} drawn runs of {drawing[1]} events"], False
-        events, loss = lost
+            return [f"queue {index}: no record is lost in {number} drawn runs of {drawing[1]} events"]
+        return self.loss_lines(index, *lost, capacity)
+
+    def loss_lines(self, index, events, loss, capacity):
+        handed_back = [] if loss.handed_back is None else [f"queue {index}: handed back at pc {loss.handed_back}"]
         return [f"a record is lost: {self.place(loss.hart, loss.pc)}",
                 f"queue {index}: it loaded {loss.value} from the {loss.width} bytes at {loss.address}, of position {loss.position}, "
-                f"whose byte at {loss.byte} was sent as {loss.sent}", *self.schedule(events, capacity)], True
+                f"whose byte at {loss.byte} was sent as {loss.sent}", *handed_back, *self.schedule(events, capacity)]
+
+    def before(self, index, breach):
+        """The lines of what a party did before a breach."""
+        if breach.before is None:
+            return []
+        queue, _, *_ = self.opened[index]
+        (stored, looked), receives = breach.before, breach.hart == queue.receiver
+        own, look = ("a tag", "that slot's tag") if self.has_tags(index) else (INDICES[receives], INDICES[not receives])
+        lines = [f"queue {index}: its next position is {breach.owned[0]}, in slot {breach.owned[0] % queue.size}"]
+        if stored:
+            lines.append(f"queue {index}: before, it stored {stored[0]} to {own}, at pc {stored[1]}")
+        found = f"it last loaded {look} at pc {looked[1]}, and got {looked[0]}" if looked else f"it never loaded {look}"
+        return [*lines, f"queue {index}: {found}"]
 
     def broken(self, index, events, breach, capacity, number, drawing):
         """The lines of a run that breaks a queue's protocol, of which a schedule is the last, and the exit status."""
+        queue, start, *_ = self.opened[index]
+        runs = ownership.Runs(self.test, capacity, queue, start)
+        lost = ownership.lost(runs, runs.loss_after, number, drawing) if breach.described else None
+        if lost:
+            breach, _ = runs.judged(lost[0])
+            ending = self.loss_lines(index, *lost, capacity)
+        else:
+            unlost = f"queue {index}: no record is lost after such a store in {number} drawn runs of {drawing[1]} events"
+            ending = [*([unlost] if breach.described else []), *self.schedule(events, capacity)]
         if breach.owned is None:
             owned = "and is neither party"
         elif breach.owned[0] < breach.owned[1]:
             owned = f"and owned positions {breach.owned[0]} to {breach.owned[1] - 1}"
         else:
             owned = "and owned no position"
-        losing, is_lost = self.losing(index, capacity, number, drawing) if breach.described else ([], False)
-        verdict, status = BREAKS[is_lost]
+        verdict, status = BREAKS[lost is not None]
         return [f"{verdict}: {self.place(breach.hart, breach.pc)}",
-                f"queue {index}: it stored {breach.value} to the {breach.width} bytes at {breach.address}, {owned}", *self.form(index),
-                f"{FIT} {OF[self.has_tags(index)]}", *losing, *([] if is_lost else self.schedule(events, capacity))], status
+                f"queue {index}: it stored {breach.value} to the {breach.width} bytes at {breach.address}, {owned}",
+                *self.before(index, breach), *self.form(index), f"{FIT} {OF[self.has_tags(index)]}", *ending], status
 
     def tried(self, flaw, capacity, number, drawing):
         """What drawn runs show where the certificate has this flaw."""
@@ -472,4 +504,4 @@ class Judge:
             return self.tried(flaw, capacity, number, drawing) if self.may_draw else ([*flaw, "nothing is claimed"], NOT_SHOWN)
         if unused := self.unused():
             return [unused, "nothing is claimed"], NOT_SHOWN
-        return self.kept(lambda index: self.losing(index, capacity, number, drawing)[0], written, read, harts, asks_progress)
+        return self.kept(lambda index: self.losing(index, capacity, number, drawing), written, read, harts, asks_progress)

@@ -121,6 +121,11 @@ def always_change(bits):
     return bits.free != bits.full
 
 
+def ways(bits):
+    """The bits of a slot that is free, or full, in each round."""
+    return (bits.free, bits.full, bits.odd_free, bits.odd_full) if isinstance(bits, Phases) else (bits.free, bits.full)
+
+
 def tag_flaws(q):
     """What `is_tagged` asks, in its order, each with what is wrong where it isn't so."""
     number, bits = q.codec == NUMBER, q.codec if isinstance(q.codec, (Bits, Phases)) else None
@@ -133,7 +138,8 @@ def tag_flaws(q):
             (not number or q.tag_width == WORD, "numbers in a tag that isn't a word"),
             (not number or q.size % certificates.M32 != 1, "numbers that are the same for free and for full slots"),
             (not bits or bits.mask < 256 ** min(q.tag_width, WORD), "a mask with bits that its tag doesn't have"),
-            (not bits or always_change(bits), "bits that are the same for free and for full slots"))
+            (not bits or always_change(bits), "bits that are the same for free and for full slots"),
+            (not bits or all(told & bits.mask == told for told in ways(bits)), "bits for free or full slots that its mask doesn't have"))
 
 
 def is_tagged(q):
@@ -448,7 +454,7 @@ def accepts_tagged(opening, each):
 def first_unowned_rest(opening, c, t, h):
     """The first state of the hart with a load of tagged queue t's slots that isn't shown to be of tags and of owned slots."""
     code = opening.harts[h][0]
-    return next((n for n, (known, cases, _) in enumerate(certificates.part_of(c, h).states) if not owns_rest(c, h, code, t, known, cases)), None)
+    return next((n for n, (known, cases, *_) in enumerate(certificates.part_of(c, h).states) if not owns_rest(c, h, code, t, known, cases)), None)
 
 
 def accepts_rest(opening, c, t, h):

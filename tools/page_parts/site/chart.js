@@ -3,7 +3,7 @@
 
 import { ask, waiting } from "./ask.js";
 import { NARROW, by, el } from "./dom.js";
-import { isWide, rowsOf } from "./rows.js";
+import { headsOf, isWide, rowsOf } from "./rows.js";
 import { about } from "./schedules.js";
 import { known, state } from "./state.js";
 import { entriesOf, told } from "./words.js";
@@ -53,7 +53,7 @@ new ResizeObserver(async () => {
   if (shown) veil(box);
 }).observe(by("chart"));
 
-// a picture that is too wide is whole on a narrow window, and elsewhere as large as it is read, until the button says another
+// a picture that is too wide is small on a narrow window, and elsewhere as large as it is read, until the button says another
 let isWhole = null;
 const showsWhole = () => isWhole ?? NARROW.matches;
 
@@ -88,9 +88,27 @@ async function put(box, key, answer) {
   for (const id of ["save-picture", "save-image"]) by(id).hidden = answer.svg === undefined;
   by("fit").hidden = !wide;
   by("fit").setAttribute("aria-pressed", String(showsWhole()));
+  const [label, title] = NARROW.matches ? ["Small", "The picture as small as it can be read, or with rows for fingers"]
+    : ["Whole", "The whole picture within the page's width, or as large as it can be read"];
+  Object.assign(by("fit"), { textContent: label, title });
   shown = { key, answer, room, svg: answer.svg, rows, end, cover, entries: entriesOf(answer.outcomes) };
-  box.replaceChildren(el("div", { class: "picture" }, drawn, cover, bar, area));
+  box.replaceChildren(el("div", { class: "picture" }, heads(answer.svg, scale), drawn, cover, bar, area));
   showGoesOn();
+}
+
+// the harts' names, over those of the picture, which stay where it is scrolled
+function heads(svg, scale) {
+  const found = headsOf(svg, scale);
+  if (!found) return null;
+  const { names, top, height, font } = found, bar = el("div", { class: "heads", "aria-hidden": "true" });
+  Object.assign(bar.style, { marginTop: `${top}px`, marginBottom: `${-top - height}px`, height: `${height}px`, fontSize: `${font}px`,
+    lineHeight: `${height}px`, paddingLeft: `${names[0].left}px` });
+  bar.append(...names.map(({ name, left }, at) => {
+    const column = el("span", {}, el("b", {}, name));
+    if (at + 1 < names.length) column.style.width = `${names[at + 1].left - left}px`;
+    return column;
+  }));
+  return bar;
 }
 
 // an image runs no script and loads nothing

@@ -51,6 +51,11 @@ export function menu(id) {
   });
 }
 
+// on a narrow window what changed is brought into sight
+export function reveal(part, block = "start") {
+  if (NARROW.matches) part?.scrollIntoView({ block });
+}
+
 // a screen reader says what changes, so the same words once more have another blank
 export function say(words) {
   by("said").textContent = by("said").textContent === words ? `${words}\u00a0` : words;

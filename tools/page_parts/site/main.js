@@ -3,7 +3,7 @@
 
 import { damaged, isStopped, trouble, waiting } from "./ask.js";
 import { fit, placeOf, showChart } from "./chart.js";
-import { NARROW, by, menu, onPress } from "./dom.js";
+import { by, menu, onPress, reveal } from "./dom.js";
 import { drawRuns, stepRow } from "./draws.js";
 import { forgetRefused, take } from "./editor.js";
 import { compileAnew, forgetSource, openFiles } from "./files.js";
@@ -48,16 +48,22 @@ async function shrink() {
 
 function onHarts(found, clicked) {
   const [kind, ...rest] = found.dataset.key.split(" ");
-  if (kind === "break") toggleBreak(...rest.map(Number));
-  else return happen(kind, by("onward").checked || clicked.shiftKey);
+  if (kind !== "break") return event(kind, by("onward").checked || clicked.shiftKey);
+  toggleBreak(...rest.map(Number));
   return null;
+}
+
+// what an event changes of its hart is then in sight
+async function event(kind, goesOn) {
+  await happen(kind, goesOn);
+  reveal(by("harts").children[Number(kind.slice(1))], "nearest");
 }
 
 function onEvents() {
   onClick("harts", "[data-key]", onHarts);
   onClick("strip", "[data-key]", found => go(Number(found.dataset.key.slice("to ".length))));
   onClick("witnesses", "button", loadWitness);
-  onClick("drawn", '[data-key^="row "]', found => stepRow(found.dataset.key.slice("row ".length)));
+  onClick("drawn", '[data-key^="row "]', found => stepRow(found.dataset.key.slice("row ".length)).then(() => reveal(by("run"))));
   by("chart").addEventListener("click", hand(clicked => {
     const place = placeOf(clicked);
     if (place === null) return null;
@@ -189,7 +195,7 @@ async function fromLink() {
   history.replaceState(null, "", location.pathname);
   const isThere = await loadLink(link);
   // who was sent a run sees its picture first
-  if (isThere && state.events.length && NARROW.matches) by("run").scrollIntoView();
+  if (isThere && state.events.length) reveal(by("run"));
   return isThere;
 }
 

@@ -2,7 +2,7 @@
 // `threads` what threads of the system did. A second press stops it.
 
 import { ask, isAsked, stop } from "./ask.js";
-import { by, el } from "./dom.js";
+import { by, el, reveal } from "./dom.js";
 import { notShown } from "./excluded.js";
 import { note, setEvents } from "./run.js";
 import { expanded } from "./schedules.js";
@@ -34,6 +34,7 @@ async function made(route, told) {
   const answer = await answered(route);
   note(...await told(answer));
   if (answer.tokens !== undefined) await setEvents(expanded(answer.tokens));
+  reveal(by("run"));
 }
 
 // what was found, or what is known without it: of this machine, with this buffer

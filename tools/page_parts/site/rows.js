@@ -4,9 +4,11 @@
 
 import { idle } from "./words.js";
 
-const TEXT = { pitch: 17 }, SVG = { pitch: 22, above: 16 };
+const TEXT = { pitch: 17 }, SVG = { pitch: 22, above: 16, font: 13 };
 // a picture that is too wide is made as small as this, so that it fits; a wider one goes on
 const SMALLEST = 0.68;
+// and one that is to be whole on a phone no smaller than this, so that its letters have 9 pixels
+const READ = 9.1 / SVG.font;
 
 // numbers with the tops of their rows
 function ofText(text) {
@@ -30,6 +32,16 @@ function ofSvg(svg) {
   });
 }
 
+// the columns' names, each with where it stands; and between which heights they do. Of a picture of text nothing
+export function headsOf(svg, scale) {
+  const group = svg && /<g transform='translate\(0 (\d+)\)'>([\s\S]*?)<\/g>/.exec(svg);
+  if (!group) return null;
+  const found = [...group[2].matchAll(/<text [^>]*\bx='(\d+)' y='(\d+)'[^>]*class='bold'[^>]*>([^<]*)</g)];
+  if (!found.length) return null;
+  const names = found.map(([, x, , name]) => ({ name, left: Number(x) * scale }));
+  return { names, top: (Number(group[1]) + Number(found[0][2]) - SVG.above) * scale, height: SVG.pitch * scale, font: SVG.font * scale };
+}
+
 const widthOf = svg => Number(/<svg [^>]*\bwidth='(\d+)'/.exec(svg)?.[1] ?? 0);
 
 // as large as it is read; it may be wider than its room
@@ -45,7 +57,7 @@ export const isWide = ({ svg }, least, room) => svg !== undefined && widthOf(svg
 export function rowsOf({ svg, text, outcomes }, least, room, isWhole) {
   const places = outcomes.flatMap((outcome, at) => idle(outcome) ? [] : [at + 1]);
   const [found, { pitch }] = svg === undefined ? [ofText(text), TEXT] : [ofSvg(svg), SVG];
-  const scale = isWhole ? room / widthOf(svg) : readable(svg, pitch, least, room);
+  const scale = isWhole ? Math.max(room / widthOf(svg), least ? READ : 0) : readable(svg, pitch, least, room);
   const rows = found.map(([number, top]) => ({ place: places[number - 1], top: top * scale })).filter(row => row.place);
   return { rows, pitch: pitch * scale, scale };
 }

@@ -73,7 +73,11 @@ export const saveSchedule = () => save(scheduleText(), "text/plain", ".schedule"
 
 export const saveTest = () => save(state.text, "text/plain", ".litmus");
 
-export const savePicture = () => save(svg(), "image/svg+xml", ".svg");
+export const savePicture = () => save(alone(svg()), "image/svg+xml", ".svg");
+
+// a picture as programs take it that know no media queries, or no classes: in light colours, on white
+const alone = picture => picture.replace(/@media \(prefers-color-scheme:dark\)\{[\s\S]*?\}\}(?=<\/style>)/, "")
+  .replace("<rect class='back'", "<rect class='back' fill='#ffffff'");
 
 // the picture in the colours that are seen, twice as fine
 export async function saveImage() {

@@ -1,6 +1,6 @@
 // What the shelf has of the text in the editor: its place in the list, its witnesses, what a source excludes.
 
-import { by, el } from "./dom.js";
+import { by, el, reveal } from "./dom.js";
 import { showExcluded } from "./excluded.js";
 import { note, setEvents } from "./run.js";
 import { expanded } from "./schedules.js";
@@ -34,7 +34,8 @@ export function showWitnesses() {
       title: `Load the shelf's shortest schedule that ends with ${values(outcome)}: ${schedule}` }, outcome)));
 }
 
-export function loadWitness(button) {
+export async function loadWitness(button) {
   note(`The shelf's shortest schedule of ${button.textContent}.`);
-  return setEvents(expanded(button.dataset.schedule));
+  await setEvents(expanded(button.dataset.schedule));
+  reveal(by("run"));
 }

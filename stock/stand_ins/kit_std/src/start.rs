@@ -8,8 +8,13 @@ use std::sync::atomic::{AtomicBool, Ordering};
 /// What ends a program that has no memory: its status, and what it writes on standard error.
 static NO_MEMORY: OnceLock<(u8, &str)> = OnceLock::new();
 
+/// Stands in each program that rustc builds of the sources, so that its bytes say what built it, wherever they lie: scripts/build and
+/// tools/bring_parts/provenance.py look for it.
+static BUILT: &str = "ztso: built by rustc, and nothing is proved of this program";
+
 /// Says how the program ends without memory, before it asks for any.
 pub fn begin(status: u8, said: &'static str) {
+    let _ = std::hint::black_box(BUILT);
     let _ = NO_MEMORY.set((status, said));
 }
 
