@@ -1,5 +1,5 @@
 """The maps of tools/, tests/ and scripts/: each README.md there names every entry of its folder in a row, and no other.
-The decisions: each entry is short. And the rooms of the crates."""
+The decisions: each entry is short."""
 
 import re
 
@@ -25,25 +25,9 @@ def long_decisions():
             yield f"docs/DECISIONS.md: {title}: {len(rest.split())} words, of {MOST_WORDS} at most"
 
 
-def rooms():
-    """The rooms of crates.txt, each as a row of crates/README.md, where the topmost comes first."""
-    for room in reversed(re.split(r"^# ", (ROOT / "crates.txt").read_text(), flags=re.M)[2:]):
-        title, *lines = room.split("\n")
-        names = [f"`{re.split('[ :]', line)[0]}`" for line in lines if line]
-        yield f"| {title} | {', '.join(names)} |"
-
-
-def other_rooms():
-    """A line if the rows of crates/README.md aren't those of crates.txt."""
-    page = (ROOT / "crates/README.md").read_text().partition("\n## The rooms\n")[2].partition("\n## ")[0]
-    if (rows := re.findall(r"^\| .*: .*$", page, re.M)) != (wanted := list(rooms())):
-        yield f"crates/README.md: the rooms of crates.txt are: {next((row for row in wanted if row not in rows), 'fewer')}"
-
-
 def wrong():
-    """A line for each entry that a map doesn't have, for each row whose entry isn't there, for each long decision, and for other rooms."""
+    """A line for each entry that a map doesn't have, for each row whose entry isn't there, and for each long decision."""
     yield from long_decisions()
-    yield from other_rooms()
     for name in FOLDERS:
         page = ROOT / name / "README.md"
         there = {path.name for path in page.parent.iterdir()} - set(HIDDEN)

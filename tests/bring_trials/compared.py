@@ -88,8 +88,10 @@ def pairs(count):
     for halves, wanted, last in PAIRS:
         with mock.patch.multiple(mappings, halves=lambda name, compiler, made=halves: made):
             status, printed = answered(["--pairs", "--mapping", "mine.h"], 0)
+            again = answered(["--pairs", *["--mapping", "mine.h"] * 2], 0)
         said = printed.rstrip("\n").split("\n")[-1]
         count.told(f"compare-mappings --pairs by {halves}", status == wanted and said.startswith(last), f"{status} {printed}")
+        count.told("compare-mappings --pairs by a mapping named twice", again == (status, printed), f"{again}")
 
 
 def progress(count):

@@ -2,6 +2,7 @@
 instruction."""
 
 import re
+import shutil
 import tempfile
 from collections import Counter
 from pathlib import Path
@@ -20,6 +21,8 @@ C = ROOT / "examples/c"
 # how strangers compile, after the flags that all have
 COMMON = "-O2 -ffreestanding -march=rv32ia -mabi=ilp32 -g -c".split()
 WAYS = [[], ["-mcmodel=medany"], ["-fPIC"], ["-O0"], ["-Os", "-g0"], ["-march=rv32imac"], ["-march=rv32imafdc", "-mabi=ilp32d"]]
+# those that leave lengths to the linker
+NEWER = [f"clang-{version}" for version in range(16, 23)]
 STRANGERS = ("dekker", "seqlock", "spinlock", "ticket-lock")
 TARGETS = {"gcc": [], "clang": ["--target=riscv32-unknown-elf"]}
 
@@ -78,8 +81,8 @@ def of_headers(count):
 def compiled(file, compiler, flags, folder):
     """An object of one's own of a C file."""
     module = Path(folder, "own.o")
-    command = compilers.Compiler(compiler).words
-    compilers.output([*command, *TARGETS[compiler], *COMMON, *flags, "-o", module, file])
+    command = compilers.Compiler(compiler)
+    compilers.output([*command.words, *TARGETS[command.family], *COMMON, *flags, "-o", module, file])
     return module
 
 
@@ -97,6 +100,19 @@ def strangers(count):
                 is_unknown = name == "spinlock" and "-g0" in flags and "P0 reads a0, and nothing says what it is" in came
                 count.told(f"{name}.c by {compiler} {' '.join(flags)}", came == wanted or is_unknown, f"{came}, and {wanted} is wanted")
     print(f"  {taken} objects of strangers, of {len(STRANGERS) * len(TARGETS) * len(WAYS)}, with the outcomes of examples/c")
+
+
+def newer(count):
+    """What clang 16 and later makes of examples/c is taken, as sources and as objects of one's own."""
+    for compiler in filter(shutil.which, NEWER):
+        for path in forms.sources():
+            came = answer([path], Way(compiler))
+            count.told(f"{path.name} by {compiler}", not came.startswith("refused"), came)
+        with tempfile.TemporaryDirectory() as folder:
+            came = answer([compiled(C / "ticket-lock.c", compiler, [], folder)], Way(ask=str(C / "ticket-lock.c")))
+        count.told(f"an object by {compiler}", not came.startswith("refused"), came)
+    if not any(map(shutil.which, NEWER)):
+        print(f"  not tried: {' or '.join(NEWER)}, of which none is here")
 
 
 def own(count):

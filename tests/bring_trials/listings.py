@@ -2,7 +2,7 @@
 
 import re
 
-from bring_parts import Refused, c_source, c_tests, columns, functions, instructions, memory, queues
+from bring_parts import Refused, c_source, c_tests, columns, functions, inputs, instructions, memory, queues
 from bring_parts.fields import Part
 from bring_parts.memory import Placed
 from bring_parts.objects import Symbol
@@ -212,6 +212,75 @@ def past_names(count):
         count.told(f"{size} bytes of stack, and {value} at {place}", wanted in said and bool(wanted) == bool(said), said)
 
 
+# instructions of a hart, from one address on, those that become others where 0x10000000 has 8 bytes as an input and 0x10001000 one, and their operands; or
+# what is refused
+LUI, BACK = ("lui", "x15,0x10000"), ("jal", "x0,100000")
+MOVED = [
+    ([LUI, ("lbu", "x14,5(x15)"), ("sb", "x14,0(x15)"), BACK], {0: "x15,0x2"}),
+    ([LUI, ("addi", "x13,x15,4"), ("lw", "x14,0(x13)"), BACK], {0: "x15,0x2"}),
+    ([LUI, ("add", "x13,x0,x15"), ("amoswap.w", "x0,x14,(x13)"), BACK], {0: "x15,0x2"}),
+    # a page that is reached from the one after it, and one from the one after that
+    ([("lui", "x15,0x10001"), ("lbu", "x14,-4096(x15)"), ("lbu", "x14,0(x15)"), BACK], {0: "x15,0x3"}),
+    ([("lui", "x15,0x10002"), ("lbu", "x14,-4096(x15)"), BACK], {0: "x15,0x4"}),
+    # other constants stay, and so does an address of the program
+    ([("lui", "x15,0x20000"), ("addi", "x14,x15,1"), BACK], {}),
+    ([LUI, ("lbu", "x14,8(x15)"), BACK], "loads from 0x10000008, which no --input names: --input 0x10000008:1"),
+    ([LUI, ("lw", "x14,5(x15)"), BACK], "loads from 0x10000005, which no --input names: --input 0x10000005:4"),
+    ([LUI, ("sw", "x15,0(x15)"), BACK], "the address 0x10000000 is more than used"),
+    ([LUI, ("sw", "x15,4(x8)"), BACK], "more than used"), ([LUI, ("add", "x14,x15,x13"), BACK], "more than used"),
+    ([LUI, ("and", "x14,x13,x15"), BACK], "more than used"), ([LUI, ("bne", "x15,x13,100000"), BACK], "more than used"),
+    ([LUI, ("amoswap.w", "x0,x15,(x13)"), BACK], "more than used"), ([LUI, ("addi", "x10,x15,0"), ("jalr", "x0,0(x1)")], "more than used"),
+    # on one way another address, or none
+    ([LUI, ("beq", "x14,x0,10000c"), ("addi", "x15,x15,4"), ("lbu", "x14,0(x15)"), BACK], "an address that isn't the same on each way"),
+    ([("addi", "x15,x0,0"), ("beq", "x14,x0,10000c"), LUI, ("lbu", "x14,0(x15)"), BACK], "an address that isn't the same on each way"),
+    # passed to a function, which keeps the caller's registers by the stack
+    ([("lui", "x8,0x10000"), ("addi", "x10,x8,0"), ("jal", "x1,100014"), ("lbu", "x14,5(x8)"), BACK, ("sw", "x8,4(x2)"), ("lbu", "x14,5(x10)"),
+      ("jalr", "x0,0(x1)")], {0: "x8,0x2"}),
+    # and which leaves what was passed to it, or returns it
+    ([("lui", "x10,0x10000"), ("jal", "x1,100010"), ("lbu", "x14,0(x10)"), BACK, ("sb", "x0,0(x10)"), ("jalr", "x0,0(x1)")],
+     "an address that isn't the same on each way"),
+    ([("lui", "x10,0x10000"), ("jal", "x1,100010"), ("addi", "x10,x0,1"), BACK, ("sb", "x0,0(x10)"), ("jalr", "x0,0(x1)")], {0: "x10,0x2"}),
+]
+
+
+def moved(code):
+    """The operands that change, by their places, or what is refused."""
+    words = memory.Memory([0] * 16, [Placed(4, 4, "x")])
+    made = [instructions.Instruction(instructions.TEXT + 4 * at, name, operands, "a.c", at) for at, (name, operands) in enumerate(code)]
+    # what stands after the jump back is a function of its own
+    end = next((at for at, each in enumerate(code) if each == BACK), len(code)) + 1
+    try:
+        after = inputs.placed(["0x10000000:8", "0x10001000:1"], words).moved({"P0": made[:end], "f": made[end:]}, {})
+    except Refused as refused:
+        return str(refused)
+    return {at: each.operands for at, (before, each) in enumerate(zip(made, [*after["P0"], *after["f"]])) if before != each}
+
+
+def of_inputs(count):
+    """Code whose device's addresses become those of memory; the bytes that inputs have; and that the hart which stores to them comes to each number."""
+    for code, wanted in MOVED:
+        made = moved(code)
+        count.told(f"a device's address in {code}", made == wanted if isinstance(wanted, dict) else isinstance(made, str) and wanted in made, str(made))
+    words = memory.Memory([0] * 16, [Placed(4, 4, "x"), Placed(8, 6, "buffer")])
+    found = inputs.placed(["x", "8:3", "0x10000005:4"], words)
+    count.told("the parts of inputs", [[*each.parts()] for each in found.found] == [[(4, 4)], [(8, 2), (10, 1)], [(12293, 1), (12294, 2), (12296, 1)]],
+               str([[*each.parts()] for each in found.found]))
+    for text, wanted in (("y", "y is no place of the program"), ("x:0", "1 to 1024 bytes"), ("x:1025", "1 to 1024 bytes"), ("60:8", "it lies past all data"),
+                         ("0xfffffffc:5", "1 to 1024 bytes")):
+        try:
+            said = str(inputs.placed([text], words))
+        except Refused as refused:
+            said = str(refused)
+        count.told(f"the input {text}", wanted in said, said)
+    # of each power of two up to 2^16 its steps pass through all numbers; that it is so of 2^32 follows since 4 divides 5 - 1 and 1013 is odd
+    number, seen = 0, set()
+    for _ in range(1 << 16):
+        number = (5 * number + 1013) % (1 << 16)
+        seen.add(number)
+    count.told("the numbers that a further hart stores", len(seen) == 1 << 16 and inputs.COUNTS == ["slli x6,x5,2", "add x5,x5,x6", "addi x5,x5,1013"],
+               str(len(seen)))
+
+
 def stored(count):
     for parameters, wanted in STORED:
         source = c_source.read(f"int P0({parameters}) {{ return 0; }}\n// exists (0:a0=0)\n", "a.c")
@@ -220,6 +289,7 @@ def stored(count):
 
 def part(count):
     stored(count)
+    of_inputs(count)
     past_names(count)
     queue_users(count)
     count.told("calls", cells(CALLS) == MADE, str(cells(CALLS)))

@@ -1,10 +1,15 @@
 """Logs of cores that several processes convert, and tables that become logs of herd's form, beyond what cases have."""
 
+import json
 import os
+import tempfile
+import xml.etree.ElementTree
+from pathlib import Path
 from types import SimpleNamespace
 from unittest import mock
 
 from bring_parts import ROOT, Refused, logs, program_of, texts
+from bring_trials.counting import run, write
 from core_log_parts import converting, log
 from core_log_parts.opening import opening
 
@@ -60,7 +65,49 @@ def in_order(count, program):
     count.told("runs in one order", made[0] == made[1] != made[2] and len(made) == 3, "\n".join(made))
 
 
+# of texts, by a change of sb.litmus: whether what it asks holds, what is answered, and a part of the line
+ASKED = (("", "", True, "shown", '"schedule": "a0*2 a1*2 l0 l1"'), ("exists", "~exists", False, "shown", '"asked": "~exists ('),
+         ("1:x7=0)", "1:x7=5)", False, "not shown", '"states": '), ("exists (0:x7=0", "~exists (0:x7=5", True, "not shown", '"states": '),
+         ("exists (0:x7=0", "forall (0:x7=0", False, "shown", '"schedule": '), ("lw x7", "lwx x7", None, "refused 24 at line 9", '"place": {"line": 9}'))
+
+
+def for_ci(count, program):
+    """Answers as lines of JSON and in JUnit's form."""
+    right, late = (ROOT / "litmus/store-buffering/sb.litmus").read_text(), ROOT / "examples/core/logs/load_retires_late.log"
+    with tempfile.TemporaryDirectory() as folder:
+        for number, (old, new, *_) in enumerate(ASKED):
+            write(folder, f"{number}.litmus", right.replace(old, new, 1) if old else right)
+        report = Path(folder, "report.xml")
+        status, printed, error = run("for-ci", "find", folder, "--junit", report, "--program", program)
+        lines = printed.splitlines()
+        for line, (old, new, passed, answer, part_of) in zip(lines, ASKED):
+            made = json.loads(line)
+            count.told(f"for-ci of {new or 'sb.litmus'}", (made["passed"], made["answer"]) == (passed is True, answer) and part_of in line, line)
+        suite = xml.etree.ElementTree.parse(report).getroot()
+        kinds = [[part.tag for part in case] for case in suite]
+        wanted = [[] if passed else ["error" if passed is None else "failure"] for _, _, passed, _, _ in ASKED]
+        good = (status, len(lines), kinds, suite.get("failures"), suite.get("errors")) == (2, len(ASKED), wanted, "3", "1")
+        count.told("for-ci's status and report", good, f"{status} {printed}{error}{report.read_text()}")
+    records = "".join(run("core-log-to-record", TEST, "--order", order, "--program", program, text=late.read_text())[1] for order in ("performed", "retired"))
+    status, printed, error = run("for-ci", "check", TEST, "--program", program, text=records)
+    made = [json.loads(line) for line in printed.splitlines()]
+    good = status == 1 and [each["passed"] for each in made] == [True, False] and made[1]["place"] == {"event": 4, "line": 6}
+    count.told("for-ci of records", good, printed + error)
+
+
+def of_folders(count, program):
+    """tools/allowed takes a folder's texts that the log names, passes over the others, and names the tests that it found no text of."""
+    made_up = ROOT / "examples/logs/made-up.log"
+    for folder, wanted, last, missing in (("litmus", 1, "8 outcomes: 7 shown, 1 not shown", 0),
+                                          ("litmus/store-buffering", 3, "4 outcomes: 4 shown, 0 not shown; 1 of 2 tests not looked at", 1)):
+        status, printed, error = run("allowed", made_up, ROOT / folder, "--program", program)
+        good = status == wanted and printed.splitlines()[-1] == last and printed.count("not looked at: MP\n") == missing
+        count.told(f"allowed made-up.log {folder}", good and "texts passed over" in error, f"{status} {printed}{error}")
+
+
 def part(count, program):
+    for_ci(count, program_of(program))
+    of_folders(count, program)
     several(count, program)
     in_order(count, program)
     for table, condition, wanted in WRITTEN:

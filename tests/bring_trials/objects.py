@@ -1,14 +1,21 @@
 """What is read of objects, without a compiler: by listings, debugging information and first bytes that are written by hand."""
 
+import re
+import subprocess
+import sys
 import tempfile
 from pathlib import Path
 from types import SimpleNamespace
 
-from bring_parts import Refused, arguments, dwarf, fields, functions, instructions, litmus_texts, memory, questions
+from bring_parts import ROOT, Refused, arguments, dwarf, fields, functions, instructions, linkable, litmus_texts, memory, questions
 from bring_parts import objects as tried
 from bring_parts.instructions import TEXT, Instruction
 from bring_parts.objects import Symbol
-from bring_trials.counting import write
+from bring_trials.counting import run, write
+
+sys.path.insert(0, str(ROOT / "cases"))
+
+from kit import terminal  # noqa: E402
 
 # compressed instructions as objdump writes them, and the ones of 32 bits that the manual says they are
 EXPANDED = [
@@ -228,7 +235,70 @@ def harts_of_objects(count):
     count.told("a comment's end in a comment", said == "(* cc -DEND=* ) *)", said)
 
 
+def object_of(length, relocations):
+    """An object with a section of data at a byte's boundary, and one of two lengths, of one byte and of two, which these relocations of symbols at
+    0, 20 and 320 give."""
+    data, symbols = b"\x05" + length, b"".join(linkable.SYMBOL.pack(0, value, 0, 0, 0, 1) for value in (0, 20, 320))
+    table = b"".join(linkable.RELOCATION.pack(at, symbol << 8 | kind, addend) for at, symbol, kind, addend in relocations)
+    parts = [(1, 2, data[:1], 0, 0, 1), (1, 0, data[1:], 0, 0, 1), (linkable.RELOCATIONS, 0, table, 4, 2, 4), (2, 0, symbols, 0, 0, 4)]
+    content, headers = bytes(52), [linkable.HEADER.pack(*[0] * 10)]
+    for kind, flags, part_of, link, info, align in parts:
+        headers.append(linkable.HEADER.pack(0, kind, flags, 0, len(content), len(part_of), link, info, align, 0))
+        content += part_of
+    content = bytearray(content + b"".join(headers))
+    linkable.TABLE.pack_into(content, 0, len(content) - 40 * len(headers), 40, len(headers))
+    return bytes(content)
+
+
+def lengths(count):
+    """Lengths that relocations give are written in the bytes that stand there, and the relocations give nothing further; data begin at a word."""
+    pairs = [(0, 1, linkable.LENGTH_TO, 7), (0, 0, linkable.LENGTH_FROM, 2), (1, 2, linkable.LENGTH_TO, 0), (1, 1, linkable.LENGTH_FROM, 0), (0, 1, 1, 9)]
+    made = bytes(linkable.rewritten(bytearray(object_of(b"\x7f\xff\x7f", pairs))))
+    _, data, length, relocations, _ = linkable.sections_in(made)
+    written = made[length.begin:length.begin + length.size].hex()
+    count.told("lengths", written == "19ac02", written)  # 20 + 7 - 2, and 300 in groups of 7 bits
+    kinds = [linkable.RELOCATION.unpack_from(made, at)[1:] for at in range(relocations.begin, relocations.begin + relocations.size, 12)]
+    count.told("their relocations", kinds == [(0, 0)] * 4 + [(1 << 8 | 1, 9)], str(kinds))
+    count.told("data at a word", (data.align, length.align) == (4, 1), str(data))
+    for name, content in (("a length that never ends", object_of(b"\xff" * 3, pairs)), ("no label to begin with", object_of(b"\x00" * 3, pairs[1:])),
+                          ("a symbol that isn't there", object_of(b"\x00" * 3, [(0, 99, linkable.LENGTH_TO, 0)])), ("a part", made[:-50])):
+        with tempfile.TemporaryDirectory() as folder:
+            said = refusal(linkable.made_of, write(folder, "x.o", content), Path(folder, "made"))
+        count.told(f"an object with {name}", said.startswith("its table of sections, or a relocation, leads out"), said)
+
+
+# a compiler of Rust that takes two seconds for each library
+SLOW_RUSTC = """#!/bin/sh
+case "$*" in
+--version) echo rustc 1.99.0 ;;
+*target-list) echo riscv32imac-unknown-none-elf ;;
+*target-spec-json*) echo '{"arch": "riscv32"}' ;;
+*) sleep 2 ;;
+esac
+"""
+
+
+def seen_at_work(count):
+    """tools/make-rust-core says what it compiles, and at a terminal for how long it has."""
+    with tempfile.TemporaryDirectory() as folder:
+        rustc = write(folder, "rustc", SLOW_RUSTC)
+        rustc.chmod(0o755)
+        Path(folder, "library/core").mkdir(parents=True)
+        write(folder, "library/core/Cargo.toml", 'edition = "2021"\n')
+        words = [ROOT / "tools/make-rust-core", Path(folder, "core"), "--rustc", rustc, "--sources", folder]
+        said = [f"make-rust-core: compiling {name} of rustc 1.99.0, by {rustc}" for name in ("core", "compiler_builtins")]
+        status, printed, error = run("make-rust-core", *words[1:])
+        count.told("make-rust-core says what it compiles", (status, error.splitlines()) == (0, said) and "core of rustc 1.99.0" in printed, printed + error)
+        done, written = terminal.run(list(map(str, words)), stdout=subprocess.DEVNULL)
+        shown, gone = terminal.shown(written)
+        lines = shown.decode().splitlines()
+        count.told("and at a terminal for how long", done.returncode == 0 and len(lines) == 2 and all(
+            re.fullmatch(f"{re.escape(line)}: [1-9] s", each) for line, each in zip(said, lines)), f"{shown} {gone}")
+
+
 def part(count):
+    seen_at_work(count)
+    lengths(count)
     expansions(count)
     own_headers(count)
     codes(count)

@@ -6,7 +6,7 @@ import tempfile
 from pathlib import Path
 from types import SimpleNamespace
 
-from bring_parts import ROOT, TOOLS, Refused, compilers, memory, queue_hints, queue_types, queue_uncovered
+from bring_parts import ROOT, TOOLS, Refused, compilers, memory, queue_described, queue_hints, queue_places, queue_types, queue_uncovered
 from bring_parts.fields import Part
 from bring_trials import counting
 
@@ -32,7 +32,7 @@ LOCATIONS = {"null": 0, "queue": 4, "queue_write": 68, "words_1_id": 72, "queue_
 # what the search says and what is answered, the notes of a hart, a certificate's queue, and parts of what helps
 COUNTS, TAGS = "queue 0 1 4 8 1 12 16 8 16 0 1 0 256 0\n", "tagged 0 1 12 8 12 4 1 zero 0\n"
 NOT_COVERED = "hart 0 is not covered: at pc 4, sw x1,0(x2): why\n"
-DRAWN = "queue 0: kept in 1000 drawn runs of 1000 events, in which {} positions were published"
+DRAWN = "queue 0: kept in 1000 drawn runs of 1000 events, in which {} positions were published and 0 taken"
 BROKEN = "broken: hart 0 at pc 4\nqueue 0: it stored 1 to the 4 bytes at 12, and owned no position\n"
 KEPT = "kept in every run\nqueue 0: stored to by hart 0 at pc 4, sw x5,0(x6)\nqueue 0: loaded from by hart 1 at pc 4, lw x5,0(x6)\n"
 HINTS = [
@@ -86,6 +86,7 @@ TYPED = [
     ("--tagged", "slots=q.slot", "slots=q.slot,size=4,width=8,tag=0+4"), ("--tagged", "slots=q.slot,tag=4", "slots=q.slot,tag=4+1,size=4,width=8"),
     ("--tagged", "slots=q.slot,tag=q.slot[0].full,size=2", "slots=q.slot,tag=q.slot[0].full+1,size=2,width=8"),
     ("--tagged", "slots=q.slot,tag=q.slot[0].full+4", "the tag q.slot[0].full has 1 byte, and not 4: leave +4 out, or say tag=q.slot[0].full+1"),
+    ("--tagged", "slots=l.row,tag=l.row[0][1]+1", "the tag l.row[0][1] has 4 bytes, and not 1: leave +1 out, or say tag=l.row[0][1]+4"),
     ("--tagged", "slots=l", "the tag at 0 has 8 bytes, and may have at most 4: say which they are, as tag=0+4"),
 ]
 # a description of a source by its author's names, of which one leaves the tag's bytes out, and what tools/certify is given
@@ -172,7 +173,7 @@ def answer_of(files, sample, program=None, options=()):
     """The first line of the answer, up to the model, or what is refused."""
     words = [*files, "--queue", QUEUES[sample], *options, *(["--program", program] if program else [])]
     _, printed, error = counting.run("queue", *words)
-    return (printed + error).partition("\n")[0].partition(", under Ztso ")[0]
+    return (printed + error).partition("\n")[0].partition(": queue ")[0]
 
 
 def part(count, program):
@@ -190,9 +191,9 @@ def part(count, program):
                 count.told(f"tools/queue of {sample} by {way}", wanted == "kept in every run, and goes on while its harts run" == came, f"{came}, and {wanted} is written")
     queue = runpy.run_path(str(TOOLS / "queue"))
     for place, wanted in NAMED:
-        count.told(f"the place {place} of a text", queue["named_in"](LOCATIONS, place) == wanted, queue["named_in"](LOCATIONS, place))
+        count.told(f"the place {place} of a text", queue_described.named_in(LOCATIONS, place) == wanted, queue_described.named_in(LOCATIONS, place))
     for place, wanted in CALLED:
-        came = queue["names_in"](SimpleNamespace(locations=LOCATIONS), None)(*place)
+        came = queue_places.Places(SimpleNamespace(locations=LOCATIONS), [], {}, None, {}).name_of(*place)
         count.told(f"what the bytes at {place} are called", came == wanted, came)
     for instruction, wanted in MASKED:
         count.told(f"what {instruction} leaves", queue_uncovered.masked(instruction, {6: 1}) == wanted, "")
@@ -202,7 +203,7 @@ def part(count, program):
         came = "\n".join([*after, *queue_hints.at_end(answer, found, [notes], certificate)])
         count.told(f"what helps after {found + answer!r}", all(part in came for part in wanted) and bool(came) == bool(wanted), came)
     for queues, tagged, wanted in DESCRIBED:
-        came = [*queue["described"](SimpleNamespace(queue=queues, tagged=tagged), PLACED.get, None)]
+        came = [*queue_described.described(SimpleNamespace(queue=queues, tagged=tagged), PLACED.get, None)]
         count.told(f"what is made of {queues or tagged}", came == wanted, str(came))
     types = queue_types.Types(memory.Memory([0] * 40, [memory.Placed(4, 36, "q", PARTS), memory.Placed(40, 80, "l", LONG)]))
     for kind, given, wanted in TYPED:
@@ -212,7 +213,7 @@ def part(count, program):
             came = str(refused)
         count.told(f"what the types say of {given}", came == wanted, came)
     for said, wanted in PROPOSED:
-        came = queue["in_source"](said, SimpleNamespace(locations=IN_TEXT), types)
+        came = queue_described.in_source(said, SimpleNamespace(locations=IN_TEXT), types)
         count.told(f"how the source calls {said}", came == wanted, came)
     for line, wanted in SCHEDULES:
         count.told(f"a schedule of {len(line)} characters at a terminal", queue["shown"](line, True) == wanted, queue["shown"](line, True))
@@ -228,19 +229,19 @@ def compiled(count, program, _):
                 edited = edited.replace(old, new)
             file = counting.write(folder, "mine.cpp", edited)
             for compiler in ("gcc", "clang"):
-                _, printed, error = counting.run("queue", file, "--queue", places, "--compiler", compiler, "--program", program)
+                _, printed, error = counting.run("queue", file, "--queue", places, "--lines", "--compiler", compiler, "--program", program)
                 count.told(f"tools/queue of {edits or places} by {compiler}", all(part in printed + error for part in wanted), printed + error)
         for source, kind, places, wanted in OF_TYPES:
             file = counting.write(folder, "mine.c", source)
             for compiler in ("gcc", "clang"):
-                _, printed, error = counting.run("queue", file, kind, places, *UNASKED, "--compiler", compiler, "--program", program)
+                _, printed, error = counting.run("queue", file, kind, places, *UNASKED, "--lines", "--compiler", compiler, "--program", program)
                 count.told(f"tools/queue of {places} and of types by {compiler}", all(part in printed + error for part in wanted), printed + error)
         module = Path(folder, "mine.o")
         compilers.Compiler("gcc").compile(counting.write(folder, "mine.cpp", text), module, language="C++")
-        _, printed, error = counting.run("queue", module, "--queue", PLACES, "--program", program)
+        _, printed, error = counting.run("queue", module, "--queue", PLACES, "--lines", "--program", program)
         count.told("tools/queue of an object", "kept in every run" in printed and "P0 mine.cpp:32: slots_[write] = value" in printed, printed + error)
         sources = dict(sections((ROOT / "tests/queue_trials/sources.texts").read_text()))
         c = re.sub(r"/\* exists.*?\*/", "", sources["running_indices"])
         file = counting.write(folder, "mine.c", c)
-        _, printed, error = counting.run("queue", file, "--queue", "head=q.tail,tail=q.head,slots=q.slot,size=4", "--program", program)
+        _, printed, error = counting.run("queue", file, "--queue", "head=q.tail,tail=q.head,slots=q.slot,size=4", "--lines", "--program", program)
         count.told("tools/queue of C without a condition", "kept in every run" in printed and "(* tools/from-c" not in printed, printed + error)

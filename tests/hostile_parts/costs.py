@@ -8,11 +8,36 @@ from pathlib import Path
 from .limits import NONE, litmus
 from .runs import brief
 
-KINDS = ["find", "check", "try", "channel", "run", "debug"]
+KINDS = ["find", "check", "try", "channel", "run", "debug", "queue"]
 MINUTES = 10
 # each of 4,096 words of memory is changed, and then one of them in every second state
 FILL = ["fill: amoswap.w x0,x5,(x6)", "addi x6,x6,4", "addi x5,x5,1", "addi x7,x7,-1", "bnez x7,fill", "li x8,8192",
         "count: amoadd.w x0,x9,(x8)", "j count"]
+
+# the receiver of `long_record`: it looks, and then loads the record's first word and ends
+RECEIVER = """hart
+open 0
+state 0
+share 0 0 0
+leaf 0
+to 1 1*0
+state 4
+most 1
+reg 5 1*0
+share 0 0 1*0
+split 0 0
+leaf 0
+to 0
+leaf 0
+to 2
+state 8
+share 0 0 1
+leaf 0
+to 3
+state 12
+share 0 0 1
+leaf 0
+"""
 
 
 def observed():
@@ -47,6 +72,19 @@ def empty_cells():
     return f"RISCV X\n{{}}\n{names};\n{row * 16_120}exists (x=0)\n".encode()
 
 
+def long_record(count):
+    """A test whose sender stores a record byte by byte, and the certificate that shows it: a state for each byte."""
+    sends = [f"sb x5,{8 + at - (8 + at + 2048) // 4096 * 4096}(x{(8 + at + 2048) // 4096})" for at in range(count)] + ["sw x5,0(x0)"]
+    takes = ["L: lw x5,0(x0)", "beq x5,x0,L", "lw x6,8(x0)", *[""] * (count - 2)]
+    bases = "".join(f"; 0:x{number}={4096 * number}" for number in range(1, 4))
+    rows = "".join(f" {left} | {right} ;\n" for left, right in zip(sends, takes))
+    known = "reg 1 4096\nreg 2 8192\nreg 3 12288\nreg 5 1\n"
+    states = "".join(f"state {4 * at}\n{known}share 0 0 1\nleaf {int(at == count)}\nto {at + 1}\n" for at in range(count + 1))
+    return (f"RISCV X\n{{ 0:x5=1{bases} }}\n P0 | P1 ;\n{rows}exists (1:x6=0)\n".encode(),
+            (f"ztso-queues 1\nqueue 0 1 0 4 4 8 1 {count} 1 0 1 0 4294967296 0\nhart\nopen 0\n{states}"
+             f"state {4 * count + 4}\nshare 0 1 0\nleaf 0\n{RECEIVER}").encode())
+
+
 def rows(short):
     """The words, standard input, the file `text`, the status, and at most how many seconds and MiB."""
     yield ["find", "text", "--states", "40500"], b"", litmus(
@@ -58,6 +96,8 @@ def rows(short):
     yield ["run", "text", "none"], b"", empty_cells(), 0, 2, 96
     stores = litmus(cells=["L: sw x0,0(x0)", "j L"])
     yield ["debug", "text", "stores"], b"g\nq\n", stores, 0, 10, 80
+    text, certificate = long_record(4000)
+    yield ["queue", "text", "--certificate", "/dev/stdin", "--safety", "--written", "all"], certificate, text, 0, 4, 24
     if not short:
         lists = (b"7 " * 8200 + b"\n") * 63
         yield ["channel", "lamport", "2", "none", "--finish"], lists, b"", 0, 120, 256

@@ -45,8 +45,9 @@ class Fresh:
         self.folder, self.out = folder, folder / "stock/out"
         for name in ("scripts", "stock/translator", "crates/one/src", "commands"):
             (folder / name).mkdir(parents=True)
-        for name in ("ztso", "scripts/program", "stock/build"):
+        for name in ("ztso", "scripts/program", "scripts/at-terminal", "scripts/words.awk", "stock/build"):
             shutil.copy(tree.TOP / name, folder / name)
+        (folder / "docs").symlink_to(tree.TOP / "docs")
         self.script("scripts/build", "#!/bin/sh\nexit 1\n")
         self.script("commands/cargo", CARGO)
         (folder / "stock/translator/__main__.py").write_text("import sys, pathlib\npathlib.Path(sys.argv[1], 'workspace').mkdir(exist_ok=True)\n")

@@ -1,5 +1,4 @@
-"""What the wrapper `ztso` adds where standard error is a terminal, in a checkout and where it is installed; and that it
-adds nothing elsewhere."""
+"""What the wrapper `ztso` adds on standard error, in a checkout and where it is installed: at a terminal more than elsewhere."""
 
 import os
 import shutil
@@ -51,6 +50,9 @@ WRONG = ((("run",), "FILE is missing"), (("run", "a", "b", "c"), "`c` is one wor
          (("callers", "a", "--slots", "2", "--seed", "1", "--runs", "1"), "--length is missing"),
          (("r[un'", "x"), "`r[un'` is no command"), (("try", "a", "--[seed", "1"), "`--[seed` is no option of try"),
          (("run", "a", "b", "c\x1b[31m\x07\x9b"), "`c?[31m??` is one word too many"), (("\x1b[2Jrun",), "`?[2Jrun` is no command"),
+         (("channel", "Lamport", "3", "a"), "`Lamport` is no KIND"), (("channel", "lamport", "3"), "SCHEDULE is missing"),
+         (("channel", "own", "3", "a", "--finish"), "--finish doesn't go with own"), (("channel", "own", "3", "a", "--sender=b"), "--receiver is missing, which own needs"),
+         (("channel", "cached", "3", "a", "--sender", "b"), "--sender goes with own alone"),
          (("chart", "a", "b", "--svg", "--svg"), "--svg is given twice"), (("chart", "a", "b", "--svg=1"), "--svg takes no value"))
 # slips of the pen in a test, with what is said of them, and in a copy of it without them nothing is
 SLIPS = ((("0(x8) | lw", "0(x9) | lw"), ("Nothing sets P0's `x9`: it is 0, and `lw x7,0(x9)` (line 9) touches `x`.",)),
@@ -112,6 +114,7 @@ def added(count, place, folder, alone):
     after_bad_words(count, place, folder)
     after_faults(count, place, folder)
     nothing_added(count, place, folder, alone)
+    shown_first(count, place, folder, alone)
     drawn(count, place, folder, alone)
     slips(count, place, folder, alone)
     faulty_places(count, place, folder)
@@ -128,7 +131,7 @@ def checkout(top, program):
         (top / name).mkdir(parents=True)
     for name in ("ztso", "VERSION", "scripts/program", "scripts/at-terminal", "scripts/about-test", "scripts/drawing", "scripts/usage.awk", "scripts/words.awk", "tools/explain"):
         shutil.copy(tree.TOP / name, top / name)
-    for name in ("docs", "litmus", "examples", "tools/page_parts", "tools/reference"):
+    for name in ("docs", "litmus", "examples", "tools/page_parts", "tools/reference", "tools/bring_parts"):
         (top / name).symlink_to(tree.TOP / name)
     (top / "scripts/build").write_text("#!/bin/sh\n")
     (top / "scripts/build").chmod(0o755)
@@ -173,18 +176,19 @@ def at_terminal(words, folder, text="", before=""):
 
 
 def in_a_pipe(count, place, folder):
-    for words in ((), ("run",), ("no-command",), ("run", "a", "b", "c")):
-        count.same(f"{place.name}, {words} in a pipe", call(place.wrapper, *words, folder=folder, text=""), (2, "", place.notice + BAD))
+    for words, wrong in ((), ""), *((words, f"  {wrong}\n") for words, wrong in WRONG):
+        count.same(f"{place.name}, {words} in a pipe", call(place.wrapper, *words, folder=folder, text=""), (2, "", place.notice + BAD + wrong))
     count.same(f"{place.name}, a refusal in a pipe", call(place.wrapper, "asm", folder=folder, text="mov x1,x2\n"),
                (2, "", place.notice + UNKNOWN.split("\n")[0] + "\n"))
-    # what asks for help or the version has it on standard output, and the program's answer on standard error
+    # what asks for help has it on standard output, and the program's answer on standard error
     version = (tree.TOP / "VERSION").read_text()
     for words, begins in ((("--help",), f"ztso {version.strip()} runs "), (("help",), f"ztso {version.strip()} runs "), (("-h",), f"ztso {version.strip()} runs "),
-                          (("run", "--help"), RUN), (("help", "run"), RUN), (("try", "-h"), "usage: ztso try FILE "), (("--version",), f"ztso {version}")):
+                          (("run", "--help"), RUN), (("help", "run"), RUN), (("try", "-h"), "usage: ztso try FILE ")):
         status, said, faults = call(place.wrapper, *words, folder=folder, text="")
         count.same(f"{place.name}, {words} in a pipe", (status, said[:len(begins)], faults), (2, begins, place.notice + BAD))
         count.same(f"{place.name}, {words} at a terminal", at_terminal([place.wrapper, *words], folder), (2, said, place.notice + BAD))
-    count.same(f"{place.name}, the version", call(place.wrapper, "--version")[1], f"ztso {version}")
+    count.same(f"{place.name}, the version", call(place.wrapper, "--version"), (0, f"ztso {version}", place.notice))
+    count.same(f"{place.name}, the version at a terminal", at_terminal([place.wrapper, "--version"], folder), (0, f"ztso {version}", place.notice))
     (folder / "help").write_text("nop\n")
     count.same(f"{place.name}, a file that is called help", call(place.wrapper, "run", "help", "help", folder=folder)[1:], ("", place.notice + NO_HEADER.split("\n")[0] + "\n"))
 
@@ -253,6 +257,27 @@ def nothing_added(count, place, folder, alone):
     count.same(f"{place.name}, closed output", at_terminal([place.wrapper, "asm"], folder, "nop\n", closed), (status, said, place.notice + faults))
 
 
+def shown_first(count, place, folder, alone):
+    """What a terminal is shown of an answer: what is wrong first, and ten lines; and in a pipe all of it as the program prints it."""
+    owed = ("callers", place.pages / "examples/callers/wrong/clears-the-queue.litmus", "--base", "1024", "--slots", "2", "--seed", "1", "--runs", "50",
+            "--length", "400")
+    status, said, _ = call(alone, *owed, folder=folder)
+    *schedule, wrong = said.splitlines()
+    records = folder / "refused.records"
+    records.write_text("ztso-schedule 2\na0 store 0 0 2\n" * 20)
+    checked = "".join(f"{number} refused 38 at event 0 line 2: store 0 0 2, the run has store 0 0 1\n" for number in range(1, 8))
+    for words, text, wanted in (
+            (owed, "", "\n".join([wrong, *schedule, ""])),
+            (("check", place.pages / "litmus/store-buffering/sb.litmus"), records.read_text(),
+             f"refused 20\nunfinished 0\n{checked}.. 13 lines more; whole in a pipe: ztso check .. | cat\n")):
+        line = ["sh", "-c", 'exec "$0" "$@" >&2', *map(str, [place.wrapper, *words])]
+        done, written = terminal.run(line, cwd=folder, input=text.encode(), stdout=subprocess.PIPE, timeout=SECONDS)
+        shown = terminal.shown(written)[0].decode()
+        count.told(f"{place.name}, {words[0]} shows first", done.returncode == 1 and shown.endswith(wanted), shown)
+        status, said, _ = call(alone, *words, folder=folder, text=text)
+        count.same(f"{place.name}, {words[0]} in a pipe", call(place.wrapper, *words, folder=folder, text=text)[:2], (status, said))
+
+
 def drawn(count, place, folder, alone):
     """What `try` asks of the program where its words don't say how runs are drawn, which is said; and its table without schedules."""
     sb = place.pages / "litmus/store-buffering/sb.litmus"
@@ -268,7 +293,8 @@ def drawn(count, place, folder, alone):
                (few[0], few[1], f"{place.notice}ztso: try {sb} --length 9 --seed 1 --runs 1000\n" + few[2]))
     for words in (("try",), ("try", "/dev/stdin"), ("try", sb, sb), ("try", sb, "--table", "--table")):
         refused = call(place.wrapper, *words, folder=folder)
-        count.same(f"{place.name}, {words[1:]} is refused", (refused[:2], refused[2].endswith("ztso: bad command line\n")), ((2, ""), True))
+        said = refused[2].removeprefix(place.notice).partition("  ")[0]
+        count.same(f"{place.name}, {words[1:]} is refused", (refused[:2], said.endswith(BAD)), ((2, ""), True))
     shown = at_terminal([place.wrapper, "try", sb, "--table"], folder)
     count.same(f"{place.name}, a table at a terminal", shown[:2], (whole[0], table))
 
@@ -294,7 +320,8 @@ def slips(count, place, folder, alone):
         count.same(f"{place.name}, a terminal after {change}", at_terminal([place.wrapper, "show", file], folder)[2], said)
     for name, text in (("a refused text", "no test\n"), ("a slip and a fault", right.replace("x8) | lw", "x9) | lwx"))):
         file.write_text(text)
-        count.same(f"{place.name}, {name}", call(place.wrapper, "show", file, folder=folder)[2], place.notice + call(alone, "show", file, folder=folder)[2])
+        said = call(place.wrapper, "show", file, folder=folder)[2].partition("  line ")[0]
+        count.same(f"{place.name}, {name}", said, place.notice + call(alone, "show", file, folder=folder)[2])
     status, written, faults = call(place.wrapper, "show", "/dev/stdin", folder=folder, text=right.replace("0(x8) | lw", "0(x9) | lw"))
     count.same(f"{place.name}, a text on standard input", (status, bool(written), faults), (0, True, place.notice))
 
@@ -310,7 +337,10 @@ def faulty_places(count, place, folder):
             wanted = [fault, *([f"  {said}"] if said else []), section]
             count.told(f"{place.name}, {words[0]}: the place of {change}",
                        len(shown) == len(wanted) + 2 and all(map(str.startswith, shown, wanted)), shown)
-        count.same(f"{place.name}, {change} in a pipe", call(place.wrapper, "show", file, folder=folder), (2, "", f"{place.notice}{fault}\n"))
+        status, written, faults = call(place.wrapper, "show", file, folder=folder)
+        added = faults.removeprefix(f"{place.notice}{fault}\n")
+        count.told(f"{place.name}, {change} in a pipe", (status, written) == (2, "") and added.startswith(f"  {said}") == bool(said) == bool(added)
+                   and added.count("\n") == bool(said), faults)
 
 
 def short_names(count, places, prefix, top):
@@ -349,7 +379,7 @@ def progress(count, place, share):
     # what is written to the terminal itself stands in lines of its own
     done, written = terminal.run([*words[:2], words[2].replace('check "$1"', 'check "$1" >&2'), *map(str, words[3:])], timeout=SECONDS)
     shown, gone = terminal.shown(written)
-    count.same("the answers of check at a terminal", shown, first + b"1 unfinished\n2 unfinished\nunfinished 2\nrefused 0\n")
+    count.same("the answers of check at a terminal", shown, first + b"refused 0\nunfinished 2\n1 unfinished\n2 unfinished\n")
 
 
 def prompt(count, place, share):

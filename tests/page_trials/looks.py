@@ -27,16 +27,21 @@ BROKEN = """[...document.querySelectorAll("th, button:not(.event)")].filter(one 
     const range = document.createRange(); range.selectNodeContents(one);
     return one.checkVisibility() && !/\\s/.test(one.textContent)
         && new Set([...range.getClientRects()].map(box => Math.round(box.top / 8))).size > 1; }).map(one => one.textContent)"""
-# controls that are seen and that a finger would miss: 24 pixels is what WCAG 2.2 asks for
+# controls that are seen and that a finger would miss
 SMALL = """[...document.querySelectorAll("button, select, input, summary, textarea")].filter(one => one.checkVisibility()
     && !one.closest(".unseen") && one.getBoundingClientRect().width).map(one => [one, (one.type === "checkbox" ? one.parentElement
-    : one).getBoundingClientRect()]).filter(([, { width, height }]) => width < 24 || height < 24)
+    : one).getBoundingClientRect()]).filter(([, { width, height }]) => width < 24 || height < 40)
     .map(([one, { width, height }]) => `${one.id || one.textContent} ${width} x ${height}`)"""
 GOES_ON = """(() => { const box = document.getElementById("chart");
     return [box.scrollWidth > box.clientWidth, !document.getElementById("goes-on").hidden]; })()"""
 # whether the buttons that lead through a run, and its picture, are whole in the window
 SEEN = """["back", "chart"].map(id => document.getElementById(id).getBoundingClientRect()).map(
     ({ top, bottom }) => top >= 0 && bottom <= innerHeight)"""
+# the pixels of a picture's letters, which the program writes with 13; and the harts' names that are seen over its columns
+LETTERS = "(() => { const one = document.querySelector('#chart img'); return 13 * one.width / one.naturalWidth; })()"
+NAMES = """(() => { const box = document.getElementById("chart").getBoundingClientRect();
+    return [...document.querySelectorAll(".heads b")].filter(one => { const { left, right, top } = one.getBoundingClientRect();
+        return left >= box.left - 1 && right <= box.right && top >= box.top; }).map(one => one.textContent); })()"""
 PRESSED = "document.getElementById('fit').getAttribute('aria-pressed')"
 CONTROLS = ("button", "combobox", "textbox", "checkbox", "region", "dialog", "image", "img")
 
@@ -67,6 +72,7 @@ def part(count, page):
     phone(count, page)
     sent(count, page)
     page.browser.size(1280, 800)
+    numbered(count, page)
     pictures(count, page)
     about(count, page)
     page.choose("sb")
@@ -78,9 +84,10 @@ def phone(count, page):
     page.event("a0", "a1")
     page.click('[data-key="break 1 4"]')
     small = page.run(SMALL)
-    count.told("no target is below 24 pixels on a phone", not small, small)
-    whole = page.run(GOES_ON), page.run(PRESSED)
-    count.told("a picture fits the width", whole == ([False, False], "true"), whole)
+    count.told("no target is below 40 pixels on a phone", not small, small)
+    small = page.run(LETTERS), page.run(GOES_ON), page.run(PRESSED)
+    count.told("a picture's letters have 9 pixels, and it is scrolled in its own box", small[0] >= 9 and small[1:] == ([True, True], "true"), small)
+    kept_in_reach(count, page)
     page.click("#fit")
     found = page.run("""(() => { const box = document.getElementById("chart"), rows = document.querySelector(".rows");
         return [box.scrollWidth > box.clientWidth, rows.clientHeight / 2 >= 24]; })()""")
@@ -89,6 +96,31 @@ def phone(count, page):
     page.run("document.getElementById('chart').scrollLeft = 9999")
     page.browser.until("document.getElementById('goes-on').hidden", 5)
     count.told("a picture that goes on says so, until it is scrolled to its end", seen == [True, True], seen)
+
+
+def kept_in_reach(count, page):
+    """On a phone: the names over a scrolled picture, Back and memory wherever the page is, and what a press changed."""
+    before = page.run(NAMES)
+    page.run("document.getElementById('chart').scrollLeft = 260")
+    names = before, page.run(NAMES)
+    count.told("the harts' names stay over a scrolled picture", "P0" in names[0] and names[1] and names[1][0] in ("P0", "P1", "P2"), names)
+    page.choose("iriw")
+    page.run("scrollTo(0, 0)")
+    clipped = page.run("(() => { const { scrollHeight, clientHeight } = document.getElementById('witnesses'); return scrollHeight - clientHeight; })()")
+    count.told("the list of witnesses isn't clipped", clipped == 0, clipped)
+    back = page.run("document.getElementById('back').getBoundingClientRect().bottom")
+    count.told("Back is in reach where the run isn't seen", 700 < back <= 844, back)
+    page.click("#witnesses button")
+    top = page.run("document.getElementById('run').getBoundingClientRect().top")
+    count.told("a witness brings its run into sight", top < 120, top)
+    page.choose("iriw")
+    page.run("scrollTo(0, 0)")
+    page.event("a0")
+    box = page.run("(() => { const { top, bottom } = document.querySelector('.hart').getBoundingClientRect(); return [top, bottom]; })()")
+    count.told("and a tap its hart's card", box[0] >= 0 and box[1] <= 844 - 54, box)
+    memory = page.run("(() => { const { top, bottom } = document.getElementById('memory').getBoundingClientRect(); return [top, bottom]; })()")
+    count.told("beside which memory is seen", memory[0] >= 0 and memory[1] <= 844, memory)
+    page.event("a1")
 
 
 def sent(count, page):
@@ -100,10 +132,23 @@ def sent(count, page):
         page.open(link_of({"text": text, "buffer": 4, "tokens": run}))
         seen = page.run(SEEN)
         count.told(f"{name}'s run begins at its picture on {width} pixels", seen == [True, True], seen)
-        count.told(f"which is whole, {name}", page.run(GOES_ON) == [False, False], page.run(GOES_ON))
+        count.told(f"whose letters are read, {name}", page.run(LETTERS) >= 9, page.run(LETTERS))
         page.run("window.scrollBy(0, 160)")
         page.click("#back")
         count.told(f"Back is in reach, {name}", page.run("document.getElementById('back').getBoundingClientRect().top") >= 0)
+
+
+def numbered(count, page):
+    """The numbers of the lines stand beside these at the text's end too, where a scrollbar lies below the text."""
+    page.browser.send("Emulation.setScrollbarsHidden", hidden=False)
+    right = page.run("document.getElementById('text').value")
+    page.over("text", f"{right}(* {'long ' * 60}*)\n" + "(* more *)\n" * 60)
+    page.run("document.getElementById('text').scrollTop = 1e6")
+    found = page.run("""(() => { const text = document.getElementById("text"), numbers = document.getElementById("numbers");
+        return [text.offsetHeight > text.clientHeight, text.scrollTop, numbers.scrollTop]; })()""")
+    count.told("the numbers of the lines are scrolled as the text is", found[0] and found[1] == found[2] > 0, found)
+    page.browser.send("Emulation.setScrollbarsHidden", hidden=True)
+    page.over("text", right)
 
 
 def pictures(count, page):

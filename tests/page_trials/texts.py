@@ -167,7 +167,9 @@ def saved(count, page, folder):
         count.told(f"saved: {name}", content(folder / name).startswith(begins))
     if page.run("!!document.querySelector('#chart img')"):
         page.click("#save-picture")
-        count.told("saved: SB.svg", content(folder / "SB.svg").startswith(b"<?xml"))
+        picture = content(folder / "SB.svg")
+        count.told("saved: SB.svg, on white wherever it is shown", picture.startswith(b"<?xml") and b"<rect class='back' fill='#ffffff'" in picture
+                   and b"prefers-color-scheme" not in picture and picture.count(b"<style") == 1 == picture.count(b"</style>"), picture[:1500])
         page.click("#save-image")
         size = page.run("(({naturalWidth, naturalHeight}) => [naturalWidth, naturalHeight])(document.querySelector('#chart img'))")
         # a PNG's first part has its width and height

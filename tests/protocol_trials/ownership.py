@@ -2,8 +2,7 @@
 
 from typing import NamedTuple
 
-from .machine import HARTS
-from .runs import RECEIVER, SENDER, THIRD, Counts, Run
+from .runs import HARTS, RECEIVER, SENDER, THIRD, Counts, Run
 
 HEAD, TAIL, SLOTS = 0, 64, 128
 # laws that speak of indices alone, and those that speak of slots

@@ -12,7 +12,7 @@ import tags
 import words
 from certify_parts import certificates as writer
 from certify_parts import queues as descriptions
-from certify_parts import sent, texts
+from certify_parts import ranks, sent, texts
 from certify_parts import tags as described_tags
 from certify_parts.clock import SECONDS, Clock
 
@@ -21,7 +21,7 @@ REGISTERS = 32
 NOP = 0x13
 # how long the search of a changed text may take, in seconds of the processor
 FEW_SECONDS = 1
-SAID = re.compile(r"/\* .*?\n((?: +(?:queue|tagged): \S+\n)+)(?: +read: \S+\n)? +answer: (.*?) \*/", re.S)
+SAID = re.compile(r"/\* .*?\n((?: +(?:queue|tagged): \S+\n)+)(?: +(?:read|asked): .*\n)? +answer: (.*?) \*/", re.S)
 # a count that opens at so much less than 2^32, or at a few less, wraps soon
 BEFORE_THE_WRAP = 4
 
@@ -126,11 +126,11 @@ def accepted(test, words_of_queues, is_quick=False):
     found = searched(test, queues, is_quick)
     if any(hart.refused for hart in found):
         return None
-    return checked(test, reference.read(writer.text(queues, found)))
+    return checked(test, reference.read(ranks.ranked(writer.text(queues, found), opening_of(test))))
 
 
 def searched(test, queues, is_quick):
-    return sent.found_of(test, queues, Clock(FEW_SECONDS if is_quick else SECONDS))
+    return sent.found_of(test, queues, Clock(FEW_SECONDS if is_quick else SECONDS), (None, None))
 
 
 def unjudged(test, words_of_queues):

@@ -7,8 +7,7 @@ import progress
 import queue_questions
 import tags
 from protocol_trials import ownership, telling
-from protocol_trials.machine import Access
-from protocol_trials.runs import RECEIVER, SENDER, THIRD, Counts
+from protocol_trials.runs import RECEIVER, SENDER, THIRD, Access, Counts
 
 MASK = machine.MASK
 KINDS = {"load": "load", "store": "store", "amo": "exchange"}
@@ -142,7 +141,7 @@ class Followed:
     def arrows(self, h, at):
         """For each leaf, and each state that follows it: its pc, what finds the new variable, which state is listed, and its numbers."""
         code = self.opening.harts[h][0]
-        known, cases, _ = self.certificate.harts[h].states[at]
+        known, cases, *_ = self.certificate.harts[h].states[at]
         for k, leaf in certificates.leaves(known, cases):
             following = certificates.next_states(self.certificate, h, code, k, leaf.handed)
             yield id(leaf), [(each.pc, self.new_variable(each), arrow.to,

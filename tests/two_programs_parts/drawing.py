@@ -9,8 +9,7 @@ from hostile_parts import examples, texts
 from ring_kinds import RINGS
 from witnesses import witnesses
 
-from . import ROOT
-from .asking import Question
+from . import ROOT, Question
 
 changed = runpy.run_path(str(ROOT / "tools/reference/compare"))["changed"]
 BUFFERS = ("1", "2", "4", "4", "16", "3", "x")
