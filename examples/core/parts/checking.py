@@ -8,6 +8,7 @@ from pathlib import Path
 from bring_parts import Refused
 from bring_parts.witnessed import Entry
 from core_log_parts import faults, landings, log, record
+from core_log_parts.checked import differences, last_state
 from core_log_parts.opening import opening
 from faults import Fault
 
@@ -49,15 +50,6 @@ class Report:
         self.first.setdefault(kind, f"{self.name}, run {seed}: {words()}")
 
 
-def differences(run, state):
-    """Where the core's last state isn't the machine's."""
-    harts = {place for place in state if place.endswith(":pc")}
-    known = {place: value for place, value in run.state.items() if place.startswith("word ")
-             or f"{place.partition(':')[0]}:pc" in harts}
-    return [f"{place} is {known.get(place, 0)}, the machine's {state.get(place, 0)}"
-            for place in sorted(known.keys() | state.keys()) if known.get(place, 0) != state.get(place, 0)]
-
-
 def check_run(report, asked, entry, test, run, events, line):
     """Notes what is wrong with a run, given the line of its judgement."""
     text, path = record.text(events), entry.path
@@ -74,7 +66,7 @@ def check_run(report, asked, entry, test, run, events, line):
     # where a hart stopped, no test is finished
     if line == judge.UNFINISHED and all(event.name != "stopped" for event in events):
         report.add("unfinished", run.seed, lambda: "the record is accepted, and doesn't finish the test")
-    wrong = differences(run, judge.last_state(asked.program, path, text, asked.buffer))
+    wrong = differences(run.state, last_state(asked.program, path, text, asked.buffer))
     if wrong:
         report.add("state", run.seed, lambda: "accepted, but " + "; ".join([*wrong, *explaining.register(asked, path, events)]))
     elif asked.registers and (different := explaining.register(asked, path, events)):

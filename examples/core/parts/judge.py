@@ -27,21 +27,6 @@ def event_of(line):
     return int(differs[1]) if differs else None
 
 
-def last_state(program, path, record, buffer=4):
-    """The last state that `run` prints for an accepted record, as the log of a core has it: "0:pc", "0:pending",
-    "0:x5" or "word 4", with values."""
-    state, hart = {}, None
-    for line in ask(program, "run", path, record, buffer)[0].splitlines()[:-1]:
-        words = line.split()
-        if words[0] == "hart":
-            hart = words[1]
-            state[f"{hart}:pc"], state[f"{hart}:pending"] = int(words[-3]), int(words[-1])
-        else:
-            place, _, value = line.partition(" = ")
-            state[place if place.startswith("word ") else f"{hart}:{place}"] = int(value)
-    return state
-
-
 def outcome(program, entry, record, buffer=4):
     """The values of the condition's observed locations at the end of an accepted record."""
     return shown(entry, ask(program, "run", entry.path, record, buffer)[0])
