@@ -7,16 +7,20 @@ import tempfile
 from pathlib import Path
 
 ROOT = Path(__file__).resolve().parent.parent
-PROGRAM = ROOT / "crates/ztso/out/ztso"
+# what ./ztso runs: the proved program if that is current, else the one by rustc, which is_ready makes
+IS_PROVED = subprocess.run([ROOT / "scripts/build", "--is-current"], stdin=subprocess.DEVNULL, capture_output=True, check=False).returncode == 0
+PROGRAM = ROOT / ("crates/ztso/out/ztso" if IS_PROVED else "stock/out/ztso")
 # the largest input that is read
 INPUT_BYTES = 1_048_576
 SIZES = (INPUT_BYTES // 16, INPUT_BYTES // 4, INPUT_BYTES)
 
 
 def is_ready():
-    """Whether the program is built and what measures peak memory is there: of Debian's package `time`."""
-    if subprocess.run([ROOT / "scripts/build"], stdin=subprocess.DEVNULL).returncode != 0:
+    """Whether the program is there, which is said, and what measures peak memory: of Debian's package `time`."""
+    made = subprocess.run([ROOT / "scripts/program"], stdin=subprocess.DEVNULL, stdout=subprocess.PIPE, text=True, check=False)
+    if made.returncode or Path(made.stdout.strip()) != PROGRAM:
         return False
+    print(f"{Path(sys.argv[0]).name}: measures {PROGRAM.relative_to(ROOT)}", file=sys.stderr)
     if not Path("/usr/bin/time").exists():
         print(f"{Path(sys.argv[0]).name}: no /usr/bin/time", file=sys.stderr)
         return False

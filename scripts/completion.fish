@@ -67,7 +67,7 @@ function __ztso_tool_options
     set -l words (commandline -opc)
     string match -rag -- '(--[a-z][a-z-]*)' ($words[1] --help 2> /dev/null)
 end
-for tool in allowed certify chart-lines compare-mappings core-log-to-record from-c from-herd from-object make-rust-core merge-tries page queue to-litmus-log tries-over-machines
+for tool in allowed certify channel-text chart-lines compare-mappings core-log-to-record for-ci from-c from-herd from-object make-rust-core merge-tries page queue to-litmus-log tries-over-machines
     for command in '-c ztso-' '-p */tools/'
         set -l command (string split ' ' -- $command$tool)
         complete $command -n __ztso_tool_values -f -a '(__ztso_tool_values)'

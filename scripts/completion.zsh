@@ -1,4 +1,4 @@
-#compdef ztso ztso-allowed ztso-certify ztso-chart-lines ztso-compare-mappings ztso-core-log-to-record ztso-from-c ztso-from-herd ztso-from-object ztso-make-rust-core ztso-merge-tries ztso-page ztso-queue ztso-to-litmus-log ztso-tries-over-machines -p (*/|)tools/(allowed|certify|chart-lines|compare-mappings|core-log-to-record|from-c|from-herd|from-object|make-rust-core|merge-tries|page|queue|to-litmus-log|tries-over-machines)
+#compdef ztso ztso-allowed ztso-certify ztso-channel-text ztso-chart-lines ztso-compare-mappings ztso-core-log-to-record ztso-for-ci ztso-from-c ztso-from-herd ztso-from-object ztso-make-rust-core ztso-merge-tries ztso-page ztso-queue ztso-to-litmus-log ztso-tries-over-machines -p (*/|)tools/(allowed|certify|channel-text|chart-lines|compare-mappings|core-log-to-record|for-ci|from-c|from-herd|from-object|make-rust-core|merge-tries|page|queue|to-litmus-log|tries-over-machines)
 # Completes the words of ztso and its tools in zsh, as the file _ztso of a folder of fpath. Made by scripts/make-commands.
 _ztso_tool() {
     local help="$(${(Q)words[1]} --help 2> /dev/null)" last=$words[CURRENT-1]

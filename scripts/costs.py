@@ -12,6 +12,18 @@ SLOWER, SECONDS = 1.2, 10
 MACHINES = 10
 
 
+def scheduled(jobs, lanes):
+    """Seconds by the clock for jobs, each with its seconds, those that must end before it begins, and how much waits for it: of those that can begin
+    that goes first for which most waits."""
+    ends, free, left = {}, [0.0] * lanes, dict(jobs)
+    while left:
+        job = max((job for job, (_, below, _) in left.items() if all(other in ends for other in below)), key=lambda job: left[job][2])
+        seconds, below, _ = left.pop(job)
+        lane = min(range(lanes), key=free.__getitem__)
+        free[lane] = ends[job] = max([free[lane], *(ends[other] for other in below)]) + seconds
+    return max(free)
+
+
 class Costs:
     """Processor seconds by crate and kind."""
 
@@ -45,15 +57,7 @@ class Costs:
 
     def length(self, names, lanes):
         """How long the proofs of these crates take side by side, on as many processors as there are lanes."""
-        ends, free, left = {}, [0.0] * lanes, set(names)
-        while left:
-            ready = [name for name in left if not any(low in left for low in self.crates.uses[name])]
-            name = max(ready, key=lambda one: self.chain(one, names))
-            lane = min(range(lanes), key=free.__getitem__)
-            begins = max([free[lane], *(ends[low] for low in self.crates.uses[name] if low in ends)])
-            free[lane] = ends[name] = begins + self.proof(name)
-            left.remove(name)
-        return max(free)
+        return scheduled({name: (self.proof(name), [low for low in self.crates.uses[name] if low in names], self.chain(name, names)) for name in names}, lanes)
 
     def both(self, other):
         """The crates whose proofs both have measured."""

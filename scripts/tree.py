@@ -19,7 +19,7 @@ SHARE = "share/ztso"
 ZSH, ZSH_OF_DEBIAN = "share/zsh/site-functions/_ztso", "share/zsh/vendor-completions/_ztso"
 # the tools that are commands, as ztso-page and on
 TOOLS = ("page", "from-c", "from-object", "make-rust-core", "chart-lines", "compare-mappings", "from-herd", "to-litmus-log", "allowed",
-         "core-log-to-record", "merge-tries", "tries-over-machines", "certify", "queue")
+         "channel-text", "for-ci", "core-log-to-record", "merge-tries", "tries-over-machines", "certify", "queue")
 COMMANDS = {
     "bin/ztso": "ztso",
     "bin/ztso-explain": "tools/explain",
@@ -49,7 +49,7 @@ TEXTS = {
 }
 # the folders of the pages, the shelf, the examples and what the tools are made of, with what their files are
 FOLDERS = {
-    "docs": (".md", ".png", ".svg"),
+    "docs": (".md", ".png", ".svg", ".json"),
     # to read: its page links each
     "bench": ("", ".md", ".py", ".c", ".rs", ".rattle", ".pml", ".litmus"),
     "litmus": (".litmus", ".expected", ".md"),

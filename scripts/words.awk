@@ -80,6 +80,17 @@ function take_option(at,    name, value, has_value) {
     return 2
 }
 
+# What options go with a KIND, by what they do: own needs those that are only there.
+function take_kind(is_own,    at, name) {
+    for (at = 1; at <= options; at++) {
+        name = option[at]
+        if (does[name] ~ /with own, and only there/ && is_own != (name in given))
+            say(is_own ? name " is missing, which own needs" : name " goes with own alone")
+        if (does[name] ~ /not with own/ && is_own && name in given)
+            say(name " doesn't go with own")
+    }
+}
+
 function take_words(    at, placed) {
     for (at = 4; at <= last;)
         if (ARGV[at] ~ /^--./)
@@ -99,6 +110,8 @@ function take_words(    at, placed) {
     for (at = 1; at <= needs; at++)
         if (!(need[at] in given))
             say(need[at] " is missing")
+    if ("KIND" in word)
+        take_kind(word["KIND"] == "own")
 }
 
 function print_files() {
@@ -153,6 +166,8 @@ $1 == "option" && index(" " $3 " ", " " command " ") {
     split($2, part, " ")
     value_of[part[1]] = part[2]
     values_of[part[1]] = $4
+    option[++options] = part[1]
+    does[part[1]] = $6
 }
 
 END {
