@@ -23,21 +23,26 @@ def proving(costs, cores):
     return scheduled(jobs, cores)
 
 
-def stale_mutants(crates):
-    """The crates whose mutants have no row of the sources as they are."""
-    rows, logic = table.read(), sums.kit()
-    edits = {name: found for name in crates.names if (found := edits_of(TOP / "crates" / name))}
-    return [name for name in edits if name not in rows or rows[name][:2] != (sums.read_by(name, crates, logic), sums.of_edits(edits[name]))]
+def stale_mutants(crates, costs):
+    """Of each crate with mutants that no row has of the sources as they are, about how many processor seconds these take."""
+    rows, logic, found = table.read(), sums.kit(), {}
+    for name in crates.names:
+        edits = edits_of(TOP / "crates" / name)
+        if open_ones := edits and table.left(edits, sums.read_by(name, crates, logic), rows.get(name)):
+            row = rows.get(name)
+            found[name] = row.seconds * len(open_ones) / len(row.refused) if row and row.refused else costs.proof(name)
+    return found
 
 
 def forecast(cores):
     """A line for each part, and the minutes that all take together."""
     crates = Crates.read()
-    costs, stale = Costs.read(crates), stale_mutants(crates)
+    costs = Costs.read(crates)
+    stale = stale_mutants(crates, costs)
     parts = [
         ("proofs, tests and edits of must-fail", proving(costs, cores)),
-        # tried together they take about as long as the crate's proof
-        (f"mutants of {len(stale)} stale rows ({', '.join(stale) or 'none'})", sum(map(costs.proof, stale)) / cores),
+        # a crate's are tried one after the other
+        (f"mutants of {len(stale)} stale rows ({', '.join(stale) or 'none'})", max([sum(stale.values()) / cores, *stale.values()])),
         # on the proved program, and on the one that rustc builds
         ("./check --all, twice", 2 * sum(row.get("all", 0) for row in checking.rows().values()) / cores)]
     return [f"{name}: {seconds / 60:.0f} minutes" for name, seconds in parts], sum(seconds for _, seconds in parts) / 60

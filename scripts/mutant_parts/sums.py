@@ -76,6 +76,6 @@ def read_by(name, crates, logic, top=TOP):
     return digest([logic, *line, *sources, *sorted(declared), *sorted(imports), *cited(known, below)])
 
 
-def of_edits(edits):
-    """The sum of mutants' own texts."""
-    return digest(text for edit in edits for text in (edit.name, edit.text))
+def of_edit(edit):
+    """The sum of a mutant's own text."""
+    return digest([edit.text])

@@ -70,11 +70,15 @@ class Checks:
         return self.run(texts, kind)
 
 
-class Trial:
-    """The mutants of a crate, and what was found of each."""
+# what was refused is kept after each of so many seconds by the clock, so that a run that is ended loses no more
+KEPT_EACH = 600
 
-    def __init__(self, checks, crate, edits, tell):
-        self.checks, self.crate, self.edits, self.tell = checks, crate, edits, tell
+
+class Trial:
+    """The mutants of a crate, and what was found of each; `keep` is given the trial whenever what was found is to be kept."""
+
+    def __init__(self, checks, crate, edits, tell, keep=lambda trial: None):
+        self.checks, self.crate, self.edits, self.tell, self.keep = checks, crate, edits, tell, keep
         self.found, self.passes, self.alone = {}, 0, []
         # pairs of edits of which the first one's function rests on the second one's
         self.waits = set()
@@ -92,9 +96,11 @@ class Trial:
             self.settle(edit, UNCLEAR, line)
 
     def run(self):
+        """Whether what was found stands: the crate without an edit is proved before and after."""
         output = self.checks.begin()
         if not output.is_proved():
-            return self.fail_all(f"{self.checks.name} without an edit isn't proved: {output.verdict or output.lines[-1]}")
+            self.fail_all(f"{self.checks.name} without an edit isn't proved: {output.verdict or output.lines[-1]}")
+            return False
         self.sort(output)
         left, calls = dict(self.functions), passes.Calls(self.crate)
         while left:
@@ -102,11 +108,27 @@ class Trial:
             for edit, _ in one:
                 del left[edit]
             left |= self.together(one)
+        kept = time.monotonic()
         for edit in self.alone:
+            if time.monotonic() - kept > KEPT_EACH:
+                if not self.confirm():
+                    return False
+                kept = time.monotonic()
             self.one(edit)
+        return self.confirm()
+
+    def confirm(self):
+        """Keeps what was refused, if the crate as it stands is still proved over the same kept proofs; whether it is."""
         output = self.checks.over_kept({}, "after")
-        if not output.is_proved():
+        if output.is_proved():
+            self.keep(self)
+        else:
             self.fail_all(f"{self.checks.name} without an edit isn't proved over the same kept proofs any more: {output.verdict or output.lines[-1]}")
+        return output.is_proved()
+
+    def refused(self):
+        """The mutants that were refused so far."""
+        return [edit for edit in self.edits if edit.name in self.found and self.found[edit.name].kind == REFUSED]
 
     def sort(self, before):
         """Finds which edits go into passes: those of a body whose function has one name in what the first check printed."""

@@ -244,30 +244,37 @@ class Sums(House):
     def test_the_kit_counts(self):
         self.assertNotEqual(self.of(), sums.read_by("high", self.crates, "another", self.top))
 
-    def test_a_mutant_counts(self):
-        crate = self.top / "crates/low"
-        before = sums.of_edits(edits_of(crate))
-        self.mutants({**EDITS, "wide": EDITS["wide"].replace("8", "16")})
-        self.assertNotEqual(sums.of_edits(edits_of(crate)), before)
-
-    def test_the_order_of_mutants_does_not_count(self):
-        crate = self.top / "crates/low"
-        before = sums.of_edits(edits_of(crate))
-        self.mutants(dict(reversed(EDITS.items())))
-        self.assertEqual(sums.of_edits(edits_of(crate)), before)
-
 
 class Table(House):
     def test_it_is_read_as_it_was_written(self):
-        file, rows = self.top / "mutants.tsv", {"low": table.Row("1", "2", ("a", "b")), "high": table.Row("3", "4", ("c",))}
+        file, rows = self.top / "mutants.tsv", {"low": table.Row("1", 20, {"a": "2", "b": "3"}), "high": table.Row("3", 4, {"c": "4"})}
         for crate, row in rows.items():
             table.put(crate, row, file)
         self.assertEqual(table.read(file), rows)
         self.assertEqual(list(table.wrong({"low": ["a", "b", "more"], "high": ["c"]}, file)), [])
 
+    def left(self, reads, row):
+        return [edit.name for edit in table.left(edits_of(self.top / "crates/low"), reads, row)]
+
+    def test_a_mutant_whose_text_changed_is_tried_again(self):
+        row = table.Row("1", 20, {edit.name: sums.of_edit(edit) for edit in edits_of(self.top / "crates/low")})
+        self.assertEqual(self.left("1", row), [])
+        self.mutants({**EDITS, "wide": EDITS["wide"].replace("8", "16"), "more": EDITS["wide"]})
+        self.assertEqual(self.left("1", row), ["more", "wide"])
+
+    def test_all_are_tried_at_other_sources_or_without_a_row(self):
+        row = table.Row("1", 20, {edit.name: sums.of_edit(edit) for edit in edits_of(self.top / "crates/low")})
+        self.assertEqual(self.left("2", row), sorted(EDITS))
+        self.assertEqual(self.left("1", None), sorted(EDITS))
+
+    def test_the_order_of_mutants_does_not_count(self):
+        row = table.Row("1", 20, {edit.name: sums.of_edit(edit) for edit in edits_of(self.top / "crates/low")})
+        self.mutants(dict(reversed(EDITS.items())))
+        self.assertEqual(self.left("1", row), [])
+
     def test_a_row_that_does_not_fit(self):
         file = self.top / "mutants.tsv"
-        table.put("low", table.Row("1", "2", ("a", "b")), file)
+        table.put("low", table.Row("1", 20, {"a": "2", "b": "3"}), file)
         self.assertIn("low has no mutant b", "".join(table.wrong({"low": ["a"]}, file)))
         self.assertIn("there is no crate low", "".join(table.wrong({"high": ["a", "b"]}, file)))
         file.write_text(file.read_text() + "low\t1\n")

@@ -75,7 +75,8 @@ class Whole(House):
         """What a trial finds of these mutants, by the first letters of their names, and its checks."""
         self.mutants({name: f"file: src/lib.rt\nold: {old}\nnew: {new}\n" for name, (old, new) in EDITS.items() if name[0] in names})
         prover = Prover(self.crate, breaks_after)
-        trial = trying.Trial(prover, self.crate, edits_of(self.crate), lambda line: None)
+        self.kept = []
+        trial = trying.Trial(prover, self.crate, edits_of(self.crate), lambda line: None, lambda trial: self.kept.append([edit.name[0] for edit in trial.refused()]))
         trial.run()
         return "".join(sorted({REFUSED: "r", PROVED: "p", BAD: "b", CALLS: "c", UNCLEAR: "u"}[trial.found[name].kind] + name[0]
                               for name in trial.found)), prover.checks
@@ -112,3 +113,17 @@ class Whole(House):
 
     def test_a_crate_that_is_not_proved_afterwards(self):
         self.assertEqual(self.tried("a", "h", breaks_after="after"), ("uauh", ["before", "passes", "after"]))
+
+    def test_what_was_refused_is_kept_if_the_crate_is_proved_afterwards(self):
+        self.tried("a", "b", "h")
+        self.assertEqual(self.kept, [["a", "h"]])
+        self.tried("a", "h", breaks_after="after")
+        self.assertEqual(self.kept, [])
+
+    def test_what_was_refused_is_kept_between_long_checks_too(self):
+        before, trying.KEPT_EACH = trying.KEPT_EACH, -1
+        try:
+            self.assertEqual(self.tried("i", "j"), ("cjri", ["before", "after", "alone", "after", "alone", "after"]))
+        finally:
+            trying.KEPT_EACH = before
+        self.assertEqual(self.kept, [[], ["i"], ["i"]])
