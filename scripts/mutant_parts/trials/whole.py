@@ -76,7 +76,8 @@ class Whole(House):
         self.mutants({name: f"file: src/lib.rt\nold: {old}\nnew: {new}\n" for name, (old, new) in EDITS.items() if name[0] in names})
         prover = Prover(self.crate, breaks_after)
         self.kept = []
-        trial = trying.Trial(prover, self.crate, edits_of(self.crate), lambda line: None, lambda trial: self.kept.append([edit.name[0] for edit in trial.refused()]))
+        trial = trying.Trial(prover, self.crate, edits_of(self.crate), lambda line: None,
+                             lambda trial: self.kept.append([edit.name[0] for edit in trial.refused()]))
         trial.run()
         return "".join(sorted({REFUSED: "r", PROVED: "p", BAD: "b", CALLS: "c", UNCLEAR: "u"}[trial.found[name].kind] + name[0]
                               for name in trial.found)), prover.checks
