@@ -36,7 +36,10 @@ module _ (B M : ℕ) (o : OpeningValue) (Counts : Type 0) (p : Protocol Counts) 
   -- knows them, and what is `Kept` along the way shows what each hart takes for granted, and holds again where the protocol is kept
   pub record IsCounted (Kept : List Entry → Type 0) : Type 0 where
     pub opens : (h : ℕ) → p.IsSame h start (counted [])
-    pub left : (h : ℕ) (done : List Entry) (e : Entry) → is_own h e ≡ false → p.IsSame h (counted done) (counted (done ++ e ∷ []))
+    pub left : (h : ℕ) (done : List Entry) (e : Entry) → is_own h e ≡ false → WellFormed B M (history_of o (done ++ e ∷ [])) → Kept done
+        → p.May (hart_of e) (counted done) (access_of e) → p.IsSame h (counted done) (counted (done ++ e ∷ []))
+    pub owned : (h x : ℕ) (done : List Entry) (e : Entry) → is_own h e ≡ false → WellFormed B M (history_of o (done ++ e ∷ [])) → Kept done
+        → p.May (hart_of e) (counted done) (access_of e) → p.Owns h (counted done) x → view_of o (done ++ e ∷ []) h x ≡ view_of o done h x
     pub acted : (h : ℕ) (done : List Entry) (e : Entry) → hart_of e ≡ h → p.IsSame h (p.next h (access_of e) (counted done)) (counted (done ++ e ∷ []))
     pub lands : (h : ℕ) (c : Counts) → p.May h c land
     pub first : Kept []
@@ -151,7 +154,8 @@ module _ (B M : ℕ) (o : OpeningValue) (Counts : Type 0) (p : Protocol Counts) 
         where
           by : (b : Bool) → is_own h e ≡ b → P h z (view_of o (done ++ e ∷ []) h) (counted (done ++ e ∷ []))
           by false off = c.frame h z (view_of o done h) (view_of o (done ++ e ∷ []) h) (counted done) (counted (done ++ e ∷ []))
-              (w.within h z (same_state M o done e h off z at)) (λ x own. view_other h x own off) (counts.left h done e off)
+              (w.within h z (same_state M o done e h off z at)) (λ x own. view_other h x own off)
+              (λ x owns. counts.owned h x done e off run w.kept may owns) (counts.left h done e off run w.kept may)
           by true on =
               let parts = own_parts h e on in
               let k = state_known h parts.0 in
@@ -160,7 +164,7 @@ module _ (B M : ℕ) (o : OpeningValue) (Counts : Type 0) (p : Protocol Counts) 
               (c.frame h (advanced k.0 (number_read e)) (view_then (access_of e) (view_of o done h)) (view_of o (done ++ e ∷ []) h)
               (p.next h (access_of e) (counted done)) (counted (done ++ e ∷ []))
               (c.steps h k.0 (view_of o done h) (counted done) e (w.within h k.0 k.1) (acts h k.0 parts.0 parts.1 k.1) (counts.knows h done w.kept))
-              (λ x own. view_acted h x parts.0 parts.1) (counts.acted h done e parts.0))
+              (λ x own. view_acted h x parts.0 parts.1) (λ x owns. view_acted h x parts.0 parts.1) (counts.acted h done e parts.0))
 
       pub holds_next : Holds (done ++ e ∷ [])
       holds_next = record {
@@ -196,7 +200,7 @@ module _ (B M : ℕ) (o : OpeningValue) (Counts : Type 0) (p : Protocol Counts) 
         opened h s (Some x) is some =
             let same : opens_as M x ≡ s = cc in
             subst (λ y. P h y (view_of o [] h) (counted [])) same
-            (c.frame h (opens_as M x) (view_of o [] h) (view_of o [] h) start (counted []) (c.opens h x is) (λ y own. refl) (counts.opens h))
+            (c.frame h (opens_as M x) (view_of o [] h) (view_of o [] h) start (counted []) (c.opens h x is) (λ y own. refl) (λ y owns. refl) (counts.opens h))
 
     -- what holds of each entry where the front holds, holds of all
     module _ (Goal : List Entry → List Entry → Type 0) (ends : (done : List Entry) → Goal done [])

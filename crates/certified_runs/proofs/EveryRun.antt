@@ -22,7 +22,8 @@ module _ (B M : ℕ) (o : OpeningValue) (own : ℕ → ℕ → Bool) (states : �
   nothing_counts : IsCounted B M o (Unit {0}) no_protocol tt (λ h s m c. states h s m ≡ true) (λ done. tt) (λ done. Unit {0})
   nothing_counts = record {
     opens = λ h. tt;
-    left = λ h done e off. tt;
+    left = λ h done e off run k may. tt;
+    owned = λ h x done e off run k may owns. absurd owns;
     acted = λ h done e mine. tt;
     lands = λ h c. tt;
     first = tt;

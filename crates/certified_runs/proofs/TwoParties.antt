@@ -81,8 +81,9 @@ module _ (B M : ℕ) (o : OpeningValue) (N : ℕ) (queues : ℕ → TwoPartyProt
   pub is_counted : IsCounted B M o AllCounts (all_of N queues) starts P Counted Kept
   is_counted = record {
     opens = λ h i less. same-for (queues i) h (starts i);
-    left = λ h done e off i less. subst (IsSameFor (queues i) h (Counted done i)) (counts_last i done e)
+    left = λ h done e off run k may i less. subst (IsSameFor (queues i) h (Counted done i)) (counts_last i done e)
         (left-same (queues i) (is i less) h (Counted done i) e off);
+    owned = λ h x done e off run k may owns. absurd owns;
     acted = λ h done e here i less. subst (IsSameFor (queues i) h ((queues i).next (party_in (queues i) h) (access_of e) (Counted done i)))
         (ap (λ g. (queues i).next (party_in (queues i) g) (access_of e) (Counted done i)) (sym here) ∙ counts_last i done e)
         (same-for (queues i) h ((queues i).next (party_in (queues i) h) (access_of e) (Counted done i)));

@@ -27,12 +27,13 @@ pub record Acts (M : ℕ) (o : OpeningValue) (h : ℕ) (s : HartState) (m : View
   pub zero : slice_index s.registers 0 ≡ 0
 
 -- A protocol by counts of what was done: what an access of hart h makes of them; which counts are the same as far as hart h knows
--- them; which accesses it may make; and what it may take for granted of what it reads
+-- them; which accesses it may make; what it may take for granted of what it reads; and which bytes only hart h writes at these counts
 pub record Protocol (Counts : Type 0) : Type 1 where
   pub next : (h : ℕ) → Access → Counts → Counts
   pub IsSame : (h : ℕ) → Counts → Counts → Type 0
   pub May : (h : ℕ) → Counts → Access → Type 0
   pub Knows : (h : ℕ) → Counts → View → Type 0
+  pub Owns : (h : ℕ) → Counts → (x : ℕ) → Type 0
 
 -- of no protocol nothing is asked
 abbrev pub no_protocol : Protocol (Unit {0})
@@ -41,14 +42,16 @@ no_protocol = record {
   IsSame = λ h c d. Unit {0};
   May = λ h c y. Unit {0};
   Knows = λ h c m. Unit {0};
+  Owns = λ h c x. ⊥;
 }
 
 -- These sets P of states, views and counts of each hart hold whatever a run leads to, where `Own h x` says that the byte at x is hart
 -- h's own, so that no other hart writes it, and `start` are the counts of the opening
 pub record IsCertified {Counts : Type 0} (M : ℕ) (o : OpeningValue) (p : Protocol Counts) (start : Counts) (Own : ℕ → ℕ → Type 0)
     (P : ℕ → HartState → View → Counts → Type 0) : Type 0 where
-  -- a set says nothing of bytes that aren't the hart's own, and nothing of counts that it doesn't know
-  pub frame : (h : ℕ) (s : HartState) (m n : View) (c d : Counts) → P h s m c → ((x : ℕ) → Own h x → n x ≡ m x) → p.IsSame h c d → P h s n d
+  -- a set says nothing of bytes that aren't the hart's own, always or at these counts, and nothing of counts that it doesn't know
+  pub frame : (h : ℕ) (s : HartState) (m n : View) (c d : Counts) → P h s m c → ((x : ℕ) → Own h x → n x ≡ m x)
+      → ((x : ℕ) → p.Owns h c x → n x ≡ m x) → p.IsSame h c d → P h s n d
   -- each hart opens in its set
   pub opens : (h : ℕ) (x : HartOpeningValue) → slice_get o.harts h ≡ Some x → P h (opens_as M x) (opening_byte o) start
   -- an instruction leads from the set into it,

@@ -38,6 +38,7 @@ all_of N queues = record {
   IsSame = λ h cs ds. (i : ℕ) → i < N → IsSameFor (queues i) h (cs i) (ds i);
   May = λ h cs y. (i : ℕ) → i < N → (queues i).May (party_in (queues i) h) (cs i) y;
   Knows = λ h cs m. (i : ℕ) → i < N → (p : Party) → h ≡ hart_in (queues i) p → (queues i).Knows p (cs i) m;
+  Owns = λ h cs x. ⊥;
 }
 
 -- in a run: what an entry makes of the counts, whether it is allowed, and both of all its entries

@@ -74,6 +74,7 @@ module _ {B M : ℕ} {o : OpeningValue} (sets : CertifiedSets B M o) where
     IsSame = λ h cs ds. (all_of N each).IsSame h cs.0 ds.0 × (kept_beside b).IsSame h cs.1 ds.1;
     May = λ h cs y. (all_of N each).May h cs.0 y × (kept_beside b).May h cs.1 y;
     Knows = λ h cs m. (all_of N each).Knows h cs.0 m × Received h cs.0 m × (kept_beside b).Knows h cs.1 m;
+    Owns = λ h cs x. ⊥;
   }
 
   abbrev pub ByBoth : ℕ → HartState → View → BothCounts → Type 0
@@ -101,7 +102,7 @@ module _ {B M : ℕ} {o : OpeningValue} (sets : CertifiedSets B M o) where
 
   pub is_certified : certified.IsCertified M o protocol start Own ByBoth
   is_certified = record {
-    frame = λ h s m n cs ds w bytes same. c.frame h s m n cs.0 ds.0 cs.1 ds.1 w bytes same.0 same.1;
+    frame = λ h s m n cs ds w bytes owned same. c.frame h s m n cs.0 ds.0 cs.1 ds.1 w bytes same.0 same.1;
     opens = c.opens;
     steps = λ h s m cs e w a k. c.steps h s m cs.0 cs.1 e w (acts-as h s m cs e a k) k.2;
     keeps = λ h s m cs e w a k. (
@@ -166,7 +167,8 @@ module _ {B M : ℕ} {o : OpeningValue} (sets : CertifiedSets B M o) where
   abbrev StandsAt : List Entry → Entry → Type 0
   StandsAt = Stands B M o BothCounts protocol start ByBoth counted
 
-  module _ (done : List Entry) (e : Entry) (w : Kept done) (stands : is_land e ≡ false → StandsAt done e) where
+  module _ (done : List Entry) (e : Entry) (w : Kept done) (stands : is_land e ≡ false → StandsAt done e)
+      (run : WellFormed B M (history_of o (done ++ e ∷ []))) (may : protocol.May (hart_of e) (counted done) (access_of e)) where
     sent_then : (i k : ℕ) → i < N → Told i → starts i ≤ k
         → k < (counts_after (queues i) (all_at (starts i)) (done ++ e ∷ [])).published → WasSent i k (done ++ e ∷ [])
     sent_then i k less told low high = at (cases_lt k (counts_after (queues i) (all_at (starts i)) done).published)
@@ -175,7 +177,7 @@ module _ {B M : ℕ} {o : OpeningValue} (sets : CertifiedSets B M o) where
         new from false off =
             absurd (let same : (counts_after (queues i) (all_at (starts i)) (done ++ e ∷ [])).published
             ≡ (counts_after (queues i) (all_at (starts i)) done).published =
-            (counts.left (queues i).sender done e off i less).count the_sender refl in omega (arith, same, from, high))
+            (counts.left (queues i).sender done e off run w.all may.0 i less).count the_sender refl in omega (arith, same, from, high))
         new from true on =
             let parts = own_parts (queues i).sender e on in
             let st = stands parts.1 in
@@ -220,7 +222,8 @@ module _ {B M : ℕ} {o : OpeningValue} (sets : CertifiedSets B M o) where
   pub is_counted : IsCounted B M o BothCounts protocol start ByBoth counted Kept
   is_counted = record {
     opens = λ h. (counts.opens h, counts_beside.opens h);
-    left = λ h done e off. (counts.left h done e off, counts_beside.left h done e off);
+    left = λ h done e off run w may. (counts.left h done e off run w.all may.0, counts_beside.left h done e off run w.others may.1);
+    owned = λ h x done e off run w may owns. absurd owns;
     acted = λ h done e mine. (counts.acted h done e mine, counts_beside.acted h done e mine);
     lands = λ h cs. (counts.lands h cs.0, counts_beside.lands h cs.1);
     first = record {
@@ -233,9 +236,9 @@ module _ {B M : ℕ} {o : OpeningValue} (sets : CertifiedSets B M o) where
     goes_on = λ done e run w may stands. record {
       all = counts.goes_on done e run w.all may.0 (λ act. bare (all_of N each) opening Counted done e (stands act) (stands act).knows.0);
       others = counts_beside.goes_on done e run w.others may.1 (λ act. bare (kept_beside b) b.starts CountedBeside done e (stands act) (stands act).knows.2);
-      sent = sent_then done e w stands;
+      sent = sent_then done e w stands run may;
       untouched = λ i k x less told of_k. at-end (queues i).receiver x done e (w.untouched i k x less told of_k)
-          (takes_none done e w stands i k x less told of_k);
+          (takes_none done e w stands run may i k x less told of_k);
     };
   }
     where
@@ -273,7 +276,8 @@ module _ {B M : ℕ} {o : OpeningValue} (sets : CertifiedSets B M o) where
     view_other = every.view_other B M o BothCounts protocol start ByBoth counted Own is_certified Kept is_counted done e run w
 
     pub counts_left : (h : ℕ) → is_own h e ≡ false → (i : ℕ) → i < N → IsSameFor (queues i) h (Counted done i) (Counted (done ++ e ∷ []) i)
-    counts_left h off = counts.left h done e off
+    counts_left h off = counts.left h done e off run w.kept.all
+        (every.may B M o BothCounts protocol start ByBoth counted Own is_certified Kept is_counted done e run w).0
 
     pub counts_acted : (h : ℕ) → hart_of e ≡ h → (i : ℕ)
         → IsSameFor (queues i) h (counts_then M o N queues Told Sent h (access_of e) (Counted done) i) (Counted (done ++ e ∷ []) i)
@@ -283,7 +287,8 @@ module _ {B M : ℕ} {o : OpeningValue} (sets : CertifiedSets B M o) where
 
     -- and so of the counts beside
     pub beside_left : (h : ℕ) → is_own h e ≡ false → (kept_beside b).IsSame h (CountedBeside done) (CountedBeside (done ++ e ∷ []))
-    beside_left h off = counts_beside.left h done e off
+    beside_left h off = counts_beside.left h done e off run w.kept.others
+        (every.may B M o BothCounts protocol start ByBoth counted Own is_certified Kept is_counted done e run w).1
 
     pub beside_acted : (h : ℕ) → hart_of e ≡ h
         → (kept_beside b).IsSame h ((kept_beside b).next h (access_of e) (CountedBeside done)) (CountedBeside (done ++ e ∷ []))
