@@ -13,7 +13,7 @@ use Rattle.queue_certificates.proofs.Forms.{value-plus, value-times, value-lifte
 use Rattle.queue_certificates.proofs.Bounds.{added-parts, dot-below}
 
 -- what has more of a variable is made up for by the difference
-more-dot : (ms ns xs : List ℕ) → dot ms xs ≤ dot ns xs + dot (differences ms ns) xs
+pub more-dot : (ms ns xs : List ℕ) → dot ms xs ≤ dot ns xs + dot (differences ms ns) xs
 more-dot [] ns xs = omega arith
 more-dot (m ∷ ms) [] xs = omega arith
 more-dot (m ∷ ms) (n ∷ ns) [] = omega arith

@@ -1,11 +1,9 @@
 -- A row of instructions of a kind is no longer than the greatest of the ranks that fall along them: by induction over the row.
-use Rattle.std.proofs.Common.{ℕ, zero, suc, ◌+◌, ◌-◌, ◌*◌, ◌<◌, ◌≤◌, ◌≡◌, ◌⊎◌, ◌&&◌, ◌||◌, inl, inr, if◌then◌else◌, Bool, true, false, Option, Some, None}
+use Rattle.std.proofs.Common.{ℕ, zero, suc, ◌+◌, ◌<◌, ◌≤◌, ◌≡◌, ◌⊎◌, ◌&&◌, ◌||◌, inl, inr, if◌then◌else◌, Bool, true, false, Option, Some, None}
 use Rattle.std.proofs.Common.{List, [], ◌∷◌, ◌++◌, take, length, get_or, refl, sym, ◌∙◌, ap, subst, arith, append_assoc}
 use Rattle.std.specs.Prelude.{nat_lt, map}
 use Rattle.std.proofs.lemmas.Bool.{and_parts, or_cases, ltb-true, cases_lt}
-use Rattle.std.proofs.lemmas.Nat.{mul-le}
 use Rattle.std.proofs.lemmas.Option.{get_or_from_slice_get}
-use Rattle.std.proofs.Math.Nat.{add-mul}
 use Rattle.hart.specs.{HartState, advanced}
 use Rattle.hart.specs.declared.status.Status.TheVariants as status
 use Rattle.step_machine.specs.declared.events.Entry.{Entry}
@@ -19,6 +17,7 @@ use Rattle.queue_certificates.specs.{QueueCertificate, queue_at, part_of, own_of
 use Rattle.queue_certificates.specs.{SharesTold}
 use Rattle.queue_certificates.specs.Cases.{Arrow, Cases, leaf, split, with_low, with_high, each_leaf}
 use Rattle.queue_certificates.proofs.Every as every
+use Rattle.queue_certificates.proofs.Facts.{more-dot}
 use Rattle.queue_certificates.proofs.Forms.{less_at, values_of, value-lifted, value-number, value-raised, value-substituted}
 use Rattle.queue_certificates.proofs.Bounds.{fits-below, value-below, value-settled}
 use Rattle.queue_certificates.proofs.States.{at-below, exceeds, means-frame, means-high, means-low, means-arrow}
@@ -31,16 +30,6 @@ use Rattle.queue_progress.proofs.Rows.{Executes, GoesFirst, Sees, Counted, Told,
 
 -- ---- forms
 
-dot-differences : (ms ns xs : List ℕ) → dot ms xs ≤ dot ns xs + dot (differences ms ns) xs
-dot-differences [] ns xs = omega arith
-dot-differences (m ∷ ms) [] xs = omega arith
-dot-differences (m ∷ ms) (n ∷ ns) [] = omega arith
-dot-differences (m ∷ ms) (n ∷ ns) (x ∷ xs) =
-    let rest : dot ms xs ≤ dot ns xs + dot (differences ms ns) xs = dot-differences ms ns xs in
-    let more : m * x ≤ (n + (m - n)) * x = mul-le m x (n + (m - n)) x (omega arith) (omega arith) in
-    let parts : (n + (m - n)) * x ≡ n * x + (m - n) * x = add-mul n (m - n) x in
-    omega (arith, rest, more, parts)
-
 pub less-value : (rs : List (Option ℕ)) (f g : Form) (xs : List ℕ) → InRanges rs xs → is_less rs f g ≡ true → form_value f xs < form_value g xs
 less-value rs f g xs ranges ok =
     let rest : Form = record { constant = f.constant + 1; factors = differences f.factors g.factors } in
@@ -48,7 +37,7 @@ less-value rs f g xs ranges ok =
     fits-below (most rs (record { constant = f.constant + 1; factors = differences f.factors g.factors })) (Some g.constant)
     (form_value (record { constant = f.constant + 1; factors = differences f.factors g.factors }) xs) ok
     (λ n is. value-below rs (record { constant = f.constant + 1; factors = differences f.factors g.factors }) xs n ranges is) in
-    let more : dot f.factors xs ≤ dot g.factors xs + dot (differences f.factors g.factors) xs = dot-differences f.factors g.factors xs in
+    let more : dot f.factors xs ≤ dot g.factors xs + dot (differences f.factors g.factors) xs = more-dot f.factors g.factors xs in
     omega (arith, few, more)
 
 values-settled : (rs : List (Option ℕ)) (gs : List Form) (xs : List ℕ) → InRanges rs xs → values_of (map (settled rs) gs) xs ≡ values_of gs xs
