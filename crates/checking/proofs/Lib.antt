@@ -3,4 +3,3 @@ pub mod TallyLaws
 pub mod TextLaws
 pub mod Goings
 pub mod Answering
-pub mod OneChecked

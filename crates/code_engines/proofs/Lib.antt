@@ -1,9 +1,5 @@
 pub mod NumberWords
 pub mod Lines
 pub mod Describing
-pub mod Limits
-pub mod Answered
-pub mod HexTexts
 pub mod CodeTexts
-pub mod OneAnswer
 pub mod ShownSteps

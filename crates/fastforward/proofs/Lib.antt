@@ -5,5 +5,4 @@ pub mod ReceiverReads
 pub mod Sender
 pub mod Receiver
 pub mod ReceiverActs
-pub mod FastForwardLaws
 pub mod Decreasing

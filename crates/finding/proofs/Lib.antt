@@ -1,2 +1,1 @@
 -- Lemmas.
-pub mod Witnesses

@@ -4,8 +4,5 @@ pub mod Coming
 pub mod OnPaths
 pub mod Gathering
 pub mod GettingOn
-pub mod Replays
-pub mod SeatsBelow
 pub mod Fresh
-pub mod Returning
 pub mod Made

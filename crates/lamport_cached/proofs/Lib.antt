@@ -1,4 +1,1 @@
-pub mod Means
 pub mod Sender
-pub mod SenderRows
-pub mod LamportCachedLaws

@@ -4,8 +4,6 @@ pub mod Landings
 pub mod ReceiverReads
 pub mod SenderSteps
 pub mod Sender
-pub mod SenderRows
 pub mod Receiver
 pub mod Laws
 pub mod Decreasing
-pub mod LamportLaws

@@ -1,9 +1,6 @@
 pub mod TallyLaws
 pub mod TrialLaws
 pub mod TallyMerging
-pub mod OutcomeLaws
-pub mod OneText
 pub mod RedrawnLaws
-pub mod EndVerdicts
 pub mod TransitionLaws
 pub mod GrownTransitions

@@ -3,7 +3,6 @@ pub mod Compaction
 pub mod FieldLaws
 pub mod KeyLaws
 pub mod LayoutLaws
-pub mod LevelLaws
 pub mod NumberLaws
 pub mod PartLaws
 pub mod PartRows
