@@ -15,7 +15,7 @@
 //! `slots_that_tell`'s; these give `Points`, what is known at a point of either; from it `Contents` (which words lie in the slots), `Runs` and
 //! `Landed`, the laws. Functions: `Parts` (what an access makes of the protocol's state), `Outline` (what holds at each line) and `Functions`;
 //! `CommonLines`, `LamportLines` and `FastForwardLines`, which lead from line to line; `Calls`, which joins both halves. The laws: `CallLaws`,
-//! `OneCall`, `CutCalls`, `ManyQueues`, `ChangingHands`, `Obligations`, `Decided`.
+//! `OneCall`, `CutCalls`, `ManyQueues`, `Obligations`, `Decided`.
 //!
 //! Called by `callers`.
 
