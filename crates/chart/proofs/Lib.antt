@@ -1,9 +1,12 @@
 pub mod ByRow
+pub mod Given
 pub mod TagLaws
 pub mod LaneLaws
 pub mod Apart
 pub mod Clear
 pub mod Placed
+pub mod HeadLaws
 pub mod PictureLaws
 pub mod ColumnLaws
+pub mod StepLaws
 pub mod SvgLaws

@@ -5,4 +5,3 @@ pub mod ReceiverReads
 pub mod Sender
 pub mod Receiver
 pub mod ReceiverActs
-pub mod Decreasing

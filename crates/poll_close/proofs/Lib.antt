@@ -1,5 +1,4 @@
 pub mod Acts
-pub mod SenderLines
 pub mod SenderRows
 pub mod Windows
 pub mod Blocks
