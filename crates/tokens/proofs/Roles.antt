@@ -1,0 +1,619 @@
+-- The run in which one hart plays a role: entry by entry it is legal, and memory is the same.
+use Rattle.std.proofs.Common.{ℕ, ◌≤◌, ◌≡◌, Bool, true, false, if◌then◌else◌, Some, List, [], ◌∷◌, ◌++◌, length, refl, sym, ◌∙◌, ap, arith, ◌+◌, ◌<◌, ◌≢◌, ◌==◌}
+use Rattle.std.proofs.Common.{◌⊎◌, inl, inr, Option, None, take, subst, append-nil, append_assoc}
+use Rattle.std.specs.Prelude.{unwrap_or, All}
+use Rattle.std.proofs.lemmas.Bool.{cases_eq, eqb-true, eq-eqb, ne_eqb}
+use Rattle.std.proofs.lemmas.List.Elements.{All-head, All-tail}
+use Rattle.memory.specs.declared.writes.Write.{Write}
+use Rattle.memory.specs.Writes.{write, newest_of}
+use Rattle.memory.proofs.Bytes.{joined-same}
+use Rattle.step_machine.specs.declared.events.Entry.{Entry}
+use Rattle.step_machine.specs.Names.{OpeningValue, history_of, store, exchange, land, access_of, hart_of, stored_by, landed_by, written_by, own_store, land_of}
+use Rattle.step_machine.specs.Names.{own_stores, lands, pending, write_of, landed, opening_byte, memory_byte, read_byte, read, AllowedBy, Allowed, Legal}
+use Rattle.step_machine.specs.Names.{LegalAfter}
+use Rattle.step_machine.proofs.{LegalAfter-append, balanced, landed-last, balanced-last}
+use Rattle.store_buffers.proofs.Effects.{pending-quiet, pending-more, pending-first}
+use Rattle.tokens.specs.Tokens.{TokenLayout, lays, Holders, laid, taken_by, MayWrite, holders_next, May, holders, KeepsTokens, FollowsTokens}
+use Rattle.tokens.proofs.Held.{all_laid, laid-left, laid-from, all-from, KeepsWrites, none-some, two-harts, same-hart, laid-gone, taken-left, Held, found_free}
+use Rattle.tokens.proofs.Held.{took, may_then, theirs_swapped, left_by, step, opened}
+use Rattle.tokens.specs.Roles.{is_holder, laid_first, in_memory, as_role, played, as_one_hart}
+use Rattle.step_machine.specs.declared.events.Entry.TheVariants as entry
+
+-- ---- the pending stores of a hart up to the one by which it laid a token down, and those after it.
+
+module _ (q : TokenLayout) (s : ℕ) where
+  abbrev pub upto : List Write → List Write
+  upto [] = []
+  upto (w ∷ ws) = if lays q w s then w ∷ [] else w ∷ upto ws
+
+  abbrev pub beyond : List Write → List Write
+  beyond [] = []
+  beyond (w ∷ ws) = if lays q w s then ws else beyond ws
+
+  pub upto-yes : (w : Write) (ws : List Write) → lays q w s ≡ true → upto (w ∷ ws) ≡ w ∷ []
+  upto-yes w ws yea = ap (λ b. if b then w ∷ [] else w ∷ upto ws) yea
+
+  pub upto-not : (w : Write) (ws : List Write) → lays q w s ≡ false → upto (w ∷ ws) ≡ w ∷ upto ws
+  upto-not w ws nay = ap (λ b. if b then w ∷ [] else w ∷ upto ws) nay
+
+  pub beyond-yes : (w : Write) (ws : List Write) → lays q w s ≡ true → beyond (w ∷ ws) ≡ ws
+  beyond-yes w ws yea = ap (λ b. if b then ws else beyond ws) yea
+
+  pub beyond-not : (w : Write) (ws : List Write) → lays q w s ≡ false → beyond (w ∷ ws) ≡ beyond ws
+  beyond-not w ws nay = ap (λ b. if b then ws else beyond ws) nay
+
+  pub upto-short : (ws : List Write) → length (upto ws) ≤ length ws
+  upto-short [] = omega arith
+  upto-short (w ∷ ws) = by (lays q w s) (upto-short ws)
+    where
+      by : (b : Bool) → length (upto ws) ≤ length ws → length (if b then w ∷ [] else w ∷ upto ws) ≤ length (w ∷ ws)
+      by true le = omega arith
+      by false le = omega (arith, le)
+
+  pub beyond-short : (ws : List Write) → length (beyond ws) ≤ length ws
+  beyond-short [] = omega arith
+  beyond-short (w ∷ ws) = by (lays q w s) (beyond-short ws)
+    where
+      by : (b : Bool) → length (beyond ws) ≤ length ws → length (if b then ws else beyond ws) ≤ length (w ∷ ws)
+      by true le = omega arith
+      by false le = omega (arith, le)
+
+  -- a hart that holds it has laid it down by none
+  pub held-none : (w : Write) (ws : List Write) (m : Holders) (g : ℕ) → all_laid q (w ∷ ws) m s ≡ Some g → lays q w s ≡ false
+  held-none w ws m g is = (laid-from q w m s g (all-from q ws (laid q w m) s g is)).0
+
+  pub upto-all : (ws : List Write) (m : Holders) (g : ℕ) → all_laid q ws m s ≡ Some g → upto ws ≡ ws
+  upto-all [] m g is = refl
+  upto-all (w ∷ ws) m g is = upto-not w ws (held-none w ws m g is) ∙ ap (λ vs. w ∷ vs) (upto-all ws (laid q w m) g is)
+
+  pub beyond-none : (ws : List Write) (m : Holders) (g : ℕ) → all_laid q ws m s ≡ Some g → beyond ws ≡ []
+  beyond-none [] m g is = refl
+  beyond-none (w ∷ ws) m g is = beyond-not w ws (held-none w ws m g is) ∙ beyond-none ws (laid q w m) g is
+
+  one : (w : Write) → upto (w ∷ []) ≡ w ∷ []
+  one w = by (lays q w s)
+    where
+      by : (b : Bool) → (if b then w ∷ [] else w ∷ []) ≡ w ∷ []
+      by true = refl
+      by false = refl
+
+  abbrev empty : List Write
+  empty = []
+
+  none : (w : Write) → beyond (w ∷ []) ≡ []
+  none w = by (lays q w s)
+    where
+      by : (b : Bool) → (if b then [] else []) ≡ empty
+      by true = refl
+      by false = refl
+
+  -- so its next store is within,
+  pub upto-more : (ws : List Write) (w : Write) (m : Holders) (g : ℕ) → all_laid q ws m s ≡ Some g → upto (ws ++ w ∷ []) ≡ ws ++ w ∷ []
+  upto-more [] w m g is = one w
+  upto-more (v ∷ ws) w m g is = upto-not v (ws ++ w ∷ []) (held-none v ws m g is) ∙ ap (λ vs. v ∷ vs) (upto-more ws w (laid q v m) g is)
+
+  pub beyond-still : (ws : List Write) (w : Write) (m : Holders) (g : ℕ) → all_laid q ws m s ≡ Some g → beyond (ws ++ w ∷ []) ≡ []
+  beyond-still [] w m g is = none w
+  beyond-still (v ∷ ws) w m g is = beyond-not v (ws ++ w ∷ []) (held-none v ws m g is) ∙ beyond-still ws w (laid q v m) g is
+
+  -- and that of a hart that has laid it down is beyond
+  pub upto-kept : (ws : List Write) (w : Write) (m : Holders) (g : ℕ) → m s ≡ Some g → (all_laid q ws m s ≡ Some g → ⊥) → upto (ws ++ w ∷ []) ≡ upto ws
+  upto-kept [] w m g is nay = absurd (nay is)
+  upto-kept (v ∷ ws) w m g is nay = by (lays q v s) refl (λ off. upto-kept ws w (laid q v m) g (laid-left q v m s off ∙ is) nay)
+    where
+      by : (b : Bool) → lays q v s ≡ b → (lays q v s ≡ false → upto (ws ++ w ∷ []) ≡ upto ws) → upto (v ∷ (ws ++ w ∷ [])) ≡ upto (v ∷ ws)
+      by true on more = upto-yes v (ws ++ w ∷ []) on ∙ sym (upto-yes v ws on)
+      by false off more = upto-not v (ws ++ w ∷ []) off ∙ ap (λ vs. v ∷ vs) (more off) ∙ sym (upto-not v ws off)
+
+  pub beyond-more : (ws : List Write) (w : Write) (m : Holders) (g : ℕ) → m s ≡ Some g → (all_laid q ws m s ≡ Some g → ⊥)
+      → beyond (ws ++ w ∷ []) ≡ beyond ws ++ w ∷ []
+  beyond-more [] w m g is nay = absurd (nay is)
+  beyond-more (v ∷ ws) w m g is nay = by (lays q v s) refl (λ off. beyond-more ws w (laid q v m) g (laid-left q v m s off ∙ is) nay)
+    where
+      by : (b : Bool) → lays q v s ≡ b → (lays q v s ≡ false → beyond (ws ++ w ∷ []) ≡ beyond ws ++ w ∷ [])
+          → beyond (v ∷ (ws ++ w ∷ [])) ≡ beyond (v ∷ ws) ++ w ∷ []
+      by true on more = beyond-yes v (ws ++ w ∷ []) on ∙ ap (λ vs. vs ++ w ∷ []) (sym (beyond-yes v ws on))
+      by false off more = beyond-not v (ws ++ w ∷ []) off ∙ more off ∙ ap (λ vs. vs ++ w ∷ []) (sym (beyond-not v ws off))
+
+-- ---- a run in which one hart plays a role, entry by entry: it is legal, and memory is the same.
+
+pub holder-true : (x : Option ℕ) (h : ℕ) → is_holder x h ≡ true → x ≡ Some h
+holder-true None h nay = absurd (let wrong : false ≡ true = nay in cc)
+holder-true (Some g) h is = ap Some (eqb-true g h is)
+
+pub holder-false : (x : Option ℕ) (h : ℕ) → is_holder x h ≡ false → x ≡ Some h → ⊥
+holder-false None h nay is = none-some None h refl is
+holder-false (Some g) h nay is = let wrong : true ≡ false = sym (eq-eqb g h (same-hart g h is)) ∙ nay in cc
+
+-- what is pending of the role, and of the harts, in the run R with the role, where es is the run without, and m says whose the token is in
+-- memory
+pub record Turn (q : TokenLayout) (s V : ℕ) (B : ℕ) (o : OpeningValue) (es R : List Entry) (m : Holders) : Type 0 where
+  pub legal : Legal B (history_of o R)
+  pub landings : landed R ≡ landed es
+  pub role : (g : ℕ) → m s ≡ Some g → pending V R ≡ upto q s (pending g es)
+  pub nobody : m s ≡ None → pending V R ≡ []
+  pub rest : (g : ℕ) → g ≢ V → m s ≡ Some g → pending g R ≡ beyond q s (pending g es)
+  pub others : (g : ℕ) → g ≢ V → (m s ≡ Some g → ⊥) → pending g R ≡ pending g es
+
+module _ (q : TokenLayout) (s V B : ℕ) (o : OpeningValue) (es R : List Entry) (m : Holders) (t : Turn q s V B o es R m) where
+  pub same_memory : (x : ℕ) → memory_byte o R x ≡ memory_byte o es x
+  same_memory x = ap (λ ws. unwrap_or (newest_of x None ws) (opening_byte o x)) t.landings
+
+  pub same_byte : (g h x : ℕ) → pending g R ≡ pending h es → read_byte o R g x ≡ read_byte o es h x
+  same_byte g h x same = ap (λ ws. unwrap_or (newest_of x None ws) (memory_byte o R x)) same ∙ ap (unwrap_or (newest_of x None (pending h es))) (same_memory x)
+
+  pub same_read : (g h a width : ℕ) → pending g R ≡ pending h es → read o R g a width ≡ read o es h a width
+  same_read g h a width same = joined-same (λ i. read_byte o R g (a + i)) (λ i. read_byte o es h (a + i)) width (λ i lt. same_byte g h (a + i) same)
+
+  balance : (g : ℕ) → lands g R ≤ length (own_stores g R)
+  balance g = balanced B (history_of o R) g t.legal
+
+  goes_on : (d : Entry) → Allowed B o R d → Legal B (history_of o (R ++ d ∷ []))
+  goes_on d allowed = LegalAfter-append B o [] R (d ∷ []) t.legal (allowed, tt)
+
+  module _ (c : Holders) (w : Held q o es c m) where
+    -- a hart that holds the token has pending what the role has, and no more
+    pub all_of_role : (h : ℕ) → c s ≡ Some h → pending V R ≡ pending h es
+    all_of_role h is =
+        let there = w.to h s is in
+        t.role h (all-from q (pending h es) m s h there) ∙ upto-all q s (pending h es) m h there
+
+    pub role_held : (h : ℕ) → c s ≡ Some h → m s ≡ Some h
+    role_held h is = all-from q (pending h es) m s h (w.to h s is)
+
+    pub reads_same : (h x : ℕ) → c s ≡ Some h → read_byte o R V x ≡ read_byte o es h x
+    reads_same h x is = same_byte V h x (all_of_role h is)
+
+    module _ (e : Entry) (le : (g : ℕ) → lands g es ≤ length (own_stores g es)) (allowed : Allowed B o es e) (new : hart_of e ≢ V) where
+      abbrev Next : Entry → Holders → Type 0
+      Next d n = Turn q s V B o (es ++ e ∷ []) (R ++ d ∷ []) n
+
+      -- neither stores, lands nor writes
+      pub quiet : (d : Entry) → Allowed B o R d → ((g : ℕ) → own_store g e ≡ []) → ((g : ℕ) → land_of g e ≡ 0) → write_of es e ≡ []
+          → ((g : ℕ) → own_store g d ≡ []) → ((g : ℕ) → land_of g d ≡ 0) → write_of R d ≡ [] → Next d m
+      quiet d may none still wrote none2 still2 wrote2 = record {
+        legal = goes_on d may;
+        landings = landed-last R d ∙ ap (λ ws. landed R ++ ws) wrote2 ∙ append-nil (landed R) ∙ t.landings ∙ sym (append-nil (landed es))
+            ∙ ap (λ ws. landed es ++ ws) (sym wrote) ∙ sym (landed-last es e);
+        role = λ g is. after V ∙ t.role g is ∙ ap (upto q s) (sym (before g));
+        nobody = λ is. after V ∙ t.nobody is;
+        rest = λ g other is. after g ∙ t.rest g other is ∙ ap (beyond q s) (sym (before g));
+        others = λ g other is. after g ∙ t.others g other is ∙ sym (before g);
+      }
+        where
+          before : (g : ℕ) → pending g (es ++ e ∷ []) ≡ pending g es
+          before g = pending-quiet es e g (le g) (none g) (still g)
+
+          after : (g : ℕ) → pending g (R ++ d ∷ []) ≡ pending g R
+          after g = pending-quiet R d g (balance g) (none2 g) (still2 g)
+
+      -- ---- a store
+
+      module _ (v : Write) (does : access_of e ≡ store v) (d : Entry) (k : ℕ) (by_hart : hart_of d ≡ k) (does2 : access_of d ≡ store v) where
+        room : length (pending (hart_of e) es) < B
+        room = subst (AllowedBy B (pending (hart_of e) es) (read o es (hart_of e))) does allowed
+
+        may_too : length (pending k R) ≤ length (pending (hart_of e) es) → Allowed B o R d
+        may_too short = subst (λ h. AllowedBy B (pending h R) (read o R h) (access_of d)) (sym by_hart)
+            (subst (AllowedBy B (pending k R) (read o R k)) (sym does2) (omega (arith, short, room)))
+
+        e_mine : pending (hart_of e) (es ++ e ∷ []) ≡ pending (hart_of e) es ++ v ∷ []
+        e_mine = pending-more es e (hart_of e) (le (hart_of e)) v (ap (stored_by (hart_of e == hart_of e)) does
+            ∙ ap (λ b. stored_by b (store v)) (eq-eqb (hart_of e) (hart_of e) refl)) (ap (landed_by (hart_of e == hart_of e)) does)
+
+        e_other : (g : ℕ) → hart_of e ≢ g → pending g (es ++ e ∷ []) ≡ pending g es
+        e_other g other = pending-quiet es e g (le g) (ap (stored_by (hart_of e == g)) does ∙ ap (λ b. stored_by b (store v)) (ne_eqb (hart_of e) g other))
+            (ap (landed_by (hart_of e == g)) does)
+
+        d_mine : pending k (R ++ d ∷ []) ≡ pending k R ++ v ∷ []
+        d_mine = pending-more R d k (balance k) v (ap (stored_by (hart_of d == k)) does2 ∙ ap (λ b. stored_by b (store v)) (eq-eqb (hart_of d) k by_hart))
+            (ap (landed_by (hart_of d == k)) does2)
+
+        d_other : (g : ℕ) → k ≢ g → pending g (R ++ d ∷ []) ≡ pending g R
+        d_other g other = pending-quiet R d g (balance g) (ap (stored_by (hart_of d == g)) does2
+            ∙ ap (λ b. stored_by b (store v)) (ne_eqb (hart_of d) g (λ same. other (sym by_hart ∙ same)))) (ap (landed_by (hart_of d == g)) does2)
+
+        same_landings : landed (R ++ d ∷ []) ≡ landed (es ++ e ∷ [])
+        same_landings = landed-last R d ∙ ap (λ ws. landed R ++ ws) (ap (written_by (take 1 (pending (hart_of d) R))) does2)
+            ∙ append-nil (landed R) ∙ t.landings ∙ sym (append-nil (landed es))
+            ∙ ap (λ ws. landed es ++ ws) (sym (ap (written_by (take 1 (pending (hart_of e) es))) does)) ∙ sym (landed-last es e)
+
+      pub by_role : (v : Write) → access_of e ≡ store v → (d : Entry) → hart_of d ≡ V → access_of d ≡ store v → c s ≡ Some (hart_of e) → Next d m
+      by_role v does d by_hart does2 holds = record {
+        legal = goes_on d (may_too v does d V by_hart does2 (let same = ap length (all_of_role (hart_of e) holds) in omega (arith, same)));
+        landings = same_landings v does d V by_hart does2;
+        role = λ g is. here g (two-harts (m s) g (hart_of e) is held);
+        nobody = λ is. absurd (none-some (m s) (hart_of e) is held);
+        rest = λ g other is. resting g other (two-harts (m s) g (hart_of e) is held);
+        others = λ g other is. d_other v does d V by_hart does2 g (λ same. other (sym same)) ∙ t.others g other is
+            ∙ sym (e_other v does d V by_hart does2 g (λ same. is (held ∙ ap Some same)));
+      }
+        where
+          there : all_laid q (pending (hart_of e) es) m s ≡ Some (hart_of e)
+          there = w.to (hart_of e) s holds
+
+          held : m s ≡ Some (hart_of e)
+          held = role_held (hart_of e) holds
+
+          here : (g : ℕ) → g ≡ hart_of e → pending V (R ++ d ∷ []) ≡ upto q s (pending g (es ++ e ∷ []))
+          here g is = d_mine v does d V by_hart does2 ∙ ap (λ ws. ws ++ v ∷ []) (all_of_role (hart_of e) holds)
+              ∙ sym (upto-more q s (pending (hart_of e) es) v m (hart_of e) there) ∙ ap (upto q s) (sym (e_mine v does d V by_hart does2))
+              ∙ ap (λ k. upto q s (pending k (es ++ e ∷ []))) (sym is)
+
+          resting : (g : ℕ) → g ≢ V → g ≡ hart_of e → pending g (R ++ d ∷ []) ≡ beyond q s (pending g (es ++ e ∷ []))
+          resting g other is = d_other v does d V by_hart does2 g (λ same. other (sym same)) ∙ t.rest g other (held ∙ ap Some (sym is))
+              ∙ ap (λ k. beyond q s (pending k es)) is ∙ beyond-none q s (pending (hart_of e) es) m (hart_of e) there
+              ∙ sym (beyond-still q s (pending (hart_of e) es) v m (hart_of e) there) ∙ ap (beyond q s) (sym (e_mine v does d V by_hart does2))
+              ∙ ap (λ k. beyond q s (pending k (es ++ e ∷ []))) (sym is)
+
+      pub by_other : (v : Write) → access_of e ≡ store v → (d : Entry) → hart_of d ≡ hart_of e → access_of d ≡ store v → (c s ≡ Some (hart_of e) → ⊥) → Next d m
+      by_other v does d by_hart does2 free = record {
+        legal = goes_on d (may_too v does d (hart_of e) by_hart does2 (short (cases (m s) refl)));
+        landings = same_landings v does d (hart_of e) by_hart does2;
+        role = λ g is. d_other v does d (hart_of e) by_hart does2 V new ∙ t.role g is ∙ cut g is (cases_eq (hart_of e) g);
+        nobody = λ is. d_other v does d (hart_of e) by_hart does2 V new ∙ t.nobody is;
+        rest = λ g other is. resting g other is (cases_eq (hart_of e) g);
+        others = λ g other is. same g other is (cases_eq (hart_of e) g);
+      }
+        where
+          laid_down : m s ≡ Some (hart_of e) → all_laid q (pending (hart_of e) es) m s ≡ Some (hart_of e) → ⊥
+          laid_down is there = free (w.from (hart_of e) s there)
+
+          cases : (x : Option ℕ) → m s ≡ x → (m s ≡ Some (hart_of e)) ⊎ (m s ≡ Some (hart_of e) → ⊥)
+          cases None is = inr (λ held. none-some (m s) (hart_of e) is held)
+          cases (Some g) is = elim (cases_eq g (hart_of e)) [
+            | inl same ↦ inl (is ∙ ap Some same)
+            | inr other ↦ inr (λ held. other (two-harts (m s) g (hart_of e) is held))
+          ]
+
+          shorter : (ws : List Write) → length (beyond q s ws) ≤ length ws
+          shorter ws = beyond-short q s ws
+
+          short : (m s ≡ Some (hart_of e)) ⊎ (m s ≡ Some (hart_of e) → ⊥) → length (pending (hart_of e) R) ≤ length (pending (hart_of e) es)
+          short (inl held) = let same = ap length (t.rest (hart_of e) new held) in let le = shorter (pending (hart_of e) es) in omega (arith, same, le)
+          short (inr not) = let same = ap length (t.others (hart_of e) new not) in omega (arith, same)
+
+          cut : (g : ℕ) → m s ≡ Some g → (hart_of e ≡ g) ⊎ (hart_of e ≢ g) → upto q s (pending g es) ≡ upto q s (pending g (es ++ e ∷ []))
+          cut g is (inl here) =
+              let held : m s ≡ Some (hart_of e) = is ∙ ap Some (sym here) in
+              ap (λ k. upto q s (pending k es)) (sym here) ∙ sym (upto-kept q s (pending (hart_of e) es) v m (hart_of e) held (laid_down held))
+              ∙ ap (upto q s) (sym (e_mine v does d (hart_of e) by_hart does2)) ∙ ap (λ k. upto q s (pending k (es ++ e ∷ []))) here
+          cut g is (inr other) = ap (upto q s) (sym (e_other v does d (hart_of e) by_hart does2 g other))
+
+          resting : (g : ℕ) → g ≢ V → m s ≡ Some g → (hart_of e ≡ g) ⊎ (hart_of e ≢ g) → pending g (R ++ d ∷ []) ≡ beyond q s (pending g (es ++ e ∷ []))
+          resting g far is (inl here) =
+              let held : m s ≡ Some (hart_of e) = is ∙ ap Some (sym here) in
+              ap (λ k. pending k (R ++ d ∷ [])) (sym here) ∙ d_mine v does d (hart_of e) by_hart does2
+              ∙ ap (λ ws. ws ++ v ∷ []) (t.rest (hart_of e) new held)
+              ∙ sym (beyond-more q s (pending (hart_of e) es) v m (hart_of e) held (laid_down held))
+              ∙ ap (beyond q s) (sym (e_mine v does d (hart_of e) by_hart does2)) ∙ ap (λ k. beyond q s (pending k (es ++ e ∷ []))) here
+          resting g far is (inr other) = d_other v does d (hart_of e) by_hart does2 g other ∙ t.rest g far is
+              ∙ ap (beyond q s) (sym (e_other v does d (hart_of e) by_hart does2 g other))
+
+          same : (g : ℕ) → g ≢ V → (m s ≡ Some g → ⊥) → (hart_of e ≡ g) ⊎ (hart_of e ≢ g) → pending g (R ++ d ∷ []) ≡ pending g (es ++ e ∷ [])
+          same g far not (inl here) = ap (λ k. pending k (R ++ d ∷ [])) (sym here) ∙ d_mine v does d (hart_of e) by_hart does2
+              ∙ ap (λ ws. ws ++ v ∷ []) (t.others (hart_of e) new (λ held. not (held ∙ ap Some here)))
+              ∙ sym (e_mine v does d (hart_of e) by_hart does2) ∙ ap (λ k. pending k (es ++ e ∷ [])) here
+          same g far not (inr other) = d_other v does d (hart_of e) by_hart does2 g other ∙ t.others g far not
+              ∙ sym (e_other v does d (hart_of e) by_hart does2 g other)
+
+      -- ---- a landing of the oldest store v
+
+      module _ (does : access_of e ≡ land) (v : Write) (later : List Write) (oldest : pending (hart_of e) es ≡ v ∷ later) (d : Entry) (k : ℕ)
+          (by_hart : hart_of d ≡ k) (does2 : access_of d ≡ land) (later2 : List Write) (oldest2 : pending k R ≡ v ∷ later2) where
+        may_land : Allowed B o R d
+        may_land = subst (λ h. AllowedBy B (pending h R) (read o R h) (access_of d)) (sym by_hart)
+            (subst (AllowedBy B (pending k R) (read o R k)) (sym does2) (let some = ap length oldest2 in omega (arith, some)))
+
+        lands_mine : pending (hart_of e) (es ++ e ∷ []) ≡ later
+        lands_mine = pending-first es e (hart_of e) (le (hart_of e)) v later oldest (ap (stored_by (hart_of e == hart_of e)) does)
+            (ap (landed_by (hart_of e == hart_of e)) does ∙ ap (λ b. landed_by b land) (eq-eqb (hart_of e) (hart_of e) refl))
+
+        lands_other : (g : ℕ) → hart_of e ≢ g → pending g (es ++ e ∷ []) ≡ pending g es
+        lands_other g other = pending-quiet es e g (le g) (ap (stored_by (hart_of e == g)) does)
+            (ap (landed_by (hart_of e == g)) does ∙ ap (λ b. landed_by b land) (ne_eqb (hart_of e) g other))
+
+        lands_mine2 : pending k (R ++ d ∷ []) ≡ later2
+        lands_mine2 = pending-first R d k (balance k) v later2 oldest2 (ap (stored_by (hart_of d == k)) does2)
+            (ap (landed_by (hart_of d == k)) does2 ∙ ap (λ b. landed_by b land) (eq-eqb (hart_of d) k by_hart))
+
+        lands_other2 : (g : ℕ) → k ≢ g → pending g (R ++ d ∷ []) ≡ pending g R
+        lands_other2 g other = pending-quiet R d g (balance g) (ap (stored_by (hart_of d == g)) does2)
+            (ap (landed_by (hart_of d == g)) does2 ∙ ap (λ b. landed_by b land) (ne_eqb (hart_of d) g (λ same. other (sym by_hart ∙ same))))
+
+        landed_both : landed (R ++ d ∷ []) ≡ landed (es ++ e ∷ [])
+        landed_both = landed-last R d ∙ ap (λ ws. landed R ++ ws) (ap (written_by (take 1 (pending (hart_of d) R))) does2
+            ∙ ap (λ h. take 1 (pending h R)) by_hart ∙ ap (take 1) oldest2)
+            ∙ ap (λ ws. ws ++ v ∷ []) t.landings
+            ∙ ap (λ ws. landed es ++ ws) (sym (ap (written_by (take 1 (pending (hart_of e) es))) does ∙ ap (take 1) oldest)) ∙ sym (landed-last es e)
+
+      -- of the role
+      module _ (does : access_of e ≡ land) (v : Write) (later : List Write) (oldest : pending (hart_of e) es ≡ v ∷ later) (held : m s ≡ Some (hart_of e))
+          (d : Entry) (by_hart : hart_of d ≡ V) (does2 : access_of d ≡ land) where
+        roles : pending V R ≡ upto q s (v ∷ later)
+        roles = t.role (hart_of e) held ∙ ap (upto q s) oldest
+
+        pub lays_down : lays q v s ≡ true → Next d (laid q v m)
+        lays_down yea =
+            let first : pending V R ≡ v ∷ [] = roles ∙ upto-yes q s v later yea in
+            record {
+              legal = goes_on d (may_land does v later oldest d V by_hart does2 [] first);
+              landings = landed_both does v later oldest d V by_hart does2 [] first;
+              role = λ g is. absurd (none-some (laid q v m s) g (laid-gone q v m s yea) is);
+              nobody = λ is. lands_mine2 does v later oldest d V by_hart does2 [] first;
+              rest = λ g far is. absurd (none-some (laid q v m s) g (laid-gone q v m s yea) is);
+              others = λ g far is. lands_other2 does v later oldest d V by_hart does2 [] first g (λ same. far (sym same))
+                  ∙ all_else g far (cases_eq (hart_of e) g) first;
+            }
+          where
+            all_else : (g : ℕ) → g ≢ V → (hart_of e ≡ g) ⊎ (hart_of e ≢ g) → pending V R ≡ v ∷ [] → pending g R ≡ pending g (es ++ e ∷ [])
+            all_else g far (inl here) first = ap (λ k. pending k R) (sym here) ∙ t.rest (hart_of e) new held ∙ ap (beyond q s) oldest
+                ∙ beyond-yes q s v later yea ∙ sym (lands_mine does v later oldest d V by_hart does2 [] first) ∙ ap (λ k. pending k (es ++ e ∷ [])) here
+            all_else g far (inr other) first = t.others g far (λ is. other (two-harts (m s) (hart_of e) g held is))
+                ∙ sym (lands_other does v later oldest d V by_hart does2 [] first g other)
+
+        pub lays_none : lays q v s ≡ false → Next d (laid q v m)
+        lays_none nay =
+            let first : pending V R ≡ v ∷ upto q s later = roles ∙ upto-not q s v later nay in
+            record {
+              legal = goes_on d (may_land does v later oldest d V by_hart does2 (upto q s later) first);
+              landings = landed_both does v later oldest d V by_hart does2 (upto q s later) first;
+              role = λ g is. lands_mine2 does v later oldest d V by_hart does2 (upto q s later) first
+                  ∙ ap (upto q s) (sym (lands_mine does v later oldest d V by_hart does2 (upto q s later) first))
+                  ∙ ap (λ k. upto q s (pending k (es ++ e ∷ []))) (two-harts (m s) (hart_of e) g held (still is));
+              nobody = λ is. absurd (none-some (m s) (hart_of e) (sym (laid-left q v m s nay) ∙ is) held);
+              rest = λ g far is. lands_other2 does v later oldest d V by_hart does2 (upto q s later) first g (λ same. far (sym same))
+                  ∙ resting g (two-harts (m s) (hart_of e) g held (still is)) first;
+              others = λ g far is. lands_other2 does v later oldest d V by_hart does2 (upto q s later) first g (λ same. far (sym same))
+                  ∙ t.others g far (λ there. is (laid-left q v m s nay ∙ there))
+                  ∙ sym (lands_other does v later oldest d V by_hart does2 (upto q s later) first g (λ same. is (laid-left q v m s nay ∙ held ∙ ap Some same)));
+            }
+          where
+            still : {g : ℕ} → laid q v m s ≡ Some g → m s ≡ Some g
+            still is = sym (laid-left q v m s nay) ∙ is
+
+            resting : (g : ℕ) → hart_of e ≡ g → pending V R ≡ v ∷ upto q s later → pending g R ≡ beyond q s (pending g (es ++ e ∷ []))
+            resting g here first = ap (λ k. pending k R) (sym here) ∙ t.rest (hart_of e) new held ∙ ap (beyond q s) oldest
+                ∙ beyond-not q s v later nay ∙ ap (beyond q s) (sym (lands_mine does v later oldest d V by_hart does2 (upto q s later) first))
+                ∙ ap (λ k. beyond q s (pending k (es ++ e ∷ []))) here
+
+      -- of another hart
+      pub lands_free : (does : access_of e ≡ land) (v : Write) (later : List Write) (oldest : pending (hart_of e) es ≡ v ∷ later)
+          → (m s ≡ Some (hart_of e) → ⊥) → (d : Entry) → hart_of d ≡ hart_of e → access_of d ≡ land → Next d (laid q v m)
+      lands_free does v later oldest free d by_hart does2 = record {
+        legal = goes_on d (may_land does v later oldest d (hart_of e) by_hart does2 later first);
+        landings = landed_both does v later oldest d (hart_of e) by_hart does2 later first;
+        role = λ g is. away V new ∙ t.role g (still g is) ∙ ap (upto q s) (sym (left_there g (λ same. free (still g is ∙ ap Some (sym same)))));
+        nobody = λ is. away V new ∙ t.nobody (sym (laid-left q v m s not_laid) ∙ is);
+        rest = λ g far is. away g (λ same. free (still g is ∙ ap Some (sym same))) ∙ t.rest g far (still g is)
+            ∙ ap (beyond q s) (sym (left_there g (λ same. free (still g is ∙ ap Some (sym same)))));
+        others = λ g far is. other_ones g far (λ there. is (laid-left q v m s not_laid ∙ there)) (cases_eq (hart_of e) g);
+      }
+        where
+          first : pending (hart_of e) R ≡ v ∷ later
+          first = t.others (hart_of e) new free ∙ oldest
+
+          may_write : MayWrite q (hart_of e) m v
+          may_write = (subst (KeepsWrites q (hart_of e) m) oldest (w.tidy (hart_of e))).0
+
+          not_laid : lays q v s ≡ false
+          not_laid = by (lays q v s) refl
+            where
+              by : (b : Bool) → lays q v s ≡ b → lays q v s ≡ false
+              by false nay = nay
+              by true yea = absurd (free (may_write.held s yea))
+
+          still : (g : ℕ) → laid q v m s ≡ Some g → m s ≡ Some g
+          still g is = (laid-from q v m s g is).1
+
+          away : (g : ℕ) → hart_of e ≢ g → pending g (R ++ d ∷ []) ≡ pending g R
+          away g other = lands_other2 does v later oldest d (hart_of e) by_hart does2 later first g other
+
+          left_there : (g : ℕ) → hart_of e ≢ g → pending g (es ++ e ∷ []) ≡ pending g es
+          left_there g other = lands_other does v later oldest d (hart_of e) by_hart does2 later first g other
+
+          other_ones : (g : ℕ) → g ≢ V → (m s ≡ Some g → ⊥) → (hart_of e ≡ g) ⊎ (hart_of e ≢ g) → pending g (R ++ d ∷ []) ≡ pending g (es ++ e ∷ [])
+          other_ones g far not (inl here) = ap (λ k. pending k (R ++ d ∷ [])) (sym here)
+              ∙ lands_mine2 does v later oldest d (hart_of e) by_hart does2 later first
+              ∙ sym (lands_mine does v later oldest d (hart_of e) by_hart does2 later first) ∙ ap (λ k. pending k (es ++ e ∷ [])) here
+          other_ones g far not (inr other) = away g other ∙ t.others g far not ∙ sym (left_there g other)
+
+      -- ---- an AMO
+
+      pub swapped : (a old new_word : ℕ) (does : access_of e ≡ exchange a old new_word)
+          → MayWrite q (hart_of e) (taken_by q (hart_of e) (write a 4 old) c) (write a 4 new_word)
+          → (d : Entry) (k : ℕ) → hart_of d ≡ k → access_of d ≡ exchange a old new_word → pending k R ≡ []
+          → Next d (laid q (write a 4 new_word) (taken_by q (hart_of e) (write a 4 old) m))
+      swapped a old new_word does may d k by_hart does2 empty = record {
+        legal = goes_on d (subst (λ h. AllowedBy B (pending h R) (read o R h) (access_of d)) (sym by_hart)
+            (subst (AllowedBy B (pending k R) (read o R k)) (sym does2)
+            (empty, here.1 ∙ sym (same_read k (hart_of e) a 4 (empty ∙ sym here.0)))));
+        landings = landed-last R d ∙ ap (λ ws. landed R ++ ws) (ap (written_by (take 1 (pending (hart_of d) R))) does2)
+            ∙ ap (λ ws. ws ++ n ∷ []) t.landings
+            ∙ ap (λ ws. landed es ++ ws) (sym (ap (written_by (take 1 (pending (hart_of e) es))) does)) ∙ sym (landed-last es e);
+        role = λ g is. after V ∙ role_then g (took_it g (laid-from q n ms s g is).1) ∙ ap (upto q s) (sym (before g));
+        nobody = λ is. after V ∙ none_then is (lays q n s) refl;
+        rest = λ g far is. after g ∙ rest_then g far (took_it g (laid-from q n ms s g is).1) ∙ ap (beyond q s) (sym (before g));
+        others = λ g far is. after g ∙ others_then g far is (known g (m s) refl) ∙ sym (before g);
+      }
+        where
+          n : Write
+          n = write a 4 new_word
+
+          p : Write
+          p = write a 4 old
+
+          ms : Holders
+          ms = taken_by q (hart_of e) p m
+
+          here : (pending (hart_of e) es ≡ []) × (old ≡ read o es (hart_of e) a 4)
+          here = subst (AllowedBy B (pending (hart_of e) es) (read o es (hart_of e))) does allowed
+
+          before : (g : ℕ) → pending g (es ++ e ∷ []) ≡ pending g es
+          before g = pending-quiet es e g (le g) (ap (stored_by (hart_of e == g)) does) (ap (landed_by (hart_of e == g)) does)
+
+          after : (g : ℕ) → pending g (R ++ d ∷ []) ≡ pending g R
+          after g = pending-quiet R d g (balance g) (ap (stored_by (hart_of d == g)) does2) (ap (landed_by (hart_of d == g)) does2)
+
+          took_it : (g : ℕ) → ms s ≡ Some g → ((lays q p s ≡ true) × (hart_of e ≡ g)) ⊎ ((lays q p s ≡ false) × (m s ≡ Some g))
+          took_it g is = took B q o es e c m w allowed a old new_word does le may s g m is
+
+          free : lays q p s ≡ true → m s ≡ None
+          free yea = found_free B q o es e c m w allowed a old new_word does s yea
+
+          role_then : (g : ℕ) → ((lays q p s ≡ true) × (hart_of e ≡ g)) ⊎ ((lays q p s ≡ false) × (m s ≡ Some g)) → pending V R ≡ upto q s (pending g es)
+          role_then g (inl yea) = t.nobody (free yea.0) ∙ ap (upto q s) (sym (ap (λ h. pending h es) (sym yea.1) ∙ here.0))
+          role_then g (inr nay) = t.role g nay.1
+
+          -- a role that this hart has has nothing pending
+          drained : m s ≡ Some (hart_of e) → pending V R ≡ []
+          drained is = t.role (hart_of e) is ∙ ap (upto q s) here.0
+
+          none_then : laid q n ms s ≡ None → (b : Bool) → lays q n s ≡ b → pending V R ≡ []
+          none_then is true yea = elim (took_it (hart_of e) ((may_then B q o es e c m w allowed a old new_word does le may).held s yea)) [
+            | inl found ↦ t.nobody (free found.0)
+            | inr held ↦ drained held.1
+          ]
+          none_then is false nay = by (lays q p s) refl
+            where
+              by : (b : Bool) → lays q p s ≡ b → pending V R ≡ []
+              by true yea = t.nobody (free yea)
+              by false not = t.nobody (sym (taken-left q (hart_of e) p m s not) ∙ sym (laid-left q n ms s nay) ∙ is)
+
+          rest_then : (g : ℕ) → g ≢ V → ((lays q p s ≡ true) × (hart_of e ≡ g)) ⊎ ((lays q p s ≡ false) × (m s ≡ Some g))
+              → pending g R ≡ beyond q s (pending g es)
+          rest_then g far (inl yea) =
+              let none : pending g es ≡ [] = ap (λ h. pending h es) (sym yea.1) ∙ here.0 in
+              t.others g far (λ is. none-some (m s) g (free yea.0) is) ∙ none ∙ ap (beyond q s) (sym none)
+          rest_then g far (inr nay) = t.rest g far nay.1
+
+          known : (g : ℕ) (x : Option ℕ) → m s ≡ x → (m s ≡ Some g) ⊎ (m s ≡ Some g → ⊥)
+          known g None is = inr (λ held. none-some (m s) g is held)
+          known g (Some f) is = elim (cases_eq f g) [
+            | inl same ↦ inl (is ∙ ap Some same)
+            | inr other ↦ inr (λ held. other (two-harts (m s) f g is held))
+          ]
+
+          others_then : (g : ℕ) → g ≢ V → (laid q n ms s ≡ Some g → ⊥) → (m s ≡ Some g) ⊎ (m s ≡ Some g → ⊥) → pending g R ≡ pending g es
+          others_then g far not (inr never) = t.others g far never
+          others_then g far not (inl held) = elim (cases_eq (hart_of e) g) [
+            | inl mine_too ↦
+                let none : pending g es ≡ [] = ap (λ h. pending h es) (sym mine_too) ∙ here.0 in
+                t.rest g far held ∙ ap (beyond q s) none ∙ sym none
+            | inr other ↦
+                let l = theirs_swapped B q o es e c m w allowed a old new_word does le may g s other held in
+                absurd (not (left_by B q o es e c m w allowed a old new_word does le may s m l.0 l.1 ∙ held))
+          ]
+
+-- ---- every run in which one hart plays a token's role, by induction.
+
+module _ (q : TokenLayout) (s V B : ℕ) (o : OpeningValue) where
+  module _ (es R : List Entry) (m : Holders) (t : Turn q s V B o es R m) (c : Holders) (w : Held q o es c m)
+      (le : (g : ℕ) → lands g es ≤ length (own_stores g es)) where
+    abbrev Then : Entry → Entry → Holders → Type 0
+    Then e d n = Turn q s V B o (es ++ e ∷ []) (R ++ d ∷ []) n
+
+    role_loads : (h a width v : ℕ) → Allowed B o es (entry.Load h a width v) → h ≢ V → (b : Bool) → is_holder (c s) h ≡ b → (l : Bool) → is_holder (m s) h ≡ l
+        → Then (entry.Load h a width v) (if b then entry.Load V a width v else (if l then entry.Inner h else entry.Load h a width v)) m
+    role_loads h a width v allowed new true yea l is = quiet q s V B o es R m t c w (entry.Load h a width v) le allowed new (entry.Load V a width v)
+        (allowed ∙ sym (same_read q s V B o es R m t V h a width (all_of_role q s V B o es R m t c w h (holder-true (c s) h yea))))
+        (λ g. refl) (λ g. refl) refl (λ g. refl) (λ g. refl) refl
+    role_loads h a width v allowed new false nay false not = quiet q s V B o es R m t c w (entry.Load h a width v) le allowed new (entry.Load h a width v)
+        (allowed ∙ sym (same_read q s V B o es R m t h h a width (t.others h new (holder-false (m s) h not)))) (λ g. refl) (λ g. refl) refl (λ g. refl)
+        (λ g. refl) refl
+    role_loads h a width v allowed new false nay true still = quiet q s V B o es R m t c w (entry.Load h a width v) le allowed new (entry.Inner h) tt
+        (λ g. refl) (λ g. refl) refl (λ g. refl) (λ g. refl) refl
+
+    role_stores : (h a width v : ℕ) → Allowed B o es (entry.Store h a width v) → h ≢ V → (b : Bool) → is_holder (c s) h ≡ b
+        → Then (entry.Store h a width v) (entry.Store (if b then V else h) a width v) m
+    role_stores h a width v allowed new true yea = by_role q s V B o es R m t c w (entry.Store h a width v) le allowed new (write a width v) refl
+        (entry.Store V a width v) refl refl (holder-true (c s) h yea)
+    role_stores h a width v allowed new false nay = by_other q s V B o es R m t c w (entry.Store h a width v) le allowed new (write a width v) refl
+        (entry.Store h a width v) refl refl (holder-false (c s) h nay)
+
+    swaps : (h a old n : ℕ) → Allowed B o es (entry.Amo h a old n) → h ≢ V → May q h c (access_of (entry.Amo h a old n)) → (b : Bool) → is_holder (c s) h ≡ b
+        → Then (entry.Amo h a old n) (entry.Amo (if b then V else h) a old n) (laid q (write a 4 n) (taken_by q h (write a 4 old) m))
+    swaps h a old n allowed new may true yea = swapped q s V B o es R m t c w (entry.Amo h a old n) le allowed new a old n refl may
+        (entry.Amo V a old n) V refl refl (all_of_role q s V B o es R m t c w h (holder-true (c s) h yea) ∙ allowed.0)
+    swaps h a old n allowed new may false nay = swapped q s V B o es R m t c w (entry.Amo h a old n) le allowed new a old n refl may
+        (entry.Amo h a old n) h refl refl (t.others h new (λ held. holder-false (c s) h nay
+        (w.from h s (ap (λ ws. all_laid q ws m s) allowed.0 ∙ held))) ∙ allowed.0)
+
+    role_landing : (h : ℕ) → Allowed B o es (entry.Land h) → h ≢ V → (b : Bool) → is_holder (m s) h ≡ b → (ws : List Write) → pending h es ≡ ws
+        → Then (entry.Land h) (entry.Land (if b then V else h)) (laid_first q ws m)
+    role_landing h allowed new b is [] none = absurd (let zero : length (pending h es) ≡ 0 = ap length none in omega (arith, zero, allowed))
+    role_landing h allowed new false nay (v ∷ later) oldest = lands_free q s V B o es R m t c w (entry.Land h) le allowed new refl v later oldest
+        (holder-false (m s) h nay) (entry.Land h) refl refl
+    role_landing h allowed new true yea (v ∷ later) oldest = by (lays q v s) refl
+      where
+        by : (d : Bool) → lays q v s ≡ d → Then (entry.Land h) (entry.Land V) (laid q v m)
+        by true down = lays_down q s V B o es R m t c w (entry.Land h) le allowed new refl v later oldest
+            (holder-true (m s) h yea) (entry.Land V) refl refl down
+        by false none = lays_none q s V B o es R m t c w (entry.Land h) le allowed new refl v later oldest
+            (holder-true (m s) h yea) (entry.Land V) refl refl none
+
+    role_others : (e : Entry) → Allowed B o es e → hart_of e ≢ V → (d : Entry) → Allowed B o R d
+        → ((g : ℕ) → own_store g e ≡ []) → ((g : ℕ) → land_of g e ≡ 0)
+        → write_of es e ≡ [] → ((g : ℕ) → own_store g d ≡ [])
+        → ((g : ℕ) → land_of g d ≡ 0) → write_of R d ≡ [] → Then e d m
+    role_others e allowed new d may = quiet q s V B o es R m t c w e le allowed new d may
+
+    pub role_one : (e : Entry) → Allowed B o es e → hart_of e ≢ V → May q (hart_of e) c (access_of e)
+        → Then e (as_role V (is_holder (c s) (hart_of e)) (is_holder (m s) (hart_of e)) e) (in_memory q es e m)
+    role_one (entry.Load h a width v) allowed new may = role_loads h a width v allowed new (is_holder (c s) h) refl (is_holder (m s) h) refl
+    role_one (entry.Store h a width v) allowed new may = role_stores h a width v allowed new (is_holder (c s) h) refl
+    role_one (entry.Amo h a old n) allowed new may = swaps h a old n allowed new may (is_holder (c s) h) refl
+    role_one (entry.Land h) allowed new may = role_landing h allowed new (is_holder (m s) h) refl (pending h es) refl
+    role_one (entry.Fence h full) allowed new may = role_others (entry.Fence h full) allowed new (entry.Inner h) tt
+        (λ g. refl) (λ g. refl) refl (λ g. refl) (λ g. refl) refl
+    role_one (entry.Inner h) allowed new may = role_others (entry.Inner h) allowed new (entry.Inner h) tt
+        (λ g. refl) (λ g. refl) refl (λ g. refl) (λ g. refl) refl
+    role_one (entry.Next h x) allowed new may = role_others (entry.Next h x) allowed new (entry.Next h x) tt
+        (λ g. refl) (λ g. refl) refl (λ g. refl) (λ g. refl) refl
+    role_one (entry.Took h i x) allowed new may = role_others (entry.Took h i x) allowed new (entry.Took h i x) tt
+        (λ g. refl) (λ g. refl) refl (λ g. refl) (λ g. refl) refl
+    role_one (entry.Closed h i) allowed new may = role_others (entry.Closed h i) allowed new (entry.Closed h i) tt
+        (λ g. refl) (λ g. refl) refl (λ g. refl) (λ g. refl) refl
+    role_one (entry.Ended h) allowed new may = role_others (entry.Ended h) allowed new (entry.Ended h) tt
+        (λ g. refl) (λ g. refl) refl (λ g. refl) (λ g. refl) refl
+    role_one (entry.Stopped h why) allowed new may =
+        role_others (entry.Stopped h why) allowed new (entry.Stopped h why) tt (λ g. refl) (λ g. refl) refl (λ g. refl)
+        (λ g. refl) refl
+
+  abbrev Played : List Entry → List Entry → Holders → Type 0
+  Played es R c = (n : Holders) × Turn q s V B o es R n × Held q o es c n
+
+  turns : (done R rest : List Entry) (c m : Holders) → ((g : ℕ) → lands g done ≤ length (own_stores g done)) → LegalAfter B o done rest
+      → KeepsTokens q c rest → All (λ e. hart_of e ≢ V) rest → Held q o done c m → Turn q s V B o done R m
+      → Played (done ++ rest) (R ++ played q s V done c m rest) (holders q c rest)
+  turns done R [] c m le legal keeps fresh w t = subst (λ xs. Played xs (R ++ []) c) (sym (append-nil done))
+      (subst (λ ys. Played done ys c) (sym (append-nil R)) (m, t, w))
+  turns done R (e ∷ rest) c m le legal keeps fresh w t =
+      let d : Entry = as_role V (is_holder (c s) (hart_of e)) (is_holder (m s) (hart_of e)) e in
+      let new : hart_of e ≢ V = All-head (λ x. hart_of x ≢ V) e rest fresh in
+      let rest_played : List Entry = played q s V (done ++ e ∷ []) (holders_next q c e) (in_memory q done e m) rest in
+      subst (λ xs. Played xs (R ++ d ∷ rest_played) (holders q (holders_next q c e) rest)) (append_assoc done (e ∷ []) rest)
+      (subst (λ ys. Played ((done ++ e ∷ []) ++ rest) ys (holders q (holders_next q c e) rest)) (append_assoc R (d ∷ []) rest_played)
+      (turns (done ++ e ∷ []) (R ++ d ∷ []) rest (holders_next q c e) (in_memory q done e m) (λ g. balanced-last B o done g e legal.0 (le g)) legal.1 keeps.1
+      (All-tail (λ x. hart_of x ≢ V) e rest fresh) (step B q o done e c m w le legal.0 keeps.0) (role_one done R m t c w le e legal.0 new keeps.0)))
+
+  pub nothing_yet : (start : Holders) → Turn q s V B o [] [] start
+  nothing_yet start = record {
+    legal = tt;
+    landings = refl;
+    role = λ g is. refl;
+    nobody = λ is. refl;
+    rest = λ g far is. refl;
+    others = λ g far is. refl;
+  }
+
+  -- the run with the role is legal, leaves the same memory, and its hart reads what the token's holder reads
+  pub plays : (start : Holders) (es : List Entry) → FollowsTokens B q start o es → All (λ e. hart_of e ≢ V) es
+      → Legal B (history_of o (as_one_hart q s V start es)) × ((x : ℕ) → memory_byte o (as_one_hart q s V start es) x ≡ memory_byte o es x)
+      × ((h x : ℕ) → holders q start es s ≡ Some h → read_byte o (as_one_hart q s V start es) V x ≡ read_byte o es h x)
+  plays start es f fresh =
+      let end = turns [] [] es start start (λ g. omega arith) f.legal f.keeps fresh (opened B q o start f.opens) (nothing_yet start) in (
+        end.1.legal,
+        same_memory q s V B o es (as_one_hart q s V start es) end.0 end.1,
+        λ h x is. reads_same q s V B o es (as_one_hart q s V start es) end.0 end.1 (holders q start es) end.2 h x is,
+      )

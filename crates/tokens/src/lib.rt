@@ -1,0 +1,57 @@
+//! Tokens that harts hand over: a lock's, a buffer's, a role's. A token guards some bytes, and lies in a place, or a hart holds it. A place
+//! is some bytes of a word, whose number says which tokens lie there: an AMO takes those that it finds; a store, or the AMO's own word, lays
+//! down those of its number.
+//!
+//! The contract is that of [`laws_of_tokens`]: what holds of every legal run in which each hart lays down only tokens that it holds, and
+//! writes over guarded bytes only where it holds the tokens that guard them, for any number of harts and store buffers of any size. It
+//! says nothing of a hart that waits for a token. This crate runs nothing, and nothing calls it yet: no command speaks of tokens.
+//!
+//! Called by none: its laws are what it is for.
+
+#![tactic(auto)]
+
+ghost use Rattle.std.specs.Prelude.{ℕ, ◌≡◌, ◌≢◌, ◌<◌, ◌+◌, List, [], ◌∷◌, ◌++◌, Some, None, true, All, Bool};
+ghost use Rattle.memory.specs.Writes.{write, joined};
+ghost use Rattle.step_machine.specs.declared.events.Entry.{Entry};
+ghost use Rattle.step_machine.specs.History.{OpeningValue, history_of};
+ghost use Rattle.step_machine.specs.Legal.{Legal};
+ghost use Rattle.step_machine.specs.Access.{load, exchange, access_of};
+ghost use Rattle.step_machine.specs.Entries.{hart_of, memory_byte, read_byte, opening_byte};
+ghost use Rattle.certified_runs.specs.Views.{View, view_of};
+ghost use Rattle.tokens.specs.Tokens.{TokenLayout, lays, Holders, holders, LoadsHeld, FollowsTokens, last_stored, HandsOn};
+ghost use Rattle.tokens.specs.Roles.{as_one_hart};
+
+/// It does nothing.
+///
+/// - `exclusive`: nobody holds what an AMO takes.
+/// - `stays`: so a hart holds a token until it lays it down itself.
+/// - `as_stored`: a hart that holds a token reads in each byte that it guards what was stored there last, by whatever hart, as if
+///   there were no store buffers.
+/// - `loads`: so does each of its loads of such bytes.
+/// - `handed_on`: what is said of a token's bytes is so wherever an AMO takes it, if it is so at the opening and wherever it is laid down.
+/// - `in_turn`: what the holders of a token do in turn one hart may do that is no hart of the run: with its entries for theirs the run is
+///   legal, memory is the same, and it reads what the token's holder reads.
+pub fn laws_of_tokens()
+    ensures exclusive { (B : ℕ) (q : TokenLayout) (start : Holders) (o : OpeningValue) (es : List Entry) (e : Entry)
+        → FollowsTokens B q start o (es ++ e ∷ []) → (a old new t : ℕ) → access_of e ≡ exchange a old new → lays q (write a 4 old) t ≡ true
+        → holders q start es t ≡ None }
+    ensures stays { (B : ℕ) (q : TokenLayout) (start : Holders) (o : OpeningValue) (es : List Entry) (e : Entry)
+        → FollowsTokens B q start o (es ++ e ∷ []) → (h t : ℕ) → holders q start es t ≡ Some h → hart_of e ≢ h
+        → holders q start (es ++ e ∷ []) t ≡ Some h }
+    ensures as_stored { (B : ℕ) (q : TokenLayout) (start : Holders) (o : OpeningValue) (es : List Entry) → FollowsTokens B q start o es
+        → (h t x : ℕ) → holders q start es t ≡ Some h → q.guards t x ≡ true → read_byte o es h x ≡ last_stored o es x }
+    ensures loads { (B : ℕ) (q : TokenLayout) (start : Holders) (o : OpeningValue) (es : List Entry) (e : Entry)
+        → FollowsTokens B q start o (es ++ e ∷ []) → (a width v : ℕ) → access_of e ≡ load a width v
+        → LoadsHeld q (hart_of e) (holders q start es) (access_of e)
+        → ((i : ℕ) → i < width → (t : ℕ) × (q.guards t (a + i) ≡ true))
+        → v ≡ joined (λ i. last_stored o es (a + i)) width }
+    ensures handed_on { (B : ℕ) (q : TokenLayout) (start : Holders) (o : OpeningValue) (es : List Entry) (e : Entry)
+        → FollowsTokens B q start o (es ++ e ∷ []) → (says : ℕ → View → Bool)
+        → ((t : ℕ) (m n : View) → ((x : ℕ) → q.guards t x ≡ true → n x ≡ m x) → says t m ≡ true → says t n ≡ true)
+        → ((t : ℕ) → start t ≡ None → says t (opening_byte o) ≡ true) → HandsOn q says o [] es
+        → (a old new t : ℕ) → access_of e ≡ exchange a old new → lays q (write a 4 old) t ≡ true → says t (view_of o es (hart_of e)) ≡ true }
+    ensures in_turn { (B : ℕ) (q : TokenLayout) (start : Holders) (o : OpeningValue) (es : List Entry) → FollowsTokens B q start o es
+        → (s V : ℕ) → All (λ e. hart_of e ≢ V) es
+        → Legal B (history_of o (as_one_hart q s V start es)) × ((x : ℕ) → memory_byte o (as_one_hart q s V start es) x ≡ memory_byte o es x)
+        × ((h x : ℕ) → holders q start es s ≡ Some h → read_byte o (as_one_hart q s V start es) V x ≡ read_byte o es h x) }
+{}
