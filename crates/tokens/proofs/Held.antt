@@ -23,7 +23,7 @@ use Rattle.tokens.specs.Tokens.{TokenLayout, lays, Holders, laid, taken_by, MayW
 use Rattle.tokens.specs.Tokens.{last_stored, holders_then, holders_next, May, LoadsHeld, holders, KeepsTokens, OpensTokens, FollowsTokens, lays_down, HandsOn}
 use Rattle.tokens.specs.Roles.{laid_first, next_in_memory, in_memory}
 
--- ---- what writes make of the holders of tokens.
+-- ---- what writes make of the holders of tokens
 
 pub same-hart : (g h : ℕ) → Some g ≡ Some h → g ≡ h
 same-hart g h is = ap (λ (z : Option ℕ). unwrap_or z 0) is
@@ -114,7 +114,7 @@ module _ (q : TokenLayout) where
       by false is = is
       by true is = absurd (none (k.0.guarded t x is guards))
 
--- ---- which tokens a write lays down, and what it leaves in memory.
+-- ---- which tokens a write lays down, and what it leaves in memory
 
 either-true : (a b : Bool) → (a ≡ true) ⊎ (b ≡ true) → (a || b) ≡ true
 either-true true b s = refl
@@ -179,7 +179,7 @@ module _ (q : TokenLayout) (w : Write) (i : ℕ) where
   pub in-some : (t : ℕ) → i < q.places → lays_in q w t i ≡ true → lays q w t ≡ true
   in-some t lt yea = any-yes q.places (lays_in q w t) i lt yea
 
--- ---- what holds of a run that keeps tokens: of whom a token is in memory, where what is pending hasn't landed yet.
+-- ---- what holds of a run that keeps tokens: of whom a token is in memory, where what is pending hasn't landed yet
 
 abbrev pub LiesAt : TokenLayout → OpeningValue → List Entry → (i t : ℕ) → Type 0
 LiesAt q o es i t = q.lies i (memory_number o es (q.at i) (q.width i)) t ≡ true
@@ -238,7 +238,7 @@ module _ (q : TokenLayout) (o : OpeningValue) (es : List Entry) (e : Entry) (w :
         | inr misses ↦ inr (subst (λ n. q.lies i n t ≡ true) (after ∙ number-missed q w i (λ j. memory_byte o es (q.at i + j)) misses) yea, off)
       ]
 
--- ---- an entry that neither stores nor lands leaves all as it is.
+-- ---- an entry that neither stores nor lands leaves all as it is
 
 module _ (q : TokenLayout) (o : OpeningValue) (es : List Entry) (e : Entry) (c m : Holders) (w : Held q o es c m)
     (le : (g : ℕ) → lands g es ≤ length (own_stores g es)) (none : (g : ℕ) → own_store g e ≡ []) (still : (g : ℕ) → land_of g e ≡ 0)
@@ -268,7 +268,7 @@ module _ (q : TokenLayout) (o : OpeningValue) (es : List Entry) (e : Entry) (c m
     rests = λ t x is guards. quiet_memory x ∙ w.rests t x is guards ∙ quiet_stored x;
   }
 
--- ---- a store, into its hart's buffer.
+-- ---- a store, into its hart's buffer
 
 module _ (B : ℕ) (q : TokenLayout) (o : OpeningValue) (es : List Entry) (e : Entry) (c m : Holders) (w : Held q o es c m)
     (le : (g : ℕ) → lands g es ≤ length (own_stores g es)) (allowed : Allowed B o es e) (v : Write) (does : access_of e ≡ store v)
@@ -358,7 +358,7 @@ module _ (B : ℕ) (q : TokenLayout) (o : OpeningValue) (es : List Entry) (e : E
     rests = λ t x is guards. rests_stored t x is guards (covers v x) refl;
   }
 
--- ---- a landing: a hart's oldest pending store reaches memory.
+-- ---- a landing: a hart's oldest pending store reaches memory
 
 module _ (B : ℕ) (q : TokenLayout) (o : OpeningValue) (es : List Entry) (e : Entry) (c m : Holders) (w : Held q o es c m)
     (le : (g : ℕ) → lands g es ≤ length (own_stores g es)) (allowed : Allowed B o es e) (does : access_of e ≡ land) (v : Write) (rest : List Write)
@@ -483,7 +483,7 @@ module _ (B : ℕ) (q : TokenLayout) (o : OpeningValue) (es : List Entry) (e : E
     rests = λ t x is guards. rests_landed t x is guards (lays q v t) refl;
   }
 
--- ---- an AMO: it takes what it finds in memory, and lays down its own word's.
+-- ---- an AMO: it takes what it finds in memory, and lays down its own word's
 
 module _ (B : ℕ) (q : TokenLayout) (o : OpeningValue) (es : List Entry) (e : Entry) (c m : Holders) (w : Held q o es c m)
     (allowed : Allowed B o es e) (a old new : ℕ) (does : access_of e ≡ exchange a old new) where
@@ -690,7 +690,7 @@ module _ (B : ℕ) (q : TokenLayout) (o : OpeningValue) (es : List Entry) (e : E
       rests = rests_swapped;
     }
 
--- ---- every run that keeps tokens holds what one entry hands on to the next: the laws.
+-- ---- every run that keeps tokens holds what one entry hands on to the next: the laws
 
 keeps-append : (q : TokenLayout) (c : Holders) (es fs : List Entry) → KeepsTokens q c (es ++ fs) → KeepsTokens q c es × KeepsTokens q (holders q c es) fs
 keeps-append q c [] fs k = (tt, k)
@@ -813,7 +813,7 @@ module _ (B : ℕ) (q : TokenLayout) (o : OpeningValue) where
         (λ i lt. (let g = guarded i lt in
         as_stored start es front (hart_of e) g.0 (a + i) (holds g.0 (a + i) (omega arith, omega (arith, lt)) g.1) g.1))
 
--- ---- what is so of the bytes that a token guards wherever it is laid down, is so wherever it is taken.
+-- ---- what is so of the bytes that a token guards wherever it is laid down, is so wherever it is taken
 
 module _ (B : ℕ) (q : TokenLayout) (o : OpeningValue) (says : ℕ → View → Bool)
     (framed : (t : ℕ) (m n : View) → ((x : ℕ) → q.guards t x ≡ true → n x ≡ m x) → says t m ≡ true → says t n ≡ true) where

@@ -1,3 +1,4 @@
 pub mod Held
 pub mod Roles
+pub mod EveryRun
 mod ByHand

@@ -1,9 +1,9 @@
 -- The run in which one hart plays a role: entry by entry it is legal, and memory is the same.
 use Rattle.std.proofs.Common.{ℕ, ◌≤◌, ◌≡◌, Bool, true, false, if◌then◌else◌, Some, List, [], ◌∷◌, ◌++◌, length, refl, sym, ◌∙◌, ap, arith, ◌+◌, ◌<◌, ◌≢◌, ◌==◌}
-use Rattle.std.proofs.Common.{◌⊎◌, inl, inr, Option, None, take, subst, append-nil, append_assoc}
+use Rattle.std.proofs.Common.{◌⊎◌, inl, inr, Option, None, take, subst, append-nil, append_assoc, zero, suc, ◌&&◌, ◌||◌}
 use Rattle.std.specs.Prelude.{unwrap_or, All}
 use Rattle.std.proofs.lemmas.Bool.{cases_eq, eqb-true, eq-eqb, ne_eqb}
-use Rattle.std.proofs.lemmas.List.Elements.{All-head, All-tail}
+use Rattle.std.proofs.lemmas.List.Elements.{All-head, All-tail, All-nil, All-cons}
 use Rattle.memory.specs.declared.writes.Write.{Write}
 use Rattle.memory.specs.Writes.{write, newest_of}
 use Rattle.memory.proofs.Bytes.{joined-same}
@@ -13,13 +13,19 @@ use Rattle.step_machine.specs.Names.{own_stores, lands, pending, write_of, lande
 use Rattle.step_machine.specs.Names.{LegalAfter}
 use Rattle.step_machine.proofs.{LegalAfter-append, balanced, landed-last, balanced-last}
 use Rattle.store_buffers.proofs.Effects.{pending-quiet, pending-more, pending-first}
-use Rattle.tokens.specs.Tokens.{TokenLayout, lays, Holders, laid, taken_by, MayWrite, holders_next, May, holders, KeepsTokens, FollowsTokens}
+use Rattle.queue_parties.specs.Parties.{QueueCounts, the_sender, the_receiver}
+use Rattle.queue_parties.specs.Positions.{IsPrefix}
+use Rattle.slot_queue.specs.Queues.{Queue}
+use Rattle.slot_queue.specs.Laws.{FollowsOwnership, LeavesSlotsAt, records_by, records_waiting}
+use Rattle.slot_queue.proofs.Records.{in_order}
+use Rattle.tokens.specs.Tokens.{TokenLayout, lays, Holders, laid, taken_by, MayWrite, holders_next, May, holders, KeepsTokens, FollowsTokens, any_below}
+use Rattle.tokens.specs.Tokens.{covers_place, number_laid, lays_in}
 use Rattle.tokens.proofs.Held.{all_laid, laid-left, laid-from, all-from, KeepsWrites, none-some, two-harts, same-hart, laid-gone, taken-left, Held, found_free}
-use Rattle.tokens.proofs.Held.{took, may_then, theirs_swapped, left_by, step, opened}
-use Rattle.tokens.specs.Roles.{is_holder, laid_first, in_memory, as_role, played, as_one_hart}
+use Rattle.tokens.proofs.Held.{took, may_then, theirs_swapped, left_by, step, opened, any-from, both-true, taken-here}
+use Rattle.tokens.specs.Roles.{is_holder, laid_first, in_memory, as_role, played, as_one_hart, FollowsRole, only, HoldsApart, as_two_harts, FollowsRoles}
 use Rattle.step_machine.specs.declared.events.Entry.TheVariants as entry
 
--- ---- the pending stores of a hart up to the one by which it laid a token down, and those after it.
+-- ---- the pending stores of a hart up to the one by which it laid a token down, and those after it
 
 module _ (q : TokenLayout) (s : ℕ) where
   abbrev pub upto : List Write → List Write
@@ -115,7 +121,7 @@ module _ (q : TokenLayout) (s : ℕ) where
       by true on more = beyond-yes v (ws ++ w ∷ []) on ∙ ap (λ vs. vs ++ w ∷ []) (sym (beyond-yes v ws on))
       by false off more = beyond-not v (ws ++ w ∷ []) off ∙ more off ∙ ap (λ vs. vs ++ w ∷ []) (sym (beyond-not v ws off))
 
--- ---- a run in which one hart plays a role, entry by entry: it is legal, and memory is the same.
+-- ---- a run in which one hart plays a role, entry by entry: it is legal, and memory is the same
 
 pub holder-true : (x : Option ℕ) (h : ℕ) → is_holder x h ≡ true → x ≡ Some h
 holder-true None h nay = absurd (let wrong : false ≡ true = nay in cc)
@@ -505,7 +511,7 @@ module _ (q : TokenLayout) (s V B : ℕ) (o : OpeningValue) (es R : List Entry) 
                 absurd (not (left_by B q o es e c m w allowed a old new_word does le may s m l.0 l.1 ∙ held))
           ]
 
--- ---- every run in which one hart plays a token's role, by induction.
+-- ---- every run in which one hart plays a token's role, by induction
 
 module _ (q : TokenLayout) (s V B : ℕ) (o : OpeningValue) where
   module _ (es R : List Entry) (m : Holders) (t : Turn q s V B o es R m) (c : Holders) (w : Held q o es c m)
@@ -617,3 +623,192 @@ module _ (q : TokenLayout) (s V B : ℕ) (o : OpeningValue) where
         same_memory q s V B o es (as_one_hart q s V start es) end.0 end.1,
         λ h x is. reads_same q s V B o es (as_one_hart q s V start es) end.0 end.1 (holders q start es) end.2 h x is,
       )
+
+-- ---- the laws of ownership of a run in which the sender's role is handed on
+
+pub follows : (B : ℕ) (q : TokenLayout) (s : ℕ) (start : Holders) (k : Queue) (n : QueueCounts) (o : OpeningValue) (es : List Entry)
+    → FollowsRole B q s start k n o es → FollowsOwnership B k n o [] (as_one_hart q s k.sender start es)
+follows B q s start k n o es f = record {
+  queue = f.queue;
+  legal = (plays q s k.sender B o start es f.tokens f.role).0;
+  rest = f.rest;
+  keeps = f.keeps;
+}
+
+pub ordered : (B : ℕ) (q : TokenLayout) (s : ℕ) (start : Holders) (k : Queue) (n : QueueCounts) (o : OpeningValue) (es : List Entry)
+    → FollowsRole B q s start k n o es → LeavesSlotsAt k k.receiver (as_one_hart q s k.sender start es)
+    → IsPrefix (records_by k the_receiver o n [] (as_one_hart q s k.sender start es))
+    (records_waiting k o n [] n.taken ++ records_by k the_sender o n [] (as_one_hart q s k.sender start es))
+ordered B q s start k n o es f leaves = in_order B k n o [] (as_one_hart q s k.sender start es) (follows B q s start k n o es f) leaves
+
+-- ---- the run in which one hart plays a role keeps the token of another one, so a second hart may play that
+
+module _ (q : TokenLayout) (r : ℕ) where
+  -- of token r alone a write lays down what it does of all
+  same-lies : (b : Bool) → (b && r == r) ≡ b
+  same-lies b = ap (λ c. b && c) (eq-eqb r r refl) ∙ by b
+    where
+      by : (b : Bool) → (b && true) ≡ b
+      by true = refl
+      by false = refl
+
+  same-in : (w : Write) (i : ℕ) → lays_in (only q r) w r i ≡ lays_in q w r i
+  same-in w i = ap (λ b. covers_place q w i && b) (same-lies (q.lies i (number_laid q w i) r))
+
+  same-below : (w : Write) (n : ℕ) → any_below n (lays_in (only q r) w r) ≡ any_below n (lays_in q w r)
+  same-below w zero = refl
+  same-below w (suc n) = ap (λ b. b || any_below n (lays_in (only q r) w r)) (same-in w n) ∙ ap (λ b. lays_in q w r n || b) (same-below w n)
+
+  same-lays : (w : Write) → lays (only q r) w r ≡ lays q w r
+  same-lays w = same-below w q.places
+
+  lies-all : (i v t : ℕ) → (only q r).lies i v t ≡ true → (q.lies i v t ≡ true) × (t ≡ r)
+  lies-all i v t is = let parts = both-true (q.lies i v t) (t == r) is in (parts.0, eqb-true t r parts.1)
+
+  in-all : (w : Write) (t i : ℕ) → lays_in (only q r) w t i ≡ true → (lays_in q w t i ≡ true) × (t ≡ r)
+  in-all w t i is =
+      let parts = both-true (covers_place q w i) ((only q r).lies i (number_laid q w i) t) is in
+      let lies = lies-all i (number_laid q w i) t parts.1 in
+      (by (covers_place q w i) (q.lies i (number_laid q w i) t) parts.0 lies.0, lies.1)
+    where
+      by : (a b : Bool) → a ≡ true → b ≡ true → (a && b) ≡ true
+      by true b keeps_one two = two
+      by false b keeps_one two = keeps_one
+
+  -- only token r is laid down
+  laid-r : (w : Write) (t : ℕ) → lays (only q r) w t ≡ true → t ≡ r
+  laid-r w t is = let some = any-from q.places (lays_in (only q r) w t) is in (in-all w t some.0 some.2).1
+
+  -- a hart k may write what hart h may, of token r, if it holds that where h does
+  writes : (h k : ℕ) (c d : Holders) (w : Write) → (c r ≡ Some h → d r ≡ Some k) → MayWrite q h c w → MayWrite (only q r) k d w
+  writes h k c d w on may = record {
+    whole = may.whole;
+    held = λ t yea. (let is : t ≡ r = laid-r w t yea in
+        subst (λ u. d u ≡ Some k) (sym is) (on (may.held r (sym (same-lays w) ∙ subst (λ u. lays (only q r) w u ≡ true) is yea))));
+    once = λ i j t li lj yi yj. may.once i j t li lj (in-all w t i yi).0 (in-all w t j yj).0;
+    guarded = λ t x over guards. absurd (let wrong : false ≡ true = guards in cc);
+  }
+
+  laid-same : (w : Write) (c d : Holders) → d r ≡ c r → laid (only q r) w d r ≡ laid q w c r
+  laid-same w c d same = ap (λ (b : Bool). if b then None else d r) (same-lays w) ∙ ap (λ (z : Option ℕ). if lays q w r then None else z) same
+
+  module _ (s V : ℕ) where
+    abbrev role : Holders → ℕ → Bool
+    role c h = is_holder (c s) h
+
+    writes_stored : (h : ℕ) (c d : Holders) (w : Write) → d r ≡ c r → MayWrite q h c w → (c s ≡ Some h → c r ≡ Some h → ⊥) → (b : Bool) → role c h ≡ b
+        → MayWrite (only q r) (if b then V else h) d w
+    writes_stored h c d w same may apart true yea = writes h V c d w (λ is. absurd (apart (holder-true (c s) h yea) is)) may
+    writes_stored h c d w same may apart false nay = writes h h c d w (λ is. same ∙ is) may
+
+    writes_swapped : (h : ℕ) (c d : Holders) (p n : Write) → d r ≡ c r → MayWrite q h (taken_by q h p c) n
+        → (c s ≡ Some h → c r ≡ Some h → ⊥) → (b : Bool) → role c h ≡ b
+        → MayWrite (only q r) (if b then V else h) (taken_by (only q r) (if b then V else h) p d) n
+    writes_swapped h c d p n same may apart b is = writes h (if b then V else h) (taken_by q h p c) (taken_by (only q r) (if b then V else h) p d) n
+        (λ holds. at b is (lays q p r) refl holds) may
+      where
+        at : (b : Bool) → role c h ≡ b → (z : Bool) → lays q p r ≡ z → taken_by q h p c r ≡ Some h
+            → taken_by (only q r) (if b then V else h) p d r ≡ Some (if b then V else h)
+        at b is true found holds = taken-here (only q r) (if b then V else h) p d r (same-lays p ∙ found)
+        at true yea false none holds = absurd (apart (holder-true (c s) h yea) (sym (taken-left q h p c r none) ∙ holds))
+        at false nay false none holds = taken-left (only q r) h p d r (same-lays p ∙ none) ∙ same ∙ sym (taken-left q h p c r none) ∙ holds
+
+    swapped_same : (h : ℕ) (c d : Holders) (p n : Write) → d r ≡ c r → (c s ≡ Some h → laid q n (taken_by q h p c) r ≡ Some h → ⊥) → (b : Bool) → role c h ≡ b
+        → laid (only q r) n (taken_by (only q r) (if b then V else h) p d) r ≡ laid q n (taken_by q h p c) r
+    swapped_same h c d p n same apart b is = at b is (lays q n r) refl (lays q p r) refl
+      where
+        at : (b : Bool) → role c h ≡ b → (y : Bool) → lays q n r ≡ y → (z : Bool) → lays q p r ≡ z
+            → laid (only q r) n (taken_by (only q r) (if b then V else h) p d) r ≡ laid q n (taken_by q h p c) r
+        at b is true down z found = laid-gone (only q r) n (taken_by (only q r) (if b then V else h) p d) r (same-lays n ∙ down)
+            ∙ sym (laid-gone q n (taken_by q h p c) r down)
+        at true yea false none true found = absurd (apart (holder-true (c s) h yea) (laid-left q n (taken_by q h p c) r none ∙ taken-here q h p c r found))
+        at false nay false none true found = laid-left (only q r) n (taken_by (only q r) h p d) r (same-lays n ∙ none)
+            ∙ taken-here (only q r) h p d r (same-lays p ∙ found) ∙ sym (laid-left q n (taken_by q h p c) r none ∙ taken-here q h p c r found)
+        at b is false none false nothing = laid-left (only q r) n (taken_by (only q r) (if b then V else h) p d) r (same-lays n ∙ none)
+            ∙ taken-left (only q r) (if b then V else h) p d r (same-lays p ∙ nothing) ∙ same
+            ∙ sym (laid-left q n (taken_by q h p c) r none ∙ taken-left q h p c r nothing)
+
+    keeps_one : (e : Entry) (c m d : Holders) → d r ≡ c r → May q (hart_of e) c (access_of e)
+        → (c s ≡ Some (hart_of e) → (c r ≡ Some (hart_of e) → ⊥) × (holders_next q c e r ≡ Some (hart_of e) → ⊥))
+        → May (only q r) (hart_of (as_role V (role c (hart_of e)) (is_holder (m s) (hart_of e)) e)) d
+        (access_of (as_role V (role c (hart_of e)) (is_holder (m s) (hart_of e)) e))
+        × (holders_next (only q r) d (as_role V (role c (hart_of e)) (is_holder (m s) (hart_of e)) e) r ≡ holders_next q c e r)
+    keeps_one (entry.Load h a width v) c m d same may apart = by (role c h) (is_holder (m s) h)
+      where
+        by : (b l : Bool)
+            → May (only q r) (hart_of (if b then entry.Load V a width v else (if l then entry.Inner h else entry.Load h a width v))) d
+            (access_of (if b then entry.Load V a width v else (if l then entry.Inner h else entry.Load h a width v)))
+            × (holders_next (only q r) d (if b then entry.Load V a width v else (if l then entry.Inner h else entry.Load h a width v)) r ≡ c r)
+        by true l = (tt, same)
+        by false true = (tt, same)
+        by false false = (tt, same)
+    keeps_one (entry.Store h a width v) c m d same may apart =
+        (writes_stored h c d (write a width v) same may (λ is. (apart is).0) (role c h) refl, laid-same (write a width v) c d same)
+    keeps_one (entry.Amo h a old n) c m d same may apart = (
+      writes_swapped h c d (write a 4 old) (write a 4 n) same may (λ is. (apart is).0) (role c h) refl,
+      swapped_same h c d (write a 4 old) (write a 4 n) same (λ is. (apart is).1) (role c h) refl,
+    )
+    keeps_one (entry.Land h) c m d same may apart = (tt, same)
+    keeps_one (entry.Fence h full) c m d same may apart = (tt, same)
+    keeps_one (entry.Inner h) c m d same may apart = (tt, same)
+    keeps_one (entry.Next h x) c m d same may apart = (tt, same)
+    keeps_one (entry.Took h i x) c m d same may apart = (tt, same)
+    keeps_one (entry.Closed h i) c m d same may apart = (tt, same)
+    keeps_one (entry.Ended h) c m d same may apart = (tt, same)
+    keeps_one (entry.Stopped h why) c m d same may apart = (tt, same)
+
+    keeps_played : (before es : List Entry) (c m d : Holders) → d r ≡ c r → KeepsTokens q c es → HoldsApart q s r c es
+        → KeepsTokens (only q r) d (played q s V before c m es)
+    keeps_played before [] c m d same k apart = tt
+    keeps_played before (e ∷ es) c m d same k apart =
+        let this = keeps_one e c m d same k.0 apart.0 in (
+          this.0,
+          keeps_played (before ++ e ∷ []) es (holders_next q c e) (in_memory q before e m)
+              (holders_next (only q r) d (as_role V (role c (hart_of e)) (is_holder (m s) (hart_of e)) e)) this.1 k.1 apart.1,
+        )
+
+    -- the played run has no hart that neither the run has nor plays
+    still_new : (U : ℕ) → V ≢ U → (before es : List Entry) (c m : Holders) → All (λ e. hart_of e ≢ U) es → All (λ e. hart_of e ≢ U) (played q s V before c m es)
+    still_new U other before [] c m all = All-nil (λ e. hart_of e ≢ U)
+    still_new U other before (e ∷ es) c m all = All-cons (λ x. hart_of x ≢ U) (as_role V (role c (hart_of e)) (is_holder (m s) (hart_of e)) e)
+        (played q s V (before ++ e ∷ []) (holders_next q c e) (in_memory q before e m) es)
+        (acts e (role c (hart_of e)) (is_holder (m s) (hart_of e)) (All-head (λ x. hart_of x ≢ U) e es all))
+        (still_new U other (before ++ e ∷ []) es (holders_next q c e) (in_memory q before e m) (All-tail (λ x. hart_of x ≢ U) e es all))
+      where
+        acts : (e : Entry) (b l : Bool) → hart_of e ≢ U → hart_of (as_role V b l e) ≢ U
+        acts (entry.Load h a width v) true l far = other
+        acts (entry.Load h a width v) false true far = far
+        acts (entry.Load h a width v) false false far = far
+        acts (entry.Store h a width v) true l far = other
+        acts (entry.Store h a width v) false l far = far
+        acts (entry.Amo h a old n) true l far = other
+        acts (entry.Amo h a old n) false l far = far
+        acts (entry.Land h) b true far = other
+        acts (entry.Land h) b false far = far
+        acts (entry.Fence h full) b l far = far
+        acts (entry.Inner h) b l far = far
+        acts (entry.Next h x) b l far = far
+        acts (entry.Took h i x) b l far = far
+        acts (entry.Closed h i) b l far = far
+        acts (entry.Ended h) b l far = far
+        acts (entry.Stopped h why) b l far = far
+
+pub both_follow : (B : ℕ) (q : TokenLayout) (s r : ℕ) (start : Holders) (k : Queue) (n : QueueCounts) (o : OpeningValue) (es : List Entry)
+    → FollowsRoles B q s r start k n o es → FollowsOwnership B k n o [] (as_two_harts q s r k start es)
+both_follow B q s r start k n o es f =
+    let first = plays q s k.sender B o start es f.tokens f.sends in
+    let tokens : FollowsTokens B (only q r) start o (as_one_hart q s k.sender start es) = record {
+      opens = record {
+        free = λ i t lt lies. f.tokens.opens.free i t lt (lies-all q r i _ t lies).0;
+        once = λ i j t li lj yi yj. f.tokens.opens.once i j t li lj (lies-all q r i _ t yi).0 (lies-all q r j _ t yj).0;
+      };
+      legal = first.0;
+      keeps = keeps_played q r s k.sender [] es start start start refl f.tokens.keeps f.apart;
+    } in
+    record {
+      queue = f.queue;
+      legal = (plays (only q r) r k.receiver B o start (as_one_hart q s k.sender start es) tokens
+          (still_new q r s k.sender k.receiver f.queue.parties [] es start start f.receives)).0;
+      rest = f.rest;
+      keeps = f.keeps;
+    }

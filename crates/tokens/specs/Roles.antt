@@ -1,12 +1,16 @@
 -- A role that harts play in turn: what the holders of a token do, as the acts of one hart. So what is known of a party that is one hart,
 -- as a queue's sender, is known of a role that passes from hart to hart.
-use Rattle.std.specs.Prelude.{ℕ, ◌==◌, if◌then◌else◌, Bool, false, Option, None, Some, List, [], ◌∷◌, ◌++◌}
+use Rattle.std.specs.Prelude.{ℕ, ◌==◌, if◌then◌else◌, Bool, false, Option, None, Some, List, [], ◌∷◌, ◌++◌, ◌≢◌, All, ◌≡◌, ◌&&◌}
 use Rattle.memory.specs.declared.writes.Write.{Write}
 use Rattle.memory.specs.Writes.{write}
 use Rattle.step_machine.specs.declared.events.Entry.{Entry}
 use Rattle.step_machine.specs.Access.{Access, exchange, land, access_of}
 use Rattle.step_machine.specs.Entries.{hart_of, pending}
-use Rattle.tokens.specs.Tokens.{TokenLayout, Holders, laid, taken_by, holders_next}
+use Rattle.step_machine.specs.History.{OpeningValue}
+use Rattle.queue_parties.specs.Parties.{QueueCounts}
+use Rattle.slot_queue.specs.Queues.{Queue, IsQueue, IsAtRest}
+use Rattle.slot_queue.specs.Ownership.{KeepsOwnership}
+use Rattle.tokens.specs.Tokens.{TokenLayout, Holders, laid, taken_by, holders_next, FollowsTokens}
 use Rattle.step_machine.specs.declared.events.Entry.TheVariants as entry
 
 -- whose a token is by what has landed: a hart's until the store by which that hart laid it down lands
@@ -44,3 +48,37 @@ played q s V before c m (e ∷ es) = as_role V (is_holder (c s) (hart_of e)) (is
 
 abbrev pub as_one_hart : TokenLayout → (s V : ℕ) → (start : Holders) → List Entry → List Entry
 as_one_hart q s V start es = played q s V [] start start es
+
+-- ---- of a queue
+
+-- the sender of queue k is no hart of the run: it stands for whoever holds token s, and with it the run keeps the protocol of ownership
+pub record FollowsRole (B : ℕ) (q : TokenLayout) (s : ℕ) (start : Holders) (k : Queue) (n : QueueCounts) (o : OpeningValue) (es : List Entry) : Type 0 where
+  pub tokens : FollowsTokens B q start o es
+  pub queue : IsQueue k
+  pub role : All (λ e. hart_of e ≢ k.sender) es
+  pub rest : IsAtRest k o [] n
+  pub keeps : KeepsOwnership k n (as_one_hart q s k.sender start es)
+
+-- token r alone, of which no byte is said
+abbrev pub only : TokenLayout → (r : ℕ) → TokenLayout
+only q r = record { places = q.places; at = q.at; width = q.width; lies = λ i v t. q.lies i v t && t == r; guards = λ t x. false }
+
+-- no hart holds token r while it holds token s, nor takes it where it lays s down
+abbrev pub HoldsApart : TokenLayout → (s r : ℕ) → Holders → List Entry → Type 0
+HoldsApart q s r c [] = Unit {0}
+HoldsApart q s r c (e ∷ es) = (c s ≡ Some (hart_of e) → (c r ≡ Some (hart_of e) → ⊥) × (holders_next q c e r ≡ Some (hart_of e) → ⊥))
+    × HoldsApart q s r (holders_next q c e) es
+
+-- the run in which the queue's sender and its receiver stand for whoever holds tokens s and r
+abbrev pub as_two_harts : TokenLayout → (s r : ℕ) → Queue → (start : Holders) → List Entry → List Entry
+as_two_harts q s r k start es = as_one_hart (only q r) r k.receiver start (as_one_hart q s k.sender start es)
+
+-- the same of both roles
+pub record FollowsRoles (B : ℕ) (q : TokenLayout) (s r : ℕ) (start : Holders) (k : Queue) (n : QueueCounts) (o : OpeningValue) (es : List Entry) : Type 0 where
+  pub tokens : FollowsTokens B q start o es
+  pub apart : HoldsApart q s r start es
+  pub queue : IsQueue k
+  pub sends : All (λ e. hart_of e ≢ k.sender) es
+  pub receives : All (λ e. hart_of e ≢ k.receiver) es
+  pub rest : IsAtRest k o [] n
+  pub keeps : KeepsOwnership k n (as_two_harts q s r k start es)
