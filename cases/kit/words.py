@@ -17,7 +17,7 @@ CITED = re.compile(r"^\s*(?:pub )?(?:ghost )?use Rattle\.(?P<crate>\w+)\.specs\.
 
 
 # which crates compute what a crate defines
-COMPUTE = {"slot_queue": {"ownership_runs"}, "slots_that_tell": {"ownership_runs"}, "ownership_runs": {"certifying"},
+COMPUTE = {"slot_queue": {"ownership_runs", "tokens"}, "slots_that_tell": {"ownership_runs"}, "ownership_runs": {"certifying"},
            "queue_certificates": {"known_values", "queue_checker", "certificate_reader", "certifying", "records_written", "hart_safety",
                                   "queue_progress"},
            "known_values": {"queue_checker", "certificate_reader", "certifying", "records_written", "hart_safety", "queue_progress"},
