@@ -5,8 +5,6 @@ pub mod LaneLaws
 pub mod Apart
 pub mod Clear
 pub mod Placed
-pub mod HeadLaws
 pub mod PictureLaws
 pub mod ColumnLaws
-pub mod StepLaws
 pub mod SvgLaws
