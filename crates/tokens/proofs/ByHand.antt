@@ -1,11 +1,11 @@
 -- By hand: a lock at 0 guards the word at 16, and with it passes the sender's role of a queue of one slot. Hart 0 takes the lock, stores 5 in the
 -- guarded word, fills the slot at 12, moves the head at 4 and gives the lock back; once that has landed hart 1 looks, loads the record and
 -- moves the tail at 8, and hart 3 takes the lock and loads the guarded word. Hart 2, which is none of the run, stands for who has the lock.
-use Rattle.std.proofs.Common.{ℕ, ◌+◌, ◌<◌, ◌≤◌, ◌≡◌, ◌≢◌, ◌⊎◌, inl, inr, ◌==◌, ◌&&◌, ◌||◌, Bool, true, false, Some, None, List, [], ◌∷◌, refl}
-use Rattle.std.proofs.Common.{sym, subst, arith}
+use Rattle.std.proofs.Common.{ℕ, ◌+◌, ◌<◌, ◌≤◌, ◌≡◌, ◌≢◌, ◌⊎◌, inl, inr, ◌==◌, ◌&&◌, ◌||◌, Bool, true, false, Some, None, List, [], ◌∷◌, refl, sym, subst}
+use Rattle.std.proofs.Common.{arith}
 use Rattle.std.specs.Prelude.{All, not, nat_le, nat_lt}
 use Rattle.std.specs.List.{list_all}
-use Rattle.std.proofs.lemmas.Bool.{eqb-true, eq-eqb, leb-true}
+use Rattle.std.proofs.lemmas.Bool.{and_parts, eqb-true, eq-eqb, leb-true}
 use Rattle.std.proofs.lemmas.List.Elements.{All-nil, All-cons}
 use Rattle.memory.specs.Writes.{write, covers}
 use Rattle.memory.proofs.Bytes.{covers-from}
@@ -17,7 +17,7 @@ use Rattle.slot_queue.specs.Queues.{Queue, IsOutside, KeepsOff}
 use Rattle.slot_queue.specs.Ownership.{counts_after, KeepsOwnership, FillsOwned, MayStore}
 use Rattle.tokens.specs.Tokens.{TokenLayout, covers_place, misses_place, lays, Holders, MayWrite, holders, KeepsTokens, FollowsTokens, last_stored}
 use Rattle.tokens.specs.Roles.{as_one_hart, FollowsRole}
-use Rattle.tokens.proofs.Held.{both-true, none-some}
+use Rattle.tokens.proofs.Held.{none-some}
 
 abbrev lock : TokenLayout
 lock = record {
@@ -111,11 +111,11 @@ one_place i j li lj = omega (arith, li, lj)
 
 -- token 0 is the only one
 is_zero : (t : ℕ) (b : Bool) → (t == 0 && b) ≡ true → t ≡ 0
-is_zero t b is = eqb-true t 0 (both-true (t == 0) b is).0
+is_zero t b is = eqb-true t 0 (and_parts (t == 0) b is).0
 
 beyond : (a v t x : ℕ) → a ≤ 12 → covers (write a 4 v) x ≡ true → lock.guards t x ≡ true → ⊥
 beyond a v t x le over guards =
-    let low = leb-true 16 x (both-true (nat_le 16 x) (nat_lt x 20) (both-true (t == 0) (nat_le 16 x && nat_lt x 20) guards).1).0 in
+    let low = leb-true 16 x (and_parts (nat_le 16 x) (nat_lt x 20) (and_parts (t == 0) (nat_le 16 x && nat_lt x 20) guards).1).0 in
     omega (arith, le, low, (covers-from (write a 4 v) x over).1)
 
 -- who holds what is laid down, and writes no guarded byte, may write
@@ -231,7 +231,7 @@ keeps = (
 nobody_of : (es : List Entry) → list_all (λ e. not (hart_of e == 2)) es ≡ true → All (λ e. hart_of e ≢ 2) es
 nobody_of [] all = All-nil (λ e. hart_of e ≢ 2)
 nobody_of (e ∷ es) all =
-    let parts = both-true (not (hart_of e == 2)) (list_all (λ d. not (hart_of d == 2)) es) all in
+    let parts = and_parts (not (hart_of e == 2)) (list_all (λ d. not (hart_of d == 2)) es) all in
     All-cons (λ d. hart_of d ≢ 2) e es (λ is. by (hart_of e == 2) (eq-eqb (hart_of e) 2 is) parts.0) (nobody_of es parts.1)
   where
     by : (b : Bool) → b ≡ true → not b ≡ true → ⊥

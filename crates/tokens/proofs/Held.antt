@@ -1,23 +1,23 @@
 -- Who holds what, by what was executed and by what has landed: the invariant, each kind of entry that keeps it, and the laws.
 use Rattle.std.proofs.Common.{ℕ, ◌≡◌, Bool, true, false, if◌then◌else◌, Option, Some, None, List, [], ◌∷◌, ◌++◌, refl, sym, ◌∙◌, ap, zero, suc, ◌+◌, ◌-◌, ◌<◌}
-use Rattle.std.proofs.Common.{◌≤◌, ◌⊎◌, inl, inr, ◌&&◌, ◌||◌, subst, arith, length, ◌≢◌, ◌==◌, take, append-nil, append_assoc}
+use Rattle.std.proofs.Common.{◌≤◌, ◌⊎◌, inl, inr, ◌||◌, subst, arith, length, ◌≢◌, ◌==◌, take, append-nil, append_assoc}
 use Rattle.std.specs.Prelude.{All, unwrap_or, nat_le, if◌then◌else◌}
 use Rattle.std.proofs.lemmas.List.Elements.{All-nil, All-cons}
-use Rattle.std.proofs.lemmas.Bool.{cases_eq, leb-true, eq-eqb, ne_eqb}
+use Rattle.std.proofs.lemmas.Bool.{and_parts, and_from, or_left, or_right, or_cases, false_from_ne_true, cases_eq, leb-true, eq-eqb, ne_eqb}
 use Rattle.std.specs.Int.{byte_at}
 use Rattle.memory.specs.declared.writes.Write.{Write}
 use Rattle.memory.specs.Writes.{covers, byte_after, joined, newest_of, write}
-use Rattle.store_buffers.specs.StoreBuffers.{LeavesByte, LeavesByteBy, IsOnlyWriter, memory_number}
 use Rattle.memory.proofs.Bytes.{joined-same, covers-yes, covers-from, byte_of_joined}
 use Rattle.step_machine.specs.declared.events.Entry.{Entry}
 use Rattle.step_machine.specs.Names.{OpeningValue, access_of, hart_of, own_stores, lands, pending, write_of, memory_byte, read_byte, Allowed, own_store}
 use Rattle.step_machine.specs.Names.{land_of, store, stored_by, landed_by, written_by, is_landing, land, exchange, read, AllowedBy, Access, nothing, load}
 use Rattle.step_machine.specs.Names.{fence, LegalAfter, history_of, opening_byte}
-use Rattle.store_buffers.proofs.MessagePassing.{kept}
-use Rattle.store_buffers.proofs.Reading.{passed_over}
-use Rattle.store_buffers.proofs.Effects.{number-after, pending-quiet, number-quiet, pending-more, stored_none, pending-first, amo-read, memory-below}
-use Rattle.certified_runs.specs.Views.{byte_then, View, view_of, view_then}
 use Rattle.step_machine.proofs.{memory_byte-other, memory_byte-write, LegalAfter-back, LegalAfter-front, balanced-last, balanced}
+use Rattle.store_buffers.specs.StoreBuffers.{LeavesByte, LeavesByteBy, IsOnlyWriter, memory_number}
+use Rattle.store_buffers.proofs.MessagePassing.{kept}
+use Rattle.store_buffers.proofs.Reading.{passed_over, newest-first}
+use Rattle.store_buffers.proofs.Effects.{number-after, pending-quiet, number-quiet, pending-more, stored_none, landed_none, pending-first, read-below}
+use Rattle.certified_runs.specs.Views.{byte_then, View, view_of, view_then, number_seen}
 use Rattle.certified_runs.proofs.Views.{own_view}
 use Rattle.tokens.specs.Tokens.{TokenLayout, lays, Holders, laid, taken_by, MayWrite, any_below, covers_place, misses_place, number_laid, lays_in, stored_from}
 use Rattle.tokens.specs.Tokens.{last_stored, holders_then, holders_next, May, LoadsHeld, holders, KeepsTokens, OpensTokens, FollowsTokens, lays_down, HandsOn}
@@ -107,27 +107,18 @@ module _ (q : TokenLayout) where
   pub off-guarded : (h : ℕ) (c : Holders) (ws : List Write) (t x : ℕ) → KeepsWrites h c ws → q.guards t x ≡ true → (c t ≡ Some h → ⊥)
       → All (LeavesByte x) ws
   off-guarded h c [] t x k guards none = All-nil (LeavesByte x)
-  off-guarded h c (w ∷ ws) t x k guards none = All-cons (LeavesByte x) w ws (by (covers w x) refl)
+  off-guarded h c (w ∷ ws) t x k guards none = All-cons (LeavesByte x) w ws (false_from_ne_true (covers w x) (λ is. none (k.0.guarded t x is guards)))
       (off-guarded h (laid q w c) ws t x k.1 guards (λ is. none (laid-from w c t h is).1))
-    where
-      by : (b : Bool) → covers w x ≡ b → covers w x ≡ false
-      by false is = is
-      by true is = absurd (none (k.0.guarded t x is guards))
 
 -- ---- which tokens a write lays down, and what it leaves in memory
 
-either-true : (a b : Bool) → (a ≡ true) ⊎ (b ≡ true) → (a || b) ≡ true
-either-true true b s = refl
-either-true false b (inr is) = is
-either-true false b (inl nay) = absurd (let wrong : false ≡ true = nay in cc)
-
 pub any-yes : (n : ℕ) (f : ℕ → Bool) (i : ℕ) → i < n → f i ≡ true → any_below n f ≡ true
 any-yes zero f i lt yea = absurd (omega (arith, lt))
-any-yes (suc n) f i lt yea = either-true (f n) (any_below n f) (at (cases_eq i n) (λ other. any-yes n f i (omega (arith, lt, other)) yea))
+any-yes (suc n) f i lt yea = at (cases_eq i n) (λ far. any-yes n f i (omega (arith, lt, far)) yea)
   where
-    at : (i ≡ n) ⊎ ((i ≡ n) → ⊥) → (((i ≡ n) → ⊥) → any_below n f ≡ true) → (f n ≡ true) ⊎ (any_below n f ≡ true)
-    at (inl same) more = inl (subst (λ j. f j ≡ true) same yea)
-    at (inr other) more = inr (more other)
+    at : (i ≡ n) ⊎ ((i ≡ n) → ⊥) → (((i ≡ n) → ⊥) → any_below n f ≡ true) → (f n || any_below n f) ≡ true
+    at (inl same) more = or_left (f n) (any_below n f) (subst (λ j. f j ≡ true) same yea)
+    at (inr far) more = or_right (f n) (any_below n f) (more far)
 
 pub any-from : (n : ℕ) (f : ℕ → Bool) → any_below n f ≡ true → (i : ℕ) × (i < n) × (f i ≡ true)
 any-from zero f nay = absurd (let wrong : false ≡ true = nay in cc)
@@ -138,14 +129,14 @@ any-from (suc n) f some = by (f n) refl some (any-from n f)
     by true is yea more = (n, omega arith, is)
     by false is yea more = let found = more yea in (found.0, omega (arith, found.1), found.2)
 
-pub both-true : (a b : Bool) → (a && b) ≡ true → (a ≡ true) × (b ≡ true)
-both-true true b is = (refl, is)
-both-true false b is = absurd (let wrong : false ≡ true = is in cc)
+-- a byte that a write doesn't cover
+pub uncovered : (v : Write) (x b : ℕ) → (covers v x ≡ true → ⊥) → byte_after v x b ≡ b
+uncovered v x b never = ap (λ z. if z then byte_at (x - v.addr) v.value else b) (false_from_ne_true (covers v x) never)
 
 module _ (q : TokenLayout) (w : Write) (i : ℕ) where
   pub number-covered : (f : ℕ → ℕ) → covers_place q w i ≡ true → joined (λ j. byte_after w (q.at i + j) (f j)) (q.width i) ≡ number_laid q w i
   number-covered f on =
-      let parts = both-true (nat_le w.addr (q.at i)) (nat_le (q.at i + q.width i) (w.addr + w.width)) on in
+      let parts = and_parts (nat_le w.addr (q.at i)) (nat_le (q.at i + q.width i) (w.addr + w.width)) on in
       let low : w.addr ≤ q.at i = leb-true w.addr (q.at i) parts.0 in
       let high : q.at i + q.width i ≤ w.addr + w.width = leb-true (q.at i + q.width i) (w.addr + w.width) parts.1 in
       joined-same (λ j. byte_after w (q.at i + j) (f j)) (λ j. byte_at (q.at i + j - w.addr) w.value) (q.width i)
@@ -153,28 +144,14 @@ module _ (q : TokenLayout) (w : Write) (i : ℕ) where
       (covers-yes w (q.at i + j) (omega (arith, low)) (omega (arith, high, lt))))
 
   pub number-missed : (f : ℕ → ℕ) → misses_place q w i ≡ true → joined (λ j. byte_after w (q.at i + j) (f j)) (q.width i) ≡ joined f (q.width i)
-  number-missed f off = joined-same (λ j. byte_after w (q.at i + j) (f j)) f (q.width i)
-      (λ j lt. ap (λ b. if b then byte_at (q.at i + j - w.addr) w.value else f j) (by j lt (covers w (q.at i + j)) refl))
-    where
-      far : (a b : Bool) → (a || b) ≡ true → (a ≡ true) ⊎ (b ≡ true)
-      far true b is = inl refl
-      far false b is = inr is
-
-      by : (j : ℕ) → j < q.width i → (b : Bool) → covers w (q.at i + j) ≡ b → covers w (q.at i + j) ≡ false
-      by j lt false is = is
-      by j lt true is =
-          let on = covers-from w (q.at i + j) is in
-          elim (far (nat_le (q.at i + q.width i) w.addr) (nat_le (w.addr + w.width) (q.at i)) off) [
-            | inl below ↦ absurd (let le = leb-true (q.at i + q.width i) w.addr below in omega (arith, le, on.0, lt))
-            | inr above ↦ absurd (let le = leb-true (w.addr + w.width) (q.at i) above in omega (arith, le, on.1))
-          ]
+  number-missed f off = joined-same (λ j. byte_after w (q.at i + j) (f j)) f (q.width i) (λ j lt. uncovered w (q.at i + j) (f j)
+      (λ is. (let on = covers-from w (q.at i + j) is in elim (or_cases (nat_le (q.at i + q.width i) w.addr) (nat_le (w.addr + w.width) (q.at i)) off) [
+        | inl below ↦ let le = leb-true (q.at i + q.width i) w.addr below in omega (arith, le, on.0, lt)
+        | inr above ↦ let le = leb-true (w.addr + w.width) (q.at i) above in omega (arith, le, on.1)
+      ])))
 
   pub in-place : (t : ℕ) → covers_place q w i ≡ true → q.lies i (number_laid q w i) t ≡ true → lays_in q w t i ≡ true
-  in-place t on yea = by (covers_place q w i) (q.lies i (number_laid q w i) t) on yea
-    where
-      by : (a b : Bool) → a ≡ true → b ≡ true → (a && b) ≡ true
-      by true b is yea = yea
-      by false b is yea = is
+  in-place t on yea = and_from (covers_place q w i) (q.lies i (number_laid q w i) t) on yea
 
   pub in-some : (t : ℕ) → i < q.places → lays_in q w t i ≡ true → lays q w t ≡ true
   in-some t lt yea = any-yes q.places (lays_in q w t) i lt yea
@@ -212,6 +189,10 @@ module _ (q : TokenLayout) (o : OpeningValue) (es : List Entry) (c m : Holders) 
   pub past_guarded : (h t x : ℕ) → q.guards t x ≡ true → (m t ≡ Some h → ⊥) → All (LeavesByte x) (pending h es)
   past_guarded h t x guards none = off-guarded q h m (pending h es) t x (w.tidy h) guards none
 
+  -- in memory a token is its holder's
+  pub owned : (h t : ℕ) → c t ≡ Some h → m t ≡ Some h
+  owned h t is = all-from q (pending h es) m t h (w.to h t is)
+
   pub alone : (g t x : ℕ) → m t ≡ Some g → q.guards t x ≡ true → IsOnlyWriter g x es
   alone g t x mine guards h other = past_guarded h t x guards (λ theirs. other (two-harts (m t) h g theirs mine))
 
@@ -220,17 +201,37 @@ module _ (q : TokenLayout) (o : OpeningValue) (es : List Entry) (c m : Holders) 
       → q.guards t x ≡ true → LeavesByteBy x (access_of e) → read_byte o (es ++ e ∷ []) g x ≡ read_byte o es g x
   left B e g t x le allowed mine guards leaves = (kept B o g x es (e ∷ []) le (allowed, tt) (alone g t x mine guards) (leaves, tt)).0
 
--- what lies in a place after a write to memory: what it laid there, or what lay there before, where it doesn't cover the place
-module _ (q : TokenLayout) (o : OpeningValue) (es : List Entry) (e : Entry) (w : Write) (wrote : write_of es e ≡ w ∷ []) where
-  pub split : (h : ℕ) (c : Holders) → MayWrite q h c w → (i t : ℕ) → i < q.places → LiesAt q o (es ++ e ∷ []) i t
-      → (lays_in q w t i ≡ true) ⊎ ((LiesAt q o es i t) × (covers_place q w i ≡ false))
-  split h c may i t lt yea = by (covers_place q w i) refl
+-- what is pending after a store, after a landing, and after another hart's entry
+module _ (es : List Entry) (e : Entry) (le : (g : ℕ) → lands g es ≤ length (own_stores g es)) (h : ℕ) (here : hart_of e ≡ h) where
+  pub after-store : (v : Write) → access_of e ≡ store v → pending h (es ++ e ∷ []) ≡ pending h es ++ v ∷ []
+  after-store v does = pending-more es e h (le h) v (ap (stored_by (hart_of e == h)) does ∙ ap (λ b. stored_by b (store v)) (eq-eqb (hart_of e) h here))
+      (ap (landed_by (hart_of e == h)) does)
+
+  pub after-land : (v : Write) (rest : List Write) → access_of e ≡ land → pending h es ≡ v ∷ rest → pending h (es ++ e ∷ []) ≡ rest
+  after-land v rest does oldest = pending-first es e h (le h) v rest oldest (ap (stored_by (hart_of e == h)) does)
+      (ap (landed_by (hart_of e == h)) does ∙ ap (λ b. landed_by b land) (eq-eqb (hart_of e) h here))
+
+  pub after-other : (g : ℕ) → h ≢ g → pending g (es ++ e ∷ []) ≡ pending g es
+  after-other g other =
+      let off : (hart_of e == g) ≡ false = ne_eqb (hart_of e) g (λ same. other (sym here ∙ same)) in
+      pending-quiet es e g (le g) (ap (λ b. stored_by b (access_of e)) off ∙ stored_none (access_of e))
+      (ap (λ b. landed_by b (access_of e)) off ∙ landed_none (access_of e))
+
+-- What lies in a place after a write w to memory by a hart that holds what d says: what w laid there, or what lay there before, in a place that w
+-- misses. So nobody holds it then, and it lies in one place, if nobody held by d what lies in such a place
+module _ (q : TokenLayout) (o : OpeningValue) (es : List Entry) (e : Entry) (w : Write) (wrote : write_of es e ≡ w ∷ []) (h : ℕ) (d : Holders)
+    (may : MayWrite q h d w) where
+  abbrev LiesNow : (i t : ℕ) → Type 0
+  LiesNow i t = (lays_in q w t i ≡ true) ⊎ ((LiesAt q o es i t) × (covers_place q w i ≡ false))
+
+  split : (i t : ℕ) → i < q.places → LiesAt q o (es ++ e ∷ []) i t → LiesNow i t
+  split i t lt yea = by (covers_place q w i) refl
     where
       after : memory_number o (es ++ e ∷ []) (q.at i) (q.width i)
           ≡ joined (λ j. byte_after w (q.at i + j) (memory_byte o es (q.at i + j))) (q.width i)
       after = number-after o es e (q.at i) (q.width i) w wrote
 
-      by : (b : Bool) → covers_place q w i ≡ b → (lays_in q w t i ≡ true) ⊎ ((LiesAt q o es i t) × (covers_place q w i ≡ false))
+      by : (b : Bool) → covers_place q w i ≡ b → LiesNow i t
       by true on = inl (in-place q w i t on (subst (λ n. q.lies i n t ≡ true)
           (after ∙ number-covered q w i (λ j. memory_byte o es (q.at i + j)) on) yea))
       by false off = elim (may.whole i lt) [
@@ -238,13 +239,136 @@ module _ (q : TokenLayout) (o : OpeningValue) (es : List Entry) (e : Entry) (w :
         | inr misses ↦ inr (subst (λ n. q.lies i n t ≡ true) (after ∙ number-missed q w i (λ j. memory_byte o es (q.at i + j)) misses) yea, off)
       ]
 
+  module _ (elsewhere : (i t : ℕ) → i < q.places → LiesAt q o es i t → covers_place q w i ≡ false → d t ≡ None)
+      (once : (i j t : ℕ) → i < q.places → j < q.places → LiesAt q o es i t → LiesAt q o es j t → i ≡ j) where
+    pub free_after : (i t : ℕ) → i < q.places → LiesAt q o (es ++ e ∷ []) i t → laid q w d t ≡ None
+    free_after i t lt yea = elim (split i t lt yea) [
+      | inl fresh ↦ laid-gone q w d t (in-some q w i t lt fresh)
+      | inr there ↦ laid-none q w d t (elsewhere i t lt there.0 there.1)
+    ]
+
+    twice : (i j t : ℕ) → i < q.places → j < q.places → lays_in q w t i ≡ true → LiesAt q o es j t → covers_place q w j ≡ false → ⊥
+    twice i j t li lj fresh there off = none-some (d t) h (elsewhere j t lj there off) (may.held t (in-some q w i t li fresh))
+
+    pub once_after : (i j t : ℕ) → i < q.places → j < q.places → LiesAt q o (es ++ e ∷ []) i t → LiesAt q o (es ++ e ∷ []) j t → i ≡ j
+    once_after i j t li lj yi yj = by (split i t li yi) (split j t lj yj)
+      where
+        by : LiesNow i t → LiesNow j t → i ≡ j
+        by (inl fresh) (inl fresh2) = may.once i j t li lj fresh fresh2
+        by (inl fresh) (inr there) = absurd (twice i j t li lj fresh there.0 there.1)
+        by (inr there) (inl fresh) = absurd (twice j i t lj li fresh there.0 there.1)
+        by (inr there) (inr there2) = once i j t li lj there.0 there2.0
+
+-- ---- a token that lies in a place, as a hart sees it: in memory or in its own pending store. In both nobody holds it, and the hart reads what was
+-- stored last in its bytes
+
+module _ (q : TokenLayout) where
+  none-stays : (ws : List Write) (c : Holders) (t : ℕ) → c t ≡ None → all_laid q ws c t ≡ None
+  none-stays [] c t none = none
+  none-stays (w ∷ ws) c t none = none-stays ws (laid q w c) t (laid-none q w c t none)
+
+  -- what lies in a place after these writes lay there before, or is laid down by one of them
+  shown : (h : ℕ) (ws : List Write) (c : Holders) (i t : ℕ) (f : ℕ → ℕ) → i < q.places → KeepsWrites q h c ws
+      → q.lies i (joined (λ j. unwrap_or (newest_of (q.at i + j) None ws) (f (q.at i + j))) (q.width i)) t ≡ true
+      → (q.lies i (joined (λ j. f (q.at i + j)) (q.width i)) t ≡ true) ⊎ ((all_laid q ws c t ≡ None) × (c t ≡ Some h))
+  shown h [] c i t f lt k lies = inl lies
+  shown h (w ∷ ws) c i t f lt k lies = by (shown h ws (laid q w c) i t (λ x. byte_after w x (f x)) lt k.1 (subst (λ n. q.lies i n t ≡ true)
+      (joined-same (λ j. unwrap_or (newest_of (q.at i + j) None (w ∷ ws)) (f (q.at i + j)))
+      (λ j. unwrap_or (newest_of (q.at i + j) None ws) (byte_after w (q.at i + j) (f (q.at i + j)))) (q.width i)
+      (λ j less. newest-first (q.at i + j) (f (q.at i + j)) w ws)) lies))
+    where
+      Found : Type 0
+      Found = (q.lies i (joined (λ j. f (q.at i + j)) (q.width i)) t ≡ true) ⊎ ((all_laid q (w ∷ ws) c t ≡ None) × (c t ≡ Some h))
+
+      at_place : (q.lies i (joined (λ j. byte_after w (q.at i + j) (f (q.at i + j))) (q.width i)) t ≡ true)
+          → (covers_place q w i ≡ true) ⊎ (misses_place q w i ≡ true) → Found
+      at_place there (inl on) =
+          let down : lays q w t ≡ true = in-some q w i t lt (in-place q w i t on (subst (λ n. q.lies i n t ≡ true)
+          (number-covered q w i (λ j. f (q.at i + j)) on) there)) in
+          inr (none-stays ws (laid q w c) t (laid-gone q w c t down), k.0.held t down)
+      at_place there (inr off) = inl (subst (λ n. q.lies i n t ≡ true) (number-missed q w i (λ j. f (q.at i + j)) off) there)
+
+      by : (q.lies i (joined (λ j. byte_after w (q.at i + j) (f (q.at i + j))) (q.width i)) t ≡ true)
+          ⊎ ((all_laid q ws (laid q w c) t ≡ None) × (laid q w c t ≡ Some h)) → Found
+      by (inl there) = at_place there (k.0.whole i lt)
+      by (inr down) = inr (down.0, (laid-from q w c t h down.1).1)
+
+  module _ (o : OpeningValue) (es : List Entry) (c m : Holders) (w : Held q o es c m) (h a t : ℕ)
+      (lies : lays q (write a 4 (number_seen (view_of o es h) a 4)) t ≡ true) where
+    abbrev word : Write
+    word = write a 4 (number_seen (view_of o es h) a 4)
+
+    -- by a store of its own it is nobody's that was its hart's
+    abbrev Pends : Type 0
+    Pends = (all_laid q (pending h es) m t ≡ None) × (m t ≡ Some h)
+
+    seen_number : (i : ℕ) → covers_place q word i ≡ true → number_laid q word i ≡ joined (λ j. read_byte o es h (q.at i + j)) (q.width i)
+    seen_number i on =
+        let parts = and_parts (nat_le a (q.at i)) (nat_le (q.at i + q.width i) (a + 4)) on in
+        let low : a ≤ q.at i = leb-true a (q.at i) parts.0 in
+        let high : q.at i + q.width i ≤ a + 4 = leb-true (q.at i + q.width i) (a + 4) parts.1 in
+        joined-same (λ j. byte_at (q.at i + j - a) (number_seen (view_of o es h) a 4)) (λ j. read_byte o es h (q.at i + j)) (q.width i)
+        (λ j lt. (let place : a + (q.at i + j - a) ≡ q.at i + j = omega (arith, low) in
+        byte_of_joined (λ k. read_byte o es h (a + k)) (λ k. read-below o es h (a + k)) (q.at i + j - a) (omega (arith, low, high, lt))
+        ∙ ap (read_byte o es h) place))
+
+    pub seen_place : (i : ℕ) × (i < q.places) × (covers_place q word i ≡ true) × ((LiesAt q o es i t) ⊎ Pends)
+    seen_place =
+        let some = any-from q.places (lays_in q word t) lies in
+        let parts = and_parts (covers_place q word some.0) (q.lies some.0 (number_laid q word some.0) t) some.2 in (
+          some.0,
+          some.1,
+          parts.0,
+          shown h (pending h es) m some.0 t (memory_byte o es) some.1 (w.tidy h)
+              (subst (λ n. q.lies some.0 n t ≡ true) (seen_number some.0 parts.0) parts.1),
+        )
+
+    whose : (m t ≡ None) ⊎ Pends
+    whose = elim seen_place.3 [ inl there ↦ inl (w.free seen_place.0 t seen_place.1 there) | inr down ↦ inr down ]
+
+    pub nobodys : c t ≡ None
+    nobodys = by (c t) refl whose
+      where
+        by : (x : Option ℕ) → c t ≡ x → (m t ≡ None) ⊎ Pends → c t ≡ None
+        by None is s = is
+        by (Some g) is (inl none) = absurd (none-some (m t) g none (owned q o es c m w g t is))
+        by (Some g) is (inr down) = absurd (none-some (all_laid q (pending h es) m t) h down.0
+            (w.to h t (is ∙ ap Some (two-harts (m t) g h (owned q o es c m w g t is) down.1))))
+
+    pub reads_seen : (x : ℕ) → q.guards t x ≡ true → view_of o es h x ≡ last_stored o es x
+    reads_seen x guards = elim whose [
+      | inl none ↦ reads-memory o es h x (past_guarded q o es c m w h t x guards (none-some (m t) h none)) ∙ w.rests t x none guards
+      | inr down ↦ w.sees h t x down.1 guards
+    ]
+
 -- ---- an entry that neither stores nor lands leaves all as it is
 
+pub record IsStill (y : Access) : Type 0 where
+  pub stored : (b : Bool) → stored_by b y ≡ []
+  pub landed : (b : Bool) → landed_by b y ≡ 0
+  pub wrote : (ws : List Write) → written_by ws y ≡ []
+  pub same : (x b : ℕ) → byte_then y x b ≡ b
+
+pub nothing_still : IsStill nothing
+nothing_still = record { stored = λ b. refl; landed = λ b. refl; wrote = λ ws. refl; same = λ x b. refl }
+
+pub load_still : (a width v : ℕ) → IsStill (load a width v)
+load_still a width v = record { stored = λ b. refl; landed = λ b. refl; wrote = λ ws. refl; same = λ x b. refl }
+
+pub fence_still : (full : Bool) → IsStill (fence full)
+fence_still full = record { stored = λ b. refl; landed = λ b. refl; wrote = λ ws. refl; same = λ x b. refl }
+
+pub after-still : (es : List Entry) (e : Entry) → ((g : ℕ) → lands g es ≤ length (own_stores g es)) → IsStill (access_of e) → (g : ℕ)
+    → pending g (es ++ e ∷ []) ≡ pending g es
+after-still es e le k g = pending-quiet es e g (le g) (k.stored (hart_of e == g)) (k.landed (hart_of e == g))
+
 module _ (q : TokenLayout) (o : OpeningValue) (es : List Entry) (e : Entry) (c m : Holders) (w : Held q o es c m)
-    (le : (g : ℕ) → lands g es ≤ length (own_stores g es)) (none : (g : ℕ) → own_store g e ≡ []) (still : (g : ℕ) → land_of g e ≡ 0)
-    (wrote : write_of es e ≡ []) (same : (x b : ℕ) → byte_then (access_of e) x b ≡ b) where
-  pub quiet_pending : (g : ℕ) → pending g (es ++ e ∷ []) ≡ pending g es
-  quiet_pending g = pending-quiet es e g (le g) (none g) (still g)
+    (le : (g : ℕ) → lands g es ≤ length (own_stores g es)) (k : IsStill (access_of e)) where
+  quiet_pending : (g : ℕ) → pending g (es ++ e ∷ []) ≡ pending g es
+  quiet_pending g = after-still es e le k g
+
+  wrote : write_of es e ≡ []
+  wrote = k.wrote (take 1 (pending (hart_of e) es))
 
   quiet_number : (a width : ℕ) → memory_number o (es ++ e ∷ []) a width ≡ memory_number o es a width
   quiet_number a width = number-quiet o es e a width wrote
@@ -253,7 +377,7 @@ module _ (q : TokenLayout) (o : OpeningValue) (es : List Entry) (e : Entry) (c m
   quiet_memory x = memory_byte-other o es e x wrote
 
   quiet_stored : (x : ℕ) → last_stored o es x ≡ last_stored o (es ++ e ∷ []) x
-  quiet_stored x = sym (stored-last o es e x ∙ same x (last_stored o es x))
+  quiet_stored x = sym (stored-last o es e x ∙ k.same x (last_stored o es x))
 
   pub quiet : Held q o (es ++ e ∷ []) c m
   quiet = record {
@@ -273,16 +397,11 @@ module _ (q : TokenLayout) (o : OpeningValue) (es : List Entry) (e : Entry) (c m
 module _ (B : ℕ) (q : TokenLayout) (o : OpeningValue) (es : List Entry) (e : Entry) (c m : Holders) (w : Held q o es c m)
     (le : (g : ℕ) → lands g es ≤ length (own_stores g es)) (allowed : Allowed B o es e) (v : Write) (does : access_of e ≡ store v)
     (may : MayWrite q (hart_of e) c v) where
-  still_stored : (g : ℕ) → land_of g e ≡ 0
-  still_stored g = ap (landed_by (hart_of e == g)) does
-
   mine_stored : pending (hart_of e) (es ++ e ∷ []) ≡ pending (hart_of e) es ++ v ∷ []
-  mine_stored = pending-more es e (hart_of e) (le (hart_of e)) v (ap (stored_by (hart_of e == hart_of e)) does
-      ∙ ap (λ b. if b then v ∷ [] else []) (eq-eqb (hart_of e) (hart_of e) refl)) (still_stored (hart_of e))
+  mine_stored = after-store es e le (hart_of e) refl v does
 
   theirs_stored : (g : ℕ) → hart_of e ≢ g → pending g (es ++ e ∷ []) ≡ pending g es
-  theirs_stored g other = pending-quiet es e g (le g)
-      (ap (λ b. stored_by b (access_of e)) (ne_eqb (hart_of e) g other) ∙ stored_none (access_of e)) (still_stored g)
+  theirs_stored g other = after-other es e le (hart_of e) refl g other
 
   wrote_stored : write_of es e ≡ []
   wrote_stored = ap (written_by (take 1 (pending (hart_of e) es))) does
@@ -290,16 +409,8 @@ module _ (B : ℕ) (q : TokenLayout) (o : OpeningValue) (es : List Entry) (e : E
   numbered : (i t : ℕ) → LiesAt q o (es ++ e ∷ []) i t → LiesAt q o es i t
   numbered i t yea = subst (λ n. q.lies i n t ≡ true) (number-quiet o es e (q.at i) (q.width i) wrote_stored) yea
 
-  -- in memory it is this hart's
-  owned_stored : (t : ℕ) → c t ≡ Some (hart_of e) → m t ≡ Some (hart_of e)
-  owned_stored t is = all-from q (pending (hart_of e) es) m t (hart_of e) (w.to (hart_of e) t is)
-
   not_laid_stored : (g t : ℕ) → hart_of e ≢ g → c t ≡ Some g → lays q v t ≡ false
-  not_laid_stored g t other is = by (lays q v t) refl
-    where
-      by : (b : Bool) → lays q v t ≡ b → lays q v t ≡ false
-      by false nay = nay
-      by true yea = absurd (other (two-harts (c t) (hart_of e) g (may.held t yea) is))
+  not_laid_stored g t other is = false_from_ne_true (lays q v t) (λ yea. other (two-harts (c t) (hart_of e) g (may.held t yea) is))
 
   tidy_stored : (g : ℕ) → (hart_of e ≡ g) ⊎ (hart_of e ≢ g) → KeepsWrites q g m (pending g (es ++ e ∷ []))
   tidy_stored g (inl here) = subst (λ k. KeepsWrites q k m (pending k (es ++ e ∷ []))) here (subst (KeepsWrites q (hart_of e) m) (sym mine_stored)
@@ -330,22 +441,19 @@ module _ (B : ℕ) (q : TokenLayout) (o : OpeningValue) (es : List Entry) (e : E
   last_now_stored : (x : ℕ) → last_stored o (es ++ e ∷ []) x ≡ byte_then (store v) x (last_stored o es x)
   last_now_stored x = stored-last o es e x ∙ ap (λ y. byte_then y x (last_stored o es x)) does
 
-  past_stored : (x b : ℕ) → covers v x ≡ false → byte_then (store v) x b ≡ b
-  past_stored x b off = ap (λ (z : Bool). if z then byte_at (x - v.addr) v.value else b) off
-
   sees_stored : (g t x : ℕ) → m t ≡ Some g → q.guards t x ≡ true → (b : Bool) → covers v x ≡ b → read_byte o (es ++ e ∷ []) g x ≡ last_stored o (es ++ e ∷ []) x
   sees_stored g t x is guards true on =
-      let here : hart_of e ≡ g = two-harts (m t) (hart_of e) g (owned_stored t (may.guarded t x on guards)) is in
+      let here : hart_of e ≡ g = two-harts (m t) (hart_of e) g (owned q o es c m w (hart_of e) t (may.guarded t x on guards)) is in
       own_view B o g x es e (le g) allowed here (ap is_landing does) ∙ ap (λ y. byte_then y x (read_byte o es g x)) does
       ∙ ap (byte_then (store v) x) (w.sees g t x is guards) ∙ sym (last_now_stored x)
   sees_stored g t x is guards false off =
       left q o es c m w B e g t x le allowed is guards (subst (LeavesByteBy x) (sym does) off)
-      ∙ w.sees g t x is guards ∙ sym (past_stored x (last_stored o es x) off) ∙ sym (last_now_stored x)
+      ∙ w.sees g t x is guards ∙ sym (uncovered v x (last_stored o es x) (λ on. (let wrong : false ≡ true = sym off ∙ on in cc))) ∙ sym (last_now_stored x)
 
-  rests_stored : (t x : ℕ) → m t ≡ None → q.guards t x ≡ true → (b : Bool) → covers v x ≡ b → memory_byte o (es ++ e ∷ []) x ≡ last_stored o (es ++ e ∷ []) x
-  rests_stored t x is guards true on = absurd (none-some (m t) (hart_of e) is (owned_stored t (may.guarded t x on guards)))
-  rests_stored t x is guards false off = memory_byte-other o es e x wrote_stored ∙ w.rests t x is guards
-      ∙ sym (past_stored x (last_stored o es x) off) ∙ sym (last_now_stored x)
+  rests_stored : (t x : ℕ) → m t ≡ None → q.guards t x ≡ true → memory_byte o (es ++ e ∷ []) x ≡ last_stored o (es ++ e ∷ []) x
+  rests_stored t x is guards = memory_byte-other o es e x wrote_stored ∙ w.rests t x is guards
+      ∙ sym (uncovered v x (last_stored o es x) (λ on. none-some (m t) (hart_of e) is (owned q o es c m w (hart_of e) t (may.guarded t x on guards))))
+      ∙ sym (last_now_stored x)
 
   pub stores : Held q o (es ++ e ∷ []) (laid q v c) m
   stores = record {
@@ -355,7 +463,7 @@ module _ (B : ℕ) (q : TokenLayout) (o : OpeningValue) (es : List Entry) (e : E
     free = λ i t lt yea. w.free i t lt (numbered i t yea);
     once = λ i j t li lj yi yj. w.once i j t li lj (numbered i t yi) (numbered j t yj);
     sees = λ g t x is guards. sees_stored g t x is guards (covers v x) refl;
-    rests = λ t x is guards. rests_stored t x is guards (covers v x) refl;
+    rests = rests_stored;
   }
 
 -- ---- a landing: a hart's oldest pending store reaches memory
@@ -363,16 +471,11 @@ module _ (B : ℕ) (q : TokenLayout) (o : OpeningValue) (es : List Entry) (e : E
 module _ (B : ℕ) (q : TokenLayout) (o : OpeningValue) (es : List Entry) (e : Entry) (c m : Holders) (w : Held q o es c m)
     (le : (g : ℕ) → lands g es ≤ length (own_stores g es)) (allowed : Allowed B o es e) (does : access_of e ≡ land) (v : Write) (rest : List Write)
     (oldest : pending (hart_of e) es ≡ v ∷ rest) where
-  nothing_new : (g : ℕ) → own_store g e ≡ []
-  nothing_new g = ap (stored_by (hart_of e == g)) does
-
   mine_landed : pending (hart_of e) (es ++ e ∷ []) ≡ rest
-  mine_landed = pending-first es e (hart_of e) (le (hart_of e)) v rest oldest (nothing_new (hart_of e))
-      (ap (landed_by (hart_of e == hart_of e)) does ∙ ap (λ b. landed_by b land) (eq-eqb (hart_of e) (hart_of e) refl))
+  mine_landed = after-land es e le (hart_of e) refl v rest does oldest
 
   theirs_landed : (g : ℕ) → hart_of e ≢ g → pending g (es ++ e ∷ []) ≡ pending g es
-  theirs_landed g other = pending-quiet es e g (le g) (nothing_new g)
-      (ap (landed_by (hart_of e == g)) does ∙ ap (λ b. landed_by b land) (ne_eqb (hart_of e) g other))
+  theirs_landed g other = after-other es e le (hart_of e) refl g other
 
   wrote_landed : write_of es e ≡ v ∷ []
   wrote_landed = ap (written_by (take 1 (pending (hart_of e) es))) does ∙ ap (take 1) oldest
@@ -385,11 +488,7 @@ module _ (B : ℕ) (q : TokenLayout) (o : OpeningValue) (es : List Entry) (e : E
 
   -- what others have is left
   not_laid_landed : (g t : ℕ) → hart_of e ≢ g → m t ≡ Some g → lays q v t ≡ false
-  not_laid_landed g t other is = by (lays q v t) refl
-    where
-      by : (b : Bool) → lays q v t ≡ b → lays q v t ≡ false
-      by false nay = nay
-      by true yea = absurd (other (two-harts (m t) (hart_of e) g (may_landed.held t yea) is))
+  not_laid_landed g t other is = false_from_ne_true (lays q v t) (λ yea. other (two-harts (m t) (hart_of e) g (may_landed.held t yea) is))
 
   tidy_landed : (g : ℕ) → (hart_of e ≡ g) ⊎ (hart_of e ≢ g) → KeepsWrites q g (laid q v m) (pending g (es ++ e ∷ []))
   tidy_landed g (inl here) = subst (λ k. KeepsWrites q k (laid q v m) (pending k (es ++ e ∷ []))) here
@@ -420,29 +519,6 @@ module _ (B : ℕ) (q : TokenLayout) (o : OpeningValue) (es : List Entry) (e : E
       let l = laid-from q v m t g (all-from q (pending g (es ++ e ∷ [])) (laid q v m) t g is) in
       w.from g t (sym (all_theirs_landed g t other l.0) ∙ is)
 
-  lies_landed : (i t : ℕ) → i < q.places → LiesAt q o (es ++ e ∷ []) i t → (lays_in q v t i ≡ true) ⊎ ((LiesAt q o es i t) × (covers_place q v i ≡ false))
-  lies_landed i t lt yea = split q o es e v wrote_landed (hart_of e) m may_landed i t lt yea
-
-  free_landed : (i t : ℕ) → i < q.places → LiesAt q o (es ++ e ∷ []) i t → laid q v m t ≡ None
-  free_landed i t lt yea = elim (lies_landed i t lt yea) [
-    | inl new ↦ laid-gone q v m t (in-some q v i t lt new)
-    | inr old ↦ laid-none q v m t (w.free i t lt old.0)
-  ]
-
-  -- what is laid down lay nowhere
-  twice_landed : (i j t : ℕ) → i < q.places → j < q.places → lays_in q v t i ≡ true → LiesAt q o es j t → ⊥
-  twice_landed i j t li lj new old = none-some (m t) (hart_of e) (w.free j t lj old) (may_landed.held t (in-some q v i t li new))
-
-  once_landed : (i j t : ℕ) → i < q.places → j < q.places → LiesAt q o (es ++ e ∷ []) i t → LiesAt q o (es ++ e ∷ []) j t → i ≡ j
-  once_landed i j t li lj yi yj = by (lies_landed i t li yi) (lies_landed j t lj yj)
-    where
-      by : (lays_in q v t i ≡ true) ⊎ ((LiesAt q o es i t) × (covers_place q v i ≡ false))
-          → (lays_in q v t j ≡ true) ⊎ ((LiesAt q o es j t) × (covers_place q v j ≡ false)) → i ≡ j
-      by (inl new) (inl new2) = may_landed.once i j t li lj new new2
-      by (inl new) (inr old) = absurd (twice_landed i j t li lj new old.0)
-      by (inr old) (inl new) = absurd (twice_landed j i t lj li new old.0)
-      by (inr old) (inr old2) = w.once i j t li lj old.0 old2.0
-
   last_now_landed : (x : ℕ) → last_stored o es x ≡ last_stored o (es ++ e ∷ []) x
   last_now_landed x = sym (stored-last o es e x ∙ ap (λ y. byte_then y x (last_stored o es x)) does)
 
@@ -465,20 +541,17 @@ module _ (B : ℕ) (q : TokenLayout) (o : OpeningValue) (es : List Entry) (e : E
       ∙ same_view_landed (hart_of e) t x held guards ∙ w.sees (hart_of e) t x held guards ∙ last_now_landed x
   rests_landed t x is guards false nay =
       let none : m t ≡ None = sym (laid-left q v m t nay) ∙ is in
-      memory_byte-write o es e v x wrote_landed ∙ past none (covers v x) refl ∙ w.rests t x none guards ∙ last_now_landed x
-    where
-      past : m t ≡ None → (b : Bool) → covers v x ≡ b
-          → (if covers v x then byte_at (x - v.addr) v.value else memory_byte o es x) ≡ memory_byte o es x
-      past none false off = ap (λ (z : Bool). if z then byte_at (x - v.addr) v.value else memory_byte o es x) off
-      past none true on = absurd (none-some (m t) (hart_of e) none (may_landed.guarded t x on guards))
+      memory_byte-write o es e v x wrote_landed
+      ∙ uncovered v x (memory_byte o es x) (λ on. none-some (m t) (hart_of e) none (may_landed.guarded t x on guards))
+      ∙ w.rests t x none guards ∙ last_now_landed x
 
   pub lands_on : Held q o (es ++ e ∷ []) c (laid q v m)
   lands_on = record {
     tidy = λ g. tidy_landed g (cases_eq (hart_of e) g);
     to = λ g t is. to_landed g t (cases_eq (hart_of e) g) is;
     from = λ g t is. from_landed g t (cases_eq (hart_of e) g) is;
-    free = free_landed;
-    once = once_landed;
+    free = free_after q o es e v wrote_landed (hart_of e) m may_landed (λ i t lt lies off. w.free i t lt lies) w.once;
+    once = once_after q o es e v wrote_landed (hart_of e) m may_landed (λ i t lt lies off. w.free i t lt lies) w.once;
     sees = sees_landed;
     rests = λ t x is guards. rests_landed t x is guards (lays q v t) refl;
   }
@@ -496,34 +569,24 @@ module _ (B : ℕ) (q : TokenLayout) (o : OpeningValue) (es : List Entry) (e : E
   pub nothing_pending : pending (hart_of e) es ≡ []
   nothing_pending = may_here.0
 
-  -- what it finds in a place lies there
-  found_number : (i : ℕ) → covers_place q p i ≡ true → number_laid q p i ≡ memory_number o es (q.at i) (q.width i)
-  found_number i on =
-      let parts = both-true (nat_le a (q.at i)) (nat_le (q.at i + q.width i) (a + 4)) on in
-      let low : a ≤ q.at i = leb-true a (q.at i) parts.0 in
-      let high : q.at i + q.width i ≤ a + 4 = leb-true (q.at i + q.width i) (a + 4) parts.1 in
-      joined-same (λ j. byte_at (q.at i + j - a) old) (λ j. memory_byte o es (q.at i + j)) (q.width i)
-      (λ j lt. (let place : a + (q.at i + j - a) ≡ q.at i + j = omega (arith, low) in
-      ap (byte_at (q.at i + j - a)) (amo-read B o es e a old new does allowed)
-      ∙ byte_of_joined (λ k. memory_byte o es (a + k)) (λ k. memory-below o es (a + k)) (q.at i + j - a) (omega (arith, low, high, lt))
-      ∙ ap (memory_byte o es) place))
+  seen_here : (t : ℕ) → lays q p t ≡ true → lays q (write a 4 (number_seen (view_of o es (hart_of e)) a 4)) t ≡ true
+  seen_here t yea = subst (λ v. lays q (write a 4 v) t ≡ true) may_here.1 yea
 
+  -- what it finds in a place lies there
   pub found : (t : ℕ) → lays q p t ≡ true → (i : ℕ) × (i < q.places) × (LiesAt q o es i t) × (covers_place q p i ≡ true)
-  found t yea =
-      let some = any-from q.places (lays_in q p t) yea in
-      let parts = both-true (covers_place q p some.0) (q.lies some.0 (number_laid q p some.0) t) some.2 in
-      (some.0, some.1, subst (λ n. q.lies some.0 n t ≡ true) (found_number some.0 parts.0) parts.1, parts.0)
+  found t yea = let s = seen_place q o es c m w (hart_of e) a t (seen_here t yea) in (s.0, s.1, by s.3, s.2)
+    where
+      by : {i : ℕ} → (LiesAt q o es i t) ⊎ ((all_laid q (pending (hart_of e) es) m t ≡ None) × (m t ≡ Some (hart_of e))) → LiesAt q o es i t
+      by (inl there) = there
+      by (inr down) = absurd (none-some (all_laid q (pending (hart_of e) es) m t) (hart_of e) down.0
+          (ap (λ ws. all_laid q ws m t) nothing_pending ∙ down.1))
 
   pub found_free : (t : ℕ) → lays q p t ≡ true → m t ≡ None
   found_free t yea = let f = found t yea in w.free f.0 t f.1 f.2
 
   -- nobody holds it
   pub found_nobodys : (t : ℕ) → lays q p t ≡ true → c t ≡ None
-  found_nobodys t yea = by (c t) refl
-    where
-      by : (x : Option ℕ) → c t ≡ x → c t ≡ None
-      by None is = is
-      by (Some g) is = absurd (none-some (m t) g (found_free t yea) (all-from q (pending g es) m t g (w.to g t is)))
+  found_nobodys t yea = nobodys q o es c m w (hart_of e) a t (seen_here t yea)
 
   module _ (le : (g : ℕ) → lands g es ≤ length (own_stores g es)) (may : MayWrite q (hart_of e) (taken_by q (hart_of e) p c) (write a 4 new)) where
     abbrev n : Write
@@ -541,10 +604,6 @@ module _ (B : ℕ) (q : TokenLayout) (o : OpeningValue) (es : List Entry) (e : E
     wrote_swapped : write_of es e ≡ n ∷ []
     wrote_swapped = ap (written_by (take 1 (pending (hart_of e) es))) does
 
-    -- of this hart both say the same
-    mine_swapped : (t : ℕ) → c t ≡ Some (hart_of e) → m t ≡ Some (hart_of e)
-    mine_swapped t is = all-from q (pending (hart_of e) es) m t (hart_of e) (w.to (hart_of e) t is)
-
     pub took : (t g : ℕ) (d : Holders) → taken_by q (hart_of e) p d t ≡ Some g
         → ((lays q p t ≡ true) × (hart_of e ≡ g)) ⊎ ((lays q p t ≡ false) × (d t ≡ Some g))
     took t g d is = by (lays q p t) refl
@@ -556,7 +615,7 @@ module _ (B : ℕ) (q : TokenLayout) (o : OpeningValue) (es : List Entry) (e : E
     pub may_then : MayWrite q (hart_of e) ms n
     may_then = more q (hart_of e) cs ms n (λ t is. elim (took t (hart_of e) c is) [
       | inl yea ↦ taken-here q (hart_of e) p m t yea.0
-      | inr nay ↦ taken-left q (hart_of e) p m t nay.0 ∙ mine_swapped t nay.1
+      | inr nay ↦ taken-left q (hart_of e) p m t nay.0 ∙ owned q o es c m w (hart_of e) t nay.1
     ]) may
 
     -- what others have is left
@@ -599,9 +658,6 @@ module _ (B : ℕ) (q : TokenLayout) (o : OpeningValue) (es : List Entry) (e : E
           | inr nay ↦ left_by t c nay.0 l.0 ∙ w.from g t (sym (all_left g t nay.0 l.0) ∙ is)
         ]
 
-    lies_swapped : (i t : ℕ) → i < q.places → LiesAt q o (es ++ e ∷ []) i t → (lays_in q n t i ≡ true) ⊎ ((LiesAt q o es i t) × (covers_place q n i ≡ false))
-    lies_swapped i t lt yea = split q o es e n wrote_swapped (hart_of e) ms may_then i t lt yea
-
     -- what lies in a place that isn't covered isn't found, and isn't laid down
     elsewhere : (i t : ℕ) → i < q.places → LiesAt q o es i t → covers_place q n i ≡ false → ms t ≡ None
     elsewhere i t lt lies off = by (lays q p t) refl
@@ -612,25 +668,6 @@ module _ (B : ℕ) (q : TokenLayout) (o : OpeningValue) (es : List Entry) (e : E
             let f = found t yea in
             let same : f.0 ≡ i = w.once f.0 i t f.1 lt f.2 lies in
             absurd (let wrong : true ≡ false = sym f.3 ∙ ap (covers_place q p) same ∙ off in cc)
-
-    free_swapped : (i t : ℕ) → i < q.places → LiesAt q o (es ++ e ∷ []) i t → laid q n ms t ≡ None
-    free_swapped i t lt yea = elim (lies_swapped i t lt yea) [
-      | inl fresh ↦ laid-gone q n ms t (in-some q n i t lt fresh)
-      | inr there ↦ laid-none q n ms t (elsewhere i t lt there.0 there.1)
-    ]
-
-    twice_swapped : (i j t : ℕ) → i < q.places → j < q.places → lays_in q n t i ≡ true → LiesAt q o es j t → covers_place q n j ≡ false → ⊥
-    twice_swapped i j t li lj fresh there off = none-some (ms t) (hart_of e) (elsewhere j t lj there off) (may_then.held t (in-some q n i t li fresh))
-
-    once_swapped : (i j t : ℕ) → i < q.places → j < q.places → LiesAt q o (es ++ e ∷ []) i t → LiesAt q o (es ++ e ∷ []) j t → i ≡ j
-    once_swapped i j t li lj yi yj = by (lies_swapped i t li yi) (lies_swapped j t lj yj)
-      where
-        by : (lays_in q n t i ≡ true) ⊎ ((LiesAt q o es i t) × (covers_place q n i ≡ false))
-            → (lays_in q n t j ≡ true) ⊎ ((LiesAt q o es j t) × (covers_place q n j ≡ false)) → i ≡ j
-        by (inl fresh) (inl fresh2) = may_then.once i j t li lj fresh fresh2
-        by (inl fresh) (inr there) = absurd (twice_swapped i j t li lj fresh there.0 there.1)
-        by (inr there) (inl fresh) = absurd (twice_swapped j i t lj li fresh there.0 there.1)
-        by (inr there) (inr there2) = w.once i j t li lj there.0 there2.0
 
     last_now_swapped : (x : ℕ) → last_stored o (es ++ e ∷ []) x ≡ byte_then (exchange a old new) x (last_stored o es x)
     last_now_swapped x = stored-last o es e x ∙ ap (λ y. byte_then y x (last_stored o es x)) does
@@ -654,7 +691,7 @@ module _ (B : ℕ) (q : TokenLayout) (o : OpeningValue) (es : List Entry) (e : E
         absurd (other (two-harts (m t) (hart_of e) g (sym (taken-left q (hart_of e) p m t nay) ∙ may_then.guarded t x on guards) is))
     sees_other g t x other nay is guards false off =
         left q o es c m w B e g t x le allowed is guards (subst (LeavesByteBy x) (sym does) (inr off)) ∙ w.sees g t x is guards
-        ∙ sym (ap (λ (z : Bool). if z then byte_at (x - a) new else last_stored o es x) off) ∙ sym (last_now_swapped x)
+        ∙ sym (uncovered n x (last_stored o es x) (λ on. (let wrong : false ≡ true = sym off ∙ on in cc))) ∙ sym (last_now_swapped x)
 
     sees_swapped : (g t x : ℕ) → laid q n ms t ≡ Some g → q.guards t x ≡ true → read_byte o (es ++ e ∷ []) g x ≡ last_stored o (es ++ e ∷ []) x
     sees_swapped g t x is guards = elim (took t g m (laid-from q n ms t g is).1) [
@@ -684,8 +721,8 @@ module _ (B : ℕ) (q : TokenLayout) (o : OpeningValue) (es : List Entry) (e : E
       tidy = λ g. tidy_swapped g (cases_eq (hart_of e) g);
       to = to_swapped;
       from = from_swapped;
-      free = free_swapped;
-      once = once_swapped;
+      free = free_after q o es e n wrote_swapped (hart_of e) ms may_then elsewhere w.once;
+      once = once_after q o es e n wrote_swapped (hart_of e) ms may_then elsewhere w.once;
       sees = sees_swapped;
       rests = rests_swapped;
     }
@@ -706,15 +743,22 @@ pub holders-append : (q : TokenLayout) (c : Holders) (es fs : List Entry) → ho
 holders-append q c [] fs = refl
 holders-append q c (e ∷ es) fs = holders-append q (holders_next q c e) es fs
 
+-- whose each token is in memory, after these entries
+abbrev pub memory : TokenLayout → (before : List Entry) → Holders → List Entry → Holders
+memory q before m [] = m
+memory q before m (e ∷ es) = memory q (before ++ e ∷ []) (in_memory q before e m) es
+
+pub memory-snoc : (q : TokenLayout) (before : List Entry) (m : Holders) (es : List Entry) (d : Entry)
+    → memory q before m (es ++ d ∷ []) ≡ in_memory q (before ++ es) d (memory q before m es)
+memory-snoc q before m [] d = ap (λ xs. in_memory q xs d m) (sym (append-nil before))
+memory-snoc q before m (e ∷ es) d = memory-snoc q (before ++ e ∷ []) (in_memory q before e m) es d
+    ∙ ap (λ xs. in_memory q xs d (memory q (before ++ e ∷ []) (in_memory q before e m) es)) (append_assoc before (e ∷ []) es)
+
 module _ (B : ℕ) (q : TokenLayout) (o : OpeningValue) where
   module _ (es : List Entry) (e : Entry) (c m : Holders) (w : Held q o es c m) (le : (g : ℕ) → lands g es ≤ length (own_stores g es))
       (allowed : Allowed B o es e) where
-    quiet_one : (y : Access) → access_of e ≡ y → ((b : Bool) → stored_by b y ≡ []) → ((b : Bool) → landed_by b y ≡ 0)
-        → ((ws : List Write) → written_by ws y ≡ []) → ((x b : ℕ) → byte_then y x b ≡ b) → Held q o (es ++ e ∷ []) c m
-    quiet_one y does stored landed wrote same = quiet q o es e c m w le (λ g. ap (stored_by (hart_of e == g)) does ∙ stored (hart_of e == g))
-        (λ g. ap (landed_by (hart_of e == g)) does ∙ landed (hart_of e == g))
-        (ap (written_by (take 1 (pending (hart_of e) es))) does ∙ wrote (take 1 (pending (hart_of e) es)))
-        (λ x b. ap (λ z. byte_then z x b) does ∙ same x b)
+    quiet_one : (y : Access) → access_of e ≡ y → IsStill y → Held q o (es ++ e ∷ []) c m
+    quiet_one y does k = quiet q o es e c m w le (subst IsStill (sym does) k)
 
     landing : access_of e ≡ land → (ws : List Write) → pending (hart_of e) es ≡ ws → Held q o (es ++ e ∷ []) c (laid_first q ws m)
     landing does [] none = absurd (let some : 0 < length (pending (hart_of e) es) =
@@ -724,23 +768,15 @@ module _ (B : ℕ) (q : TokenLayout) (o : OpeningValue) where
 
     at : (y : Access) → access_of e ≡ y → May q (hart_of e) c y
         → Held q o (es ++ e ∷ []) (holders_then q (hart_of e) y c) (next_in_memory q (hart_of e) (pending (hart_of e) es) y m)
-    at nothing does may = quiet_one nothing does (λ b. refl) (λ b. refl) (λ ws. refl) (λ x b. refl)
-    at (load a width v) does may = quiet_one (load a width v) does (λ b. refl) (λ b. refl) (λ ws. refl) (λ x b. refl)
-    at (fence full) does may = quiet_one (fence full) does (λ b. refl) (λ b. refl) (λ ws. refl) (λ x b. refl)
+    at nothing does may = quiet_one nothing does nothing_still
+    at (load a width v) does may = quiet_one (load a width v) does (load_still a width v)
+    at (fence full) does may = quiet_one (fence full) does (fence_still full)
     at (store v) does may = stores B q o es e c m w le allowed v does may
     at (exchange a old new) does may = exchanges B q o es e c m w allowed a old new does le may
     at land does may = landing does (pending (hart_of e) es) refl
 
     pub step : May q (hart_of e) c (access_of e) → Held q o (es ++ e ∷ []) (holders_next q c e) (in_memory q es e m)
     step may = at (access_of e) refl may
-
-  from : (done rest : List Entry) (c m : Holders) → ((g : ℕ) → lands g done ≤ length (own_stores g done)) → LegalAfter B o done rest
-      → KeepsTokens q c rest → Held q o done c m → (n : Holders) × Held q o (done ++ rest) (holders q c rest) n
-  from done [] c m le legal keeps w = (m, subst (λ xs. Held q o xs c m) (sym (append-nil done)) w)
-  from done (e ∷ rest) c m le legal keeps w = subst
-      (λ xs. (n : Holders) × Held q o xs (holders q (holders_next q c e) rest) n) (append_assoc done (e ∷ []) rest)
-      (from (done ++ e ∷ []) rest (holders_next q c e) (in_memory q done e m) (λ g. balanced-last B o done g e legal.0 (le g)) legal.1 keeps.1
-      (step done e c m w le legal.0 keeps.0))
 
   pub opened : (start : Holders) → OpensTokens q o start → Held q o [] start start
   opened start opens = record {
@@ -753,38 +789,61 @@ module _ (B : ℕ) (q : TokenLayout) (o : OpeningValue) where
     rests = λ t x is guards. refl;
   }
 
-  pub held-of : (start : Holders) (es : List Entry) → FollowsTokens B q start o es → (m : Holders) × Held q o es (holders q start es) m
-  held-of start es f = from [] es start start (λ g. omega arith) f.legal f.keeps (opened start f.opens)
+  pub follows-front : (start : Holders) (es fs : List Entry) → FollowsTokens B q start o (es ++ fs) → FollowsTokens B q start o es
+  follows-front start es fs f = record {
+    opens = f.opens;
+    legal = LegalAfter-front B o [] es fs f.legal;
+    keeps = (keeps-append q start es fs f.keeps).0;
+  }
+
+  -- what an entry hands on from the run before it holds of every run
+  module _ (start : Holders) (P : List Entry → Type 0) (first : P [])
+      (next : (es : List Entry) (e : Entry) → FollowsTokens B q start o (es ++ e ∷ []) → P es → P (es ++ e ∷ [])) where
+    from : (done rest : List Entry) → FollowsTokens B q start o (done ++ rest) → P done → P (done ++ rest)
+    from done [] f p = subst P (sym (append-nil done)) p
+    from done (e ∷ rest) f p =
+        let all : (done ++ e ∷ []) ++ rest ≡ done ++ e ∷ rest = append_assoc done (e ∷ []) rest in
+        let f1 : FollowsTokens B q start o ((done ++ e ∷ []) ++ rest) = subst (FollowsTokens B q start o) (sym all) f in
+        subst P all (from (done ++ e ∷ []) rest f1 (next done e (follows-front start (done ++ e ∷ []) rest f1) p))
+
+    pub of-runs : (es : List Entry) → FollowsTokens B q start o es → P es
+    of-runs es f = from [] es f first
+
+  module _ (start : Holders) (es : List Entry) (e : Entry) (f : FollowsTokens B q start o (es ++ e ∷ [])) where
+    pub front : FollowsTokens B q start o es
+    front = follows-front start es (e ∷ []) f
+
+    pub balanced_front : (g : ℕ) → lands g es ≤ length (own_stores g es)
+    balanced_front g = balanced B (history_of o es) g front.legal
+
+    pub allowed_last : Allowed B o es e
+    allowed_last = (LegalAfter-back B o [] es (e ∷ []) f.legal).0
+
+    pub may_last : May q (hart_of e) (holders q start es) (access_of e)
+    may_last = (keeps-append q start es (e ∷ []) f.keeps).1.0
+
+  pub held_at : (start : Holders) (es : List Entry) → FollowsTokens B q start o es → Held q o es (holders q start es) (memory q [] start es)
+  held_at start es f = of-runs start (λ xs. Held q o xs (holders q start xs) (memory q [] start xs)) (opened start f.opens)
+      (λ xs e g w. subst (λ c. Held q o (xs ++ e ∷ []) c (memory q [] start (xs ++ e ∷ []))) (sym (holders-append q start xs (e ∷ [])))
+      (subst (λ m. Held q o (xs ++ e ∷ []) (holders_next q (holders q start xs) e) m) (sym (memory-snoc q [] start xs e))
+      (step xs e (holders q start xs) (memory q [] start xs) w (balanced_front start xs e g) (allowed_last start xs e g) (may_last start xs e g)))) es f
 
   -- ---- the laws
 
   pub as_stored : (start : Holders) (es : List Entry) → FollowsTokens B q start o es → (h t x : ℕ) → holders q start es t ≡ Some h → q.guards t x ≡ true
       → read_byte o es h x ≡ last_stored o es x
   as_stored start es f h t x is guards =
-      let held = held-of start es f in
-      held.1.sees h t x (all-from q (pending h es) held.0 t h (held.1.to h t is)) guards
+      let held = held_at start es f in
+      held.sees h t x (owned q o es (holders q start es) (memory q [] start es) held h t is) guards
 
   module _ (start : Holders) (es : List Entry) (e : Entry) (f : FollowsTokens B q start o (es ++ e ∷ [])) where
-    pub front : FollowsTokens B q start o es
-    front = record {
-      opens = f.opens;
-      legal = LegalAfter-front B o [] es (e ∷ []) f.legal;
-      keeps = (keeps-append q start es (e ∷ []) f.keeps).0;
-    }
-
-    allowed_last : Allowed B o es e
-    allowed_last = (LegalAfter-back B o [] es (e ∷ []) f.legal).0
-
-    pub may_last : May q (hart_of e) (holders q start es) (access_of e)
-    may_last = (keeps-append q start es (e ∷ []) f.keeps).1.0
-
     pub exclusive : (a old new t : ℕ) → access_of e ≡ exchange a old new → lays q (write a 4 old) t ≡ true → holders q start es t ≡ None
     exclusive a old new t does lies =
-        let held = held-of start es front in
-        found_nobodys B q o es e (holders q start es) held.0 held.1 allowed_last a old new does t lies
+        found_nobodys B q o es e (holders q start es) (memory q [] start es) (held_at start es (front start es e f)) (allowed_last start es e f) a old new
+        does t lies
 
     pub stays : (h t : ℕ) → holders q start es t ≡ Some h → hart_of e ≢ h → holders q start (es ++ e ∷ []) t ≡ Some h
-    stays h t is other = ap (λ (d : Holders). d t) (holders-append q start es (e ∷ [])) ∙ by (access_of e) refl may_last
+    stays h t is other = ap (λ (d : Holders). d t) (holders-append q start es (e ∷ [])) ∙ by (access_of e) refl (may_last start es e f)
       where
         c : Holders
         c = holders q start es
@@ -807,11 +866,11 @@ module _ (B : ℕ) (q : TokenLayout) (o : OpeningValue) where
     pub loads : (a width v : ℕ) → access_of e ≡ load a width v → LoadsHeld q (hart_of e) (holders q start es) (access_of e)
         → ((i : ℕ) → i < width → (t : ℕ) × (q.guards t (a + i) ≡ true)) → v ≡ joined (λ i. last_stored o es (a + i)) width
     loads a width v does held guarded =
-        let reads : v ≡ read o es (hart_of e) a width = subst (AllowedBy B (pending (hart_of e) es) (read o es (hart_of e))) does allowed_last in
+        let reads : v ≡ read o es (hart_of e) a width = subst (AllowedBy B (pending (hart_of e) es) (read o es (hart_of e))) does (allowed_last start es e f) in
         let holds = subst (LoadsHeld q (hart_of e) (holders q start es)) does held in
         reads ∙ joined-same (λ i. read_byte o es (hart_of e) (a + i)) (λ i. last_stored o es (a + i)) width
         (λ i lt. (let g = guarded i lt in
-        as_stored start es front (hart_of e) g.0 (a + i) (holds g.0 (a + i) (omega arith, omega (arith, lt)) g.1) g.1))
+        as_stored start es (front start es e f) (hart_of e) g.0 (a + i) (holds g.0 (a + i) (omega arith, omega (arith, lt)) g.1) g.1))
 
 -- ---- what is so of the bytes that a token guards wherever it is laid down, is so wherever it is taken
 
@@ -826,7 +885,7 @@ module _ (B : ℕ) (q : TokenLayout) (o : OpeningValue) (says : ℕ → View →
       (gives : (t : ℕ) → lays_down q (access_of e) t → says t (view_then (access_of e) (view_of o es (hart_of e))) ≡ true) where
     -- what the hart reads where it holds the token is what was stored last
     reads : (t x : ℕ) → c t ≡ Some (hart_of e) → q.guards t x ≡ true → read_byte o es (hart_of e) x ≡ last_stored o es x
-    reads t x holds guards = w.sees (hart_of e) t x (all-from q (pending (hart_of e) es) m t (hart_of e) (w.to (hart_of e) t holds)) guards
+    reads t x holds guards = w.sees (hart_of e) t x (owned q o es c m w (hart_of e) t holds) guards
 
     by_view : (t : ℕ) → ((x : ℕ) → q.guards t x ≡ true → read_byte o es (hart_of e) x ≡ last_stored o es x) → lays_down q (access_of e) t
         → says t (last_stored o (es ++ e ∷ [])) ≡ true
@@ -837,13 +896,6 @@ module _ (B : ℕ) (q : TokenLayout) (o : OpeningValue) (says : ℕ → View →
         → says t (last_stored o (es ++ e ∷ [])) ≡ true
     left_so t none same = framed t (last_stored o es) (last_stored o (es ++ e ∷ [])) (λ x guards. stored-last o es e x ∙ same x guards) (said t none)
 
-    past_uncovered : (v : Write) (x b : ℕ) → (covers v x ≡ true → ⊥) → (if covers v x then byte_at (x - v.addr) v.value else b) ≡ b
-    past_uncovered v x b never = by (covers v x) refl
-      where
-        by : (z : Bool) → covers v x ≡ z → (if covers v x then byte_at (x - v.addr) v.value else b) ≡ b
-        by false off = ap (λ (y : Bool). if y then byte_at (x - v.addr) v.value else b) off
-        by true on = absurd (never on)
-
     said_at : (y : Access) → access_of e ≡ y → May q (hart_of e) c y → (t : ℕ)
         → holders_then q (hart_of e) y c t ≡ None → says t (last_stored o (es ++ e ∷ [])) ≡ true
     said_at (store v) does may t none = by (lays q v t) refl
@@ -853,7 +905,7 @@ module _ (B : ℕ) (q : TokenLayout) (o : OpeningValue) (says : ℕ → View →
         by false nay =
             let free : c t ≡ None = sym (laid-left q v c t nay) ∙ none in
             left_so t free (λ x guards. ap (λ y. byte_then y x (last_stored o es x)) does
-            ∙ past_uncovered v x (last_stored o es x) (λ on. none-some (c t) (hart_of e) free (may.guarded t x on guards)))
+            ∙ uncovered v x (last_stored o es x) (λ on. none-some (c t) (hart_of e) free (may.guarded t x on guards)))
     said_at (exchange a old new) does may t none = by (lays q (write a 4 new) t) refl (lays q (write a 4 old) t) refl
       where
         by : (b : Bool) → lays q (write a 4 new) t ≡ b → (d : Bool) → lays q (write a 4 old) t ≡ d → says t (last_stored o (es ++ e ∷ [])) ≡ true
@@ -867,12 +919,9 @@ module _ (B : ℕ) (q : TokenLayout) (o : OpeningValue) (says : ℕ → View →
             let still : taken_by q (hart_of e) (write a 4 old) c t ≡ None =
             sym (laid-left q (write a 4 new) (taken_by q (hart_of e) (write a 4 old) c) t nay) ∙ none in
             left_so t (sym (taken-left q (hart_of e) (write a 4 old) c t not) ∙ still) (λ x guards. ap (λ y. byte_then y x (last_stored o es x)) does
-            ∙ past_uncovered (write a 4 new) x (last_stored o es x)
+            ∙ uncovered (write a 4 new) x (last_stored o es x)
             (λ on. none-some (taken_by q (hart_of e) (write a 4 old) c t) (hart_of e) still (may.guarded t x on guards)))
-    said_at nothing does may t none = left_so t none (λ x guards. ap (λ y. byte_then y x (last_stored o es x)) does)
-    said_at (load a width v) does may t none = left_so t none (λ x guards. ap (λ y. byte_then y x (last_stored o es x)) does)
-    said_at (fence full) does may t none = left_so t none (λ x guards. ap (λ y. byte_then y x (last_stored o es x)) does)
-    said_at land does may t none = left_so t none (λ x guards. ap (λ y. byte_then y x (last_stored o es x)) does)
+    said_at y does may t none = left_so t none (λ x guards. ap (λ z. byte_then z x (last_stored o es x)) does)
 
     pub said_next : May q (hart_of e) c (access_of e) → IsSaid (es ++ e ∷ []) (holders_next q c e)
     said_next may = said_at (access_of e) refl may
@@ -894,11 +943,10 @@ module _ (B : ℕ) (q : TokenLayout) (o : OpeningValue) (says : ℕ → View →
       → lays q (write a 4 old) t ≡ true → says t (view_of o es (hart_of e)) ≡ true
   handed_on start es e f opens gives a old new t does lies =
       let f1 = front B q o start es e f in
-      let held = held-of B q o start es f1 in
-      let allowed = (LegalAfter-back B o [] es (e ∷ []) f.legal).0 in
+      let held = held_at B q o start es f1 in
+      let allowed = allowed_last B q o start es e f in
       framed t (last_stored o es) (view_of o es (hart_of e))
-      (λ x guards. reads_last B q o es e (holders q start es) held.0 held.1 allowed a old new does
-      (λ g. balanced B (history_of o es) g f1.legal)
+      (λ x guards. reads_last B q o es e (holders q start es) (memory q [] start es) held allowed a old new does (balanced_front B q o start es e f)
       (subst (May q (hart_of e) (holders q start es)) does (may_last B q o start es e f)) t x guards
-      (inl (found_free B q o es e (holders q start es) held.0 held.1 allowed a old new does t lies)))
+      (inl (found_free B q o es e (holders q start es) (memory q [] start es) held allowed a old new does t lies)))
       (said start es f1 opens gives t (exclusive B q o start es e f a old new t does lies))

@@ -1,18 +1,18 @@
 -- The run in which one hart plays a role: entry by entry it is legal, and memory is the same.
 use Rattle.std.proofs.Common.{ℕ, ◌≤◌, ◌≡◌, Bool, true, false, if◌then◌else◌, Some, List, [], ◌∷◌, ◌++◌, length, refl, sym, ◌∙◌, ap, arith, ◌+◌, ◌<◌, ◌≢◌, ◌==◌}
-use Rattle.std.proofs.Common.{◌⊎◌, inl, inr, Option, None, take, subst, append-nil, append_assoc, zero, suc, ◌&&◌, ◌||◌}
+use Rattle.std.proofs.Common.{◌⊎◌, inl, inr, Option, None, take, subst, append-nil, zero, suc, ◌&&◌, ◌||◌}
 use Rattle.std.specs.Prelude.{unwrap_or, All}
-use Rattle.std.proofs.lemmas.Bool.{cases_eq, eqb-true, eq-eqb, ne_eqb}
-use Rattle.std.proofs.lemmas.List.Elements.{All-head, All-tail, All-nil, All-cons}
+use Rattle.std.proofs.lemmas.Bool.{and_parts, and_from, false_from_ne_true, cases_eq, eqb-true, eq-eqb}
+use Rattle.std.proofs.lemmas.List.Elements.{All-pop, All-head, All-tail, All-nil, All-cons}
 use Rattle.memory.specs.declared.writes.Write.{Write}
 use Rattle.memory.specs.Writes.{write, newest_of}
 use Rattle.memory.proofs.Bytes.{joined-same}
 use Rattle.step_machine.specs.declared.events.Entry.{Entry}
-use Rattle.step_machine.specs.Names.{OpeningValue, history_of, store, exchange, land, access_of, hart_of, stored_by, landed_by, written_by, own_store, land_of}
-use Rattle.step_machine.specs.Names.{own_stores, lands, pending, write_of, landed, opening_byte, memory_byte, read_byte, read, AllowedBy, Allowed, Legal}
-use Rattle.step_machine.specs.Names.{LegalAfter}
-use Rattle.step_machine.proofs.{LegalAfter-append, balanced, landed-last, balanced-last}
-use Rattle.store_buffers.proofs.Effects.{pending-quiet, pending-more, pending-first}
+use Rattle.step_machine.specs.Names.{OpeningValue, history_of, store, exchange, land, access_of, hart_of, stored_by, landed_by, written_by, own_stores, lands}
+use Rattle.step_machine.specs.Names.{pending, landed, opening_byte, memory_byte, read_byte, read, AllowedBy, Allowed, Legal}
+use Rattle.step_machine.proofs.{LegalAfter-append, balanced, landed-last}
+use Rattle.step_machine.specs.declared.events.Entry.TheVariants as entry
+use Rattle.store_buffers.proofs.Effects.{pending-quiet}
 use Rattle.queue_parties.specs.Parties.{QueueCounts, the_sender, the_receiver}
 use Rattle.queue_parties.specs.Positions.{IsPrefix}
 use Rattle.slot_queue.specs.Queues.{Queue}
@@ -20,10 +20,11 @@ use Rattle.slot_queue.specs.Laws.{FollowsOwnership, LeavesSlotsAt, records_by, r
 use Rattle.slot_queue.proofs.Records.{in_order}
 use Rattle.tokens.specs.Tokens.{TokenLayout, lays, Holders, laid, taken_by, MayWrite, holders_next, May, holders, KeepsTokens, FollowsTokens, any_below}
 use Rattle.tokens.specs.Tokens.{covers_place, number_laid, lays_in}
-use Rattle.tokens.proofs.Held.{all_laid, laid-left, laid-from, all-from, KeepsWrites, none-some, two-harts, same-hart, laid-gone, taken-left, Held, found_free}
-use Rattle.tokens.proofs.Held.{took, may_then, theirs_swapped, left_by, step, opened, any-from, both-true, taken-here}
 use Rattle.tokens.specs.Roles.{is_holder, laid_first, in_memory, as_role, played, as_one_hart, FollowsRole, only, HoldsApart, as_two_harts, FollowsRoles}
-use Rattle.step_machine.specs.declared.events.Entry.TheVariants as entry
+use Rattle.tokens.proofs.Held.{owned, IsStill, nothing_still, load_still, fence_still, after-still, memory, memory-snoc, front, balanced_front, allowed_last}
+use Rattle.tokens.proofs.Held.{may_last, held_at, of-runs, after-store, after-land, after-other, all_laid, laid-left, laid-from, all-from, KeepsWrites}
+use Rattle.tokens.proofs.Held.{none-some, two-harts, same-hart, laid-gone, taken-left, Held, found_free, took, may_then, theirs_swapped, left_by, any-from}
+use Rattle.tokens.proofs.Held.{taken-here}
 
 -- ---- the pending stores of a hart up to the one by which it laid a token down, and those after it
 
@@ -131,6 +132,10 @@ pub holder-false : (x : Option ℕ) (h : ℕ) → is_holder x h ≡ false → x 
 holder-false None h nay is = none-some None h refl is
 holder-false (Some g) h nay is = let wrong : true ≡ false = sym (eq-eqb g h (same-hart g h is)) ∙ nay in cc
 
+holds-or : (x : Option ℕ) (h : ℕ) → (x ≡ Some h) ⊎ (x ≡ Some h → ⊥)
+holds-or None h = inr (none-some None h refl)
+holds-or (Some g) h = elim (cases_eq g h) [ inl same ↦ inl (ap Some same) | inr far ↦ inr (λ is. far (same-hart g h is)) ]
+
 -- what is pending of the role, and of the harts, in the run R with the role, where es is the run without, and m says whose the token is in
 -- memory
 pub record Turn (q : TokenLayout) (s V : ℕ) (B : ℕ) (o : OpeningValue) (es R : List Entry) (m : Holders) : Type 0 where
@@ -162,10 +167,7 @@ module _ (q : TokenLayout) (s V B : ℕ) (o : OpeningValue) (es R : List Entry) 
     pub all_of_role : (h : ℕ) → c s ≡ Some h → pending V R ≡ pending h es
     all_of_role h is =
         let there = w.to h s is in
-        t.role h (all-from q (pending h es) m s h there) ∙ upto-all q s (pending h es) m h there
-
-    pub role_held : (h : ℕ) → c s ≡ Some h → m s ≡ Some h
-    role_held h is = all-from q (pending h es) m s h (w.to h s is)
+        t.role h (owned q o es c m w h s is) ∙ upto-all q s (pending h es) m h there
 
     pub reads_same : (h x : ℕ) → c s ≡ Some h → read_byte o R V x ≡ read_byte o es h x
     reads_same h x is = same_byte V h x (all_of_role h is)
@@ -175,12 +177,11 @@ module _ (q : TokenLayout) (s V B : ℕ) (o : OpeningValue) (es R : List Entry) 
       Next d n = Turn q s V B o (es ++ e ∷ []) (R ++ d ∷ []) n
 
       -- neither stores, lands nor writes
-      pub quiet : (d : Entry) → Allowed B o R d → ((g : ℕ) → own_store g e ≡ []) → ((g : ℕ) → land_of g e ≡ 0) → write_of es e ≡ []
-          → ((g : ℕ) → own_store g d ≡ []) → ((g : ℕ) → land_of g d ≡ 0) → write_of R d ≡ [] → Next d m
-      quiet d may none still wrote none2 still2 wrote2 = record {
+      pub quiet : (d : Entry) → Allowed B o R d → IsStill (access_of e) → IsStill (access_of d) → Next d m
+      quiet d may k l = record {
         legal = goes_on d may;
-        landings = landed-last R d ∙ ap (λ ws. landed R ++ ws) wrote2 ∙ append-nil (landed R) ∙ t.landings ∙ sym (append-nil (landed es))
-            ∙ ap (λ ws. landed es ++ ws) (sym wrote) ∙ sym (landed-last es e);
+        landings = landed-last R d ∙ ap (λ ws. landed R ++ ws) (l.wrote (take 1 (pending (hart_of d) R))) ∙ append-nil (landed R) ∙ t.landings
+            ∙ sym (append-nil (landed es)) ∙ ap (λ ws. landed es ++ ws) (sym (k.wrote (take 1 (pending (hart_of e) es)))) ∙ sym (landed-last es e);
         role = λ g is. after V ∙ t.role g is ∙ ap (upto q s) (sym (before g));
         nobody = λ is. after V ∙ t.nobody is;
         rest = λ g other is. after g ∙ t.rest g other is ∙ ap (beyond q s) (sym (before g));
@@ -188,10 +189,10 @@ module _ (q : TokenLayout) (s V B : ℕ) (o : OpeningValue) (es R : List Entry) 
       }
         where
           before : (g : ℕ) → pending g (es ++ e ∷ []) ≡ pending g es
-          before g = pending-quiet es e g (le g) (none g) (still g)
+          before g = after-still es e le k g
 
           after : (g : ℕ) → pending g (R ++ d ∷ []) ≡ pending g R
-          after g = pending-quiet R d g (balance g) (none2 g) (still2 g)
+          after g = after-still R d balance l g
 
       -- ---- a store
 
@@ -202,22 +203,6 @@ module _ (q : TokenLayout) (s V B : ℕ) (o : OpeningValue) (es R : List Entry) 
         may_too : length (pending k R) ≤ length (pending (hart_of e) es) → Allowed B o R d
         may_too short = subst (λ h. AllowedBy B (pending h R) (read o R h) (access_of d)) (sym by_hart)
             (subst (AllowedBy B (pending k R) (read o R k)) (sym does2) (omega (arith, short, room)))
-
-        e_mine : pending (hart_of e) (es ++ e ∷ []) ≡ pending (hart_of e) es ++ v ∷ []
-        e_mine = pending-more es e (hart_of e) (le (hart_of e)) v (ap (stored_by (hart_of e == hart_of e)) does
-            ∙ ap (λ b. stored_by b (store v)) (eq-eqb (hart_of e) (hart_of e) refl)) (ap (landed_by (hart_of e == hart_of e)) does)
-
-        e_other : (g : ℕ) → hart_of e ≢ g → pending g (es ++ e ∷ []) ≡ pending g es
-        e_other g other = pending-quiet es e g (le g) (ap (stored_by (hart_of e == g)) does ∙ ap (λ b. stored_by b (store v)) (ne_eqb (hart_of e) g other))
-            (ap (landed_by (hart_of e == g)) does)
-
-        d_mine : pending k (R ++ d ∷ []) ≡ pending k R ++ v ∷ []
-        d_mine = pending-more R d k (balance k) v (ap (stored_by (hart_of d == k)) does2 ∙ ap (λ b. stored_by b (store v)) (eq-eqb (hart_of d) k by_hart))
-            (ap (landed_by (hart_of d == k)) does2)
-
-        d_other : (g : ℕ) → k ≢ g → pending g (R ++ d ∷ []) ≡ pending g R
-        d_other g other = pending-quiet R d g (balance g) (ap (stored_by (hart_of d == g)) does2
-            ∙ ap (λ b. stored_by b (store v)) (ne_eqb (hart_of d) g (λ same. other (sym by_hart ∙ same)))) (ap (landed_by (hart_of d == g)) does2)
 
         same_landings : landed (R ++ d ∷ []) ≡ landed (es ++ e ∷ [])
         same_landings = landed-last R d ∙ ap (λ ws. landed R ++ ws) (ap (written_by (take 1 (pending (hart_of d) R))) does2)
@@ -231,33 +216,33 @@ module _ (q : TokenLayout) (s V B : ℕ) (o : OpeningValue) (es R : List Entry) 
         role = λ g is. here g (two-harts (m s) g (hart_of e) is held);
         nobody = λ is. absurd (none-some (m s) (hart_of e) is held);
         rest = λ g other is. resting g other (two-harts (m s) g (hart_of e) is held);
-        others = λ g other is. d_other v does d V by_hart does2 g (λ same. other (sym same)) ∙ t.others g other is
-            ∙ sym (e_other v does d V by_hart does2 g (λ same. is (held ∙ ap Some same)));
+        others = λ g other is. after-other R d balance V by_hart g (λ same. other (sym same)) ∙ t.others g other is
+            ∙ sym (after-other es e le (hart_of e) refl g (λ same. is (held ∙ ap Some same)));
       }
         where
           there : all_laid q (pending (hart_of e) es) m s ≡ Some (hart_of e)
           there = w.to (hart_of e) s holds
 
           held : m s ≡ Some (hart_of e)
-          held = role_held (hart_of e) holds
+          held = owned q o es c m w (hart_of e) s holds
 
           here : (g : ℕ) → g ≡ hart_of e → pending V (R ++ d ∷ []) ≡ upto q s (pending g (es ++ e ∷ []))
-          here g is = d_mine v does d V by_hart does2 ∙ ap (λ ws. ws ++ v ∷ []) (all_of_role (hart_of e) holds)
-              ∙ sym (upto-more q s (pending (hart_of e) es) v m (hart_of e) there) ∙ ap (upto q s) (sym (e_mine v does d V by_hart does2))
+          here g is = after-store R d balance V by_hart v does2 ∙ ap (λ ws. ws ++ v ∷ []) (all_of_role (hart_of e) holds)
+              ∙ sym (upto-more q s (pending (hart_of e) es) v m (hart_of e) there) ∙ ap (upto q s) (sym (after-store es e le (hart_of e) refl v does))
               ∙ ap (λ k. upto q s (pending k (es ++ e ∷ []))) (sym is)
 
           resting : (g : ℕ) → g ≢ V → g ≡ hart_of e → pending g (R ++ d ∷ []) ≡ beyond q s (pending g (es ++ e ∷ []))
-          resting g other is = d_other v does d V by_hart does2 g (λ same. other (sym same)) ∙ t.rest g other (held ∙ ap Some (sym is))
+          resting g other is = after-other R d balance V by_hart g (λ same. other (sym same)) ∙ t.rest g other (held ∙ ap Some (sym is))
               ∙ ap (λ k. beyond q s (pending k es)) is ∙ beyond-none q s (pending (hart_of e) es) m (hart_of e) there
-              ∙ sym (beyond-still q s (pending (hart_of e) es) v m (hart_of e) there) ∙ ap (beyond q s) (sym (e_mine v does d V by_hart does2))
+              ∙ sym (beyond-still q s (pending (hart_of e) es) v m (hart_of e) there) ∙ ap (beyond q s) (sym (after-store es e le (hart_of e) refl v does))
               ∙ ap (λ k. beyond q s (pending k (es ++ e ∷ []))) (sym is)
 
       pub by_other : (v : Write) → access_of e ≡ store v → (d : Entry) → hart_of d ≡ hart_of e → access_of d ≡ store v → (c s ≡ Some (hart_of e) → ⊥) → Next d m
       by_other v does d by_hart does2 free = record {
-        legal = goes_on d (may_too v does d (hart_of e) by_hart does2 (short (cases (m s) refl)));
+        legal = goes_on d (may_too v does d (hart_of e) by_hart does2 (short (holds-or (m s) (hart_of e))));
         landings = same_landings v does d (hart_of e) by_hart does2;
-        role = λ g is. d_other v does d (hart_of e) by_hart does2 V new ∙ t.role g is ∙ cut g is (cases_eq (hart_of e) g);
-        nobody = λ is. d_other v does d (hart_of e) by_hart does2 V new ∙ t.nobody is;
+        role = λ g is. after-other R d balance (hart_of e) by_hart V new ∙ t.role g is ∙ cut g is (cases_eq (hart_of e) g);
+        nobody = λ is. after-other R d balance (hart_of e) by_hart V new ∙ t.nobody is;
         rest = λ g other is. resting g other is (cases_eq (hart_of e) g);
         others = λ g other is. same g other is (cases_eq (hart_of e) g);
       }
@@ -265,43 +250,33 @@ module _ (q : TokenLayout) (s V B : ℕ) (o : OpeningValue) (es R : List Entry) 
           laid_down : m s ≡ Some (hart_of e) → all_laid q (pending (hart_of e) es) m s ≡ Some (hart_of e) → ⊥
           laid_down is there = free (w.from (hart_of e) s there)
 
-          cases : (x : Option ℕ) → m s ≡ x → (m s ≡ Some (hart_of e)) ⊎ (m s ≡ Some (hart_of e) → ⊥)
-          cases None is = inr (λ held. none-some (m s) (hart_of e) is held)
-          cases (Some g) is = elim (cases_eq g (hart_of e)) [
-            | inl same ↦ inl (is ∙ ap Some same)
-            | inr other ↦ inr (λ held. other (two-harts (m s) g (hart_of e) is held))
-          ]
-
-          shorter : (ws : List Write) → length (beyond q s ws) ≤ length ws
-          shorter ws = beyond-short q s ws
-
           short : (m s ≡ Some (hart_of e)) ⊎ (m s ≡ Some (hart_of e) → ⊥) → length (pending (hart_of e) R) ≤ length (pending (hart_of e) es)
-          short (inl held) = let same = ap length (t.rest (hart_of e) new held) in let le = shorter (pending (hart_of e) es) in omega (arith, same, le)
+          short (inl held) = let same = ap length (t.rest (hart_of e) new held) in let le = beyond-short q s (pending (hart_of e) es) in omega (arith, same, le)
           short (inr not) = let same = ap length (t.others (hart_of e) new not) in omega (arith, same)
 
           cut : (g : ℕ) → m s ≡ Some g → (hart_of e ≡ g) ⊎ (hart_of e ≢ g) → upto q s (pending g es) ≡ upto q s (pending g (es ++ e ∷ []))
           cut g is (inl here) =
               let held : m s ≡ Some (hart_of e) = is ∙ ap Some (sym here) in
               ap (λ k. upto q s (pending k es)) (sym here) ∙ sym (upto-kept q s (pending (hart_of e) es) v m (hart_of e) held (laid_down held))
-              ∙ ap (upto q s) (sym (e_mine v does d (hart_of e) by_hart does2)) ∙ ap (λ k. upto q s (pending k (es ++ e ∷ []))) here
-          cut g is (inr other) = ap (upto q s) (sym (e_other v does d (hart_of e) by_hart does2 g other))
+              ∙ ap (upto q s) (sym (after-store es e le (hart_of e) refl v does)) ∙ ap (λ k. upto q s (pending k (es ++ e ∷ []))) here
+          cut g is (inr other) = ap (upto q s) (sym (after-other es e le (hart_of e) refl g other))
 
           resting : (g : ℕ) → g ≢ V → m s ≡ Some g → (hart_of e ≡ g) ⊎ (hart_of e ≢ g) → pending g (R ++ d ∷ []) ≡ beyond q s (pending g (es ++ e ∷ []))
           resting g far is (inl here) =
               let held : m s ≡ Some (hart_of e) = is ∙ ap Some (sym here) in
-              ap (λ k. pending k (R ++ d ∷ [])) (sym here) ∙ d_mine v does d (hart_of e) by_hart does2
+              ap (λ k. pending k (R ++ d ∷ [])) (sym here) ∙ after-store R d balance (hart_of e) by_hart v does2
               ∙ ap (λ ws. ws ++ v ∷ []) (t.rest (hart_of e) new held)
               ∙ sym (beyond-more q s (pending (hart_of e) es) v m (hart_of e) held (laid_down held))
-              ∙ ap (beyond q s) (sym (e_mine v does d (hart_of e) by_hart does2)) ∙ ap (λ k. beyond q s (pending k (es ++ e ∷ []))) here
-          resting g far is (inr other) = d_other v does d (hart_of e) by_hart does2 g other ∙ t.rest g far is
-              ∙ ap (beyond q s) (sym (e_other v does d (hart_of e) by_hart does2 g other))
+              ∙ ap (beyond q s) (sym (after-store es e le (hart_of e) refl v does)) ∙ ap (λ k. beyond q s (pending k (es ++ e ∷ []))) here
+          resting g far is (inr other) = after-other R d balance (hart_of e) by_hart g other ∙ t.rest g far is
+              ∙ ap (beyond q s) (sym (after-other es e le (hart_of e) refl g other))
 
           same : (g : ℕ) → g ≢ V → (m s ≡ Some g → ⊥) → (hart_of e ≡ g) ⊎ (hart_of e ≢ g) → pending g (R ++ d ∷ []) ≡ pending g (es ++ e ∷ [])
-          same g far not (inl here) = ap (λ k. pending k (R ++ d ∷ [])) (sym here) ∙ d_mine v does d (hart_of e) by_hart does2
+          same g far not (inl here) = ap (λ k. pending k (R ++ d ∷ [])) (sym here) ∙ after-store R d balance (hart_of e) by_hart v does2
               ∙ ap (λ ws. ws ++ v ∷ []) (t.others (hart_of e) new (λ held. not (held ∙ ap Some here)))
-              ∙ sym (e_mine v does d (hart_of e) by_hart does2) ∙ ap (λ k. pending k (es ++ e ∷ [])) here
-          same g far not (inr other) = d_other v does d (hart_of e) by_hart does2 g other ∙ t.others g far not
-              ∙ sym (e_other v does d (hart_of e) by_hart does2 g other)
+              ∙ sym (after-store es e le (hart_of e) refl v does) ∙ ap (λ k. pending k (es ++ e ∷ [])) here
+          same g far not (inr other) = after-other R d balance (hart_of e) by_hart g other ∙ t.others g far not
+              ∙ sym (after-other es e le (hart_of e) refl g other)
 
       -- ---- a landing of the oldest store v
 
@@ -310,22 +285,6 @@ module _ (q : TokenLayout) (s V B : ℕ) (o : OpeningValue) (es R : List Entry) 
         may_land : Allowed B o R d
         may_land = subst (λ h. AllowedBy B (pending h R) (read o R h) (access_of d)) (sym by_hart)
             (subst (AllowedBy B (pending k R) (read o R k)) (sym does2) (let some = ap length oldest2 in omega (arith, some)))
-
-        lands_mine : pending (hart_of e) (es ++ e ∷ []) ≡ later
-        lands_mine = pending-first es e (hart_of e) (le (hart_of e)) v later oldest (ap (stored_by (hart_of e == hart_of e)) does)
-            (ap (landed_by (hart_of e == hart_of e)) does ∙ ap (λ b. landed_by b land) (eq-eqb (hart_of e) (hart_of e) refl))
-
-        lands_other : (g : ℕ) → hart_of e ≢ g → pending g (es ++ e ∷ []) ≡ pending g es
-        lands_other g other = pending-quiet es e g (le g) (ap (stored_by (hart_of e == g)) does)
-            (ap (landed_by (hart_of e == g)) does ∙ ap (λ b. landed_by b land) (ne_eqb (hart_of e) g other))
-
-        lands_mine2 : pending k (R ++ d ∷ []) ≡ later2
-        lands_mine2 = pending-first R d k (balance k) v later2 oldest2 (ap (stored_by (hart_of d == k)) does2)
-            (ap (landed_by (hart_of d == k)) does2 ∙ ap (λ b. landed_by b land) (eq-eqb (hart_of d) k by_hart))
-
-        lands_other2 : (g : ℕ) → k ≢ g → pending g (R ++ d ∷ []) ≡ pending g R
-        lands_other2 g other = pending-quiet R d g (balance g) (ap (stored_by (hart_of d == g)) does2)
-            (ap (landed_by (hart_of d == g)) does2 ∙ ap (λ b. landed_by b land) (ne_eqb (hart_of d) g (λ same. other (sym by_hart ∙ same))))
 
         landed_both : landed (R ++ d ∷ []) ≡ landed (es ++ e ∷ [])
         landed_both = landed-last R d ∙ ap (λ ws. landed R ++ ws) (ap (written_by (take 1 (pending (hart_of d) R))) does2
@@ -346,17 +305,17 @@ module _ (q : TokenLayout) (s V B : ℕ) (o : OpeningValue) (es R : List Entry) 
               legal = goes_on d (may_land does v later oldest d V by_hart does2 [] first);
               landings = landed_both does v later oldest d V by_hart does2 [] first;
               role = λ g is. absurd (none-some (laid q v m s) g (laid-gone q v m s yea) is);
-              nobody = λ is. lands_mine2 does v later oldest d V by_hart does2 [] first;
+              nobody = λ is. after-land R d balance V by_hart v [] does2 first;
               rest = λ g far is. absurd (none-some (laid q v m s) g (laid-gone q v m s yea) is);
-              others = λ g far is. lands_other2 does v later oldest d V by_hart does2 [] first g (λ same. far (sym same))
+              others = λ g far is. after-other R d balance V by_hart g (λ same. far (sym same))
                   ∙ all_else g far (cases_eq (hart_of e) g) first;
             }
           where
             all_else : (g : ℕ) → g ≢ V → (hart_of e ≡ g) ⊎ (hart_of e ≢ g) → pending V R ≡ v ∷ [] → pending g R ≡ pending g (es ++ e ∷ [])
             all_else g far (inl here) first = ap (λ k. pending k R) (sym here) ∙ t.rest (hart_of e) new held ∙ ap (beyond q s) oldest
-                ∙ beyond-yes q s v later yea ∙ sym (lands_mine does v later oldest d V by_hart does2 [] first) ∙ ap (λ k. pending k (es ++ e ∷ [])) here
+                ∙ beyond-yes q s v later yea ∙ sym (after-land es e le (hart_of e) refl v later does oldest) ∙ ap (λ k. pending k (es ++ e ∷ [])) here
             all_else g far (inr other) first = t.others g far (λ is. other (two-harts (m s) (hart_of e) g held is))
-                ∙ sym (lands_other does v later oldest d V by_hart does2 [] first g other)
+                ∙ sym (after-other es e le (hart_of e) refl g other)
 
         pub lays_none : lays q v s ≡ false → Next d (laid q v m)
         lays_none nay =
@@ -364,15 +323,15 @@ module _ (q : TokenLayout) (s V B : ℕ) (o : OpeningValue) (es R : List Entry) 
             record {
               legal = goes_on d (may_land does v later oldest d V by_hart does2 (upto q s later) first);
               landings = landed_both does v later oldest d V by_hart does2 (upto q s later) first;
-              role = λ g is. lands_mine2 does v later oldest d V by_hart does2 (upto q s later) first
-                  ∙ ap (upto q s) (sym (lands_mine does v later oldest d V by_hart does2 (upto q s later) first))
+              role = λ g is. after-land R d balance V by_hart v (upto q s later) does2 first
+                  ∙ ap (upto q s) (sym (after-land es e le (hart_of e) refl v later does oldest))
                   ∙ ap (λ k. upto q s (pending k (es ++ e ∷ []))) (two-harts (m s) (hart_of e) g held (still is));
               nobody = λ is. absurd (none-some (m s) (hart_of e) (sym (laid-left q v m s nay) ∙ is) held);
-              rest = λ g far is. lands_other2 does v later oldest d V by_hart does2 (upto q s later) first g (λ same. far (sym same))
+              rest = λ g far is. after-other R d balance V by_hart g (λ same. far (sym same))
                   ∙ resting g (two-harts (m s) (hart_of e) g held (still is)) first;
-              others = λ g far is. lands_other2 does v later oldest d V by_hart does2 (upto q s later) first g (λ same. far (sym same))
+              others = λ g far is. after-other R d balance V by_hart g (λ same. far (sym same))
                   ∙ t.others g far (λ there. is (laid-left q v m s nay ∙ there))
-                  ∙ sym (lands_other does v later oldest d V by_hart does2 (upto q s later) first g (λ same. is (laid-left q v m s nay ∙ held ∙ ap Some same)));
+                  ∙ sym (after-other es e le (hart_of e) refl g (λ same. is (laid-left q v m s nay ∙ held ∙ ap Some same)));
             }
           where
             still : {g : ℕ} → laid q v m s ≡ Some g → m s ≡ Some g
@@ -380,7 +339,7 @@ module _ (q : TokenLayout) (s V B : ℕ) (o : OpeningValue) (es R : List Entry) 
 
             resting : (g : ℕ) → hart_of e ≡ g → pending V R ≡ v ∷ upto q s later → pending g R ≡ beyond q s (pending g (es ++ e ∷ []))
             resting g here first = ap (λ k. pending k R) (sym here) ∙ t.rest (hart_of e) new held ∙ ap (beyond q s) oldest
-                ∙ beyond-not q s v later nay ∙ ap (beyond q s) (sym (lands_mine does v later oldest d V by_hart does2 (upto q s later) first))
+                ∙ beyond-not q s v later nay ∙ ap (beyond q s) (sym (after-land es e le (hart_of e) refl v later does oldest))
                 ∙ ap (λ k. beyond q s (pending k (es ++ e ∷ []))) here
 
       -- of another hart
@@ -403,25 +362,21 @@ module _ (q : TokenLayout) (s V B : ℕ) (o : OpeningValue) (es R : List Entry) 
           may_write = (subst (KeepsWrites q (hart_of e) m) oldest (w.tidy (hart_of e))).0
 
           not_laid : lays q v s ≡ false
-          not_laid = by (lays q v s) refl
-            where
-              by : (b : Bool) → lays q v s ≡ b → lays q v s ≡ false
-              by false nay = nay
-              by true yea = absurd (free (may_write.held s yea))
+          not_laid = false_from_ne_true (lays q v s) (λ yea. free (may_write.held s yea))
 
           still : (g : ℕ) → laid q v m s ≡ Some g → m s ≡ Some g
           still g is = (laid-from q v m s g is).1
 
           away : (g : ℕ) → hart_of e ≢ g → pending g (R ++ d ∷ []) ≡ pending g R
-          away g other = lands_other2 does v later oldest d (hart_of e) by_hart does2 later first g other
+          away g other = after-other R d balance (hart_of e) by_hart g other
 
           left_there : (g : ℕ) → hart_of e ≢ g → pending g (es ++ e ∷ []) ≡ pending g es
-          left_there g other = lands_other does v later oldest d (hart_of e) by_hart does2 later first g other
+          left_there g other = after-other es e le (hart_of e) refl g other
 
           other_ones : (g : ℕ) → g ≢ V → (m s ≡ Some g → ⊥) → (hart_of e ≡ g) ⊎ (hart_of e ≢ g) → pending g (R ++ d ∷ []) ≡ pending g (es ++ e ∷ [])
           other_ones g far not (inl here) = ap (λ k. pending k (R ++ d ∷ [])) (sym here)
-              ∙ lands_mine2 does v later oldest d (hart_of e) by_hart does2 later first
-              ∙ sym (lands_mine does v later oldest d (hart_of e) by_hart does2 later first) ∙ ap (λ k. pending k (es ++ e ∷ [])) here
+              ∙ after-land R d balance (hart_of e) by_hart v later does2 first
+              ∙ sym (after-land es e le (hart_of e) refl v later does oldest) ∙ ap (λ k. pending k (es ++ e ∷ [])) here
           other_ones g far not (inr other) = away g other ∙ t.others g far not ∙ sym (left_there g other)
 
       -- ---- an AMO
@@ -440,7 +395,7 @@ module _ (q : TokenLayout) (s V B : ℕ) (o : OpeningValue) (es R : List Entry) 
         role = λ g is. after V ∙ role_then g (took_it g (laid-from q n ms s g is).1) ∙ ap (upto q s) (sym (before g));
         nobody = λ is. after V ∙ none_then is (lays q n s) refl;
         rest = λ g far is. after g ∙ rest_then g far (took_it g (laid-from q n ms s g is).1) ∙ ap (beyond q s) (sym (before g));
-        others = λ g far is. after g ∙ others_then g far is (known g (m s) refl) ∙ sym (before g);
+        others = λ g far is. after g ∙ others_then g far is (holds-or (m s) g) ∙ sym (before g);
       }
         where
           n : Write
@@ -493,13 +448,6 @@ module _ (q : TokenLayout) (s V B : ℕ) (o : OpeningValue) (es R : List Entry) 
               t.others g far (λ is. none-some (m s) g (free yea.0) is) ∙ none ∙ ap (beyond q s) (sym none)
           rest_then g far (inr nay) = t.rest g far nay.1
 
-          known : (g : ℕ) (x : Option ℕ) → m s ≡ x → (m s ≡ Some g) ⊎ (m s ≡ Some g → ⊥)
-          known g None is = inr (λ held. none-some (m s) g is held)
-          known g (Some f) is = elim (cases_eq f g) [
-            | inl same ↦ inl (is ∙ ap Some same)
-            | inr other ↦ inr (λ held. other (two-harts (m s) f g is held))
-          ]
-
           others_then : (g : ℕ) → g ≢ V → (laid q n ms s ≡ Some g → ⊥) → (m s ≡ Some g) ⊎ (m s ≡ Some g → ⊥) → pending g R ≡ pending g es
           others_then g far not (inr never) = t.others g far never
           others_then g far not (inl held) = elim (cases_eq (hart_of e) g) [
@@ -513,22 +461,31 @@ module _ (q : TokenLayout) (s V B : ℕ) (o : OpeningValue) (es R : List Entry) 
 
 -- ---- every run in which one hart plays a token's role, by induction
 
+pub played-snoc : (q : TokenLayout) (s V : ℕ) (before : List Entry) (c m : Holders) (es : List Entry) (d : Entry)
+    → played q s V before c m (es ++ d ∷ [])
+    ≡ played q s V before c m es ++ as_role V (is_holder (holders q c es s) (hart_of d)) (is_holder (memory q before m es s) (hart_of d)) d ∷ []
+played-snoc q s V before c m [] d = refl
+played-snoc q s V before c m (e ∷ es) d = ap (λ xs. as_role V (is_holder (c s) (hart_of e)) (is_holder (m s) (hart_of e)) e ∷ xs)
+    (played-snoc q s V (before ++ e ∷ []) (holders_next q c e) (in_memory q before e m) es d)
+
 module _ (q : TokenLayout) (s V B : ℕ) (o : OpeningValue) where
   module _ (es R : List Entry) (m : Holders) (t : Turn q s V B o es R m) (c : Holders) (w : Held q o es c m)
       (le : (g : ℕ) → lands g es ≤ length (own_stores g es)) where
     abbrev Then : Entry → Entry → Holders → Type 0
     Then e d n = Turn q s V B o (es ++ e ∷ []) (R ++ d ∷ []) n
 
+    role_still : (e : Entry) → Allowed B o es e → hart_of e ≢ V → (d : Entry) → Allowed B o R d → IsStill (access_of e) → IsStill (access_of d) → Then e d m
+    role_still e allowed new d = quiet q s V B o es R m t c w e le allowed new d
+
     role_loads : (h a width v : ℕ) → Allowed B o es (entry.Load h a width v) → h ≢ V → (b : Bool) → is_holder (c s) h ≡ b → (l : Bool) → is_holder (m s) h ≡ l
         → Then (entry.Load h a width v) (if b then entry.Load V a width v else (if l then entry.Inner h else entry.Load h a width v)) m
-    role_loads h a width v allowed new true yea l is = quiet q s V B o es R m t c w (entry.Load h a width v) le allowed new (entry.Load V a width v)
+    role_loads h a width v allowed new true yea l is = role_still (entry.Load h a width v) allowed new (entry.Load V a width v)
         (allowed ∙ sym (same_read q s V B o es R m t V h a width (all_of_role q s V B o es R m t c w h (holder-true (c s) h yea))))
-        (λ g. refl) (λ g. refl) refl (λ g. refl) (λ g. refl) refl
-    role_loads h a width v allowed new false nay false not = quiet q s V B o es R m t c w (entry.Load h a width v) le allowed new (entry.Load h a width v)
-        (allowed ∙ sym (same_read q s V B o es R m t h h a width (t.others h new (holder-false (m s) h not)))) (λ g. refl) (λ g. refl) refl (λ g. refl)
-        (λ g. refl) refl
-    role_loads h a width v allowed new false nay true still = quiet q s V B o es R m t c w (entry.Load h a width v) le allowed new (entry.Inner h) tt
-        (λ g. refl) (λ g. refl) refl (λ g. refl) (λ g. refl) refl
+        (load_still a width v) (load_still a width v)
+    role_loads h a width v allowed new false nay false not = role_still (entry.Load h a width v) allowed new (entry.Load h a width v)
+        (allowed ∙ sym (same_read q s V B o es R m t h h a width (t.others h new (holder-false (m s) h not)))) (load_still a width v) (load_still a width v)
+    role_loads h a width v allowed new false nay true laid_down =
+        role_still (entry.Load h a width v) allowed new (entry.Inner h) tt (load_still a width v) nothing_still
 
     role_stores : (h a width v : ℕ) → Allowed B o es (entry.Store h a width v) → h ≢ V → (b : Bool) → is_holder (c s) h ≡ b
         → Then (entry.Store h a width v) (entry.Store (if b then V else h) a width v) m
@@ -558,50 +515,14 @@ module _ (q : TokenLayout) (s V B : ℕ) (o : OpeningValue) where
         by false none = lays_none q s V B o es R m t c w (entry.Land h) le allowed new refl v later oldest
             (holder-true (m s) h yea) (entry.Land V) refl refl none
 
-    role_others : (e : Entry) → Allowed B o es e → hart_of e ≢ V → (d : Entry) → Allowed B o R d
-        → ((g : ℕ) → own_store g e ≡ []) → ((g : ℕ) → land_of g e ≡ 0)
-        → write_of es e ≡ [] → ((g : ℕ) → own_store g d ≡ [])
-        → ((g : ℕ) → land_of g d ≡ 0) → write_of R d ≡ [] → Then e d m
-    role_others e allowed new d may = quiet q s V B o es R m t c w e le allowed new d may
-
     pub role_one : (e : Entry) → Allowed B o es e → hart_of e ≢ V → May q (hart_of e) c (access_of e)
         → Then e (as_role V (is_holder (c s) (hart_of e)) (is_holder (m s) (hart_of e)) e) (in_memory q es e m)
     role_one (entry.Load h a width v) allowed new may = role_loads h a width v allowed new (is_holder (c s) h) refl (is_holder (m s) h) refl
     role_one (entry.Store h a width v) allowed new may = role_stores h a width v allowed new (is_holder (c s) h) refl
     role_one (entry.Amo h a old n) allowed new may = swaps h a old n allowed new may (is_holder (c s) h) refl
     role_one (entry.Land h) allowed new may = role_landing h allowed new (is_holder (m s) h) refl (pending h es) refl
-    role_one (entry.Fence h full) allowed new may = role_others (entry.Fence h full) allowed new (entry.Inner h) tt
-        (λ g. refl) (λ g. refl) refl (λ g. refl) (λ g. refl) refl
-    role_one (entry.Inner h) allowed new may = role_others (entry.Inner h) allowed new (entry.Inner h) tt
-        (λ g. refl) (λ g. refl) refl (λ g. refl) (λ g. refl) refl
-    role_one (entry.Next h x) allowed new may = role_others (entry.Next h x) allowed new (entry.Next h x) tt
-        (λ g. refl) (λ g. refl) refl (λ g. refl) (λ g. refl) refl
-    role_one (entry.Took h i x) allowed new may = role_others (entry.Took h i x) allowed new (entry.Took h i x) tt
-        (λ g. refl) (λ g. refl) refl (λ g. refl) (λ g. refl) refl
-    role_one (entry.Closed h i) allowed new may = role_others (entry.Closed h i) allowed new (entry.Closed h i) tt
-        (λ g. refl) (λ g. refl) refl (λ g. refl) (λ g. refl) refl
-    role_one (entry.Ended h) allowed new may = role_others (entry.Ended h) allowed new (entry.Ended h) tt
-        (λ g. refl) (λ g. refl) refl (λ g. refl) (λ g. refl) refl
-    role_one (entry.Stopped h why) allowed new may =
-        role_others (entry.Stopped h why) allowed new (entry.Stopped h why) tt (λ g. refl) (λ g. refl) refl (λ g. refl)
-        (λ g. refl) refl
-
-  abbrev Played : List Entry → List Entry → Holders → Type 0
-  Played es R c = (n : Holders) × Turn q s V B o es R n × Held q o es c n
-
-  turns : (done R rest : List Entry) (c m : Holders) → ((g : ℕ) → lands g done ≤ length (own_stores g done)) → LegalAfter B o done rest
-      → KeepsTokens q c rest → All (λ e. hart_of e ≢ V) rest → Held q o done c m → Turn q s V B o done R m
-      → Played (done ++ rest) (R ++ played q s V done c m rest) (holders q c rest)
-  turns done R [] c m le legal keeps fresh w t = subst (λ xs. Played xs (R ++ []) c) (sym (append-nil done))
-      (subst (λ ys. Played done ys c) (sym (append-nil R)) (m, t, w))
-  turns done R (e ∷ rest) c m le legal keeps fresh w t =
-      let d : Entry = as_role V (is_holder (c s) (hart_of e)) (is_holder (m s) (hart_of e)) e in
-      let new : hart_of e ≢ V = All-head (λ x. hart_of x ≢ V) e rest fresh in
-      let rest_played : List Entry = played q s V (done ++ e ∷ []) (holders_next q c e) (in_memory q done e m) rest in
-      subst (λ xs. Played xs (R ++ d ∷ rest_played) (holders q (holders_next q c e) rest)) (append_assoc done (e ∷ []) rest)
-      (subst (λ ys. Played ((done ++ e ∷ []) ++ rest) ys (holders q (holders_next q c e) rest)) (append_assoc R (d ∷ []) rest_played)
-      (turns (done ++ e ∷ []) (R ++ d ∷ []) rest (holders_next q c e) (in_memory q done e m) (λ g. balanced-last B o done g e legal.0 (le g)) legal.1 keeps.1
-      (All-tail (λ x. hart_of x ≢ V) e rest fresh) (step B q o done e c m w le legal.0 keeps.0) (role_one done R m t c w le e legal.0 new keeps.0)))
+    role_one (entry.Fence h full) allowed new may = role_still (entry.Fence h full) allowed new (entry.Inner h) tt (fence_still full) nothing_still
+    role_one e allowed new may = role_still e allowed new e tt nothing_still nothing_still
 
   pub nothing_yet : (start : Holders) → Turn q s V B o [] [] start
   nothing_yet start = record {
@@ -613,16 +534,29 @@ module _ (q : TokenLayout) (s V B : ℕ) (o : OpeningValue) where
     others = λ g far is. refl;
   }
 
-  -- the run with the role is legal, leaves the same memory, and its hart reads what the token's holder reads
-  pub plays : (start : Holders) (es : List Entry) → FollowsTokens B q start o es → All (λ e. hart_of e ≢ V) es
-      → Legal B (history_of o (as_one_hart q s V start es)) × ((x : ℕ) → memory_byte o (as_one_hart q s V start es) x ≡ memory_byte o es x)
-      × ((h x : ℕ) → holders q start es s ≡ Some h → read_byte o (as_one_hart q s V start es) V x ≡ read_byte o es h x)
-  plays start es f fresh =
-      let end = turns [] [] es start start (λ g. omega arith) f.legal f.keeps fresh (opened B q o start f.opens) (nothing_yet start) in (
-        end.1.legal,
-        same_memory q s V B o es (as_one_hart q s V start es) end.0 end.1,
-        λ h x is. reads_same q s V B o es (as_one_hart q s V start es) end.0 end.1 (holders q start es) end.2 h x is,
-      )
+  module _ (start : Holders) where
+    abbrev pub TurnOf : List Entry → Type 0
+    TurnOf es = Turn q s V B o es (as_one_hart q s V start es) (memory q [] start es)
+
+    pub turn_next : (es : List Entry) (e : Entry) → FollowsTokens B q start o (es ++ e ∷ []) → hart_of e ≢ V → TurnOf es → TurnOf (es ++ e ∷ [])
+    turn_next es e f new t = subst (Turn q s V B o (es ++ e ∷ []) (as_one_hart q s V start (es ++ e ∷ []))) (sym (memory-snoc q [] start es e))
+        (subst (λ xs. Turn q s V B o (es ++ e ∷ []) xs (in_memory q es e (memory q [] start es))) (sym (played-snoc q s V [] start start es e))
+        (role_one es (as_one_hart q s V start es) (memory q [] start es) t (holders q start es) (held_at B q o start es (front B q o start es e f))
+        (balanced_front B q o start es e f) e (allowed_last B q o start es e f) new (may_last B q o start es e f)))
+
+    turn_of : (es : List Entry) → FollowsTokens B q start o es → All (λ e. hart_of e ≢ V) es → TurnOf es
+    turn_of es f = of-runs B q o start (λ xs. All (λ e. hart_of e ≢ V) xs → TurnOf xs) (λ all. nothing_yet start)
+        (λ xs e g t all. (let parts = All-pop (λ d. hart_of d ≢ V) (xs ++ e ∷ []) xs (Some e) refl all in turn_next xs e g parts.1 (t parts.0))) es f
+
+    -- the run with the role is legal, leaves the same memory, and its hart reads what the token's holder reads
+    pub plays : (es : List Entry) → FollowsTokens B q start o es → All (λ e. hart_of e ≢ V) es
+        → Legal B (history_of o (as_one_hart q s V start es)) × ((x : ℕ) → memory_byte o (as_one_hart q s V start es) x ≡ memory_byte o es x)
+        × ((h x : ℕ) → holders q start es s ≡ Some h → read_byte o (as_one_hart q s V start es) V x ≡ read_byte o es h x)
+    plays es f fresh = (
+      (turn_of es f fresh).legal,
+      same_memory q s V B o es (as_one_hart q s V start es) (memory q [] start es) (turn_of es f fresh),
+      reads_same q s V B o es (as_one_hart q s V start es) (memory q [] start es) (turn_of es f fresh) (holders q start es) (held_at B q o start es f),
+    )
 
 -- ---- the laws of ownership of a run in which the sender's role is handed on
 
@@ -663,17 +597,13 @@ module _ (q : TokenLayout) (r : ℕ) where
   same-lays w = same-below w q.places
 
   lies-all : (i v t : ℕ) → (only q r).lies i v t ≡ true → (q.lies i v t ≡ true) × (t ≡ r)
-  lies-all i v t is = let parts = both-true (q.lies i v t) (t == r) is in (parts.0, eqb-true t r parts.1)
+  lies-all i v t is = let parts = and_parts (q.lies i v t) (t == r) is in (parts.0, eqb-true t r parts.1)
 
   in-all : (w : Write) (t i : ℕ) → lays_in (only q r) w t i ≡ true → (lays_in q w t i ≡ true) × (t ≡ r)
   in-all w t i is =
-      let parts = both-true (covers_place q w i) ((only q r).lies i (number_laid q w i) t) is in
+      let parts = and_parts (covers_place q w i) ((only q r).lies i (number_laid q w i) t) is in
       let lies = lies-all i (number_laid q w i) t parts.1 in
-      (by (covers_place q w i) (q.lies i (number_laid q w i) t) parts.0 lies.0, lies.1)
-    where
-      by : (a b : Bool) → a ≡ true → b ≡ true → (a && b) ≡ true
-      by true b keeps_one two = two
-      by false b keeps_one two = keeps_one
+      (and_from (covers_place q w i) (q.lies i (number_laid q w i) t) parts.0 lies.0, lies.1)
 
   -- only token r is laid down
   laid-r : (w : Write) (t : ℕ) → lays (only q r) w t ≡ true → t ≡ r
@@ -748,14 +678,9 @@ module _ (q : TokenLayout) (r : ℕ) where
       writes_swapped h c d (write a 4 old) (write a 4 n) same may (λ is. (apart is).0) (role c h) refl,
       swapped_same h c d (write a 4 old) (write a 4 n) same (λ is. (apart is).1) (role c h) refl,
     )
-    keeps_one (entry.Land h) c m d same may apart = (tt, same)
     keeps_one (entry.Fence h full) c m d same may apart = (tt, same)
-    keeps_one (entry.Inner h) c m d same may apart = (tt, same)
-    keeps_one (entry.Next h x) c m d same may apart = (tt, same)
-    keeps_one (entry.Took h i x) c m d same may apart = (tt, same)
-    keeps_one (entry.Closed h i) c m d same may apart = (tt, same)
-    keeps_one (entry.Ended h) c m d same may apart = (tt, same)
-    keeps_one (entry.Stopped h why) c m d same may apart = (tt, same)
+    keeps_one (entry.Land h) c m d same may apart = (tt, same)
+    keeps_one e c m d same may apart = (tt, same)
 
     keeps_played : (before es : List Entry) (c m d : Holders) → d r ≡ c r → KeepsTokens q c es → HoldsApart q s r c es
         → KeepsTokens (only q r) d (played q s V before c m es)
@@ -786,12 +711,7 @@ module _ (q : TokenLayout) (r : ℕ) where
         acts (entry.Land h) b true far = other
         acts (entry.Land h) b false far = far
         acts (entry.Fence h full) b l far = far
-        acts (entry.Inner h) b l far = far
-        acts (entry.Next h x) b l far = far
-        acts (entry.Took h i x) b l far = far
-        acts (entry.Closed h i) b l far = far
-        acts (entry.Ended h) b l far = far
-        acts (entry.Stopped h why) b l far = far
+        acts e b l far = far
 
 pub both_follow : (B : ℕ) (q : TokenLayout) (s r : ℕ) (start : Holders) (k : Queue) (n : QueueCounts) (o : OpeningValue) (es : List Entry)
     → FollowsRoles B q s r start k n o es → FollowsOwnership B k n o [] (as_two_harts q s r k start es)

@@ -5,11 +5,11 @@ use Rattle.hart.specs.State.{HartState}
 use Rattle.step_machine.specs.declared.events.Entry.{Entry}
 use Rattle.step_machine.specs.History.{OpeningValue}
 use Rattle.step_machine.specs.Access.{access_of}
-use Rattle.certified_runs.specs.Views.{View, number_seen, view_then}
-use Rattle.certified_runs.specs.Certified.{Acts, Protocol}
 use Rattle.queue_parties.specs.Parties.{Party, the_sender, the_receiver, QueueCounts}
 use Rattle.slot_queue.specs.Queues.{Queue}
 use Rattle.slot_queue.specs.Ownership.{after_access, KeepsAccess}
+use Rattle.certified_runs.specs.Views.{View, number_seen, view_then}
+use Rattle.certified_runs.specs.Certified.{Acts, Protocol}
 use Rattle.queue_certificates.specs.OwnedRuns.{SeesIndices}
 use Rattle.tokens.specs.Tokens.{TokenLayout, lays, Holders, holders_then, May, lays_down}
 use Rattle.tokens.specs.Roles.{is_holder}

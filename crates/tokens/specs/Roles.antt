@@ -7,11 +7,11 @@ use Rattle.step_machine.specs.declared.events.Entry.{Entry}
 use Rattle.step_machine.specs.Access.{Access, exchange, land, access_of}
 use Rattle.step_machine.specs.Entries.{hart_of, pending}
 use Rattle.step_machine.specs.History.{OpeningValue}
+use Rattle.step_machine.specs.declared.events.Entry.TheVariants as entry
 use Rattle.queue_parties.specs.Parties.{QueueCounts}
 use Rattle.slot_queue.specs.Queues.{Queue, IsQueue, IsAtRest}
 use Rattle.slot_queue.specs.Ownership.{KeepsOwnership}
 use Rattle.tokens.specs.Tokens.{TokenLayout, Holders, laid, taken_by, holders_next, FollowsTokens}
-use Rattle.step_machine.specs.declared.events.Entry.TheVariants as entry
 
 -- whose a token is by what has landed: a hart's until the store by which that hart laid it down lands
 abbrev pub laid_first : TokenLayout → List Write → Holders → Holders
@@ -30,8 +30,9 @@ abbrev pub is_holder : Option ℕ → (h : ℕ) → Bool
 is_holder None h = false
 is_holder (Some g) h = g == h
 
--- An entry as hart V's: the loads, stores and AMOs of the hart that holds the token, and the landings of those stores. Fences are left out, and
--- so are the loads of a hart whose store that laid the token down is pending, since they may read what is V's then
+-- An entry as hart V's, where its hart `holds` the role's token, and where the token is `theirs` by what has landed: the loads, stores and AMOs
+-- of who holds it, and the landings of those stores. Fences are left out, and so are a hart's loads while the store by which it laid the
+-- token down is pending, since they may read what is V's then
 abbrev pub as_role : (V : ℕ) → (holds theirs : Bool) → Entry → Entry
 as_role V b l (entry.Load h a width v) = if b then entry.Load V a width v else (if l then entry.Inner h else entry.Load h a width v)
 as_role V b l (entry.Store h a width v) = entry.Store (if b then V else h) a width v
@@ -63,7 +64,7 @@ pub record FollowsRole (B : ℕ) (q : TokenLayout) (s : ℕ) (start : Holders) (
 abbrev pub only : TokenLayout → (r : ℕ) → TokenLayout
 only q r = record { places = q.places; at = q.at; width = q.width; lies = λ i v t. q.lies i v t && t == r; guards = λ t x. false }
 
--- no hart holds token r while it holds token s, nor takes it where it lays s down
+-- no hart holds token r while it holds token s, nor takes it by the AMO that lays s down
 abbrev pub HoldsApart : TokenLayout → (s r : ℕ) → Holders → List Entry → Type 0
 HoldsApart q s r c [] = Unit {0}
 HoldsApart q s r c (e ∷ es) = (c s ≡ Some (hart_of e) → (c r ≡ Some (hart_of e) → ⊥) × (holders_next q c e r ≡ Some (hart_of e) → ⊥))
@@ -73,7 +74,7 @@ HoldsApart q s r c (e ∷ es) = (c s ≡ Some (hart_of e) → (c r ≡ Some (har
 abbrev pub as_two_harts : TokenLayout → (s r : ℕ) → Queue → (start : Holders) → List Entry → List Entry
 as_two_harts q s r k start es = as_one_hart (only q r) r k.receiver start (as_one_hart q s k.sender start es)
 
--- the same of both roles
+-- the same where both roles pass, with tokens s and r
 pub record FollowsRoles (B : ℕ) (q : TokenLayout) (s r : ℕ) (start : Holders) (k : Queue) (n : QueueCounts) (o : OpeningValue) (es : List Entry) : Type 0 where
   pub tokens : FollowsTokens B q start o es
   pub apart : HoldsApart q s r start es

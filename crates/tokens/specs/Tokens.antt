@@ -4,13 +4,13 @@ use Rattle.std.specs.Prelude.{◌++◌}
 use Rattle.std.specs.Int.{byte_at}
 use Rattle.memory.specs.declared.writes.Write.{Write}
 use Rattle.memory.specs.Writes.{joined, write, covers}
-use Rattle.queue_parties.specs.Positions.{IsInBytes}
 use Rattle.step_machine.specs.declared.events.Entry.{Entry}
 use Rattle.step_machine.specs.Access.{Access, load, store, exchange, access_of}
 use Rattle.step_machine.specs.Entries.{hart_of, opening_byte}
 use Rattle.step_machine.specs.History.{OpeningValue, history_of}
 use Rattle.step_machine.specs.Legal.{Legal}
 use Rattle.store_buffers.specs.StoreBuffers.{memory_number}
+use Rattle.queue_parties.specs.Positions.{IsInBytes}
 use Rattle.certified_runs.specs.Views.{View, view_of, view_then, byte_then}
 
 -- How many places there are; where each begins, and how many bytes it has; which tokens lie in it when its bytes are the number v; and
