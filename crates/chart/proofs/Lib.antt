@@ -7,4 +7,5 @@ pub mod Clear
 pub mod Placed
 pub mod PictureLaws
 pub mod ColumnLaws
+pub mod StepLaws
 pub mod SvgLaws

@@ -1,12 +1,12 @@
 -- No text of a picture's rows stands on another text or on a stroke, and no head of a column on another one.
 use Rattle.std.proofs.Common.{◌≡◌, ℕ, zero, suc, ◌+◌, ◌<◌, ◌≤◌, ◌^◌, Bool, true, false, if◌then◌else◌, List, [], ◌∷◌, length, Option, Some, All, refl, sym, ◌∙◌}
-use Rattle.std.proofs.Common.{ap, arith, ◌*◌, min, cond, ◌⊎◌, inl, inr, ◌++◌, take, get_or, map, append_assoc, append-nil, max, ◌==◌}
+use Rattle.std.proofs.Common.{ap, arith, ◌*◌, min, cond, ◌⊎◌, inl, inr, ◌++◌}
 use Rattle.std.specs.List.{slice_get, list_any, count_by}
 use Rattle.std.proofs.lemmas.Bool.{cases_eq, cases_Bool}
-use Rattle.std.proofs.lemmas.List.{length-map, length-append, take_more}
+use Rattle.std.proofs.lemmas.List.{length-map, length-append}
 use Rattle.std.proofs.lemmas.List.Elements.{All-nil, All-cons, All-append}
-use Rattle.std.specs.Prelude.{codes, unwrap_or}
-use Rattle.std.proofs.Math.Nat.{suc-mul, mul-le-mul}
+use Rattle.std.specs.Prelude.{codes}
+use Rattle.std.proofs.Math.Nat.{suc-mul}
 use Rattle.std.proofs.lemmas.Fmt.{length-decimal-le}
 use Rattle.std.proofs.lemmas.List.Sums.{sum_by-append}
 use Rattle.step_machine.specs.declared.events.Entry.{Entry}
@@ -14,105 +14,11 @@ use Rattle.step_machine.specs.Entries.{hart_of}
 use Rattle.chart.specs.{Held, Stroke, LeastWidths, Form, Selection, RowOf, rows_of, LanedOf, held_at_end, LineOf, strikes, IsClear, SceneOf, scene_of, Bold}
 use Rattle.chart.specs.{row_label, widest_label, label_cells, shape_of, least_lanes, lanes_in, places_of, used_after, laned_line, line_in, picture_line, pitch}
 use Rattle.chart.specs.{is_without_line, drawn_at, first_row_lines, open_lines, AboutOf, layout, limit, form_or, fitting_form, body_of, stands_in, first_cell}
-use Rattle.chart.specs.{memory_cell, hart_name, text_at, head_mark, head_marks, heads_line, kept_at, widest_kept, lanes_at, RowWrite, pending_by_row, hints_of}
-use Rattle.chart.specs.{pending_text, first_pending, pending_of_hart, pending_lines, bare_hints, MarkOf, sign_byte, struck, byte_of_mark, mark_byte, line_cell}
-use Rattle.chart.specs.{text_end, first_cells, row_after, rows_after}
+use Rattle.chart.specs.{memory_cell, hart_name, text_at, head_mark, head_marks, heads_line}
 use Rattle.chart.specs.declared.places.Places.{Places}
 use Rattle.chart.proofs.Clear.{row_clear, struck_at, one_of}
 use Rattle.chart.proofs.Placed.{RowFits, row_fits, columns_there}
-
--- What one more entry, row, pending store, line, mark, stroke or column makes.
-
-pub lines_more : (form : Form) (scene : SceneOf) (p : Places) (lanes : List LanedOf) (n : ℕ) →
-    first_row_lines form scene p lanes (n + 1) ≡ first_row_lines form scene p lanes n ++ drawn_at form scene p lanes n
-lines_more form scene p lanes n = let more : n + 1 ≡ suc n = omega arith in rw more refl
-
-pub heads_more : (p : Places) (n : ℕ) → head_marks p (n + 1) ≡ head_marks p n ++ head_mark p n ∷ []
-heads_more p n = let more : n + 1 ≡ suc n = omega arith in rw more refl
-
--- ---- how wide columns are together
-
-pub product_most : (a b : ℕ) → a < 2 ^ 8 → b < 2 ^ 16 → a * b < 2 ^ 24
-product_most a b x y = grind (arith, mul-le-mul)
-
--- ---- the rows of one more entry
-
-rows_after-last : (before es : List Entry) (e : Entry) → rows_after before (es ++ e ∷ []) ≡ rows_after before es ++ row_after (before ++ es) e ∷ []
-rows_after-last before [] e = rw (append-nil before) refl
-rows_after-last before (x ∷ es) e = grind (arith, append_assoc, rows_after-last (before ++ x ∷ []) es e)
-
-pub rows_next : (i : ℕ) (es : List Entry) (d : Entry) → i < length es
-    → rows_of (take (i + 1) es) ≡ rows_of (take i es) ++ row_after (take i es) (get_or es i d) ∷ []
-rows_next i es d within = rw (take_more es i d within) (rows_after-last [] (take i es) (get_or es i d))
-
-entries_after : (before es : List Entry) → map (λ (r : RowOf). r.entry) (rows_after before es) ≡ es
-entries_after before [] = refl
-entries_after before (e ∷ es) = ap (λ (fs : List Entry). e ∷ fs) (entries_after (before ++ e ∷ []) es)
-
-pub entries_of_rows : (es : List Entry) → map (λ (r : RowOf). r.entry) (rows_of es) ≡ es
-entries_of_rows es = entries_after [] es
-
--- ---- one more row and one more line
-
-pub label_more : (form : Form) (scene : SceneOf) (n : ℕ) →
-    widest_label form scene (n + 1) ≡ max (widest_label form scene n) (length (row_label form scene n))
-label_more form scene n = let more : n + 1 ≡ suc n = omega arith in rw more refl
-
-pub kept_more : (form : Form) (scene : SceneOf) (n : ℕ) →
-    widest_kept form scene (n + 1) ≡ max (widest_kept form scene n) (length (kept_at form scene n))
-kept_more form scene n = let more : n + 1 ≡ suc n = omega arith in rw more refl
-
-used_after-last : (used : ℕ) (ls : List LanedOf) (l : LanedOf) → used_after used (ls ++ l ∷ []) ≡ max (used_after used ls) (lanes_at l)
-used_after-last used [] l = refl
-used_after-last used (x ∷ ls) l = used_after-last (max used (lanes_at x)) ls l
-
-pub used_next : (least i : ℕ) (ls : List LanedOf) (d : LanedOf) → i < length ls →
-    used_after least (take (i + 1) ls) ≡ max (used_after least (take i ls)) (lanes_at (get_or ls i d))
-used_next least i ls d within = rw (take_more ls i d within) (used_after-last least (take i ls) (get_or ls i d))
-
--- ---- one more pending store, the pending stores of one more hart, and what a form leaves out
-
-pub first_more : (about : AboutOf) (h : ℕ) (ws : List RowWrite) (n : ℕ) →
-    first_pending about h ws (n + 1) ≡ first_pending about h ws n ++ pending_text about h (slice_get ws n) ∷ []
-first_more about h ws n = let more : n + 1 ≡ suc n = omega arith in rw more refl
-
-pub pending_more : (about : AboutOf) (es : List Entry) (n : ℕ) →
-    pending_lines about es (n + 1) ≡ pending_lines about es n ++ pending_of_hart about n (pending_by_row n es)
-pending_more about es n = let more : n + 1 ≡ suc n = omega arith in rw more refl
-
-pub hints_more : (form : Form) (scene : SceneOf) (old between new : List (List ℕ)) → form.instructions ≡ false
-    → between ≡ old ++ codes "left out: the instructions, since columns would be too wide" ∷ [] → new ≡ between ++ bare_hints scene
-    → new ≡ old ++ hints_of form scene
-hints_more form scene old between new none first second =
-    rw none
-    (second ∙ ap (λ (lines : List (List ℕ)). lines ++ bare_hints scene) first
-    ∙ append_assoc old (codes "left out: the instructions, since columns would be too wide" ∷ []) (bare_hints scene))
-
--- ---- one more stroke, one more mark and one more cell
-
-struck-last : (cell found : ℕ) (ss : List Stroke) (s : Stroke) →
-    struck cell found (ss ++ s ∷ []) ≡ (if strikes s cell then sign_byte s.sign else struck cell found ss)
-struck-last cell found [] s = refl
-struck-last cell found (x ∷ ss) s = struck-last cell (if strikes x cell then sign_byte x.sign else found) ss s
-
-pub struck_next : (cell i : ℕ) (ss : List Stroke) (d : Stroke) → i < length ss →
-    struck cell 32 (take (i + 1) ss) ≡ (if strikes (get_or ss i d) cell then sign_byte (get_or ss i d).sign else struck cell 32 (take i ss))
-struck_next cell i ss d within = rw (take_more ss i d within) (struck-last cell 32 (take i ss) (get_or ss i d))
-
-marked-last : (cell found : ℕ) (ms : List MarkOf) (m : MarkOf) →
-    mark_byte cell found (ms ++ m ∷ []) ≡ unwrap_or (byte_of_mark m cell) (mark_byte cell found ms)
-marked-last cell found [] m = refl
-marked-last cell found (x ∷ ms) m = marked-last cell (unwrap_or (byte_of_mark x cell) found) ms m
-
-pub marked_next : (cell found i : ℕ) (ms : List MarkOf) (d : MarkOf) → i < length ms →
-    mark_byte cell found (take (i + 1) ms) ≡ unwrap_or (byte_of_mark (get_or ms i d) cell) (mark_byte cell found (take i ms))
-marked_next cell found i ms d within = rw (take_more ms i d within) (marked-last cell found (take i ms) (get_or ms i d))
-
-pub end_more : (line : LineOf) (n : ℕ) → text_end line (n + 1) ≡ (if line_cell line n == 32 then text_end line n else n + 1)
-end_more line n = let more : n + 1 ≡ suc n = omega arith in rw more refl
-
-pub cells_more : (line : LineOf) (n : ℕ) → first_cells line (n + 1) ≡ first_cells line n ++ line_cell line n ∷ []
-cells_more line n = let more : n + 1 ≡ suc n = omega arith in rw more refl
+use Rattle.chart.proofs.StepLaws.{entries_of_rows}
 
 -- No head of a column stands on another one.
 

@@ -2,7 +2,6 @@ pub mod Least
 pub mod Diaries
 pub mod Coming
 pub mod OnPaths
-pub mod Gathering
 pub mod GettingOn
 pub mod Fresh
 pub mod Made

@@ -1,1 +1,3 @@
+pub mod Means
 pub mod Sender
+pub mod LamportCachedLaws

@@ -1,20 +1,12 @@
 -- Why each row of the sender's outline is right: from its assertion, the act there leads to the next row's.
 use Rattle.std.proofs.Common.{ℕ, suc, ◌+◌, ◌≡◌, ◌==◌, false, refl, sym, ◌∙◌, ap, arith}
-use Rattle.std.specs.Prelude.{◌≡◌, refl, Some, map}
-use Rattle.rv_decode.specs.{meaning, words_of, lines_of}
 use Rattle.poll_close.proofs.Ring.{lines_of, SenderBlock, SenderRegisters, IsBlock, base_plus, word_of, slot_at, Sender, Rows, rows}
 use Rattle.poll_close.proofs.Outlines as outline
 use Rattle.lamport_ring.specs.Invariant.{Counters, CounterInvariant, Words}
 use Rattle.lamport_ring.proofs.SenderSteps as step
 use Rattle.lamport_cached.specs.Listing.{listing}
 use Rattle.lamport_cached.specs.LamportCached.{lamport_cached_blocks}
-
--- The sender's table means its listing. The receiver's is Lamport's.
-
--- by the decoder's own function, on numerals
-pub sender_decoded : map meaning (words_of listing.sender) ≡ map Some (lines_of listing.sender)
-unfolding meaning
-sender_decoded = refl
+use Rattle.lamport_cached.proofs.Means.{sender_decoded}
 
 abbrev pub sender : Sender lamport_cached_blocks
 sender = record { lines = lines_of listing.sender; decoded = sender_decoded }

@@ -1,4 +1,5 @@
 pub mod Acts
+pub mod SenderLines
 pub mod SenderRows
 pub mod Windows
 pub mod Blocks

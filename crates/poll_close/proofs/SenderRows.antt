@@ -1,91 +1,30 @@
 -- The rows of a sender's outline by the instruction of their line. A ring shows of a row what holds after its line; where
 -- that leads, what it leaves in the registers and that it is inside of the code is computed, and given as `refl`.
 use Rattle.std.proofs.Common.{ℕ, suc, ℤ, pos, ◌+◌, ◌*◌, ◌%◌, ◌<◌, ◌≤◌, ◌≡◌, ◌≢◌, ◌==◌, inl, inr, Bool, true, false, List, [], ◌∷◌, length, drop, length-drop}
-use Rattle.std.proofs.Common.{Some, None, refl, sym, ◌∙◌, ap, subst, arith, eq-eqb, ne_eqb, if◌then◌else◌, drop-cons}
+use Rattle.std.proofs.Common.{Some, None, refl, sym, ◌∙◌, ap, subst, arith, eq-eqb, ne_eqb}
 use Rattle.std.specs.Prelude.{nat_lt, slice_index, map}
 use Rattle.std.specs.List.{slice_get}
 use Rattle.std.proofs.lemmas.Bool.{cases_lt, cases_eq}
 use Rattle.std.proofs.lemmas.Bool.Decides.{nat_tests}
-use Rattle.std.proofs.Math.ListN.{drop_of_length-le}
 use Rattle.rv_decode.specs.declared.instruction.Reg.{Reg}
 use Rattle.rv_decode.specs.declared.instruction.BranchOp.TheVariants as branch
 use Rattle.rv_decode.specs.declared.instruction.LoadOp.TheVariants as load
 use Rattle.rv_decode.specs.declared.instruction.StoreOp.TheVariants as store
 use Rattle.rv_decode.specs.declared.instruction.Instr.{Instr}
 use Rattle.rv_decode.specs.declared.instruction.Instr.TheVariants.{Branch, Load, Store, Ecall}
-use Rattle.rv_decode.specs.Meaning.{meaning}
-use Rattle.rv_decode.proofs.Meanings.{meaning_iff}
 use Rattle.hart.specs.{HartState, register_value, register_written, next_pc, address, registers_after, pc_after, need_of, need_for, advanced, after_instruction}
 use Rattle.hart.specs.declared.need.Need.{Need}
 use Rattle.hart.specs.declared.need.Need.TheVariants as need
-use Rattle.hart.proofs.Instructions.{IsAt, need_at, after-at, load_need, load_after, store_need, store_after, exit_need, exit_after, next_need, next_after}
-use Rattle.hart.specs.State.{HartState}
-use Rattle.hart.specs.declared.status.Status.TheVariants as status
+use Rattle.hart.proofs.Instructions.{IsAt, need_at, after-at, load_need, load_after, store_need, store_after, exit_need, exit_after}
 use Rattle.step_machine.proofs.Lines.{Line, loads, stores, word-plus, goes_to, leaves_in, same_jumps, other_goes_on, other_jumps, same_goes_on}
 use Rattle.poll_close.specs.{SenderBlock, AreNext, SenderRegisters, fixed, file, running, ended, BlockInvariant, Count, unsent_of, stands, SenderIs, rank_in}
-use Rattle.poll_close.specs.{left_of, SenderConstants, AllMean}
+use Rattle.poll_close.specs.{left_of}
 use Rattle.poll_close.proofs.Acts.{stored_by, IsNoAmo}
 use Rattle.poll_close.proofs.Blocks.{IsBlock, IsWordOf}
 use Rattle.poll_close.proofs.BlockLaws.{found_in}
+use Rattle.poll_close.proofs.SenderLines.{line_04-word, line_04-none}
 use Rattle.poll_close.proofs.Outlines.{Sender, Goes, Finds, Free}
 use Rattle.poll_close.proofs.Outlines as outline
-
--- The lines of a sender that all rings have alike, over its code: it asks for the next word of its list.
-
-module _ (code : List ℕ) (long : 2 < length code) (f : SenderConstants) (r : SenderRegisters) where
-  -- a pc inside the code leaves it running
-  abbrev settles : ℕ → SenderRegisters → List ℕ → Bool → HartState
-  settles pc q inbox over = record {
-    code = code;
-    words = f.words;
-    registers = file f q;
-    pc = pc;
-    inbox = inbox;
-    status = if over then status.Ended else status.Running;
-  }
-
-  inside_8 : (8 == 4 * length code) ≡ false
-  inside_8 = grind (arith, nat_tests)
-
-  -- ecall: the next word of its list, or none
-  pub line_04-word : ((inbox : List ℕ) → IsAt (running code f 0x04 r inbox) Ecall) → r.x17 ≡ 1
-      → (list : List ℕ) (g : ℕ) → g < length list
-      → Line (running code f 0x04 r (drop g list)) (need.Next (Some (slice_index list g)))
-      (λ v. running code f 0x08 (record r { x10 = slice_index list g; x11 = 1 }) (drop (suc g) list))
-  line_04-word at call list g less =
-      let w : ℕ = slice_index list g in
-      let line : Line (running code f 0x04 r (w ∷ drop (suc g) list)) (need.Next (Some w))
-      (λ v. running code f 0x08 (record r { x10 = w; x11 = 1 }) (drop (suc g) list)) =
-      record {
-        needs = next_need (at (w ∷ drop (suc g) list)) call;
-        leaves = λ v. next_after (at (w ∷ drop (suc g) list)) call v
-            ∙ ap (settles 0x08 (record r { x10 = w; x11 = 1 }) (drop (suc g) list)) inside_8;
-      } in
-      subst (λ (inbox : List ℕ). Line (running code f 0x04 r inbox) (need.Next (Some w))
-      (λ v. running code f 0x08 (record r { x10 = w; x11 = 1 }) (drop (suc g) list)))
-      (sym (drop-cons list g 0 less)) line
-
-  pub line_04-none : ((inbox : List ℕ) → IsAt (running code f 0x04 r inbox) Ecall) → r.x17 ≡ 1
-      → (list : List ℕ) (g : ℕ) → length list ≤ g
-      → Line (running code f 0x04 r (drop g list)) (need.Next None)
-      (λ v. running code f 0x08 (record r { x11 = 0 }) (drop g list))
-  line_04-none at call list g all =
-      let line : Line (running code f 0x04 r []) (need.Next None)
-      (λ v. running code f 0x08 (record r { x11 = 0 }) []) =
-      record {
-        needs = next_need (at []) call;
-        leaves = λ v. next_after (at []) call v ∙ ap (settles 0x08 (record r { x11 = 0 }) []) inside_8;
-      } in
-      subst (λ (inbox : List ℕ).
-      Line (running code f 0x04 r inbox) (need.Next None) (λ v. running code f 0x08 (record r { x11 = 0 }) inbox))
-      (sym (drop_of_length-le list all)) line
-
--- ---- a table means a listing where the decoder finds its lines
-
-pub all_mean : (ws : List ℕ) (is : List Instr) → map meaning ws ≡ map Some is → AllMean ws is
-all_mean [] [] e = tt
-all_mean (w ∷ ws) (i ∷ is) e = grind (arith, meaning_iff, all_mean ws is)
-all_mean x y e = cc
 
 abbrev pub registers_in : List ℕ → SenderRegisters
 registers_in x = record {
