@@ -1,7 +1,9 @@
 pub mod Means
 pub mod Stores
+pub mod Landings
 pub mod ReceiverReads
 pub mod Sender
+pub mod Receiver
 pub mod ReceiverActs
 pub mod FastForwardLaws
 pub mod Decreasing

@@ -1,8 +1,10 @@
 pub mod Means
 pub mod Stores
+pub mod Landings
 pub mod ReceiverReads
 pub mod SenderSteps
 pub mod Sender
+pub mod Receiver
 pub mod Laws
 pub mod Decreasing
 pub mod LamportLaws

@@ -23,6 +23,7 @@ pub mod Parts
 pub mod AllLines
 pub mod CommonLines
 pub mod LamportLines
+pub mod FastForwardLines
 pub mod Completed
 pub mod Functions
 pub mod OwnEntries

@@ -14,7 +14,7 @@
 //! `LamportRuns`, by which Lamport's runs are `slot_queue`'s, and `FastForwardRings` and `FastForwardRuns`, by which FastForward's are
 //! `slots_that_tell`'s; these give `Points`, what is known at a point of either; from it `Contents` (which words lie in the slots), `Runs` and
 //! `Landed`, the laws. Functions: `Parts` (what an access makes of the protocol's state), `Outline` (what holds at each line) and `Functions`;
-//! `CommonLines` and `LamportLines`, which lead from line to line (FastForward's stand in `Functions`); `Calls`, which joins both halves. The laws: `CallLaws`,
+//! `CommonLines`, `LamportLines` and `FastForwardLines`, which lead from line to line; `Calls`, which joins both halves. The laws: `CallLaws`,
 //! `OneCall`, `CutCalls`, `ManyQueues`, `Obligations`, `Decided`.
 //!
 //! Called by `callers`.
