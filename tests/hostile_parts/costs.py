@@ -85,6 +85,17 @@ def long_record(count):
              f"state {4 * count + 4}\nshare 0 1 0\nleaf 0\n{RECEIVER}").encode())
 
 
+def large_slots():
+    """A queue with a slot of 4,096 bytes, which loses no record in any run: all of them are alike. Its sender never looks, and its receiver
+    looks once, and then loads the first record again and again. The certificate shows nothing, so that drawn runs are asked."""
+    sends = ["L: sw x5,2000(x9)", "sw x5,8(x0)", "addi x6,x6,1", "sw x6,0(x0)", "j L"]
+    takes = ["L: lw x6,0(x0)", "beq x5,x6,L", "M: lw x7,2000(x9)", "lw x7,8(x0)", "j M"]
+    rows = "".join(f" {left} | {right} ;\n" for left, right in zip(sends, takes))
+    states = "".join(f"hart\nopen 0\nstate 0\nshare 0 0 {free}\nleaf 0\nto 0\n" for free in (1, 0))
+    return (f"RISCV X\n{{ 0:x5=7; 0:x9=4096; 1:x9=4096; }}\n P0 | P1 ;\n{rows}exists (1:x6=0)\n".encode(),
+            f"ztso-queues 1\nqueue 0 1 0 4 4 8 1 4096 1 0 1 0 4294967296 0\n{states}".encode())
+
+
 def rows(short):
     """The words, standard input, the file `text`, the status, and at most how many seconds and MiB."""
     yield ["find", "text", "--states", "40500"], b"", litmus(
@@ -98,6 +109,8 @@ def rows(short):
     yield ["debug", "text", "stores"], b"g\nq\n", stores, 0, 10, 80
     text, certificate = long_record(4000)
     yield ["queue", "text", "--certificate", "/dev/stdin", "--safety", "--written", "all"], certificate, text, 0, 4, 24
+    text, certificate = large_slots()
+    yield ["queue", "text", "--certificate", "/dev/stdin"], certificate, text, 11, 2, 8
     if not short:
         lists = (b"7 " * 8200 + b"\n") * 63
         yield ["channel", "lamport", "2", "none", "--finish"], lists, b"", 0, 120, 256

@@ -12,6 +12,7 @@ pub mod Losing
 pub mod Delivered
 pub mod ByHand
 pub mod Logs
+pub mod Views
 pub mod Reach
 pub mod LossSteps
 pub mod Stepping

@@ -10,14 +10,15 @@ ghost use Rattle.ownership_runs.specs.Protocols.{HasSlot};
 ghost use Rattle.ownership_runs.specs.Losses.{last_of_slot, position_told, byte_lost, first_byte, is_after, loss_at, loss_since, first_loss};
 ghost use Rattle.ownership_runs.specs.inner.Bounds.{ROOM, AreCountsWithin};
 ghost use Rattle.ownership_runs.specs.inner.Logging.{answered, IsAccessWithin};
-ghost use Rattle.ownership_runs.specs.inner.LossNoting.{AreLossNotes, AreLossNotesWithin, HasHappened};
+ghost use Rattle.ownership_runs.specs.inner.LossNoting.{AreLossNotes, AreLossNotesWithin, HasHappened, IsSeenIn};
 
 use crate::counts::{Counts, RunCounts, at_start};
 use crate::losses::Loss;
 use crate::numbers::{byte_at, position_from};
 use crate::protocols::{after_entry, party_for};
-use crate::sent::{SentByte, log_entry, logged};
+use crate::sent::{ByteLog, landing, log_entry, logged, open_log};
 use crate::stores::{is_record_byte, slot_number, slots_in};
+use memory::writes::Write;
 use queue_layouts::{AnyQueue, Party};
 use std::alloc::AllocError;
 use step_machine::{Entry, Event, Machine, Outcome};
@@ -66,13 +67,13 @@ fn byte_lost(
     place: usize,
     hart: u32,
     counts: RunCounts,
-    log: &[SentByte],
+    log: &[ByteLog],
     load: Loaded,
     number: u32,
 ) -> Option<Loss>
     requires counts { AreCountsWithin ROOM ROOM counts }
     requires address { load.addr + number < 2 ^ 32 }
-    ensures { result ≡ byte_lost queue.now place hart counts (answered counts log.now) load.addr load.width load.value number }
+    ensures { result ≡ byte_lost queue.now place hart counts (answered queue.now counts log.now) load.addr load.width load.value number }
 {
     let byte = load.addr + number;
     let Some(position) = position_told(queue, counts, u64::from(byte)) else {
@@ -81,7 +82,7 @@ fn byte_lost(
     if position >= counts.published {
         return None;
     }
-    let Some(sent) = logged(log, position, u64::from(byte)) else {
+    let Some(sent) = logged(queue, log, position, u64::from(byte)) else {
         return None
     };
     if sent == byte_at(load.value, number) {
@@ -105,12 +106,12 @@ fn first_lost(
     place: usize,
     hart: u32,
     counts: RunCounts,
-    log: &[SentByte],
+    log: &[ByteLog],
     load: Loaded,
 ) -> Option<Loss>
     requires counts { AreCountsWithin ROOM ROOM counts }
     requires address { load.addr + load.width ≤ 2 ^ 32 }
-    ensures { result ≡ first_byte (byte_lost queue.now place hart counts (answered counts log.now) load.addr load.width load.value) load.width }
+    ensures { result ≡ first_byte (byte_lost queue.now place hart counts (answered queue.now counts log.now) load.addr load.width load.value) load.width }
 {
     for number in 0..load.width {
         if let Some(loss) = byte_lost(queue, place, hart, counts, log, load, number) {
@@ -125,12 +126,12 @@ fn loss_at(
     queue: &AnyQueue,
     place: usize,
     counts: RunCounts,
-    log: &[SentByte],
+    log: &[ByteLog],
     entry: Entry,
 ) -> Option<Loss>
     requires counts { AreCountsWithin ROOM ROOM counts }
     requires within { IsAccessWithin (2 ^ 30) (access_of entry) }
-    ensures { result ≡ loss_at queue.now place counts (answered counts log.now) entry }
+    ensures { result ≡ loss_at queue.now place counts (answered queue.now counts log.now) entry }
 {
     let hart = entry.hart();
     let Some(Party::Receiver) = party_for(queue, hart) else {
@@ -169,12 +170,12 @@ fn loss_since(
     queue: &AnyQueue,
     place: usize,
     counts: RunCounts,
-    log: &[SentByte],
+    log: &[ByteLog],
     entry: Entry,
 ) -> Option<Loss>
     requires counts { AreCountsWithin ROOM ROOM counts }
     requires within { IsAccessWithin (2 ^ 30) (access_of entry) }
-    ensures { result ≡ loss_since since queue.now place counts (answered counts log.now) entry }
+    ensures { result ≡ loss_since since queue.now place counts (answered queue.now counts log.now) entry }
 {
     if is_after(since, place) {
         loss_at(queue, place, counts, log, entry)
@@ -211,8 +212,9 @@ fn note_next<const B: usize, const M: usize>(
     queue: &AnyQueue,
     machine: &Machine<B, M>,
     notes: LossNotes,
+    landing: Write,
     entry: Entry,
-    log: &mut Vec<SentByte>,
+    log: &mut Vec<ByteLog>,
 ) -> Result<LossNotes, AllocError>
     requires size { M ≤ 65536 }
     requires some_slot { HasSlot queue.now }
@@ -222,13 +224,14 @@ fn note_next<const B: usize, const M: usize>(
     requires place { notes.place < 2 ^ 64 - 1 }
     requires none { notes.found ≡ None }
     ensures noted { IfOk result (λ new. (start : QueueCounts) (es : List Entry) → machine.now.history.entries ≡ es ++ entry ∷ []
+        → IsSeenIn queue.now machine.now.history.opening es landing entry
         → AreLossNotes since M queue.now machine.now.history.opening start es log.old.items notes
         → AreLossNotes since M queue.now machine.now.history.opening start machine.now.history.entries log.new.items new) }
     ensures within { IfOk result (λ new. (i : ℕ) → AreLossNotesWithin i notes → AreLossNotesWithin (i + 1) new) }
 {
     let found = loss_since(since, queue, notes.place, notes.counts, log, entry);
     let counts = after_entry(queue, notes.counts, entry);
-    log_entry(queue, machine, notes.counts, counts, entry, log)?;
+    log_entry(queue, machine, notes.counts, landing, entry, log)?;
     Ok(LossNotes {
         found,
         counts,
@@ -242,8 +245,9 @@ fn note_entry<const B: usize, const M: usize>(
     queue: &AnyQueue,
     machine: &Machine<B, M>,
     notes: LossNotes,
+    landing: Write,
     entry: Entry,
-    log: &mut Vec<SentByte>,
+    log: &mut Vec<ByteLog>,
 ) -> Result<LossNotes, AllocError>
     requires size { M ≤ 65536 }
     requires some_slot { HasSlot queue.now }
@@ -252,13 +256,14 @@ fn note_entry<const B: usize, const M: usize>(
     requires counts { AreCountsWithin ROOM ROOM notes.counts }
     requires place { notes.place < 2 ^ 64 - 1 }
     ensures noted { IfOk result (λ new. (start : QueueCounts) (es : List Entry) → machine.now.history.entries ≡ es ++ entry ∷ []
+        → IsSeenIn queue.now machine.now.history.opening es landing entry
         → AreLossNotes since M queue.now machine.now.history.opening start es log.old.items notes
         → AreLossNotes since M queue.now machine.now.history.opening start machine.now.history.entries log.new.items new) }
     ensures within { IfOk result (λ new. (i : ℕ) → AreLossNotesWithin i notes → AreLossNotesWithin (i + 1) new) }
 {
     match notes.found {
         Some(_) => Ok(notes),
-        None => note_next(since, queue, machine, notes, entry, log),
+        None => note_next(since, queue, machine, notes, landing, entry, log),
     }
 }
 
@@ -269,7 +274,7 @@ fn note_event<const B: usize, const M: usize>(
     machine: &mut Machine<B, M>,
     notes: LossNotes,
     event: Event,
-    log: &mut Vec<SentByte>,
+    log: &mut Vec<ByteLog>,
 ) -> Result<LossNotes, AllocError>
     requires size { M ≤ 65536 }
     requires some_slot { HasSlot queue.now }
@@ -282,8 +287,9 @@ fn note_event<const B: usize, const M: usize>(
         → AreLossNotes since M queue.now machine.old.history.opening start machine.new.history.entries log.new.items new) }
     ensures within { IfOk result (λ new. (i : ℕ) → AreLossNotesWithin i notes → AreLossNotesWithin (i + 1) new) }
 {
+    let landing = landing(machine, event);
     match machine.step(event)? {
-        Outcome::Did(entry) => note_entry(since, queue, machine, notes, entry, log),
+        Outcome::Did(entry) => note_entry(since, queue, machine, notes, landing, entry, log),
         Outcome::Waited => Ok(notes),
         Outcome::NothingToLand => Ok(notes),
         Outcome::Over => Ok(notes),
@@ -298,7 +304,7 @@ pub(crate) fn first_loss<const B: usize, const M: usize>(
     queue: &AnyQueue,
     start: Counts,
     machine: &mut Machine<B, M>,
-    log: &mut Vec<SentByte>,
+    log: &mut Vec<ByteLog>,
     events: &[Event],
 ) -> Result<Option<Loss>, AllocError>
     requires size { M ≤ 65536 }
@@ -308,7 +314,7 @@ pub(crate) fn first_loss<const B: usize, const M: usize>(
     ensures opening { machine.new.history.opening ≡ machine.old.history.opening }
 {
     machine.restart();
-    log.clear();
+    open_log(queue, machine, u128::from(start.published), log)?;
     let mut notes = no_loss_noted(start);
     for event in events {
         notes = note_event(since, queue, machine, notes, *event, log)?;

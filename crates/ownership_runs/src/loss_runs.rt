@@ -11,7 +11,7 @@ use crate::counts::Counts;
 use crate::judging::judge;
 use crate::judging_losses::first_loss;
 use crate::losses::Loss;
-use crate::sent::SentByte;
+use crate::sent::ByteLog;
 use judged_runs::Judge;
 use queue_layouts::AnyQueue;
 use std::alloc::{AllocError, Global};
@@ -24,7 +24,7 @@ fn judged_loss<const B: usize, const M: usize>(
     start: Counts,
     broken: bool,
     machine: &mut Machine<B, M>,
-    log: &mut Vec<SentByte>,
+    log: &mut Vec<ByteLog>,
     events: &[Event],
 ) -> Result<Option<Loss>, AllocError>
     requires size { M ≤ 65536 }
@@ -52,7 +52,7 @@ fn judged_loss<const B: usize, const M: usize>(
 #[derive(Drop)]
 pub struct LossBench<const B: usize, const M: usize> {
     pub machine: Machine<B, M>,
-    log: Vec<SentByte>,
+    log: Vec<ByteLog>,
 }
 
 /// What judges the runs of an opening by what is lost of a queue's records, over buffers of `B` stores and `M` words of memory. The

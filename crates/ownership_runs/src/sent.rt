@@ -1,47 +1,72 @@
-//! What was sent, as a log of bytes: of those of slots what the sender's hart read there just after it published their positions, and
-//! which of them the receiver has stored over since.
+//! What was sent, as a log for each byte of the slots: what the sender's hart reads there as that changes, and since when the receiver has
+//! stored over it.
 
-ghost use Rattle.std.specs.Prelude.{◌≡◌, ◌≤◌, ◌<◌, ◌+◌, ◌*◌, ℕ, OnOk, None, Some, length};
+ghost use Rattle.std.specs.Prelude.{◌≡◌, ◌≤◌, ◌<◌, ◌+◌, ◌*◌, ◌==◌, ◌&&◌, ℕ, true, OnOk, None, Some, length};
 ghost use Rattle.memory.specs.Writes.{newest_of};
-ghost use Rattle.step_machine.specs.Entries.{hart_of, read_byte};
 ghost use Rattle.step_machine.specs.Access.{access_of};
+ghost use Rattle.step_machine.specs.Entries.{hart_of, read_byte, memory_byte};
 ghost use Rattle.ownership_runs.specs.Protocols.{party_for};
-ghost use Rattle.ownership_runs.specs.inner.Bounds.{ROOM, AreCountsWithin};
-ghost use Rattle.ownership_runs.specs.inner.Logging.{logged, read_by, with_bytes, with_records, slots_below, without_stored, logged_by, IsAccessWithin};
+ghost use Rattle.ownership_runs.specs.inner.Logging.{sent_in, last_sent, of_byte, logged, has_place, with_byte, with_read, with_changed};
+ghost use Rattle.ownership_runs.specs.inner.Logging.{is_logged, landing_of, changed_by, sender_of};
+ghost use Rattle.ownership_runs.specs.inner.Logging.{stores_own, reader_of, logged_by, IsOpenedLog};
 
 use crate::counts::RunCounts;
-use crate::numbers::{byte_at, position_from, quotient};
+use crate::numbers::byte_at;
 use crate::parties::count;
 use crate::protocols::party_for;
-use crate::stores::{is_record_byte, slot_width, slots_from, slots_in};
+use crate::stores::{slot_width, slots_from, slots_in};
 use memory::writes::Write;
 use queue_layouts::{AnyQueue, Party};
 use std::alloc::AllocError;
-use step_machine::{Entry, Machine};
+use step_machine::{Entry, Event, Machine};
 
-/// Of the byte at an address: what was sent of the positions from this one on, or none if the receiver has stored there. What is
-/// logged of the byte later counts before it.
+/// Of a byte: what the sender's hart reads there when it publishes a position from this one on, or that nothing is left there of the positions
+/// from this one on. What is logged of the byte later counts before it.
 #[derive(Clone, Copy)]
 pub(crate) struct SentByte {
-    pub(crate) addr: u64,
-    pub(crate) from: u128,
-    pub(crate) byte: Option<u8>,
+    from: u128,
+    byte: Option<u8>,
 }
 
-/// What the log has of a position's byte at an address.
-pub(crate) fn logged(log: &[SentByte], position: u128, x: u64) -> Option<u8>
-    ensures { result ≡ logged log.now position x }
+/// What is logged of a byte.
+#[derive(Drop)]
+pub(crate) struct ByteLog {
+    first: SentByte,
+    later: Vec<SentByte>,
+}
+
+/// What is logged of a position, the last of these first.
+fn sent_in(first: SentByte, later: &[SentByte], position: u128) -> Option<u8>
+    ensures { result ≡ sent_in first later.now position }
 {
-    for place in (0..log.len()).rev() {
-        let sent = log[place];
-        if sent.addr == x && sent.from <= position {
+    for place in (0..later.len()).rev() {
+        let sent = later[place];
+        if sent.from <= position {
             return match sent.byte {
                 Some(byte) => Some(byte),
                 None => None,
             };
         }
     }
-    None
+    if first.from <= position {
+        first.byte
+    } else {
+        None
+    }
+}
+
+/// What the log has of a position's byte at an address.
+pub(crate) fn logged(queue: &AnyQueue, log: &[ByteLog], position: u128, x: u64) -> Option<u8>
+    ensures { result ≡ logged queue.now log.now position x }
+{
+    let slots = u64::from(slots_from(queue));
+    if x < slots {
+        return None;
+    }
+    match log.get((x - slots) as usize) {
+        Some(bytes) => sent_in(bytes.first, &bytes.later, position),
+        None => None,
+    }
 }
 
 /// The byte that the newest of these stores to cover an address puts there.
@@ -57,6 +82,14 @@ fn newest(stores: &[Write], x: u32) -> Option<u8>
     found
 }
 
+/// The byte of memory at an address.
+fn memory_byte<const B: usize, const M: usize>(machine: &Machine<B, M>, x: u32) -> u8
+    requires address { x < 4 * M }
+    ensures { result ≡ memory_byte machine.now.history.opening machine.now.history.entries x }
+{
+    byte_at(machine.word(x - x % 4), x % 4)
+}
+
 /// The byte that a hart reads at an address.
 fn read_byte<const B: usize, const M: usize>(machine: &Machine<B, M>, hart: u32, x: u32) -> u8
     requires hart { hart < length machine.now.history.opening.harts }
@@ -65,148 +98,234 @@ fn read_byte<const B: usize, const M: usize>(machine: &Machine<B, M>, hart: u32,
 {
     match newest(machine.pending(hart), x) {
         Some(byte) => byte,
-        None => byte_at(machine.word(x - x % 4), x % 4),
+        None => memory_byte(machine, x),
     }
 }
 
-/// The byte that a hart reads at an address, or nothing.
-fn read_by<const B: usize, const M: usize>(
-    machine: &Machine<B, M>,
-    reader: Option<u32>,
-    x: u32,
-) -> Option<u8>
-    requires hart { (h : ℕ) → reader ≡ Some h → h < length machine.now.history.opening.harts }
-    requires address { x < 4 * M }
-    ensures { result ≡ read_by machine.now.history.opening machine.now.history.entries reader x }
+/// What was logged last of a byte.
+fn last_sent(first: SentByte, later: &[SentByte]) -> SentByte
+    ensures { result ≡ last_sent first later.now }
 {
-    match reader {
-        Some(hart) => Some(read_byte(machine, hart, x)),
-        None => None,
+    let count = later.len();
+    if count == 0 { first } else { later[count - 1] }
+}
+
+/// Whether two bytes are the same, or neither is there.
+fn is_same(byte: Option<u8>, other: Option<u8>) -> bool
+    ensures same { result ≡ true → byte ≡ other }
+    ensures other { byte ≡ other → result ≡ true }
+{
+    match byte {
+        Some(byte) => match other {
+            Some(other) => byte == other,
+            None => false,
+        },
+        None => other.is_none(),
     }
 }
 
-/// Logs the bytes of records among `count` bytes from `first` on, from a position on: what a hart reads there, or that nothing is there
-/// any more.
-fn log_bytes<const B: usize, const M: usize>(
-    queue: &AnyQueue,
-    machine: &Machine<B, M>,
-    reader: Option<u32>,
-    from: u128,
-    first: u64,
-    count: u64,
-    log: &mut Vec<SentByte>,
-) -> Result<(), AllocError>
-    requires size { M ≤ 65536 }
-    requires hart { (h : ℕ) → reader ≡ Some h → h < length machine.now.history.opening.harts }
-    requires within { (i : ℕ) → i < count → first + i < 4 * M }
-    ensures { OnOk result ((k x : ℕ) → logged log.new.items k x ≡ with_bytes queue.now
-        (read_by machine.now.history.opening machine.now.history.entries reader) from first count (logged log.old.items) k x) }
+/// Logs of a byte what counts from a position on, where that isn't what was logged last.
+fn note(bytes: &mut ByteLog, from: u128, byte: Option<u8>) -> Result<(), AllocError>
+    ensures { OnOk result ((k : ℕ) → of_byte (Some bytes.new) k ≡ with_byte from byte (of_byte (Some bytes.old)) k) }
 {
-    for number in 0..count {
-        let x = first + number;
-        if is_record_byte(queue, x) {
-            let byte = read_by(machine, reader, x as u32);
-            log.push(SentByte {
-                addr: x,
-                from,
-                byte,
-            })?;
-        }
-    }
-    Ok(())
-}
-
-/// How many of the slots may have a byte below an end: of those that lie there, and one more.
-fn slots_below(size: u32, slots: u32, width: u32, end: u64) -> u32
-    ensures { result ≡ slots_below size slots width end }
-{
-    let room = end.saturating_sub(u64::from(slots));
-    let reached = quotient(u128::from(room), u128::from(width));
-    u128::from(size).min(reached + 1) as u32
-}
-
-/// Logs the records of the positions from `from` on and before `end`, as a hart reads them.
-fn log_records<const B: usize, const M: usize>(
-    queue: &AnyQueue,
-    machine: &Machine<B, M>,
-    hart: u32,
-    from: u128,
-    end: u128,
-    log: &mut Vec<SentByte>,
-) -> Result<(), AllocError>
-    requires size { M ≤ 65536 }
-    requires hart { hart < length machine.now.history.opening.harts }
-    requires from { from ≤ ROOM }
-    ensures { OnOk result ((k x : ℕ) → logged log.new.items k x ≡ with_records M queue.now
-        (read_byte machine.now.history.opening machine.now.history.entries hart) from end (logged log.old.items) k x) }
-{
-    if end <= from {
+    let last = last_sent(bytes.first, &bytes.later);
+    if last.from <= from && is_same(last.byte, byte) {
         return Ok(());
     }
-    let size = slots_in(queue);
-    let slots = slots_from(queue);
-    let width = slot_width(queue);
-    let memory = 4 * M as u64;
-    for slot in 0..slots_below(size, slots, width, memory) {
-        if position_from(size, from, u128::from(slot)) < end {
-            let first = u64::from(slots) + u64::from(width) * u64::from(slot);
-            let count = u64::from(width).min(memory.saturating_sub(first));
-            log_bytes(queue, machine, Some(hart), from, first, count, log)?;
+    bytes.later.push(SentByte { from, byte })?;
+    Ok(())
+}
+
+/// Logs of a byte what the sender's hart reads there from a position on; where `over`, nothing is left there of those before.
+fn note_read(bytes: &mut ByteLog, from: u128, over: bool, byte: u8) -> Result<(), AllocError>
+    ensures { OnOk result ((k : ℕ) → of_byte (Some bytes.new) k ≡ with_read from over byte (of_byte (Some bytes.old) k) k) }
+{
+    if over {
+        note(bytes, 0, None)?;
+    }
+    note(bytes, from, Some(byte))
+}
+
+/// Logs the byte at an address, which the sender's hart reads from a position on; where `over`, nothing is left there of those before.
+fn log_byte(
+    queue: &AnyQueue,
+    from: u128,
+    over: bool,
+    byte: u8,
+    x: u64,
+    log: &mut Vec<ByteLog>,
+) -> Result<(), AllocError>
+    ensures places { OnOk result (length log.new.items ≡ length log.old.items) }
+    ensures logged { OnOk result ((k y : ℕ) → logged queue.now log.new.items k y
+        ≡ with_changed (λ z. has_place queue.now (length log.old.items) x && z == x) over (λ z. byte) from (logged queue.now log.old.items) k y) }
+{
+    let slots = u64::from(slots_from(queue));
+    if x < slots {
+        return Ok(());
+    }
+    let place = (x - slots) as usize;
+    if place >= log.len() {
+        return Ok(());
+    }
+    note_read(&mut log[place], from, over, byte)
+}
+
+/// Logs what a hart reads from a position on where a store is.
+fn log_store<const B: usize, const M: usize>(
+    queue: &AnyQueue,
+    machine: &Machine<B, M>,
+    reader: u32,
+    from: u128,
+    over: bool,
+    store: Write,
+    log: &mut Vec<ByteLog>,
+) -> Result<(), AllocError>
+    requires size { M ≤ 65536 }
+    requires reader { reader < length machine.now.history.opening.harts }
+    ensures places { OnOk result (length log.new.items ≡ length log.old.items) }
+    ensures logged { OnOk result ((k x : ℕ) → logged queue.now log.new.items k x
+        ≡ with_changed (is_logged M queue.now (length log.old.items) store.addr store.width) over
+        (read_byte machine.now.history.opening machine.now.history.entries reader) from (logged queue.now log.old.items) k x) }
+{
+    for number in 0..store.width {
+        let x = u64::from(store.addr) + u64::from(number);
+        if x < 4 * M as u64 {
+            let byte = read_byte(machine, reader, x as u32);
+            log_byte(queue, from, over, byte, x, log)?;
         }
     }
     Ok(())
 }
 
-/// Logs what an access of the receiver's stores over, as bytes that are no longer what was sent.
-fn log_stored_over<const B: usize, const M: usize>(
+/// Which hart sends.
+fn sender_of(queue: &AnyQueue) -> u32
+    ensures { result ≡ sender_of queue.now }
+{
+    match queue {
+        AnyQueue::Indexed(queue) => queue.sender,
+        AnyQueue::Tagged(queue) => queue.sender,
+    }
+}
+
+/// The store that an event lands, if it lands one, and otherwise one of no byte.
+pub(crate) fn landing<const B: usize, const M: usize>(
+    machine: &Machine<B, M>,
+    event: Event,
+) -> Write
+    ensures { result ≡ landing_of machine.now.history event }
+{
+    if let Event::Land(hart) = event {
+        if hart < machine.harts() {
+            if let Some(store) = machine.pending(hart).first() {
+                return *store;
+            }
+        }
+    }
+    Write {
+        addr: 0,
+        width: 0,
+        value: 0,
+    }
+}
+
+/// Where an entry changes what is read, if it changes that: where it stores, or where the store that it lands is.
+fn changed_by(landing: Write, entry: Entry) -> Write
+    ensures { result ≡ changed_by landing (access_of entry) }
+{
+    match entry {
+        Entry::Store {
+            addr,
+            width,
+            value,
+            ..
+        } => Write { addr, width, value },
+        Entry::Amo { addr, new, .. } => Write {
+            addr,
+            width: 4,
+            value: new,
+        },
+        _ => landing,
+    }
+}
+
+/// Whether an entry is a store of the receiver's.
+fn stores_own(queue: &AnyQueue, entry: Entry) -> bool
+    ensures { result ≡ stores_own (party_for queue.now (hart_of entry)) (access_of entry) }
+{
+    let Some(Party::Receiver) = party_for(queue, entry.hart()) else {
+        return false
+    };
+    match entry {
+        Entry::Store { .. } => true,
+        Entry::Amo { old, new, .. } => new != old,
+        _ => false,
+    }
+}
+
+/// The sender's hart, or an entry's where the machine has none that sends.
+fn reader_of<const B: usize, const M: usize>(
     queue: &AnyQueue,
     machine: &Machine<B, M>,
     entry: Entry,
-    log: &mut Vec<SentByte>,
-) -> Result<(), AllocError>
-    requires size { M ≤ 65536 }
-    requires within { IsAccessWithin M (access_of entry) }
-    ensures { OnOk result ((k x : ℕ) → logged log.new.items k x ≡ without_stored queue.now (access_of entry) (logged log.old.items) k x) }
+) -> u32
+    ensures { result ≡ reader_of queue.now (length machine.now.history.opening.harts) (hart_of entry) }
 {
-    let (addr, width) = match entry {
-        Entry::Store { addr, width, .. } => (addr, width),
-        Entry::Amo { addr, old, new, .. } if new != old => (addr, 4),
-        _ => (0, 0),
-    };
-    log_bytes(
-        queue,
-        machine,
-        None,
-        0,
-        u64::from(addr),
-        u64::from(width),
-        log,
-    )
+    let sender = sender_of(queue);
+    if sender < machine.harts() {
+        sender
+    } else {
+        entry.hart()
+    }
 }
 
-/// Logs what an entry, after which the machine stands, makes of what was sent, where these are the counts before it and after it.
+/// Logs what an entry, after which the machine stands, makes of what was sent, where these are the counts before it, and this is the store
+/// that it lands, if it lands one.
 pub(crate) fn log_entry<const B: usize, const M: usize>(
     queue: &AnyQueue,
     machine: &Machine<B, M>,
     counts: RunCounts,
-    after: RunCounts,
+    landing: Write,
     entry: Entry,
-    log: &mut Vec<SentByte>,
+    log: &mut Vec<ByteLog>,
 ) -> Result<(), AllocError>
     requires size { M ≤ 65536 }
     requires hart { hart_of entry < length machine.now.history.opening.harts }
-    requires within { IsAccessWithin M (access_of entry) }
-    requires counts { AreCountsWithin ROOM ROOM counts }
-    ensures { OnOk result ((k x : ℕ) → logged log.new.items k x ≡ logged_by M queue.now (party_for queue.now (hart_of entry)) counts.published
-        after.published (read_byte machine.now.history.opening machine.now.history.entries (hart_of entry)) (access_of entry) (logged log.old.items) k x) }
+    ensures places { OnOk result (length log.new.items ≡ length log.old.items) }
+    ensures logged { OnOk result ((k x : ℕ) → logged queue.now log.new.items k x ≡ logged_by M queue.now (length log.old.items)
+        (party_for queue.now (hart_of entry)) counts.published
+        (read_byte machine.now.history.opening machine.now.history.entries
+        (reader_of queue.now (length machine.now.history.opening.harts) (hart_of entry)))
+        landing (access_of entry) (logged queue.now log.old.items) k x) }
 {
-    match party_for(queue, entry.hart()) {
-        Some(Party::Sender) => {
-            let from = count(Party::Sender, counts);
-            let end = count(Party::Sender, after);
-            log_records(queue, machine, entry.hart(), from, end, log)
-        }
-        Some(Party::Receiver) => log_stored_over(queue, machine, entry, log),
-        None => Ok(()),
+    let reader = reader_of(queue, machine, entry);
+    let over = stores_own(queue, entry);
+    let store = changed_by(landing, entry);
+    let published = count(Party::Sender, counts);
+    log_store(queue, machine, reader, published, over, store, log)
+}
+
+/// Makes a log in which the positions from this one on have what the slots hold in memory.
+pub(crate) fn open_log<const B: usize, const M: usize>(
+    queue: &AnyQueue,
+    machine: &Machine<B, M>,
+    from: u128,
+    log: &mut Vec<ByteLog>,
+) -> Result<(), AllocError>
+    requires size { M ≤ 65536 }
+    ensures { OnOk result (IsOpenedLog M queue.now (memory_byte machine.now.history.opening machine.now.history.entries) from log.new.items) }
+{
+    log.clear();
+    let slots = u64::from(slots_from(queue));
+    let bytes = u64::from(slots_in(queue)) * u64::from(slot_width(queue));
+    let room = (4 * M as u64).saturating_sub(slots);
+    for place in 0..bytes.min(room) {
+        let byte = memory_byte(machine, (slots + place) as u32);
+        let first = SentByte {
+            from,
+            byte: Some(byte),
+        };
+        let later = Vec::new(*log.allocator());
+        log.push(ByteLog { first, later })?;
     }
+    Ok(())
 }

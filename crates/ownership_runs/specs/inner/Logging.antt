@@ -1,63 +1,105 @@
 -- What is logged of what was sent, as the entries of a run come.
-use Rattle.std.specs.Prelude.{ℕ, ◌+◌, ◌-◌, ◌*◌, ◌/◌, ◌≤◌, ◌==◌, ◌&&◌, nat_le, nat_lt, min, if◌then◌else◌, Bool, Option, None, Some, List, [], ◌∷◌}
-use Rattle.step_machine.specs.declared.events.Entry.{Entry}
-use Rattle.step_machine.specs.History.{OpeningValue}
+use Rattle.std.specs.Prelude.{ℕ, ◌≡◌, ◌+◌, ◌-◌, ◌*◌, ◌<◌, ◌≤◌, ◌==◌, ◌&&◌, not, nat_le, nat_lt, if◌then◌else◌, Bool}
+use Rattle.std.specs.Prelude.{true, false, Option, None, Some, List, [], ◌∷◌, length}
+use Rattle.std.specs.List.{slice_get}
+use Rattle.memory.specs.declared.writes.Write.{Write}
+use Rattle.memory.specs.Writes.{write}
+use Rattle.step_machine.specs.declared.events.Event.{Event}
+use Rattle.step_machine.specs.declared.events.Event.TheVariants as event
+use Rattle.step_machine.specs.History.{History}
 use Rattle.step_machine.specs.Access.{Access, load, store, exchange}
-use Rattle.step_machine.specs.Entries.{read_byte}
-use Rattle.queue_parties.specs.Parties.{Party, the_sender, the_receiver, QueueCounts}
+use Rattle.step_machine.specs.Entries.{pending}
+use Rattle.queue_parties.specs.Parties.{Party, the_receiver, QueueCounts}
 use Rattle.queue_layouts.specs.declared.AnyQueue.{AnyQueue}
+use Rattle.queue_layouts.specs.declared.AnyQueue.TheVariants.{Indexed, Tagged}
+use Rattle.ownership_runs.specs.declared.sent.ByteLog.{ByteLog}
 use Rattle.ownership_runs.specs.declared.sent.SentByte.{SentByte}
-use Rattle.ownership_runs.specs.Keeping.{is_in_bytes, position_from, slots_in}
-use Rattle.ownership_runs.specs.Losses.{SentBytes, is_record_byte, slot_number, stores_over}
+use Rattle.ownership_runs.specs.Keeping.{is_in_bytes, slots_in}
+use Rattle.ownership_runs.specs.Losses.{SentBytes, slot_width, slots_from}
 
--- ---- what a log says of position k's byte at x: what was logged of it last
+-- ---- what a log says of position k's byte at x: what was logged last of the byte and of positions from one up to k on
 
-abbrev pub is_of : SentByte → (k x : ℕ) → Bool
-is_of s k x = s.addr == x && nat_le s.from k
+abbrev pub logged_since : (found : Option ℕ) → List SentByte → (k : ℕ) → Option ℕ
+logged_since found [] k = found
+logged_since found (s ∷ ss) k = logged_since (if nat_le s.from k then s.byte else found) ss k
 
-abbrev pub logged_since : (found : Option ℕ) → List SentByte → SentBytes
-logged_since found [] k x = found
-logged_since found (s ∷ ss) k x = logged_since (if is_of s k x then s.byte else found) ss k x
+abbrev pub sent_in : (first : SentByte) → (later : List SentByte) → (k : ℕ) → Option ℕ
+sent_in first later k = logged_since (if nat_le first.from k then first.byte else None) later k
 
-abbrev pub logged : List SentByte → SentBytes
-logged log k x = logged_since None log k x
+abbrev pub last_sent : (first : SentByte) → (later : List SentByte) → SentByte
+last_sent first [] = first
+last_sent first (s ∷ ss) = last_sent s ss
+
+abbrev pub of_byte : Option ByteLog → (k : ℕ) → Option ℕ
+of_byte None k = None
+of_byte (Some b) k = sent_in b.first b.later.items k
+
+abbrev pub logged : AnyQueue → List ByteLog → SentBytes
+logged q log k x = if nat_le (slots_from q) x then of_byte (slice_get log (x - slots_from q)) k else None
 
 -- of the positions that were published
-abbrev pub answered : QueueCounts → List SentByte → SentBytes
-answered c log k x = if nat_lt k c.published then logged log k x else None
+abbrev pub answered : AnyQueue → QueueCounts → List ByteLog → SentBytes
+answered q c log k x = if nat_lt k c.published then logged q log k x else None
 
 -- ---- what is logged
 
--- what a hart reads, or nothing
-abbrev pub read_by : OpeningValue → List Entry → (reader : Option ℕ) → (x : ℕ) → Option ℕ
-read_by o es None x = None
-read_by o es (Some h) x = Some (read_byte o es h x)
+-- x has a place among this many bytes of the slots
+abbrev pub has_place : AnyQueue → (places x : ℕ) → Bool
+has_place q places x = nat_le (slots_from q) x && nat_lt (x - slots_from q) places
 
--- each byte of a record among `count` bytes, from a position on
-abbrev pub with_bytes : AnyQueue → (byte : ℕ → Option ℕ) → (from first count : ℕ) → SentBytes → SentBytes
-with_bytes q byte from first count s k x = if is_in_bytes first count x && is_record_byte q x && nat_le from k then byte x else s k x
+-- it is a byte of memory and of a store to this many bytes, too
+abbrev pub is_logged : (M : ℕ) → AnyQueue → (places a width x : ℕ) → Bool
+is_logged M q places a width x = is_in_bytes a width x && (nat_lt x (4 * M) && has_place q places x)
 
--- of slots j of `size` from an address on, one more than lie below an end, or all
-abbrev pub slots_below : (size slots width end : ℕ) → ℕ
-slots_below size slots width end = min size ((end - slots) / width + 1)
+-- of a byte, this from a position on
+abbrev pub with_byte : (from : ℕ) → (byte : Option ℕ) → (was : ℕ → Option ℕ) → (k : ℕ) → Option ℕ
+with_byte from byte was k = if nat_le from k then byte else was k
 
--- x is a byte of memory, and of the record of a position from `from` on and before `end`
-abbrev pub is_handed_over : (M : ℕ) → AnyQueue → (from end x : ℕ) → Bool
-is_handed_over M q from end x = nat_lt x (4 * M) && is_record_byte q x && nat_lt (position_from (slots_in q) from (slot_number q x)) end
+-- what is read there from a position on; where `over`, of earlier positions nothing is left there
+abbrev pub with_read : (from : ℕ) → (over : Bool) → (byte : ℕ) → (was : Option ℕ) → (k : ℕ) → Option ℕ
+with_read from over byte was k = if nat_le from k then Some byte else if over then None else was
 
--- each of those, from a position on
-abbrev pub with_records : (M : ℕ) → AnyQueue → (reads : ℕ → ℕ) → (from end : ℕ) → SentBytes → SentBytes
-with_records M q reads from end s k x = if is_handed_over M q from end x && nat_le from k then Some (reads x) else s k x
+-- of such bytes
+abbrev pub with_changed : (ℕ → Bool) → (over : Bool) → (reads : ℕ → ℕ) → (from : ℕ) → SentBytes → SentBytes
+with_changed changed over reads from s k x = if changed x then with_read from over (reads x) (s k x) k else s k x
 
--- none of those that an access stores over
-abbrev pub without_stored : AnyQueue → Access → SentBytes → SentBytes
-without_stored q a s k x = if stores_over a x && is_record_byte q x then None else s k x
+-- where an access changes what is read, if it changes that, and what an event lands
+abbrev pub changed_by : (landing : Write) → Access → Write
+changed_by landing (store w) = w
+changed_by landing (exchange a old new) = write a 4 new
+changed_by landing x = landing
 
--- after an access of a hart, which is a party or none, that moved the count of published positions on
-abbrev pub logged_by : (M : ℕ) → AnyQueue → Option Party → (from end : ℕ) → (reads : ℕ → ℕ) → Access → SentBytes → SentBytes
-logged_by M q (Some the_sender) from end reads a s = with_records M q reads from end s
-logged_by M q (Some the_receiver) from end reads a s = without_stored q a s
-logged_by M q None from end reads a s = s
+abbrev pub first_of : List Write → Write
+first_of [] = write 0 0 0
+first_of (w ∷ ws) = w
+
+abbrev pub landing_of : History → Event → Write
+landing_of t (event.Act h) = write 0 0 0
+landing_of t (event.Land h) = if nat_lt h (length t.opening.harts) then first_of (pending h t.entries) else write 0 0 0
+
+-- it is a store of the receiver's, which no AMO is that writes the word that it read
+abbrev pub stores_own : Option Party → Access → Bool
+stores_own (Some the_receiver) (store w) = true
+stores_own (Some the_receiver) (exchange a old new) = not (new == old)
+stores_own t x = false
+
+abbrev pub sender_of : AnyQueue → ℕ
+sender_of (Indexed q) = q.sender
+sender_of (Tagged q) = q.sender
+
+-- the hart that sends, or of h where there are no more than this many and it isn't among them
+abbrev pub reader_of : AnyQueue → (harts h : ℕ) → ℕ
+reader_of q harts h = if nat_lt (sender_of q) harts then sender_of q else h
+
+-- after an access of a hart, which is a party or none, before which this many positions were published
+abbrev pub logged_by : (M : ℕ) → AnyQueue → (places : ℕ) → Option Party → (from : ℕ) → (reads : ℕ → ℕ) → (landing : Write) → Access → SentBytes → SentBytes
+logged_by M q places t from reads landing a s k x =
+    let w = changed_by landing a in with_changed (is_logged M q places w.addr w.width) (stores_own t a) reads from s k x
+
+-- a log of all bytes of the slots in memory, in which the positions from this one on have these
+pub record IsOpenedLog (M : ℕ) (q : AnyQueue) (holds : ℕ → ℕ) (from : ℕ) (log : List ByteLog) : Type 0 where
+  pub places : (x : ℕ) → is_in_bytes (slots_from q) (slots_in q * slot_width q) x ≡ true → x < 4 * M → has_place q (length log) x ≡ true
+  pub has : (k x : ℕ) → has_place q (length log) x ≡ true → logged q log k x ≡ (if nat_le from k then Some (holds x) else None)
 
 -- ---- the bytes that an access is of lie below 4 M, and there are at most 4
 

@@ -11,6 +11,7 @@ pub loop-number-preserved : goal.loop-number-preserved
 loop-number-preserved c = first-more _ c.loop-number.number c.loop-number.invariant (sym c.byte_lost.ensures ∙ c.in_default.is)
 
 pub returns-in-Some : goal.returns-in-Some
-returns-in-Some c = sym (first-here (byte_lost c.args.queue.now c.args.place c.args.hart c.args.counts (answered c.args.counts c.args.log.now) c.args.load.addr
+returns-in-Some c = sym (first-here
+    (byte_lost c.args.queue.now c.args.place c.args.hart c.args.counts (answered c.args.queue.now c.args.counts c.args.log.now) c.args.load.addr
     c.args.load.width c.args.load.value) c.loop-number.number c.args.load.width c.in-Some.loss c.loop-number.invariant
     (sym c.byte_lost.ensures ∙ c.in-Some.is) c.loop-number-test.true)

@@ -5,7 +5,7 @@ use Rattle.ownership_runs.proofs.LossSteps.{still-lost}
 use Rattle.ownership_runs.proofs.judging_losses.note_entry.Goals as goal
 
 pub returns-in-Some-clause-noted : goal.returns-in-Some-clause-noted
-returns-in-Some-clause-noted g c start es is are =
+returns-in-Some-clause-noted g c start es is seen are =
     subst
     (λ (fs : List Entry). AreLossNotes c.args.since g.row.M c.args.queue.now c.args.machine.now.history.opening
     start fs c.args.log.now.items c.args.notes) (sym is)
