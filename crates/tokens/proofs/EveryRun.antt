@@ -291,16 +291,13 @@ module _ (B M : ℕ) (o : OpeningValue) (q : TokenLayout) (says : ℕ → View �
     )
 
     role_V : (h : ℕ) → is_holder (C done s) h ≡ true → party_holding s k (C done) h ≡ party_of k k.sender
-    role_V h yea = ap (λ b. if b then Some the_sender else (if h == k.receiver then Some the_receiver else None)) yea
-        ∙ sym (ap (λ b. if b then Some the_sender else (if k.sender == k.receiver then Some the_receiver else None)) (eq-eqb k.sender k.sender refl))
+    role_V h yea = grind (arith, eq-eqb)
 
     role_h : (h : ℕ) → h ≢ k.sender → is_holder (C done s) h ≡ false → party_holding s k (C done) h ≡ party_of k h
-    role_h h new nay = ap (λ b. if b then Some the_sender else (if h == k.receiver then Some the_receiver else None)) nay
-        ∙ sym (ap (λ b. if b then Some the_sender else (if h == k.receiver then Some the_receiver else None)) (ne_eqb h k.sender new))
+    role_h h new nay = grind (arith, ne_eqb)
 
     none_of : (h : ℕ) → is_holder (C done s) h ≡ false → h ≢ k.receiver → party_holding s k (C done) h ≡ None
-    none_of h nay off = ap (λ b. if b then Some the_sender else (if h == k.receiver then Some the_receiver else None)) nay
-        ∙ ap (λ (b : Bool). if b then Some the_receiver else None) (ne_eqb h k.receiver off)
+    none_of h nay off = grind (arith, ne_eqb)
 
     -- what touches no memory is nothing to the queue, nor is a landing or a fence
     idle : (t : Option Party) → (after_access k t nothing (N done) ≡ N done) × KeepsAccess k t (N done) nothing

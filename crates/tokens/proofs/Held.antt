@@ -204,12 +204,10 @@ module _ (q : TokenLayout) (o : OpeningValue) (es : List Entry) (c m : Holders) 
 -- what is pending after a store, after a landing, and after another hart's entry
 module _ (es : List Entry) (e : Entry) (le : (g : ℕ) → lands g es ≤ length (own_stores g es)) (h : ℕ) (here : hart_of e ≡ h) where
   pub after-store : (v : Write) → access_of e ≡ store v → pending h (es ++ e ∷ []) ≡ pending h es ++ v ∷ []
-  after-store v does = pending-more es e h (le h) v (ap (stored_by (hart_of e == h)) does ∙ ap (λ b. stored_by b (store v)) (eq-eqb (hart_of e) h here))
-      (ap (landed_by (hart_of e == h)) does)
+  after-store v does = grind (arith, pending-more, eq-eqb)
 
   pub after-land : (v : Write) (rest : List Write) → access_of e ≡ land → pending h es ≡ v ∷ rest → pending h (es ++ e ∷ []) ≡ rest
-  after-land v rest does oldest = pending-first es e h (le h) v rest oldest (ap (stored_by (hart_of e == h)) does)
-      (ap (landed_by (hart_of e == h)) does ∙ ap (λ b. landed_by b land) (eq-eqb (hart_of e) h here))
+  after-land v rest does oldest = grind (arith, pending-first, eq-eqb)
 
   pub after-other : (g : ℕ) → h ≢ g → pending g (es ++ e ∷ []) ≡ pending g es
   after-other g other =
@@ -500,8 +498,7 @@ module _ (B : ℕ) (q : TokenLayout) (o : OpeningValue) (es : List Entry) (e : E
   all_mine_landed t = ap (λ ws. all_laid q ws (laid q v m) t) mine_landed ∙ sym (ap (λ ws. all_laid q ws m t) oldest)
 
   all_theirs_landed : (g t : ℕ) → hart_of e ≢ g → lays q v t ≡ false → all_laid q (pending g (es ++ e ∷ [])) (laid q v m) t ≡ all_laid q (pending g es) m t
-  all_theirs_landed g t other off = ap (λ ws. all_laid q ws (laid q v m) t) (theirs_landed g other)
-      ∙ all-same q (pending g es) (laid q v m) m t (laid-left q v m t off)
+  all_theirs_landed g t other off = grind (arith, theirs_landed, all-same, laid-left)
 
   to_landed : (g t : ℕ) → (hart_of e ≡ g) ⊎ (hart_of e ≢ g) → c t ≡ Some g → all_laid q (pending g (es ++ e ∷ [])) (laid q v m) t ≡ Some g
   to_landed g t (inl here) is = subst (λ k. all_laid q (pending k (es ++ e ∷ [])) (laid q v m) t ≡ Some k) here
@@ -639,8 +636,7 @@ module _ (B : ℕ) (q : TokenLayout) (o : OpeningValue) (es : List Entry) (e : E
     all_here g t d here = ap (λ ws. all_laid q ws d t) (same_pending g ∙ ap (λ k. pending k es) (sym here) ∙ nothing_pending)
 
     all_left : (g t : ℕ) → lays q p t ≡ false → lays q n t ≡ false → all_laid q (pending g (es ++ e ∷ [])) (laid q n ms) t ≡ all_laid q (pending g es) m t
-    all_left g t nay none = ap (λ ws. all_laid q ws (laid q n ms) t) (same_pending g)
-        ∙ all-same q (pending g es) (laid q n ms) m t (left_by t m nay none)
+    all_left g t nay none = grind (arith, same_pending, all-same, left_by)
 
     to_swapped : (g t : ℕ) → laid q n cs t ≡ Some g → all_laid q (pending g (es ++ e ∷ [])) (laid q n ms) t ≡ Some g
     to_swapped g t is =
@@ -701,8 +697,7 @@ module _ (B : ℕ) (q : TokenLayout) (o : OpeningValue) (es : List Entry) (e : E
     ]
       where
         whose : (hart_of e ≡ g) ⊎ (hart_of e ≢ g) → lays q p t ≡ false → m t ≡ Some g → read_byte o (es ++ e ∷ []) g x ≡ last_stored o (es ++ e ∷ []) x
-        whose (inl here) nay holds = subst (λ k. read_byte o (es ++ e ∷ []) k x ≡ last_stored o (es ++ e ∷ []) x) here
-            (reads_then t x guards (inr (holds ∙ ap Some (sym here))))
+        whose (inl here) nay holds = grind (arith, reads_then)
         whose (inr other) nay holds = sees_other g t x other nay holds guards (covers n x) refl
 
     rests_swapped : (t x : ℕ) → laid q n ms t ≡ None → q.guards t x ≡ true → memory_byte o (es ++ e ∷ []) x ≡ last_stored o (es ++ e ∷ []) x
@@ -911,16 +906,9 @@ module _ (B : ℕ) (q : TokenLayout) (o : OpeningValue) (says : ℕ → View →
         by : (b : Bool) → lays q (write a 4 new) t ≡ b → (d : Bool) → lays q (write a 4 old) t ≡ d → says t (last_stored o (es ++ e ∷ [])) ≡ true
         by true yea true found = by_view t (λ x guards. reads_last B q o es e c m w allowed a old new does le may t x guards
             (inl (found_free B q o es e c m w allowed a old new does t found))) (subst (λ y. lays_down q y t) (sym does) yea)
-        by true yea false nay = by_view t (λ x guards. reads t x (sym (taken-left q (hart_of e) (write a 4 old) c t nay) ∙ may.held t yea) guards)
-            (subst (λ y. lays_down q y t) (sym does) yea)
-        by false nay true found = absurd (none-some (holders_then q (hart_of e) (exchange a old new) c t) (hart_of e) none
-            (laid-left q (write a 4 new) (taken_by q (hart_of e) (write a 4 old) c) t nay ∙ taken-here q (hart_of e) (write a 4 old) c t found))
-        by false nay false not =
-            let still : taken_by q (hart_of e) (write a 4 old) c t ≡ None =
-            sym (laid-left q (write a 4 new) (taken_by q (hart_of e) (write a 4 old) c) t nay) ∙ none in
-            left_so t (sym (taken-left q (hart_of e) (write a 4 old) c t not) ∙ still) (λ x guards. ap (λ y. byte_then y x (last_stored o es x)) does
-            ∙ uncovered (write a 4 new) x (last_stored o es x)
-            (λ on. none-some (taken_by q (hart_of e) (write a 4 old) c t) (hart_of e) still (may.guarded t x on guards)))
+        by true yea false nay = grind (arith, by_view, reads, taken-left)
+        by false nay true found = grind (arith, none-some, laid-left, taken-here)
+        by false nay false not = grind (arith, laid-left, left_so, taken-left, uncovered, none-some)
     said_at y does may t none = left_so t none (λ x guards. ap (λ z. byte_then z x (last_stored o es x)) does)
 
     pub said_next : May q (hart_of e) c (access_of e) → IsSaid (es ++ e ∷ []) (holders_next q c e)

@@ -205,9 +205,7 @@ module _ (q : TokenLayout) (s V B : ℕ) (o : OpeningValue) (es R : List Entry) 
             (subst (AllowedBy B (pending k R) (read o R k)) (sym does2) (omega (arith, short, room)))
 
         same_landings : landed (R ++ d ∷ []) ≡ landed (es ++ e ∷ [])
-        same_landings = landed-last R d ∙ ap (λ ws. landed R ++ ws) (ap (written_by (take 1 (pending (hart_of d) R))) does2)
-            ∙ append-nil (landed R) ∙ t.landings ∙ sym (append-nil (landed es))
-            ∙ ap (λ ws. landed es ++ ws) (sym (ap (written_by (take 1 (pending (hart_of e) es))) does)) ∙ sym (landed-last es e)
+        same_landings = grind (arith, landed-last, append-nil)
 
       pub by_role : (v : Write) → access_of e ≡ store v → (d : Entry) → hart_of d ≡ V → access_of d ≡ store v → c s ≡ Some (hart_of e) → Next d m
       by_role v does d by_hart does2 holds = record {
@@ -287,10 +285,7 @@ module _ (q : TokenLayout) (s V B : ℕ) (o : OpeningValue) (es R : List Entry) 
             (subst (AllowedBy B (pending k R) (read o R k)) (sym does2) (let some = ap length oldest2 in omega (arith, some)))
 
         landed_both : landed (R ++ d ∷ []) ≡ landed (es ++ e ∷ [])
-        landed_both = landed-last R d ∙ ap (λ ws. landed R ++ ws) (ap (written_by (take 1 (pending (hart_of d) R))) does2
-            ∙ ap (λ h. take 1 (pending h R)) by_hart ∙ ap (take 1) oldest2)
-            ∙ ap (λ ws. ws ++ v ∷ []) t.landings
-            ∙ ap (λ ws. landed es ++ ws) (sym (ap (written_by (take 1 (pending (hart_of e) es))) does ∙ ap (take 1) oldest)) ∙ sym (landed-last es e)
+        landed_both = grind (arith, landed-last)
 
       -- of the role
       module _ (does : access_of e ≡ land) (v : Write) (later : List Write) (oldest : pending (hart_of e) es ≡ v ∷ later) (held : m s ≡ Some (hart_of e))
@@ -374,9 +369,7 @@ module _ (q : TokenLayout) (s V B : ℕ) (o : OpeningValue) (es R : List Entry) 
           left_there g other = after-other es e le (hart_of e) refl g other
 
           other_ones : (g : ℕ) → g ≢ V → (m s ≡ Some g → ⊥) → (hart_of e ≡ g) ⊎ (hart_of e ≢ g) → pending g (R ++ d ∷ []) ≡ pending g (es ++ e ∷ [])
-          other_ones g far not (inl here) = ap (λ k. pending k (R ++ d ∷ [])) (sym here)
-              ∙ after-land R d balance (hart_of e) by_hart v later does2 first
-              ∙ sym (after-land es e le (hart_of e) refl v later does oldest) ∙ ap (λ k. pending k (es ++ e ∷ [])) here
+          other_ones g far not (inl here) = grind (arith, after-land, balance)
           other_ones g far not (inr other) = away g other ∙ t.others g far not ∙ sym (left_there g other)
 
       -- ---- an AMO
@@ -600,10 +593,7 @@ module _ (q : TokenLayout) (r : ℕ) where
   lies-all i v t is = let parts = and_parts (q.lies i v t) (t == r) is in (parts.0, eqb-true t r parts.1)
 
   in-all : (w : Write) (t i : ℕ) → lays_in (only q r) w t i ≡ true → (lays_in q w t i ≡ true) × (t ≡ r)
-  in-all w t i is =
-      let parts = and_parts (covers_place q w i) ((only q r).lies i (number_laid q w i) t) is in
-      let lies = lies-all i (number_laid q w i) t parts.1 in
-      (and_from (covers_place q w i) (q.lies i (number_laid q w i) t) parts.0 lies.0, lies.1)
+  in-all w t i is = grind (arith, and_parts, lies-all, and_from)
 
   -- only token r is laid down
   laid-r : (w : Write) (t : ℕ) → lays (only q r) w t ≡ true → t ≡ r
@@ -649,14 +639,10 @@ module _ (q : TokenLayout) (r : ℕ) where
       where
         at : (b : Bool) → role c h ≡ b → (y : Bool) → lays q n r ≡ y → (z : Bool) → lays q p r ≡ z
             → laid (only q r) n (taken_by (only q r) (if b then V else h) p d) r ≡ laid q n (taken_by q h p c) r
-        at b is true down z found = laid-gone (only q r) n (taken_by (only q r) (if b then V else h) p d) r (same-lays n ∙ down)
-            ∙ sym (laid-gone q n (taken_by q h p c) r down)
+        at b is true down z found = grind (arith, laid-gone, same-lays)
         at true yea false none true found = absurd (apart (holder-true (c s) h yea) (laid-left q n (taken_by q h p c) r none ∙ taken-here q h p c r found))
-        at false nay false none true found = laid-left (only q r) n (taken_by (only q r) h p d) r (same-lays n ∙ none)
-            ∙ taken-here (only q r) h p d r (same-lays p ∙ found) ∙ sym (laid-left q n (taken_by q h p c) r none ∙ taken-here q h p c r found)
-        at b is false none false nothing = laid-left (only q r) n (taken_by (only q r) (if b then V else h) p d) r (same-lays n ∙ none)
-            ∙ taken-left (only q r) (if b then V else h) p d r (same-lays p ∙ nothing) ∙ same
-            ∙ sym (laid-left q n (taken_by q h p c) r none ∙ taken-left q h p c r nothing)
+        at false nay false none true found = grind (arith, laid-left, same-lays, taken-here)
+        at b is false none false nothing = grind (arith, laid-left, same-lays, taken-left)
 
     keeps_one : (e : Entry) (c m d : Holders) → d r ≡ c r → May q (hart_of e) c (access_of e)
         → (c s ≡ Some (hart_of e) → (c r ≡ Some (hart_of e) → ⊥) × (holders_next q c e r ≡ Some (hart_of e) → ⊥))
@@ -672,12 +658,8 @@ module _ (q : TokenLayout) (r : ℕ) where
         by true l = (tt, same)
         by false true = (tt, same)
         by false false = (tt, same)
-    keeps_one (entry.Store h a width v) c m d same may apart =
-        (writes_stored h c d (write a width v) same may (λ is. (apart is).0) (role c h) refl, laid-same (write a width v) c d same)
-    keeps_one (entry.Amo h a old n) c m d same may apart = (
-      writes_swapped h c d (write a 4 old) (write a 4 n) same may (λ is. (apart is).0) (role c h) refl,
-      swapped_same h c d (write a 4 old) (write a 4 n) same (λ is. (apart is).1) (role c h) refl,
-    )
+    keeps_one (entry.Store h a width v) c m d same may apart = grind (arith, writes_stored, laid-same)
+    keeps_one (entry.Amo h a old n) c m d same may apart = grind (arith, writes_swapped, swapped_same)
     keeps_one (entry.Fence h full) c m d same may apart = (tt, same)
     keeps_one (entry.Land h) c m d same may apart = (tt, same)
     keeps_one e c m d same may apart = (tt, same)
