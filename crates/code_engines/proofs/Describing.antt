@@ -24,7 +24,7 @@ use Rattle.code_engines.specs.StepsReading.{after_line, after_lines, script_at, 
 use Rattle.code_engines.specs.StepsReading.{keyword_named, by_keyword, by_cut}
 use Rattle.code_engines.specs.declared.steps.line.Keyword.{Keyword}
 use Rattle.code_engines.specs.declared.steps.line.Keyword.TheVariants as keyword
-use Rattle.code_engines.proofs.NumberWords.{code_settles, SayTwo, two_settles, Three, SayThree, three_settles}
+use Rattle.code_engines.proofs.CodeTexts.{code_settles, SayTwo, two_settles, Three, SayThree, three_settles}
 
 -- A line of a steps text: what is read of it is what it says.
 

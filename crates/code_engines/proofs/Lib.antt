@@ -1,4 +1,3 @@
-pub mod NumberWords
 pub mod Describing
 pub mod CodeTexts
 pub mod ShownSteps

@@ -1,5 +1,4 @@
 pub mod TallyLaws
-pub mod TrialLaws
 pub mod TallyMerging
 pub mod RedrawnLaws
 pub mod TransitionLaws

@@ -1,25 +1,46 @@
 -- Runs after runs: their schedules, and the tally of them all from the tallies of the two parts.
+use Rattle.rand_core.specs.Stream.{Stream}
 use Rattle.std.proofs.Common.{◌≡◌, ℕ, zero, suc, ◌+◌, ◌*◌, Bool, cond, ◌||◌, not, List, [], ◌++◌, length, map, Option, sym, ap, ap₂, ◌∙◌, arith, append-nil}
-use Rattle.std.proofs.Common.{append_assoc, subst, ◌-◌, ◌≤◌, ◌<◌}
+use Rattle.std.proofs.Common.{append_assoc, subst, ◌-◌, ◌≤◌, ◌<◌, ◌∷◌, refl}
 use Rattle.std.specs.List.{list_any, range_with_len}
 use Rattle.std.specs.Prelude.{IfSome, ◌==◌}
 use Rattle.std.proofs.lemmas.List.{map-append, length-map}
 use Rattle.std.proofs.lemmas.List.Folds.{list_any-append}
 use Rattle.std.proofs.lemmas.List.Sums.{sum_by-append, count_by-le-length}
-use Rattle.std.proofs.lemmas.List.Elements.{All-append}
+use Rattle.std.proofs.lemmas.List.Elements.{All-append, All-cons, All-nil}
 use Rattle.std.proofs.lemmas.List.FromFn.{map-range_with_len_more, length-map-range_with_len}
-use Rattle.rand_core.specs.Stream.{Stream}
 use Rattle.step_machine.specs.declared.events.Event.{Event}
+use Rattle.litmus.specs.LitmusTests.{LitmusTest}
 use Rattle.recorder.specs.Drawing.{left_after}
+use Rattle.recorder.proofs.Drawn.{left_after-sum}
 use Rattle.drawn_runs.specs.declared.draws.Draw.{Draw}
 use Rattle.drawn_runs.specs.Draws.{schedule_by}
-use Rattle.recorder.proofs.Drawn.{left_after-sum}
-use Rattle.sampling.specs.{Tally, Trial, IsTrial, AreTrials, gave, is_finished, is_holds, is_fails, first_schedule, unfinished, IsTallyOf, left_name}
-use Rattle.sampling.specs.{AreRunsFrom, IsTallyFrom, Merges, TestSource}
 use Rattle.engine_support.specs.Counting.{Counted, counted, counted_both, seen_of}
 use Rattle.engine_support.proofs.OutcomeTables.{seen_both, seen_few}
-use Rattle.sampling.proofs.TrialLaws.{no_trials}
+use Rattle.sampling.specs.{Tally, Trial, IsTrial, AreTrials, gave, is_finished, is_holds, is_fails, first_schedule, unfinished, IsTallyOf, left_name}
+use Rattle.sampling.specs.{AreRunsFrom, IsTallyFrom, Merges, TestSource}
 use Rattle.sampling.proofs.TallyLaws.{first_of_both, first_of_later, left_of_both}
+use Rattle.sampling.specs.Trials.{Trial, IsTrial, AreTrials}
+
+-- Runs by drawn schedules, one more at a time.
+
+-- no run
+pub no_trials : (B M : ℕ) (test : LitmusTest) (draw : Draw) (stream : Stream) (size : ℕ) → AreTrials B M test draw stream 0 size []
+no_trials B M test draw stream size = record { schedules = refl; ran = All-nil (IsTrial B M test) }
+
+-- and one run more
+pub trials_more : (B M : ℕ) (test : LitmusTest) (draw : Draw) (stream : Stream) (number size : ℕ) (trials : List Trial)
+    (trial : Trial) → AreTrials B M test draw stream number size trials
+    → trial.events ≡ schedule_by draw (length test.opening.harts) size stream number → IsTrial B M test trial
+    → AreTrials B M test draw stream (number + 1) size (trials ++ trial ∷ [])
+trials_more B M test draw stream number size trials trial are drawn is = grind (
+  arith,
+  map-append,
+  map-range_with_len_more (schedule_by draw (length test.opening.harts) size stream) 0 number number,
+  All-append (IsTrial B M test) trials (trial ∷ []) are.ran (All-cons (IsTrial B M test) trial [] is (All-nil (IsTrial B M test))),
+  All-cons (IsTrial B M test) trial [] is (All-nil (IsTrial B M test)),
+  All-nil (IsTrial B M test),
+)
 
 -- ---- the tally of them all
 
