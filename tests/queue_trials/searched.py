@@ -3,6 +3,7 @@ joined, and to what; which cover others; where ranges end, and where a split's e
 
 from types import SimpleNamespace
 
+import certificates as reference
 from certify_parts import done, forms, handed, queues, ranks, tags
 from certify_parts.groups import Group, Groups
 from certify_parts.live import flow_of
@@ -31,6 +32,9 @@ def count(more=0, factor=1):
 
 def share(count_of, first=0, last=None, low=1, high=None, begin=0, end=None):
     return Share(count_of, first, first if last is None else last, low, low if high is None else high, begin, begin if end is None else end)
+
+
+ONE, NEXT = share(0), share(1, 1)
 
 
 def state(of, *values, pc=ELSEWHERE, **more):
@@ -127,13 +131,47 @@ def split_of(op, x, y, limits):
     return None
 
 
+def computed(op, x, y, limits=(1, 9), *, is_immediate=True, is_kept=True):
+    """What an operation on a word of this range makes, or where the word is parted."""
+    try:
+        return handed.computed(op, x, y, is_immediate, state(None, handed=(limits,)), is_kept)
+    except forms.Split as split:
+        return split.at
+
+
+def covers_words(wanted, values, of=ONE):
+    """Whether a state with words of 1 to 9 covers one with these values."""
+    return search().covers(state(of, *wanted, handed=((1, 9),)), state(of, *values))
+
+
+def met(*given):
+    """The registers and the words that states with a word are joined to, by each one's range and registers."""
+    found, lost = search().joined([state(ONE, *values, handed=(limits,)) for limits, *values in given])
+    return found.registers[1:3], found.handed, lost
+
+
+def ranking(ways, known=(), falling=0, ranges=(8,)):
+    """Ranks of states with a variable up to 8: of each its ways, as where they lead with which form, by how much that variable, or another
+    one, falls, and up to which number a new one is; and the ranks that are known."""
+    found = object.__new__(ranks.Ranking)
+    found.states = [SimpleNamespace(known=SimpleNamespace(ranges=ranges))] * len(ways)
+    found.ways = [[SimpleNamespace(to=to, forms=(of,), raises=[(falling, falls)] * bool(falls), ranges=(new, *ranges)) for to, of, falls, new in each]
+                  for each in ways]
+    found.ranks = [reference.number(0)] * (len(ways) - len(known)) + list(known)
+    return found
+
+
 def shown(record, handed_on, done_before, new):
     """What is done after a leaf, of records of four bytes of which these bits are wanted."""
     return done.done_after(SimpleNamespace(queues=[FOUR], wanted=[record]), [done_before], [new], [handed_on])
 
 
 WORD = forms.variable_of("w", 0)
-ONE, NEXT = share(0), share(1, 1)
+# of a way the variable that it keeps, or the new one
+KEEPS, NEW = reference.Form(0, (0, 1)), reference.Form(0, (1,))
+# a way on, and one back by which the variable falls by 1
+ROUND = [[(1, KEEPS, 0, 0)], [(0, KEEPS, 1, 0)]]
+LEAVES = [[*ROUND[0], (2, KEEPS, 0, 0)], ROUND[1], []]
 # what is asked, of what, and what it says
 ROWS = (
     ("a range without edges is widened to all numbers", search().widened, (P, 2, 3, 8), (0, 7)),
@@ -208,6 +246,7 @@ ROWS = (
     ("where ways meet the value that both are stays", lambda a, b: search().as_one(a, b).registers[1],
      (state(ONE, number(1), pc=WAYS_MEET), state(ONE, count(1), pc=WAYS_MEET)), number(1)),
     ("or what isn't known", lambda a, b: search().as_one(a, b).registers[1], (state(ONE, number(1), pc=WAYS_MEET), state(ONE, None, pc=WAYS_MEET)), None),
+    ("nor two ranges of a word", search().as_one, (state(ONE, WORD, handed=((1, 9),)), state(ONE, WORD, handed=((1, 5),))), None),
     ("but not two numbers", search().as_one, (state(ONE, number(1), pc=WAYS_MEET), state(ONE, number(2), pc=WAYS_MEET)), None),
     ("a word of an index stays where it is", search().as_one, (state(ONE, forms.Word(0, count())), state(ONE, forms.Word(0, count()))), None),
 
@@ -255,6 +294,39 @@ ROWS = (
     ("below a number", split_of, ("bltu", WORD, number(5), (1, 9)), 4),
     ("and above", split_of, ("bltu", number(5), WORD, (1, 9)), 5),
 
+    ("where a sum wraps it parts, too", split_of, ("bltu", WORD.plus(number(-2)), number(5), (1, 9)), 1),
+    ("signed numbers as others", split_of, ("blt", WORD, number(5), (1, 9)), 4),
+    ("but 0 alone", split_of, ("blt", WORD, number(5), (0, 9)), 0),
+    ("a count parts nothing", split_of, ("bltu", WORD, count(), (1, 9)), None),
+    ("a word and a number is parted where it wraps", computed, ("add", WORD, number(-2)), 1),
+    ("unless it is not kept", lambda: computed("add", WORD, number(-2), is_kept=False), (), WORD.plus(number(-2))),
+    ("a word less itself is a number", lambda: computed("sub", WORD, WORD, is_immediate=False), (), number(0)),
+    ("where registers' sums are kept", lambda: computed("sub", WORD, WORD, is_immediate=False, is_kept=False), (), None),
+    ("two words are none", lambda: computed("add", WORD, forms.variable_of("w", 1), is_immediate=False), (), None),
+    ("a shifted word is a multiple", computed, ("slli", WORD, number(2)), WORD.times(4)),
+    ("a shift by a word is nothing", computed, ("slli", number(1), WORD), None),
+    ("nor is another operation", computed, ("xor", WORD, number(1)), None),
+    ("a word covers a number of its range", covers_words, ([WORD], [number(9)]), True),
+    ("and none past it", covers_words, ([WORD], [number(10)]), False),
+    ("nor one before it", covers_words, ([WORD], [number(0)]), False),
+    ("two of it cover what goes together", covers_words, ([WORD, WORD.plus(number(1))], [number(5), number(6)]), True),
+    ("and nothing else", covers_words, ([WORD, WORD.plus(number(1))], [number(5), number(7)]), False),
+    ("a multiple covers multiples", covers_words, ([WORD.times(4)], [number(8)]), True),
+    ("also of a position", covers_words, ([WORD.times(4)], [forms.variable_of("p", 0, 4, 8)], share(None, 0, 3)), True),
+    ("but not a number beside", covers_words, ([WORD.times(4)], [forms.variable_of("p", 0, 4, 9)], share(None, 0, 3)), False),
+    ("a number more covers one more", covers_words, ([WORD.plus(number(1))], [number(10)]), True),
+    ("and none less", covers_words, ([WORD.plus(number(1))], [number(1)]), False),
+    ("and no part of one", covers_words, ([WORD.times(4)], [number(9)]), False),
+    ("a count that has no range is in none", covers_words, ([WORD], [count()], share(None)), False),
+    ("words that meet are one of a wider range", met, (((1, 9), WORD), ((1, 300), WORD)), ((WORD, None), ((1, 65535),), 0)),
+    ("of numbers more, too", met, (((1, 9), WORD.plus(number(1))), ((1, 300), WORD.plus(number(1)))), ((WORD, None), ((2, 65535),), 0)),
+    ("a multiple is one of such", met, (((1, 9), WORD.times(4)), ((1, 300), WORD.times(4))), ((WORD.times(4), None), ((1, 65535),), 0)),
+    # the one less is up to 255, as bytes are, and the one more up to 65535, as halves are
+    ("what is less by a number goes with it, and may make it narrower", met,
+     (((1, 255), WORD, WORD.plus(number(-1))), ((1, 256), WORD, WORD.plus(number(-1)))), ((WORD, WORD.plus(number(-1))), ((1, 256),), 0)),
+    ("so may what is more", met, (((1, 9), WORD, WORD.plus(number(1))), ((1, 300), WORD, WORD.plus(number(1)))),
+     ((WORD, WORD.plus(number(1))), ((1, 65534),), 0)),
+
     ("all that is wanted is done of a record", shown, (0b11, 1, 0b01, 0b10), None),
     ("before it is handed on", shown, (0b11, 1, 0b0001_11, 0), (0b00,)),
     ("and what is done of the next stays", shown, (0b11, 1, 0b110011, 0), (0b11,)),
@@ -263,6 +335,19 @@ ROWS = (
     ("loops, those to which they lead first", lambda: [sorted(each) for each in ranks.components([[1], [2], [1], [0]])], (), [[1, 2], [0], [3]]),
     ("the longest way from each", ranks.longest_paths, ([[1, 2], [2], []],), [2, 1, 0]),
     ("of a loop there is none", ranks.longest_paths, ([[1], [0]],), None),
+    ("a rank is more than that to which a way leads", ranking([[(1, KEEPS, 0, 0)], []], [reference.number(3)]).above, (0,), {0: reference.number(4)}),
+    ("by the variable that it keeps", ranking([[(1, KEEPS, 0, 0)], []], [reference.Form(2, (6,))]).above, (0,), {0: reference.Form(3, (6,))}),
+    ("less where that falls", ranking([[(1, KEEPS, 1, 0)], []], [reference.Form(2, (6,))]).above, (0,), {0: reference.Form(0, (6,))}),
+    ("of a new one by the most that it may be", ranking([[(1, NEW, 0, 5)], []], [reference.Form(2, (6,))]).above, (0,), {0: reference.number(33)}),
+    ("without a bound there is none", ranking([[(1, NEW, 0, None)], []], [reference.Form(2, (6,))]).above, (0,), None),
+    ("of two ways the greater", ranking([[(1, KEEPS, 0, 0), (2, KEEPS, 0, 0)], [], []], [reference.number(3), reference.Form(0, (2,))]).above, (0,),
+     {0: reference.Form(4, (2,))}),
+    ("round about a variable falls once", ranking(ROUND).round_about, ([0, 1],), {0: reference.Form(1, (2,)), 1: reference.Form(0, (2,))}),
+    ("above what comes after it", ranking(LEAVES, [reference.number(5)]).round_about, ([0, 1],), {0: reference.Form(7, (2,)), 1: reference.Form(6, (2,))}),
+    ("unless that has no greatest rank", ranking([[*ROUND[0], (2, NEW, 0, None)], ROUND[1], []], [reference.Form(0, (1,))]).round_about, ([0, 1],), None),
+    ("nor where another variable falls", lambda: ranking(ROUND, falling=1).round_about([0, 1]), (), None),
+    ("nor where nothing falls", ranking([ROUND[0], [(0, KEEPS, 0, 0)]]).round_about, ([0, 1],), None),
+    ("then a number is above what comes after", ranking(LEAVES, [reference.number(5)]).numbers, ([0, 1],), {0: reference.number(6), 1: reference.number(6)}),
     ("a number of the sign", forms.signed, (0xFF, 8), -1),
     ("bounds of a form", forms.bounds, (forms.form(5, {P: 2, A: -1}), {P: (0, 3), A: (1, 2)}), (3, 10)),
     ("of one that has no range there are none", forms.bounds, (count(), {}), None),
