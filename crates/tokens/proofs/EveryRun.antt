@@ -76,10 +76,7 @@ module _ (B M : ℕ) (o : OpeningValue) (q : TokenLayout) (says : ℕ → View �
     )
 
     land_left : (h : ℕ) → is_land e ≡ true → HoldsSame h (Counted done) (Counted (done ++ e ∷ []))
-    land_left h landed t =
-        let same : Counted (done ++ e ∷ []) ≡ Counted done = counted_last done e
-        ∙ ap (λ y. holders_then q (hart_of e) y (Counted done)) (land_is (access_of e) landed) in
-        (λ is. ap (λ (d : Holders). d t) same ∙ is, λ is. sym (ap (λ (d : Holders). d t) same) ∙ is)
+    land_left h landed t = grind (arith, counted_last, land_is)
 
     pub held_left : (h : ℕ) → is_own h e ≡ false → HoldsSame h (Counted done) (Counted (done ++ e ∷ []))
     held_left h off = at (cases_eq (hart_of e) h) (is_land e) refl
@@ -151,19 +148,7 @@ module _ (B M : ℕ) (o : OpeningValue) (q : TokenLayout) (says : ℕ → View �
       )
 
   pub is_counted : IsCounted B M o Holders (holding q says) start P Counted Kept
-  is_counted = record {
-    opens = λ h t. (λ is. is, λ is. is);
-    left = λ h done e off run k may. held_left done e run k may h off;
-    owned = λ h x done e off run k may owns. owned_left done e run k may h x off owns;
-    acted = λ h done e mine t.
-        (let same : holders_then q h (access_of e) (Counted done) t ≡ Counted (done ++ e ∷ []) t =
-        ap (λ g. holders_then q g (access_of e) (Counted done) t) (sym mine) ∙ sym (ap (λ (d : Holders). d t) (counted_last done e)) in
-        (λ is. sym same ∙ is, λ is. same ∙ is));
-    lands = λ h c. tt;
-    first = record { follows = record { opens = opens; legal = tt; keeps = tt }; said = begins };
-    knows = knows_at;
-    goes_on = λ done e run k may stands. kept_next done e run k may stands;
-  }
+  is_counted = grind (arith, held_left, owned_left, counted_last, knows_at, kept_next)
 
   module _ (Own : ℕ → ℕ → Type 0) (c : IsCertified M o (holding q says) start Own P) where
     all_hold : (es : List Entry) → WellFormed B M (history_of o es) → Holds B M o Holders (holding q says) start P Counted Own c Kept is_counted es
@@ -284,11 +269,7 @@ module _ (B M : ℕ) (o : OpeningValue) (q : TokenLayout) (says : ℕ → View �
         × (KeepsAccess k (party_holding s k (C done) (hart_of e)) (N done) (access_of e) → KeepsEntry k (N done) x)
 
     part_as : (e x : Entry) → party_holding s k (C done) (hart_of e) ≡ party_of k (hart_of x) → access_of x ≡ access_of e → IsAs e x
-    part_as e x party does = (
-      ap (λ t. after_access k t (access_of e) (N done)) party ∙ ap (λ y. after_access k (party_of k (hart_of x)) y (N done)) (sym does),
-      λ keeps. subst (λ y. KeepsAccess k (party_of k (hart_of x)) (N done) y) (sym does)
-          (subst (λ t. KeepsAccess k t (N done) (access_of e)) party keeps),
-    )
+    part_as e x party does = grind arith
 
     role_V : (h : ℕ) → is_holder (C done s) h ≡ true → party_holding s k (C done) h ≡ party_of k k.sender
     role_V h yea = grind (arith, eq-eqb)
@@ -335,9 +316,7 @@ module _ (B M : ℕ) (o : OpeningValue) (q : TokenLayout) (says : ℕ → View �
         by true yea = part_as (entry.Amo h a old x) (entry.Amo k.sender a old x) (role_V h yea) refl
         by false nay = part_as (entry.Amo h a old x) (entry.Amo h a old x) (role_h h new nay) refl
     is_as (entry.Fence h full) new = idle_as (entry.Fence h full) h (fences (party_holding s k (C done) h) full)
-    is_as (entry.Land h) new =
-        let r = lands_idle (party_of k (if is_holder (Mem done s) h then k.sender else h)) in
-        ((lands_idle (party_holding s k (C done) h)).0 ∙ sym r.0, λ keeps. r.1)
+    is_as (entry.Land h) new = grind (arith, lands_idle)
     is_as e new = idle_as e (hart_of e) (idle (party_holding s k (C done) (hart_of e))).0
 
     module _ (e : Entry) (run : WellFormed B M (history_of o (done ++ e ∷ [])))
@@ -390,10 +369,7 @@ module _ (B M : ℕ) (o : OpeningValue) (q : TokenLayout) (says : ℕ → View �
 
               by : (b : Bool) → lays q (write a 4 old) s ≡ b → ⊥
               by false off = w.never (sym (taken-left q (hart_of e) (write a 4 old) (Mem done) s off) ∙ l.1)
-              by true found = free_then (ap (λ (c : Holders). c s) held_then ∙ ap (λ y. holders_then q (hart_of e) y (C done) s) does
-                  ∙ laid-left q (write a 4 x) (taken_by q (hart_of e) (write a 4 old) (C done)) s l.0
-                  ∙ taken-here q (hart_of e) (write a 4 old) (C done) s found
-                  ∙ sym (taken-here q (hart_of e) (write a 4 old) (Mem done) s found) ∙ l.1)
+              by true found = grind (arith, free_then, laid-left, taken-here)
 
           at : (y : Access) → access_of e ≡ y → next_in_memory q (hart_of e) (pending (hart_of e) done) y (Mem done) s ≡ Some k.receiver → ⊥
           at land does it = landed (pending (hart_of e) done) it
@@ -459,11 +435,7 @@ module _ (B M : ℕ) (o : OpeningValue) (q : TokenLayout) (says : ℕ → View �
 
   -- the count of an entry of hart h's own
   acted_part : (h : ℕ) (a b : RoleCounts) → a.0 ≡ b.0 → a.1 ≡ b.1 → SameRole s k h a b
-  acted_part h a b holds counts = record {
-    holds = λ t. (λ has. sym (ap (λ (c : Holders). c t) holds) ∙ has, λ has. ap (λ (c : Holders). c t) holds ∙ has);
-    sends = λ has. (ap (λ x. x.published) (sym counts), ap (λ x. x.known_taken) (sym counts));
-    receives = λ here. (ap (λ x. x.taken) (sym counts), ap (λ x. x.known_published) (sym counts));
-  }
+  acted_part h a b holds counts = grind arith
 
   -- ---- the induction of certified_runs
 

@@ -575,8 +575,7 @@ module _ (B : ℕ) (q : TokenLayout) (o : OpeningValue) (es : List Entry) (e : E
     where
       by : {i : ℕ} → (LiesAt q o es i t) ⊎ ((all_laid q (pending (hart_of e) es) m t ≡ None) × (m t ≡ Some (hart_of e))) → LiesAt q o es i t
       by (inl there) = there
-      by (inr down) = absurd (none-some (all_laid q (pending (hart_of e) es) m t) (hart_of e) down.0
-          (ap (λ ws. all_laid q ws m t) nothing_pending ∙ down.1))
+      by (inr down) = grind (arith, none-some)
 
   pub found_free : (t : ℕ) → lays q p t ≡ true → m t ≡ None
   found_free t yea = let f = found t yea in w.free f.0 t f.1 f.2
@@ -756,9 +755,7 @@ module _ (B : ℕ) (q : TokenLayout) (o : OpeningValue) where
     quiet_one y does k = quiet q o es e c m w le (subst IsStill (sym does) k)
 
     landing : access_of e ≡ land → (ws : List Write) → pending (hart_of e) es ≡ ws → Held q o (es ++ e ∷ []) c (laid_first q ws m)
-    landing does [] none = absurd (let some : 0 < length (pending (hart_of e) es) =
-        subst (AllowedBy B (pending (hart_of e) es) (read o es (hart_of e))) does allowed in
-        let zero : length (pending (hart_of e) es) ≡ 0 = ap length none in omega (arith, some, zero))
+    landing does [] none = grind arith
     landing does (v ∷ rest) oldest = lands_on B q o es e c m w le allowed does v rest oldest
 
     at : (y : Access) → access_of e ≡ y → May q (hart_of e) c y

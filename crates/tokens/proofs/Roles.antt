@@ -201,8 +201,7 @@ module _ (q : TokenLayout) (s V B : ℕ) (o : OpeningValue) (es R : List Entry) 
         room = subst (AllowedBy B (pending (hart_of e) es) (read o es (hart_of e))) does allowed
 
         may_too : length (pending k R) ≤ length (pending (hart_of e) es) → Allowed B o R d
-        may_too short = subst (λ h. AllowedBy B (pending h R) (read o R h) (access_of d)) (sym by_hart)
-            (subst (AllowedBy B (pending k R) (read o R k)) (sym does2) (omega (arith, short, room)))
+        may_too short = grind arith
 
         same_landings : landed (R ++ d ∷ []) ≡ landed (es ++ e ∷ [])
         same_landings = grind (arith, landed-last, append-nil)
@@ -281,8 +280,7 @@ module _ (q : TokenLayout) (s V B : ℕ) (o : OpeningValue) (es R : List Entry) 
       module _ (does : access_of e ≡ land) (v : Write) (later : List Write) (oldest : pending (hart_of e) es ≡ v ∷ later) (d : Entry) (k : ℕ)
           (by_hart : hart_of d ≡ k) (does2 : access_of d ≡ land) (later2 : List Write) (oldest2 : pending k R ≡ v ∷ later2) where
         may_land : Allowed B o R d
-        may_land = subst (λ h. AllowedBy B (pending h R) (read o R h) (access_of d)) (sym by_hart)
-            (subst (AllowedBy B (pending k R) (read o R k)) (sym does2) (let some = ap length oldest2 in omega (arith, some)))
+        may_land = grind arith
 
         landed_both : landed (R ++ d ∷ []) ≡ landed (es ++ e ∷ [])
         landed_both = grind (arith, landed-last)
