@@ -41,8 +41,6 @@ pub mod Leaves
 pub mod Certified
 pub mod EveryRun
 pub mod OneSlotQueue
-mod OneSlotNumbers
-pub mod OneSlotTags
 pub use Rattle.queue_certificates.proofs.Sets.{CertifiedSets}
 pub use Rattle.queue_certificates.proofs.Every.{every_state, holds, next_is}
 pub use Rattle.queue_certificates.proofs.ToldAccesses.{knows_of, tag_loaded, told_owns}

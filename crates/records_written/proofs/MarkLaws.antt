@@ -90,33 +90,6 @@ pub and-true : (t : Bool) → t ≡ (t && true)
 and-true true = refl
 and-true false = refl
 
-pub put-marks : (all : List (Option (List Mark))) (to : ℕ) (x : List Mark) (left : ℕ → ℕ → Bool) → to < length all
-    → ((d b : ℕ) → has_mark x d b ≡ (marks_of all to d b && left d b)) → (m d b : ℕ)
-    → marks_of (set all to (Some x)) m d b ≡ (marks_of all m d b && (not (to == m) || left d b))
-put-marks all to x left short is m d b = by (to == m) refl
-  where
-    by : (t : Bool) → (to == m) ≡ t → marks_of (set all to (Some x)) m d b ≡ (marks_of all m d b && (not (to == m) || left d b))
-    by true same =
-        let at : to ≡ m = eqb-true to m same in
-        let here : get_or (set all to (Some x)) m (Some []) ≡ Some x = subst (λ (n : ℕ). get_or (set all to (Some x)) n (Some []) ≡ Some x) at
-        (get_or-set_same all to (Some x) (Some []) short) in
-        rw (same, here) (subst (λ (n : ℕ). has_mark x d b ≡ (marks_of all n d b && left d b)) at (is d b))
-    by false other =
-        let apart : m ≡ to → ⊥ = λ e. (let yes : (to == m) ≡ true = grind (arith, nat_tests) in absurd (cc)) in
-        ap (λ own. marks_byte own d b) (get_or-set_other all to m (Some x) (Some []) apart) ∙ rw other (and-true (marks_of all m d b))
-
-pub kept-marks : (all : List (Option (List Mark))) (to : ℕ) (left : ℕ → ℕ → Bool) → ((d b : ℕ) → marks_of all to d b ≡ true → left d b ≡ true)
-    → (m d b : ℕ) → marks_of all m d b ≡ (marks_of all m d b && (not (to == m) || left d b))
-kept-marks all to left is m d b = by (to == m) refl (marks_of all m d b) refl
-  where
-    by : (t : Bool) → (to == m) ≡ t → (u : Bool) → marks_of all m d b ≡ u → marks_of all m d b ≡ (marks_of all m d b && (not (to == m) || left d b))
-    by t same false none = rw none refl
-    by false other true holds = rw (holds, other) refl
-    by true same true holds =
-        let at : to ≡ m = eqb-true to m same in
-        let here : left d b ≡ true = is d b (subst (λ (n : ℕ). marks_of all n d b ≡ true) (sym at) holds) in
-        rw (holds, same, here) refl
-
 pub opened-more : (all : List (Option (List Mark))) (own : Option (List Mark)) (n first : ℕ) → length all ≡ n
     → ((d b : ℕ) → marks_byte own d b ≡ not (n == first)) → ((m d b : ℕ) → m < n → marks_of all m d b ≡ not (m == first))
     → (m d b : ℕ) → m < n + 1 → marks_of (all ++ own ∷ []) m d b ≡ not (m == first)
@@ -128,9 +101,6 @@ opened-more all own n first size is before m d b less = elim (cases_lt m n) [
       ap (λ x. marks_byte x d b) (subst (λ (k : ℕ). get_or (all ++ own ∷ []) k (Some []) ≡ own) at (get_or-append_seam all own [] (Some [])))
       ∙ subst (λ (k : ℕ). marks_byte own d b ≡ not (k == first)) last (is d b))
 ]
-
-pub no-marks : (all : List (Option (List Mark))) (to d b : ℕ) → length all ≤ to → marks_of all to d b ≡ false
-no-marks all to d b past = ap (λ own. marks_byte own d b) (get_or_past all to (Some []) past)
 
 pub left-all : (targets : List ℕ) (written : Bool) (m : ℕ) → written ≡ true → is_left targets written m ≡ true
 left-all [] written m so = refl
@@ -150,36 +120,7 @@ any-default (x ∷ xs) (suc i) d e less = any-default xs i d e (omega (arith, le
 pub left-none : (old : Bool) (targets : List ℕ) (written : Bool) (m : ℕ) → written ≡ true → old ≡ (old && is_left targets written m)
 left-none old targets written m so = and-true old ∙ sym (ap (λ t. old && t) (left-all targets written m so))
 
-pub left-done : (old new was written : Bool) (targets : List ℕ) (i m : ℕ) → length targets ≤ i → was ≡ written
-    → new ≡ (old && is_left (take i targets) was m) → new ≡ (old && is_left targets written m)
-left-done old new was written targets i m all same is =
-    is ∙ ap (λ ts. old && is_left ts was m) (take_all i targets all) ∙ ap (λ w. old && is_left targets w m) same
-
 -- ---- what isn't marked
-
-pub lowest-open : (mask : List ByteRange) (own asked lacking : List Mark) (position : ℕ)
-    → ((d b : ℕ) → has_mark asked d b ≡ ((position == d) && has_byte mask b))
-    → ((d b : ℕ) → has_mark lacking d b ≡ (has_mark asked d b && not (has_mark own d b)))
-    → (found : Option ℕ) → IsLowest lacking found → IsLowestOpen mask (has_mark own) position found
-lowest-open mask own asked lacking position of asks found is = by found is
-  where
-    at : (b : ℕ) → has_mark lacking position b ≡ is_open mask (has_mark own) position b
-    at b = asks position b ∙ (let same : (position == position) ≡ true = grind (arith, nat_tests) in rw (of position b, same) refl)
-
-    other : (d b : ℕ) → (position == d) ≡ false → has_mark lacking d b ≡ false
-    other d b apart = asks d b ∙ rw (of d b, apart) refl
-
-    by : (found : Option ℕ) → IsLowest lacking found → IsLowestOpen mask (has_mark own) position found
-    by None is = λ b. sym (at b) ∙ is position b
-    by (Some x) is = (here (position == is.0.0) refl, λ a less. sym (at a) ∙ is.1 position a less)
-      where
-        here : (t : Bool) → (position == is.0.0) ≡ t → is_open mask (has_mark own) position x ≡ true
-        here true same = sym (at x) ∙ subst (λ (d : ℕ). has_mark lacking d x ≡ true) (sym (eqb-true position is.0.0 same)) is.0.1
-        here false apart = absurd (let no : has_mark lacking is.0.0 x ≡ false = other is.0.0 x apart in
-            let yes : has_mark lacking is.0.0 x ≡ true = is.0.1 in cc)
-
-abbrev pub no_sent : PartyLeaf
-no_sent = record { effect = None; all = false; targets = [] }
 
 -- of the positions before an end, the first that lacks a byte is the first of those that these leaves may publish
 pub open-within : (mask : List ByteRange) (own : ℕ → ℕ → Bool) (leaves : List PartyLeaf) (end : ℕ) (found : Option Open) → IsEnd leaves own end
