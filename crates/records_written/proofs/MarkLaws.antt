@@ -1,17 +1,16 @@
 -- Lists of marks.
-use Rattle.std.proofs.Common.{ℕ, zero, suc, ◌≡◌, ◌<◌, ◌≤◌, ◌==◌, ◌&&◌, ◌||◌, not, Bool, true, false, Option, None, Some, List, [], ◌∷◌, ◌++◌, ◌+◌, length, take}
+use Rattle.std.proofs.Common.{ℕ, zero, suc, ◌≡◌, ◌<◌, ◌==◌, ◌&&◌, ◌||◌, not, Bool, true, false, Option, None, Some, List, [], ◌∷◌, ◌++◌, ◌+◌, length, take}
 use Rattle.std.proofs.Common.{get_or, refl, sym, ap, subst, ◌∙◌, arith, inl, inr}
-use Rattle.std.specs.Prelude.{nat_lt, min, set}
-use Rattle.std.proofs.lemmas.Bool.{and_from, or_cases, or_from, or_left, or_right, cases_lt, eqb-true, ltb-true, lt-ltb}
+use Rattle.std.specs.Prelude.{nat_lt, min}
+use Rattle.std.proofs.lemmas.Bool.{and_from, or_cases, or_from, or_left, or_right, cases_lt, ltb-true, lt-ltb}
 use Rattle.std.proofs.lemmas.Bool.Decides.{nat_tests}
-use Rattle.std.proofs.lemmas.List.{get_or-set_same, get_or-set_other, get_or_past, take_all}
 use Rattle.std.proofs.lemmas.List.Folds.{list_any_at, list_any_more}
 use Rattle.std.proofs.Math.Seq.{get_or-append_seam}
 use Rattle.std.proofs.Math.ListN.{get_or-append}
 use Rattle.record_bytes.specs.declared.ranges.ByteRange.{ByteRange}
 use Rattle.record_bytes.specs.Ranges.{has_byte, range_has}
-use Rattle.records_written.specs.{Mark, Open, PartyLeaf, may_hand_on, is_mark, has_mark, marks_byte, marks_of, is_left, lower_of, lower, IsLowest, is_open}
-use Rattle.records_written.specs.{IsLowestOpen, IsEnd, IsFirstOpen}
+use Rattle.records_written.specs.{Mark, Open, PartyLeaf, may_hand_on, is_mark, has_mark, marks_byte, marks_of, is_left, lower_of, lower, IsLowest}
+use Rattle.records_written.specs.{IsEnd, IsFirstOpen}
 
 abbrev pub no_mark : Mark
 no_mark = record { position = 0; bytes = record { first = 0; last = 0 } }
