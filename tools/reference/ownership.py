@@ -38,14 +38,10 @@ class Counts:
         """The first position from this one on that lies in the slot."""
         return own + (slot - own) % self.queue.size
 
-    def is_record_byte(self, byte):
-        """Whether a byte is of a slot, and of no tag."""
-        return self.is_slot_byte(byte)
-
     def last_told(self, byte):
         """The last position of which the receiver was told whose record has the byte, of those of the last round; or None."""
         known = self.told()
-        position = self.position(max(known - self.queue.size, 0), byte) if self.is_record_byte(byte) else known
+        position = self.position(max(known - self.queue.size, 0), byte) if self.is_slot_byte(byte) else known
         return position if position < known else None
 
     def may_store(self, *store):
@@ -145,9 +141,6 @@ class TagCounts(Counts):
     def is_tag_byte(self, byte):
         return 0 <= byte - tags.tag_of(self.queue, (byte - self.queue.slots) // self.queue.width) < self.queue.tag_width
 
-    def is_record_byte(self, byte):
-        return self.is_slot_byte(byte) and not self.is_tag_byte(byte)
-
     def is_element_byte(self, byte):
         return self.queue.tags <= byte < self.queue.tags + self.queue.size * self.queue.tag_stride
 
@@ -216,7 +209,7 @@ class Sent:
                 break
             if counts.next_of(first, slot) >= end:
                 continue
-            for byte in filter(counts.is_record_byte, range(start, min(start + queue.width, MEMORY))):
+            for byte in range(start, min(start + queue.width, MEMORY)):
                 self.of.setdefault(byte, []).append((first, end, read(byte)))
 
     def store_over(self, address, width):
@@ -303,6 +296,9 @@ class Runs:
         for place, (access, state, after) in enumerate(self.entries(events)):
             hart, address, width, loaded, value = access
             pc = state[0][hart][0]
+            if loaded is not None:
+                # a tag may be the record, of which its load tells
+                counts.loaded(hart, address, width, loaded)
             if place > since and hart == queue.receiver and loaded is not None:
                 for byte in range(address, address + width):
                     position = counts.last_told(byte)
@@ -310,8 +306,6 @@ class Runs:
                     if was is not None and was != loaded >> 8 * (byte - address) & 255:
                         back = next((at for first, end, at in handed if first <= position < end), None)
                         return Loss(hart, pc, address, width, loaded, position, byte, was, back)
-            if loaded is not None:
-                counts.loaded(hart, address, width, loaded)
             if value is None:
                 continue
             published, taken = counts.own[queue.sender], counts.own[queue.receiver]

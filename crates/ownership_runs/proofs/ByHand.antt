@@ -36,6 +36,11 @@ abbrev tagged : AnyQueue
 tagged = Tagged
     (record { sender = 0; receiver = 1; slots = 4; size = 1; width = 2; tags = 4; tag_stride = 2; tag_offset = 0; tag_width = 1; codec = codec.Zero })
 
+-- one slot of a byte, which is its tag
+abbrev fast_forward : AnyQueue
+fast_forward = Tagged
+    (record { sender = 0; receiver = 1; slots = 4; size = 1; width = 1; tags = 4; tag_stride = 1; tag_offset = 0; tag_width = 1; codec = codec.Zero })
+
 abbrev loss : (place value position sent : ℕ) → Option Loss
 loss place value position sent =
     Some (record { place = place; hart = 1; addr = 4; width = 1; value = value; position = position; byte = 4; sent = sent })
@@ -70,9 +75,14 @@ pub late_by_hand : first_loss None byte zeros (all_at 0)
 unfolding losses.first_byte
 late_by_hand = refl
 
--- a tag is none of the record
+-- a tag that the receiver has stored over is no longer the record
 pub tag_by_hand : first_loss None tagged zeros (all_at 0)
     (Store 0 5 1 7 ∷ Store 0 4 1 1 ∷ Land 0 ∷ Land 0 ∷ Load 1 4 1 1 ∷ Load 1 5 1 7 ∷ Store 1 4 1 0 ∷ Load 1 4 1 0 ∷ [])
     ≡ None
 unfolding losses.first_byte
 tag_by_hand = refl
+
+-- the record is the tag, and a later one is stored over it before the receiver looks
+pub overwritten_by_hand : first_loss None fast_forward zeros (all_at 0) (Store 0 4 1 7 ∷ Store 0 4 1 9 ∷ Land 0 ∷ Land 0 ∷ Load 1 4 1 9 ∷ []) ≡ loss 4 9 0 7
+unfolding losses.first_byte
+overwritten_by_hand = refl

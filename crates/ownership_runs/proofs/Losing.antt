@@ -10,7 +10,7 @@ use Rattle.step_machine.specs.Names.{OpeningValue, Access, load, exchange, acces
 use Rattle.queue_parties.specs.Parties.{Party, the_receiver, QueueCounts}
 use Rattle.queue_layouts.specs.declared.AnyQueue.{AnyQueue}
 use Rattle.ownership_runs.specs.{Loss, HasSlot, party_for, entry_counts, run_counts, SentBytes, nothing_sent}
-use Rattle.ownership_runs.specs.{sent_after, sent_from, or_else, if_differs, if_told}
+use Rattle.ownership_runs.specs.{counts_told, sent_after, sent_from, or_else, if_differs, if_told}
 use Rattle.ownership_runs.specs.{byte_lost, first_byte, is_after, loss_by, loss_at, loss_since, loss_from}
 use Rattle.ownership_runs.specs.{position_told, first_loss, Loads, IsLossAt, IsLoss, IsFirstLoss}
 use Rattle.ownership_runs.proofs.Sending.{was-sent, still-sent}
@@ -79,15 +79,15 @@ module _ (q : AnyQueue) (place h : ℕ) (c : QueueCounts) (s : SentBytes) (a w v
   pub record IsLostByte (l : Loss) : Type 0 where
     pub position : ℕ
     pub sent : ℕ
-    pub told : position_told q c (a + i) ≡ Some position
+    pub told : position_told q (counts_told q a w v c) (a + i) ≡ Some position
     pub was : s position (a + i) ≡ Some sent
     pub differs : sent ≢ byte_at i v
     pub is : l ≡ record { place = place; hart = h; addr = a; width = w; value = v; position = position; byte = a + i; sent = sent }
 
   pub lost-byte : (l : Loss) → byte_lost q place h c s a w v i ≡ Some l → IsLostByte l
-  lost-byte l some = by (position_told q c (a + i)) refl some
+  lost-byte l some = by (position_told q (counts_told q a w v c) (a + i)) refl some
     where
-      by : (t : Option ℕ) → position_told q c (a + i) ≡ t → if_told place h s a w v i t ≡ Some l → IsLostByte l
+      by : (t : Option ℕ) → position_told q (counts_told q a w v c) (a + i) ≡ t → if_told place h s a w v i t ≡ Some l → IsLostByte l
       by None none found = cc
       by (Some k) told found = at (s k (a + i)) refl found
         where
@@ -112,7 +112,8 @@ module _ (q : AnyQueue) (place h : ℕ) (c : QueueCounts) (s : SentBytes) (a w v
                     cc);
               }
 
-  pub byte-lost : (k b : ℕ) → position_told q c (a + i) ≡ Some k → s k (a + i) ≡ Some b → b ≢ byte_at i v → byte_lost q place h c s a w v i ≡ None → ⊥
+  pub byte-lost : (k b : ℕ) → position_told q (counts_told q a w v c) (a + i) ≡ Some k → s k (a + i) ≡ Some b → b ≢ byte_at i v
+      → byte_lost q place h c s a w v i ≡ None → ⊥
   byte-lost k b told was differs none =
       let is : if_told place h s a w v i (Some k) ≡ None = ap (if_told place h s a w v i) (sym told) ∙ none in
       let has : if_differs place h a w v i k (Some b) ≡ None = ap (if_differs place h a w v i k) (sym was) ∙ is in
@@ -212,7 +213,7 @@ module _ (q : AnyQueue) (some : HasSlot q) (o : OpeningValue) (start : QueueCoun
         let first = first-byte (byte_lost q (length front) (hart_of entry) c s a w v) w l found in
         let i : ℕ = first.place in
         let lost = lost-byte q (length front) (hart_of entry) c s a w v i l first.is in
-        let last = last-told q some c (a + i) lost.position lost.told in
+        let last = last-told q some (counts_told q a w v c) (a + i) lost.position lost.told in
         let less : i < w = first.less in
         let within : a + i < a + w = omega (arith, less) in
         subst (IsLossAt q o start front entry) (sym lost.is) (record {
@@ -247,8 +248,9 @@ module _ (q : AnyQueue) (some : HasSlot q) (o : OpeningValue) (start : QueueCoun
         let d : QueueCounts = run_counts q start among.front in
         let sent : SentBytes = sent_from q o [] start nothing_sent among.front in
         let was : sent l.position l.byte ≡ Some l.sent = still-sent q o l.hart loss.receives start among.front l.position l.byte l.sent loss.sent in
-        let told : position_told q d l.byte ≡ Some l.position =
-        told-last q some d l.byte l.position (record { of_record = loss.of_record; told = loss.told; last = loss.last }) in
+        let told : position_told q (counts_told q l.addr l.width l.value d) l.byte ≡ Some l.position =
+        told-last q some (counts_told q l.addr l.width l.value d) l.byte l.position
+        (record { of_record = loss.of_record; told = loss.told; last = loss.last }) in
         let parts : or_else (first_loss since q o start among.front) (loss_from since q o among.front d sent (among.entry ∷ among.back)) ≡ None =
         sym (loss-append since q o [] start nothing_sent among.front (among.entry ∷ among.back)) ∙ ap (first_loss since q o start) (sym among.is) ∙ none in
         let counts : is_after since (length among.front) ≡ true = ap (is_after since) (sym loss.place) ∙ after in
@@ -256,7 +258,7 @@ module _ (q : AnyQueue) (some : HasSlot q) (o : OpeningValue) (start : QueueCoun
         ap (λ b. if b then loss_at q (length among.front) d sent among.entry else None) (sym counts) ∙ (or-none _ _ (or-none _ _ parts).1).0 in
         let receives : party_for q (hart_of among.entry) ≡ Some the_receiver = ap (party_for q) loss.hart ∙ loss.receives in
         byte-lost q (length among.front) (hart_of among.entry) d sent l.addr l.width l.value i l.position l.sent
-        (ap (position_told q d) x ∙ told) (ap (sent l.position) x ∙ was) loss.differs
+        (ap (position_told q (counts_told q l.addr l.width l.value d)) x ∙ told) (ap (sent l.position) x ∙ was) loss.differs
         (no-byte (byte_lost q (length among.front) (hart_of among.entry) d sent l.addr l.width l.value) l.width i
         (by (length among.front) (hart_of among.entry) d sent (access_of among.entry) l.addr l.width l.value loss.loads
         (ap (λ t. loss_by q t (length among.front) (hart_of among.entry) d sent (access_of among.entry)) (sym receives) ∙ here)) less)

@@ -21,7 +21,7 @@ use Rattle.queue_layouts.specs.declared.AnyQueue.{AnyQueue}
 use Rattle.queue_layouts.specs.declared.AnyQueue.TheVariants.{Indexed, Tagged}
 use Rattle.queue_layouts.specs.Tagged.{slots_of}
 use Rattle.ownership_runs.specs.{Loss, HasSlot, party_for, access_counts, entry_counts, run_counts, SentBytes, nothing_sent, sent_by, sent_after, sent_from}
-use Rattle.ownership_runs.specs.{or_else, if_told, byte_lost, loss_by, loss_since, is_after, first_loss, position_told}
+use Rattle.ownership_runs.specs.{or_else, counts_told, if_told, byte_lost, loss_by, loss_since, is_after, first_loss, position_told}
 use Rattle.ownership_runs.specs.{stores_over, slots_from, slot_width, slots_in}
 use Rattle.ownership_runs.specs.{is_record_byte, slot_number, position_from, IsRecordByte}
 use Rattle.ownership_runs.specs.declared.sent.ByteLog.{ByteLog}
@@ -92,21 +92,21 @@ module _ (since : Option ℕ) (M : ℕ) (q : AnyQueue) (some : HasSlot q) (o : O
   module _ (log : List ByteLog) (is : IsLogOf M q o start es log) where
     -- ---- the loss that the entry is
 
-    answers : (k x : ℕ) → position_told q c x ≡ Some k → x < 4 * M → answered q c log k x ≡ s k x
-    answers k x told memory = by (nat_lt k c.published) refl
+    answers : (d : QueueCounts) (k x : ℕ) → position_told q d x ≡ Some k → x < 4 * M → answered q c log k x ≡ s k x
+    answers d k x told memory = by (nat_lt k c.published) refl
       where
         by : (b : Bool) → nat_lt k c.published ≡ b → (if b then logged q log k x else None) ≡ s k x
         by true less =
-            let within : IsInBytes (slots_from q) (slots_in q * slot_width q) x = in-slots q x (is-record q some k x (last-told q some c x k told).of_record) in
+            let within : IsInBytes (slots_from q) (slots_in q * slot_width q) x = in-slots q x (is-record q some k x (last-told q some d x k told).of_record) in
             is.sent k x (is.places x ((decides-bytes (slots_from q) (slots_in q * slot_width q) x).1 within) memory) memory ((Decides-ltb k c.published).0 less)
         by false past = sym (unsent q o [] start nothing_sent es (λ j y from. refl) k x (ltb-false k c.published past))
 
     byte-same : (place h a w v i : ℕ) → a + i < 4 * M → byte_lost q place h c (answered q c log) a w v i ≡ byte_lost q place h c s a w v i
-    byte-same place h a w v i memory = by (position_told q c (a + i)) refl
+    byte-same place h a w v i memory = by (position_told q (counts_told q a w v c) (a + i)) refl
       where
-        by : (t : Option ℕ) → position_told q c (a + i) ≡ t → if_told place h (answered q c log) a w v i t ≡ if_told place h s a w v i t
+        by : (t : Option ℕ) → position_told q (counts_told q a w v c) (a + i) ≡ t → if_told place h (answered q c log) a w v i t ≡ if_told place h s a w v i t
         by None none = refl
-        by (Some k) told = ap (Rattle.ownership_runs.specs.Losses.if_differs place h a w v i k) (answers k (a + i) told memory)
+        by (Some k) told = ap (Rattle.ownership_runs.specs.Losses.if_differs place h a w v i k) (answers (counts_told q a w v c) k (a + i) told memory)
 
     same-loss : IsAccessWithin M (access_of e) → loss_since since q (length es) c (answered q c log) e ≡ loss_since since q (length es) c s e
     same-loss reach = ap (λ (l : Option Loss). if is_after since (length es) then l else None) (by (party_for q (hart_of e)) (access_of e) reach)

@@ -1,20 +1,17 @@
 -- The last position of which the receiver was told that has a byte.
-use Rattle.std.proofs.Common.{ℕ, ◌+◌, ◌-◌, ◌*◌, ◌/◌, ◌%◌, ◌<◌, ◌≤◌, ◌≡◌, inl, inr, Bool, true, false, None, Some, refl, sym, ap, ◌∙◌, subst, arith}
-use Rattle.std.specs.Prelude.{nat_lt, not, if◌then◌else◌}
+use Rattle.std.proofs.Common.{ℕ, ◌+◌, ◌-◌, ◌*◌, ◌/◌, ◌%◌, ◌<◌, ◌≤◌, ◌≡◌, inl, inr, Bool, true, false, None, Some, refl, ap, ◌∙◌, subst, arith}
+use Rattle.std.specs.Prelude.{nat_lt, if◌then◌else◌}
 use Rattle.std.proofs.Math.Nat.{mod-lt}
-use Rattle.std.proofs.lemmas.Bool.{cases_lt, and_parts}
-use Rattle.std.proofs.lemmas.Bool.Decides.{Decides-and, Decides-not, Decides-ltb}
+use Rattle.std.proofs.lemmas.Bool.{cases_lt}
+use Rattle.std.proofs.lemmas.Bool.Decides.{Decides-ltb}
 use Rattle.queue_parties.specs.{QueueCounts, IsInBytes, slot_from}
 use Rattle.queue_parties.proofs.Positions.{ahead, far, slot-within}
-use Rattle.slots_that_tell.specs.Slots.{tag_of}
 use Rattle.queue_layouts.specs.declared.AnyQueue.{AnyQueue}
 use Rattle.queue_layouts.specs.declared.AnyQueue.TheVariants.{Indexed, Tagged}
-use Rattle.queue_layouts.specs.Tagged.{slots_of}
-use Rattle.ownership_runs.specs.{HasSlot, is_in_bytes, is_tag_byte, slots_in, position_from, slots_from, slot_width, slot_number, is_record_byte, last_of_slot}
+use Rattle.ownership_runs.specs.{HasSlot, slots_in, position_from, slots_from, slot_width, slot_number, is_record_byte, last_of_slot}
 use Rattle.ownership_runs.specs.{position_told, IsRecordByte}
 use Rattle.ownership_runs.proofs.Bytes.{decides-bytes}
 use Rattle.ownership_runs.proofs.Slots.{position-there, position-least}
-use Rattle.ownership_runs.proofs.Decisions.{tag-there}
 
 -- ---- the last of a slot's positions below a count
 
@@ -74,31 +71,22 @@ IsOfSlot q k x = IsInBytes (slot_from (slots_from q) (slot_width q) (slots_in q)
 
 pub of-slot : (q : AnyQueue) (k x : ℕ) → IsRecordByte q k x → IsOfSlot q k x
 of-slot (Indexed q) k x at = at
-of-slot (Tagged q) k x at = at.0
+of-slot (Tagged q) k x at = at
 
 pub in-slots : (q : AnyQueue) (x : ℕ) → is_record_byte q x ≡ true → IsInBytes (slots_from q) (slots_in q * slot_width q) x
-in-slots (Indexed q) x is = (decides-bytes q.slots (q.size * q.width) x).0 is
-in-slots (Tagged q) x is = (decides-bytes q.slots (q.size * q.width) x).0
-    (and_parts (is_in_bytes q.slots (q.size * q.width) x) (not (is_tag_byte (slots_of q) x)) is).0
+in-slots q x is = (decides-bytes (slots_from q) (slots_in q * slot_width q) x).0 is
 
-pub to-record : (q : AnyQueue) → HasSlot q → (k x : ℕ) → is_record_byte q x ≡ true → IsOfSlot q k x → IsRecordByte q k x
-to-record (Indexed q) some k x is at = at
-to-record (Tagged q) some k x is at =
-    let parts = (Decides-and _ _ (decides-bytes q.slots (q.size * q.width) x)
-    (Decides-not _ (decides-bytes (tag_of (slots_of q) ((x - q.slots) / q.width)) q.tag_width x))).0 is in
-    (at, λ tag. parts.1 (subst (λ (a : ℕ). IsInBytes a q.tag_width x) (sym (tag-there (slots_of q) some k x at)) tag))
-
-pub is-record : (q : AnyQueue) → HasSlot q → (k x : ℕ) → IsRecordByte q k x → is_record_byte q x ≡ true
-is-record (Indexed q) some k x at = (decides-bytes q.slots (q.size * q.width) x).1 (slot-within q.slots q.width q.size some k x at)
-is-record (Tagged q) some k x at = (Decides-and _ _ (decides-bytes q.slots (q.size * q.width) x)
-    (Decides-not _ (decides-bytes (tag_of (slots_of q) ((x - q.slots) / q.width)) q.tag_width x))).1 (
-      slot-within q.slots q.width q.size some k x at.0,
-      λ tag. at.1 (subst (λ (a : ℕ). IsInBytes a q.tag_width x) (tag-there (slots_of q) some k x at.0) tag),
-    )
+to-record : (q : AnyQueue) (k x : ℕ) → IsOfSlot q k x → IsRecordByte q k x
+to-record (Indexed q) k x at = at
+to-record (Tagged q) k x at = at
 
 pub has-slot : (q : AnyQueue) → HasSlot q → 1 ≤ slots_in q
 has-slot (Indexed q) some = some
 has-slot (Tagged q) some = some
+
+pub is-record : (q : AnyQueue) → HasSlot q → (k x : ℕ) → IsRecordByte q k x → is_record_byte q x ≡ true
+is-record q some k x at = (decides-bytes (slots_from q) (slots_in q * slot_width q) x).1
+    (slot-within (slots_from q) (slot_width q) (slots_in q) (has-slot q some) k x (of-slot q k x at))
 
 pub slot-has : (q : AnyQueue) → 1 ≤ slots_in q → HasSlot q
 slot-has (Indexed q) some = some
@@ -119,7 +107,7 @@ module _ (q : AnyQueue) (some : HasSlot q) (c : QueueCounts) (x : ℕ) where
       by true ok found =
           let is_last = last-is (slots_from q) (slot_width q) (slots_in q) (has-slot q some) c.known_published x (in-slots q x ok) k found in
           record {
-            of_record = to-record q some k x ok is_last.0;
+            of_record = to-record q k x is_last.0;
             told = is_last.1;
             last = λ j at below. is_last.2 j (of-slot q j x at) below;
           }
@@ -130,4 +118,4 @@ module _ (q : AnyQueue) (some : HasSlot q) (c : QueueCounts) (x : ℕ) where
       let ok : is_record_byte q x ≡ true = is-record q some k x is.of_record in
       ap (λ b. if b then last_of_slot (slots_in q) c.known_published (slot_number q x) else None) ok
       ∙ is-last (slots_from q) (slot_width q) (slots_in q) (has-slot q some) c.known_published x k (of-slot q k x is.of_record) is.told
-      (λ j at below. is.last j (to-record q some j x ok at) below)
+      (λ j at below. is.last j (to-record q j x at) below)

@@ -13,7 +13,7 @@ unfoldable pub use Rattle.ownership_runs.specs.Keeping.{fills}
 pub use Rattle.ownership_runs.specs.Violations.{IsFirstViolation, IsForeign, counts_before, first_ownership_violation, judged_entry, stored_of, violation_at}
 pub use Rattle.ownership_runs.specs.Violations.{violation_by, violation_from}
 pub use Rattle.ownership_runs.specs.Losses.{IsFirstLoss, IsLoss, IsLossAt, IsRecordByte, Loads, SentBytes}
-pub use Rattle.ownership_runs.specs.Losses.{WasSent, byte_lost, first_loss, if_differs, if_told, is_after}
+pub use Rattle.ownership_runs.specs.Losses.{WasSent, byte_lost, counts_told, first_loss, if_differs, if_told, is_after}
 pub use Rattle.ownership_runs.specs.Losses.{is_record_byte, last_of_slot, loss_at, loss_by, loss_from}
 pub use Rattle.ownership_runs.specs.Losses.{loss_since, nothing_sent, or_else, position_told, sent_after}
 pub use Rattle.ownership_runs.specs.Losses.{sent_by, sent_from, slot_number, slot_width, slots_from, stores_over}

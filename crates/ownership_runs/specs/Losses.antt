@@ -12,13 +12,13 @@ use Rattle.store_buffers.specs.StoreBuffers.{LeavesByteAt}
 use Rattle.queue_parties.specs.Parties.{Party, the_sender, the_receiver, QueueCounts}
 use Rattle.queue_parties.specs.Positions.{IsInBytes}
 use Rattle.slot_queue.specs.Queues.{IsByteOf}
-use Rattle.slots_that_tell.specs.Slots.{IsSlotByte, IsTagByte}
+use Rattle.slots_that_tell.specs.Slots.{IsSlotByte}
 use Rattle.queue_layouts.specs.declared.AnyQueue.{AnyQueue}
 use Rattle.queue_layouts.specs.declared.AnyQueue.TheVariants.{Indexed, Tagged}
 use Rattle.queue_layouts.specs.Tagged.{slots_of}
 use Rattle.ownership_runs.specs.declared.losses.Loss.{Loss}
-use Rattle.ownership_runs.specs.Protocols.{party_for, entry_counts, run_counts}
-use Rattle.ownership_runs.specs.Keeping.{is_in_bytes, position_from, is_tag_byte, slots_in}
+use Rattle.ownership_runs.specs.Protocols.{party_for, access_counts, entry_counts, run_counts}
+use Rattle.ownership_runs.specs.Keeping.{is_in_bytes, position_from, slots_in}
 
 -- ---- of which position a byte is
 
@@ -35,10 +35,9 @@ slot_width (Tagged q) = q.width
 abbrev pub slot_number : AnyQueue → (x : ℕ) → ℕ
 slot_number q x = (x - slots_from q) / slot_width q
 
--- x is a byte of a slot, and of no tag
+-- x is a byte of a slot, also of a tag that lies there: the tag may be the record
 abbrev pub is_record_byte : AnyQueue → (x : ℕ) → Bool
-is_record_byte (Indexed q) x = is_in_bytes q.slots (q.size * q.width) x
-is_record_byte (Tagged q) x = is_in_bytes q.slots (q.size * q.width) x && not (is_tag_byte (slots_of q) x)
+is_record_byte q x = is_in_bytes (slots_from q) (slots_in q * slot_width q) x
 
 -- the last of the positions below `known` that lie in slot j of `size`: of the last `size` of them one does, or of fewer at most one
 abbrev pub last_of_slot : (size known j : ℕ) → Option ℕ
@@ -100,8 +99,12 @@ abbrev pub if_told : (place hart : ℕ) → SentBytes → (a w v i : ℕ) → Op
 if_told place h s a w v i None = None
 if_told place h s a w v i (Some k) = if_differs place h a w v i k (s k (a + i))
 
+-- a load counts as told of: of a tag that is the record, by the same load
+abbrev pub counts_told : AnyQueue → (a w v : ℕ) → QueueCounts → QueueCounts
+counts_told q a w v c = access_counts q (Some the_receiver) (load a w v) c
+
 abbrev pub byte_lost : AnyQueue → (place hart : ℕ) → QueueCounts → SentBytes → (a w v i : ℕ) → Option Loss
-byte_lost q place h c s a w v i = if_told place h s a w v i (position_told q c (a + i))
+byte_lost q place h c s a w v i = if_told place h s a w v i (position_told q (counts_told q a w v c) (a + i))
 
 -- the first of `number` bytes that is lost
 unfoldable pub first_byte : (ℕ → Option Loss) → (number : ℕ) → Option Loss
@@ -138,7 +141,7 @@ first_loss since q o start es = loss_from since q o [] start nothing_sent es
 -- x is a byte of the record of position k
 abbrev pub IsRecordByte : AnyQueue → (k x : ℕ) → Type 0
 IsRecordByte (Indexed q) k x = IsByteOf q k x
-IsRecordByte (Tagged q) k x = IsSlotByte (slots_of q) k x × (IsTagByte (slots_of q) k x → ⊥)
+IsRecordByte (Tagged q) k x = IsSlotByte (slots_of q) k x
 
 -- the access loads this number of this many bytes from an address on
 abbrev pub Loads : Access → (a w v : ℕ) → Type 0
@@ -165,8 +168,9 @@ pub record IsLossAt (q : AnyQueue) (o : OpeningValue) (start : QueueCounts) (fro
   pub loads : Loads (access_of entry) loss.addr loss.width loss.value
   pub byte : IsInBytes loss.addr loss.width loss.byte
   pub of_record : IsRecordByte q loss.position loss.byte
-  pub told : loss.position < (run_counts q start front).known_published
-  pub last : (k : ℕ) → IsRecordByte q k loss.byte → k < (run_counts q start front).known_published → k ≤ loss.position
+  pub told : loss.position < (counts_told q loss.addr loss.width loss.value (run_counts q start front)).known_published
+  pub last : (k : ℕ) → IsRecordByte q k loss.byte
+      → k < (counts_told q loss.addr loss.width loss.value (run_counts q start front)).known_published → k ≤ loss.position
   pub sent : WasSent q o start loss.hart front loss.position loss.byte loss.sent
   pub differs : loss.sent ≢ byte_at (loss.byte - loss.addr) loss.value
 

@@ -8,14 +8,14 @@ ghost use Rattle.step_machine.specs.Runs.{Run};
 ghost use Rattle.queue_parties.specs.Parties.{QueueCounts};
 ghost use Rattle.ownership_runs.specs.Protocols.{HasSlot};
 ghost use Rattle.ownership_runs.specs.Losses.{last_of_slot, position_told, byte_lost, first_byte, is_after, loss_at, loss_since, first_loss};
-ghost use Rattle.ownership_runs.specs.inner.Bounds.{ROOM, AreCountsWithin};
+ghost use Rattle.ownership_runs.specs.inner.Bounds.{STEP, ROOM, AreCountsWithin};
 ghost use Rattle.ownership_runs.specs.inner.Logging.{answered, IsAccessWithin};
 ghost use Rattle.ownership_runs.specs.inner.LossNoting.{AreLossNotes, AreLossNotesWithin, HasHappened, IsSeenIn};
 
 use crate::counts::{Counts, RunCounts, at_start};
 use crate::losses::Loss;
 use crate::numbers::{byte_at, position_from};
-use crate::protocols::{after_entry, party_for};
+use crate::protocols::{after_entry, after_load, party_for};
 use crate::sent::{ByteLog, landing, log_entry, logged, open_log};
 use crate::stores::{is_record_byte, slot_number, slots_in};
 use memory::writes::Write;
@@ -25,7 +25,7 @@ use step_machine::{Entry, Event, Machine, Outcome};
 
 /// The last of the positions below `known` that lie in a slot of `size`, if there is one among the last `size` of them.
 fn last_of_slot(size: u32, known: u128, slot: u128) -> Option<u128>
-    requires known { known ≤ ROOM }
+    requires known { known ≤ ROOM + STEP }
     requires slot { slot < 2 ^ 64 }
     ensures { result ≡ last_of_slot size known slot }
 {
@@ -39,7 +39,7 @@ fn last_of_slot(size: u32, known: u128, slot: u128) -> Option<u128>
 
 /// The last position whose record has the byte at x and of which the receiver was told.
 fn position_told(queue: &AnyQueue, counts: RunCounts, x: u64) -> Option<u128>
-    requires { AreCountsWithin ROOM ROOM counts }
+    requires { AreCountsWithin ROOM (ROOM + STEP) counts }
     ensures { result ≡ position_told queue.now counts x }
 {
     if is_record_byte(queue, x) {
@@ -61,7 +61,7 @@ struct Loaded {
     value: u32,
 }
 
-/// Whether a byte of a load of the receiver's isn't what was sent.
+/// Whether a byte of a load of the receiver's isn't what was sent. A tag may be the record, of which its own load tells.
 fn byte_lost(
     queue: &AnyQueue,
     place: usize,
@@ -76,7 +76,9 @@ fn byte_lost(
     ensures { result ≡ byte_lost queue.now place hart counts (answered queue.now counts log.now) load.addr load.width load.value number }
 {
     let byte = load.addr + number;
-    let Some(position) = position_told(queue, counts, u64::from(byte)) else {
+    let receiver = Some(Party::Receiver);
+    let told = after_load(queue, receiver, load.addr, load.width, load.value, counts);
+    let Some(position) = position_told(queue, told, u64::from(byte)) else {
         return None
     };
     if position >= counts.published {

@@ -3,7 +3,7 @@
 ghost use Rattle.std.specs.Prelude.{◌≡◌, ◌≤◌, ◌<◌, ◌+◌, ◌/◌, ◌%◌, ◌^◌};
 ghost use Rattle.std.specs.Int.{byte_at};
 ghost use Rattle.ownership_runs.specs.Keeping.{is_in_bytes, position_from};
-ghost use Rattle.ownership_runs.specs.inner.Bounds.{ROOM};
+ghost use Rattle.ownership_runs.specs.inner.Bounds.{STEP, ROOM};
 
 /// n / m, and 0 where m is 0: of a queue it isn't known that its numbers divide.
 pub(crate) fn quotient(n: u128, m: u128) -> u128
@@ -17,6 +17,7 @@ pub(crate) fn quotient(n: u128, m: u128) -> u128
 pub(crate) fn remainder(n: u128, m: u128) -> u128
     ensures value { result ≡ n % m }
     ensures small { result ≤ n }
+    ensures below { 0 < m → result < m }
 {
     if m == 0 { n } else { n % m }
 }
@@ -31,7 +32,7 @@ pub(crate) fn is_in_bytes(from: u128, count: u64, x: u64) -> bool
 
 /// The least position from `from` on that lies in slot number `slot` of `size`.
 pub(crate) fn position_from(size: u32, from: u128, slot: u128) -> u128
-    requires from { from ≤ ROOM }
+    requires from { from ≤ ROOM + STEP }
     requires slot { slot < 2 ^ 64 }
     ensures value { result ≡ position_from size from slot }
     ensures near { result ≤ from + slot + size }

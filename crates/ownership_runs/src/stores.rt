@@ -53,16 +53,11 @@ pub(crate) fn slot_number(queue: &AnyQueue, x: u64) -> u128
     quotient(u128::from(place), u128::from(slot_width(queue)))
 }
 
-/// Whether x is a byte of a slot, and of no tag.
+/// Whether x is a byte of a slot.
 pub(crate) fn is_record_byte(queue: &AnyQueue, x: u64) -> bool
     ensures { result ≡ is_record_byte queue.now x }
 {
-    match queue {
-        AnyQueue::Indexed(queue) => is_in_slots(queue.slots, queue.size, queue.width, x),
-        AnyQueue::Tagged(queue) => {
-            is_in_slots(queue.slots, queue.size, queue.width, x) && !is_tag_byte(queue, x)
-        }
-    }
+    is_in_slots(slots_from(queue), slots_in(queue), slot_width(queue), x)
 }
 
 /// Whether x is no byte of the queue.
