@@ -14,10 +14,13 @@ from types import SimpleNamespace
 from unittest import mock
 
 from bring_parts import REFERENCE, ROOT, provenance, queue_asked, queue_case, queue_data, queue_judged, queue_report, queue_sarif, queue_short
-from bring_trials import counting, schema
+from bring_trials import counting
 from page_parts import links
 
 SCHEMA = json.loads((ROOT / "docs/answer.schema.json").read_text())
+# of a JSON schema the types, and the words that docs/answer.schema.json has
+TYPES = {"string": str, "integer": int, "object": dict, "array": list, "null": type(None)}
+KNOWN = {"$schema", "title", "description", "type", "const", "enum", "minimum", "minItems", "items", "properties", "required", "additionalProperties"}
 GCC = "riscv64-unknown-elf-gcc 12.2.0 -O2"
 OTHER, RING = "head=q_sent,tail=q_taken,slots=q_word,size=8", "head=q_put,tail=q_get,slots=q_slot,size=4"
 # a text of examples/queues, its queue and other options; the status, the verdict's beginning, what has its mark in the picture, and the files
@@ -62,6 +65,40 @@ QUESTIONS = [
 ]
 
 
+def is_of(value, name):
+    return isinstance(value, TYPES[name]) and not isinstance(value, bool)
+
+
+def wrong_in(value, schema, at="answer"):
+    """What of a value hasn't the form of a schema, each with where it is."""
+    kinds = schema.get("type", [])
+    kinds = [kinds] if isinstance(kinds, str) else kinds
+    if unknown := schema.keys() - KNOWN:
+        yield f"{at}: this check doesn't know {unknown}"
+    if kinds and not any(is_of(value, name) for name in kinds):
+        yield f"{at} is {value!r}, and no {kinds}"
+    if "const" in schema and value != schema["const"] or "enum" in schema and value not in schema["enum"]:
+        yield f"{at} is {value!r}"
+    if isinstance(value, int) and value < schema.get("minimum", value):
+        yield f"{at} is {value}"
+    if isinstance(value, list):
+        yield from [f"{at} has {len(value)} parts"] * (len(value) < schema.get("minItems", 0))
+        for number, part in enumerate(value):
+            yield from wrong_in(part, schema.get("items", {}), f"{at}[{number}]")
+    if isinstance(value, dict):
+        yield from of_keys(value, schema, at)
+
+
+def of_keys(value, schema, at):
+    parts = schema.get("properties", {})
+    yield from (f"{at} has no {key}" for key in schema.get("required", ()) if key not in value)
+    for key, part in value.items():
+        if key in parts:
+            yield from wrong_in(part, parts[key], f"{at}.{key}")
+        elif schema.get("additionalProperties") is False:
+            yield f"{at} has {key}"
+
+
 class Page(HTMLParser):
     """A page's tags and links."""
 
@@ -90,7 +127,7 @@ def tried(count, folder, program, row):
     files = sorted([*LEFT, *(f"{text.stem}.{each}" for each in ("litmus", "certificate", *(("schedule", "svg") if marks else ()),
                                                                *["shown.schedule"] * bool(own)))])
     count.told(f"the files of the report of {name}", sorted(each.name for each in made.iterdir()) == files, str([*made.iterdir()]))
-    wrong, described = [*schema.wrong_in(data, SCHEMA)], [each["described"] for each in data["queues"]]
+    wrong, described = [*wrong_in(data, SCHEMA)], [each["described"] for each in data["queues"]]
     count.told(f"answer.json of {name}", not wrong and data["status"] == status and data["verdict"].startswith(verdict)
                and data["lines"] == printed.splitlines() and printed.startswith(f"{data['verdict']}, under Ztso (") and data["compiler"] == GCC
                and f"asked: {data['asked']}" in data["lines"] and f"command: {data['command']}" in data["lines"]
@@ -151,7 +188,7 @@ def of_questions(count, folder, program):
         made = Path(folder, "asked")
         ended, printed, error = counting.run("queue", ROOT / "examples/queues" / name, "--queue", queue, *words, "--report", made, "--program", program)
         data = json.loads((made / "answer.json").read_text())
-        wrong = [*schema.wrong_in(data, SCHEMA)]
+        wrong = [*wrong_in(data, SCHEMA)]
         came = {key: value for key, value in data["questions"].items() if value != "not asked"}
         count.told(f"the questions of {name} {' '.join(words)}", (ended, came) == (status, wanted) and not wrong, f"{wrong} {ended} {came} {printed}{error}")
         shutil.rmtree(made)
@@ -167,7 +204,7 @@ def of_refusals(count, folder, program):
                                 (2, ("--queue", RING, "--commands", text), "it is no compile_commands.json")):
         ended, printed, error = counting.run("queue", text, *words, "--report", report, "--sarif", sarif, "--junit", junit, "--program", program)
         data = json.loads((report / "answer.json").read_text())
-        wrong = [*schema.wrong_in(data, SCHEMA)]
+        wrong = [*wrong_in(data, SCHEMA)]
         count.told(f"the report where {said} is refused", (ended, data["status"], printed) == (status, status, "") and not wrong and said in data["verdict"]
                    and error.splitlines() == [f"queue: {data['verdict']}", *data["lines"][1:]] and [each.name for each in report.iterdir()] == ["answer.json"],
                    f"{wrong} {data} {error}")
@@ -188,10 +225,10 @@ def of_refusals(count, folder, program):
         except queue_judged.ToolFault as refused:
             fault = refused
     data = queue_data.of_refusal(SimpleNamespace(files=[text], init=[], input=[]), fault.status, str(fault), "ztso", "queue")
-    count.told("a fault of tools/certify", data["status"] == 70 and data["verdict"] == "a fault of this tool" and not [*schema.wrong_in(data, SCHEMA)]
+    count.told("a fault of tools/certify", data["status"] == 70 and data["verdict"] == "a fault of this tool" and not [*wrong_in(data, SCHEMA)]
                and queue_data.case(data).passed is None, str(data))
     wrongs = [{**data, **other} for other in ({"status": 3}, {"places": [{}]}, {"version": True}, {"verdict": 1}, {"short": []}, {"more": 1})]
-    count.told("what the schema refuses", all([*schema.wrong_in(each, SCHEMA)] for each in wrongs) and [*schema.wrong_in({}, SCHEMA)])
+    count.told("what the schema refuses", all([*wrong_in(each, SCHEMA)] for each in wrongs) and [*wrong_in({}, SCHEMA)])
 
 
 def refused(count, folder, program):
