@@ -24,7 +24,7 @@ _ztso() {
     channel) inputs=('lamport fastforward cached own' '' files) options='--buffer --base --stride --finish --sender --receiver' ;;
     ring) inputs=(files files '') options='--buffer --seed --runs --length --skip --draw --jobs --base --stride' ;;
     callers) inputs=(files) options='--buffer --seed --runs --length --skip --draw --jobs --slots --base --sender --receiver --kind' ;;
-    queue) inputs=(files) options='--buffer --seed --runs --length --skip --draw --jobs --certificate --written --read --harts --safety' ;;
+    queue) inputs=(files) options='--buffer --seed --runs --length --skip --draw --jobs --certificate --written --read --once --harts --safety' ;;
     steps) inputs=() options='--buffer' ;;
     asm) inputs=() options='' ;;
     dis) inputs=() options='' ;;

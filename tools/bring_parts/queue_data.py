@@ -11,8 +11,8 @@ VERSION = 1
 SHOWN, UNSHOWN, UNASKED = "shown", "not shown", "not asked"
 # what the program's verdict has of a queue that may stand still
 STANDS = "not shown to go on"
-# what the program says of each byte that is shown
-USES = {"written": "written after", "read": "read before"}
+# what the program says of bytes of which it is shown, and of those of which it isn't
+USES = {"written": ("written after", "written"), "read": ("read before", "read"), "once": ("read at most once", "read at most once")}
 
 
 def queues_of(case, given):
@@ -28,8 +28,8 @@ def bounds_of(case):
 
 def of_bytes(case, name):
     """Whether the bytes of records are shown that were asked for."""
-    shown = {each.queue for each in case.said.all(Records) if each.use == USES[name]}
-    lacks = [*case.said.all(NoBytes), *(each for each in case.said.all(RecordsNotShown) if each.use == name)]
+    shown = {each.queue for each in case.said.all(Records) if each.use == USES[name][0]}
+    lacks = [*case.said.all(NoBytes), *(each for each in case.said.all(RecordsNotShown) if each.use == USES[name][1])]
     return SHOWN if shown and not lacks else UNSHOWN
 
 

@@ -21,8 +21,9 @@ from certify_parts.clock import PROGRESS
 from queues import Judge
 
 C, LITMUS, NONE = ".c", ".litmus", "none"
-# options that `ztso queue` has by the same name, first those that name bytes of records
-BYTES = ("written", "read")
+# options that `ztso queue` has by the same name: first those that name bytes of records, those first that tools/certify has too, and that types say
+SEARCHED = ("written", "read")
+BYTES = (*SEARCHED, "once")
 PASSED = (*BYTES, "runs", "length", "seed", "draw", "buffer")
 SCHEDULE_FILE, SHOWN_FILE, BUFFER = ".schedule", ".shown.schedule", 4
 # a terminal is told of a search after this many seconds
@@ -99,7 +100,7 @@ class Question:
 
     def of_records(self, given):
         by_types, said = self.by_types(given), {name: getattr(self.asked, name) for name in BYTES}
-        return {name: None if each == NONE else each or by_types for name, each in said.items()}
+        return {name: None if each == NONE else each or (by_types if name in SEARCHED else None) for name, each in said.items()}
 
     def certified(self, given, of_records):
         """What tools/certify prints of the harts, and says beside that. It leaves the certificate."""
@@ -107,8 +108,8 @@ class Question:
         if self.asked.lines:
             for line in said:
                 complain("queue", line)
-        status, found, error = ran(TOOLS / "certify", self.text, *given, "-o", self.certificate(), *options_of({**of_records, "seconds": self.asked.seconds}),
-                                   "--progress", "--program", self.program, does="looking for a certificate")
+        options = options_of({**{name: of_records[name] for name in SEARCHED}, "seconds": self.asked.seconds})
+        status, found, error = ran(TOOLS / "certify", self.text, *given, "-o", self.certificate(), *options, "--progress", "--program", self.program, does="looking for a certificate")
         told = [line.removeprefix("certify: ") for line in error.splitlines() if not line.startswith(PROGRESS)]
         told = [line for line in told if line not in said]
         if status == OWN_FAULT:

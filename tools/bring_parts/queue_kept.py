@@ -6,10 +6,12 @@ from bring_parts.queue_places import PLACES, as_parties, parted
 from bring_parts.queue_said import GoesOn, HartNotShown, NoBytes, Records, RecordsNotShown, Stands, Waits
 from bring_parts.queue_short import FENCES as OF_FENCES
 from bring_parts.queue_short import LONGER, WEAK, Line, Short
+from bring_parts.queue_types import ranges_in
 
 # this many accesses without a fence between are named, and places where a party may stand
 LACKING, STANDING = 2, 2
 GOES_ON = "goes on"
+ONCE = "read at most once"
 
 
 def parties(case):
@@ -25,7 +27,7 @@ def kept(case):
     places, hints = of_stops(case)
     others = [*of_fences(case), *of_others(case)]
     return Short(case.verdict(case.first), places, relies=[*relies, *of_progress(case, sender, receiver)],
-                 hints=[*map(Line, (*hints, *case.hints["constants"]))], limits=[not_promised(receiver)], others=others, asked=[*case.asked()])
+                 hints=[*map(Line, (*hints, *case.hints["constants"]))], limits=[not_promised(case, receiver)], others=others, asked=[*case.asked()])
 
 
 def of_stops(case):
@@ -35,9 +37,11 @@ def of_stops(case):
 
 
 def of_records(case, sender):
-    shown = [each for each in case.said.all(Records) if each.queue == 0]
+    shown = [each for each in case.said.all(Records) if each.queue == 0 and each.use != ONCE]
     if len(case.queues) == 1 and len(shown) == 2 and shown[0].bytes == shown[1].bytes:
-        return f"each position is handed over once, in order, byte{'s' * (not shown[0].bytes.isdigit())} {shown[0].bytes} written before and read after"
+        once = any(each.bytes == shown[0].bytes for each in case.said.all(Records) if each.use == ONCE)
+        return (f"each position is handed over once, in order, byte{'s' * (not shown[0].bytes.isdigit())} {shown[0].bytes} written before and"
+                f" read{' once' * once} after")
     return f"each position{' of each' * (len(case.queues) > 1)} is handed over once and in order, with all that {sender} wrote before it"
 
 
@@ -50,8 +54,11 @@ def of_progress(case, sender, receiver):
         yield f"{sender} publishes or finds {publishes.finds} in {publishes.within} instructions, {receiver} takes or finds {takes.finds} in {takes.within}"
 
 
-def not_promised(receiver):
-    return Line(f"not promised: what {receiver} does with a record (it may read one twice), other memory, other flags, RV64")
+def not_promised(case, receiver):
+    once = {each.queue: sum(last + 1 - first for first, last in ranges_in(each.bytes)) for each in case.said.all(Records) if each.use == ONCE}
+    is_whole = all(once.get(number, 0) + (queue.tag_width if queue.has_tags else 0) >= queue.width for number, queue in enumerate(case.queues))
+    twice = "" if is_whole else " (it may read other bytes twice)" if len(once) == len(case.queues) else " (it may read one twice)"
+    return Line(f"not promised: what {receiver} does with a record{twice}, other memory, other flags, RV64")
 
 
 def of_fences(case):
@@ -124,7 +131,7 @@ def not_all(case):
         hints.append(Line(f"a second queue may be --queue {other}" if other else
                           "ask of the other queue too, with a --queue for each; if it is none, describe this one by --queue in place of auto"))
     shown = f"its protocol{' of each' * (len(case.queues) > 1)} holds in every run{', and it goes on' * (GOES_ON in case.kept)}"
-    return Short(case.verdict(case.first), places[:STANDING], facts, relies=[shown], hints=hints, limits=[not_promised(parties(case)[1])],
+    return Short(case.verdict(case.first), places[:STANDING], facts, relies=[shown], hints=hints, limits=[not_promised(case, parties(case)[1])],
                  asked=[*case.asked()])
 
 
@@ -133,6 +140,8 @@ def of_bytes(case, each):
     queue, types = case.queues[each.queue], case.places.types
     name = next((name for begin, end, name in types.of_record(queue) if begin <= each.byte < end), None) if types else None
     byte = f"byte {each.byte}{f' ({name})' if name else ''}"
+    if each.use == ONCE:
+        return f"not shown that {byte} of each record is read at most once, and of records in order"
     return (f"publishes a record of which {byte} isn't shown to be written before" if each.use == "written" else
             f"hands a slot back of which {byte} isn't shown to be read before")
 

@@ -140,7 +140,7 @@ class Together:
 
 @dataclass(frozen=True)
 class Records:
-    """The bytes of each record that are shown to be written, or read."""
+    """The bytes of each record that are shown to be written, or read, or read at most once."""
     queue: int
     bytes: str
     use: str
@@ -148,7 +148,7 @@ class Records:
 
 @dataclass(frozen=True)
 class RecordsNotShown:
-    """The bytes of each record that aren't all shown to be written, or read, with the first of them that isn't, and the instruction."""
+    """The bytes of each record of which not all is shown that is asked, with the first of them of which it isn't, and the instruction."""
     queue: int
     bytes: str
     use: str
@@ -212,8 +212,8 @@ FORMS = [(kind, re.compile(form)) for kind, form in (
     (Waits, r"queue (?P<queue>\d+): not shown that more is published or taken: hart (?P<hart>\d+) may wait for (?P<slots>\d+) free slots and hart "
             r"(?P<other>\d+) for (?P<records>\d+) records, of (?P<capacity>\d+)"),
     (Together, r"queue (?P<queue>\d+): hart (?P<hart>\d+) moves on in this or another of its queues, .*"),
-    (Records, r"queue (?P<queue>\d+): bytes? (?P<bytes>.*) of each record (?:are|is) (?P<use>written after|read before) .*"),
-    (RecordsNotShown, r"queue (?P<queue>\d+): not shown that bytes? (?P<bytes>.*) of each record (?:are|is) (?P<use>written|read): byte (?P<byte>\d+), "
+    (Records, r"queue (?P<queue>\d+): bytes? (?P<bytes>.*) of each record (?:are|is) (?P<use>written after|read before|read at most once)[ ,].*"),
+    (RecordsNotShown, r"queue (?P<queue>\d+): not shown that bytes? (?P<bytes>.*) of each record (?:are|is) (?P<use>written|read|read at most once)(?:, in order)?: byte (?P<byte>\d+), "
                       rf"hart (?P<hart>\d+), {PLACE}"),
     (NoBytes, r"queue (?P<queue>\d+): its records have none of these bytes"),
     (HartNotShown, rf"hart (?P<hart>\d+): not shown (?P<what>that it is never stopped|which bytes it writes): {PLACE}"),

@@ -16,7 +16,7 @@ RANGE = re.compile(r"([0-9]+)(?:-([0-9]+))?")
 # lines of an answer that name bytes of records, or of memory
 RECORDS = re.compile(r"queue ([0-9]+): bytes? (.*) of each record (?:are|is) (?:written|read) ")
 FIELD = re.compile(r"queue ([0-9]+): the ([0-9]+) bytes from ([0-9]+) on of ")
-UNSHOWN = re.compile(r"queue ([0-9]+): not shown that bytes? .* of each record (?:are|is) (written|read): byte ([0-9]+), hart ")
+UNSHOWN = re.compile(r"queue ([0-9]+): not shown that bytes? .* of each record (?:are|is) (written|read|read at most once, in order): byte ([0-9]+), hart ")
 WRITES = re.compile(r"hart [0-9]+: writes bytes? (.*) of ")
 
 
@@ -156,7 +156,8 @@ def names_of(line, queues, types):
         queue, byte = queues[int(shape[1])], int(shape[3])
         padding, slots = types.padding(queue)
         if byte in padding:
-            yield f"    byte {byte} is padding of {slots}: try --{shape[2]} {ranged(ranges_of(set(range(queue.width)) - padding))}"
+            option = shape[2] if shape[2] in ("written", "read") else "once"
+            yield f"    byte {byte} is padding of {slots}: try --{option} {ranged(ranges_of(set(range(queue.width)) - padding))}"
             return
         found = named([(byte, byte)], types.of_record(queue))
     elif shape := RECORDS.match(line):

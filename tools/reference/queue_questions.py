@@ -1,5 +1,5 @@
 """What may be asked of an accepted certificate besides the protocol (docs/progress.md): whether a queue's sender writes bytes of its records, and
-its receiver reads them, whether a hart is never stopped, and which bytes it writes. By the definitions of crates/records_written/specs and of
+its receiver reads them, or at most once, whether a hart is never stopped, and which bytes it writes. By the definitions of crates/records_written/specs and of
 crates/hart_safety/specs.
 """
 
@@ -72,7 +72,8 @@ def counts(instruction, sends):
 
 class Party:
     """A queue's sender, which writes the records that it publishes, or its receiver, which reads those that it takes: the leaves of its states, of
-    each what it does, and the states to which it leads. Queues with tags are numbered on after those with indices."""
+    each what it does, the states to which it leads, and whether it would hand over all that it owns. Queues with tags are numbered on after those with
+    indices."""
 
     def __init__(self, opening, listed, index, sends):
         self.index, self.before, self.sends = index, len(listed.queues), sends
@@ -81,8 +82,8 @@ class Party:
         self.tags, self.part = tags.tags_of(listed, self.hart), certificates.part_of(listed, self.hart)
         self.steps = certificates.steps_of(listed, self.hart)
         self.code = opening.harts[self.hart][0]
-        self.leaves = [[(self.does(known, leaf.handed), [arrow.to for arrow in leaf.arrows]) for known, leaf in certificates.leaves(state.known, state.cases)]
-                       for state in self.part.states]
+        self.leaves = [[(self.does(known, leaf.handed), [arrow.to for arrow in leaf.arrows], self.is_all(known, leaf.handed))
+                        for known, leaf in certificates.leaves(state.known, state.cases)] for state in self.part.states]
 
     def does(self, known, handed):
         """("accesses", position, offset, width), of the positions from its count on: the sender stores, and the receiver loads; ("hands", n), it
@@ -103,6 +104,9 @@ class Party:
             return None
         return ("accesses", certificates.position_at(self.queue, share.own.constant, place.form.constant),
                 certificates.offset_at(self.queue, place.form.constant), width)
+
+    def is_all(self, known, handed):
+        return self.index < self.before and certificates.is_same(0, handed, self.steps.share_at(known, self.index).owned)
 
     @staticmethod
     def after(marked, does, byte):
@@ -125,7 +129,7 @@ class Party:
         while changed:
             changed = False
             for n, leaves in enumerate(self.leaves):
-                for does, targets in leaves:
+                for does, targets, _ in leaves:
                     left = self.after(found[n], does, byte)
                     for to in targets:
                         if left is not None and (found[to] is None or not found[to] <= left):
@@ -135,7 +139,7 @@ class Party:
 
     def bytes_apart(self, mask):
         """The lowest bytes of the mask's parts that no access's end parts further: what holds of one holds of its part."""
-        accesses = [does[2:] for leaves in self.leaves for does, _ in leaves if does and does[0] == "accesses"]
+        accesses = [does[2:] for leaves in self.leaves for does, *_ in leaves if does and does[0] == "accesses"]
         ends = {end for offset, width in accesses for end in (offset, offset + width)}
         return sorted({first for first, _ in mask} | {end for end in ends if any(first <= end <= last for first, last in mask)})
 
@@ -144,7 +148,7 @@ class Party:
         """The first position that these leaves may hand over and that isn't marked; None where all of them are."""
         if marked is None:
             return None
-        handed = [does[1] for does, _ in leaves if does and does[0] in ("hands", "some")]
+        handed = [does[1] for does, *_ in leaves if does and does[0] in ("hands", "some")]
         position = next(position for position in range(len(marked) + 1) if position not in marked)
         return position if None in handed or any(position < count for count in handed) else None
 
@@ -158,6 +162,40 @@ class Party:
             if found:
                 return n, min(found)[1]
         return None
+
+    @staticmethod
+    def closed_by(is_all, does, byte, closed):
+        """Of how many positions from the count on this byte isn't to be read any more after it, of as many before: it was, or that of a later one was."""
+        kind, *numbers = does or ("nothing",)
+        if kind == "accesses":
+            position, offset, width = numbers
+            return max(closed, position + (offset <= byte < offset + width))
+        if kind == "hands":
+            return 0 if is_all else max(0, closed - numbers[0])
+        return 0 if kind == "some" else closed
+
+    @staticmethod
+    def is_again(does, byte, closed):
+        """It may read one of those, or nobody knows how many it hands over."""
+        kind, *numbers = does or ("nothing",)
+        return kind == "some" or kind == "accesses" and numbers[1] <= byte < numbers[1] + numbers[2] and numbers[0] < closed
+
+    def closed(self, byte):
+        """At each state how many positions are closed: none at first, and more until each leaf leads into what it makes."""
+        found, changed = [0] * len(self.leaves), True
+        while changed:
+            changed = False
+            for n, leaves in enumerate(self.leaves):
+                for does, targets, is_all in leaves:
+                    for to in targets:
+                        if (after := self.closed_by(is_all, does, byte, found[n])) > found[to]:
+                            found[to], changed = after, True
+        return found
+
+    def again(self, mask):
+        """The first state that may read a byte again, or one of an earlier record than it read, with the lowest such byte; or None."""
+        closed = [(byte, self.closed(byte)) for byte in self.bytes_apart(mask)]
+        return next(((n, byte) for n, leaves in enumerate(self.leaves) for byte, at in closed if any(self.is_again(does, byte, at[n]) for does, *_ in leaves)), None)
 
 
 # ---- harts

@@ -28,8 +28,9 @@ READS = "not promised: that what is loaded from a slot is a record that the hart
 UNREAD = {False: "that a record's bytes are read", True: "that other bytes of a record are read"}
 FRESHLY = {False: "that a record was freshly or wholly written", True: "that other bytes of a record are freshly written"}
 REST = "what the code does with it, what memory outside of the queue holds"
-# of a sender and of a receiver: what it does to bytes of a record, and when
-RECORDS_OF = {True: ("written", "after the record before in its slot was published"), False: ("read", "before its slot is handed back")}
+# what a queue's party does to bytes of a record, when, and whether it is the sender
+RECORDS_OF = {"written": ("written", " after the record before in its slot was published", True), "read": ("read", " before its slot is handed back", False),
+              "once": ("read at most once, in order", "", False)}
 PROGRESS = {False: "not promised: that anything is ever sent or received", True: "not promised: that a hart is ever run, or doesn't end or stop, or that a store ever lands"}
 # of a sender and of a receiver: how it goes on, what it finds, and what isn't shown
 MOVES = {True: ("publishes", "no slot free", ("slots free", "slot free"), "looks for a free slot"),
@@ -305,9 +306,9 @@ class Judge:
 
     # ---- what is asked besides, in lines, each with whether it is shown
 
-    def records(self, index, text, sends):
-        """The line about these bytes of a queue's records: whether its sender writes them, or its receiver reads them."""
-        queue, (done, since) = self.opened[index].queue, RECORDS_OF[sends]
+    def records(self, index, text, use):
+        """The line about these bytes of a queue's records: whether its sender writes them, or its receiver reads them, or at most once."""
+        queue, (done, since, sends) = self.opened[index].queue, RECORDS_OF[use]
         mask = queue_questions.bytes_named(text, queue.width)
         if not mask:
             return f"queue {index}: its records have none of these bytes", False
@@ -319,9 +320,9 @@ class Judge:
         named, is_one = queue_questions.bytes_text(rest)
         shown = f"{named} of each record {'is' if is_one else 'are'} {done}"
         party = queue_questions.Party(self.opening, self.listed, index, sends)
-        missing = party.missing(rest)
+        missing = party.again(rest) if use == "once" else party.missing(rest)
         if missing is None:
-            return f"queue {index}: {shown} {since}", True
+            return f"queue {index}: {shown}{since}", True
         state, byte = missing
         return f"queue {index}: not shown that {shown}: byte {byte}, hart {party.hart}, {self.pc_place(party.hart, state)}", False
 
@@ -477,18 +478,19 @@ class Judge:
                          f" {moved[1]} taken")
         return [*flaw, *lines, "nothing is claimed"], NOT_SHOWN
 
-    def kept(self, losing, written, read, harts, asks_progress):
-        """The lines, and the exit status, where the protocol is kept: of these bytes of records that are to be written, and to be read, if any, of
-        the harts and of whether the queues go on, if they are asked about. Where reads aren't shown, `losing` has the lines of what runs lose."""
+    def kept(self, losing, asked, harts, asks_progress):
+        """The lines, and the exit status, where the protocol is kept: of the bytes of records that are asked about, by their uses in the order of
+        RECORDS_OF, of the harts and of whether the queues go on, if they are. Where reads aren't shown, `losing` has the lines of what runs lose."""
         going = [self.going(index) for index in range(len(self.opened)) if asks_progress]
         goes = all(shown for _, shown in going)
-        records = {sends: [self.records(index, text, sends) for index in range(len(self.opened)) if text is not None]
-                   for sends, text in ((True, written), (False, read))}
+        unread = self.unread()
+        records = {use: [self.records(index, text, use) for index in range(len(self.opened)) if text is not None and not (unread and use == "once")]
+                   for use, text in zip(RECORDS_OF, asked)}
         told = [*chain(*zip(*filter(None, records.values()))), *(line for number in range(len(self.opening.harts)) if harts for line in self.hart(number))]
         lines = [*self.described(), *(line for each, _ in going for line in each), *(line for line, _ in told)]
-        is_shown = {sends: bool(found) and all(shown for _, shown in found) for sends, found in records.items()}
-        limits = [f"not promised: {UNREAD[is_shown[False]]}, {FRESHLY[is_shown[True]]}, {REST}", PROGRESS[asks_progress and goes]]
-        if unread := self.unread():
+        is_shown = {use: bool(found) and all(shown for _, shown in found) for use, found in records.items()}
+        limits = [f"not promised: {UNREAD[is_shown['read']]}, {FRESHLY[is_shown['written']]}, {REST}", PROGRESS[asks_progress and goes]]
+        if unread:
             return [unread[0], *lines, self.protocol(), READS, *limits, *losing(unread[1])], READS_NOT_SHOWN
         if not goes:
             first, status = "kept in every run, but not shown to go on", PROGRESS_NOT_SHOWN
@@ -498,10 +500,10 @@ class Judge:
             first, status = f"kept in every run{', and goes on while its harts run' if asks_progress else ''}", KEPT
         return [first, *lines, self.protocol() + PROMISE_END, *limits], status
 
-    def answer(self, capacity, number, drawing, written=None, read=None, harts=False, asks_progress=True):
+    def answer(self, capacity, number, drawing, asked=(), harts=False, asks_progress=True):
         """The lines, and the exit status."""
         if flaw := self.flaw():
             return self.tried(flaw, capacity, number, drawing) if self.may_draw else ([*flaw, "nothing is claimed"], NOT_SHOWN)
         if unused := self.unused():
             return [unused, "nothing is claimed"], NOT_SHOWN
-        return self.kept(lambda index: self.losing(index, capacity, number, drawing), written, read, harts, asks_progress)
+        return self.kept(lambda index: self.losing(index, capacity, number, drawing), asked, harts, asks_progress)

@@ -16,6 +16,7 @@ use Rattle.slots_that_tell.specs.Telling.{teller_hart}
 use Rattle.queue_certificates.specs.{LoadsRestOwned, telling, ReadsOwned, QueueCertificate, queue_at, start_at, tagged_at, tagged_start, accepts, accepts_loads}
 use Rattle.queue_certificates.specs.{accepts_rest}
 use Rattle.slot_queue.specs.Ownership.{hart}
+use Rattle.records_written.specs.{OwnsReads}
 use Rattle.queue_layouts.specs.Tagged.{slots_of}
 use Rattle.queue_checker.specs.declared.flaws.Flaw.{Flaw}
 use Rattle.queue_checker.specs.Flaws.{first_below, first_flaw, first_of, first_unowned, first_unowned_rest}
@@ -31,8 +32,8 @@ use Rattle.certifying.specs.Kept.{AreSameAnswers, AreJudged, AreQueueAnswers, Is
 use Rattle.certifying.specs.Kept.{LoadsTagsOrOwned, MayHaveSchedule, LineMeans, OwnedLoads, Protocols, ReceivesFields}
 use Rattle.certifying.specs.Lines.{AnswerLine, all_going, all_going_lines, all_shown, ends_asked, first_line, first_line_of, harts_lines, harts_safe}
 use Rattle.certifying.specs.Lines.{judgement_of, limits, answer_lines, records_from, the_protocol, the_queues}
-use Rattle.certifying.specs.Queues.{queue_count, slots_at, slots_by, tagged_number}
-use Rattle.certifying.specs.Records.{AreFound, are_read, are_written}
+use Rattle.certifying.specs.Queues.{number_by, number_in, queue_count, slots_at, slots_by, tagged_number}
+use Rattle.certifying.specs.Records.{AreFound, are_once, are_read, are_written}
 use Rattle.certifying.specs.declared.records.QueueRecords.{QueueRecords}
 use Rattle.certifying.specs.Unread.{first_unread, unowned_by, unread_by, unread_of}
 use Rattle.certifying.specs.Unused.{first_unused}
@@ -45,7 +46,7 @@ use Rattle.certifying.proofs.DrawnLaws.{DrawnLaws, SomeSlots, breaks-and-loses, 
 use Rattle.certifying.proofs.GoingLaws.{GoingLaws, going-means, keeps-going}
 use Rattle.certifying.proofs.HartLaws.{HartLaws, harts-mean, keeps-harts}
 use Rattle.certifying.proofs.LineLaws.{whole}
-use Rattle.certifying.proofs.Numbers.{is_indexed, is_tagged}
+use Rattle.certifying.proofs.Numbers.{is_indexed, is_tagged, of_either}
 use Rattle.certifying.proofs.RecordLaws.{FirstLaws, RecordLaws, keeps-records, one-in, records-mean}
 
 -- ---- one answer
@@ -66,7 +67,7 @@ alike a b judged is other = let same : a ≡ b = is ∙ sym other in (ap (λ (x 
 module _ (laws : DrawnLaws) (firsts : FirstLaws) (d : DrawnRuns) (asked : Questions) (o : OpeningValue) (c : QueueCertificate) where
   one_use : (u : Option Unused) (a b : List ℕ × Judgement) → IsUseAnswer d.M asked o c u a → IsUseAnswer d.M asked o c u b → AreSameAnswers a b
   one_use None a b is other =
-      let same = one-in firsts o c asked is.found other.found is.are_found other.are_found in
+      let same = one-in firsts o c asked (not (is_some (first_unread o c))) is.found other.found is.are_found other.are_found in
       alike a b (kept_answer d.M asked o c other.found) (is.answer_is ∙ ap (kept_answer d.M asked o c) same) other.answer_is
   one_use (Some unused) a b is other = alike a b _ is other
 
@@ -210,6 +211,15 @@ module _ (laws : Laws) (o : OpeningValue) (c : QueueCertificate) where
   keeps : first_flaw o c ≡ None → Protocols o c
   keeps none = let accepted = (laws.no_flaw o c).0 none in (laws.every_run o c accepted, laws.tells o c accepted, laws.sent o c accepted)
 
+  -- the loads of each queue's receiver are shown to be of owned slots, or of tags
+  owns : first_unread o c ≡ None → (i : ℕ) → i < queue_count c → OwnsReads o c (number_in c i)
+  owns none = of_either c (λ i t. OwnsReads o c (number_by i t)) (λ i less. all_read none i less the_receiver)
+      (λ t less. all_rest_read none t less the_receiver)
+
+  none-some : (unread : Option Unread) → not (is_some unread) ≡ true → unread ≡ None
+  none-some None owned = refl
+  none-some (Some unread) owned = absurd (cc)
+
   owned : first_flaw o c ≡ None → first_unread o c ≡ None → OwnedLoads o c
   owned none own = (loads none own, loads_tags none own)
 
@@ -220,7 +230,11 @@ module _ (laws : Laws) (o : OpeningValue) (c : QueueCertificate) where
     abbrev Mean : AnswerLine → Type 0
     Mean = LineMeans M asked o c
 
-    first-means : first_flaw o c ≡ None → (found : List QueueRecords) → AreFound o c asked found → (unread : Option Unread) → first_unread o c ≡ unread
+    -- they are found
+    abbrev Found : List QueueRecords → Type 0
+    Found found = AreFound o c asked (not (is_some (first_unread o c))) found
+
+    first-means : first_flaw o c ≡ None → (found : List QueueRecords) → Found found → (unread : Option Unread) → first_unread o c ≡ unread
         → (progress goes : Bool) → asked.progress ≡ progress → all_going o c progress ≡ goes
         → (all : Bool) → all_shown found (harts_safe o c ends asked.harts) ≡ all → Mean (first_line progress goes all unread)
     first-means none found are (Some unread) own progress goes is going all shown = keeps none
@@ -229,13 +243,15 @@ module _ (laws : Laws) (o : OpeningValue) (c : QueueCertificate) where
         (keeps none, owned none own, rw is (keeps-going o c laws.going laws.harts ((laws.no_flaw o c).0 none) progress going))
     first-means none found are None own progress true is going true shown =
         let accepted = (laws.no_flaw o c).0 none in
-        let both = and_parts (are_written found && are_read found) (harts_safe o c ends asked.harts) shown in
-        let records = and_parts (are_written found) (are_read found) both.0 in (
+        let both = and_parts ((are_written found && are_read found) && are_once found) (harts_safe o c ends asked.harts) shown in
+        let shown = and_parts (are_written found && are_read found) (are_once found) both.0 in
+        let records = and_parts (are_written found) (are_read found) shown.0 in
+        let owned-found : AreFound o c asked true found = subst (λ (u : Option Unread). AreFound o c asked (not (is_some u)) found) own are in (
           keeps none,
           owned none own,
           keeps-going o c laws.going laws.harts accepted progress going,
           (
-            keeps-records o c laws.records accepted asked found are records.0 records.1,
+            keeps-records o c laws.records accepted asked (owns own) found owned-found records.0 records.1 shown.1,
             keeps-harts o c laws.harts accepted M asked.progress asked.harts both.1,
           ),
         )
@@ -244,7 +260,7 @@ module _ (laws : Laws) (o : OpeningValue) (c : QueueCertificate) where
     protocol-means none None own = (keeps none, owned none own)
     protocol-means none (Some unread) own = keeps none
 
-    lines-mean : first_flaw o c ≡ None → (found : List QueueRecords) → AreFound o c asked found → All Mean (answer_lines M asked o c found)
+    lines-mean : first_flaw o c ≡ None → (found : List QueueRecords) → Found found → All Mean (answer_lines M asked o c found)
     lines-mean none found are =
         let accepted = (laws.no_flaw o c).0 none in
         let going : List AnswerLine = all_going_lines o c ends asked.progress in
@@ -258,12 +274,13 @@ module _ (laws : Laws) (o : OpeningValue) (c : QueueCertificate) where
         (All-cons Mean the_queues ((going ++ (records ++ harts)) ++ kept ∷ rest ∷ []) tt
         (All-append Mean (going ++ (records ++ harts)) (kept ∷ rest ∷ [])
         (All-append Mean going (records ++ harts) (going-means o c laws.going laws.harts accepted M asked asked.progress asked.harts)
-        (All-append Mean records harts (records-mean o c laws.records accepted M asked found are)
+        (All-append Mean records harts (records-mean o c laws.records accepted M asked (not (is_some (first_unread o c)))
+        (λ owned. owns (none-some (first_unread o c) owned)) found are)
         (harts-mean o c laws.harts accepted M asked asked.progress asked.harts)))
         (All-from_recursion Mean (kept ∷ rest ∷ []) (protocol-means none (first_unread o c) refl, (tt, tt)))))
 
     -- whatever the judgement
-    kept-means : first_flaw o c ≡ None → (found : List QueueRecords) → AreFound o c asked found → (text : List ℕ) (judgement : Judgement)
+    kept-means : first_flaw o c ≡ None → (found : List QueueRecords) → Found found → (text : List ℕ) (judgement : Judgement)
         → text ≡ texts o c (answer_lines M asked o c found) → judgement ≡ judgement_of (first_line_of M asked o c found)
         → IsMeant M asked o c text judgement
     kept-means none found are text judgement is judged = record {

@@ -1,5 +1,5 @@
 -- Lines one after another: their words, and what they mean.
-use Rattle.std.proofs.Common.{arith, true, false, ℕ, zero, suc, ◌≡◌, ◌+◌, ◌<◌, ◌++◌, List, [], ◌∷◌, refl, sym, ap, ◌∙◌, append-nil, append_assoc}
+use Rattle.std.proofs.Common.{arith, ℕ, zero, suc, ◌≡◌, ◌+◌, ◌<◌, ◌++◌, List, [], ◌∷◌, refl, sym, ap, ◌∙◌, append-nil, append_assoc}
 use Rattle.std.specs.Prelude.{All, is_some, not}
 use Rattle.std.proofs.lemmas.List.Elements.{All-append, All-nil}
 use Rattle.step_machine.specs.Names.{OpeningValue}
@@ -10,7 +10,8 @@ use Rattle.certifying.specs.Lines.{AnswerLine, all_going, all_going_lines, asked
 use Rattle.certifying.specs.Lines.{harts_lines, limits, lines_below, answer_lines}
 use Rattle.certifying.specs.Lines.{records_from, the_protocol, the_queues}
 use Rattle.certifying.specs.Questions.{Questions}
-use Rattle.certifying.specs.Records.{asked_line, both_lines, record_lines}
+use Rattle.certifying.specs.Records.{asked_line, lines_of_queue, record_lines}
+use Rattle.certifying.specs.declared.records.Deed.TheVariants.{Writes, Reads, ReadsOnce}
 use Rattle.certifying.specs.Unread.{first_unread}
 use Rattle.certifying.specs.declared.records.QueueRecords.{QueueRecords}
 
@@ -24,12 +25,17 @@ module _ (o : OpeningValue) (c : QueueCertificate) where
   texts_append [] ys = refl
   texts_append (x ∷ xs) ys = ap (λ zs. words o c x ++ zs) (texts_append xs ys) ∙ sym (append_assoc (words o c x) (texts o c xs) (texts o c ys))
 
-  record-texts : (asked : Questions) (i : ℕ) (found : List QueueRecords) → texts o c (records_from asked i found) ≡ numbered (both_lines o c asked) i found
+  of-three : (x y z rest : List ℕ) → x ++ (y ++ (z ++ rest)) ≡ (x ++ y ++ z) ++ rest
+  of-three x y z rest = simp (append_assoc)
+
+  record-texts : (asked : Questions) (i : ℕ) (found : List QueueRecords) → texts o c (records_from asked i found) ≡ numbered (lines_of_queue o c asked) i found
   record-texts asked i [] = refl
-  record-texts asked i (both ∷ found) =
-      ap (λ zs. asked_line o c true asked.written i both.written ++ (asked_line o c false asked.read i both.read ++ zs)) (record-texts asked (i + 1) found)
-      ∙ sym (append_assoc (asked_line o c true asked.written i both.written) (asked_line o c false asked.read i both.read)
-      (numbered (both_lines o c asked) (i + 1) found))
+  record-texts asked i (its ∷ found) =
+      let written : List ℕ = asked_line o c Writes asked.written i its.written in
+      let read : List ℕ = asked_line o c Reads asked.read i its.read in
+      let once : List ℕ = asked_line o c ReadsOnce asked.once i its.once in
+      ap (λ zs. written ++ (read ++ (once ++ zs))) (record-texts asked (i + 1) found)
+      ∙ of-three written read once (numbered (lines_of_queue o c asked) (i + 1) found)
 
   joined : (first queues going records harts kept rest : List ℕ) → first ++ queues ++ going ++ records ++ harts ++ kept ++ rest
       ≡ first ++ (queues ++ ((going ++ (records ++ harts)) ++ (kept ++ (rest ++ []))))

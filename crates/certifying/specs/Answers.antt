@@ -128,7 +128,7 @@ words o c (the_party i sends found) = party_line o c sends i (doing_hart c sends
 words o c (move_on i both) = moving_lines (is_some (tagged_number c i)) i (slots_at c i) both
 words o c (can_move i unstopped run) = arriving_line i unstopped run
 words o c (may_wait i s r) = still_line i (slots_at c i) s r
-words o c (the_records writes i asked found) = asked_line o c writes asked i found
+words o c (the_records deed i asked found) = asked_line o c deed asked i found
 words o c (stopped_at h stop) = stop_line o c h stop
 words o c (never_ends h never) = end_line h never
 words o c (it_touches stores h touched) = touches_line o c stores h touched
@@ -173,7 +173,7 @@ kept_answer M asked o c found = ending_answer asked o c found (ends_asked M aske
 
 pub record IsKeptAnswer (M : ℕ) (asked : Questions) (o : OpeningValue) (c : QueueCertificate) (answer : List ℕ × Judgement) : Type 0 where
   pub found : List QueueRecords
-  pub are_found : AreFound o c asked found
+  pub are_found : AreFound o c asked (not (is_some (first_unread o c))) found
   pub answer_is : answer ≡ kept_answer M asked o c found
 
 abbrev pub IsUseAnswer : (M : ℕ) → Questions → OpeningValue → QueueCertificate → Option Unused → List ℕ × Judgement → Type 0

@@ -28,7 +28,7 @@ use Rattle.ownership_runs.specs.Protocols.{Keeps}
 use Rattle.ownership_runs.specs.Violations.{first_ownership_violation}
 use Rattle.record_bytes.specs.Naming.{names_byte}
 use Rattle.records_written.specs.Parties.{count_after, hart_by, slot_in}
-use Rattle.records_written.specs.Read.{IsRead}
+use Rattle.records_written.specs.Read.{IsFresh, IsRead, IsReadBy}
 use Rattle.records_written.specs.Written.{IsWritten}
 use Rattle.records_written.specs.declared.parties.QueueNumber.{QueueNumber}
 use Rattle.records_written.specs.declared.parties.QueueNumber.TheVariants.{Indexed, Tagged}
@@ -46,7 +46,9 @@ use Rattle.certifying.specs.Lines.{it_touches, the_protocol, first_line_of, judg
 use Rattle.certifying.specs.Questions.{Questions}
 use Rattle.certifying.specs.Inputs.{certificates}
 use Rattle.certifying.specs.Queues.{any_queue, any_start, is_tag_byte, number_in, queue_count, slots_at}
-use Rattle.certifying.specs.Records.{doer}
+use Rattle.certifying.specs.Records.{asked_ranges, doer, is_rest}
+use Rattle.certifying.specs.declared.records.Deed.{Deed}
+use Rattle.certifying.specs.declared.records.Deed.TheVariants as deed
 use Rattle.certifying.specs.declared.records.QueueRecords.{QueueRecords}
 use Rattle.certifying.specs.declared.records.Records.{Records}
 use Rattle.certifying.specs.declared.records.Records.TheVariants.{Shown}
@@ -135,19 +137,31 @@ abbrev pub IsDone : (writes : Bool) → (M : ℕ) → OpeningValue → QueueCert
 IsDone true M o c w es k x = IsWritten M o c w es k x
 IsDone false M o c w es k x = IsRead M o c w es k x
 
--- Of the bytes that a text names: the records of queue i have some of them; and in each run, where its sender publishes a position, it has
--- written each of them, except those of a tag, in that position's slot since the record before in that slot was published; or where its receiver
--- hands a position back, it has read each of them, except those of a tag, in that position's slot while it owned the position, as it had learned
-abbrev pub DoesRecordsOf : (writes : Bool) → (bytes : List ℕ) → OpeningValue → QueueCertificate → (i : ℕ) → Type 0
-DoesRecordsOf writes bytes o c i = ((b : ℕ) × (b < (slots_at c i).width) × (names_byte bytes b ≡ true))
-    × ((B M : ℕ) (es : List Entry) (e : Entry) → WellFormed B M (history_of o (es ++ e ∷ [])) → (k : ℕ)
+-- Of the bytes that a text names: in each run, where the sender of queue i publishes a position, it has written each of them, except those of a
+-- tag, in that position's slot since the record before in that slot was published; or where its receiver hands a position back, it has read each of
+-- them, except those of a tag, in that position's slot while it owned the position, as it had learned
+abbrev pub DoesEach : (writes : Bool) → (bytes : List ℕ) → OpeningValue → QueueCertificate → (i : ℕ) → Type 0
+DoesEach writes bytes o c i = (B M : ℕ) (es : List Entry) (e : Entry) → WellFormed B M (history_of o (es ++ e ∷ [])) → (k : ℕ)
     → count_after c (number_in c i) (doer writes) es ≤ k → k < count_after c (number_in c i) (doer writes) (es ++ e ∷ []) → (b : ℕ)
     → b < (slots_at c i).width → names_byte bytes b ≡ true → is_tag_byte c i b ≡ false
-    → IsDone writes M o c (number_in c i) es k (slot_in c (number_in c i) k + b))
+    → IsDone writes M o c (number_in c i) es k (slot_in c (number_in c i) k + b)
 
-abbrev pub DoesRecords : (writes : Bool) → (asked : Option (List ℕ)) → OpeningValue → QueueCertificate → (i : ℕ) → Type 0
-DoesRecords writes None o c i = Unit {0}
-DoesRecords writes (Some bytes) o c i = DoesRecordsOf writes bytes o c i
+-- or where the receiver reads one of them, except those of a tag, of a position that it owns, it has read neither that one before, nor any of them of
+-- a later position
+abbrev pub ReadsEachOnce : (bytes : List ℕ) → OpeningValue → QueueCertificate → (i : ℕ) → Type 0
+ReadsEachOnce bytes o c i = (B M : ℕ) (es : List Entry) (e : Entry) → WellFormed B M (history_of o (es ++ e ∷ [])) → (k b : ℕ)
+    → is_rest c i (asked_ranges c bytes i) b ≡ true → IsReadBy M o c (number_in c i) es e k (slot_in c (number_in c i) k + b)
+    → IsFresh M o c (number_in c i) (is_rest c i (asked_ranges c bytes i)) es k b
+
+abbrev pub DoesAs : Deed → (bytes : List ℕ) → OpeningValue → QueueCertificate → (i : ℕ) → Type 0
+DoesAs deed.Writes bytes o c i = DoesEach true bytes o c i
+DoesAs deed.Reads bytes o c i = DoesEach false bytes o c i
+DoesAs deed.ReadsOnce bytes o c i = ReadsEachOnce bytes o c i
+
+-- and the queue's records have some of them
+abbrev pub DoesRecords : Deed → (asked : Option (List ℕ)) → OpeningValue → QueueCertificate → (i : ℕ) → Type 0
+DoesRecords does None o c i = Unit {0}
+DoesRecords does (Some bytes) o c i = ((b : ℕ) × (b < (slots_at c i).width) × (names_byte bytes b ≡ true)) × DoesAs does bytes o c i
 
 -- ---- of a hart
 
@@ -178,7 +192,8 @@ KeepsGoing false o c = Unit {0}
 
 -- what is asked of each queue's records, and of each hart
 abbrev pub KeepsRest : (M : ℕ) → Questions → OpeningValue → QueueCertificate → Type 0
-KeepsRest M asked o c = ((i : ℕ) → i < queue_count c → DoesRecords true asked.written o c i × DoesRecords false asked.read o c i)
+KeepsRest M asked o c = ((i : ℕ) → i < queue_count c
+    → DoesRecords deed.Writes asked.written o c i × DoesRecords deed.Reads asked.read o c i × DoesRecords deed.ReadsOnce asked.once o c i)
     × (asked.harts ≡ true → (h : ℕ) → h < length o.harts → NeverStops M o h × TouchesOnly true o h (touched_of true o c h).regions)
 
 -- of what is found of a party, or of records
@@ -187,9 +202,9 @@ PartyMeans o c w p (Alone bound) = PartyGoes o c w p bound
 PartyMeans o c w p (Together bound) = GoesWithin o (hart_by c w p) (IsHartStuck c (hart_by c w p) bound.owned) bound.within
 PartyMeans o c w p other = Unit {0}
 
-abbrev pub RecordsMean : (writes : Bool) → (asked : Option (List ℕ)) → OpeningValue → QueueCertificate → (i : ℕ) → Records → Type 0
-RecordsMean writes asked o c i Shown = DoesRecords writes asked o c i
-RecordsMean writes asked o c i other = Unit {0}
+abbrev pub RecordsMean : Deed → (asked : Option (List ℕ)) → OpeningValue → QueueCertificate → (i : ℕ) → Records → Type 0
+RecordsMean does asked o c i Shown = DoesRecords does asked o c i
+RecordsMean does asked o c i other = Unit {0}
 
 -- What a line promises of every run of the text. Not shown, and not promised, is nothing.
 abbrev pub LineMeans : (M : ℕ) → Questions → OpeningValue → QueueCertificate → AnswerLine → Type 0
@@ -200,7 +215,7 @@ LineMeans M asked o c (not_owned unread) = Protocols o c
 LineMeans M asked o c (the_party i sends found) = PartyMeans o c (number_in c i) (doer sends) found
 LineMeans M asked o c (move_on i both) = BothMove o c (number_in c i) both
 LineMeans M asked o c (can_move i true run) = CanMove o c (number_in c i) M run
-LineMeans M asked o c (the_records writes i bytes found) = RecordsMean writes bytes o c i found
+LineMeans M asked o c (the_records does i bytes found) = RecordsMean does bytes o c i found
 LineMeans M asked o c (stopped_at h None) = NeverStops M o h
 LineMeans M asked o c (never_ends h true) = AlwaysRuns M o h
 LineMeans M asked o c (it_touches stores h touched) = TouchesBy touched.unbounded stores o h touched.regions

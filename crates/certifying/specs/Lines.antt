@@ -8,12 +8,14 @@ use Rattle.hart_safety.specs.Touched.{Touched, touched_of}
 use Rattle.certifying.specs.Endings.{all_endings, always_runs, both_run, endings_at, neither_stops, never_stops}
 use Rattle.certifying.specs.Queues.{number_in, queue_count, slots_at}
 use Rattle.certifying.specs.Questions.{Questions}
-use Rattle.certifying.specs.Records.{are_read, are_written, doing_hart}
+use Rattle.certifying.specs.Records.{are_once, are_read, are_written, doing_hart}
 use Rattle.certifying.specs.Together.{both_in, party_in}
 use Rattle.certifying.specs.Unread.{first_unread}
 use Rattle.certifying.specs.declared.endings.Endings.{Endings}
 use Rattle.certifying.specs.declared.judgement.Judgement.{Judgement}
 use Rattle.certifying.specs.declared.judgement.Judgement.TheVariants.{Kept, ReadsNotShown, ProgressNotShown, AskedNotShown, NotShown}
+use Rattle.certifying.specs.declared.records.Deed.{Deed}
+use Rattle.certifying.specs.declared.records.Deed.TheVariants.{Writes, Reads, ReadsOnce}
 use Rattle.certifying.specs.declared.records.QueueRecords.{QueueRecords}
 use Rattle.certifying.specs.declared.records.Records.{Records}
 use Rattle.certifying.specs.declared.together.Both.{Both}
@@ -34,7 +36,7 @@ pub data AnswerLine : Type 0 where
   can_move : (i : ℕ) (unstopped run : Bool) → AnswerLine
   may_wait : (i : ℕ) (sender receiver : PartyProgress) → AnswerLine
   -- what is found of its records, if that is asked of these bytes
-  the_records : (writes : Bool) (i : ℕ) (asked : Option (List ℕ)) → Records → AnswerLine
+  the_records : Deed → (i : ℕ) (asked : Option (List ℕ)) → Records → AnswerLine
   -- of hart h: the first state that may stop it; whether it never ends; what it stores to, or loads
   stopped_at : (h : ℕ) → Option ℕ → AnswerLine
   never_ends : (h : ℕ) (never : Bool) → AnswerLine
@@ -81,8 +83,8 @@ all_going o c false = true
 -- of each queue, from queue i on
 abbrev pub records_from : Questions → (i : ℕ) → List QueueRecords → List AnswerLine
 records_from asked i [] = []
-records_from asked i (both ∷ found) =
-    the_records true i asked.written both.written ∷ the_records false i asked.read both.read ∷ records_from asked (i + 1) found
+records_from asked i (its ∷ found) = the_records Writes i asked.written its.written ∷ the_records Reads i asked.read its.read
+    ∷ the_records ReadsOnce i asked.once its.once ∷ records_from asked (i + 1) found
 
 -- ---- harts, by where each may be stopped, and where it may end
 
@@ -107,7 +109,7 @@ harts_safe o c ends false = true
 
 -- all is shown that was asked besides whether the queues go on
 abbrev pub all_shown : List QueueRecords → (safe : Bool) → Bool
-all_shown found safe = (are_written found && are_read found) && safe
+all_shown found safe = ((are_written found && are_read found) && are_once found) && safe
 
 -- the first, by whether it is shown that the queues go on, if that is asked, and all else; and by the first load that isn't of an owned slot
 abbrev pub first_line : (progress goes all : Bool) → Option Unread → AnswerLine

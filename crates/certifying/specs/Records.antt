@@ -1,4 +1,4 @@
--- Whether the senders of queues write bytes of their records, and the receivers read them, as lines state it.
+-- Whether the senders of queues write bytes of their records, and the receivers read them, once, as lines state it.
 use Rattle.std.specs.Prelude.{ℕ, ◌≡◌, ◌+◌, ◌&&◌, not, Bool, true, false, List, [], ◌∷◌, ◌++◌, length, codes, Option, Some, None}
 use Rattle.std.specs.Fmt.{decimal}
 use Rattle.std.specs.List.{list_all}
@@ -9,13 +9,16 @@ use Rattle.record_bytes.specs.declared.ranges.ByteRange.{ByteRange}
 use Rattle.record_bytes.specs.Naming.{names_byte, offsets_below}
 use Rattle.record_bytes.specs.Ranges.{byte_ranges, has_byte, ranges_without}
 use Rattle.records_written.specs.declared.finding.Missing.{Missing}
-use Rattle.records_written.specs.Marks.{IsFirstMissing, IsShownDone}
+use Rattle.records_written.specs.Marks.{IsFirstAgain, IsFirstUnread, IsFirstUnwritten, IsShownOnce, IsShownRead, IsShownWritten}
+use Rattle.records_written.specs.declared.parties.QueueNumber.{QueueNumber}
 use Rattle.engine_support.specs.OpeningTexts.{numbered}
 use Rattle.certifying.specs.ByteTexts.{bytes_text, is_one_byte}
 use Rattle.certifying.specs.Descriptions.{queue_front}
 use Rattle.certifying.specs.Questions.{Questions}
 use Rattle.certifying.specs.Queues.{is_tag_byte, number_in, queue_count, slots_at, tag_range}
 use Rattle.certifying.specs.Unread.{pc_place}
+use Rattle.certifying.specs.declared.records.Deed.{Deed}
+use Rattle.certifying.specs.declared.records.Deed.TheVariants.{Writes, Reads, ReadsOnce}
 use Rattle.certifying.specs.declared.records.Records.{Records}
 use Rattle.certifying.specs.declared.records.Records.TheVariants.{Unasked, NoBytes, Shown, NotShown}
 use Rattle.certifying.specs.declared.records.QueueRecords.{QueueRecords}
@@ -34,34 +37,54 @@ is_rest c i ranges b = has_byte ranges b && not (is_tag_byte c i b)
 abbrev pub rest_ranges : QueueCertificate → (i : ℕ) → List ByteRange → List ByteRange
 rest_ranges c i ranges = ranges_without ranges (tag_range c i)
 
--- ---- what is found: whether a party writes them, as the sender, or reads them, as the receiver
+-- ---- what is found
 
-abbrev pub doer : (writes : Bool) → Party
+abbrev pub doer : (sends : Bool) → Party
 doer true = the_sender
 doer false = the_receiver
 
+abbrev pub is_senders : Deed → Bool
+is_senders Writes = true
+is_senders Reads = false
+is_senders ReadsOnce = false
+
+-- the bytes that are to be read at most once, where all loads of slots are shown to be of owned ones, or of tags: else it isn't asked
+abbrev pub once_asked : Questions → (owned : Bool) → Option (List ℕ)
+once_asked asked true = asked.once
+once_asked asked false = None
+
 module _ (o : OpeningValue) (c : QueueCertificate) where
-  abbrev pub IsFound : (writes : Bool) → (i : ℕ) → (ranges : List ByteRange) → Records → Type 0
-  IsFound writes i ranges Unasked = ⊥
-  IsFound writes i ranges NoBytes = ranges ≡ []
-  IsFound writes i ranges Shown = (ranges ≡ [] → ⊥) × IsShownDone o c (number_in c i) (doer writes) (is_rest c i ranges)
-  IsFound writes i ranges (NotShown missing) =
-      (ranges ≡ [] → ⊥) × IsFirstMissing o c (number_in c i) (doer writes) (is_rest c i ranges) missing
+  -- it is shown of each byte of the mask; or this is the first byte, at a state, of which it isn't
+  abbrev pub IsShownTo : Deed → QueueNumber → (mask : ℕ → Bool) → Type 0
+  IsShownTo Writes w mask = IsShownWritten o c w mask
+  IsShownTo Reads w mask = IsShownRead o c w mask
+  IsShownTo ReadsOnce w mask = IsShownOnce o c w mask
+
+  abbrev pub IsFirstNot : Deed → QueueNumber → (mask : ℕ → Bool) → Missing → Type 0
+  IsFirstNot Writes w mask u = IsFirstUnwritten o c w mask u
+  IsFirstNot Reads w mask u = IsFirstUnread o c w mask u
+  IsFirstNot ReadsOnce w mask u = IsFirstAgain o c w mask u
+
+  abbrev pub IsFound : Deed → (i : ℕ) → (ranges : List ByteRange) → Records → Type 0
+  IsFound deed i ranges Unasked = ⊥
+  IsFound deed i ranges NoBytes = ranges ≡ []
+  IsFound deed i ranges Shown = (ranges ≡ [] → ⊥) × IsShownTo deed (number_in c i) (is_rest c i ranges)
+  IsFound deed i ranges (NotShown missing) = (ranges ≡ [] → ⊥) × IsFirstNot deed (number_in c i) (is_rest c i ranges) missing
 
   -- of the bytes of a text, if they are asked about
-  abbrev pub IsFoundFor : (writes : Bool) → (asked : Option (List ℕ)) → (i : ℕ) → Records → Type 0
-  IsFoundFor writes None i records = records ≡ Unasked
-  IsFoundFor writes (Some bytes) i records = IsFound writes i (asked_ranges c bytes i) records
+  abbrev pub IsFoundFor : Deed → (asked : Option (List ℕ)) → (i : ℕ) → Records → Type 0
+  IsFoundFor deed None i records = records ≡ Unasked
+  IsFoundFor deed (Some bytes) i records = IsFound deed i (asked_ranges c bytes i) records
 
   -- from queue i on, one queue for each of these
-  abbrev pub AreFoundFrom : Questions → (i : ℕ) → List QueueRecords → Type 0
-  AreFoundFrom asked i [] = Unit {0}
-  AreFoundFrom asked i (both ∷ more) =
-      IsFoundFor true asked.written i both.written × IsFoundFor false asked.read i both.read × AreFoundFrom asked (i + 1) more
+  abbrev pub AreFoundFrom : Questions → (owned : Bool) → (i : ℕ) → List QueueRecords → Type 0
+  AreFoundFrom asked owned i [] = Unit {0}
+  AreFoundFrom asked owned i (its ∷ more) = IsFoundFor Writes asked.written i its.written × IsFoundFor Reads asked.read i its.read
+      × IsFoundFor ReadsOnce (once_asked asked owned) i its.once × AreFoundFrom asked owned (i + 1) more
 
   -- of each queue
-  abbrev pub AreFound : Questions → List QueueRecords → Type 0
-  AreFound asked found = (length found ≡ queue_count c) × AreFoundFrom asked 0 found
+  abbrev pub AreFound : Questions → (owned : Bool) → List QueueRecords → Type 0
+  AreFound asked owned found = (length found ≡ queue_count c) × AreFoundFrom asked owned 0 found
 
 -- what is asked of them is shown
 abbrev pub is_shown : Records → Bool
@@ -72,21 +95,26 @@ is_shown (NotShown missing) = false
 
 -- of each queue
 abbrev pub are_written : List QueueRecords → Bool
-are_written found = list_all (λ both. is_shown both.written) found
+are_written found = list_all (λ its. is_shown its.written) found
 
 abbrev pub are_read : List QueueRecords → Bool
-are_read found = list_all (λ both. is_shown both.read) found
+are_read found = list_all (λ its. is_shown its.read) found
+
+abbrev pub are_once : List QueueRecords → Bool
+are_once found = list_all (λ its. is_shown its.once) found
 
 -- ---- lines
 
-abbrev pub of_each : (writes one : Bool) → List ℕ
-of_each true true = codes " of each record is written"
-of_each true false = codes " of each record are written"
-of_each false true = codes " of each record is read"
-of_each false false = codes " of each record are read"
+abbrev pub of_each : Deed → (one : Bool) → List ℕ
+of_each Writes true = codes " of each record is written"
+of_each Writes false = codes " of each record are written"
+of_each Reads true = codes " of each record is read"
+of_each Reads false = codes " of each record are read"
+of_each ReadsOnce true = codes " of each record is read at most once, in order"
+of_each ReadsOnce false = codes " of each record are read at most once, in order"
 
-abbrev pub done_text : (writes : Bool) → List ByteRange → List ℕ
-done_text writes ranges = bytes_text ranges ++ of_each writes (is_one_byte ranges)
+abbrev pub done_text : Deed → List ByteRange → List ℕ
+done_text deed ranges = bytes_text ranges ++ of_each deed (is_one_byte ranges)
 
 unfoldable pub none_line : (i : ℕ) → List ℕ
 none_line i = codes "queue " ++ (decimal i ++ (codes ": its records have none of these bytes" ++ 10 ∷ []))
@@ -94,14 +122,15 @@ none_line i = codes "queue " ++ (decimal i ++ (codes ": its records have none of
 unfoldable pub tag_line : (i : ℕ) → List ℕ
 tag_line i = codes "queue " ++ (decimal i ++ (codes ": its records have these bytes in their tags alone" ++ 10 ∷ []))
 
-unfoldable pub shown_end : (writes : Bool) → List ℕ
-shown_end true = codes " after the record before in its slot was published" ++ 10 ∷ []
-shown_end false = codes " before its slot is handed back" ++ 10 ∷ []
+unfoldable pub shown_end : Deed → List ℕ
+shown_end Writes = codes " after the record before in its slot was published" ++ 10 ∷ []
+shown_end Reads = codes " before its slot is handed back" ++ 10 ∷ []
+shown_end ReadsOnce = 10 ∷ []
 
 unfoldable pub unshown_front : (i : ℕ) → List ℕ
 unshown_front i = codes "queue " ++ decimal i ++ codes ": not shown that "
 
-abbrev pub doing_hart : QueueCertificate → (writes : Bool) → (i : ℕ) → ℕ
+abbrev pub doing_hart : QueueCertificate → (sends : Bool) → (i : ℕ) → ℕ
 doing_hart c true i = (slots_at c i).sender
 doing_hart c false i = (slots_at c i).receiver
 
@@ -110,26 +139,27 @@ missing_end o c h missing =
     codes ": byte " ++ decimal missing.byte ++ codes ", hart " ++ decimal h ++ codes ", " ++ pc_place o c h missing.state ++ 10 ∷ []
 
 -- of the rest of these bytes, if there is any
-abbrev pub shown_line : (writes : Bool) → (i : ℕ) → List ByteRange → List ℕ
-shown_line writes i [] = tag_line i
-shown_line writes i (r ∷ rest) = queue_front i ++ done_text writes (r ∷ rest) ++ shown_end writes
+abbrev pub shown_line : Deed → (i : ℕ) → List ByteRange → List ℕ
+shown_line deed i [] = tag_line i
+shown_line deed i (r ∷ rest) = queue_front i ++ done_text deed (r ∷ rest) ++ shown_end deed
 
 -- of queue i, and of the rest of the bytes that are asked
-abbrev pub record_line : OpeningValue → QueueCertificate → (writes : Bool) → (i : ℕ) → List ByteRange → Records → List ℕ
-record_line o c writes i rest Unasked = []
-record_line o c writes i rest NoBytes = none_line i
-record_line o c writes i rest Shown = shown_line writes i rest
-record_line o c writes i rest (NotShown missing) =
-    unshown_front i ++ done_text writes rest ++ missing_end o c (doing_hart c writes i) missing
+abbrev pub record_line : OpeningValue → QueueCertificate → Deed → (i : ℕ) → List ByteRange → Records → List ℕ
+record_line o c deed i rest Unasked = []
+record_line o c deed i rest NoBytes = none_line i
+record_line o c deed i rest Shown = shown_line deed i rest
+record_line o c deed i rest (NotShown missing) =
+    unshown_front i ++ done_text deed rest ++ missing_end o c (doing_hart c (is_senders deed) i) missing
 
 -- if that is asked
-abbrev pub asked_line : OpeningValue → QueueCertificate → (writes : Bool) → (asked : Option (List ℕ)) → (i : ℕ) → Records → List ℕ
-asked_line o c writes None i records = []
-asked_line o c writes (Some bytes) i records = record_line o c writes i (rest_ranges c i (asked_ranges c bytes i)) records
+abbrev pub asked_line : OpeningValue → QueueCertificate → Deed → (asked : Option (List ℕ)) → (i : ℕ) → Records → List ℕ
+asked_line o c deed None i records = []
+asked_line o c deed (Some bytes) i records = record_line o c deed i (rest_ranges c i (asked_ranges c bytes i)) records
 
-abbrev pub both_lines : OpeningValue → QueueCertificate → Questions → (i : ℕ) → QueueRecords → List ℕ
-both_lines o c asked i both = asked_line o c true asked.written i both.written ++ asked_line o c false asked.read i both.read
+abbrev pub lines_of_queue : OpeningValue → QueueCertificate → Questions → (i : ℕ) → QueueRecords → List ℕ
+lines_of_queue o c asked i its = asked_line o c Writes asked.written i its.written ++ asked_line o c Reads asked.read i its.read
+    ++ asked_line o c ReadsOnce asked.once i its.once
 
 -- of each queue
 abbrev pub record_lines : OpeningValue → QueueCertificate → Questions → List QueueRecords → List ℕ
-record_lines o c asked found = numbered (both_lines o c asked) 0 found
+record_lines o c asked found = numbered (lines_of_queue o c asked) 0 found

@@ -17,7 +17,7 @@ use crate::descriptions::push_queues;
 use crate::harts::HartsTold;
 use crate::not_shown::{push_flaw, push_likely};
 use crate::questions::Questions;
-use crate::records::{QueueRecords, are_read, are_written, push_records};
+use crate::records::{QueueRecords, are_once, are_read, are_written, push_records};
 use crate::unread::{Unread, push_unread};
 use crate::unused::{Unused, push_unused};
 use certificate_reader::push_known_at;
@@ -134,7 +134,7 @@ fn push_limits(
 pub fn all_shown(found: &[QueueRecords], safe: bool) -> bool
     ensures { result ≡ all_shown found.now safe }
 {
-    are_written(found) && are_read(found) && safe
+    are_written(found) && are_read(found) && are_once(found) && safe
 }
 
 /// The first line, by whether all that was asked is shown, and the first load that isn't shown to be of an owned slot.

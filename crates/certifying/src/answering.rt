@@ -81,7 +81,7 @@ fn kept_judgement(goes: bool, all: bool, unread: Option<Unread>) -> Judgement
 }
 
 /// What is answered where the certificate is accepted, and its queues are used, with the lines of whether they go on, what is found of
-/// records and of harts, and whether they are shown to go on.
+/// records and of harts, whether they are shown to go on, and the first load that isn't shown to be of an owned slot.
 fn judged_reads(
     alloc: Global,
     opening: &Opening,
@@ -91,11 +91,11 @@ fn judged_reads(
     found: &[QueueRecords],
     told: &HartsTold,
     goes: bool,
+    unread: Option<Unread>,
 ) -> Result<(String, Judgement), Lack>
     ensures { IfOk result (λ answer. text_and_value answer ≡ judged_reads opening.now certificate.now (questions_by asked.entry) going.now found.now
-        (string_bytes told.now.lines) goes told.now.safe (first_unread opening.now certificate.now)) }
+        (string_bytes told.now.lines) goes told.now.safe unread) }
 {
-    let unread = first_unread(alloc, opening, certificate)?;
     let all = all_shown(found, told.safe);
     let text = kept_text(
         alloc,
@@ -138,7 +138,8 @@ fn judged_asked(
         &endings,
         asked.progress,
     )?;
-    let found = found_in(alloc, opening, certificate, asked)?;
+    let unread = first_unread(alloc, opening, certificate)?;
+    let found = found_in(alloc, opening, certificate, asked, unread.is_none())?;
     let told = harts_told(alloc, opening, certificate, &endings, asked.harts)?;
     judged_reads(
         alloc,
@@ -149,6 +150,7 @@ fn judged_asked(
         &found,
         &told,
         goes,
+        unread,
     )
 }
 

@@ -9,6 +9,8 @@ pub struct Questions<'a> {
     pub written: Option<&'a str>,
     /// The same of those that its receiver is to read.
     pub read: Option<&'a str>,
+    /// The same of those that it is to read at most once, in order.
+    pub once: Option<&'a str>,
     /// Whether it is asked if each hart is never stopped, and which bytes it writes.
     pub harts: bool,
 }

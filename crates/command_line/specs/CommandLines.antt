@@ -256,7 +256,8 @@ on_file_and_certificate options found = do
   certificate ← file_in (codes "certificate") options
   written ← bytes_if_given (options (codes "written"))
   read ← bytes_if_given (options (codes "read"))
-  Some (record (two_inputs command capacity file certificate) { written = written; read = read })
+  once ← bytes_if_given (options (codes "once"))
+  Some (record (two_inputs command capacity file certificate) { written = written; read = read; once = once })
 
 abbrev pub on_schedule_and_standard : Found → Option Command → Option Wanted
 on_schedule_and_standard options found = do

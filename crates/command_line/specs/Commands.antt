@@ -60,7 +60,7 @@ commands =
     ∷ defaulted (codes "sender") (codes "0") ∷ defaulted (codes "receiver") (codes "1") ∷ defaulted (codes "kind") (codes "lamport") ∷ [])
     ∷ row (codes "queue") (file ∷ buffer ∷ defaulted (codes "seed") (codes "1") ∷ defaulted (codes "runs") (codes "1000")
     ∷ defaulted (codes "length") (codes "1000") ∷ skip ∷ defaulted (codes "draw") (codes "bursts") ∷ jobs ∷ required (codes "certificate")
-    ∷ optional (codes "written") ∷ optional (codes "read") ∷ flag (codes "harts") ∷ flag (codes "safety") ∷ [])
+    ∷ optional (codes "written") ∷ optional (codes "read") ∷ optional (codes "once") ∷ flag (codes "harts") ∷ flag (codes "safety") ∷ [])
     ∷ row (codes "steps") (buffer ∷ [])
     ∷ row (codes "asm") []
     ∷ row (codes "dis") []

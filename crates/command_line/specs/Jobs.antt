@@ -14,7 +14,7 @@ pub data Input : Type 0 where
   File : (path : List ℕ) → Input
 
 -- A command, the buffers of its machine, its inputs in the order in which they are read, and the bytes of records that are asked about, if any
--- are: those that are to be written, and those that are to be read
+-- are: those that are to be written, those that are to be read, and those that are to be read at most once
 pub record Wanted : Type 0 where
   pub command : Command
   pub capacity : Capacity
@@ -24,11 +24,22 @@ pub record Wanted : Type 0 where
   pub fourth : Option Input
   pub written : Option (List ℕ)
   pub read : Option (List ℕ)
+  pub once : Option (List ℕ)
 
 module _ (command : Command) (capacity : Capacity) where
   abbrev pub wanted_of : (first : Input) → (second third fourth : Option Input) → Wanted
   wanted_of first second third fourth =
-      record { command = command; capacity = capacity; first = first; second = second; third = third; fourth = fourth; written = None; read = None }
+      record {
+        command = command;
+        capacity = capacity;
+        first = first;
+        second = second;
+        third = third;
+        fourth = fourth;
+        written = None;
+        read = None;
+        once = None;
+      }
 
   abbrev pub one_input : Input → Wanted
   one_input first = wanted_of first None None None
@@ -57,6 +68,7 @@ wanted_by job = record {
   fourth = option_map input_by job.fourth;
   written = option_map (λ bytes. bytes.now) job.written;
   read = option_map (λ bytes. bytes.now) job.read;
+  once = option_map (λ bytes. bytes.now) job.once;
 }
 
 -- ---- why a command line gives no job

@@ -119,6 +119,7 @@ pub const COMMANDS: [Row; 18] = [
             Required("certificate"),
             Optional("written"),
             Optional("read"),
+            Optional("once"),
             Flag("harts"),
             Flag("safety"),
         ],

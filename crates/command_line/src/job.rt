@@ -168,4 +168,6 @@ pub struct Job<'a> {
     pub written: Option<&'a str>,
     /// The same of those that its receiver is to read.
     pub read: Option<&'a str>,
+    /// The same of those that it is to read at most once, in order.
+    pub once: Option<&'a str>,
 }

@@ -124,6 +124,7 @@ fn on_standard<'a>(options: &ArgMatches<'a>, command: Option<Command>) -> Option
         fourth: None,
         written: None,
         read: None,
+        once: None,
     })
 }
 
@@ -142,6 +143,7 @@ fn on_file<'a>(options: &ArgMatches<'a>, command: Option<Command>) -> Option<Job
         fourth: None,
         written: None,
         read: None,
+        once: None,
     })
 }
 
@@ -161,6 +163,7 @@ fn on_file_and_schedule<'a>(options: &ArgMatches<'a>, command: Option<Command>) 
         fourth: None,
         written: None,
         read: None,
+        once: None,
     })
 }
 
@@ -179,6 +182,7 @@ fn on_file_and_standard<'a>(options: &ArgMatches<'a>, command: Option<Command>) 
         fourth: None,
         written: None,
         read: None,
+        once: None,
     })
 }
 
@@ -194,6 +198,7 @@ fn on_file_and_certificate<'a>(
     let certificate = word_in(options, "certificate")?;
     let written = bytes_if_given(word_in(options, "written"))?;
     let read = bytes_if_given(word_in(options, "read"))?;
+    let once = bytes_if_given(word_in(options, "once"))?;
     Some(Job {
         command,
         capacity,
@@ -203,6 +208,7 @@ fn on_file_and_certificate<'a>(
         fourth: None,
         written,
         read,
+        once,
     })
 }
 
@@ -224,6 +230,7 @@ fn on_schedule_and_standard<'a>(
         fourth: None,
         written: None,
         read: None,
+        once: None,
     })
 }
 
@@ -247,6 +254,7 @@ fn on_programs_and_standard<'a>(
         fourth: None,
         written: None,
         read: None,
+        once: None,
     })
 }
 
@@ -282,6 +290,7 @@ fn on_own_channel<'a>(options: &ArgMatches<'a>) -> Option<Job<'a>>
         fourth: Some(Input::Standard),
         written: None,
         read: None,
+        once: None,
     })
 }
 

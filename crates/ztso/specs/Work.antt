@@ -97,10 +97,6 @@ queue_of called = record {
   receiver = called.receiver;
 }
 
--- what is asked of a certificate besides the protocol
-abbrev pub queue_asked : (written read : Option (List ℕ)) → (harts safety : Bool) → Questions
-queue_asked written read harts safety = record { progress = not safety; written = written; read = read; harts = harts }
-
 -- in which form `show` tells a test
 abbrev pub form_of : (steps : Bool) → Form
 form_of true = form.Steps
@@ -114,7 +110,7 @@ left_of false = left.Counted
 -- ---- how a command ends
 
 -- What the readers of all inputs tell, in the order in which they are read, what a user's commands tell, and the bytes of records that are asked
--- about, if any are: those that are to be written, and those that are to be read.
+-- about, if any are: those that are to be written, those that are to be read, and those that are to be read at most once.
 pub record Given : Type 0 where
   pub first : Option (List ℕ)
   pub second : Option (List ℕ)
@@ -123,6 +119,12 @@ pub record Given : Type 0 where
   pub commands : Option (List ℕ)
   pub written : Option (List ℕ)
   pub read : Option (List ℕ)
+  pub once : Option (List ℕ)
+
+-- what is asked of a certificate besides the protocol
+abbrev pub queue_asked : Given → (harts safety : Bool) → Questions
+queue_asked given harts safety =
+    record { progress = not safety; written = given.written; read = given.read; once = given.once; harts = harts }
 
 -- An engine ended, whose value or fault makes this exit status or failure: what it wrote and returned is an answer, or
 -- a refusal is and nothing was written (`Ends` says it all).
@@ -170,7 +172,7 @@ Does B (UserChannel place) result given =
 Does B (Ring seed draw runs place) result given =
     Done good_exit (IsRingAnswer (runs_from B seed draw runs) place given.first given.second given.third) result
 Does B (OfQueues seed draw runs harts safety) result given =
-    Done judgement_exit (IsQueueAnswer (runs_from B seed draw runs) (queue_asked given.written given.read harts safety) given.first given.second) result
+    Done judgement_exit (IsQueueAnswer (runs_from B seed draw runs) (queue_asked given harts safety) given.first given.second) result
 
 -- the greatest exit status of a command that doesn't fail
 abbrev pub greatest_status : Command → ℕ

@@ -115,6 +115,7 @@ where
         job.capacity,
         job.written,
         job.read,
+        job.once,
         &mut streams,
         progress,
         search,

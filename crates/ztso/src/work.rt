@@ -258,7 +258,7 @@ fn do_code<I: Read, C: Read, W: Write>(
     command: CodeCommand,
     streams: &mut Streams<I, C, W>,
 ) -> Result<u8, Failure>
-    ensures does { (B : ℕ) (written read : Option (List ℕ)) → Does B (Code command) result (record {
+    ensures does { (B : ℕ) (written read once : Option (List ℕ)) → Does B (Code command) result (record {
       first = I.remaining streams.old.first;
       second = I.remaining streams.old.second;
       third = I.remaining streams.old.third;
@@ -266,6 +266,7 @@ fn do_code<I: Read, C: Read, W: Write>(
       commands = C.remaining streams.old.commands;
       written = written;
       read = read;
+      once = once;
     }) W.contents streams.old.writer streams.new.writer }
     ensures kept { (streams.new.second ≡ streams.old.second) × (streams.new.third ≡ streams.old.third) × (streams.new.fourth ≡ streams.old.fourth) }
     ensures unasked { streams.new.commands ≡ streams.old.commands }
@@ -289,7 +290,7 @@ fn do_machine<const B: usize, T: Threads + Sync, I: Read, C: Read, W: Write, P: 
 ) -> Result<u8, Failure>
     requires some_capacity { 1 ≤ B }
     requires capacity { B ≤ 64 }
-    ensures does { (written read : Option (List ℕ)) → Does B (Machine command) result (record {
+    ensures does { (written read once : Option (List ℕ)) → Does B (Machine command) result (record {
       first = I.remaining streams.old.first;
       second = I.remaining streams.old.second;
       third = I.remaining streams.old.third;
@@ -297,6 +298,7 @@ fn do_machine<const B: usize, T: Threads + Sync, I: Read, C: Read, W: Write, P: 
       commands = C.remaining streams.old.commands;
       written = written;
       read = read;
+      once = once;
     }) W.contents streams.old.writer streams.new.writer }
     ensures unread { LeavesUnread (refusals (Machine command) result) (I.remaining streams.old.first ∷ []) → streams.new.second ≡ streams.old.second }
     ensures kept { (streams.new.third ≡ streams.old.third) × (streams.new.fourth ≡ streams.old.fourth) }
@@ -365,6 +367,7 @@ fn do_buffered<const B: usize, R, I: Read, C: Read, W: Write, P: Progress, Q: Se
     command: Command,
     written: Option<&str>,
     read: Option<&str>,
+    once: Option<&str>,
     streams: &mut Streams<I, C, W>,
     progress: &mut P,
     search: &mut Q,
@@ -381,6 +384,7 @@ where
       commands = C.remaining streams.old.commands;
       written = option_map (λ bytes. bytes.now) written.entry;
       read = option_map (λ bytes. bytes.now) read.entry;
+      once = option_map (λ bytes. bytes.now) once.entry;
     }) W.contents streams.old.writer streams.new.writer }
     ensures unread { LeavesUnread (refusals command result) (I.remaining streams.old.first ∷ []) → streams.new.second ≡ streams.old.second }
     ensures unread_third { LeavesUnread (refusals command result) (I.remaining streams.old.first ∷ I.remaining streams.old.second ∷ [])
@@ -453,6 +457,7 @@ where
                 progress: !safety,
                 written,
                 read,
+                once,
                 harts,
             },
             &mut streams.first,
@@ -469,13 +474,14 @@ where
 /// test asks, a record was refused, callers of a queue owe something, or a run of a channel isn't clean, and of a certificate 6
 /// where its loads aren't shown, 10 where its queues aren't shown to go on, 9 where only what is asked besides isn't shown, 7 where nothing
 /// is, or 8 where a run breaks the protocol.
-/// `written` and `read` are which bytes of records are asked about. `progress` gets the reports of runs that are tried, and `search` those of a search.
+/// `written`, `read` and `once` are which bytes of records are asked about. `progress` gets the reports of runs that are tried, and `search` those of a search.
 pub fn do_command<R, I: Read, C: Read, W: Write, P: Progress, Q: SearchProgress>(
     rt: &R,
     command: Command,
     capacity: Capacity,
     written: Option<&str>,
     read: Option<&str>,
+    once: Option<&str>,
     streams: &mut Streams<I, C, W>,
     progress: &mut P,
     search: &mut Q,
@@ -490,6 +496,7 @@ where
       commands = C.remaining streams.old.commands;
       written = option_map (λ bytes. bytes.now) written.entry;
       read = option_map (λ bytes. bytes.now) read.entry;
+      once = option_map (λ bytes. bytes.now) once.entry;
     }) W.contents streams.old.writer streams.new.writer }
     ensures unread { LeavesUnread (refusals command result) (I.remaining streams.old.first ∷ []) → streams.new.second ≡ streams.old.second }
     ensures unread_third { LeavesUnread (refusals command result) (I.remaining streams.old.first ∷ I.remaining streams.old.second ∷ [])
@@ -501,16 +508,16 @@ where
 {
     match capacity {
         Capacity::One => do_buffered::<1, _, _, _, _, _, _>(
-            rt, command, written, read, streams, progress, search,
+            rt, command, written, read, once, streams, progress, search,
         ),
         Capacity::Two => do_buffered::<2, _, _, _, _, _, _>(
-            rt, command, written, read, streams, progress, search,
+            rt, command, written, read, once, streams, progress, search,
         ),
         Capacity::Four => do_buffered::<4, _, _, _, _, _, _>(
-            rt, command, written, read, streams, progress, search,
+            rt, command, written, read, once, streams, progress, search,
         ),
         Capacity::Sixteen => do_buffered::<16, _, _, _, _, _, _>(
-            rt, command, written, read, streams, progress, search,
+            rt, command, written, read, once, streams, progress, search,
         ),
     }
 }

@@ -27,6 +27,7 @@ returns-clause-promised c = answers.promised (record {
   records = record {
     written = λ B M o listed accepted. c.laws_of_written_records.ensures.shown B M o listed accepted;
     read = λ B M o listed accepted. c.laws_of_read_records.ensures.read B M o listed accepted;
+    once = λ B M o listed accepted. c.laws_of_read_records.ensures.once B M o listed accepted;
   };
   harts = record {
     never_stopped = c.laws_of_hart_safety.ensures.never_stopped;
@@ -54,6 +55,8 @@ returns-clause-one c = answers.one_queue_answer (record {
       one_written = c.laws_of_written_records.ensures.one;
       either_read = c.laws_of_read_records.ensures.either;
       one_read = c.laws_of_read_records.ensures.one;
+      either_once = c.laws_of_read_records.ensures.either_once;
+      one_once = c.laws_of_read_records.ensures.one_once;
     })
 
 pub returns-clause-lost : goal.returns-clause-lost

@@ -7,5 +7,5 @@ use Rattle.certifying.proofs.records.found_in.Given as goal
 abbrev pub invariant-loop-index : goal.invariant-loop-index
 invariant-loop-index l = record {
   count : length l.found.items ≡ l.index;
-  found : AreFoundFrom l.opening l.certificate (questions_by l.asked) 0 l.found.items;
+  found : AreFoundFrom l.opening l.certificate (questions_by l.asked) l.owned 0 l.found.items;
 }
