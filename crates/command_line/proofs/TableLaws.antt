@@ -1,12 +1,4 @@
 -- What each row's uses say, on the whole command line.
-use Rattle.std.proofs.Common.{◌≡◌, ◌∙◌, ◌&&◌, ◌||◌, Bool, true, false, not, refl, sym, ap, ap₂, List, [], ◌∷◌, ◌++◌, map, Option, Some, is_some, append-nil}
-use Rattle.std.proofs.Common.{append_assoc, codes}
-use Rattle.std.specs.Prelude.{find, fold, option_map}
-use Rattle.std.specs.Option.{option_map_or}
-use Rattle.std.specs.List.{list_all}
-use Rattle.std.specs.Str.{bytes_eq}
-use Rattle.std.proofs.lemmas.Bool.{and_parts, not-true}
-use Rattle.std.proofs.Math.Bool.{or-false}
 use Rattle.clap.specs.Faults.{check_fault, defaults_fault, entered_fault, fault_of, level_fault, settle_fault, turn_fault, walk_fault}
 use Rattle.clap.specs.Kinds.{Kinds, or_else}
 use Rattle.clap.specs.Simple.{App, Shape, built, built_leaf, entered, help_shape, label_of, names_of, rows_at, subcommand_of}
@@ -14,12 +6,86 @@ use Rattle.clap.specs.Walk.{Row as Found, Walk, answers_to, finished, first_of, 
 use Rattle.clap.specs.Words.{Text}
 use Rattle.clap.proofs.OnLiterals.{clap_on_literals}
 use Rattle.clap.proofs.WalkLemmas.{find-map}
+use Rattle.clap.proofs.CutLemmas.{Lacks}
+use Rattle.std.proofs.Common.{◌≡◌, ◌∙◌, ◌&&◌, ◌||◌, Bool, true, false, not, refl, sym, ap, ap₂, List, [], ◌∷◌, ◌++◌, map, Option, Some, is_some, append-nil, ℕ}
+use Rattle.std.proofs.Common.{append_assoc, codes, ◌+◌, ◌==◌, zero, suc, subst, arith, length, leb, leb-true}
+use Rattle.std.specs.Prelude.{find, fold, option_map}
+use Rattle.std.specs.Option.{option_map_or}
+use Rattle.std.specs.List.{list_all, list_any}
+use Rattle.std.specs.Str.{bytes_eq}
+use Rattle.std.proofs.lemmas.Bool.{and_parts, not-true}
+use Rattle.std.proofs.Math.Bool.{or-false}
+use Rattle.std.proofs.lemmas.Bool.Decides.{nat_tests}
+use Rattle.std.proofs.lemmas.Slice.Eq.{bytes_eq-Decides}
 use Rattle.command_line.specs.Commands.{commands}
 use Rattle.command_line.specs.Descriptions.{ztso_command}
-use Rattle.command_line.specs.Parameters.{CommandRow}
+use Rattle.command_line.specs.Parameters.{CommandRow, Parameter, positional, required, defaulted, optional, flag, name_of, named, word_in_place}
 use Rattle.command_line.specs.Uses.{IsWhole, Said, Says, Use, row_named, said_for, defaults_of, texts_of_uses}
-use Rattle.command_line.proofs.RowLaws.{is_sound, sound_row}
-use Rattle.command_line.proofs.UseLaws.{find_left, leaf, one_of_all, rules_from, uses_read}
+use Rattle.command_line.proofs.UseLaws.{find_left, leaf, one_of_all, rules_from, uses_read, IsName, IsSound, named_is}
+
+-- Which parameters a command may have: a test, and what passes it.
+
+-- ---- a row that can be read
+
+-- a name that isn't empty and has no `=`
+abbrev is_name : Text → Bool
+is_name [] = false
+is_name (c ∷ name) = not (list_any (λ x. x == 61) (c ∷ name))
+
+-- no two parameters have one name
+abbrev is_told_apart : List Parameter → Bool
+is_told_apart [] = true
+is_told_apart (p ∷ ps) = not (is_some (named ps (name_of p))) && is_told_apart ps
+
+abbrev pub is_sound : List Parameter → Bool
+is_sound ps = leb (1 + length ps) 1000 && (list_all (λ p. is_name (name_of p)) ps && is_told_apart ps)
+
+lacks : (text : Text) → list_any (λ x. x == 61) text ≡ false → Lacks 61 text
+lacks [] e i below same = absurd (omega (arith, below))
+lacks (c ∷ text) e zero below same = grind (arith, nat_tests)
+lacks (c ∷ text) e (suc i) below same = let later = lacks text in grind (arith, later, nat_tests)
+
+name_is : (name : Text) → is_name name ≡ true → IsName name
+name_is [] e = absurd cc
+name_is (c ∷ name) e = lacks (c ∷ name) (go (list_any (λ x. x == 61) (c ∷ name)) e)
+  where
+    go : (b : Bool) → not b ≡ true → b ≡ false
+    go true h = absurd cc
+    go false h = refl
+
+names_are : (ps : List Parameter) → list_all (λ p. is_name (name_of p)) ps ≡ true → (name : Text) (p : Parameter) → named ps name ≡ Some p → IsName name
+names_are ps all name p e =
+    subst IsName (named_is ps name p e) (name_is (name_of p) (one_of_all (λ q. bytes_eq (name_of q) name) (λ q. is_name (name_of q)) ps p e all))
+
+later_named : (q : Parameter) (ps : List Parameter) → is_told_apart (q ∷ ps) ≡ true → (id : Text) → named ps id ≡ Some (positional id)
+    → named (q ∷ ps) id ≡ Some (positional id)
+later_named q ps apart id e = grind (arith, and_parts, bytes_eq-Decides)
+
+-- a word is the first parameter of its name
+apart_at : (ps : List Parameter) → is_told_apart ps ≡ true → (place : ℕ) (id : Text) → word_in_place ps place ≡ Some id → named ps id ≡ Some (positional id)
+apart_at [] apart place id e = absurd cc
+apart_at (positional w ∷ ps) apart zero id e = let same : w ≡ id = cc in rw (same, (bytes_eq-Decides id id).1 refl) refl
+apart_at (positional w ∷ ps) apart (suc place) id e = later_named (positional w) ps apart id
+    (apart_at ps (and_parts (not (is_some (named ps (name_of (positional w))))) (is_told_apart ps) apart).1 place id e)
+apart_at (required n ∷ ps) apart place id e = later_named (required n) ps apart id
+    (apart_at ps (and_parts (not (is_some (named ps (name_of (required n))))) (is_told_apart ps) apart).1 place id e)
+apart_at (defaulted n v ∷ ps) apart place id e = later_named (defaulted n v) ps apart id
+    (apart_at ps (and_parts (not (is_some (named ps (name_of (defaulted n v))))) (is_told_apart ps) apart).1 place id e)
+apart_at (optional n ∷ ps) apart place id e = later_named (optional n) ps apart id
+    (apart_at ps (and_parts (not (is_some (named ps (name_of (optional n))))) (is_told_apart ps) apart).1 place id e)
+apart_at (flag n ∷ ps) apart place id e = later_named (flag n) ps apart id
+    (apart_at ps (and_parts (not (is_some (named ps (name_of (flag n))))) (is_told_apart ps) apart).1 place id e)
+
+-- a row that passes the test can be read
+pub sound_row : (command : Text) (ps : List Parameter) → is_sound ps ≡ true → IsSound command ps
+sound_row command ps e =
+    let few = and_parts (leb (1 + length ps) 1000) (list_all (λ p. is_name (name_of p)) ps && is_told_apart ps) e in
+    let names = and_parts (list_all (λ p. is_name (name_of p)) ps) (is_told_apart ps) few.1 in
+    record {
+      few = leb-true (1 + length ps) 1000 few.0;
+      names = λ name p at is. names_are ps names.0 name p at;
+      apart = apart_at ps names.1;
+    }
 
 -- ---- a command's name
 

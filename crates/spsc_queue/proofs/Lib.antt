@@ -31,7 +31,6 @@ pub mod Parties
 pub mod Calls
 pub mod CallLaws
 pub mod Accesses
-pub mod WholeCalls
 pub mod OneCall
 pub mod CutCalls
 pub mod Obligations

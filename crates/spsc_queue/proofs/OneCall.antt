@@ -1,18 +1,18 @@
 -- One whole call: what it does, what it completes, and what it has found where it returns 0.
-use Rattle.spsc_queue.proofs.Common.{ℕ, ◌+◌, ◌<◌, ◌≡◌, ◌≢◌, ◌&&◌, ◌⊎◌, inl, inr, Option, Some, None, Bool, true, false, if◌then◌else◌, List, [], ◌∷◌, ◌++◌}
-use Rattle.spsc_queue.proofs.Common.{length, refl, sym, ◌∙◌, ap, subst, arith, append-nil, append_assoc, slice_index, HartState, Entry, OpeningValue}
+use Rattle.hart.specs.Steps.{advanced}
+use Rattle.spsc_queue.proofs.Common.{ℕ, ◌+◌, ◌<◌, ◌≡◌, ◌≢◌, ◌&&◌, ◌⊎◌, inl, inr, Option, Some, None, Bool, true, false, if◌then◌else◌, List, [], ◌∷◌, ◌++◌, ◌*◌}
+use Rattle.spsc_queue.proofs.Common.{length, refl, sym, ◌∙◌, ap, subst, arith, append-nil, append_assoc, slice_index, HartState, Entry, OpeningValue, ◌/◌, ◌%◌}
 use Rattle.spsc_queue.proofs.Common.{history_of, write, Access, load, store, access_of, hart_of, is_own, own, pending, number_read, state_of, Kind, RingBuffer}
-use Rattle.spsc_queue.proofs.Common.{IsRingBuffer, next, capacity, unpublished, unreleased, placed, roomy, ProtocolState, at_start, role_of, next_by}
+use Rattle.spsc_queue.proofs.Common.{IsRingBuffer, next, capacity, unpublished, unreleased, placed, roomy, ProtocolState, at_start, role_of, next_by, ◌^◌}
 use Rattle.spsc_queue.proofs.Common.{protocol_next, room_at, says_full, watched_address, says_empty, parties_after, Block, SpscQueue, party_hart, party_line}
 use Rattle.spsc_queue.proofs.Common.{listing_of, buffer, is_in_call, is_in_call_with, enters, completed_by_entry, given_words, received_words, UsesAsSpscQueue}
-use Rattle.spsc_queue.proofs.Common.{longest, sees_full, look_accesses, accesses, completed_word, take_accesses}
-use Rattle.hart.specs.Steps.{advanced}
+use Rattle.spsc_queue.proofs.Common.{longest, sees_full, look_accesses, accesses, completed_word, take_accesses, MayPass, HasArguments, memory_access}
 use Rattle.spsc_queue.specs.Calls.{Party, the_sender, the_receiver}
 use Rattle.spsc_queue.specs.CallEffects.{IsWholeCall, IsCallUnderWay, IsSend, IsReceive, FoundFull, FoundEmpty}
 use Rattle.spsc_queue.proofs.Cases.{by-bool}
 use Rattle.spsc_queue.proofs.Numbers.{both}
 use Rattle.spsc_queue.proofs.Growing.{protocol-append}
-use Rattle.spsc_queue.proofs.Courses.{at_00, Course}
+use Rattle.spsc_queue.proofs.Courses.{at_00, Course, At, number, went}
 use Rattle.spsc_queue.proofs.Outline.{Part, part, role, Level, first_look, index_at, Knows, Effect, Fresh, Row, Inside, Outside, CourseStands, Stands}
 use Rattle.spsc_queue.proofs.Parts.{ring_is, first-load, look-load, load-words}
 use Rattle.spsc_queue.proofs.Functions.{facts, begins}
@@ -21,8 +21,48 @@ use Rattle.spsc_queue.proofs.Completed.{is_in_call-last, none_completed, same_ca
 use Rattle.spsc_queue.proofs.Parties.{is_busy, words, words-last, has_of, which, other_hart, Mine, Others, whose, not_mine}
 use Rattle.spsc_queue.proofs.Calls.{Stand, stands-at, here, was_here, course_stands, completes}
 use Rattle.spsc_queue.proofs.CallLaws.{finds_full, finds_empty, finds_word, finds_room}
-use Rattle.spsc_queue.proofs.Accesses.{First, first_access, off_silent, still, unmoved}
-use Rattle.spsc_queue.proofs.WholeCalls.{first_line, same_arguments, course, course_on, course_same, chose, answers}
+use Rattle.spsc_queue.proofs.Accesses.{First, first_access, off_silent, still, unmoved, other-accesses, other-own, mine-accesses, mine-own}
+
+-- What whole calls of both functions share: the first line, the course so far.
+
+-- where a hart stands at the entry, in a call, it stands at the first line
+pub first_line : (line : At) → number line ≡ 0 → line ≡ at_00
+first_line at_00 e = refl
+first_line line e = absurd (omega (arith, e))
+
+pub same_arguments : (p : Party) (n : ℕ) (k : Block) (s z : HartState) → s.registers ≡ z.registers → HasArguments p n k s → HasArguments p n k z
+same_arguments p n k s z same a = record {
+  bytes = ap (λ x. slice_index x 12) (sym same) ∙ a.bytes;
+  word = subst (λ x. slice_index x 11 < 2 ^ 32) same a.word;
+  sendable = subst (λ x. MayPass p k.kind (slice_index x 11)) same a.sendable;
+  back = λ e. a.back (ap (λ x. slice_index x 1 / 2 * 2) same ∙ e);
+  back_aligned = subst (λ x. slice_index x 1 / 2 * 2 % 4 ≡ 0) same a.back_aligned;
+  back_small = subst (λ x. slice_index x 1 < 2 ^ 32) same a.back_small;
+}
+
+-- the course of a call, by its entries so far
+abbrev pub course : (h : ℕ) → HartState → (part : List Entry) → Course
+course h s part = record { entry = s; count = length (own h part); did = accesses h part }
+
+pub course_on : (h : ℕ) (s : HartState) (part : List Entry) (e : Entry) → is_own h e ≡ true → went (course h s part) (access_of e) ≡ course h s (part ++ e ∷ [])
+course_on h s part e on =
+    ap (λ m. record { entry = s; count = m; did = accesses h part ++ memory_access (access_of e) }) (sym (mine-own h e part on))
+    ∙ ap (λ ys. record { entry = s; count = length (own h (part ++ e ∷ [])); did = ys }) (sym (mine-accesses h e part on))
+
+pub course_same : (h : ℕ) (s : HartState) (part : List Entry) (e : Entry) → is_own h e ≡ false → course h s part ≡ course h s (part ++ e ∷ [])
+course_same h s part e off =
+    ap (λ ws. record { entry = s; count = length ws; did = accesses h part }) (sym (other-own h e part off))
+    ∙ ap (λ ys. record { entry = s; count = length (own h (part ++ e ∷ [])); did = ys }) (sym (other-accesses h e part off))
+
+-- a result that chose 0 chose its first case
+pub chose : (b : Bool) (n : ℕ) → n ≡ (if b then 0 else 1) → n ≡ 0 → b ≡ true
+chose true n is zero = refl
+chose false n is zero = absurd (omega (arith, is, zero))
+
+-- what a call answers
+pub answers : (b : Bool) (n : ℕ) → n ≡ (if b then 0 else 1) → (n ≡ 0) ⊎ (n ≡ 1)
+answers true n is = inl is
+answers false n is = inr is
 
 carry : (n : ℕ) (p : Party) (K : Kind) (k : Block) (r : RingBuffer) {b b1 : Bool} {ws ws1 : List ℕ} {c c1 : Course} {s s1 : HartState} {t t1 : Part}
     → b ≡ b1 → ws ≡ ws1 → c ≡ c1 → s ≡ s1 → t ≡ t1 → CourseStands n p K k r b ws c s t → CourseStands n p K k r b1 ws1 c1 s1 t1

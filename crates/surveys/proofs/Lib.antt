@@ -9,5 +9,4 @@ pub mod PartRows
 pub mod PartSteps
 pub mod PartTables
 pub mod RowLaws
-pub mod Shortest
 pub mod TreeLaws

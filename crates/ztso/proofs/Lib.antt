@@ -1,3 +1,2 @@
 pub mod Buffered
-pub mod Exits
 pub mod Held

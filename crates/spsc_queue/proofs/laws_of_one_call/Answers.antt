@@ -13,7 +13,7 @@ use Rattle.spsc_queue.proofs.Common.{inl, inr, false, if◌then◌else◌, ◌�
 use Rattle.spsc_queue.proofs.Common.{HasFunction}
 use Rattle.spsc_queue.specs.Calls.{the_sender, the_receiver, Party}
 use Rattle.spsc_queue.proofs.OneCall.{whole, whole_begun, effect_of, call_completes, found_full, found_empty, word_available, room_available, part_begun}
-use Rattle.spsc_queue.proofs.OneCall.{inside_at, made_few}
+use Rattle.spsc_queue.proofs.OneCall.{inside_at, made_few, course}
 use Rattle.spsc_queue.proofs.laws_of_one_call.Goals as goal
 use Rattle.spsc_queue.specs.CallEffects.{IsCallUnderWay, ContinuesCall, SendSoFar, ReceiveSoFar}
 use Rattle.spsc_queue.proofs.Runs.{known-of}
@@ -23,7 +23,6 @@ use Rattle.spsc_queue.proofs.Functions.{moves_at}
 use Rattle.spsc_queue.proofs.OwnEntries.{equipped, state_here}
 use Rattle.spsc_queue.proofs.Parties.{words, has_of}
 use Rattle.spsc_queue.proofs.Calls.{calls_follow, here, was_here}
-use Rattle.spsc_queue.proofs.WholeCalls.{course}
 use Rattle.spsc_queue.proofs.CutCalls.{send_cut, receive_cut}
 use Rattle.spsc_queue.proofs.Cases.{by-bool}
 

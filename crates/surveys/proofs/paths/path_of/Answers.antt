@@ -6,7 +6,7 @@ use Rattle.step_machine.specs.declared.events.Event.{Event}
 use Rattle.litmus.specs.LitmusTests.{IsTest, LitmusTest}
 use Rattle.surveys.specs.inner.Levels.{AreFewestFor}
 use Rattle.surveys.specs.Surveys.{AreShortest}
-use Rattle.surveys.proofs.Shortest.{path_shortest}
+use Rattle.surveys.proofs.RowLaws.{path_shortest}
 use Rattle.surveys.proofs.paths.path_of.Goals as goal
 
 found_shortest : {E : Type 0} {B M : ℕ} {q : LitmusTest} (c : Config) (result : Result (Option (Vec Event)) E) → IsTest q → length q.names ≤ M

@@ -1,7 +1,30 @@
 -- Each engine's end, with the exit status of what it returned.
-use Rattle.ztso.specs.Failures.{good_status}
-use Rattle.ztso.proofs.Exits.{good_plain, refused_exit}
+use Rattle.ztso.specs.Failures.{good_status, exit_of}
 use Rattle.ztso.proofs.work.do_machine.Goals as goal
+use Rattle.ztso.specs.declared.failure.Failure.{Failure}
+use Rattle.ztso.specs.Work.{IsRefusal}
+use Rattle.std.proofs.Common.{◌≡◌, ℕ, Bool, true, false, Result, Ok, Err, subst}
+use Rattle.engine_support.specs.declared.fault.Fault.{Fault}
+use Rattle.engine_support.specs.declared.fault.Fault.TheVariants.{ReadFailed, WriteFailed, NoMemory, Refused}
+use Rattle.engine_support.specs.Interactive.{OnRefused}
+
+-- An engine's fault as the program's failure.
+
+-- what holds where an engine refused an input holds where the program fails for that
+pub refused_exit : {V : Type 0} (status : V → Result ℕ Failure) (plain : (v : V) → IsRefusal (status v) → ⊥) (P : Type 0) (r : Result V Fault)
+    → OnRefused r P → (s : Result ℕ Failure) → s ≡ exit_of status r → IsRefusal s → P
+refused_exit status plain P r holds s is refuses = at r holds (subst IsRefusal is refuses)
+  where
+    at : (r : Result _ Fault) → OnRefused r P → IsRefusal (exit_of status r) → P
+    at (Ok v) holds refuses = absurd (plain v refuses)
+    at (Err (Refused refusal)) holds refuses = holds
+    at (Err ReadFailed) holds refuses = absurd refuses
+    at (Err NoMemory) holds refuses = absurd refuses
+    at (Err WriteFailed) holds refuses = absurd refuses
+
+pub good_plain : (is_good : Bool) → IsRefusal (good_status is_good) → ⊥
+good_plain true refuses = refuses
+good_plain false refuses = refuses
 
 pub returns-in-Steps-clause-does : goal.returns-in-Steps-clause-does
 returns-in-Steps-clause-does g c = λ written read once. rw c.in-Steps.is (c.steps_engine.result, c.after.ensures.ended, c.steps_engine.ensures)
