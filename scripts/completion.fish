@@ -53,7 +53,7 @@ complete -c ztso -n '__fish_seen_subcommand_from queue' -l certificate -r -F -d 
 complete -c ztso -n '__fish_seen_subcommand_from queue' -l written -x -d 'where the protocol is kept: whether a queue\'s sender writes each of BYTES of each record, after the record before in that slot was published. BYTES is all, or offsets and ranges as 0-3,8'
 complete -c ztso -n '__fish_seen_subcommand_from queue' -l read -x -d 'where the protocol is kept: whether a queue\'s receiver reads each of BYTES of each record, before it hands the slot back. BYTES is all, or offsets and ranges as 0-3,8'
 complete -c ztso -n '__fish_seen_subcommand_from queue' -l once -x -d 'where the protocol is kept, and each load of a slot is of an owned one: whether a queue\'s receiver reads each of BYTES of each record at most once, and of records in order. BYTES is all, or offsets and ranges as 0-3,8'
-complete -c ztso -n '__fish_seen_subcommand_from queue' -l harts -d 'where the protocol is kept: whether each hart is never stopped, and which bytes of memory it writes'
+complete -c ztso -n '__fish_seen_subcommand_from queue' -l harts -d 'where the protocol is kept: whether each hart is never stopped, which bytes of memory it writes, and which harts share'
 complete -c ztso -n '__fish_seen_subcommand_from queue' -l safety -d 'where the protocol is kept: whether the queues go on isn\'t asked'
 
 # Completes the words of a tool by its own help: the values of the option before, or options.

@@ -177,7 +177,7 @@ _ztso() {
             '--written[where the protocol is kept: whether a queue'\''s sender writes each of BYTES of each record, after the record before in that slot was published. BYTES is all, or offsets and ranges as 0-3,8]:BYTES:()' \
             '--read[where the protocol is kept: whether a queue'\''s receiver reads each of BYTES of each record, before it hands the slot back. BYTES is all, or offsets and ranges as 0-3,8]:BYTES:()' \
             '--once[where the protocol is kept, and each load of a slot is of an owned one: whether a queue'\''s receiver reads each of BYTES of each record at most once, and of records in order. BYTES is all, or offsets and ranges as 0-3,8]:BYTES:()' \
-            '--harts[where the protocol is kept: whether each hart is never stopped, and which bytes of memory it writes]' \
+            '--harts[where the protocol is kept: whether each hart is never stopped, which bytes of memory it writes, and which harts share]' \
             '--safety[where the protocol is kept: whether the queues go on isn'\''t asked]' \
             '1:FILE:_files'
         ;;

@@ -1,5 +1,5 @@
 """What may be asked of an accepted certificate besides the protocol (docs/progress.md): whether a queue's sender writes bytes of its records, and
-its receiver reads them, or at most once, whether a hart is never stopped, and which bytes it writes. By the definitions of crates/records_written/specs and of
+its receiver reads them, or at most once, whether a hart is never stopped, which bytes it writes, and which bytes harts share. By the definitions of crates/records_written/specs and of
 crates/hart_safety/specs.
 """
 
@@ -246,3 +246,24 @@ class Hart:
 
     def touched(self, stores):
         return joined(where for _, where in self.touches(stores) if where)
+
+
+def common(ranges, others):
+    """The bytes of both."""
+    return [(max(first, low), min(last, high)) for first, last in ranges for low, high in others if max(first, low) <= min(last, high)]
+
+
+def shared(harts):
+    """The bytes to which a hart may store, and to which another may store, or which it may load; and else the first hart and state with such an access
+    that may go anywhere."""
+    for number, hart in enumerate(harts):
+        for stores in (True, False):
+            if (state := hart.anywhere(stores)) is not None:
+                return None, (number, state)
+    stored, touched, found = [], [], []
+    for hart in harts:
+        stores = hart.touched(True)
+        touches = joined([*stores, *hart.touched(False)])
+        found += common(stores, touched) + common(touches, stored)
+        stored, touched = joined([*stored, *stores]), joined([*touched, *touches])
+    return joined(found), None

@@ -354,6 +354,16 @@ class Judge:
             else:
                 yield f"hart {number}: {does} " + (f"{queue_questions.bytes_text(touched)[0]} of memory only" if touched else "nothing"), True
 
+    def harts(self):
+        """The lines about all harts."""
+        numbers = range(len(self.opening.harts))
+        yield from (line for number in numbers for line in self.hart(number))
+        shared, place = queue_questions.shared([queue_questions.Hart(self.opening, self.listed, number) for number in numbers])
+        if place:
+            yield f"not shown which bytes the harts share: hart {place[0]}, {self.pc_place(*place)}", True
+        else:
+            yield f"the harts share {f'{queue_questions.bytes_text(shared)[0]} of memory only' if shared else 'nothing'}", True
+
     # ---- whether queues go on, in lines
 
     def party(self, index, sends, hart, other, found):
@@ -486,7 +496,7 @@ class Judge:
         unread = self.unread()
         records = {use: [self.records(index, text, use) for index in range(len(self.opened)) if text is not None and not (unread and use == "once")]
                    for use, text in zip(RECORDS_OF, asked)}
-        told = [*chain(*zip(*filter(None, records.values()))), *(line for number in range(len(self.opening.harts)) if harts for line in self.hart(number))]
+        told = [*chain(*zip(*filter(None, records.values()))), *(self.harts() if harts else ())]
         lines = [*self.described(), *(line for each, _ in going for line in each), *(line for line, _ in told)]
         is_shown = {use: bool(found) and all(shown for _, shown in found) for use, found in records.items()}
         limits = [f"not promised: {UNREAD[is_shown['read']]}, {FRESHLY[is_shown['written']]}, {REST}", PROGRESS[asks_progress and goes]]

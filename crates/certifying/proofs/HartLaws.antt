@@ -1,9 +1,9 @@
 -- What is shown of harts, where the certificate is accepted.
 use Rattle.std.proofs.Common.{arith, ◌≡◌, ◌==◌, ◌<◌, ◌≤◌, ◌+◌, ℕ, zero, suc, Bool, true, false, not, List, [], ◌∷◌, ◌++◌, length, Some, None, refl, sym, ap}
-use Rattle.std.proofs.Common.{subst, ◌∙◌, eqb-true}
+use Rattle.std.proofs.Common.{subst, ◌∙◌, eqb-true, ◌⊎◌, inl, inr}
 use Rattle.std.specs.Prelude.{All, Option, is_some, nat_lt, ◌||◌}
 use Rattle.std.proofs.lemmas.Bool.{and_parts, eqb-false, ltb-true, ltb-false, false≢true}
-use Rattle.std.proofs.lemmas.List.Elements.{All-from_recursion, All-nil}
+use Rattle.std.proofs.lemmas.List.Elements.{All-append, All-from_recursion, All-nil}
 use Rattle.std.proofs.lemmas.List.{get_or_append_left, get_or_push, length-append}
 use Rattle.hart.specs.State.{HartState}
 use Rattle.hart.specs.declared.status.Stop.{Stop}
@@ -14,12 +14,14 @@ use Rattle.queue_certificates.specs.Certificates.{QueueCertificate, accepts}
 use Rattle.queue_certificates.proofs.States.{at-below}
 use Rattle.hart_safety.specs.Ends.{first_end}
 use Rattle.hart_safety.specs.Regions.{IsInNone}
+use Rattle.hart_safety.specs.declared.shared.Place.{Place}
+use Rattle.hart_safety.specs.Shared.{shared_of}
 use Rattle.hart_safety.specs.Touched.{SparesByte, touched_of}
 use Rattle.hart_safety.specs.Stops.{first_stop}
 use Rattle.queue_progress.specs.Rows.{Lasts, RunsOrEnds}
 use Rattle.certifying.specs.Endings.{all_endings, always_runs, endings_at, endings_below, endings_in, endings_of, never_stops, no_endings}
-use Rattle.certifying.specs.Kept.{LineMeans, NeverStops, TouchesBy, TouchesOnly}
-use Rattle.certifying.specs.Lines.{AnswerLine, hart_lines, harts_lines, harts_safe, is_safe, it_touches, never_ends, stopped_at}
+use Rattle.certifying.specs.Kept.{LineMeans, NeverStops, SharesBy, TouchesBy, TouchesOnly}
+use Rattle.certifying.specs.Lines.{AnswerLine, hart_lines, harts_lines, harts_safe, is_safe, it_touches, lines_below, never_ends, stopped_at, they_share}
 use Rattle.certifying.specs.Questions.{Questions}
 use Rattle.certifying.specs.declared.endings.Endings.{Endings}
 use Rattle.certifying.proofs.LineLaws.{all-lines}
@@ -36,6 +38,11 @@ pub record HartLaws : Type 0 where
   pub touched_within : (stores : Bool) (B M : ℕ) (o : OpeningValue) (c : QueueCertificate) → accepts o c ≡ true → (es : List Entry) (e : Entry)
       → WellFormed B M (history_of o (es ++ e ∷ [])) → is_land e ≡ false → (touched_of stores o c (hart_of e)).unbounded ≡ None → (x : ℕ)
       → IsInNone x (touched_of stores o c (hart_of e)).regions → SparesByte stores x (access_of e)
+  pub bounded : (o : OpeningValue) (c : QueueCertificate) → (shared_of o c).unbounded ≡ None → (stores : Bool) (h : ℕ) → h < length o.harts
+      → (touched_of stores o c h).unbounded ≡ None
+  pub not_shared : (o : OpeningValue) (c : QueueCertificate) (x : ℕ) → IsInNone x (shared_of o c).regions → (stores : Bool) (h j : ℕ)
+      → h < length o.harts → j < length o.harts → (h ≡ j → ⊥)
+      → IsInNone x (touched_of true o c h).regions ⊎ IsInNone x (touched_of stores o c j).regions
 
 -- ---- where harts may be stopped, and where they may end
 
@@ -147,12 +154,24 @@ module _ (o : OpeningValue) (c : QueueCertificate) (laws : HartLaws) (accepted :
           ),
         ))
 
+    share-means : (anywhere : Option Place) → (shared_of o c).unbounded ≡ anywhere → SharesBy anywhere o (shared_of o c).regions
+    share-means None none = λ x inside h j less-h less-j other stores. elim (laws.not_shared o c x inside stores h j less-h less-j other) [
+      | inl out ↦ inl (λ B N es e formed unlanded of. touched-in true h (laws.bounded o c none true h less-h) B N es e formed unlanded of x out)
+      | inr out ↦ inr (λ B N es e formed unlanded of. touched-in stores j (laws.bounded o c none stores j less-j) B N es e formed unlanded of x out)
+    ]
+    share-means (Some place) is = tt
+
+    all-mean : All Mean (harts_lines o c (all_endings M o c true) true)
+    all-mean = All-append Mean (lines_below (length o.harts) (hart_lines o c (all_endings M o c true))) (they_share (shared_of o c) ∷ [])
+        (all-lines Mean (hart_lines o c (all_endings M o c true)) (length o.harts) hart-means)
+        (All-from_recursion Mean (they_share (shared_of o c) ∷ []) (share-means (shared_of o c).unbounded refl, tt))
+
   -- they are asked for where this is, and where progress is
   pub harts-mean : (M : ℕ) (asked : Questions) (progress harts : Bool)
       → All (LineMeans M asked o c) (harts_lines o c (all_endings M o c (progress || harts)) harts)
   harts-mean M asked progress false = All-nil (LineMeans M asked o c)
-  harts-mean M asked true true = all-lines (LineMeans M asked o c) (hart_lines o c (all_endings M o c true)) (length o.harts) (hart-means M asked)
-  harts-mean M asked false true = all-lines (LineMeans M asked o c) (hart_lines o c (all_endings M o c true)) (length o.harts) (hart-means M asked)
+  harts-mean M asked true true = all-mean M asked
+  harts-mean M asked false true = all-mean M asked
 
   kept-by : (M : ℕ) → harts_safe o c (all_endings M o c true) true ≡ true → (h : ℕ) → h < length o.harts
       → NeverStops M o h × TouchesOnly true o h (touched_of true o c h).regions

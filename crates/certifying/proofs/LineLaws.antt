@@ -25,6 +25,9 @@ module _ (o : OpeningValue) (c : QueueCertificate) where
   texts_append [] ys = refl
   texts_append (x ∷ xs) ys = ap (λ zs. words o c x ++ zs) (texts_append xs ys) ∙ sym (append_assoc (words o c x) (texts o c xs) (texts o c ys))
 
+  pub texts_last : (xs : List AnswerLine) (y : AnswerLine) → texts o c (xs ++ y ∷ []) ≡ texts o c xs ++ words o c y
+  texts_last xs y = texts_append xs (y ∷ []) ∙ ap (λ zs. texts o c xs ++ zs) (append-nil (words o c y))
+
   of-three : (x y z rest : List ℕ) → x ++ (y ++ (z ++ rest)) ≡ (x ++ y ++ z) ++ rest
   of-three x y z rest = simp (append_assoc)
 

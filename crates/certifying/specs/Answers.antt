@@ -27,11 +27,11 @@ use Rattle.certifying.specs.Questions.{Questions}
 use Rattle.certifying.specs.Broken.{broken_text, lost_text, other_text, runs_line, unlost_line}
 use Rattle.certifying.specs.Descriptions.{all_queue_lines}
 use Rattle.certifying.specs.Going.{arriving_line, moving_lines, party_line, still_line}
-use Rattle.certifying.specs.Harts.{end_line, stop_line, touches_line}
+use Rattle.certifying.specs.Harts.{end_line, shared_line, stop_line, touches_line}
 use Rattle.certifying.specs.Inputs.{certificates}
 use Rattle.certifying.specs.Lines.{AnswerLine, is_kept, not_all_shown, not_going, not_owned, the_queues, the_party, move_on, can_move, may_wait, the_records}
 use Rattle.certifying.specs.Lines.{stopped_at, never_ends, it_touches, the_protocol, the_limits, all_going, all_going_lines, all_shown, ends_asked, first_line}
-use Rattle.certifying.specs.Lines.{harts_lines, harts_safe, judgement_of, limits}
+use Rattle.certifying.specs.Lines.{harts_lines, harts_safe, judgement_of, limits, they_share}
 use Rattle.certifying.specs.Lost.{IsRecordLost, NoneLost}
 use Rattle.certifying.specs.NotShown.{flaw_line, likely_line}
 use Rattle.certifying.specs.Queues.{any_queue, any_start, queue_count, slots_at, tagged_number}
@@ -132,6 +132,7 @@ words o c (the_records deed i asked found) = asked_line o c deed asked i found
 words o c (stopped_at h stop) = stop_line o c h stop
 words o c (never_ends h never) = end_line h never
 words o c (it_touches stores h touched) = touches_line o c stores h touched
+words o c (they_share shared) = shared_line o c shared
 words o c (the_protocol owned) = protocol_line c owned
 words o c (the_limits owned read written goes) = limit_of_owning owned ++ limit_of_records written read ++ limit_of_progress goes
 

@@ -1,10 +1,12 @@
--- Whether harts are never stopped and never end, and which bytes they write and load, in words.
+-- Whether harts are never stopped and never end, which bytes they write and load, and which they share, in words.
 use Rattle.std.specs.Prelude.{ℕ, Bool, true, false, List, [], ◌∷◌, ◌++◌, map, codes, Option, Some, None}
 use Rattle.std.specs.Fmt.{decimal}
 use Rattle.step_machine.specs.History.{OpeningValue}
 use Rattle.queue_certificates.specs.Certificates.{QueueCertificate}
 use Rattle.record_bytes.specs.declared.ranges.ByteRange.{ByteRange}
 use Rattle.hart_safety.specs.declared.regions.Region.{Region}
+use Rattle.hart_safety.specs.declared.shared.Place.{Place}
+use Rattle.hart_safety.specs.Shared.{Shared}
 use Rattle.hart_safety.specs.Touched.{Touched}
 use Rattle.certifying.specs.ByteTexts.{bytes_text}
 use Rattle.certifying.specs.Unread.{pc_place}
@@ -58,3 +60,26 @@ touches_by (Some n) o c stores h regions = anywhere_front stores h ++ pc_place o
 
 abbrev pub touches_line : OpeningValue → QueueCertificate → (stores : Bool) → (h : ℕ) → Touched → List ℕ
 touches_line o c stores h touched = touches_by touched.unbounded o c stores h touched.regions
+
+-- ---- what they share
+
+unfoldable pub shared_nothing : List ℕ
+shared_nothing = codes "the harts share nothing" ++ 10 ∷ []
+
+unfoldable pub shared_front : List ℕ
+shared_front = codes "the harts share "
+
+abbrev pub shared_ranges : List ByteRange → List ℕ
+shared_ranges [] = shared_nothing
+shared_ranges (range ∷ others) = shared_front ++ bytes_text (range ∷ others) ++ only_end
+
+unfoldable pub unshown_shared : (h : ℕ) → List ℕ
+unshown_shared h = codes "not shown which bytes the harts share: hart " ++ decimal h ++ codes ", "
+
+-- the bytes, or the first state with an access that may go anywhere
+abbrev pub shared_by : (anywhere : Option Place) → OpeningValue → QueueCertificate → List Region → List ℕ
+shared_by None o c regions = shared_ranges (map range_of_region regions)
+shared_by (Some place) o c regions = unshown_shared place.hart ++ pc_place o c place.hart place.state ++ 10 ∷ []
+
+abbrev pub shared_line : OpeningValue → QueueCertificate → Shared → List ℕ
+shared_line o c shared = shared_by shared.unbounded o c shared.regions

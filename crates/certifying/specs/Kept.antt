@@ -34,6 +34,7 @@ use Rattle.records_written.specs.declared.parties.QueueNumber.{QueueNumber}
 use Rattle.records_written.specs.declared.parties.QueueNumber.TheVariants.{Indexed, Tagged}
 use Rattle.hart_safety.specs.Regions.{IsInNone}
 use Rattle.hart_safety.specs.declared.regions.Region.{Region}
+use Rattle.hart_safety.specs.declared.shared.Place.{Place}
 use Rattle.hart_safety.specs.Touched.{SparesByte, touched_of}
 use Rattle.queue_progress.specs.Harts.{IsHartStuck}
 use Rattle.queue_progress.specs.Rows.{Arrives, GoesWithin, HaveLanded, IsStuckAt, Lasts, MovesAfter, counts_at, moved_at}
@@ -42,7 +43,7 @@ use Rattle.engine_support.specs.declared.fault.Refusal.{Refusal}
 use Rattle.engine_support.specs.Inputs.{Reads, tests}
 use Rattle.certifying.specs.Answers.{texts, undecided}
 use Rattle.certifying.specs.Lines.{AnswerLine, is_kept, not_all_shown, not_going, not_owned, the_party, move_on, can_move, the_records, stopped_at, never_ends}
-use Rattle.certifying.specs.Lines.{it_touches, the_protocol, first_line_of, judgement_of, answer_lines}
+use Rattle.certifying.specs.Lines.{it_touches, they_share, the_protocol, first_line_of, judgement_of, answer_lines}
 use Rattle.certifying.specs.Questions.{Questions}
 use Rattle.certifying.specs.Inputs.{certificates}
 use Rattle.certifying.specs.Queues.{any_queue, any_start, is_tag_byte, number_in, queue_count, slots_at}
@@ -183,6 +184,20 @@ abbrev pub TouchesBy : (anywhere : Option ℕ) → (stores : Bool) → OpeningVa
 TouchesBy None stores o h regions = TouchesOnly stores o h regions
 TouchesBy (Some n) stores o h regions = Unit {0}
 
+-- in each run it never stores to the byte at x, or never loads it
+abbrev pub NeverTouches : (stores : Bool) → OpeningValue → (h x : ℕ) → Type 0
+NeverTouches stores o h x = (B M : ℕ) (es : List Entry) (e : Entry) → WellFormed B M (history_of o (es ++ e ∷ [])) → is_land e ≡ false
+    → hart_of e ≡ h → SparesByte stores x (access_of e)
+
+-- of each byte outside of these regions, and of two harts, the one never stores to it, or the other neither stores to it nor loads it
+abbrev pub SharesOnly : OpeningValue → List Region → Type 0
+SharesOnly o regions = (x : ℕ) → IsInNone x regions → (h j : ℕ) → h < length o.harts → j < length o.harts → (h ≡ j → ⊥) → (stores : Bool)
+    → NeverTouches true o h x ⊎ NeverTouches stores o j x
+
+abbrev pub SharesBy : (anywhere : Option Place) → OpeningValue → List Region → Type 0
+SharesBy None o regions = SharesOnly o regions
+SharesBy (Some place) o regions = Unit {0}
+
 -- ---- what a line means
 
 -- each queue goes on, within some numbers of instructions
@@ -219,6 +234,7 @@ LineMeans M asked o c (the_records does i bytes found) = RecordsMean does bytes 
 LineMeans M asked o c (stopped_at h None) = NeverStops M o h
 LineMeans M asked o c (never_ends h true) = AlwaysRuns M o h
 LineMeans M asked o c (it_touches stores h touched) = TouchesBy touched.unbounded stores o h touched.regions
+LineMeans M asked o c (they_share shared) = SharesBy shared.unbounded o shared.regions
 LineMeans M asked o c (the_protocol true) = Protocols o c × OwnedLoads o c
 LineMeans M asked o c (the_protocol false) = Protocols o c
 LineMeans M asked o c other = Unit {0}

@@ -4,6 +4,7 @@ use Rattle.step_machine.specs.History.{OpeningValue}
 use Rattle.slot_queue.specs.Queues.{Queue}
 use Rattle.queue_certificates.specs.Certificates.{QueueCertificate}
 use Rattle.queue_certificates.specs.Steps.{all_below}
+use Rattle.hart_safety.specs.Shared.{Shared, shared_of}
 use Rattle.hart_safety.specs.Touched.{Touched, touched_of}
 use Rattle.certifying.specs.Endings.{all_endings, always_runs, both_run, endings_at, neither_stops, never_stops}
 use Rattle.certifying.specs.Queues.{number_in, queue_count, slots_at}
@@ -41,6 +42,8 @@ pub data AnswerLine : Type 0 where
   stopped_at : (h : ℕ) → Option ℕ → AnswerLine
   never_ends : (h : ℕ) (never : Bool) → AnswerLine
   it_touches : (stores : Bool) (h : ℕ) → Touched → AnswerLine
+  -- what all of them share
+  they_share : Shared → AnswerLine
   -- what is promised of each queue, and what isn't
   the_protocol : (owned : Bool) → AnswerLine
   the_limits : (owned read written goes : Bool) → AnswerLine
@@ -97,10 +100,10 @@ is_safe o c ends h = never_stops (endings_at ends h) && not (is_some (touched_of
 
 -- if they are asked about
 abbrev pub harts_lines : OpeningValue → QueueCertificate → List Endings → (asked : Bool) → List AnswerLine
-harts_lines o c ends true = lines_below (length o.harts) (hart_lines o c ends)
+harts_lines o c ends true = lines_below (length o.harts) (hart_lines o c ends) ++ they_share (shared_of o c) ∷ []
 harts_lines o c ends false = []
 
--- all of it is shown, except what they load
+-- all of it is shown, except what they load, and what they share
 abbrev pub harts_safe : OpeningValue → QueueCertificate → List Endings → (asked : Bool) → Bool
 harts_safe o c ends true = all_below (length o.harts) (is_safe o c ends)
 harts_safe o c ends false = true

@@ -1,19 +1,21 @@
-//! Whether harts are never stopped and never end, and which bytes they write and load.
+//! Whether harts are never stopped and never end, which bytes they write and load, and which they share.
 
-ghost use Rattle.std.specs.Prelude.{◌≡◌, ◌++◌, IfOk, OnOk, map, true};
+ghost use Rattle.std.specs.Prelude.{◌≡◌, ◌++◌, IfOk, OnOk, length, map, true};
 ghost use Rattle.std.specs.String.{string_bytes};
 ghost use Rattle.record_bytes.specs.declared.ranges.ByteRange.{ByteRange};
 ghost use Rattle.hart_safety.specs.declared.regions.Region.{Region};
-ghost use Rattle.certifying.specs.Answers.{texts};
+ghost use Rattle.hart_safety.specs.Shared.{shared_of};
+ghost use Rattle.certifying.specs.Answers.{texts, words};
 ghost use Rattle.certifying.specs.Harts.{anywhere_front, end_line, endless_line, never_line, nothing_line, only_end, range_of_region, regions_line};
-ghost use Rattle.certifying.specs.Harts.{stop_front, stop_line, touches_front, touches_line};
-ghost use Rattle.certifying.specs.Lines.{hart_lines, harts_lines, harts_safe, is_safe};
+ghost use Rattle.certifying.specs.Harts.{shared_front, shared_line, shared_nothing, shared_ranges, stop_front, stop_line, touches_front, touches_line};
+ghost use Rattle.certifying.specs.Harts.{unshown_shared};
+ghost use Rattle.certifying.specs.Lines.{hart_lines, harts_lines, harts_safe, is_safe, lines_below, they_share};
 
 use crate::byte_texts::push_bytes;
 use crate::endings::{Endings, always_runs, endings_at, never_stops};
 use crate::queues::number_of;
 use crate::unread::push_pc_place;
-use hart_safety::{Region, Touched, touched_of};
+use hart_safety::{Region, Shared, Touched, shared_of, touched_of};
 use known_values::Lack;
 use queue_checker::QueueCertificate;
 use record_bytes::ByteRange;
@@ -174,6 +176,62 @@ fn push_touches(
     }
 }
 
+#[tactic(auto, unfolding(crate::specs::Harts::shared_nothing))]
+fn push_shared_nothing(out: &mut String) -> Result<(), AllocError>
+    ensures { OnOk result (string_bytes out.new ≡ string_bytes out.old ++ shared_nothing) }
+{
+    writeln!(out, "the harts share nothing")
+}
+
+#[tactic(auto, unfolding(crate::specs::Harts::shared_front))]
+fn push_shared_front(out: &mut String) -> Result<(), AllocError>
+    ensures { OnOk result (string_bytes out.new ≡ string_bytes out.old ++ shared_front) }
+{
+    write!(out, "the harts share ")
+}
+
+/// The line of the bytes that harts share.
+fn push_shared_ranges(out: &mut String, ranges: &[ByteRange]) -> Result<(), AllocError>
+    ensures { OnOk result (string_bytes out.new ≡ string_bytes out.old ++ shared_ranges ranges.now) }
+{
+    if ranges.is_empty() {
+        return push_shared_nothing(out);
+    }
+    push_shared_front(out)?;
+    push_bytes(out, ranges)?;
+    push_only(out)
+}
+
+#[tactic(auto, unfolding(crate::specs::Harts::unshown_shared))]
+fn push_unshown_shared(out: &mut String, hart: u32) -> Result<(), AllocError>
+    ensures { OnOk result (string_bytes out.new ≡ string_bytes out.old ++ unshown_shared hart) }
+{
+    write!(out, "not shown which bytes the harts share: hart {hart}, ")
+}
+
+/// The line of what harts share.
+fn push_shared(
+    alloc: Global,
+    out: &mut String,
+    opening: &Opening,
+    certificate: &QueueCertificate,
+    shared: &Shared,
+) -> Result<(), Lack>
+    ensures { OnOk result (string_bytes out.new ≡ string_bytes out.old ++ shared_line opening.now certificate.now shared.now) }
+{
+    match shared.unbounded {
+        None => {
+            let ranges = ranges_of_regions(alloc, &shared.regions)?;
+            Ok(push_shared_ranges(out, &ranges)?)
+        }
+        Some(place) => {
+            push_unshown_shared(out, place.hart)?;
+            push_pc_place(out, opening, certificate, place.hart, place.state)?;
+            Ok(writeln!(out, "")?)
+        }
+    }
+}
+
 /// Appends the lines of a hart, and returns whether it is shown never to be stopped, and which bytes it writes.
 #[tactic(auto, unfolding(crate::specs::Lines::hart_lines, crate::specs::Lines::is_safe))]
 fn push_hart(
@@ -199,14 +257,14 @@ fn push_hart(
 }
 
 #[tactic(auto, using(crate::proofs::LineLaws::texts_append))]
-fn all_told(
+fn each_told(
     alloc: Global,
     opening: &Opening,
     certificate: &QueueCertificate,
     endings: &[Endings],
 ) -> Result<HartsTold, Lack>
     ensures lines { IfOk result (λ told. string_bytes told.lines ≡ texts opening.now certificate.now
-        (harts_lines opening.now certificate.now endings.now true)) }
+        (lines_below (length opening.now.harts) (hart_lines opening.now certificate.now endings.now))) }
     ensures safe { IfOk result (λ told. told.safe ≡ harts_safe opening.now certificate.now endings.now true) }
 {
     let mut lines = String::new(alloc);
@@ -217,6 +275,38 @@ fn all_told(
         safe = shown && safe;
     }
     Ok(HartsTold { lines, safe })
+}
+
+/// With the line of what they share.
+fn with_shared(
+    alloc: Global,
+    opening: &Opening,
+    certificate: &QueueCertificate,
+    told: HartsTold,
+) -> Result<HartsTold, Lack>
+    ensures lines { IfOk result (λ all. string_bytes all.lines ≡ string_bytes told.lines ++ words opening.now certificate.now
+        (they_share (shared_of opening.now certificate.now))) }
+    ensures safe { IfOk result (λ all. all.safe ≡ told.safe) }
+{
+    let HartsTold { mut lines, safe } = told;
+    let shared = shared_of(alloc, opening, certificate)?;
+    push_shared(alloc, &mut lines, opening, certificate, &shared)?;
+    Ok(HartsTold { lines, safe })
+}
+
+#[tactic(auto, using(crate::proofs::LineLaws::texts_last))]
+fn all_told(
+    alloc: Global,
+    opening: &Opening,
+    certificate: &QueueCertificate,
+    endings: &[Endings],
+) -> Result<HartsTold, Lack>
+    ensures lines { IfOk result (λ told. string_bytes told.lines ≡ texts opening.now certificate.now
+        (harts_lines opening.now certificate.now endings.now true)) }
+    ensures safe { IfOk result (λ told. told.safe ≡ harts_safe opening.now certificate.now endings.now true) }
+{
+    let told = each_told(alloc, opening, certificate, endings)?;
+    with_shared(alloc, opening, certificate, told)
 }
 
 /// The lines of the harts, if they are asked about, by where they may be stopped, and where they may end.

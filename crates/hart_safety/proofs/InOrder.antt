@@ -67,11 +67,11 @@ touched-has false c k other = tt
 
 -- ---- one more
 
-earlier : (n m : ℕ) (rs : List Region) → n ≤ m → AreInOrderFrom m rs → AreInOrderFrom n rs
+pub earlier : (n m : ℕ) (rs : List Region) → n ≤ m → AreInOrderFrom m rs → AreInOrderFrom n rs
 earlier n m [] le order = tt
 earlier n m (r ∷ rs) le order = (let low : m ≤ r.from = order.0 in omega (arith, le, low), order.1, order.2)
 
-joined-order : (n : ℕ) (r s : Region) → n ≤ r.from → r.from ≤ r.to → n ≤ s.from → s.from ≤ s.to
+pub joined-order : (n : ℕ) (r s : Region) → n ≤ r.from → r.from ≤ r.to → n ≤ s.from → s.from ≤ s.to
     → (n ≤ (joined_region r s).from) × ((joined_region r s).from ≤ (joined_region r s).to)
 joined-order n r s low has low-s has-s = by (nat_le r.from s.from) (nat_le r.to s.to) refl refl
   where

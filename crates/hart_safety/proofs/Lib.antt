@@ -5,5 +5,6 @@ mod Following
 mod Outside
 mod Touching
 mod InOrder
+mod Sharing
 mod Safety
 mod LittleTexts

@@ -12,7 +12,7 @@ use Rattle.hart_safety.specs.Touched.{is_bounded, target_of, Touched, touched_at
 abbrev pub IsOutside : (x : ℕ) → Region → Type 0
 IsOutside x r = (x < r.from) ⊎ (r.to < x)
 
-outside-parts : (x : ℕ) (r s : Region) → IsOutside x (joined_region r s) → IsOutside x r × IsOutside x s
+pub outside-parts : (x : ℕ) (r s : Region) → IsOutside x (joined_region r s) → IsOutside x r × IsOutside x s
 outside-parts x r s (inl before) = by (nat_le r.from s.from) refl before
   where
     by : (t : Bool) → nat_le r.from s.from ≡ t → x < (if t then r.from else s.from) → IsOutside x r × IsOutside x s

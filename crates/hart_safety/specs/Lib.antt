@@ -3,3 +3,4 @@ pub mod Stops
 pub mod Ends
 pub mod Regions
 pub mod Touched
+pub mod Shared

@@ -26,13 +26,13 @@ pub(crate) fn region_of(target: &Target) -> Result<Region, Lack>
 }
 
 /// Whether a byte lies between the first and the second.
-fn ends_before(first: Region, second: Region) -> bool
+pub(crate) fn ends_before(first: Region, second: Region) -> bool
     ensures { result ≡ ends_before first second }
 {
     first.to.saturating_add(1) < second.from
 }
 
-fn joined_region(first: Region, second: Region) -> Region
+pub(crate) fn joined_region(first: Region, second: Region) -> Region
     ensures { result ≡ joined_region first second }
 {
     Region {

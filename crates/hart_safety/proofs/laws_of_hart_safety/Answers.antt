@@ -1,5 +1,6 @@
 use Rattle.hart_safety.proofs.Safety.{not_stopped, runs_or_ended, runs, spares_outside}
 use Rattle.hart_safety.proofs.InOrder.{regions_in_order}
+use Rattle.hart_safety.proofs.Sharing.{bounded, not_shared}
 use Rattle.hart_safety.proofs.laws_of_hart_safety.Goals as goal
 
 pub returns-clause-never_stopped : goal.returns-clause-never_stopped
@@ -16,3 +17,9 @@ returns-clause-touched_within c stores B M o certificate ok = spares_outside B M
 
 pub returns-clause-in_order : goal.returns-clause-in_order
 returns-clause-in_order c = regions_in_order
+
+pub returns-clause-bounded : goal.returns-clause-bounded
+returns-clause-bounded c = bounded
+
+pub returns-clause-not_shared : goal.returns-clause-not_shared
+returns-clause-not_shared c = not_shared

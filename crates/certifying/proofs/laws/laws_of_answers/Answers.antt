@@ -34,6 +34,8 @@ returns-clause-promised c = answers.promised (record {
     runs_or_ended = c.laws_of_hart_safety.ensures.runs_or_ended;
     runs = c.laws_of_hart_safety.ensures.runs;
     touched_within = c.laws_of_hart_safety.ensures.touched_within;
+    bounded = c.laws_of_hart_safety.ensures.bounded;
+    not_shared = c.laws_of_hart_safety.ensures.not_shared;
   };
   drawn = record {
     none = c.laws_of_violations.ensures.none;

@@ -3,7 +3,7 @@ use Rattle.std.specs.String.{string_bytes}
 use Rattle.queue_certificates.specs.Steps.{all_below}
 use Rattle.certifying.specs.Answers.{texts}
 use Rattle.certifying.specs.Lines.{hart_lines, is_safe, lines_below}
-use Rattle.certifying.proofs.harts.all_told.Given as goal
+use Rattle.certifying.proofs.harts.each_told.Given as goal
 
 abbrev pub invariant-loop-place : goal.invariant-loop-place
 invariant-loop-place l = record {
