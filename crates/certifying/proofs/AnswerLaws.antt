@@ -1,33 +1,31 @@
 -- What answers a litmus text and a certificate is one answer, and what it promises holds.
 use Rattle.std.proofs.Common.{arith, ◌≡◌, ◌&&◌, ℕ, ◌+◌, ◌<◌, ◌↔◌, ◌++◌, Bool, true, false, List, [], ◌∷◌, length}
-use Rattle.std.proofs.Common.{Result, Ok, Err, refl, sym, ap, ap₂, ◌∙◌, subst}
-use Rattle.std.proofs.Common.{append-nil, append_assoc, inr, zero, suc}
+use Rattle.std.proofs.Common.{Result, Ok, Err, refl, sym, ap, ap₂, ◌∙◌, subst, append-nil, append_assoc, inr, zero, suc}
 use Rattle.std.specs.Prelude.{All, Option, Some, None, is_some, not, option_map}
 use Rattle.std.proofs.lemmas.Bool.{and_parts}
 use Rattle.std.proofs.lemmas.List.Elements.{All-append, All-cons, All-from_recursion}
-use Rattle.texts.specs.Results.{map_err}
-use Rattle.litmus.specs.LitmusTests.{LitmusTest}
 use Rattle.step_machine.specs.Names.{OpeningValue, history_of, WellFormed}
 use Rattle.step_machine.specs.declared.events.Entry.{Entry}
 use Rattle.step_machine.proofs.Happening.{no_hart}
+use Rattle.texts.specs.Results.{map_err}
+use Rattle.litmus.specs.LitmusTests.{LitmusTest}
+use Rattle.drawn_runs.specs.Samples.{DrawnRuns}
 use Rattle.queue_parties.specs.Parties.{Party, all_at, the_sender, the_receiver}
+use Rattle.slot_queue.specs.Ownership.{hart}
 use Rattle.certified_runs.specs.TwoParties.{EachIs}
 use Rattle.slots_that_tell.specs.Telling.{teller_hart}
+use Rattle.queue_layouts.specs.Tagged.{slots_of}
 use Rattle.queue_certificates.specs.{LoadsRestOwned, telling, ReadsOwned, QueueCertificate, queue_at, start_at, tagged_at, tagged_start, accepts, accepts_loads}
 use Rattle.queue_certificates.specs.{accepts_rest}
-use Rattle.slot_queue.specs.Ownership.{hart}
-use Rattle.records_written.specs.{OwnsReads}
-use Rattle.queue_layouts.specs.Tagged.{slots_of}
 use Rattle.queue_checker.specs.declared.flaws.Flaw.{Flaw}
 use Rattle.queue_checker.specs.Flaws.{first_below, first_flaw, first_of, first_unowned, first_unowned_rest}
-use Rattle.drawn_runs.specs.Samples.{DrawnRuns}
+use Rattle.records_written.specs.{OwnsReads}
 use Rattle.engine_support.specs.declared.fault.Refusal.{Refusal}
 use Rattle.engine_support.specs.{read, tests}
 use Rattle.engine_support.proofs.InputLaws.{IsOne, alike_after, is_one, one_litmus_text}
 use Rattle.certifying.specs.Answers.{AreLinesAfter, IsAcceptedAnswer, IsAnswerTo, IsCertificateAnswer, IsFlawAnswer, IsQueueAnswer, IsTrialAnswer}
 use Rattle.certifying.specs.Answers.{IsUseAnswer, is_of_queue, kept_answer, texts}
-use Rattle.certifying.specs.Questions.{Questions}
-use Rattle.certifying.specs.Inputs.{SaysCertificate, certificate_of, certificates}
+use Rattle.certifying.specs.Questions.{Questions, SaysCertificate, certificate_of, certificates}
 use Rattle.certifying.specs.Kept.{AreSameAnswers, AreJudged, AreQueueAnswers, IsMeant, IsPromised, KeepsIndexed, KeepsTags, LoadsOwnedSlots}
 use Rattle.certifying.specs.Kept.{LoadsTagsOrOwned, MayHaveSchedule, LineMeans, OwnedLoads, Protocols, ReceivesFields}
 use Rattle.certifying.specs.Lines.{AnswerLine, all_going, all_going_lines, all_shown, ends_asked, first_line, first_line_of, harts_lines, harts_safe}

@@ -1,34 +1,32 @@
 -- The command `queue`: whether a certificate shows that every run of a litmus text keeps the protocol of its queues, and what is promised then.
-use Rattle.std.specs.Prelude.{ℕ, ◌≡◌, ◌⊎◌, ◌==◌, not, Bool, true, false, List, [], ◌∷◌, ◌++◌, length, map, codes, Option, Some, None, is_some}
-use Rattle.std.specs.Prelude.{Result, Ok, Err}
+use Rattle.std.specs.Prelude.{ℕ, ◌≡◌, ◌⊎◌, ◌==◌, not, Bool, true, false, List, [], ◌∷◌, ◌++◌, length, map, codes, Option, Some, None, is_some, Result, Ok, Err}
 use Rattle.step_machine.specs.History.{OpeningValue}
 use Rattle.step_machine.specs.declared.events.Event.{Event}
-use Rattle.queue_certificates.specs.Certificates.{QueueCertificate}
-use Rattle.queue_parties.specs.Parties.{all_at}
 use Rattle.drawn_runs.specs.Samples.{DrawnRuns}
+use Rattle.queue_parties.specs.Parties.{all_at}
+use Rattle.queue_certificates.specs.Certificates.{QueueCertificate}
+use Rattle.known_values.specs.declared.lack.Lack.{Lack}
+use Rattle.known_values.specs.declared.lack.Lack.TheVariants as lack
+use Rattle.queue_checker.specs.Flaws.{first_flaw}
+use Rattle.queue_checker.specs.declared.flaws.Flaw.{Flaw}
+use Rattle.queue_checker.specs.declared.flaws.Flaw.TheVariants.{Queue, Tagged, Opening, State}
+use Rattle.certificate_reader.specs.Known.{known_at}
 use Rattle.ownership_runs.specs.declared.losses.Loss.{Loss}
 use Rattle.ownership_runs.specs.declared.violations.Violation.{Violation}
 use Rattle.ownership_runs.specs.declared.runs.Moved.{Moved}
 use Rattle.ownership_runs.specs.declared.steps.Step.{Step}
 use Rattle.ownership_runs.specs.Violations.{first_ownership_violation}
-use Rattle.queue_checker.specs.Flaws.{first_flaw}
-use Rattle.queue_checker.specs.declared.flaws.Flaw.{Flaw}
-use Rattle.queue_checker.specs.declared.flaws.Flaw.TheVariants.{Queue, Tagged, Opening, State}
-use Rattle.certificate_reader.specs.Known.{known_at}
-use Rattle.known_values.specs.declared.lack.Lack.{Lack}
-use Rattle.known_values.specs.declared.lack.Lack.TheVariants as lack
 use Rattle.engine_support.specs.declared.fault.Fault.{Fault}
 use Rattle.engine_support.specs.declared.fault.Fault.TheVariants.{NoMemory, Refused}
 use Rattle.engine_support.specs.declared.fault.Position.TheVariants.{Nowhere}
 use Rattle.engine_support.specs.declared.fault.Refusal.{Refusal}
 use Rattle.engine_support.specs.Inputs.{After, tests}
 use Rattle.engine_support.specs.OpeningTexts.{numbered}
-use Rattle.certifying.specs.Questions.{Questions}
+use Rattle.certifying.specs.Questions.{Questions, certificates}
 use Rattle.certifying.specs.Broken.{broken_text, lost_text, other_text, runs_line, unlost_line}
 use Rattle.certifying.specs.Descriptions.{all_queue_lines}
 use Rattle.certifying.specs.Going.{arriving_line, moving_lines, party_line, still_line}
 use Rattle.certifying.specs.Harts.{end_line, shared_line, stop_line, touches_line}
-use Rattle.certifying.specs.Inputs.{certificates}
 use Rattle.certifying.specs.Lines.{AnswerLine, is_kept, not_all_shown, not_going, not_owned, the_queues, the_party, move_on, can_move, may_wait, the_records}
 use Rattle.certifying.specs.Lines.{stopped_at, never_ends, it_touches, the_protocol, the_limits, all_going, all_going_lines, all_shown, ends_asked, first_line}
 use Rattle.certifying.specs.Lines.{harts_lines, harts_safe, judgement_of, limits, they_share}

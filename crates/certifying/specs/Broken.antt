@@ -18,8 +18,7 @@ use Rattle.ownership_runs.specs.declared.steps.Step.{Step}
 use Rattle.ownership_runs.specs.Keeping.{slots_in}
 use Rattle.ownership_runs.specs.Protocols.{party_for}
 use Rattle.ownership_runs.specs.Steps.{handed_back, pc_at, recalled}
-use Rattle.certifying.specs.Descriptions.{form_by}
-use Rattle.certifying.specs.Instructions.{instruction_place}
+use Rattle.certifying.specs.Descriptions.{form_by, instruction_place}
 use Rattle.certifying.specs.Queues.{any_queue, any_start, tagged_number}
 
 -- ---- a violation

@@ -1,21 +1,69 @@
 -- What a certificate says of a queue, in lines, and which instructions use it.
-use Rattle.std.specs.Prelude.{ℕ, ◌==◌, List, [], ◌∷◌, ◌++◌, length, get_or, codes, if◌then◌else◌, Option, None, Some}
+use Rattle.std.specs.Prelude.{ℕ, ◌==◌, List, [], ◌∷◌, ◌++◌, length, get_or, codes, if◌then◌else◌, Option, None, Some, Bool, true, false}
 use Rattle.std.specs.List.{flat_map}
 use Rattle.std.specs.Fmt.{decimal}
+use Rattle.rv_decode.specs.declared.instruction.Instr.{Instr}
 use Rattle.step_machine.specs.History.{OpeningValue}
+use Rattle.assembler.specs.Writing.{text_of}
 use Rattle.slot_queue.specs.Queues.{Queue}
-use Rattle.queue_certificates.specs.RecordFields.{Field}
-use Rattle.queue_certificates.specs.Certificates.{OpenedQueue, QueueCertificate, no_queue, no_tagged}
 use Rattle.queue_layouts.specs.declared.tagged.Codec.{Codec}
 use Rattle.queue_layouts.specs.declared.tagged.Codec.TheVariants.{Zero, Number, Bit, Phases}
 use Rattle.queue_layouts.specs.declared.tagged.TaggedQueue.{TaggedQueue}
 use Rattle.queue_layouts.specs.declared.tagged.OpenedTagged.{OpenedTagged}
+use Rattle.queue_certificates.specs.RecordFields.{Field}
+use Rattle.queue_certificates.specs.Certificates.{OpenedQueue, QueueCertificate, no_queue, no_tagged}
 use Rattle.queue_certificates.specs.Tags.{are_slots}
+use Rattle.queue_certificates.specs.Steps.{instruction_at}
 use Rattle.queue_checker.specs.Accesses.{slot_accesses}
 use Rattle.queue_checker.specs.declared.accesses.SlotAccess.{SlotAccess}
+use Rattle.queue_checker.specs.Flaws.{hart_at}
+use Rattle.record_bytes.specs.declared.ranges.ByteRange.{ByteRange}
 use Rattle.engine_support.specs.OpeningTexts.{numbered}
-use Rattle.certifying.specs.Instructions.{instruction_place}
 use Rattle.certifying.specs.Queues.{accesses_at}
+
+-- An instruction of a hart, as lines name it.
+
+-- as `dis` writes it
+abbrev pub instruction_text : Option Instr → List ℕ
+instruction_text None = codes "no instruction"
+instruction_text (Some instr) = text_of instr
+
+-- the instruction of a hart at a pc, after that pc
+abbrev pub instruction_at_pc : OpeningValue → (h pc : ℕ) → List ℕ
+instruction_at_pc o h pc = codes "pc " ++ decimal pc ++ codes ", " ++ instruction_text (instruction_at (hart_at o h).code pc)
+
+-- the same after its hart's number
+abbrev pub instruction_place : OpeningValue → (h pc : ℕ) → List ℕ
+instruction_place o h pc =
+    codes "hart " ++ decimal h ++ codes " at pc " ++ decimal pc ++ codes ", " ++ instruction_text (instruction_at (hart_at o h).code pc)
+
+-- Bytes, as lines name them.
+
+abbrev pub range_text : ByteRange → List ℕ
+range_text range = if range.first == range.last then decimal range.first else decimal range.first ++ codes "-" ++ decimal range.last
+
+-- what stands between a range and these after it
+abbrev pub gap_before : List ByteRange → List ℕ
+gap_before [] = []
+gap_before (range ∷ []) = codes " and "
+gap_before (range ∷ next ∷ others) = codes ", "
+
+abbrev pub ranges_text : List ByteRange → List ℕ
+ranges_text [] = []
+ranges_text (range ∷ others) = range_text range ++ gap_before others ++ ranges_text others
+
+-- they are a single byte
+abbrev pub is_one_byte : List ByteRange → Bool
+is_one_byte (range ∷ []) = range.first == range.last
+is_one_byte other = false
+
+abbrev pub bytes_word : (one : Bool) → List ℕ
+bytes_word true = codes "byte "
+bytes_word false = codes "bytes "
+
+-- `byte 2`, or `bytes 0-3 and 8`
+abbrev pub bytes_text : List ByteRange → List ℕ
+bytes_text ranges = bytes_word (is_one_byte ranges) ++ ranges_text ranges
 
 -- how each line of a queue begins
 abbrev pub queue_front : (i : ℕ) → List ℕ

@@ -3,12 +3,12 @@ use Rattle.std.specs.Prelude.{ℕ, Bool, true, false, List, [], ◌∷◌, ◌++
 use Rattle.std.specs.Fmt.{decimal}
 use Rattle.step_machine.specs.History.{OpeningValue}
 use Rattle.queue_certificates.specs.Certificates.{QueueCertificate}
-use Rattle.record_bytes.specs.declared.ranges.ByteRange.{ByteRange}
 use Rattle.hart_safety.specs.declared.regions.Region.{Region}
 use Rattle.hart_safety.specs.declared.shared.Place.{Place}
 use Rattle.hart_safety.specs.Shared.{Shared}
 use Rattle.hart_safety.specs.Touched.{Touched}
-use Rattle.certifying.specs.ByteTexts.{bytes_text}
+use Rattle.record_bytes.specs.declared.ranges.ByteRange.{ByteRange}
+use Rattle.certifying.specs.Descriptions.{bytes_text}
 use Rattle.certifying.specs.Unread.{pc_place}
 
 unfoldable pub never_line : (h : ℕ) → List ℕ

@@ -1,51 +1,49 @@
 -- What a `kept` means, of every legal run from where a litmus text opens, and what a `broken` means, of one.
-use Rattle.std.specs.Prelude.{ℕ, ◌≡◌, ◌⊎◌, ◌+◌, ◌<◌, ◌≤◌, All, Bool, true, false, List, [], ◌∷◌, ◌++◌, length, Option, None, Some}
-use Rattle.std.specs.Prelude.{Result, Ok, Err}
+use Rattle.std.specs.Prelude.{ℕ, ◌≡◌, ◌⊎◌, ◌+◌, ◌<◌, ◌≤◌, All, Bool, true, false, List, [], ◌∷◌, ◌++◌, length, Option, None, Some, Result, Ok, Err}
 use Rattle.hart.specs.State.{HartState}
 use Rattle.hart.specs.declared.status.Stop.{Stop}
 use Rattle.hart.specs.declared.status.Status.TheVariants.{Stopped}
-use Rattle.litmus.specs.LitmusTests.{LitmusTest}
 use Rattle.step_machine.specs.declared.events.Entry.{Entry}
 use Rattle.step_machine.specs.Access.{access_of}
 use Rattle.step_machine.specs.Entries.{hart_of, is_land, read_byte}
 use Rattle.step_machine.specs.History.{OpeningValue, history_of}
 use Rattle.step_machine.specs.Legal.{WellFormed}
 use Rattle.step_machine.specs.Paths.{state_of}
+use Rattle.litmus.specs.LitmusTests.{LitmusTest}
 use Rattle.queue_parties.specs.Parties.{Party, the_sender, the_receiver, all_at}
+use Rattle.slot_queue.specs.Ownership.{counts_after}
+use Rattle.slot_queue.specs.Laws.{FollowsOwnership}
 use Rattle.certified_runs.specs.TwoParties.{EachIs}
 use Rattle.slots_that_tell.specs.Laws.{FollowsTelling}
 use Rattle.slots_that_tell.specs.Telling.{teller_hart}
+use Rattle.queue_layouts.specs.Tagged.{slots_of}
 use Rattle.queue_certificates.specs.ToldRuns.{LoadsRestOwned, telling}
-use Rattle.slot_queue.specs.Ownership.{counts_after}
-use Rattle.slot_queue.specs.Laws.{FollowsOwnership}
 use Rattle.queue_certificates.specs.OwnedRuns.{ReadsOwned}
 use Rattle.queue_certificates.specs.Certificates.{QueueCertificate, queue_at, start_at, tagged_at, tagged_start, MeetsFields}
-use Rattle.queue_layouts.specs.Tagged.{slots_of}
-use Rattle.ownership_runs.specs.declared.losses.Loss.{Loss}
-use Rattle.ownership_runs.specs.declared.violations.Violation.{Violation}
-use Rattle.ownership_runs.specs.Losses.{IsFirstLoss}
-use Rattle.ownership_runs.specs.Protocols.{Keeps}
-use Rattle.ownership_runs.specs.Violations.{first_ownership_violation}
+use Rattle.hart_safety.specs.Regions.{IsInNone}
+use Rattle.hart_safety.specs.declared.regions.Region.{Region}
+use Rattle.hart_safety.specs.declared.shared.Place.{Place}
+use Rattle.hart_safety.specs.Touched.{SparesByte, touched_of}
 use Rattle.record_bytes.specs.Naming.{names_byte}
 use Rattle.records_written.specs.Parties.{count_after, hart_by, slot_in}
 use Rattle.records_written.specs.Read.{IsFresh, IsRead, IsReadBy}
 use Rattle.records_written.specs.Written.{IsWritten}
 use Rattle.records_written.specs.declared.parties.QueueNumber.{QueueNumber}
 use Rattle.records_written.specs.declared.parties.QueueNumber.TheVariants.{Indexed, Tagged}
-use Rattle.hart_safety.specs.Regions.{IsInNone}
-use Rattle.hart_safety.specs.declared.regions.Region.{Region}
-use Rattle.hart_safety.specs.declared.shared.Place.{Place}
-use Rattle.hart_safety.specs.Touched.{SparesByte, touched_of}
 use Rattle.queue_progress.specs.Harts.{IsHartStuck}
 use Rattle.queue_progress.specs.Rows.{Arrives, GoesWithin, HaveLanded, IsStuckAt, Lasts, MovesAfter, counts_at, moved_at}
 use Rattle.queue_progress.specs.Told.{IsToldStuck, TagsHaveLanded, told_moved_at}
+use Rattle.ownership_runs.specs.declared.losses.Loss.{Loss}
+use Rattle.ownership_runs.specs.declared.violations.Violation.{Violation}
+use Rattle.ownership_runs.specs.Losses.{IsFirstLoss}
+use Rattle.ownership_runs.specs.Protocols.{Keeps}
+use Rattle.ownership_runs.specs.Violations.{first_ownership_violation}
 use Rattle.engine_support.specs.declared.fault.Refusal.{Refusal}
 use Rattle.engine_support.specs.Inputs.{Reads, tests}
 use Rattle.certifying.specs.Answers.{texts, undecided}
 use Rattle.certifying.specs.Lines.{AnswerLine, is_kept, not_all_shown, not_going, not_owned, the_party, move_on, can_move, the_records, stopped_at, never_ends}
 use Rattle.certifying.specs.Lines.{it_touches, they_share, the_protocol, first_line_of, judgement_of, answer_lines}
-use Rattle.certifying.specs.Questions.{Questions}
-use Rattle.certifying.specs.Inputs.{certificates}
+use Rattle.certifying.specs.Questions.{Questions, certificates}
 use Rattle.certifying.specs.Queues.{any_queue, any_start, is_tag_byte, number_in, queue_count, slots_at}
 use Rattle.certifying.specs.Records.{asked_ranges, doer, is_rest}
 use Rattle.certifying.specs.declared.records.Deed.{Deed}

@@ -1,4 +1,3 @@
-pub mod Instructions
 pub mod Queues
 pub mod Descriptions
 pub mod Unused
@@ -8,7 +7,6 @@ pub mod Endings
 pub mod Together
 pub mod Going
 pub mod Questions
-pub mod ByteTexts
 pub mod Records
 pub mod Harts
 pub mod Lines
@@ -16,5 +14,4 @@ pub mod Trials
 pub mod Lost
 pub mod Broken
 pub mod Answers
-pub mod Inputs
 pub mod Kept

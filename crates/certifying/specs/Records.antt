@@ -12,8 +12,7 @@ use Rattle.records_written.specs.declared.finding.Missing.{Missing}
 use Rattle.records_written.specs.Marks.{IsFirstAgain, IsFirstUnread, IsFirstUnwritten, IsShownOnce, IsShownRead, IsShownWritten}
 use Rattle.records_written.specs.declared.parties.QueueNumber.{QueueNumber}
 use Rattle.engine_support.specs.OpeningTexts.{numbered}
-use Rattle.certifying.specs.ByteTexts.{bytes_text, is_one_byte}
-use Rattle.certifying.specs.Descriptions.{queue_front}
+use Rattle.certifying.specs.Descriptions.{bytes_text, is_one_byte, queue_front}
 use Rattle.certifying.specs.Questions.{Questions}
 use Rattle.certifying.specs.Queues.{is_tag_byte, number_in, queue_count, slots_at, tag_range}
 use Rattle.certifying.specs.Unread.{pc_place}

@@ -4,7 +4,7 @@ use Rattle.std.specs.Fmt.{decimal}
 use Rattle.step_machine.specs.History.{OpeningValue}
 use Rattle.queue_certificates.specs.Certificates.{QueueCertificate, state_at}
 use Rattle.queue_checker.specs.Flaws.{first_below, first_of, first_unowned, first_unowned_rest}
-use Rattle.certifying.specs.Instructions.{instruction_at_pc, instruction_place}
+use Rattle.certifying.specs.Descriptions.{instruction_at_pc, instruction_place}
 use Rattle.certifying.specs.Queues.{queue_count, slots_at, tagged_number}
 use Rattle.certifying.specs.declared.unread.Unread.{Unread}
 

@@ -3,7 +3,7 @@
 ghost use Rattle.std.specs.Prelude.{◌≡◌, ◌++◌, OnOk};
 ghost use Rattle.std.specs.String.{string_bytes};
 ghost use Rattle.record_bytes.specs.declared.ranges.ByteRange.{ByteRange};
-ghost use Rattle.certifying.specs.ByteTexts.{bytes_text, bytes_word, gap_before, is_one_byte, range_text, ranges_text};
+ghost use Rattle.certifying.specs.Descriptions.{bytes_text, bytes_word, gap_before, is_one_byte, range_text, ranges_text};
 
 use record_bytes::ByteRange;
 use std::alloc::AllocError;

@@ -1,7 +1,7 @@
 //! Inputs that are certificates.
 
 ghost use Rattle.std.specs.Prelude.{◌≡◌, IfOk};
-ghost use Rattle.certifying.specs.Inputs.{certificate_of, certificates};
+ghost use Rattle.certifying.specs.Questions.{certificate_of, certificates};
 ghost use Rattle.engine_support.specs.Faults.{Answers};
 ghost use Rattle.engine_support.specs.Inputs.{Reads};
 ghost use Rattle.engine_support.specs.inner.{FindsUpToReads};
@@ -14,7 +14,7 @@ use std::alloc::Global;
 use std::io::Read;
 
 /// What a text says as a certificate.
-#[tactic(auto, unfolding(crate::specs::Inputs::certificate_of))]
+#[tactic(auto, unfolding(crate::specs::Questions::certificate_of))]
 fn certificate_of_text(alloc: Global, text: &str) -> Result<QueueCertificate, Fault>
     ensures { Answers (λ certificate. certificate) result (certificate_of text.now) }
 {

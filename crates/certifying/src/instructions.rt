@@ -6,7 +6,7 @@ ghost use Rattle.rv_decode.specs.Fits.{Fits};
 ghost use Rattle.rv_decode.specs.Meaning.{meaning};
 ghost use Rattle.queue_certificates.specs.Steps.{instruction_at};
 ghost use Rattle.queue_checker.specs.Flaws.{hart_at};
-ghost use Rattle.certifying.specs.Instructions.{instruction_at_pc, instruction_place, instruction_text};
+ghost use Rattle.certifying.specs.Descriptions.{instruction_at_pc, instruction_place, instruction_text};
 
 use assembler::write_instr;
 use rv_decode::{Instr, decode};

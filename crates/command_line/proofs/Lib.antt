@@ -1,5 +1,4 @@
 pub mod Described
-pub mod FieldLaws
 pub mod Matches
 pub mod NumberLaws
 pub mod TableLaws

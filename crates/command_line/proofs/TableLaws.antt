@@ -8,8 +8,8 @@ use Rattle.clap.proofs.OnLiterals.{clap_on_literals}
 use Rattle.clap.proofs.WalkLemmas.{find-map}
 use Rattle.clap.proofs.CutLemmas.{Lacks}
 use Rattle.std.proofs.Common.{◌≡◌, ◌∙◌, ◌&&◌, ◌||◌, Bool, true, false, not, refl, sym, ap, ap₂, List, [], ◌∷◌, ◌++◌, map, Option, Some, is_some, append-nil, ℕ}
-use Rattle.std.proofs.Common.{append_assoc, codes, ◌+◌, ◌==◌, zero, suc, subst, arith, length, leb, leb-true}
-use Rattle.std.specs.Prelude.{find, fold, option_map}
+use Rattle.std.proofs.Common.{append_assoc, codes, ◌+◌, ◌==◌, zero, suc, subst, arith, length, leb, leb-true, None}
+use Rattle.std.specs.Prelude.{find, fold, option_map, option_and_then}
 use Rattle.std.specs.Option.{option_map_or}
 use Rattle.std.specs.List.{list_all, list_any}
 use Rattle.std.specs.Str.{bytes_eq}
@@ -22,6 +22,33 @@ use Rattle.command_line.specs.Descriptions.{ztso_command}
 use Rattle.command_line.specs.Parameters.{CommandRow, Parameter, positional, required, defaulted, optional, flag, name_of, named, word_in_place}
 use Rattle.command_line.specs.Uses.{IsWhole, Said, Says, Use, row_named, said_for, defaults_of, texts_of_uses}
 use Rattle.command_line.proofs.UseLaws.{find_left, leaf, one_of_all, rules_from, uses_read, IsName, IsSound, named_is}
+use Rattle.command_line.specs.CommandLines.{Found, place_in, queue_in, runs_in, SayPlace, SayQueue, SayRuns}
+
+-- Each field of the records of numbers is what its option says.
+
+-- a property of the value, where there is one
+module _ {T : Type 0} (P : T → Type 0) where
+  abbrev Each : Option T → Type 0
+  Each o = (x : T) → o ≡ Some x → P x
+
+  each_some : (y : T) → P y → Each (Some y)
+  each_some y p x e = let same : y ≡ x = cc in rw (← same) p
+
+  each_then : {A : Type 0} (o : Option A) (f : A → Option T) → ((a : A) → o ≡ Some a → Each (f a)) → Each (option_and_then f o)
+  each_then None f g x e = absurd cc
+  each_then (Some a) f g x e = g a refl x e
+
+module _ (options : Found) where
+  pub runs_said : Each (SayRuns options) (runs_in options)
+  runs_said = each_then _ _ _ (λ skip s. each_then _ _ _ (λ number n. each_then _ _ _ (λ length l. each_then _ _ _ (λ jobs j.
+      each_some _ _ (s, n, l, j)))))
+
+  pub place_said : Each (SayPlace options) (place_in options)
+  place_said = each_then _ _ _ (λ slots s. each_then _ _ _ (λ base b. each_then _ _ _ (λ stride t. each_some _ _ (s, b, t))))
+
+  pub queue_said : Each (SayQueue options) (queue_in options)
+  queue_said = each_then _ _ _ (λ kind k. each_then _ _ _ (λ base b. each_then _ _ _ (λ slots n. each_then _ _ _ (λ sender s.
+      each_then _ _ _ (λ receiver r. each_some _ _ (k, b, n, s, r))))))
 
 -- Which parameters a command may have: a test, and what passes it.
 

@@ -2,9 +2,7 @@ mod AtLeaves
 mod Going
 mod Stopping
 mod Following
-mod Outside
 mod Touching
-mod InOrder
 mod Sharing
 mod Safety
 mod LittleTexts

@@ -18,7 +18,7 @@ use Rattle.queue_layouts.specs.Tagged.{slots_of}
 use Rattle.ownership_runs.specs.{Owned, party_for, access_counts, entry_counts, KeepsOne, Keeps, HasSlot, is_outside, is_to_fill, owned_by, is_tag_store}
 use Rattle.ownership_runs.specs.{moves_on, keeps_store, keeps_access, keeps_entry}
 use Rattle.ownership_runs.proofs.Bytes.{decides-le, decides-bytes, decides-bytes_of}
-use Rattle.ownership_runs.proofs.Slots.{IsByteOfOwned, slot-there, decides-owned}
+use Rattle.ownership_runs.proofs.Told.{IsByteOfOwned, slot-there, decides-owned}
 
 -- ---- the bytes outside a queue
 

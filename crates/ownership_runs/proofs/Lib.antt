@@ -1,8 +1,6 @@
 pub mod Bytes
-pub mod Slots
 pub mod Decisions
 pub mod First
-pub mod Foreign
 pub mod Judged
 pub mod Noting
 pub mod Ends
@@ -13,6 +11,5 @@ pub mod Delivered
 pub mod ByHand
 pub mod Logs
 pub mod Views
-pub mod Reach
 pub mod LossSteps
 pub mod Stepping

@@ -1,6 +1,5 @@
 use Rattle.hart_safety.proofs.Safety.{not_stopped, runs_or_ended, runs, spares_outside}
-use Rattle.hart_safety.proofs.InOrder.{regions_in_order}
-use Rattle.hart_safety.proofs.Sharing.{bounded, not_shared}
+use Rattle.hart_safety.proofs.Sharing.{regions_in_order, bounded, not_shared}
 use Rattle.hart_safety.proofs.laws_of_hart_safety.Goals as goal
 
 pub returns-clause-never_stopped : goal.returns-clause-never_stopped

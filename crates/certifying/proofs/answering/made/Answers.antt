@@ -1,11 +1,10 @@
-use Rattle.drawn_runs.specs.Samples.{runs_of}
 use Rattle.litmus.specs.LitmusTests.{LitmusTest}
+use Rattle.drawn_runs.specs.Samples.{runs_of}
 use Rattle.queue_certificates.specs.Certificates.{QueueCertificate}
 use Rattle.engine_support.specs.{tests, text_and_value}
 use Rattle.engine_support.proofs.InputLaws.{made_after, read_after, refused_after}
 use Rattle.certifying.specs.Answers.{IsCertificateAnswer}
-use Rattle.certifying.specs.Questions.{questions_by}
-use Rattle.certifying.specs.Inputs.{certificates}
+use Rattle.certifying.specs.Questions.{questions_by, certificates}
 use Rattle.certifying.proofs.answering.made.Goals as goal
 
 pub returns-in_err-test-clause-made : goal.returns-in_err-test-clause-made

@@ -1,6 +1,6 @@
 use Rattle.std.proofs.Common.{◌≡◌, ◌++◌, length}
 use Rattle.std.specs.String.{string_bytes}
-use Rattle.certifying.specs.ByteTexts.{ranges_text}
+use Rattle.certifying.specs.Descriptions.{ranges_text}
 use Rattle.certifying.proofs.byte_texts.push_ranges.Given as goal
 
 abbrev pub invariant-loop-rest : goal.invariant-loop-rest

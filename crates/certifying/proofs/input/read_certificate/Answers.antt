@@ -3,7 +3,7 @@ use Rattle.std.specs.String.{string_bytes}
 use Rattle.texts.specs.Results.{map_err}
 use Rattle.queue_certificates.specs.Certificates.{QueueCertificate}
 use Rattle.engine_support.proofs.TextInputs.{judged_read}
-use Rattle.certifying.specs.Inputs.{SaysCertificate, certificate_of}
+use Rattle.certifying.specs.Questions.{SaysCertificate, certificate_of}
 use Rattle.certifying.proofs.input.read_certificate.Goals as goal
 
 kept_ok : {V E F : Type 0} (t : E → F) (r : Result V E) (v : V) → map_err t r ≡ Ok v → r ≡ Ok v
