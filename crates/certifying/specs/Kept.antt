@@ -101,7 +101,7 @@ abbrev pub IsStuckIn : QueueCertificate → QueueNumber → Party → (K : ℕ) 
 IsStuckIn c (Indexed i) p K = IsStuckAt c i p K
 IsStuckIn c (Tagged t) p K = IsToldStuck c t p
 
--- in memory both indices stand for the counts, as where no store to either is pending; or no store to a tag is pending
+-- in memory both indices hold the words of their counts; or no store to a tag is pending
 abbrev pub HasLanded : OpeningValue → QueueCertificate → QueueNumber → List Entry → Type 0
 HasLanded o c (Indexed i) es = HaveLanded (queue_at c i) o es (counts_at c i es)
 HasLanded o c (Tagged t) es = TagsHaveLanded (slots_of (tagged_at c t)) es

@@ -61,7 +61,7 @@ counts_at c i es = counts_after (queue_at c i) (all_at (start_at c i)) es
 abbrev pub all_moved : QueueCounts → ℕ
 all_moved c = c.published + c.taken
 
--- in memory both indices stand for the counts, as where no store to either is pending
+-- in memory both indices hold the words of their counts
 abbrev pub HaveLanded : Queue → OpeningValue → List Entry → QueueCounts → Type 0
 HaveLanded q o es c = (p : Party) → memory_number o es (index q p) q.index_width ≡ index_word q (count p c)
 
