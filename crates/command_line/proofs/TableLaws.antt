@@ -22,7 +22,7 @@ use Rattle.command_line.specs.Descriptions.{ztso_command}
 use Rattle.command_line.specs.Parameters.{CommandRow, Parameter, positional, required, defaulted, optional, flag, name_of, named, word_in_place}
 use Rattle.command_line.specs.Uses.{IsWhole, Said, Says, Use, row_named, said_for, defaults_of, texts_of_uses}
 use Rattle.command_line.proofs.UseLaws.{find_left, leaf, one_of_all, rules_from, uses_read, IsName, IsSound, named_is}
-use Rattle.command_line.specs.CommandLines.{Found, place_in, queue_in, runs_in, SayPlace, SayQueue, SayRuns}
+use Rattle.command_line.specs.CommandLines.{Found as Options, place_in, queue_in, runs_in, SayPlace, SayQueue, SayRuns}
 
 -- Each field of the records of numbers is what its option says.
 
@@ -38,7 +38,7 @@ module _ {T : Type 0} (P : T → Type 0) where
   each_then None f g x e = absurd cc
   each_then (Some a) f g x e = g a refl x e
 
-module _ (options : Found) where
+module _ (options : Options) where
   pub runs_said : Each (SayRuns options) (runs_in options)
   runs_said = each_then _ _ _ (λ skip s. each_then _ _ _ (λ number n. each_then _ _ _ (λ length l. each_then _ _ _ (λ jobs j.
       each_some _ _ (s, n, l, j)))))
