@@ -2,6 +2,7 @@ mod AtLeaves
 mod Going
 mod Stopping
 mod Following
+mod Outside
 mod Touching
 mod Sharing
 mod Safety

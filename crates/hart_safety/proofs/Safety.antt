@@ -28,7 +28,8 @@ use Rattle.hart_safety.proofs.AtLeaves.{reaches-leaf}
 use Rattle.hart_safety.proofs.Going.{KeepsGoing, IsGoing, settled-going, next-going, runs-inside}
 use Rattle.hart_safety.proofs.Stopping.{leaf-goes}
 use Rattle.hart_safety.proofs.Following.{never-past, leaf-runs}
-use Rattle.hart_safety.proofs.Touching.{IsSpared, Spares, spared, landing, leaf-spares}
+use Rattle.hart_safety.proofs.Outside.{IsSpared, Spares, spared}
+use Rattle.hart_safety.proofs.Touching.{landing, leaf-spares}
 
 -- where no state fails, each of its leaves passes
 each-passes : (f : KnownState → Form → List Arrow → Bool) (c : QueueCertificate) (h : ℕ) → first_failing f c h ≡ None → (n : ℕ)

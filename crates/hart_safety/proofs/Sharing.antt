@@ -19,7 +19,7 @@ use Rattle.hart_safety.specs.Regions.{ends_before, joined_region, AreInOrderFrom
 use Rattle.hart_safety.specs.Shared.{all_joined, common, common_of, common_region, common_with, either_of, joined_from}
 use Rattle.hart_safety.specs.Shared.{merged, merged_with, shares_below, shared_of, Shares, unbounded_by, unbounded_of, with_hart}
 use Rattle.hart_safety.specs.Touched.{Touched, touched_of, is_bounded, nothing_touched, target_of, touched_at, with_target}
-use Rattle.hart_safety.proofs.Touching.{IsOutside, outside-parts}
+use Rattle.hart_safety.proofs.Outside.{IsOutside, outside-parts}
 use Rattle.hart_safety.proofs.AtLeaves.{keeps-over}
 
 -- Regions stay in their order, with a byte between each and the next.
