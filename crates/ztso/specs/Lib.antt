@@ -1,4 +1,3 @@
 pub mod Failures
-pub mod Held
-pub mod Inputs
+pub mod Streams
 pub mod Work

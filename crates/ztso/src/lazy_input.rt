@@ -1,7 +1,7 @@
 //! Inputs that are opened at their first read.
 
 ghost use Rattle.std.specs.Prelude.{◌≡◌, None};
-ghost use Rattle.ztso.specs.Inputs.{IsOpening};
+ghost use Rattle.ztso.specs.Streams.{IsOpening};
 
 use command_line::job::Input;
 use std::io::{ErrorKind, Input as StandardInput, Read};
@@ -50,7 +50,7 @@ fn open<R: Files + StandardInput>(rt: &R, input: Option<Input<'_>>) -> io::Resul
 }
 
 impl<R: Files + StandardInput> Read for Opened<R> {
-    ghost use Rattle.ztso.specs.Inputs.{left_of};
+    ghost use Rattle.ztso.specs.Streams.{left_of};
 
     ghost remaining = { left_of R.Reader.remaining R.File.remaining };
 
@@ -70,7 +70,7 @@ impl<R: Files + StandardInput> Read for Opened<R> {
 }
 
 impl<'a, R: Files + StandardInput> Read for LazyInput<'a, R> {
-    ghost use Rattle.ztso.specs.Inputs.{left_in};
+    ghost use Rattle.ztso.specs.Streams.{left_in};
 
     ghost remaining = { λ r. left_in R.Reader.remaining R.File.remaining r.opened };
 

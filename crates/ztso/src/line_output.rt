@@ -2,7 +2,7 @@
 
 ghost use Rattle.std.specs.Prelude.{◌≡◌, ◌++◌, ◌+◌, ◌≤◌, [], drop, length, vec_len, vec_capacity, IfOk, OnOk};
 ghost use Rattle.std.specs.Io.KnownBytes.{Appends, Keeps};
-ghost use Rattle.ztso.specs.Held.{held_after};
+ghost use Rattle.ztso.specs.Streams.{held_after};
 
 use std::alloc::{AllocError, Global};
 use std::io::{self, ErrorKind, Write};
@@ -97,7 +97,7 @@ impl<W: Write + Drop> LineOutput<W> {
 }
 
 impl<W: Write + Drop> Write for LineOutput<W> {
-    ghost use Rattle.ztso.specs.Held.{held_after};
+    ghost use Rattle.ztso.specs.Streams.{held_after};
 
     ghost contents = { λ output. held_after W.contents output.to output.held };
 

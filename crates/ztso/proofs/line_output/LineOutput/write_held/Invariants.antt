@@ -1,6 +1,6 @@
 use Rattle.std.proofs.Common.{◌≡◌, vec_capacity}
 use Rattle.std.specs.Io.KnownBytes.{Keeps}
-use Rattle.ztso.specs.Held.{held_after}
+use Rattle.ztso.specs.Streams.{held_after}
 use Rattle.ztso.proofs.line_output.LineOutput.write_held.Given as goal
 
 -- nothing was lost, and there is as much room

@@ -1,5 +1,7 @@
--- What is known of the bytes that an input has left.
+-- What is known of the bytes that an input has left, and of those that a writer was given which holds some of them back.
 use Rattle.std.specs.Prelude.{ℕ, List, [], Option, None, Some, Result, Ok, Err, option_and_then}
+use Rattle.std.specs.Global.{Vec}
+use Rattle.std.specs.Io.KnownBytes.{append_known}
 use Rattle.command_line.specs.declared.job.Input.{Input}
 use Rattle.command_line.specs.declared.job.Input.TheVariants as input
 use Rattle.ztso.specs.declared.lazy_input.Opened.{Opened}
@@ -22,3 +24,7 @@ IsOpening (Some (input.File path)) (Ok (File opened)) = Unit {0}
 IsOpening (Some (input.File path)) (Err error) = Unit {0}
 IsOpening None (Err error) = Unit {0}
 IsOpening asked result = ⊥
+
+-- the bytes of the writer that it writes to, where those are known, and then what is held
+abbrev pub held_after : {W : Type 0} → (contents : W → Option (List ℕ)) → W → Vec ℕ → Option (List ℕ)
+held_after contents to held = append_known (contents to) held.items
