@@ -108,7 +108,7 @@ class Question:
         if self.asked.lines:
             for line in said:
                 complain("queue", line)
-        options = options_of({**{name: of_records[name] for name in SEARCHED}, "seconds": self.asked.seconds})
+        options = options_of({**{name: each for name, each in of_records.items() if name in SEARCHED}, "seconds": self.asked.seconds})
         status, found, error = ran(TOOLS / "certify", self.text, *given, "-o", self.certificate(), *options, "--progress", "--program", self.program, does="looking for a certificate")
         told = [line.removeprefix("certify: ") for line in error.splitlines() if not line.startswith(PROGRESS)]
         told = [line for line in told if line not in said]
