@@ -2,8 +2,7 @@ mod AtLeaves
 mod Going
 mod Stopping
 mod Following
-mod Outside
-mod Touching
 mod Sharing
+mod Touching
 mod Safety
 mod LittleTexts

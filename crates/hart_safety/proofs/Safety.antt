@@ -28,7 +28,7 @@ use Rattle.hart_safety.proofs.AtLeaves.{reaches-leaf}
 use Rattle.hart_safety.proofs.Going.{KeepsGoing, IsGoing, settled-going, next-going, runs-inside}
 use Rattle.hart_safety.proofs.Stopping.{leaf-goes}
 use Rattle.hart_safety.proofs.Following.{never-past, leaf-runs}
-use Rattle.hart_safety.proofs.Outside.{IsSpared, Spares, spared}
+use Rattle.hart_safety.proofs.Sharing.{IsSpared, Spares, spared}
 use Rattle.hart_safety.proofs.Touching.{landing, leaf-spares}
 
 -- where no state fails, each of its leaves passes

@@ -12,14 +12,14 @@ use Rattle.rv_decode.specs.declared.instruction.LoadOp.TheVariants as load_op
 use Rattle.rv_decode.specs.declared.instruction.Instr.{Instr}
 use Rattle.rv_decode.specs.declared.instruction.Instr.TheVariants.{Lui, Auipc, Jal, Jalr, Branch, Load, Store, Immediate, Shift, Register, Fence, FenceTso}
 use Rattle.rv_decode.specs.declared.instruction.Instr.TheVariants.{Ecall, Ebreak, Amo}
+use Rattle.memory.specs.Writes.{write, covers}
+use Rattle.memory.proofs.Bytes.{covers-from}
 use Rattle.hart.specs.{HartState, need_of, need_for, jump_need, access_need, register_value, address, is_taken, stored, load_width, store_width, updated}
 use Rattle.hart.specs.declared.status.Stop.TheVariants as stop
 use Rattle.hart.specs.declared.need.Report.TheVariants as report
 use Rattle.hart.specs.declared.need.Need.{Need}
 use Rattle.hart.specs.declared.need.Need.TheVariants as need
 use Rattle.hart.proofs.Instructions.{need_at, illegal}
-use Rattle.memory.specs.Writes.{write, covers}
-use Rattle.memory.proofs.Bytes.{covers-from}
 use Rattle.step_machine.specs.declared.events.Entry.{Entry}
 use Rattle.step_machine.specs.Names.{OpeningValue, access_of, fence, hart_of, land, nothing}
 use Rattle.step_machine.specs.Paths.{number_read, entry_of}
@@ -31,7 +31,7 @@ use Rattle.queue_certificates.proofs.{has-bounds, nobody_told, nothing_sent, no-
 use Rattle.queue_certificates.proofs.Steps as steps
 use Rattle.hart_safety.specs.Touched.{SparesByte, target_of}
 use Rattle.hart_safety.proofs.Going.{either}
-use Rattle.hart_safety.proofs.Outside.{IsSpared}
+use Rattle.hart_safety.proofs.Sharing.{IsSpared}
 
 store-some : (op : StoreOp) → 1 ≤ store_width op
 store-some store_op.Byte = omega arith
