@@ -1,10 +1,10 @@
 use Rattle.ztso.proofs.work.do_buffered.Goals as goal
 
 pub returns-in-Code-clause-does : goal.returns-in-Code-clause-does
-returns-in-Code-clause-does g c = rw c.in-Code.is (c.do_code.ensures.does g.row.B _ _)
+returns-in-Code-clause-does g c = rw c.in-Code.is (c.do_code.ensures.does g.row.B _ _ _)
 
 pub returns-in-Machine-clause-does : goal.returns-in-Machine-clause-does
-returns-in-Machine-clause-does g c = rw c.in-Machine.is (c.do_machine.ensures.does _ _)
+returns-in-Machine-clause-does g c = rw c.in-Machine.is (c.do_machine.ensures.does _ _ _)
 
 pub returns-in-Find-clause-does : goal.returns-in-Find-clause-does
 returns-in-Find-clause-does g c = rw c.in-Find.is (c.find.result, c.after_search.ensures.ended, c.find.ensures)

@@ -1,12 +1,12 @@
 -- Each engine's end, with the exit status of what it returned.
-use Rattle.ztso.specs.Failures.{good_status, exit_of}
-use Rattle.ztso.proofs.work.do_machine.Goals as goal
-use Rattle.ztso.specs.declared.failure.Failure.{Failure}
-use Rattle.ztso.specs.Work.{IsRefusal}
 use Rattle.std.proofs.Common.{◌≡◌, ℕ, Bool, true, false, Result, Ok, Err, subst}
 use Rattle.engine_support.specs.declared.fault.Fault.{Fault}
 use Rattle.engine_support.specs.declared.fault.Fault.TheVariants.{ReadFailed, WriteFailed, NoMemory, Refused}
 use Rattle.engine_support.specs.Interactive.{OnRefused}
+use Rattle.ztso.specs.Failures.{good_status, exit_of}
+use Rattle.ztso.proofs.work.do_machine.Goals as goal
+use Rattle.ztso.specs.declared.failure.Failure.{Failure}
+use Rattle.ztso.specs.Work.{IsRefusal}
 
 -- An engine's fault as the program's failure.
 
