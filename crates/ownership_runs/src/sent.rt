@@ -63,7 +63,8 @@ pub(crate) fn logged(queue: &AnyQueue, log: &[ByteLog], position: u128, x: u64) 
     if x < slots {
         return None;
     }
-    match log.get((x - slots) as usize) {
+    let place = usize::try_from(x - slots).unwrap_or(usize::MAX);
+    match log.get(place) {
         Some(bytes) => sent_in(bytes.first, &bytes.later, position),
         None => None,
     }
@@ -163,7 +164,7 @@ fn log_byte(
     if x < slots {
         return Ok(());
     }
-    let place = (x - slots) as usize;
+    let place = usize::try_from(x - slots).unwrap_or(usize::MAX);
     if place >= log.len() {
         return Ok(());
     }
