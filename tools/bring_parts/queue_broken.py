@@ -1,6 +1,6 @@
 """The answer for a person where a run breaks a queue, or loses a record: what is stored or loaded where, the run in one sentence, and what to change."""
 
-from bring_parts import queue_faults, queue_runs
+from bring_parts import queue_faults, queue_kept, queue_runs
 from bring_parts.queue_case import BROKEN
 from bring_parts.queue_faults import Elsewhere, HandedBack, OtherSlot, Overwrites, PublishedFirst
 from bring_parts.queue_said import Before, Drawn, Loaded, Looked, Next, NoneLost, Stored
@@ -240,7 +240,7 @@ def reads(case):
         facts = [Line("no drawn run loses a record by it; nothing is promised of what it loads")]
         facts += [Line(f"drawn runs: {drawn.runs} of {drawn.length} events keep it: this proves nothing", DRAWN)] if drawn else []
         return Short(case.verdict("kept, but reads not shown", queue), [case.at(named.hart, named.pc, "may load from a slot that it doesn't own")], facts,
-                     asked=[*case.asked()])
+                     others=[*queue_kept.of_others(case)], asked=[*case.asked()])
     run = case.run()
     load = run.entries[-1]
     fault = queue_faults.of_load(queue, load, run.entries, case.said)

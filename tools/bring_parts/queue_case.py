@@ -22,7 +22,8 @@ OWN_FAULT = 70
 class Case:
     """`first` is the verdict as it begins, `kept` that of the program alone; `described` are the queues as they were described, with their sizes left out or
     not, each as its option; `replays` says whether the program replays a run with the same entries; `found` is what tools/certify says of harts, and `told`
-    what it says beside; `hints` are those of queue_hints, by their kind; `again` is a line on longer runs that decided, or None."""
+    what it says beside; `outside` are places that drawn runs share beside the queues, and `unseen` the names of what only the proved bound has there;
+    `hints` are those of queue_hints, by their kind; `again` is a line on longer runs that decided, or None."""
     status: int
     first: str
     kept: str
@@ -32,6 +33,7 @@ class Case:
     places: Places
     shared: Shared
     outside: list
+    unseen: list
     is_auto: bool
     fences: list
     found: list
@@ -62,6 +64,12 @@ class Case:
     def wraps(self):
         """What was said of counts that wrap where no turn of the slots ends."""
         return [line.partition(": ")[2] for line in self.told if WRAPS in line]
+
+    # ---- what harts share
+
+    def shares_queues_alone(self):
+        """Whether it is proved that harts share nothing beside the queues, except inputs."""
+        return self.said.shared() is not None and not (self.outside or self.unseen)
 
     # ---- the run of the program's schedule
 

@@ -4,7 +4,7 @@ import json
 
 from bring_parts import junit, plain
 from bring_parts.queue_case import BROKEN, FENCES, KEPT, NOT_ALL, NOT_SHOWN, OTHER, OWN_FAULT, STUCK, WRONG
-from bring_parts.queue_said import GoesOn, HartNotShown, NoBytes, Records, RecordsNotShown
+from bring_parts.queue_said import GoesOn, HartNotShown, NoBytes, OfShares, Records, RecordsNotShown
 
 # the form's version: another number where a key is taken away, or means something else
 VERSION = 1
@@ -24,6 +24,13 @@ def queues_of(case, given):
 def bounds_of(case):
     """Within how many of its instructions a party publishes or takes, or finds that it has to wait."""
     return [{"queue": each.queue, "hart": each.hart, "moves": each.moves, "finds": each.finds, "instructions": each.within} for each in case.said.all(GoesOn)]
+
+
+def shares_of(case):
+    """The ranges of the bytes that harts may share, or None where that isn't shown, and whether these are of queues and inputs alone; or None of both."""
+    if not case.said.one(OfShares):
+        return None
+    return {"bytes": case.said.shared(), "nothing_else": SHOWN if case.shares_queues_alone() else UNSHOWN}
 
 
 def of_bytes(case, name):
@@ -56,17 +63,18 @@ def questions_of(case, asked, of_records):
 def of_answer(case, asked, report, of_records, lines):
     """An answer, of which these are all lines."""
     return {"version": VERSION, "status": report.status, "verdict": report.verdict, **report.short.data(), "lines": lines,
-            "queues": queues_of(case, report.queues), "bounds": bounds_of(case), "questions": questions_of(case, asked, of_records),
-            "inits": asked.init, "inputs": asked.input, "files": [str(file) for file in asked.files], "asked": report.about.asked(),
-            "program": report.about.judge, "compiler": ", ".join(report.about.compilers) or None, "command": report.about.command, "schedule": report.schedule}
+            "queues": queues_of(case, report.queues), "bounds": bounds_of(case), "shares": shares_of(case),
+            "questions": questions_of(case, asked, of_records), "inits": asked.init, "inputs": asked.input, "files": [str(file) for file in asked.files],
+            "asked": report.about.asked(), "program": report.about.judge, "compiler": ", ".join(report.about.compilers) or None,
+            "command": report.about.command, "schedule": report.schedule}
 
 
 def of_refusal(asked, status, said, judge, command):
     """What is refused, or a fault of a tool, in these words."""
     lines = [plain(line) for line in said.split("\n")]
     return {"version": VERSION, "status": status, "verdict": lines[0], "short": lines, "places": [], "run": None, "lines": lines, "queues": [],
-            "bounds": [], "questions": {}, "inits": asked.init, "inputs": asked.input, "files": [str(file) for file in asked.files], "asked": None,
-            "program": judge, "compiler": None, "command": command, "schedule": None}
+            "bounds": [], "shares": None, "questions": {}, "inits": asked.init, "inputs": asked.input, "files": [str(file) for file in asked.files],
+            "asked": None, "program": judge, "compiler": None, "command": command, "schedule": None}
 
 
 def text(data):

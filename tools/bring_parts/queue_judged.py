@@ -13,7 +13,7 @@ from bring_parts import (TOOLS, Refused, c_lines, complain, making, plain, put, 
                          queue_hints, queue_kept, queue_report, queue_types, queue_unproposed, queue_unshown, queue_words, text_of, texts)
 from bring_parts.queue_case import BROKEN, FENCES, KEPT, NOT_ALL, NOT_SHOWN, OTHER, OWN_FAULT, READS, STUCK, WRONG, Case
 from bring_parts.queue_places import Places
-from bring_parts.queue_said import NoneLost, Said, Uncovered, values_of
+from bring_parts.queue_said import NoneLost, OfShares, Said, Uncovered, values_of
 from bring_parts.queue_shared import Shared
 from bring_parts.queue_short import MODEL, Line
 
@@ -30,6 +30,8 @@ SCHEDULE_FILE, SHOWN_FILE, BUFFER = ".schedule", ".shown.schedule", 4
 QUIET = 4
 # longer runs in which a lost record is looked for: of how many events, and how many
 LONGER_LOSS = ("5000", "200")
+# what a call asks with that wants what harts share alone
+OF_SHARES = ("--harts", "--safety", "--runs", "1", "--length", "0")
 # by the status what a person reads
 SHORT = {KEPT: queue_kept.kept, FENCES: queue_kept.kept, READS: queue_broken.reads, NOT_SHOWN: queue_unshown.not_shown, BROKEN: queue_broken.broken,
          NOT_ALL: queue_kept.not_all, STUCK: queue_kept.stuck, OTHER: queue_broken.other}
@@ -133,6 +135,14 @@ class Question:
             raise Refused(error.removeprefix("ztso: "))
         return status, answer
 
+    def with_shares(self, answer):
+        """An answer with the line on what harts share: of a protocol that is kept the program says it by one more call, where --of-harts doesn't ask."""
+        if not answer.startswith("kept") or Said(answer).one(OfShares):
+            return answer
+        said = ran(self.program, "queue", self.text, "--certificate", self.certificate(), *OF_SHARES)[1]
+        found = "".join(f"{line}\n" for line in said.splitlines() if any(isinstance(each, OfShares) for each in values_of([line])))
+        return queue_words.PROMISED.sub(lambda shape: found + shape[0], answer, count=1)
+
     def replays(self, run):
         """Whether the program replays a run with the same entries."""
         path = Path(self.folder, f".replayed{SHOWN_FILE}")
@@ -147,6 +157,11 @@ class Question:
     def is_input(self, at):
         """Whether any value may be loaded from a byte."""
         return self.types is not None and any(begin <= at < begin + width for begin, width in self.types.words.inputs)
+
+    def beside(self, said, queues):
+        """The bytes that harts may share, as far as the program shows that, beside the queues and inputs."""
+        return {at for first, last in said.shared() or () for at in range(first, last + 1)
+                if not (self.is_input(at) or any(queue.meets(at, 1) for queue in queues))}
 
     def proposed(self):
         """What is said of the queue that drawn runs propose, which the call has then; or None of a call that says where its queue lies."""
@@ -236,12 +251,17 @@ def judged(asked, folder, program):
     for line in queue_hints.of_bytes({name: getattr(asked, name) for name in BYTES}, queues):
         complain("queue", line)
     status, answer, again = decided(question, of_records, shared)
+    answer = question.with_shares(answer)
+    said = Said(answer)
     judge, fences = fences_of(question, answer)
     outside = [at for at in shared.places(queues) if not question.is_input(at)]
-    status, verdict = of_verdict(asked, status, answer.partition("\n")[0], fences, proposed and (outside or shared.stops))
+    seen = places.of_bytes({byte for at in outside for byte in range(at, at + shared.widths[at])})
+    unseen = [name for name in places.of_bytes(question.beside(said, queues)) if name not in seen]
+    is_more = proposed and (outside or unseen or said.shared() is None or shared.stops)
+    status, verdict = of_verdict(asked, status, said.first, fences, is_more)
     about = queue_asked.About.of(asked.files, text_of(question.text), question.types is not None, program, sys.argv[1:])
     described = [f"{kind} {queue_described.in_source(each, question.test, question.types)}" for kind, each in queue_described.given_of(asked)]
-    case = Case(status, verdict, answer.partition("\n")[0], Said(answer), queues, question.test, places, shared, outside, bool(proposed), fences,
+    case = Case(status, verdict, said.first, said, queues, question.test, places, shared, outside, unseen, bool(proposed), fences,
                 [each for each in values_of(found) if isinstance(each, Uncovered)], told,
                 hints_of(question, answer, found, places, queues, given, judge), about, described, asked.flag, asked.files, question.buffer(),
                 question.replays, again)

@@ -1,9 +1,9 @@
 """The answer for a person where every run keeps the protocol: what one may rely on, and what isn't shown beside it."""
 
-from bring_parts import queue_unshown
+from bring_parts import listed, queue_unshown
 from bring_parts.queue_case import FENCES
-from bring_parts.queue_places import PLACES, as_parties, parted
-from bring_parts.queue_said import GoesOn, HartNotShown, NoBytes, Records, RecordsNotShown, Stands, Waits
+from bring_parts.queue_places import as_parties, few, parted
+from bring_parts.queue_said import GoesOn, HartNotShown, NoBytes, Records, RecordsNotShown, SharesNotShown, Stands, Waits
 from bring_parts.queue_short import FENCES as OF_FENCES
 from bring_parts.queue_short import LONGER, WEAK, Line, Short
 from bring_parts.queue_types import ranges_in
@@ -12,6 +12,8 @@ from bring_parts.queue_types import ranges_in
 LACKING, STANDING = 2, 2
 GOES_ON = "goes on"
 ONCE = "read at most once"
+# beside the queues, and inputs, which the verdict names
+ALONE = "nothing else is shared"
 
 
 def parties(case):
@@ -26,7 +28,8 @@ def kept(case):
     relies = [of_records(case, sender), f"{sender} stores to no slot that {receiver} hasn't handed back, and {receiver} loads only published ones{tags}"]
     places, hints = of_stops(case)
     others = [*of_fences(case), *of_others(case)]
-    return Short(case.verdict(case.first), places, relies=[*relies, *of_progress(case, sender, receiver)],
+    in_one = [*of_progress_in_one(case, sender, receiver)]
+    return Short(case.verdict(case.first), places, relies=[*relies, *of_progress(case, sender, receiver)], joined=in_one and [*relies, *in_one],
                  hints=[*map(Line, (*hints, *case.hints["constants"]))], limits=[not_promised(case, receiver)], others=others, asked=[*case.asked()])
 
 
@@ -46,12 +49,25 @@ def of_records(case, sender):
 
 
 def of_progress(case, sender, receiver):
-    found = {(each.queue, each.moves): each for each in case.said.all(GoesOn)}
-    if len(case.queues) > 1 and GOES_ON in case.kept:
-        yield "each goes on while its harts run: --lines says within how many instructions"
-    elif len(case.queues) == 1 and len(found) == 2:
-        publishes, takes = found[0, "publishes"], found[0, "takes"]
+    """How soon a queue goes on, and that nothing else is shared, each where it is proved."""
+    if len(case.queues) > 1:
+        said = ["each goes on while its harts run (--lines says how soon)"] * (GOES_ON in case.kept) + [ALONE] * case.shares_queues_alone()
+        yield from [", and ".join(said)] * bool(said)
+        return
+    found = {each.moves: each for each in case.said.all(GoesOn)}
+    if len(found) == 2:
+        publishes, takes = found["publishes"], found["takes"]
         yield f"{sender} publishes or finds {publishes.finds} in {publishes.within} instructions, {receiver} takes or finds {takes.finds} in {takes.within}"
+    if case.shares_queues_alone():
+        harts = "P0 and P1" if len(case.test.codes) == 2 else "the harts"
+        yield f"{harts} share {listed(case.places.parts(case.queues[0]))}, and nothing else{' except inputs' * case.places.has_inputs()}"
+
+
+def of_progress_in_one(case, sender, receiver):
+    """The same of one queue in one line."""
+    found = {each.moves: each.within for each in case.said.all(GoesOn)}
+    if len(case.queues) == 1 and len(found) == 2 and case.shares_queues_alone():
+        yield f"{sender} goes on or finds it must wait in {found['publishes']} instructions, {receiver} in {found['takes']}; {ALONE}"
 
 
 def not_promised(case, receiver):
@@ -79,9 +95,14 @@ def of_fences(case):
 # ---- what harts share beside the queues
 
 def of_others(case):
-    """What harts share outside of the queues. Drawn runs see some of it: where the program proves which words are shared, its line takes this one's place."""
+    """What harts share outside of the queues: what drawn runs see of it, and what isn't proved to be unshared."""
     if case.outside:
         yield Line(f"not asked: {told(case, case.outside)} (in drawn runs), no part of {'these queues' if len(case.queues) > 1 else 'this queue'}")
+    if case.unseen:
+        yield Line(f"not shown that the harts don't share {few(case.unseen)}: no drawn run does")
+    if case.kept.startswith("kept") and case.said.shared() is None:
+        why = [f": P{each.hart} ({case.line(each.hart, each.pc)}) may load or store anywhere" for each in case.said.all(SharesNotShown)]
+        yield Line("".join(["not shown what else the harts share", *why]))
 
 
 def told(case, places):
@@ -91,8 +112,7 @@ def told(case, places):
         names = groups.setdefault(case.shared.who(at), [])
         if (name := case.places.array(at)) not in names:
             names.append(name)
-    return "; ".join(f"{', '.join(names[:PLACES])}{f' and {len(names) - PLACES} more' if len(names) > PLACES else ''}, which {does(*who)}"
-                     for who, names in groups.items())
+    return "; ".join(f"{few(names)}, which {does(*who)}" for who, names in groups.items())
 
 
 def does(storers, loaders):
@@ -126,11 +146,12 @@ def not_all(case):
     facts = [Line(f"{case.title(case.queues[each.queue])}: its records have none of the bytes that were asked for") for each in case.said.all(NoBytes)]
     facts += of_others(case)
     hints = [*map(Line, stopping), *(Line(line, LONGER * bool(at)) for at, line in enumerate(case.hints["asked"]))]
-    if case.is_auto and case.outside:
+    if case.is_auto and (case.outside or case.unseen):
         other = other_queue(case)
         hints.append(Line(f"a second queue may be --queue {other}" if other else
                           "ask of the other queue too, with a --queue for each; if it is none, describe this one by --queue in place of auto"))
     shown = f"its protocol{' of each' * (len(case.queues) > 1)} holds in every run{', and it goes on' * (GOES_ON in case.kept)}"
+    shown += f"; {ALONE}" * case.shares_queues_alone()
     return Short(case.verdict(case.first), places[:STANDING], facts, relies=[shown], hints=hints, limits=[not_promised(case, parties(case)[1])],
                  asked=[*case.asked()])
 
@@ -155,5 +176,5 @@ def stuck(case):
     hints = [Line(as_parties(line)) for line in case.hints["stuck"]]
     if stands and not hints:
         hints.append(Line("if it waits there for something else, as for an input, ask with --safety", WEAK))
-    relies = ["positions arrive in order, each once, with all that was written before; not on more"]
+    relies = [f"positions arrive in order, each once, with all written before; {ALONE if case.shares_queues_alone() else 'not on more'}"]
     return Short(case.verdict(case.first), places, facts, relies=relies, hints=hints, others=[*of_others(case)], asked=[*case.asked()])

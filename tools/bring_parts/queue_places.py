@@ -4,6 +4,7 @@ import re
 from dataclasses import dataclass
 
 from bring_parts import listed, queue_words
+from bring_parts.queue_types import ranges_of
 
 from words import text as text_of_instruction
 
@@ -31,6 +32,11 @@ class Source:
 def parted(harts):
     """`P0 and P2`."""
     return listed([f"P{hart}" for hart in sorted(harts)]) or "no hart"
+
+
+def few(names):
+    """The first of these names, and how many more there are."""
+    return ", ".join(names[:PLACES]) + f" and {len(names) - PLACES} more" * (len(names) > PLACES)
 
 
 def as_parties(line):
@@ -65,15 +71,29 @@ class Places:
 
     def arrays(self, places):
         """The names of places, as few as there are."""
-        names = list(dict.fromkeys(map(self.array, sorted(places))))
-        return ", ".join(names[:PLACES]) + f" and {len(names) - PLACES} more" * (len(names) > PLACES) or "nothing"
+        return few(list(dict.fromkeys(map(self.array, sorted(places))))) or "nothing"
+
+    def of_bytes(self, found):
+        """The names of what has one of these bytes; of an array's element that of all."""
+        parts = self.types.of_memory() if self.types else [(at, at + 4, name) for at, name in self.words.items()]
+        named = [(begin, end, ELEMENT.sub("[]", name)) for begin, end, name in sorted(parts) if not found.isdisjoint(range(begin, end))]
+        rest = found.difference(*(range(begin, end) for begin, end, _ in named))
+        return [*dict.fromkeys([*(name for *_, name in named), *(self.name(first - first % 4) for first, _ in ranges_of(rest))])]
+
+    def array_from(self, at):
+        """The name of the array that begins there."""
+        arrays = self.types.arrays_at(str(at)) if self.types else ()
+        return next((array.name for array in arrays), None) or FIRST.sub("", self.name(at))
 
     def slots(self, queue):
-        arrays = self.types.arrays_at(str(queue.slots)) if self.types else ()
-        return next((array.name for array in arrays), None) or FIRST.sub("", self.name(queue.slots))
+        return self.array_from(queue.slots)
 
     def indices(self, queue):
         return [self.name(at, queue.index_width) for at in (queue.head, queue.tail)]
+
+    def parts(self, queue):
+        """The names of all that a queue has."""
+        return [*([] if queue.has_tags else self.indices(queue)), *(self.array_from(at) for kind, at, _ in queue.parts() if kind in ("slots", "tags"))]
 
     def called(self, queue):
         """What a queue is called: by its object, if it is one, or by how the names of its parts begin, else by all of them; and its parties."""
@@ -82,6 +102,9 @@ class Places:
                            for parts in ([name.rpartition(".") for name in names], [name.partition("_") for name in names]))
         found = next((each for each in (objects, begins) if len(each) == 1 and len(names) > 1), objects)
         return f"{found.pop() if len(found) == 1 else '/'.join(names)} (P{queue.sender} to P{queue.receiver})"
+
+    def has_inputs(self):
+        return bool(self.types and self.types.words.inputs)
 
     # ---- instructions
 

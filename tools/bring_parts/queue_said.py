@@ -3,6 +3,8 @@
 import re
 from dataclasses import dataclass, fields
 
+from bring_parts.queue_types import ranges_in
+
 SCHEDULE = "ztso-schedule 1"
 
 
@@ -170,6 +172,23 @@ class HartNotShown:
     pc: int
 
 
+class OfShares:
+    """What is said of the bytes that harts share."""
+
+
+@dataclass(frozen=True)
+class Shares(OfShares):
+    """These at most, or None of them."""
+    bytes: str
+
+
+@dataclass(frozen=True)
+class SharesNotShown(OfShares):
+    """That it isn't shown which they are, and the first access that may go anywhere."""
+    hart: int
+    pc: int
+
+
 @dataclass(frozen=True)
 class Likely:
     why: str
@@ -217,6 +236,8 @@ FORMS = [(kind, re.compile(form)) for kind, form in (
                       rf"hart (?P<hart>\d+), {PLACE}"),
     (NoBytes, r"queue (?P<queue>\d+): its records have none of these bytes"),
     (HartNotShown, rf"hart (?P<hart>\d+): not shown (?P<what>that it is never stopped|which bytes it writes): {PLACE}"),
+    (Shares, r"the harts share (?:nothing|bytes? (?P<bytes>.*) of memory only)"),
+    (SharesNotShown, rf"not shown which bytes the harts share: hart (?P<hart>\d+), {PLACE}"),
     (Likely, r"likely: (?P<why>.*)"),
     (Unused, r"not shown: no instruction of hart (?P<hart>\d+) (?P<use>loads from|stores to) a slot of queue (?P<queue>\d+)"),
     (Uncovered, r"hart (?P<hart>\d+) is not covered: (?:at pc (?P<pc>\d+), .*?: )?(?P<why>.*)"))]
@@ -254,3 +275,8 @@ class Said:
 
     def one(self, kind):
         return next(iter(self.all(kind)), None)
+
+    def shared(self):
+        """The ranges that have all bytes which harts share, or None where these aren't shown."""
+        shares = self.one(Shares)
+        return shares and ranges_in(shares.bytes or "")

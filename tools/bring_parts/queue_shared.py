@@ -1,4 +1,4 @@
-"""What harts share in drawn runs: which of them store and load each place. Drawn runs leave words out, so that nothing more is shared is never said."""
+"""What harts share in drawn runs: which of them store and load each place. Drawn runs leave words out: that nothing more is shared only the program says."""
 
 from collections import defaultdict
 from dataclasses import dataclass

@@ -54,31 +54,31 @@ class Line:
 
 @dataclass
 class Short:
-    """An answer: the verdict, at most two places, what else is known, the run in one sentence and what a report draws of it, what one may rely on, what to
-    change, what isn't promised, what fences and other memory say, and what was asked."""
+    """An answer: the verdict, at most two places, what else is known, the run in one sentence and what a report draws of it, what one may rely on, and
+    that in fewer lines, for where there is no room, what to change, what isn't promised, what fences and other memory say, and what was asked."""
     verdict: str
     places: list = field(default_factory=list)
     facts: list = field(default_factory=list)
     run: str = None
     shown: object = None
     relies: list = field(default_factory=list)
+    joined: list = field(default_factory=list)
     hints: list = field(default_factory=list)
     limits: list = field(default_factory=list)
     others: list = field(default_factory=list)
     asked: list = field(default_factory=list)
 
-    def parts(self):
-        """The lines in their order."""
+    def parts(self, relies):
+        """The lines in their order, of which these are what one may rely on."""
         run = [Line(f"a run: {self.run}", is_whole=True)] * bool(self.run)
-        return [Line(self.verdict, is_whole=True), *self.places, *self.facts, *run, *(Line(f"rely on: {each}") for each in self.relies),
+        return [Line(self.verdict, is_whole=True), *self.places, *self.facts, *run, *(Line(f"rely on: {each}") for each in relies),
                 *(Line(f"hint: {each.text}", each.rank) for each in self.hints), *self.limits, *self.others, *self.asked]
 
     def lines(self):
         """At most ten lines, of which what fits least is left out, and then the longest are cut."""
-        parts = self.parts()
-        for rank in range(WEAK, HELP, -1):
-            if number_of(parts) > LINES:
-                parts = [part for part in parts if isinstance(part, At) or part.rank != rank]
+        parts = fitting(self.parts(self.relies))
+        if self.joined and number_of(parts) > LINES:
+            parts = fitting(self.parts(self.joined))
         is_cut = number_of(parts) > LINES
         lines = [lines_of(part, is_cut) for part in parts]
         while sum(map(len, lines)) > LINES and (long := [at for at, part in enumerate(parts) if is_cuttable(part) and len(lines[at]) > 1]):
@@ -92,6 +92,14 @@ class Short:
         """What scripts find in answer.json."""
         return {"short": self.lines(), "places": [place.data() for place in self.places],
                 "run": {"sentence": self.run, "schedule": self.shown.schedule if self.shown else None} if self.run else None}
+
+
+def fitting(parts):
+    """These without what is left out where there is no room for all."""
+    for rank in range(WEAK, HELP, -1):
+        if number_of(parts) > LINES:
+            parts = [part for part in parts if isinstance(part, At) or part.rank != rank]
+    return parts
 
 
 def is_cuttable(part):

@@ -17,7 +17,7 @@ RANGE = re.compile(r"([0-9]+)(?:-([0-9]+))?")
 RECORDS = re.compile(r"queue ([0-9]+): bytes? (.*) of each record (?:are|is) (?:written|read) ")
 FIELD = re.compile(r"queue ([0-9]+): the ([0-9]+) bytes from ([0-9]+) on of ")
 UNSHOWN = re.compile(r"queue ([0-9]+): not shown that bytes? .* of each record (?:are|is) (written|read|read at most once, in order): byte ([0-9]+), hart ")
-WRITES = re.compile(r"hart [0-9]+: writes bytes? (.*) of ")
+WRITES = re.compile(r"(?:hart [0-9]+: writes|the harts share) bytes? (.*) of ")
 
 
 @dataclass(frozen=True)
