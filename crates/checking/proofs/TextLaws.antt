@@ -11,7 +11,7 @@ use Rattle.std.proofs.lemmas.Bool.{cases_Bool, cases_lt, eqb-true, lt-leb, lt-lt
 use Rattle.std.proofs.lemmas.List.{append-nil, drop-take, length-take-le}
 use Rattle.step_machine.proofs.Placing.{and_left}
 use Rattle.litmus.specs.LitmusTests.{LitmusTest}
-use Rattle.recorder.specs.{ends_line, has_head, record_head}
+use Rattle.recorder.specs.{ends_line, has_head}
 use Rattle.engine_support.specs.Inputs.{kept_of}
 use Rattle.engine_support.proofs.Judging.{judged-large}
 use Rattle.checking.specs.{are_blank_lines, begins_record, before_record, records_in, is_left_out, texts_with, unless_blank, Judged, IsTextJudged, record_of}

@@ -1,5 +1,5 @@
 -- The first line of an input, which ends through its first LF, and what is left after it.
-use Rattle.std.proofs.Common.{◌≡◌, ℕ, ◌+◌, ◌-◌, ◌<◌, Bool, true, false, List, [], ◌∷◌, length, take, drop, Option, Some, None, ◌||◌, refl, sym, ap, ◌∙◌, inl}
+use Rattle.std.proofs.Common.{◌≡◌, ℕ, ◌+◌, ◌<◌, Bool, true, false, List, [], ◌∷◌, length, take, drop, Option, Some, None, ◌||◌, refl, sym, ap, ◌∙◌, inl}
 use Rattle.std.proofs.Common.{inr, arith, take_all}
 use Rattle.std.specs.Prelude.{position, if◌then◌else◌, IfSome}
 use Rattle.std.specs.List.{concat, list_any, position_or_len}

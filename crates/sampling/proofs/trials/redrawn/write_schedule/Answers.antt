@@ -1,11 +1,9 @@
-use Rattle.std.proofs.Common.{◌≡◌, ◌-◌, ◌+◌, ℕ, zero, suc, List, [], ◌∷◌, ◌++◌, ◌∙◌, refl, sym, ap, subst, append_assoc, arith, rules}
+use Rattle.std.proofs.Common.{◌≡◌, ◌-◌, ◌+◌, ℕ, suc, List, [], ◌∷◌, ◌++◌, ◌∙◌, refl, sym, subst, arith, rules}
 use Rattle.std.specs.Prelude.{OnOk, codes}
 use Rattle.std.specs.Io.KnownBytes.{Appends}
-use Rattle.step_machine.specs.declared.events.Event.{Event}
 use Rattle.recorder.specs.{drawn_words, is_same, repetition_text}
 use Rattle.drawn_runs.specs.Draws.{events_by, no_burst}
 use Rattle.engine_support.proofs.Written.{appends_more, appends_nothing, ends_written}
-use Rattle.sampling.specs.Outcomes.{schedule_text}
 use Rattle.sampling.proofs.RedrawnLaws.{all_left, events_left, none_left, one_left, text-begun, text-ended, text-none, text-other, text-same}
 use Rattle.sampling.proofs.trials.redrawn.write_schedule.Goals as goal
 use Rattle.sampling.proofs.trials.redrawn.write_schedule.Goals.{then-eq, else-eq+in_ok-write_token+in_ok-write_all-2}
